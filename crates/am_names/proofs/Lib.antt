@@ -1,0 +1,5 @@
+pub mod NameStored
+pub mod Cuts
+pub mod Puts
+pub mod PathLemmas
+pub mod PathReads

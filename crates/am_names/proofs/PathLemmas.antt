@@ -1,0 +1,152 @@
+-- A canonical text and its names.
+use Rattle.std.proofs.Common.{◌≡◌, ℕ, ◌+◌, ◌-◌, ◌≤◌, Bool, true, false, ◌&&◌, not, ◌==◌, cond, List, [], ◌∷◌, ◌++◌, length, take, drop, refl, sym, ap, subst, ◌∙◌, append_assoc, arith}
+use Rattle.std.specs.Prelude.{IsTrue, replicate}
+use Rattle.std.specs.List.{list_all, filter, position_or_len, slice_split}
+use Rattle.std.proofs.lemmas.Bool.Decides.{nat_tests}
+use Rattle.std.proofs.lemmas.List.{append-nil, length-append, length-take, take-append-drop, take_at, drop_at, drop-drop, drop-replicate, length-replicate}
+use Rattle.std.proofs.lemmas.List.Splits.{slice_split-cons_no}
+use Rattle.am_names.specs.Name.{is_name, is_name_byte}
+use Rattle.am_names.specs.Path.{is_slash, parts_of, text_of, names_of, IsCanonical, IsPathStored, padded_path}
+use Rattle.am_names.proofs.Puts.{next}
+
+and_left : (a b : Bool) → (a && b) ≡ true → a ≡ true
+and_left true b h = refl
+and_left false b h = absurd cc
+
+and_right : (a b : Bool) → (a && b) ≡ true → b ≡ true
+and_right true b h = h
+and_right false b h = absurd cc
+
+-- the bytes of a name
+pub bytes_of_name : (name : List ℕ) → is_name name ≡ true → list_all is_name_byte name ≡ true
+bytes_of_name name h = and_right _ _ h
+
+no_slash : (b : ℕ) → is_name_byte b ≡ true → is_slash b ≡ false
+no_slash b h = grind (arith, nat_tests)
+
+split_name : (name ys : List ℕ) → list_all is_name_byte name ≡ true → parts_of (name ++ 47 ∷ ys) ≡ name ∷ parts_of ys
+split_name [] ys h = refl
+split_name (b ∷ name) ys h =
+    let e : is_slash b ≡ false = no_slash b (and_left _ _ h) in
+    let others : list_all is_name_byte name ≡ true = and_right _ _ h in
+    rw (slice_split-cons_no is_slash b (name ++ 47 ∷ ys) e, split_name name ys others) refl
+
+split_last : (name : List ℕ) → list_all is_name_byte name ≡ true → parts_of name ≡ name ∷ []
+split_last [] h = refl
+split_last (b ∷ name) h =
+    let e : is_slash b ≡ false = no_slash b (and_left _ _ h) in
+    let others : list_all is_name_byte name ≡ true = and_right _ _ h in
+    rw (slice_split-cons_no is_slash b name e, split_last name others) refl
+
+parts_of_names : (name : List ℕ) (names : List (List ℕ)) → is_name name ≡ true → list_all is_name names ≡ true → parts_of (name ++ text_of names) ≡ name ∷ names
+parts_of_names name [] n h = rw (append-nil name) (split_last name (bytes_of_name name n))
+parts_of_names name (other ∷ names) n h = split_name name (other ++ text_of names) (bytes_of_name name n) ∙ ap (λ (parts : List (List ℕ)). name ∷ parts) (parts_of_names other names (and_left _ _ h) (and_right _ _ h))
+
+-- a name is not empty
+pub name_long : (name : List ℕ) → is_name name ≡ true → not (length name == 0) ≡ true
+name_long name h = and_left _ _ (and_left _ _ (and_left _ _ h))
+
+all_long : (names : List (List ℕ)) → list_all is_name names ≡ true → filter (λ part. not (length part == 0)) names ≡ names
+all_long [] h = refl
+all_long (name ∷ names) h = rw (name_long name (and_left _ _ h)) (ap (λ (others : List (List ℕ)). name ∷ others) (all_long names (and_right _ _ h)))
+
+-- the names of a canonical text are those that it spells
+pub names_back : (names : List (List ℕ)) → list_all is_name names ≡ true → names_of (text_of names) ≡ names
+names_back [] h = refl
+names_back (name ∷ names) h =
+    ap (filter (λ part. not (length part == 0))) (ap (λ (parts : List (List ℕ)). [] ∷ parts) (parts_of_names name names (and_left _ _ h) (and_right _ _ h))) ∙ all_long (name ∷ names) h
+
+pub canonical_text : (names : List (List ℕ)) → list_all is_name names ≡ true → IsCanonical (text_of names)
+canonical_text names h = record {
+  spelled = ap text_of (sym (names_back names h));
+  named = subst (λ (ns : List (List ℕ)). list_all is_name ns ≡ true) (sym (names_back names h)) h;
+}
+
+pub text_of-push : (names : List (List ℕ)) (name : List ℕ) → text_of (names ++ name ∷ []) ≡ text_of names ++ 47 ∷ name
+text_of-push [] name = ap (λ (t : List ℕ). 47 ∷ t) (append-nil name)
+text_of-push (first ∷ names) name = ap (λ (t : List ℕ). 47 ∷ (first ++ t)) (text_of-push names name) ∙ ap (λ (t : List ℕ). 47 ∷ t) (sym (append_assoc first (text_of names) (47 ∷ name)))
+
+all_push : (names : List (List ℕ)) (name : List ℕ) → list_all is_name names ≡ true → is_name name ≡ true → list_all is_name (names ++ name ∷ []) ≡ true
+all_push [] name h n = rw n refl
+all_push (first ∷ names) name h n =
+    let one : is_name first ≡ true = and_left _ _ h in
+    rw one (all_push names name (and_right _ _ h) n)
+
+-- a name behind a canonical text
+pub record Pushed (text name : List ℕ) : Type 0 where
+  pub names : names_of (text ++ 47 ∷ name) ≡ names_of text ++ name ∷ []
+  pub canonical : IsCanonical (text ++ 47 ∷ name)
+
+pub pushed : (text name : List ℕ) → IsCanonical text → is_name name ≡ true → Pushed text name
+pushed text name h n =
+    let more : list_all is_name (names_of text ++ name ∷ []) ≡ true = all_push (names_of text) name h.named n in
+    let e : text_of (names_of text ++ name ∷ []) ≡ text ++ 47 ∷ name = text_of-push (names_of text) name ∙ ap (λ (t : List ℕ). t ++ 47 ∷ name) (sym h.spelled) in
+    record {
+      names = subst (λ (t : List ℕ). names_of t ≡ names_of text ++ name ∷ []) e (names_back _ more);
+      canonical = subst IsCanonical e (canonical_text _ more);
+    }
+
+name_ends : (name : List ℕ) (names : List (List ℕ)) → list_all is_name_byte name ≡ true → position_or_len is_slash (name ++ text_of names) ≡ length name
+name_ends [] [] h = refl
+name_ends [] (other ∷ names) h = refl
+name_ends (b ∷ name) names h = rw (no_slash b (and_left _ _ h)) (ap (λ (n : ℕ). 1 + n) (name_ends name names (and_right _ _ h)) ∙ omega arith)
+
+-- the first name of a text that goes on behind its first slash
+pub record CutsFirst (text below : List ℕ) (len : ℕ) : Type 0 where
+  pub fits : len ≤ length below
+  pub named : IsTrue (is_name (take len below))
+  pub names : names_of text ≡ take len below ∷ names_of (drop len below)
+  pub rest : IsCanonical (drop len below)
+
+cuts_at : (text below : List ℕ) (slash len : ℕ) (names : List (List ℕ)) → text ≡ slash ∷ below → len ≡ position_or_len is_slash below → names_of text ≡ names → text ≡ text_of names → list_all is_name names ≡ true → CutsFirst text below len
+cuts_at text below slash len [] e p same spelled named = absurd cc
+cuts_at text below slash len (name ∷ names) e p same spelled named =
+    let b : below ≡ name ++ text_of names = cc in
+    let n : is_name name ≡ true = and_left _ _ named in
+    let ends : len ≡ length name = p ∙ ap (position_or_len is_slash) b ∙ name_ends name names (bytes_of_name name n) in
+    let front : take len below ≡ name = ap (λ (t : List ℕ). take len t) b ∙ take_at name (text_of names) len (sym ends) in
+    let back : drop len below ≡ text_of names = ap (λ (t : List ℕ). drop len t) b ∙ drop_at name (text_of names) len (sym ends) in
+    let others : list_all is_name names ≡ true = and_right _ _ named in
+    record {
+      fits = omega (arith, ap length b, length-append name (text_of names));
+      named = subst (λ (t : List ℕ). IsTrue (is_name t)) (sym front) n;
+      names = same ∙ rw (front, back, names_back names others) refl;
+      rest = subst IsCanonical (sym back) (canonical_text names others);
+    }
+
+pub cuts_first : (text below : List ℕ) (slash len : ℕ) → IsCanonical text → text ≡ slash ∷ below → len ≡ position_or_len is_slash below → CutsFirst text below len
+cuts_first text below slash len h e p = cuts_at text below slash len (names_of text) e p refl h.spelled h.named
+
+-- a text in a buffer with zeros behind it
+pub path_stored : (text buf : List ℕ) → IsCanonical text → length text ≤ 4095 → buf ≡ padded_path text → IsPathStored buf (length text)
+path_stored text buf h short e =
+    let back : take (length text) buf ≡ text = ap (take (length text)) e ∙ take_at text (replicate (4095 - length text) 0) (length text) refl in
+    record {
+      long = ap length e ∙ omega (arith, length-append text (replicate (4095 - length text) 0), length-replicate {A = ℕ} (4095 - length text) 0);
+      short = short;
+      canonical = subst IsCanonical (sym back) h;
+      zeros = e ∙ ap padded_path (sym back);
+    }
+
+-- a slash and a name written behind the text
+pub path_pushed : (len : ℕ) (buf slashed new name : List ℕ) → IsPathStored buf len → is_name name ≡ true → len + 1 + length name ≤ 4095 →
+    slashed ≡ take len buf ++ ((47 ∷ []) ++ drop (len + 1) buf) → new ≡ take (len + 1) slashed ++ (name ++ drop (len + 1 + length name) slashed) →
+    IsPathStored new (len + (1 + length name)) × (take (len + (1 + length name)) new ≡ take len buf ++ 47 ∷ name)
+path_pushed len buf slashed new name h n fits first second =
+    let text : List ℕ = take len buf in
+    let long : length text ≡ len = omega (arith, length-take len buf, h.long, h.short) in
+    let one : slashed ≡ (text ++ 47 ∷ []) ++ drop (len + 1) buf = next len 1 text buf buf slashed (47 ∷ []) long (sym (take-append-drop len buf)) first in
+    let two : new ≡ ((text ++ 47 ∷ []) ++ name) ++ drop (len + 1 + length name) buf = next (len + 1) (length name) (text ++ 47 ∷ []) buf slashed new name (length-append text (47 ∷ []) ∙ ap (λ (k : ℕ). k + 1) long) one second in
+    let whole : List ℕ = text ++ 47 ∷ name in
+    let joined : (text ++ 47 ∷ []) ++ name ≡ whole = append_assoc text (47 ∷ []) name in
+    let size : length whole ≡ len + (1 + length name) = omega (arith, length-append text (47 ∷ name), long) in
+    let zeros : drop (len + 1 + length name) buf ≡ replicate (4095 - length whole) 0 =
+    let behind : drop len buf ≡ replicate (4095 - length text) 0 = ap (λ (t : List ℕ). drop len t) h.zeros ∙ drop_at text (replicate (4095 - length text) 0) len long in
+    let further : drop (1 + length name) (drop len buf) ≡ drop (len + (1 + length name)) buf = drop-drop (1 + length name) len buf in
+    let count : 4095 - length text - (1 + length name) ≡ 4095 - length whole = omega (arith, size, long) in
+    let sum : len + 1 + length name ≡ len + (1 + length name) = omega arith in
+    ap (λ (k : ℕ). drop k buf) sum ∙ sym further ∙ ap (drop (1 + length name)) behind ∙ drop-replicate (1 + length name) (4095 - length text) 0 ∙ ap (λ (k : ℕ). replicate k 0) count in
+    let e : new ≡ padded_path whole = two ∙ ap (λ (t : List ℕ). t ++ drop (len + 1 + length name) buf) joined ∙ ap (λ (t : List ℕ). whole ++ t) zeros in
+    let p = pushed text name h.canonical n in
+    let stored = path_stored whole new p.canonical (omega (arith, size)) e in
+    (subst (λ (k : ℕ). IsPathStored new k) size stored, ap (λ (k : ℕ). take k new) (sym size) ∙ ap (take (length whole)) e ∙ take_at whole (replicate (4095 - length whole) 0) (length whole) refl)

@@ -1,0 +1,10 @@
+-- The ranges of the limits.
+use Rattle.std.specs.Prelude.{◌≤◌}
+use Rattle.am_names.specs.declared.limits.Limits.{Limits}
+
+-- at least 1 each, and at most 65,536 waits; the other two are bounded by their type
+pub record IsInRange (limits : Limits) : Type 0 where
+  pub some_mounts : 1 ≤ limits.mounts
+  pub some_waiters : 1 ≤ limits.waiters
+  pub few_waiters : limits.waiters ≤ 65536
+  pub some_tokens : 1 ≤ limits.tokens

@@ -1,0 +1,28 @@
+//! The words that all crates share: names and paths, numbers, errors, rows.
+//! Reading takes no memory; what is kept for long is a compact copy.
+#![tactic(auto)]
+
+pub mod errno;
+pub mod limits;
+pub mod mounts;
+pub mod name;
+pub mod number;
+pub mod path;
+pub mod place;
+pub mod row;
+pub mod text;
+pub mod trigger;
+
+pub use errno::Errno;
+pub use limits::Limits;
+pub use mounts::Mounts;
+pub use name::Name;
+pub use number::{Attach, FsId, GroupId, JobId, MountId, NsId, Seconds, Token, WalkerId};
+pub use path::AbsPath;
+pub use place::Place;
+pub use row::{GroupRow, MemberRow, MountRow, Position, TokenKind, TokenRow, WaitRow};
+pub use text::split_first_name;
+pub use trigger::{PipeState, Status, Trigger};
+
+#[cfg(test)]
+mod tests;

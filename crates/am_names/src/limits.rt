@@ -1,0 +1,25 @@
+//! How far the numbers may go.
+
+ghost use Rattle.std.specs.Prelude.{◌↔◌, IsTrue};
+ghost use Rattle.am_names.specs.Limits.{IsInRange};
+
+/// The greatest mount number, the most waits at one time, the greatest token.
+/// Going past one is ENOSPC.
+#[derive(Clone, Copy, Debug, PartialEq, Eq, Hash)]
+pub struct Limits {
+    /// 1 to 4,294,967,295.
+    pub mounts: u32,
+    /// 1 to 65,536.
+    pub waiters: u32,
+    /// 1 to 4,294,967,295.
+    pub tokens: u32,
+}
+
+impl Limits {
+    /// Whether each limit is in its range.
+    pub fn is_in_range(&self) -> bool
+        ensures { IsTrue result ↔ IsInRange self.now }
+    {
+        self.mounts >= 1 && self.waiters >= 1 && self.waiters <= 65_536 && self.tokens >= 1
+    }
+}
