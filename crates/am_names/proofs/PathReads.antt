@@ -1,11 +1,11 @@
 -- A path is read part by part.
-use Rattle.std.proofs.Common.{◌≡◌, ℕ, ◌+◌, ◌≤◌, Bool, true, false, cond, not, ◌==◌, List, [], ◌∷◌, ◌++◌, length, Ok, Err, refl, sym, ap, ◌∙◌, append_assoc, arith}
+use Rattle.std.proofs.Common.{◌≡◌, ℕ, ◌+◌, ◌≤◌, true, false, cond, ◌==◌, List, [], ◌∷◌, ◌++◌, length, Ok, Err, refl, sym, ap, ◌∙◌, append_assoc, arith}
 use Rattle.std.specs.Prelude.{Result, nat_lt}
 use Rattle.std.proofs.lemmas.Bool.Decides.{nat_tests}
-use Rattle.std.proofs.lemmas.List.{append-nil, length-append}
+use Rattle.std.proofs.lemmas.List.{length-append}
 use Rattle.am_names.specs.declared.errno.Errno.{Errno}
-use Rattle.am_names.specs.Name.{name_read, is_name}
-use Rattle.am_names.specs.Path.{path_read, parts_read, parts_of, text_of, with_name, begins_with_slash}
+use Rattle.am_names.specs.Name.{name_read}
+use Rattle.am_names.specs.Path.{path_read, parts_read, parts_of, text_of, with_name}
 use Rattle.am_names.specs.PathSteps.{behind, with_last, part_taken}
 use Rattle.am_names.proofs.PathLemmas.{text_of-push}
 

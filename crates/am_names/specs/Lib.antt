@@ -6,3 +6,4 @@ pub mod Path
 pub mod PathInside
 pub mod PathSteps
 pub mod PeerGroups
+pub mod Trigger

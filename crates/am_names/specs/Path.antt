@@ -1,6 +1,7 @@
 -- What an absolute path is, its names, and its canonical text.
-use Rattle.std.specs.Prelude.{◌≡◌, ℕ, ◌-◌, ◌≤◌, Bool, true, false, not, ◌==◌, nat_lt, List, [], ◌∷◌, ◌++◌, length, take, replicate, Result, Ok, Err, if◌then◌else◌}
+use Rattle.std.specs.Prelude.{◌≡◌, ℕ, ◌-◌, ◌≤◌, Bool, true, false, not, ◌&&◌, ◌==◌, nat_lt, List, [], ◌∷◌, ◌++◌, length, take, replicate, Result, Ok, Err, if◌then◌else◌}
 use Rattle.std.specs.List.{slice_split, filter, list_all}
+use Rattle.std.specs.Str.{bytes_eq}
 use Rattle.am_names.specs.declared.errno.Errno.{Errno}
 use Rattle.am_names.specs.declared.errno.Errno.TheVariants.{ENAMETOOLONG, EINVAL}
 use Rattle.am_names.specs.Name.{name_read, is_name}
@@ -42,6 +43,13 @@ text_of (name ∷ names) = 47 ∷ (name ++ text_of names)
 -- the parts of a text that are not empty
 abbrev pub names_of : List ℕ → List (List ℕ)
 names_of text = filter (λ part. not (length part == 0)) (parts_of text)
+
+-- both are the same names in the same order
+abbrev pub same_names : List (List ℕ) → List (List ℕ) → Bool
+same_names [] [] = true
+same_names [] (other ∷ others) = false
+same_names (name ∷ names) [] = false
+same_names (name ∷ names) (other ∷ others) = bytes_eq name other && same_names names others
 
 -- the text is the canonical one of names
 pub record IsCanonical (text : List ℕ) : Type 0 where

@@ -12,6 +12,7 @@ pub mod place;
 pub mod row;
 pub mod text;
 pub mod trigger;
+pub mod waiters;
 
 pub use errno::Errno;
 pub use limits::Limits;
@@ -20,9 +21,10 @@ pub use name::Name;
 pub use number::{Attach, FsId, GroupId, JobId, MountId, NsId, Seconds, Token, WalkerId};
 pub use path::AbsPath;
 pub use place::Place;
-pub use row::{GroupRow, MemberRow, MountRow, Position, TokenKind, TokenRow, WaitRow};
+pub use row::{GroupRow, MemberRow, MountRow, OpenToken, Position, TokenKind, WaitRow};
 pub use text::split_first_name;
 pub use trigger::{PipeState, Status, Trigger};
+pub use waiters::Waiters;
 
 #[cfg(test)]
 mod tests;

@@ -48,6 +48,7 @@ impl Mounts {
     pub fn is_same(&self, other: &Mounts) -> bool
         ensures { IsTrue result ↔ (self.now ≡ other.now) }
     {
-        self.numbers.as_slice() == other.numbers.as_slice()
+        let numbers = self.as_slice();
+        numbers == other.as_slice()
     }
 }

@@ -1,7 +1,7 @@
 //! Places: the compact form of a list of names.
 
 ghost use Rattle.std.specs.Prelude.{◌≡◌, ◌∷◌, ◌++◌, ◌↔◌, [], IsTrue, IfOk, OnOk, OnErr};
-ghost use Rattle.am_names.specs.Path.{IsCanonical, names_of, text_of};
+ghost use Rattle.am_names.specs.Path.{IsCanonical, names_of, text_of, same_names};
 
 use crate::name::Name;
 use std::alloc::{AllocError, Global};
@@ -74,7 +74,8 @@ impl Place {
 
     /// Whether the names are the same.
     pub fn is_same(&self, other: &Place) -> bool
-        ensures { IsTrue result ↔ (self.now ≡ other.now) }
+        ensures same { IsTrue result ↔ (self.now ≡ other.now) }
+        ensures test { result ≡ same_names self.now other.now }
     {
         self.is_at(other.text())
     }
@@ -82,8 +83,9 @@ impl Place {
     /// Whether these are the names of a canonical text.
     pub fn is_at(&self, text: &[u8]) -> bool
         requires { IsCanonical text.now }
-        ensures { IsTrue result ↔ (self.now ≡ names_of text.now) }
+        ensures same { IsTrue result ↔ (self.now ≡ names_of text.now) }
+        ensures test { result ≡ same_names self.now (names_of text.now) }
     {
-        self.text.as_slice() == text
+        text == self.text.as_slice()
     }
 }

@@ -5,6 +5,7 @@ ghost use Rattle.std.specs.Prelude.{◌≡◌, ◌↔◌, IsTrue, IfOk};
 use crate::number::{FsId, GroupId, MountId, NsId, Token, WalkerId};
 use crate::place::Place;
 use crate::trigger::{Status, Trigger};
+use crate::waiters::Waiters;
 use std::alloc::{AllocError, Global};
 
 /// A mount and a place below its root (Linux: `struct path`).
@@ -93,11 +94,12 @@ pub enum TokenKind {
 }
 
 /// An open token: the daemon has not acknowledged it yet.
-#[derive(Clone, Copy, Debug, PartialEq, Eq)]
-pub struct TokenRow {
+#[derive(Debug, Drop)]
+pub struct OpenToken {
     pub token: Token,
     pub trigger: Trigger,
     pub kind: TokenKind,
+    pub waiters: Waiters,
 }
 
 /// A walker that waits, or has not collected its status yet. The token's trigger and kind

@@ -86,6 +86,7 @@ fn the_order_of_a_paths_faults(rt: HostRuntime) -> Result<(), Fail> {
         text.push(b'y')?;
     }
     assert_eq!(rt; AbsPath::read(&text).err(), Some(Errno::EINVAL));
+    assert!(rt; text.len() == 260);
     assert_eq!(rt; AbsPath::read(&text[3..]).err(), Some(Errno::ENAMETOOLONG));
     Ok(())
 }
@@ -143,6 +144,15 @@ fn rows_and_lists_are_copied(rt: HostRuntime) -> Result<(), Fail> {
         origin: MountId(2),
     };
     assert_eq!(rt; row.copy(rt.alloc())?.mount, MountId(2));
+    Ok(())
+}
+
+#[test]
+fn waiters_join_in_order(rt: HostRuntime) -> Result<(), Fail> {
+    let mut waiters = Waiters::one(rt.alloc(), WalkerId(7))?;
+    waiters.join(WalkerId(3))?;
+    assert_eq!(rt; waiters.as_slice().len(), 2);
+    assert_eq!(rt; waiters.as_slice()[1], WalkerId(3));
     Ok(())
 }
 

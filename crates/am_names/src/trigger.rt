@@ -1,5 +1,8 @@
 //! What the daemon is asked for, and what it is told with.
 
+ghost use Rattle.std.specs.Prelude.{◌≡◌};
+ghost use Rattle.am_names.specs.Trigger.{same_trigger, same_name};
+
 use crate::name::Name;
 use crate::number::FsId;
 
@@ -10,6 +13,28 @@ pub struct Trigger {
     pub fs: FsId,
     /// None for a direct trigger.
     pub name: Option<Name>,
+}
+
+impl Trigger {
+    /// Whether both are one trigger.
+    pub fn is_same(&self, other: &Trigger) -> bool
+        ensures { result ≡ same_trigger self.now other.now }
+    {
+        if self.fs != other.fs {
+            return false;
+        }
+        is_same_name(&self.name, &other.name)
+    }
+}
+
+fn is_same_name(one: &Option<Name>, other: &Option<Name>) -> bool
+    ensures { result ≡ same_name one.now other.now }
+{
+    match (one, other) {
+        (None, None) => true,
+        (Some(name), Some(other)) => name.as_bytes() == other.as_bytes(),
+        (None, Some(_)) | (Some(_), None) => false,
+    }
 }
 
 /// How the daemon acknowledges a notification (autofs.rst, "root directory ioctls").

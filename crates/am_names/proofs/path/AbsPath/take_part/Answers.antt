@@ -1,4 +1,4 @@
-use Rattle.std.proofs.Common.{sym, ap, arith, length, ◌≡◌}
+use Rattle.std.proofs.Common.{sym, ap, arith, length}
 use Rattle.am_names.specs.Path.{text_of}
 use Rattle.am_names.proofs.PathReads.{name_read_is, length-pushed}
 use Rattle.am_names.proofs.path.AbsPath.take_part.Goals as goal

@@ -1,0 +1,2 @@
+pub mod KernelState
+pub mod DaemonState

@@ -1,0 +1,10 @@
+//! What the kernel and the daemon keep, row by row, and what is observed of them.
+#![tactic(auto)]
+
+pub mod daemon_row;
+pub mod kernel_row;
+pub mod obs;
+
+pub use daemon_row::{ActsLeft, HeldRow, JobRow, KnownRow, Record, RecordRow};
+pub use kernel_row::{AutofsRow, Doing, QueuedRow, UseRow, WalkerRow};
+pub use obs::Obs;

@@ -1,0 +1,53 @@
+//! Observations: what an event lets be seen.
+
+use crate::daemon_row::Record;
+use am_names::{Attach, FsId, MountId, Mounts, Status, Token, Trigger, WalkerId};
+use am_wire::Packet;
+
+/// One observation. A trace is a list of them, and the safety laws speak of the trace alone.
+#[derive(Debug, Drop)]
+pub enum Obs {
+    /// A packet was queued for the daemon.
+    Queued {
+        token: Token,
+        attach: Attach,
+        packet: Packet,
+    },
+    /// A walker waits on a token.
+    Waits { walker: WalkerId, token: Token },
+    /// A token was acknowledged.
+    Answered { token: Token, status: Status },
+    /// A file system became catatonic.
+    Catatonic { fs: FsId },
+    /// A waiter was released.
+    Released {
+        walker: WalkerId,
+        token: Token,
+        status: Status,
+    },
+    /// A walk passed a trigger, on which something is mounted.
+    Passed { walker: WalkerId, trigger: Trigger },
+    /// A walk arrived in a mount, which is in use until the walker leaves.
+    Entered { walker: WalkerId, mount: MountId },
+    /// A walker left a mount.
+    Left { walker: WalkerId, mount: MountId },
+    /// These mounts came.
+    Mounted { mounts: Mounts },
+    /// These mounts went.
+    Unmounted { mounts: Mounts },
+    /// The daemon took a packet from the pipe.
+    Delivered {
+        token: Token,
+        attach: Attach,
+        packet: Packet,
+    },
+    /// The daemon's book changed.
+    Recorded {
+        trigger: Trigger,
+        entry: Option<Record>,
+    },
+    /// The daemon attached again to a catatonic file system.
+    Reattached { fs: FsId, attach: Attach },
+    /// The daemon died.
+    Died,
+}

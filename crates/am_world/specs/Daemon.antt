@@ -1,0 +1,3 @@
+-- The daemon's half of the machine.
+pub mod Book
+pub mod Jobs
