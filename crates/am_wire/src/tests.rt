@@ -1,6 +1,6 @@
 //! A packet's bytes from outside, each fault, and the order of the faults.
 
-ghost use Rattle.std.specs.Prelude.{◌≤◌, ◌+◌, length};
+ghost use Rattle.std.specs.Prelude.{◌≤◌, ◌+◌};
 
 use crate::*;
 use am_names::{Attach, FsId, PipeState, Seconds, Token, TokenKind, WalkerId};
@@ -29,14 +29,55 @@ fn with_number(bytes: [u8; 304], at: usize, number: u32) -> [u8; 304]
     changed
 }
 
+/// A name of up to 255 bytes; of more than that, the empty one.
+fn name_of(bytes: &[u8]) -> PacketName {
+    if bytes.len() > 255 {
+        return PacketName::new(b"");
+    }
+    PacketName::new(bytes)
+}
+
 /// A packet with this type and this name.
-fn asking(kind: u32, name: &[u8]) -> [u8; 304]
-    requires { length name.now ≤ 256 }
-{
+fn asking(kind: u32, name: &[u8]) -> [u8; 304] {
+    let name = name_of(name);
     let mut bytes = with_number(home(), 4, kind);
-    bytes[44..48].copy_from_slice(&[0; 4]);
-    bytes[44..44 + name.len()].copy_from_slice(name);
-    with_number(bytes, 40, name.len() as u32)
+    bytes[44..300].copy_from_slice(name.padded());
+    with_number(bytes, 40, name.as_bytes().len() as u32)
+}
+
+/// The first of these bytes.
+fn first(bytes: &[u8; 304], len: usize) -> &[u8] {
+    if len > 304 {
+        return bytes;
+    }
+    &bytes[..len]
+}
+
+/// Whether these 4 bytes stand at the offset.
+fn has_at(bytes: &[u8; 304], at: usize, four: [u8; 4]) -> bool {
+    at <= 300 && &bytes[at..at + 4] == four.as_slice()
+}
+
+/// A packet whose numbers are the greatest.
+fn with_greatest_numbers() -> [u8; 304] {
+    let mut bytes = home();
+    bytes[8..40].copy_from_slice(&[0xff; 32]);
+    bytes
+}
+
+/// The packet for the name `home` with other bytes behind the name.
+fn with_other_bytes_behind() -> [u8; 304] {
+    let mut bytes = [0xa5; 304];
+    bytes[..48].copy_from_slice(&HOME);
+    bytes
+}
+
+/// What the bytes are read as.
+fn packet_of(bytes: &[u8]) -> Result<Packet, WireFault> {
+    match read(bytes) {
+        Ok(packet) => Ok(packet.to_packet()),
+        Err(fault) => Err(fault),
+    }
 }
 
 /// The packet for the name `home`.
@@ -64,9 +105,9 @@ fn written(packet: &Packet) -> [u8; 304] {
 #[test]
 fn the_bytes_of_a_packet_are_read_and_written(rt: HostRuntime) -> Result<(), Fail> {
     let bytes = home();
-    assert!(rt; read(&bytes)?.to_packet() == home_packet());
-    assert!(rt; read(&bytes[..300])?.to_packet() == home_packet());
-    assert_eq!(rt; read(&bytes)?.name, b"home".as_slice());
+    assert!(rt; packet_of(&bytes)? == home_packet());
+    assert!(rt; packet_of(first(&bytes, 300))? == home_packet());
+    assert_eq!(rt; packet_of(&bytes)?.name.as_bytes(), b"home".as_slice());
     assert_eq!(rt; written(&home_packet()).as_slice(), bytes.as_slice());
     Ok(())
 }
@@ -87,12 +128,13 @@ fn each_field_has_the_offset_of_the_header(rt: HostRuntime) -> Result<(), Fail> 
     let bytes = written(&packet);
     assert_eq!(rt; bytes.len(), 304);
     // The offset of each field by a C compiler for x86-64, and the first bytes there.
-    for (at, first) in [
+    for (at, four) in [
         (0, [5, 0, 0, 0]),
         (4, [6, 0, 0, 0]),
         (8, [0x08, 0x09, 0x0a, 0x0b]),
         (12, [0x0c, 0x0d, 0x0e, 0x0f]),
         (16, [0x10, 0x11, 0x12, 0x13]),
+        (20, [0x14, 0x15, 0x16, 0x17]),
         (24, [0x18, 0x19, 0x1a, 0x1b]),
         (28, [0x1c, 0x1d, 0x1e, 0x1f]),
         (32, [0x20, 0x21, 0x22, 0x23]),
@@ -101,21 +143,19 @@ fn each_field_has_the_offset_of_the_header(rt: HostRuntime) -> Result<(), Fail> 
         (44, [b'n', b'a', b'm', b'e']),
         (300, [0, 0, 0, 0]),
     ] {
-        assert_eq!(rt; &bytes[at..at + 4], first.as_slice(), "at {at}");
+        assert!(rt; has_at(&bytes, at, four), "at {at}");
     }
-    assert_eq!(rt; &bytes[20..24], [0x14, 0x15, 0x16, 0x17].as_slice());
     for at in 48..304 {
         assert_eq!(rt; bytes[at], 0, "at {at}");
     }
-    assert!(rt; read(&bytes)?.to_packet() == packet);
+    assert!(rt; packet_of(&bytes)? == packet);
     Ok(())
 }
 
 #[test]
 fn numbers_have_no_sign(rt: HostRuntime) -> Result<(), Fail> {
-    let mut bytes = home();
-    bytes[8..40].copy_from_slice(&[0xff; 32]);
-    let packet = read(&bytes)?;
+    let bytes = with_greatest_numbers();
+    let packet = packet_of(&bytes)?;
     assert_eq!(rt; packet.token, Token(4_294_967_295));
     assert_eq!(rt; packet.dev, FsId(4_294_967_295));
     assert_eq!(rt; packet.ino, 18_446_744_073_709_551_615);
@@ -123,18 +163,15 @@ fn numbers_have_no_sign(rt: HostRuntime) -> Result<(), Fail> {
     assert_eq!(rt; packet.gid, 4_294_967_295);
     assert_eq!(rt; packet.pid, 4_294_967_295);
     assert_eq!(rt; packet.tgid, 4_294_967_295);
-    assert_eq!(rt; written(&packet.to_packet()).as_slice(), bytes.as_slice());
+    assert_eq!(rt; written(&packet).as_slice(), bytes.as_slice());
     Ok(())
 }
 
 #[test]
 fn bytes_behind_the_name_are_free(rt: HostRuntime) -> Result<(), Fail> {
-    let mut bytes = home();
-    for at in 48..304 {
-        bytes[at] = 0xa5;
-    }
-    assert!(rt; read(&bytes)?.to_packet() == home_packet());
-    assert!(rt; read(&bytes[..300])?.to_packet() == home_packet());
+    let bytes = with_other_bytes_behind();
+    assert!(rt; packet_of(&bytes)? == home_packet());
+    assert!(rt; packet_of(first(&bytes, 300))? == home_packet());
     Ok(())
 }
 
@@ -143,7 +180,7 @@ fn all_lengths_but_two_are_refused(rt: HostRuntime) {
     let mut bytes = [0; 305];
     bytes[..304].copy_from_slice(&home());
     for len in 0..306 {
-        let fault = read(&bytes[..len]).err();
+        let fault = packet_of(&bytes[..len]).err();
         if len == 300 || len == 304 {
             assert_eq!(rt; fault, None, "at {len}");
         } else {
@@ -157,18 +194,18 @@ fn versions_and_types(rt: HostRuntime) {
     for version in [0, 1, 2, 3, 4, 6, 0x0500, 4_294_967_295] {
         let bytes = with_number(home(), 0, version);
         assert_eq!(rt;
-            read(&bytes).err(),
+            packet_of(&bytes).err(),
             Some(WireFault::Version),
             "at {version}"
         );
     }
     for kind in [0, 1, 2, 7, 0x0300, 4_294_967_295] {
         let bytes = with_number(home(), 4, kind);
-        assert_eq!(rt; read(&bytes).err(), Some(WireFault::Kind), "at {kind}");
+        assert_eq!(rt; packet_of(&bytes).err(), Some(WireFault::Kind), "at {kind}");
     }
     for kind in 3..7 {
         let bytes = with_number(home(), 4, kind);
-        assert_eq!(rt; read(&bytes).err(), None, "at {kind}");
+        assert_eq!(rt; packet_of(&bytes).err(), None, "at {kind}");
     }
 }
 
@@ -178,31 +215,31 @@ fn lengths_of_names(rt: HostRuntime) -> Result<(), Fail> {
         for len in [256, 257, 260, 0x0100_0004, 4_294_967_295] {
             let bytes = with_number(asking(kind, b"home"), 40, len);
             assert_eq!(rt;
-                read(&bytes).err(),
+                packet_of(&bytes).err(),
                 Some(WireFault::NameLength),
                 "at {kind} {len}"
             );
         }
         let longest = [b'x'; 255];
         let bytes = asking(kind, &longest);
-        assert_eq!(rt; read(&bytes)?.name, longest.as_slice());
-        assert_eq!(rt; read(&bytes[..300])?.name, longest.as_slice());
+        assert_eq!(rt; packet_of(&bytes)?.name.as_bytes(), longest.as_slice());
         assert_eq!(rt;
-            written(&read(&bytes)?.to_packet()).as_slice(),
-            bytes.as_slice()
+            packet_of(first(&bytes, 300))?.name.as_bytes(),
+            longest.as_slice()
         );
+        assert_eq!(rt; written(&packet_of(&bytes)?).as_slice(), bytes.as_slice());
     }
     for kind in [3, 4] {
         let bytes = asking(kind, b"");
         assert_eq!(rt;
-            read(&bytes).err(),
+            packet_of(&bytes).err(),
             Some(WireFault::NameLength),
             "at {kind}"
         );
     }
     for kind in [5, 6] {
         let bytes = asking(kind, b"");
-        assert_eq!(rt; read(&bytes)?.name, b"".as_slice());
+        assert_eq!(rt; packet_of(&bytes)?.name.as_bytes(), b"".as_slice());
     }
     Ok(())
 }
@@ -219,19 +256,19 @@ fn only_what_is_looked_up_in_a_directory_must_be_a_name(rt: HostRuntime) -> Resu
         for kind in [3, 4] {
             let bytes = asking(kind, name);
             assert_eq!(rt;
-                read(&bytes).err(),
+                packet_of(&bytes).err(),
                 Some(WireFault::BadName),
                 "at {kind} {name:?}"
             );
         }
         for kind in [5, 6] {
             let bytes = asking(kind, name);
-            assert_eq!(rt; read(&bytes)?.name, name);
+            assert_eq!(rt; packet_of(&bytes)?.name.as_bytes(), name);
         }
     }
     for kind in 3..7 {
         let bytes = asking(kind, b"...");
-        assert_eq!(rt; read(&bytes)?.name, b"...".as_slice());
+        assert_eq!(rt; packet_of(&bytes)?.name.as_bytes(), b"...".as_slice());
     }
     Ok(())
 }
@@ -245,15 +282,15 @@ fn the_tests_of_a_reader_in_order(rt: HostRuntime) {
     let version_4 = with_number(type_7, 0, 4);
     // each row fails one test more than the next
     for (bytes, fault) in [
-        (&version_4[..299], Some(WireFault::Length)),
-        (&version_4[..300], Some(WireFault::Version)),
-        (&type_7[..300], Some(WireFault::Kind)),
-        (&long_name[..300], Some(WireFault::NameLength)),
-        (&no_name[..300], Some(WireFault::NameLength)),
-        (&bad_name[..300], Some(WireFault::BadName)),
-        (&home()[..300], None),
+        (first(&version_4, 299), Some(WireFault::Length)),
+        (first(&version_4, 300), Some(WireFault::Version)),
+        (first(&type_7, 300), Some(WireFault::Kind)),
+        (first(&long_name, 300), Some(WireFault::NameLength)),
+        (first(&no_name, 300), Some(WireFault::NameLength)),
+        (first(&bad_name, 300), Some(WireFault::BadName)),
+        (first(&home(), 300), None),
     ] {
-        assert_eq!(rt; read(bytes).err(), fault);
+        assert_eq!(rt; packet_of(bytes).err(), fault);
     }
 }
 
@@ -270,18 +307,9 @@ fn packets_of_the_format(rt: HostRuntime) {
     ] {
         let mut packet = home_packet();
         packet.kind = kind;
-        packet.name = short_name(name);
+        packet.name = name_of(name);
         assert_eq!(rt; is_writable(&packet), writable);
         assert_eq!(rt; read(&written(&packet)).is_ok(), writable);
-    }
-}
-
-/// The name of at most 255 of these bytes.
-fn short_name(bytes: &[u8]) -> PacketName {
-    if bytes.len() <= 255 {
-        PacketName::new(bytes)
-    } else {
-        PacketName::new(&bytes[..255])
     }
 }
 
