@@ -1,0 +1,4 @@
+pub mod StoredLemmas
+pub mod KindLemmas
+pub mod WriteLemmas
+pub mod FormatLemmas

@@ -1,0 +1,24 @@
+-- What a packet says, wherever its name lies.
+use Rattle.std.specs.Prelude.{ℕ, List}
+use Rattle.am_wire.specs.declared.kind.Kind.{Kind}
+use Rattle.am_wire.specs.declared.packet.Packet.{Packet}
+use Rattle.am_wire.specs.declared.packet.PacketRef.{PacketRef}
+
+pub record Said : Type 0 where
+  pub kind : Kind
+  pub token : ℕ
+  pub dev : ℕ
+  pub ino : ℕ
+  pub uid : ℕ
+  pub gid : ℕ
+  pub pid : ℕ
+  pub tgid : ℕ
+  pub name : List ℕ
+
+-- what a packet says that owns its name
+abbrev pub said : Packet → Said
+said p = record { kind = p.kind; token = p.token; dev = p.dev; ino = p.ino; uid = p.uid; gid = p.gid; pid = p.pid; tgid = p.tgid; name = p.name }
+
+-- what a packet says whose name is where it was read
+abbrev pub said_of : PacketRef → Said
+said_of p = record { kind = p.kind; token = p.token; dev = p.dev; ino = p.ino; uid = p.uid; gid = p.gid; pid = p.pid; tgid = p.tgid; name = p.name.now }
