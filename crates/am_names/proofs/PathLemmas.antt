@@ -1,12 +1,14 @@
 -- A canonical text and its names.
-use Rattle.std.proofs.Common.{◌≡◌, ℕ, ◌+◌, ◌-◌, ◌≤◌, Bool, true, false, ◌&&◌, not, ◌==◌, List, [], ◌∷◌, ◌++◌, length, take, drop, refl, sym, ap, subst, ◌∙◌, append_assoc, arith}
+use Rattle.std.proofs.Common.{◌≡◌, ℕ, ◌+◌, ◌-◌, ◌≤◌, Bool, true, false, ◌&&◌, Decides, not, ◌==◌, List, [], ◌∷◌, ◌++◌, length, take, drop, refl, sym, ap, subst, ◌∙◌, append_assoc, arith}
 use Rattle.std.specs.Prelude.{IsTrue, replicate}
 use Rattle.std.specs.List.{list_all, filter, position_or_len}
-use Rattle.std.proofs.lemmas.Bool.Decides.{nat_tests}
+use Rattle.std.specs.Str.{bytes_eq}
+use Rattle.std.proofs.lemmas.Bool.Decides.{nat_tests, Decides-eqb, same_from_decides}
+use Rattle.std.proofs.lemmas.Slice.Eq.{slice_eq-Decides}
 use Rattle.std.proofs.lemmas.List.{append-nil, length-append, length-take, take-append-drop, take_at, drop_at, drop-drop, drop-replicate, length-replicate}
 use Rattle.std.proofs.lemmas.List.Splits.{slice_split-cons_no}
 use Rattle.am_names.specs.Name.{is_name, is_name_byte}
-use Rattle.am_names.specs.Path.{is_slash, parts_of, text_of, names_of, IsCanonical, IsPathStored, padded_path}
+use Rattle.am_names.specs.Path.{is_slash, parts_of, text_of, names_of, same_names, IsCanonical, IsPathStored, padded_path}
 use Rattle.am_names.proofs.Puts.{next}
 
 and_left : (a b : Bool) → (a && b) ≡ true → a ≡ true
@@ -150,3 +152,36 @@ path_pushed len buf slashed new name h n fits first second =
     let p = pushed text name h.canonical n in
     let stored = path_stored whole new p.canonical (omega (arith, size)) e in
     (subst (λ (k : ℕ). IsPathStored new k) size stored, ap (λ (k : ℕ). take k new) (sym size) ∙ ap (take (length whole)) e ∙ take_at whole (replicate (4095 - length whole) 0) (length whole) refl)
+
+joined : (x y : List ℕ) (xs ys : List (List ℕ)) → x ≡ y → xs ≡ ys → ◌≡◌ {A = List (List ℕ)} (x ∷ xs) (y ∷ ys)
+joined x y xs ys h g = cc
+
+head_is : (x y : List ℕ) (xs ys : List (List ℕ)) → ◌≡◌ {A = List (List ℕ)} (x ∷ xs) (y ∷ ys) → x ≡ y
+head_is x y xs ys h = cc
+
+tail_is : (x y : List ℕ) (xs ys : List (List ℕ)) → ◌≡◌ {A = List (List ℕ)} (x ∷ xs) (y ∷ ys) → xs ≡ ys
+tail_is x y xs ys h = cc
+
+both_true : (a b : Bool) → a ≡ true → b ≡ true → (a && b) ≡ true
+both_true true b h g = g
+both_true false b h g = absurd cc
+
+-- the test of names tells whether they are the same
+pub same_names-Decides : (xs ys : List (List ℕ)) → Decides (same_names xs ys) (xs ≡ ys)
+same_names-Decides [] [] = (λ h. refl, λ h. refl)
+same_names-Decides [] (y ∷ ys) = (λ h. absurd cc, λ h. absurd cc)
+same_names-Decides (x ∷ xs) [] = (λ h. absurd cc, λ h. absurd cc)
+same_names-Decides (x ∷ xs) (y ∷ ys) =
+    let first : Decides (bytes_eq x y) (x ≡ y) = slice_eq-Decides Decides-eqb x y (bytes_eq x y) refl in
+    let others : Decides (same_names xs ys) (xs ≡ ys) = same_names-Decides xs ys in
+    (λ h. joined x y xs ys (first.0 (and_left _ _ h)) (others.0 (and_right _ _ h)), λ h. both_true _ _ (first.1 (head_is x y xs ys h)) (others.1 (tail_is x y xs ys h)))
+
+-- two canonical texts are the same bytes where they are the same names
+pub texts_tell : (text mine : List ℕ) (names : List (List ℕ)) (r : Bool) → IsCanonical text → IsCanonical mine → names_of mine ≡ names → r ≡ bytes_eq text mine → r ≡ same_names names (names_of text)
+texts_tell text mine names r h m e b =
+    let read : Decides r (text ≡ mine) = slice_eq-Decides Decides-eqb text mine r b in
+    let told : Decides r (names ≡ names_of text) = (
+      λ is_true. sym e ∙ ap names_of (sym (read.0 is_true)),
+      λ same. read.1 (h.spelled ∙ ap text_of (sym (e ∙ same)) ∙ sym m.spelled)
+    ) in
+    same_from_decides r (same_names names (names_of text)) told (same_names-Decides names (names_of text))

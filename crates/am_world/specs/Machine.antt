@@ -1,7 +1,9 @@
 -- The machine: what each event comes to.
-use Rattle.std.specs.Prelude.{◌≡◌, ◌⊎◌, ⊥, ℕ, suc, ◌+◌, ◌==◌, nat_lt, nat_le, max, Bool, true, false, ◌&&◌, not, is_some, is_none, List, [], ◌∷◌, ◌++◌, length, map, filter, Option, Some, None, Result, Ok, Err, if◌then◌else◌}
+use Rattle.std.specs.Prelude.{◌≡◌, ◌⊎◌, ℕ, suc, ◌+◌, ◌==◌, nat_lt, nat_le, max, Bool, true, false, ◌&&◌, not, is_some, is_none, List, [], ◌∷◌, ◌++◌, length, map, filter, Option, Some, None, Result, Ok, Err, if◌then◌else◌}
 use Rattle.std.specs.List.{list_any}
 use Rattle.std.specs.Str.{bytes_eq}
+use Rattle.std.specs.Result.{result_ok}
+use Rattle.am_names.specs.Name.{name_read}
 use Rattle.am_names.specs.Path.{same_names}
 use Rattle.am_names.specs.declared.errno.Errno.{Errno}
 use Rattle.am_names.specs.declared.errno.Errno.TheVariants.{ENOENT, EPERM, EBUSY, EEXIST, EINVAL, ELOOP, ENOSPC, NoMemory, NotReleased, Stranger}
@@ -14,8 +16,7 @@ use Rattle.am_names.specs.declared.row.WaitRow.{WaitRow}
 use Rattle.am_names.specs.declared.row.TokenKind.{TokenKind}
 use Rattle.am_names.specs.declared.row.TokenKind.TheVariants.{Missing, Expire}
 use Rattle.am_wire.specs.declared.packet.Packet.{Packet}
-use Rattle.am_wire.specs.declared.kind.Kind.{Kind}
-use Rattle.am_wire.specs.declared.kind.Kind.TheVariants.{MissingIndirect, ExpireIndirect, MissingDirect, ExpireDirect}
+use Rattle.am_wire.specs.Kind.{is_indirect}
 use Rattle.am_wire.specs.Said.{said}
 use Rattle.am_wire.specs.Format.{canonical}
 use Rattle.am_state.specs.declared.kernel_row.AutofsRow.{AutofsRow}
@@ -77,7 +78,7 @@ attached_to s path at =
     let k = s.kernel in
     record {
       answer = answers.Attached (k.last_fs + 1) (k.last_attach + 1) (k.last_mount + 1);
-      seen = seen.Mounted (k.last_mount + 1 ∷ []) ∷ [];
+      seen = seen.Mounted ((k.last_mount + 1) ∷ []) ∷ [];
       state = record s {
         kernel = attached at s.opening.timeout k;
         daemon = record s.daemon {
@@ -235,15 +236,13 @@ resume_outcome s walker now = resumed_at (wait_of s.kernel.waits walker) s (mome
 
 -- ---- the daemon takes a packet from the pipe
 
-abbrev pub name_in : Kind → List ℕ → Option (List ℕ)
-name_in MissingDirect name = None
-name_in ExpireDirect name = None
-name_in MissingIndirect name = Some name
-name_in ExpireIndirect name = Some name
+abbrev pub name_in : Bool → List ℕ → Option (List ℕ)
+name_in true name = result_ok (name_read name)
+name_in false name = None
 
 -- the trigger of a packet
 abbrev pub named_in : Packet → Trigger
-named_in packet = record { fs = packet.dev; name = name_in packet.kind packet.name }
+named_in packet = record { fs = packet.dev; name = name_in (is_indirect packet.kind) packet.name }
 
 abbrev pub has_bytes : Option (List ℕ) → Packet → Bool
 has_bytes None packet = true

@@ -1,13 +1,11 @@
-// A library with one function.
+//! Kernel and daemon as one machine: events in, answers out, and a trace of what was observed.
 #![tactic(auto)]
 
-ghost use Rattle.std.specs.Prelude.{◌≡◌};
-ghost use Rattle.am_world.specs.Echo.{echo_of};
+pub mod answer;
+pub mod event;
+mod sites;
+pub mod walk;
 
-// The `ensures` clause is the contract: what `echo` returns is `echo_of` of its argument, a definition
-// in `specs/Echo.antt`, which a caller's clause can cite too.
-pub fn echo(x: usize) -> usize
-    ensures { result ≡ echo_of x }
-{
-    x
-}
+pub use am_state::{Obs, Record};
+pub use answer::Answer;
+pub use event::Event;

@@ -11,11 +11,14 @@ use Rattle.am_state.specs.declared.daemon_row.HeldRow.{HeldRow}
 abbrev pub record_of : List RecordRow → Trigger → Option Record
 record_of book trigger = option_map (λ row. row.entry) (find (λ row. same_trigger row.trigger trigger) book)
 
+abbrev pub record_row : Trigger → Record → RecordRow → RecordRow
+record_row trigger entry row = if same_trigger row.trigger trigger then record row { entry = entry } else row
+
 -- the record of the trigger is this one
 abbrev pub with_record : Trigger → Record → List RecordRow → List RecordRow
 with_record trigger entry book =
     if list_any (λ row. same_trigger row.trigger trigger) book
-    then map (λ row. if same_trigger row.trigger trigger then record row { entry = entry } else row) book
+    then map (record_row trigger entry) book
     else book ++ (record { trigger = trigger; entry = entry }) ∷ []
 
 abbrev pub without_record : Trigger → List RecordRow → List RecordRow

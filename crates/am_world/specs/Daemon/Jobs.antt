@@ -35,9 +35,12 @@ reply_after None = left.Reply Fail
 abbrev pub job_of : List JobRow → ℕ → Option JobRow
 job_of jobs job = find (λ row. row.job == job) jobs
 
+abbrev pub job_row : ℕ → ActsLeft → JobRow → JobRow
+job_row job acts row = if row.job == job then record row { left = acts } else row
+
 -- the job has these acts left
 abbrev pub with_left : ℕ → ActsLeft → List JobRow → List JobRow
-with_left job acts jobs = map (λ row. if row.job == job then record row { left = acts } else row) jobs
+with_left job acts jobs = map (job_row job acts) jobs
 
 abbrev pub without_job : ℕ → List JobRow → List JobRow
 without_job job jobs = filter (λ row. not (row.job == job)) jobs

@@ -9,7 +9,7 @@ use Rattle.am_names.specs.declared.row.WaitRow.{WaitRow}
 use Rattle.am_names.specs.declared.row.TokenKind.{TokenKind}
 use Rattle.am_names.specs.declared.row.TokenKind.TheVariants.{Missing}
 use Rattle.am_wire.specs.declared.packet.Packet.{Packet}
-use Rattle.am_wire.specs.declared.kind.Kind.TheVariants.{MissingIndirect, MissingDirect}
+use Rattle.am_wire.specs.Kind.{kind_of}
 use Rattle.am_state.specs.declared.kernel_row.UseRow.{UseRow}
 use Rattle.am_state.specs.declared.kernel_row.QueuedRow.{QueuedRow}
 use Rattle.am_state.specs.declared.kernel_row.WalkerRow.{WalkerRow}
@@ -21,11 +21,14 @@ use Rattle.am_state.specs.KernelState.{KernelState}
 
 -- ---- when a trigger was last used
 
+abbrev pub used_row : Trigger → ℕ → UseRow → UseRow
+used_row trigger now row = if same_trigger row.trigger trigger then record row { last_used = now } else row
+
 -- the trigger was used at this moment
 abbrev pub touched : Trigger → ℕ → List UseRow → List UseRow
 touched trigger now uses =
     if list_any (λ row. same_trigger row.trigger trigger) uses
-    then map (λ row. if same_trigger row.trigger trigger then record row { last_used = now } else row) uses
+    then map (used_row trigger now) uses
     else uses ++ (record { trigger = trigger; last_used = now }) ∷ []
 
 abbrev pub all_touched : List Trigger → ℕ → List UseRow → List UseRow
@@ -105,7 +108,7 @@ packet_name None = 100 ∷ 105 ∷ 114 ∷ 101 ∷ 99 ∷ 116 ∷ []
 -- file system, of its root and of the walker
 abbrev pub missing_packet : ℕ → ℕ → Trigger → Packet
 missing_packet token walker trigger = record {
-  kind = if is_none trigger.name then MissingDirect else MissingIndirect;
+  kind = kind_of Missing (is_none trigger.name);
   token = token;
   dev = trigger.fs;
   ino = 1;
