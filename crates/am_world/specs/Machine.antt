@@ -43,7 +43,8 @@ use Rattle.am_world.specs.declared.walk.Stop.TheVariants as stops
 use Rattle.am_world.specs.State.{State, opening_of}
 use Rattle.am_world.specs.Kernel.Sites.{root_of, autofs_at, autofs_of, is_current}
 use Rattle.am_world.specs.Kernel.Walks.{Scene, Walked, walk_of, position_of}
-use Rattle.am_world.specs.Kernel.Waits.{Begin, arrived, joined, notified, collected, answered, releases, passes, touched, wait_of, walker_of, token_of, queued_of, missing_packet}
+use Rattle.am_world.specs.declared.walk.Begin.{Begin}
+use Rattle.am_world.specs.Kernel.Waits.{arrived, joined, notified, collected, answered, releases, passes, touched, wait_of, walker_of, token_of, queued_of, missing_packet}
 use Rattle.am_world.specs.Kernel.Calls.{greatest_u32, attach_refusal, attached, mkdir_refusal, with_directory, rmdir_refusal, without_directory, location_of, mount_refusal, mounted_on, answer_refusal}
 use Rattle.am_world.specs.Daemon.Book.{record_of, recorded, with_record, holds}
 use Rattle.am_world.specs.Daemon.Jobs.{has_entry, missing_plan, is_reply, reply_after, job_of, with_left, without_job}

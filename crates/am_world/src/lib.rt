@@ -2,8 +2,12 @@
 #![tactic(auto)]
 
 pub mod answer;
+mod daemon;
 pub mod event;
+mod kernel;
+mod resolve;
 mod sites;
+mod tables;
 pub mod walk;
 
 pub use am_state::{Obs, Record};

@@ -1,6 +1,18 @@
-//! How a walk ends.
+//! A walk: who walks where to, what it meets, and how it ends.
 
-use am_names::{Errno, Position, Token, Trigger};
+use am_names::{Errno, MountId, NsId, Place, Position, Seconds, Token, Trigger, WalkerId};
+
+/// A walk that begins.
+#[derive(Debug, Drop)]
+pub struct Begin {
+    pub walker: WalkerId,
+    pub ns: NsId,
+    pub path: Place,
+    /// How many walks the walker began on this path, with this one.
+    pub begins: u32,
+    /// The moment of the event.
+    pub now: Seconds,
+}
 
 /// Where a walk along a path stops.
 #[derive(Debug, Drop)]
@@ -13,4 +25,24 @@ pub enum Stop {
     Missing { trigger: Trigger },
     /// It can't go on.
     Refuse { errno: Errno },
+}
+
+/// What a walk meets at a place.
+#[derive(Debug, Drop)]
+pub enum Next {
+    /// Nothing is in its way: it stands there.
+    Rests,
+    /// It stops.
+    Halts { stop: Stop },
+    /// A mount stands there, which it enters.
+    Enters { mount: MountId },
+    /// A mount stands on a trigger, which it passes.
+    Passes { mount: MountId, trigger: Trigger },
+}
+
+/// How a walk ended, and the triggers that it passed, in order.
+#[derive(Debug, Drop)]
+pub struct Walk {
+    pub stop: Stop,
+    pub passed: Vec<Trigger>,
 }

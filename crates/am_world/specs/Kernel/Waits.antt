@@ -18,6 +18,7 @@ use Rattle.am_state.specs.declared.kernel_row.Doing.TheVariants.{Waiting, Inside
 use Rattle.am_state.specs.declared.obs.Obs.{Obs}
 use Rattle.am_state.specs.declared.obs.Obs.TheVariants as seen
 use Rattle.am_state.specs.KernelState.{KernelState}
+use Rattle.am_world.specs.declared.walk.Begin.{Begin}
 
 -- ---- when a trigger was last used
 
@@ -57,15 +58,6 @@ abbrev pub queued_of : List QueuedRow → ℕ → Option QueuedRow
 queued_of queue token = find (λ row. row.token == token) queue
 
 -- ---- what a walk leaves
-
--- who walks, where to, and when
-pub record Begin : Type 0 where
-  pub walker : ℕ
-  pub ns : ℕ
-  pub path : List (List ℕ)
-  -- how many walks it began on this path, with this one
-  pub begins : ℕ
-  pub now : ℕ
 
 abbrev pub passes : ℕ → List Trigger → List Obs
 passes walker triggers = map (λ trigger. seen.Passed walker trigger) triggers

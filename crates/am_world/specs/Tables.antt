@@ -1,0 +1,93 @@
+-- What the lists stand for, and the room in them.
+use Rattle.std.specs.Prelude.{◌≡◌, ℕ, ◌+◌, ◌≤◌, ◌<◌, List, [], ◌∷◌, Option, Some, None, vec_len, vec_capacity}
+use Rattle.std.specs.Global.{Vec}
+use Rattle.am_names.specs.declared.row.WaitRow.{WaitRow}
+use Rattle.am_state.specs.declared.kernel_row.WalkerRow.{WalkerRow}
+use Rattle.am_state.specs.KernelState.{KernelState}
+use Rattle.am_state.specs.DaemonState.{DaemonState}
+use Rattle.am_world.specs.declared.kernel.Kernel.{Kernel}
+use Rattle.am_world.specs.declared.daemon.Daemon.{Daemon}
+use Rattle.am_world.specs.declared.tables.Tables.{Tables}
+use Rattle.am_world.specs.declared.resolve.Walking.{Walking}
+use Rattle.am_world.specs.declared.walk.Stop.{Stop}
+use Rattle.am_world.specs.declared.walk.Walk.{Walk}
+use Rattle.am_world.specs.State.{State}
+use Rattle.am_world.specs.Kernel.Walks.{Scene, Visit, Stands, Stops, Walked}
+
+abbrev pub kernel_of : Kernel → KernelState
+kernel_of k = record {
+  mounts = k.mounts.items;
+  groups = record { members = k.members.items; groups = k.groups.items; last_group = k.last_group };
+  autofs = k.autofs.items;
+  made = k.made.items;
+  uses = k.uses.items;
+  tokens = k.tokens.items;
+  waits = k.waits.items;
+  queue = k.queue.items;
+  walkers = k.walkers.items;
+  last_mount = k.last_mount;
+  last_ns = k.last_ns;
+  last_fs = k.last_fs;
+  last_attach = k.last_attach;
+  last_token = k.last_token;
+}
+
+abbrev pub daemon_of : Daemon → DaemonState
+daemon_of d = record { known = d.known.items; held = d.held.items; book = d.book.items; jobs = d.jobs.items }
+
+abbrev pub state_of : Tables → State
+state_of t = record {
+  opening = record { limits = t.limits; point = t.point; timeout = t.timeout; keys = t.keys.items };
+  kernel = kernel_of t.kernel;
+  daemon = daemon_of t.daemon;
+  latest = t.latest;
+  trace = t.trace.items;
+}
+
+abbrev pub scene_in : Kernel → Scene
+scene_in k = record { mounts = k.mounts.items; autofs = k.autofs.items; made = k.made.items; tokens = k.tokens.items }
+
+-- where a walk stands that has not stopped, or how it has
+abbrev pub visit_of : Option Stop → Walking → Visit
+visit_of None at = Stands at.mount at.place at.passed.items
+visit_of (Some stop) at = Stops stop at.passed.items
+
+abbrev pub walked_of : Walk → Walked
+walked_of walk = record { stop = walk.stop; passed = walk.passed.items }
+
+-- room for one row more, and for so many uses
+pub record HasKernelRoom (k : Kernel) (more : ℕ) : Type 0 where
+  pub mounts : vec_len k.mounts < vec_capacity k.mounts
+  pub members : vec_len k.members < vec_capacity k.members
+  pub autofs : vec_len k.autofs < vec_capacity k.autofs
+  pub made : vec_len k.made < vec_capacity k.made
+  pub tokens : vec_len k.tokens < vec_capacity k.tokens
+  pub waits : vec_len k.waits < vec_capacity k.waits
+  pub queue : vec_len k.queue < vec_capacity k.queue
+  pub walkers : vec_len k.walkers < vec_capacity k.walkers
+  pub uses : vec_len k.uses + more ≤ vec_capacity k.uses
+
+pub record HasDaemonRoom (d : Daemon) : Type 0 where
+  pub known : vec_len d.known < vec_capacity d.known
+  pub held : vec_len d.held < vec_capacity d.held
+  pub book : vec_len d.book < vec_capacity d.book
+  pub jobs : vec_len d.jobs < vec_capacity d.jobs
+
+pub record HasRoom (t : Tables) (uses seen : ℕ) : Type 0 where
+  pub kernel : HasKernelRoom t.kernel uses
+  pub daemon : HasDaemonRoom t.daemon
+  pub trace : vec_len t.trace + seen ≤ vec_capacity t.trace
+
+-- no longer, and as much room
+pub record KeepsRoom {X : Type 0} (old new : Vec X) : Type 0 where
+  pub len : vec_len new ≤ vec_len old
+  pub capacity : vec_capacity new ≡ vec_capacity old
+
+-- the rows rise by walkers from this number on
+abbrev pub WaitsRise : ℕ → List WaitRow → Type 0
+WaitsRise low [] = Unit {0}
+WaitsRise low (row ∷ rows) = (low ≤ row.walker) × WaitsRise (row.walker + 1) rows
+
+abbrev pub WalkersRise : ℕ → List WalkerRow → Type 0
+WalkersRise low [] = Unit {0}
+WalkersRise low (row ∷ rows) = (low ≤ row.walker) × WalkersRise (row.walker + 1) rows
