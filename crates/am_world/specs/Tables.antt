@@ -1,8 +1,6 @@
 -- What the lists stand for, and the room in them.
 use Rattle.std.specs.Prelude.{◌≡◌, ℕ, ◌+◌, ◌≤◌, ◌<◌, List, [], ◌∷◌, Option, Some, None, vec_len, vec_capacity}
 use Rattle.std.specs.Global.{Vec}
-use Rattle.am_names.specs.declared.row.WaitRow.{WaitRow}
-use Rattle.am_state.specs.declared.kernel_row.WalkerRow.{WalkerRow}
 use Rattle.am_state.specs.KernelState.{KernelState}
 use Rattle.am_state.specs.DaemonState.{DaemonState}
 use Rattle.am_world.specs.declared.kernel.Kernel.{Kernel}
@@ -83,11 +81,12 @@ pub record KeepsRoom {X : Type 0} (old new : Vec X) : Type 0 where
   pub len : vec_len new ≤ vec_len old
   pub capacity : vec_capacity new ≡ vec_capacity old
 
--- the rows rise by walkers from this number on
-abbrev pub WaitsRise : ℕ → List WaitRow → Type 0
-WaitsRise low [] = Unit {0}
-WaitsRise low (row ∷ rows) = (low ≤ row.walker) × WaitsRise (row.walker + 1) rows
+-- the rows rise by this number, which is at least low
+abbrev pub RiseBy : {X : Type 0} → (X → ℕ) → ℕ → List X → Type 0
+RiseBy key low [] = Unit {0}
+RiseBy key low (row ∷ rows) = (low ≤ key row) × RiseBy key (key row + 1) rows
 
-abbrev pub WalkersRise : ℕ → List WalkerRow → Type 0
-WalkersRise low [] = Unit {0}
-WalkersRise low (row ∷ rows) = (low ≤ row.walker) × WalkersRise (row.walker + 1) rows
+-- each walker has one wait and does one thing
+pub record IsOrdered (k : KernelState) : Type 0 where
+  pub waits : RiseBy (λ row. row.walker) 0 k.waits
+  pub walkers : RiseBy (λ row. row.walker) 0 k.walkers

@@ -6,6 +6,7 @@ mod daemon;
 pub mod event;
 mod kernel;
 mod resolve;
+mod rows;
 mod sites;
 mod tables;
 pub mod walk;
