@@ -63,8 +63,8 @@ abbrev pub with_kernel : KernelState → State → State
 with_kernel k s = record s { kernel = k }
 
 -- the moment of an event: its own, or the latest so far
-abbrev pub moment : State → ℕ → ℕ
-moment s now = max s.latest now
+abbrev pub moment_of : State → ℕ → ℕ
+moment_of s now = max s.latest now
 
 -- ---- attach: the autofs of the master's point is mounted there, and the daemon attaches to it
 
@@ -118,14 +118,14 @@ abbrev pub arrives : State → Begin → Position → List Trigger → Outcome
 arrives s begin at passed = record {
   answer = answers.At at;
   seen = passes begin.walker passed ++ seen.Entered begin.walker at.mount ∷ [];
-  state = record s { kernel = arrived begin at.mount passed s.kernel; latest = begin.now };
+  state = record s { kernel = arrived begin at.mount passed s.kernel; latest = begin.moment };
 }
 
 abbrev pub joins : State → Begin → OpenToken → List Trigger → Outcome
 joins s begin row passed = record {
   answer = answers.Wait row.token;
   seen = passes begin.walker passed ++ seen.Waits begin.walker row.token ∷ [];
-  state = record s { kernel = joined begin row passed s.kernel; latest = begin.now };
+  state = record s { kernel = joined begin row passed s.kernel; latest = begin.moment };
 }
 
 abbrev pub is_full : State → Bool
@@ -142,7 +142,7 @@ notifies s begin trigger attach passed =
     record {
       answer = answers.Wait token;
       seen = passes begin.walker passed ++ seen.Queued token attach (missing_packet token begin.walker trigger) ∷ seen.Waits begin.walker token ∷ [];
-      state = record s { kernel = notified begin trigger attach passed s.kernel; latest = begin.now };
+      state = record s { kernel = notified begin trigger attach passed s.kernel; latest = begin.moment };
     }
 
 abbrev pub current_of : Option AutofsRow → Option ℕ
@@ -178,7 +178,7 @@ or_refused s (Fails e) = refused s e
 abbrev pub walk_outcome : State → ℕ → ℕ → List (List ℕ) → ℕ → Outcome
 walk_outcome s walker ns path now =
     if is_some (walker_of s.kernel.walkers walker) then refused s EINVAL
-    else or_refused s (begun s (record { walker = walker; ns = ns; path = path; begins = 1; now = moment s now }))
+    else or_refused s (begun s (record { walker = walker; ns = ns; path = path; begins = 1; moment = moment_of s now }))
 
 -- ---- the next event of a walker that waits
 
@@ -197,8 +197,8 @@ most_begins = 40
 -- the walk begins again from its first name; own: the 41st time it doesn't
 abbrev pub again : State → Begin → Outcome
 again s begin =
-    if nat_lt most_begins begin.begins then failed s begin.now ELOOP
-    else or_failed s begin.now (begun s begin)
+    if nat_lt most_begins begin.begins then failed s begin.moment ELOOP
+    else or_failed s begin.moment (begun s begin)
 
 -- the wait is collected; one on an expiry sets the last use of its trigger
 abbrev pub collected_at : TokenKind → State → WaitRow → ℕ → State
@@ -207,7 +207,7 @@ collected_at Expire s row now =
     with_kernel (record (collected row.walker s.kernel) { uses = touched row.trigger now s.kernel.uses }) s
 
 abbrev pub next_begin : WaitRow → ℕ → List (List ℕ) → ℕ → ℕ → Begin
-next_begin row ns path begins now = record { walker = row.walker; ns = ns; path = path; begins = begins + 1; now = now }
+next_begin row ns path begins now = record { walker = row.walker; ns = ns; path = path; begins = begins + 1; moment = now }
 
 -- a wait on a pending mount that failed fails; any other lets the walk begin again
 abbrev pub resumed_as : TokenKind → Status → State → WaitRow → ℕ → List (List ℕ) → ℕ → ℕ → Outcome
@@ -233,7 +233,7 @@ resumed_at (Some row) s now = resumed_by row.status s row now
 
 -- the walker waits; its token is acknowledged
 abbrev pub resume_outcome : State → ℕ → ℕ → Outcome
-resume_outcome s walker now = resumed_at (wait_of s.kernel.waits walker) s (moment s now)
+resume_outcome s walker now = resumed_at (wait_of s.kernel.waits walker) s (moment_of s now)
 
 -- ---- the daemon takes a packet from the pipe
 

@@ -1,5 +1,5 @@
 -- What the lists stand for, and the room in them.
-use Rattle.std.specs.Prelude.{◌≡◌, ℕ, ◌+◌, ◌≤◌, ◌<◌, List, [], ◌∷◌, Option, Some, None, vec_len, vec_capacity}
+use Rattle.std.specs.Prelude.{◌≡◌, ℕ, ◌+◌, ◌≤◌, ◌<◌, List, [], ◌∷◌, ◌++◌, Option, Some, None, vec_len, vec_capacity}
 use Rattle.std.specs.Global.{Vec}
 use Rattle.am_state.specs.KernelState.{KernelState}
 use Rattle.am_state.specs.DaemonState.{DaemonState}
@@ -9,7 +9,19 @@ use Rattle.am_world.specs.declared.tables.Tables.{Tables}
 use Rattle.am_world.specs.declared.resolve.Walking.{Walking}
 use Rattle.am_world.specs.declared.walk.Stop.{Stop}
 use Rattle.am_world.specs.declared.walk.Walk.{Walk}
+use Rattle.am_world.specs.declared.walk.Begin.{Begin}
+use Rattle.am_world.specs.declared.answer.Answer.{Answer}
+use Rattle.am_world.specs.declared.twice.Twice.{Twice}
+use Rattle.am_world.specs.declared.begin.Waited.{Waited}
+use Rattle.am_world.specs.declared.begin.Waited.TheVariants.{Idle, OnMount, OnExpiry}
+use Rattle.am_world.specs.declared.begin.Beginning.{Beginning}
+use Rattle.am_world.specs.declared.begin.Beginning.TheVariants as started
 use Rattle.am_world.specs.State.{State}
+use Rattle.am_world.specs.Kernel.Waits.{collected, touched, all_touched, waiting, passes}
+use Rattle.am_names.specs.declared.trigger.Trigger.{Trigger}
+use Rattle.am_names.specs.declared.row.TokenKind.{TokenKind}
+use Rattle.am_state.specs.declared.obs.Obs.TheVariants as seen
+use Rattle.am_world.specs.Machine.{Outcome, after, with_kernel, Begun, Goes, Fails}
 use Rattle.am_world.specs.Kernel.Walks.{Scene, Visit, Stands, Stops, Walked}
 
 abbrev pub kernel_of : Kernel → KernelState
@@ -90,3 +102,37 @@ RiseBy key low (row ∷ rows) = (low ≤ key row) × RiseBy key (key row + 1) ro
 pub record IsOrdered (k : KernelState) : Type 0 where
   pub waits : RiseBy (λ row. row.walker) 0 k.waits
   pub walkers : RiseBy (λ row. row.walker) 0 k.walkers
+
+-- ---- what private functions leave
+
+-- the same answer twice
+pub record IsTwice (twice : Twice) (answer : Answer) : Type 0 where
+  pub one : twice.one ≡ answer
+  pub other : twice.other ≡ answer
+
+-- the outcome has come, with its answer twice
+pub record Leaves (o : Outcome) (old : State) (twice : Twice) (new : State) : Type 0 where
+  pub told : IsTwice twice o.answer
+  pub left : new ≡ after old o
+
+-- what a walker waited on that begins again
+abbrev pub freed : Waited → Begin → State → State
+freed Idle begin s = s
+freed OnMount begin s = with_kernel (collected begin.walker s.kernel) s
+freed (OnExpiry trigger) begin s =
+    with_kernel (record (collected begin.walker s.kernel) { uses = touched trigger begin.moment s.kernel.uses }) s
+
+-- the walk has gone on, or it can't and nothing has changed
+abbrev pub BeginsAs : Beginning → Begun → State → State → Type 0
+BeginsAs (started.Goes twice) (Goes o) old new = Leaves o old twice new
+BeginsAs (started.Fails e) (Fails f) old new = (e ≡ f) × (new ≡ old)
+BeginsAs (started.Goes twice) (Fails f) old new = ⊥
+BeginsAs (started.Fails e) (Goes o) old new = ⊥
+
+-- the walker waits on a token, in whose row it stands already
+abbrev pub waits_on : Begin → ℕ → Trigger → TokenKind → List Trigger → State → State
+waits_on begin token trigger kind passed s = record s {
+  kernel = waiting begin token trigger kind (record s.kernel { uses = all_touched passed begin.moment s.kernel.uses });
+  latest = begin.moment;
+  trace = s.trace ++ (passes begin.walker passed ++ seen.Waits begin.walker token ∷ []);
+}

@@ -2,6 +2,7 @@
 #![tactic(auto)]
 
 pub mod answer;
+mod begin;
 mod daemon;
 pub mod event;
 mod kernel;
@@ -9,6 +10,7 @@ mod resolve;
 mod rows;
 mod sites;
 mod tables;
+mod twice;
 pub mod walk;
 
 pub use am_state::{Obs, Record};

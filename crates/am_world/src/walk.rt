@@ -11,7 +11,7 @@ pub struct Begin {
     /// How many walks the walker began on this path, with this one.
     pub begins: u32,
     /// The moment of the event.
-    pub now: Seconds,
+    pub moment: Seconds,
 }
 
 /// Where a walk along a path stops.
