@@ -1,2 +1,4 @@
 pub mod WalkLemmas
 pub mod RowLemmas
+pub mod BeginLemmas
+pub mod EventLemmas

@@ -2,13 +2,14 @@
 use Rattle.std.proofs.Common.{◌≡◌, ℕ, suc, ◌+◌, ◌-◌, ◌<◌, true, false, List, [], ◌∷◌, ◌++◌, length, Option, Some, None, refl, sym, ap, subst, ◌∙◌, arith}
 use Rattle.am_names.specs.declared.errno.Errno.TheVariants.{ENOENT}
 use Rattle.am_names.specs.declared.trigger.Trigger.{Trigger}
-use Rattle.am_state.specs.declared.kernel_row.AutofsRow.{AutofsRow}
+use Rattle.am_names.specs.declared.row.MountRow.{MountRow}
+use Rattle.am_names.specs.declared.row.Position.{Position}
 use Rattle.am_world.specs.declared.walk.Next.{Next}
 use Rattle.am_world.specs.declared.walk.Next.TheVariants as nexts
 use Rattle.am_world.specs.declared.walk.Stop.{Stop}
 use Rattle.am_world.specs.declared.walk.Stop.TheVariants as stops
-use Rattle.am_world.specs.Kernel.Sites.{autofs_at, root_of}
-use Rattle.am_world.specs.Kernel.Walks.{Scene, Visit, Stands, Stops, Walked, next_at, followed, visited, visit, has_names, walked, walk_of}
+use Rattle.am_world.specs.Kernel.Sites.{autofs_at, root_of, top_at}
+use Rattle.am_world.specs.Kernel.Walks.{Scene, Visit, Stands, Stops, Walked, next_at, followed, visited, visit, has_names, walked, walk_of, entered, entered_on}
 
 met : (steps fewer : ℕ) (scene : Scene) (mount : ℕ) (place : List (List ℕ)) (passed : List Trigger) (next : Next) → steps ≡ suc fewer → next ≡ next_at scene mount place → followed next mount place passed (λ m gs. visited fewer scene m [] gs) ≡ visited steps scene mount place passed
 met steps fewer scene mount place passed next e n =
@@ -28,6 +29,12 @@ goes_past steps fewer scene mount place passed below trigger whole h e n = met s
 
 pub ends : (steps : ℕ) (scene : Scene) (mount : ℕ) (place : List (List ℕ)) (passed : List Trigger) (whole : Visit) → visited steps scene mount place passed ≡ whole → steps ≡ 0 → Stands mount place passed ≡ whole
 ends steps scene mount place passed whole h e = ap (λ (k : ℕ). visited k scene mount place passed) (sym e) ∙ h
+
+-- ---- with the traps off
+
+pub goes_in : (steps fewer : ℕ) (mounts : List MountRow) (mount : ℕ) (place : List (List ℕ)) (top : ℕ) (whole : Position) → entered steps mounts mount place ≡ whole → steps ≡ suc fewer → Some top ≡ top_at mounts mount place → entered fewer mounts top [] ≡ whole
+goes_in steps fewer mounts mount place top whole h e t =
+    ap (λ (o : Option ℕ). entered_on o mount place (λ m. entered fewer mounts m [])) t ∙ ap (λ (k : ℕ). entered k mounts mount place) (sym e) ∙ h
 
 -- ---- along the names
 

@@ -103,7 +103,7 @@ attached_at (Ok at) s path =
 -- a point of the master; not attached yet; a path of namespace 0
 abbrev pub attach_outcome : State → List (List ℕ) → Outcome
 attach_outcome s path =
-    if not (same_names path s.opening.point) then refused s ENOENT
+    if not (same_names s.opening.point path) then refused s ENOENT
     else if is_known s.daemon.known path then refused s EEXIST
     else attached_at (position_of (scene_of s.kernel) 0 path) s path
 
@@ -174,10 +174,13 @@ abbrev pub or_refused : State → Begun → Outcome
 or_refused s (Goes done) = done
 or_refused s (Fails e) = refused s e
 
+abbrev pub is_busy : List WalkerRow → ℕ → Bool
+is_busy walkers walker = list_any (λ row. row.walker == walker) walkers
+
 -- the walker is idle
 abbrev pub walk_outcome : State → ℕ → ℕ → List (List ℕ) → ℕ → Outcome
 walk_outcome s walker ns path now =
-    if is_some (walker_of s.kernel.walkers walker) then refused s EINVAL
+    if is_busy s.kernel.walkers walker then refused s EINVAL
     else or_refused s (begun s (record { walker = walker; ns = ns; path = path; begins = 1; moment = moment_of s now }))
 
 -- ---- the next event of a walker that waits
@@ -194,11 +197,11 @@ or_failed s now (Fails e) = failed s now e
 abbrev pub most_begins : ℕ
 most_begins = 40
 
--- the walk begins again from its first name; own: the 41st time it doesn't
+-- the walk begins once more from its first name; own: the 41st time it doesn't
 abbrev pub again : State → Begin → Outcome
 again s begin =
-    if nat_lt most_begins begin.begins then failed s begin.moment ELOOP
-    else or_failed s begin.moment (begun s begin)
+    if nat_le most_begins begin.begins then failed s begin.moment ELOOP
+    else or_failed s begin.moment (begun s (record begin { begins = begin.begins + 1 }))
 
 -- the wait is collected; one on an expiry sets the last use of its trigger
 abbrev pub collected_at : TokenKind → State → WaitRow → ℕ → State
@@ -206,14 +209,14 @@ collected_at Missing s row now = with_kernel (collected row.walker s.kernel) s
 collected_at Expire s row now =
     with_kernel (record (collected row.walker s.kernel) { uses = touched row.trigger now s.kernel.uses }) s
 
-abbrev pub next_begin : WaitRow → ℕ → List (List ℕ) → ℕ → ℕ → Begin
-next_begin row ns path begins now = record { walker = row.walker; ns = ns; path = path; begins = begins + 1; moment = now }
+abbrev pub last_begin : WaitRow → ℕ → List (List ℕ) → ℕ → ℕ → Begin
+last_begin row ns path begins now = record { walker = row.walker; ns = ns; path = path; begins = begins; moment = now }
 
 -- a wait on a pending mount that failed fails; any other lets the walk begin again
 abbrev pub resumed_as : TokenKind → Status → State → WaitRow → ℕ → List (List ℕ) → ℕ → ℕ → Outcome
 resumed_as Missing Fail s row ns path begins now = failed (collected_at Missing s row now) now ENOENT
-resumed_as Missing Ready s row ns path begins now = again (collected_at Missing s row now) (next_begin row ns path begins now)
-resumed_as Expire status s row ns path begins now = again (collected_at Expire s row now) (next_begin row ns path begins now)
+resumed_as Missing Ready s row ns path begins now = again (collected_at Missing s row now) (last_begin row ns path begins now)
+resumed_as Expire status s row ns path begins now = again (collected_at Expire s row now) (last_begin row ns path begins now)
 
 abbrev pub resumed_doing : Doing → Status → State → WaitRow → ℕ → Outcome
 resumed_doing (Waiting ns path begins) status s row now = resumed_as row.kind status s row ns path begins now

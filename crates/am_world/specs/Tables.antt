@@ -1,6 +1,9 @@
 -- What the lists stand for, and the room in them.
-use Rattle.std.specs.Prelude.{◌≡◌, ℕ, ◌+◌, ◌≤◌, ◌<◌, List, [], ◌∷◌, ◌++◌, Option, Some, None, vec_len, vec_capacity}
+use Rattle.std.specs.Prelude.{◌≡◌, ℕ, ◌+◌, ◌≤◌, ◌<◌, List, [], ◌∷◌, ◌++◌, Option, Some, None, Result, Ok, Err, vec_len, vec_capacity}
 use Rattle.std.specs.Global.{Vec}
+use Rattle.am_state.specs.declared.kernel_row.WalkerRow.{WalkerRow}
+use Rattle.am_state.specs.declared.kernel_row.Doing.{Doing}
+use Rattle.am_state.specs.declared.kernel_row.Doing.TheVariants.{Waiting, Inside}
 use Rattle.am_state.specs.KernelState.{KernelState}
 use Rattle.am_state.specs.DaemonState.{DaemonState}
 use Rattle.am_world.specs.declared.kernel.Kernel.{Kernel}
@@ -19,6 +22,11 @@ use Rattle.am_world.specs.declared.begin.Beginning.TheVariants as started
 use Rattle.am_world.specs.State.{State}
 use Rattle.am_world.specs.Kernel.Waits.{collected, touched, all_touched, waiting, passes}
 use Rattle.am_names.specs.declared.trigger.Trigger.{Trigger}
+use Rattle.am_names.specs.declared.row.Position.{Position}
+use Rattle.am_names.specs.declared.errno.Errno.{Errno}
+use Rattle.am_names.specs.declared.errno.Errno.TheVariants.{ENOENT}
+use Rattle.std.specs.Option.{ok_or}
+use Rattle.std.specs.declared.alloc.AllocError.{AllocError}
 use Rattle.am_names.specs.declared.row.TokenKind.{TokenKind}
 use Rattle.am_state.specs.declared.obs.Obs.TheVariants as seen
 use Rattle.am_world.specs.Machine.{Outcome, after, with_kernel, Begun, Goes, Fails}
@@ -122,12 +130,13 @@ freed OnMount begin s = with_kernel (collected begin.walker s.kernel) s
 freed (OnExpiry trigger) begin s =
     with_kernel (record (collected begin.walker s.kernel) { uses = touched trigger begin.moment s.kernel.uses }) s
 
--- the walk has gone on, or it can't and nothing has changed
-abbrev pub BeginsAs : Beginning → Begun → State → State → Type 0
-BeginsAs (started.Goes twice) (Goes o) old new = Leaves o old twice new
-BeginsAs (started.Fails e) (Fails f) old new = (e ≡ f) × (new ≡ old)
-BeginsAs (started.Goes twice) (Fails f) old new = ⊥
-BeginsAs (started.Fails e) (Goes o) old new = ⊥
+-- The walk has gone on from base, where the walker's wait is collected; or it can't, and nothing
+-- has changed.
+abbrev pub BeginsAs : Beginning → Begun → State → State → State → Type 0
+BeginsAs (started.Goes twice) (Goes o) base old new = Leaves o base twice new
+BeginsAs (started.Fails e) (Fails f) base old new = (e ≡ f) × (new ≡ old)
+BeginsAs (started.Goes twice) (Fails f) base old new = ⊥
+BeginsAs (started.Fails e) (Goes o) base old new = ⊥
 
 -- the walker waits on a token, in whose row it stands already
 abbrev pub waits_on : Begin → ℕ → Trigger → TokenKind → List Trigger → State → State
@@ -136,3 +145,26 @@ waits_on begin token trigger kind passed s = record s {
   latest = begin.moment;
   trace = s.trace ++ (passes begin.walker passed ++ seen.Waits begin.walker token ∷ []);
 }
+
+-- the position, or none where a directory is missing
+abbrev pub IsReached : Option Position → Result Position Errno → Type 0
+IsReached at result = result ≡ ok_or at ENOENT
+
+-- the outcome has come, or memory ran out and nothing has changed
+abbrev pub LeavesOrRanOut : Result Twice AllocError → Outcome → State → State → Type 0
+LeavesOrRanOut (Ok twice) o old new = Leaves o old twice new
+LeavesOrRanOut (Err e) o old new = new ≡ old
+
+-- the outcome has come from base, or memory ran out and nothing has changed
+abbrev pub LeavesFrom : Result Twice AllocError → Outcome → State → State → State → Type 0
+LeavesFrom (Ok twice) o base old new = Leaves o base twice new
+LeavesFrom (Err e) o base old new = new ≡ old
+
+abbrev pub begin_doing : Doing → ℕ → ℕ → Option Begin
+begin_doing (Waiting ns path begins) walker now = Some (record { walker = walker; ns = ns; path = path; begins = begins; moment = now })
+begin_doing (Inside mount) walker now = None
+
+-- the last walk of a walker that waits
+abbrev pub begin_of : Option WalkerRow → ℕ → ℕ → Option Begin
+begin_of None walker now = None
+begin_of (Some row) walker now = begin_doing row.doing walker now

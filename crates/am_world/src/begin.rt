@@ -3,13 +3,15 @@
 ghost use Rattle.std.specs.Prelude.{◌≡◌, ◌≤◌, ◌<◌, ◌+◌, ◌∷◌, ◌++◌, [], IfOk, OnOk, OnErr, Some, IfSome, IfNone, length, map, find, filter, position, set, get_or, ◌==◌, not, nat_le, vec_len, vec_capacity};
 ghost use Rattle.std.specs.Option.{option_map};
 ghost use Rattle.am_world.specs.declared.answer.Answer.TheVariants.{Wait};
+ghost use Rattle.am_world.specs.declared.walk.Stop.TheVariants.{Arrive, Block, Missing};
 ghost use Rattle.am_world.specs.Kernel.Waits.{joined_row, all_touched, touched, passes, waiting, with_waiter, token_of, missing_packet, packet_name, notified};
-ghost use Rattle.am_world.specs.Machine.{arrives, joins, joins_at, notifies, notifies_at, begun, is_full};
+ghost use Rattle.am_world.specs.Machine.{arrives, joins, joins_at, notifies, notifies_at, begun, begun_by, is_full};
 ghost use Rattle.am_world.specs.Tables.{kernel_of, state_of, HasKernelRoom, HasRoom, IsOrdered, IsTwice, Leaves, BeginsAs, freed, waits_on};
 
 use crate::answer::Answer;
 use crate::kernel::Kernel;
 use crate::rows::{put_walker, put_wait, take_wait, take_walker, touch};
+use crate::sites::attach_of;
 use crate::tables::Tables;
 use crate::twice::{Twice, twice};
 use crate::walk::{Begin, Stop, Walk};
@@ -194,7 +196,7 @@ impl Tables {
     }
 
     /// Collects what the walker waited on.
-    fn free(&mut self, waited: &Waited, begin: &Begin, uses: usize, seen: usize)
+    pub fn free(&mut self, waited: &Waited, begin: &Begin, uses: usize, seen: usize)
         requires { HasRoom self.old (uses + 1) seen }
         ensures left { state_of self.new ≡ freed waited.now begin.now (state_of self.old) }
         ensures room { HasRoom self.new uses seen }
@@ -277,5 +279,96 @@ impl Tables {
         });
         self.trace.push_reserved(Obs::Waits { walker, token });
         twice!(Answer::Wait { token })
+    }
+}
+
+impl Tables {
+    /// The walk arrives, once there is room for its answer.
+    fn begin_arriving(&mut self, alloc: Global, begin: &Begin, waited: &Waited, at: Position, passed: &[Trigger]) -> Result<Beginning, AllocError>
+        requires ordered { IsOrdered (kernel_of self.old.kernel) }
+        ensures ok { IfOk result (λ b. let base = freed waited.now begin.now (state_of self.old) in
+            BeginsAs b (begun_by (Arrive at) base begin.now passed.now) base (state_of self.old) (state_of self.new)) }
+        ensures err { OnErr result (state_of self.new ≡ state_of self.old) }
+    {
+        let twin = at.copy(alloc)?;
+        let more = passed.len();
+        self.make_room(more + 1, more + 1)?;
+        self.free(waited, begin, more, more + 1);
+        let twice = self.arrive(begin, at, twin, passed);
+        Ok(Beginning::Goes { twice })
+    }
+
+    /// The walker joins those that wait on a token, if the limit of waits allows.
+    fn begin_joining(&mut self, alloc: Global, begin: &Begin, waited: &Waited, token: Token, passed: &[Trigger]) -> Result<Beginning, AllocError>
+        requires ordered { IsOrdered (kernel_of self.old.kernel) }
+        ensures ok { IfOk result (λ b. let base = freed waited.now begin.now (state_of self.old) in
+            BeginsAs b (begun_by (Block token) base begin.now passed.now) base (state_of self.old) (state_of self.new)) }
+        ensures err { OnErr result (state_of self.new ≡ state_of self.old) }
+    {
+        let Some(at) = find_token(&self.kernel.tokens, token) else {
+            return Ok(Beginning::Fails {
+                errno: Errno::EINVAL,
+            });
+        };
+        if self.is_full(waited, begin) {
+            return Ok(Beginning::Fails {
+                errno: Errno::ENOSPC,
+            });
+        }
+        let kept = begin.copy(alloc)?;
+        let row = &self.kernel.tokens[at];
+        let trigger = row.trigger;
+        let kind = row.kind;
+        let more = passed.len();
+        self.make_room(more + 1, more + 1)?;
+        join_token(&mut self.kernel.tokens, at, begin.walker)?;
+        self.free(waited, begin, more, more + 1);
+        let twice = self.wait_on(kept, token, trigger, kind, passed);
+        Ok(Beginning::Goes { twice })
+    }
+
+    /// The daemon is notified, if tokens and waits are left.
+    fn begin_notifying(&mut self, alloc: Global, begin: &Begin, waited: &Waited, trigger: Trigger, passed: &[Trigger]) -> Result<Beginning, AllocError>
+        requires ordered { IsOrdered (kernel_of self.old.kernel) }
+        ensures ok { IfOk result (λ b. let base = freed waited.now begin.now (state_of self.old) in
+            BeginsAs b (begun_by (Missing trigger) base begin.now passed.now) base (state_of self.old) (state_of self.new)) }
+        ensures err { OnErr result (state_of self.new ≡ state_of self.old) }
+    {
+        let Some(attach) = attach_of(&self.kernel.autofs, trigger.fs) else {
+            return Ok(Beginning::Fails {
+                errno: Errno::ENOENT,
+            });
+        };
+        if self.limits.tokens <= self.kernel.last_token || self.is_full(waited, begin) {
+            return Ok(Beginning::Fails {
+                errno: Errno::ENOSPC,
+            });
+        }
+        let kept = begin.copy(alloc)?;
+        let waiters = Waiters::one(alloc, begin.walker)?;
+        let more = passed.len();
+        self.make_room(more + 2, more + 2)?;
+        self.free(waited, begin, more + 1, more + 2);
+        let twice = self.notify(kept, trigger, attach, waiters, passed);
+        Ok(Beginning::Goes { twice })
+    }
+
+    /// A walk begins.
+    pub fn begin(&mut self, alloc: Global, begin: &Begin, waited: &Waited) -> Result<Beginning, AllocError>
+        requires ordered { IsOrdered (kernel_of self.old.kernel) }
+        ensures ok { IfOk result (λ b. let base = freed waited.now begin.now (state_of self.old) in
+            BeginsAs b (begun base begin.now) base (state_of self.old) (state_of self.new)) }
+        ensures err { OnErr result (state_of self.new ≡ state_of self.old) }
+    {
+        let walk = self.kernel.walk(alloc, begin.ns, begin.path.text())?;
+        let Walk { stop, passed } = walk;
+        match stop {
+            Stop::Arrive { at } => self.begin_arriving(alloc, begin, waited, at, &passed),
+            Stop::Block { token } => self.begin_joining(alloc, begin, waited, token, &passed),
+            Stop::Missing { trigger } => {
+                self.begin_notifying(alloc, begin, waited, trigger, &passed)
+            }
+            Stop::Refuse { errno } => Ok(Beginning::Fails { errno }),
+        }
     }
 }

@@ -3,9 +3,12 @@
 
 pub mod answer;
 mod begin;
+mod calls;
 mod daemon;
 pub mod event;
+mod handle;
 mod kernel;
+mod reach;
 mod resolve;
 mod rows;
 mod sites;

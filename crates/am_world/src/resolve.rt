@@ -78,7 +78,7 @@ fn open_on(tokens: &[OpenToken], kind: TokenKind, trigger: &Trigger) -> Option<T
 }
 
 /// Whether there are names below a place.
-fn has_names(row: Option<AutofsRow>, place: &Place) -> bool
+pub fn has_names(row: Option<AutofsRow>, place: &Place) -> bool
     ensures { result ≡ has_names row place.now }
 {
     match row {

@@ -2,6 +2,7 @@
 
 ghost use Rattle.std.specs.Prelude.{◌≡◌};
 ghost use Rattle.am_names.specs.Path.{same_names};
+ghost use Rattle.am_world.specs.Machine.{current_of};
 ghost use Rattle.am_world.specs.Kernel.Sites.{is_position, top_at, root_of, fs_of, autofs_of, autofs_at, trigger_in, place_of, is_made, is_current, is_attached, is_number};
 
 use am_names::{Attach, FsId, MountId, MountRow, NsId, Place, Position, Trigger, split_first_name};
@@ -134,4 +135,11 @@ pub fn trigger_in(row: &AutofsRow, place: &Place) -> Option<Trigger>
         fs: row.fs,
         name: Some(name),
     })
+}
+
+/// The current attachment of a file system; none in catatonic mode.
+pub fn attach_of(autofs: &[AutofsRow], fs: FsId) -> Option<Attach>
+    ensures { result ≡ current_of (autofs_of autofs.now fs) }
+{
+    autofs_of(autofs, fs)?.attach
 }

@@ -1,6 +1,9 @@
 //! A walk: who walks where to, what it meets, and how it ends.
 
+ghost use Rattle.std.specs.Prelude.{◌≡◌, IfOk};
+
 use am_names::{Errno, MountId, NsId, Place, Position, Seconds, Token, Trigger, WalkerId};
+use std::alloc::{AllocError, Global};
 
 /// A walk that begins.
 #[derive(Debug, Drop)]
@@ -8,10 +11,25 @@ pub struct Begin {
     pub walker: WalkerId,
     pub ns: NsId,
     pub path: Place,
-    /// How many walks the walker began on this path, with this one.
+    /// How many walks the walker began on this path.
     pub begins: u32,
     /// The moment of the event.
     pub moment: Seconds,
+}
+
+impl Begin {
+    /// The same walk once more.
+    pub fn copy(&self, alloc: Global) -> Result<Begin, AllocError>
+        ensures { IfOk result (λ begin. begin ≡ self.now) }
+    {
+        Ok(Begin {
+            walker: self.walker,
+            ns: self.ns,
+            path: self.path.copy(alloc)?,
+            begins: self.begins,
+            moment: self.moment,
+        })
+    }
 }
 
 /// Where a walk along a path stops.
