@@ -267,17 +267,24 @@ takes_with s row trigger acts =
       };
     }
 
+-- the plan for a packet that asks for a mount on this trigger
+abbrev pub plan_of : State → Trigger → ActsLeft
+plan_of s trigger = missing_plan (is_some (record_of s.daemon.book trigger)) (has_entry s.opening.keys trigger.name)
+
 -- a job begins with its plan, and the record says so
 abbrev pub takes : State → QueuedRow → Outcome
 takes s row =
     let trigger = named_in row.packet in
-    takes_with s row trigger (missing_plan (is_some (record_of s.daemon.book trigger)) (has_entry s.opening.keys trigger.name))
+    takes_with s row trigger (plan_of s trigger)
+
+-- the packet is that of the row, and the daemon holds the row's attachment
+abbrev pub may_take : State → QueuedRow → Option (List ℕ) → Bool
+may_take s row bytes = has_bytes bytes row.packet && holds s.daemon.held row.packet.dev row.attach
 
 abbrev pub delivered_at : Option QueuedRow → State → Option (List ℕ) → Outcome
 delivered_at None s bytes = refused s Stranger
 delivered_at (Some row) s bytes =
-    if has_bytes bytes row.packet && holds s.daemon.held row.packet.dev row.attach then takes s row
-    else refused s Stranger
+    if may_take s row bytes then takes s row else refused s Stranger
 
 -- a packet of this token is queued, with these bytes, under the attachment that the daemon holds
 abbrev pub deliver_outcome : State → ℕ → Option (List ℕ) → Outcome

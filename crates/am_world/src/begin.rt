@@ -68,8 +68,8 @@ fn tell_passes(trace: &mut Vec<Obs>, walker: WalkerId, triggers: &[Trigger])
     }
 }
 
-/// The place of an open token among all, its trigger and its kind.
-fn find_token(tokens: &[OpenToken], token: Token) -> Option<usize>
+/// The place of an open token among all.
+pub fn find_token(tokens: &[OpenToken], token: Token) -> Option<usize>
     ensures { result ≡ position (λ row. row.token == token) tokens.now }
 {
     tokens.iter().position(|row| row.token == token)

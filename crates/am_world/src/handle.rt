@@ -1,20 +1,22 @@
 //! Each event's case of the machine.
 
-ghost use Rattle.std.specs.Prelude.{◌≡◌, ◌∷◌, [], ◌+◌, ◌<◌, IfOk, OnOk, OnErr, Option, Some, None, length, vec_len, vec_capacity, position, max, ◌==◌};
+ghost use Rattle.std.specs.Prelude.{◌≡◌, ◌∷◌, ◌++◌, [], true, ◌+◌, ◌<◌, ◌≤◌, IfOk, OnOk, OnErr, Option, Some, None, length, vec_len, vec_capacity, position, max, ◌==◌};
 ghost use Rattle.am_names.specs.Path.{IsCanonical, names_of};
 ghost use Rattle.std.specs.List.{list_any};
 ghost use Rattle.std.specs.Str.{bytes_eq};
 ghost use Rattle.am_wire.specs.Said.{said};
 ghost use Rattle.am_wire.specs.Format.{canonical};
-ghost use Rattle.am_world.specs.Kernel.Waits.{queued_of, wait_of, walker_of};
+ghost use Rattle.am_world.specs.Kernel.Waits.{queued_of, wait_of, walker_of, token_of, releases};
 ghost use Rattle.am_world.specs.Kernel.Calls.{with_mount};
+ghost use Rattle.am_world.specs.Kernel.Sites.{place_of};
+ghost use Rattle.am_state.specs.declared.daemon_row.ActsLeft.TheVariants.{Mkdir, Rmdir, Reply};
 ghost use Rattle.am_world.specs.Daemon.Book.{record_of, holds};
 ghost use Rattle.am_world.specs.Daemon.Jobs.{has_entry, missing_plan, is_reply, reply_after, job_of};
-ghost use Rattle.am_world.specs.Machine.{is_busy, attach_outcome, attached_to, is_known, walk_outcome, resume_outcome, failed, again, deliver_outcome, takes_with, has_bytes, named_in, act_outcome, acted, goes_on, mkdir_by, mount_act, rmdir_by, record_act, reply_by, record_outcome, is_trigger_of, moment_of, entry_of, waiters_of};
+ghost use Rattle.am_world.specs.Machine.{is_busy, attach_outcome, attached_to, is_known, walk_outcome, resume_outcome, failed, again, deliver_outcome, takes, takes_with, may_take, plan_of, has_bytes, named_in, act_outcome, acted, goes_on, mkdir_by, mount_act, rmdir_by, record_act, reply_by, mount_fails, mounts_at, record_outcome, is_trigger_of, moment_of, entry_of, waiters_of};
 ghost use Rattle.am_world.specs.Tables.{state_of, kernel_of, HasRoom, IsOrdered, Leaves, LeavesOrRanOut, LeavesFrom, begin_of, freed};
 
 use crate::answer::Answer;
-use crate::begin::{Beginning, Waited};
+use crate::begin::{Beginning, Waited, find_token};
 use crate::calls::location_of;
 use crate::kernel::Kernel;
 use crate::rows::{
@@ -26,7 +28,8 @@ use crate::tables::Tables;
 use crate::twice::{Twice, refuse, twice};
 use crate::walk::Begin;
 use am_names::{
-    AbsPath, Attach, Errno, FsId, JobId, MemberRow, MountId, MountRow, Mounts, Name, NsId, Place, Position,
+    AbsPath, Attach, Errno, FsId, JobId, MemberRow, MountId, MountRow, Mounts, Name, NsId,
+    OpenToken, Place, Position,
     Seconds, Status, Token, TokenKind, Trigger, WaitRow, WalkerId,
 };
 use am_state::{
@@ -103,8 +106,8 @@ fn is_reply(left: &ActsLeft) -> bool
     }
 }
 
-fn reply_after(mount: Option<MountId>) -> ActsLeft
-    ensures { result ≡ reply_after mount }
+fn reply_after(mount: &Option<MountId>) -> ActsLeft
+    ensures { result ≡ reply_after mount.now }
 {
     match mount {
         Some(_) => ActsLeft::Reply {
@@ -116,11 +119,11 @@ fn reply_after(mount: Option<MountId>) -> ActsLeft
     }
 }
 
-fn entry_of(mount: Option<MountId>) -> Option<Record>
-    ensures { result ≡ entry_of mount }
+fn entry_of(mount: &Option<MountId>) -> Option<Record>
+    ensures { result ≡ entry_of mount.now }
 {
     match mount {
-        Some(mount) => Some(Record::Mounted { mount }),
+        Some(mount) => Some(Record::Mounted { mount: *mount }),
         None => None,
     }
 }
@@ -209,6 +212,40 @@ fn last_begin_of(alloc: Global, row: &WalkerRow, walker: WalkerId, now: Seconds)
         })),
         Doing::Inside { .. } => Ok(None),
     }
+}
+
+fn waiters_of(tokens: &[OpenToken], token: Token) -> &[WalkerId]
+    ensures { result.now ≡ waiters_of (token_of tokens.now token) }
+{
+    match find_token(tokens, token) {
+        Some(at) => tokens[at].waiters.as_slice(),
+        None => &[],
+    }
+}
+
+/// Tells whom an answer releases.
+fn tell_releases(trace: &mut Vec<Obs>, waiters: &[WalkerId], token: Token, status: Status)
+    requires { vec_len trace.old + length waiters.now ≤ vec_capacity trace.old }
+    ensures { trace.new.items ≡ trace.old.items ++ releases token status waiters.now }
+{
+    for walker in waiters {
+        trace.push_reserved(Obs::Released {
+            walker: *walker,
+            token,
+            status,
+        });
+    }
+}
+
+/// The place of a trigger in each mount of its file system.
+fn place_of(alloc: Global, trigger: &Trigger) -> Result<Place, AllocError>
+    ensures { IfOk result (λ place. place ≡ place_of trigger.now) }
+{
+    let mut place = Place::root(alloc);
+    if let Some(name) = &trigger.name {
+        place.push(name)?;
+    }
+    Ok(place)
 }
 
 impl Kernel {
@@ -390,6 +427,220 @@ impl Tables {
                 let trigger = row.trigger;
                 self.again(alloc, begin, &Waited::OnExpiry { trigger })
             }
+        }
+    }
+
+    /// A job begins with its plan.
+    fn take(&mut self, row: &QueuedRow, trigger: &Trigger, left: ActsLeft) -> Twice
+        requires { HasRoom self.old 0 2 }
+        ensures { Leaves (takes_with (state_of self.old) row.now trigger.now left) (state_of self.old) result (state_of self.new) }
+    {
+        let token = row.token;
+        let job = JobId(token.0);
+        take_queued(&mut self.kernel.queue, token);
+        self.trace.push_reserved(Obs::Delivered {
+            token,
+            attach: row.attach,
+            packet: row.packet,
+        });
+        if !is_reply(&left) {
+            let entry = Record::Mounting { token };
+            put_record(&mut self.daemon.book, trigger, entry);
+            self.trace.push_reserved(Obs::Recorded {
+                trigger: *trigger,
+                entry: Some(Record::Mounting { token }),
+            });
+        }
+        self.daemon.jobs.push_reserved(JobRow {
+            job,
+            attach: row.attach,
+            trigger: *trigger,
+            left,
+        });
+        twice!(Answer::Job { job })
+    }
+
+    /// The plan for a packet that asks for a mount on this trigger.
+    fn plan_of(&self, trigger: &Trigger) -> ActsLeft
+        ensures { result ≡ plan_of (state_of self.now) trigger.now }
+    {
+        let is_recorded = record_of(&self.daemon.book, trigger).is_some();
+        missing_plan(is_recorded, has_entry(&self.keys, &trigger.name))
+    }
+
+    /// Whether a packet is that of a queued row, and the daemon holds the row's attachment.
+    fn may_take(&self, row: &QueuedRow, bytes: &Option<[u8; 304]>) -> bool
+        ensures { result ≡ may_take (state_of self.now) row.now bytes.now }
+    {
+        if !has_bytes(bytes, &row.packet) {
+            return false;
+        }
+        holds(&self.daemon.held, row.packet.dev, row.attach)
+    }
+
+    /// A job begins with the plan for the packet of a queued row.
+    fn take_planned(&mut self, row: &QueuedRow) -> Twice
+        requires { HasRoom self.old 0 2 }
+        ensures { Leaves (takes (state_of self.old) row.now) (state_of self.old) result (state_of self.new) }
+    {
+        let trigger = named_in(&row.packet);
+        let left = self.plan_of(&trigger);
+        self.take(row, &trigger, left)
+    }
+
+    /// The daemon takes a packet from the pipe.
+    pub fn deliver(&mut self, token: Token, bytes: &Option<[u8; 304]>) -> Result<Twice, AllocError>
+        ensures { LeavesOrRanOut result (deliver_outcome (state_of self.old) token bytes.now) (state_of self.old) (state_of self.new) }
+    {
+        let Some(row) = queued_of(&self.kernel.queue, token) else {
+            return Ok(refuse(Errno::Stranger));
+        };
+        if !self.may_take(&row, bytes) {
+            return Ok(refuse(Errno::Stranger));
+        }
+        self.make_room(0, 2)?;
+        Ok(self.take_planned(&row))
+    }
+
+    /// The job makes its directory.
+    fn make_directory(&mut self, row: &JobRow) -> Result<Twice, AllocError>
+        ensures { LeavesOrRanOut result (acted Mkdir (state_of self.old) row.now true) (state_of self.old) (state_of self.new) }
+    {
+        match self.kernel.mkdir_refusal(row.attach, &row.trigger) {
+            None => {
+                self.make_room(0, 0)?;
+                self.kernel.made.push_reserved(row.trigger);
+            }
+            Some(Errno::EEXIST) => {}
+            Some(errno) => return Ok(refuse(errno)),
+        }
+        put_left(&mut self.daemon.jobs, row.job, &ActsLeft::Mount);
+        Ok(twice!(Answer::DidMkdir))
+    }
+
+    /// The job's mount has failed.
+    fn fail_mount(&mut self, row: &JobRow) -> Twice
+        ensures { Leaves (mount_fails (state_of self.old) row.now) (state_of self.old) result (state_of self.new) }
+    {
+        put_left(&mut self.daemon.jobs, row.job, &ActsLeft::Rmdir);
+        twice!(Answer::FailedMount)
+    }
+
+    /// The job mounts at the daemon's mount of the autofs.
+    fn mount_at(&mut self, row: &JobRow, at: Position, mounted: Vec<MountId>) -> Twice
+        requires room { HasRoom self.old 0 1 }
+        requires mounts { self.old.kernel.last_mount < 4294967295 }
+        requires fs { self.old.kernel.last_fs < 4294967295 }
+        requires mounted { mounted.items ≡ (self.old.kernel.last_mount + 1) ∷ [] }
+        requires place { at.place ≡ place_of row.now.trigger }
+        ensures { Leaves (mounts_at (Some at.mount) (state_of self.old) row.now) (state_of self.old) result (state_of self.new) }
+    {
+        let mount = MountId(self.kernel.last_mount + 1);
+        let fs = FsId(self.kernel.last_fs + 1);
+        self.kernel.mount(mount, at, fs);
+        self.trace.push_reserved(Obs::Mounted {
+            mounts: Mounts::of(mounted),
+        });
+        let left = ActsLeft::Record { mount: Some(mount) };
+        put_left(&mut self.daemon.jobs, row.job, &left);
+        twice!(Answer::DidMount { mount })
+    }
+
+    /// The job mounts, or its mount fails.
+    fn mount(&mut self, alloc: Global, row: &JobRow, ok: bool) -> Result<Twice, AllocError>
+        ensures { LeavesOrRanOut result (mount_act (state_of self.old) row.now ok) (state_of self.old) (state_of self.new) }
+    {
+        if !is_current(&self.kernel.autofs, row.trigger.fs, row.attach) {
+            return Ok(refuse(Errno::EPERM));
+        }
+        if !ok || self.kernel.mount_refusal(&self.limits, &row.trigger).is_some() {
+            return Ok(self.fail_mount(row));
+        }
+        let Some(location) = location_of(&self.kernel.autofs, row.trigger.fs) else {
+            return Ok(self.fail_mount(row));
+        };
+        let at = Position {
+            mount: location,
+            place: place_of(alloc, &row.trigger)?,
+        };
+        let mounted = Vec::from_slice(alloc, &[MountId(self.kernel.last_mount + 1)])?;
+        self.make_room(0, 1)?;
+        Ok(self.mount_at(row, at, mounted))
+    }
+
+    /// The job removes its directory.
+    fn remove_directory(&mut self, row: &JobRow) -> Twice
+        ensures { Leaves (acted Rmdir (state_of self.old) row.now true) (state_of self.old) result (state_of self.new) }
+    {
+        match self.kernel.rmdir_refusal(row.attach, &row.trigger) {
+            None => take_directory(&mut self.kernel.made, &row.trigger),
+            Some(Errno::ENOENT) | Some(Errno::EBUSY) => {}
+            Some(errno) => return refuse(errno),
+        }
+        let left = ActsLeft::Record { mount: None };
+        put_left(&mut self.daemon.jobs, row.job, &left);
+        twice!(Answer::DidRmdir)
+    }
+
+    /// The job records what it has done.
+    fn record(&mut self, row: &JobRow, mount: &Option<MountId>) -> Result<Twice, AllocError>
+        ensures { LeavesOrRanOut result (record_act (state_of self.old) row.now mount.now) (state_of self.old) (state_of self.new) }
+    {
+        if !holds(&self.daemon.held, row.trigger.fs, row.attach) {
+            return Ok(refuse(Errno::EPERM));
+        }
+        self.make_room(0, 1)?;
+        match entry_of(mount) {
+            Some(entry) => put_record(&mut self.daemon.book, &row.trigger, entry),
+            None => take_record(&mut self.daemon.book, &row.trigger),
+        }
+        put_left(&mut self.daemon.jobs, row.job, &reply_after(mount));
+        self.trace.push_reserved(Obs::Recorded {
+            trigger: row.trigger,
+            entry: entry_of(mount),
+        });
+        Ok(twice!(Answer::DidRecord))
+    }
+
+    /// The job acknowledges its notification.
+    fn reply(&mut self, row: &JobRow, status: Status) -> Result<Twice, AllocError>
+        ensures { LeavesOrRanOut result (acted (Reply status) (state_of self.old) row.now true) (state_of self.old) (state_of self.new) }
+    {
+        let token = Token(row.job.0);
+        if let Some(errno) = self
+            .kernel
+            .answer_refusal(row.attach, row.trigger.fs, token)
+        {
+            return Ok(refuse(errno));
+        }
+        let count = waiters_of(&self.kernel.tokens, token).len();
+        self.make_room(0, count + 1)?;
+        self.trace.push_reserved(Obs::Answered { token, status });
+        tell_releases(
+            &mut self.trace,
+            waiters_of(&self.kernel.tokens, token),
+            token,
+            status,
+        );
+        take_token(&mut self.kernel.tokens, token);
+        release(&mut self.kernel.waits, token, status);
+        take_job(&mut self.daemon.jobs, row.job);
+        Ok(twice!(Answer::DidReply))
+    }
+
+    /// The daemon makes the next act of a job.
+    pub fn act(&mut self, alloc: Global, job: JobId, ok: bool) -> Result<Twice, AllocError>
+        ensures { LeavesOrRanOut result (act_outcome (state_of self.old) job ok) (state_of self.old) (state_of self.new) }
+    {
+        let Some(row) = job_of(&self.daemon.jobs, job) else {
+            return Ok(refuse(Errno::EINVAL));
+        };
+        match &row.left {
+            ActsLeft::Mkdir => self.make_directory(&row),
+            ActsLeft::Mount => self.mount(alloc, &row, ok),
+            ActsLeft::Rmdir => Ok(self.remove_directory(&row)),
+            ActsLeft::Record { mount } => self.record(&row, mount),
+            ActsLeft::Reply { status } => self.reply(&row, *status),
         }
     }
 }
