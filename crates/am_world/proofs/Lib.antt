@@ -2,3 +2,4 @@ pub mod WalkLemmas
 pub mod RowLemmas
 pub mod BeginLemmas
 pub mod EventLemmas
+pub mod Runs

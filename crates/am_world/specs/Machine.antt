@@ -397,6 +397,10 @@ record_outcome s trigger =
     if not (is_trigger_of (autofs_of s.kernel.autofs trigger.fs) trigger.name) then refused s EINVAL
     else record { answer = answers.Record (record_of s.daemon.book trigger); seen = []; state = s }
 
+-- the bytes of a queued packet
+abbrev pub packet_bytes : QueuedRow → List ℕ
+packet_bytes row = canonical (said row.packet)
+
 -- ---- a step
 
 abbrev pub outcome_of : State → Event → Outcome

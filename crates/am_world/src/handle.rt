@@ -12,12 +12,13 @@ ghost use Rattle.am_world.specs.Kernel.Sites.{place_of};
 ghost use Rattle.am_state.specs.declared.daemon_row.ActsLeft.TheVariants.{Mkdir, Rmdir, Reply};
 ghost use Rattle.am_world.specs.Daemon.Book.{record_of, holds};
 ghost use Rattle.am_world.specs.Daemon.Jobs.{has_entry, missing_plan, is_reply, reply_after, job_of};
-ghost use Rattle.am_world.specs.Machine.{is_busy, attach_outcome, attached_to, is_known, walk_outcome, resume_outcome, failed, again, deliver_outcome, takes, takes_with, may_take, plan_of, has_bytes, named_in, act_outcome, acted, goes_on, mkdir_by, mount_act, rmdir_by, record_act, reply_by, mount_fails, mounts_at, record_outcome, is_trigger_of, moment_of, entry_of, waiters_of};
+ghost use Rattle.am_world.specs.Machine.{is_busy, attach_outcome, attached_to, is_known, walk_outcome, resume_outcome, failed, again, deliver_outcome, outcome_of, takes, takes_with, may_take, plan_of, has_bytes, named_in, act_outcome, acted, goes_on, mkdir_by, mount_act, rmdir_by, record_act, reply_by, mount_fails, mounts_at, record_outcome, is_trigger_of, moment_of, entry_of, waiters_of};
 ghost use Rattle.am_world.specs.Tables.{state_of, kernel_of, HasRoom, IsOrdered, Leaves, LeavesOrRanOut, LeavesFrom, begin_of, freed};
 
 use crate::answer::Answer;
 use crate::begin::{Beginning, Waited, find_token};
 use crate::calls::location_of;
+use crate::event::Event;
 use crate::kernel::Kernel;
 use crate::rows::{
     put_left, put_record, release, take_directory, take_job, take_queued, take_record, take_token,
@@ -128,7 +129,8 @@ fn entry_of(mount: &Option<MountId>) -> Option<Record>
     }
 }
 
-fn queued_of(queue: &[QueuedRow], token: Token) -> Option<QueuedRow>
+/// The queued packet of a token.
+pub fn queued_of(queue: &[QueuedRow], token: Token) -> Option<QueuedRow>
     ensures { result ≡ queued_of queue.now token }
 {
     queue.iter().copied().find(|row| row.token == token)
@@ -641,6 +643,26 @@ impl Tables {
             ActsLeft::Rmdir => Ok(self.remove_directory(&row)),
             ActsLeft::Record { mount } => self.record(&row, mount),
             ActsLeft::Reply { status } => self.reply(&row, *status),
+        }
+    }
+
+    /// The event's case of the machine.
+    pub fn handle(&mut self, alloc: Global, event: &Event) -> Result<Twice, AllocError>
+        requires ordered { IsOrdered (kernel_of self.old.kernel) }
+        ensures { LeavesOrRanOut result (outcome_of (state_of self.old) event.now) (state_of self.old) (state_of self.new) }
+    {
+        match event {
+            Event::Attach { path } => self.attach(alloc, path),
+            Event::Walk {
+                walker,
+                ns,
+                path,
+                now,
+            } => self.walk(alloc, *walker, *ns, path, *now),
+            Event::Resume { walker, now } => self.resume(alloc, *walker, *now),
+            Event::Deliver { token, bytes } => self.deliver(*token, bytes),
+            Event::Act { job, ok } => self.act(alloc, *job, *ok),
+            Event::Record { trigger } => Ok(self.read_book(trigger)),
         }
     }
 }

@@ -15,7 +15,9 @@ mod sites;
 mod tables;
 mod twice;
 pub mod walk;
+pub mod world;
 
 pub use am_state::{Obs, Record};
 pub use answer::Answer;
 pub use event::Event;
+pub use world::{Ran, World, run};
