@@ -1,0 +1,6 @@
+pub mod Answers
+pub mod Events
+pub mod Fault
+pub mod Head
+pub mod Lines
+pub mod Numbers

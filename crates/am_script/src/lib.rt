@@ -1,0 +1,12 @@
+//! The script language: a text is read, its events are played on a world, and a line is
+//! written for each answer.
+#![tactic(auto)]
+
+pub mod answer_line;
+pub mod event_line;
+pub mod fault;
+pub mod head;
+pub mod line;
+pub mod number;
+
+pub use fault::{ScriptFault, ScriptFaultKind};
