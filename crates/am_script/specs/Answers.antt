@@ -11,19 +11,22 @@ use Rattle.am_world.specs.declared.answer.Answer.TheVariants as answers
 abbrev pub place_text : List (List ℕ) → List ℕ
 place_text place = if length (text_of place) == 0 then codes "/" else text_of place
 
+abbrev pub record_text : Record → List ℕ
+record_text (Mounting token) = codes "mounting " ++ decimal token
+record_text (Mounted mount) = codes "mounted " ++ decimal mount
+record_text (Unmounting token mount) =
+    codes "unmounting " ++ decimal token ++ (codes " " ++ decimal mount)
+
 -- what the book says of a trigger
 abbrev pub entry_text : Option Record → List ℕ
 entry_text None = codes "none"
-entry_text (Some (Mounting token)) = codes "mounting " ++ decimal token
-entry_text (Some (Mounted mount)) = codes "mounted " ++ decimal mount
-entry_text (Some (Unmounting token mount)) =
-    codes "unmounting " ++ decimal token ++ codes " " ++ decimal mount
+entry_text (Some entry) = record_text entry
 
 abbrev pub answer_text : Answer → List ℕ
 answer_text (answers.Attached fs attach mount) =
-    codes "fs " ++ decimal fs ++ codes " attach " ++ decimal attach ++ codes " mount " ++ decimal mount
+    codes "fs " ++ decimal fs ++ (codes " attach " ++ decimal attach ++ (codes " mount " ++ decimal mount))
 answer_text (answers.At position) =
-    codes "at " ++ decimal position.mount ++ codes " " ++ place_text position.place
+    codes "at " ++ decimal position.mount ++ (codes " " ++ place_text position.place)
 answer_text (answers.Wait token) = codes "wait " ++ decimal token
 answer_text (answers.Job job) = codes "job " ++ decimal job
 answer_text answers.DidMkdir = codes "did mkdir"

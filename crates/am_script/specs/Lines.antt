@@ -19,9 +19,13 @@ abbrev pub lines_in : Option (List ℕ) → List (List ℕ)
 lines_in None = []
 lines_in (Some text) = lines_of text
 
--- the words of a line: what stands between blanks and isn't empty
+-- the parts between blanks, empty ones among them
+abbrev pub parts_of : List ℕ → List (List ℕ)
+parts_of line = slice_split is_blank line
+
+-- the words of a line: the parts that aren't empty
 abbrev pub words_of : List ℕ → List (List ℕ)
-words_of line = filter (λ word. not (length word == 0)) (slice_split is_blank line)
+words_of line = filter (λ word. not (length word == 0)) (parts_of line)
 
 -- the line has more than 8,192 bytes, its line feed not counted
 abbrev pub is_long : List ℕ → Bool

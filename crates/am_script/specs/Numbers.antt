@@ -1,5 +1,5 @@
 -- How scripts write numbers.
-use Rattle.std.specs.Prelude.{ℕ, Bool, true, false, not, ◌&&◌, ◌||◌, ◌==◌, nat_le, nat_lt, List, [], ◌∷◌, length, Option, None, Some, if◌then◌else◌}
+use Rattle.std.specs.Prelude.{ℕ, ◌^◌, Bool, true, false, not, ◌&&◌, ◌||◌, ◌==◌, nat_le, nat_lt, List, [], ◌∷◌, length, Option, None, Some, if◌then◌else◌}
 use Rattle.std.specs.List.{list_all}
 use Rattle.std.specs.Str.Parse.{digits_value}
 
@@ -20,8 +20,8 @@ number_read bound digits =
 
 -- a number of 32 bits: walkers, namespaces, file systems, tokens, jobs, limits, timeouts
 abbrev pub u32_read : List ℕ → Option ℕ
-u32_read digits = number_read 4294967296 digits
+u32_read digits = number_read (2 ^ 32) digits
 
 -- a number of 64 bits: moments
 abbrev pub u64_read : List ℕ → Option ℕ
-u64_read digits = number_read 18446744073709551616 digits
+u64_read digits = number_read (2 ^ 64) digits

@@ -2,7 +2,7 @@
 
 ghost use Rattle.std.specs.Prelude.{◌≡◌, ◌++◌, decimal, OnOk};
 ghost use Rattle.am_names.specs.Errno.{errno_number};
-ghost use Rattle.am_script.specs.Answers.{answer_text, answer_line, entry_text, place_text, is_refused};
+ghost use Rattle.am_script.specs.Answers.{answer_text, answer_line, entry_text, record_text, place_text, is_refused};
 
 use am_names::{Errno, Place};
 use am_world::{Answer, Record};
@@ -27,6 +27,7 @@ pub fn is_refused(answer: &Answer) -> bool
     }
 }
 
+#[tactic(auto, using(crate::proofs::Pieces::three))]
 fn push_text(line: &mut Vec<u8>, answer: &Answer) -> Result<(), AllocError>
     ensures { OnOk result (line.new.items ≡ line.old.items ++ answer_text answer.now) }
 {
@@ -87,9 +88,18 @@ fn push_entry(line: &mut Vec<u8>, entry: &Option<Record>) -> Result<(), AllocErr
 {
     match entry {
         None => line.extend_from_slice(b"none"),
-        Some(Record::Mounting { token }) => push_number(line, b"mounting ", u64::from(token.0)),
-        Some(Record::Mounted { mount }) => push_number(line, b"mounted ", mount.0),
-        Some(Record::Unmounting { token, mount }) => {
+        Some(entry) => push_record(line, entry),
+    }
+}
+
+#[tactic(auto, using(crate::proofs::Pieces::two))]
+fn push_record(line: &mut Vec<u8>, entry: &Record) -> Result<(), AllocError>
+    ensures { OnOk result (line.new.items ≡ line.old.items ++ record_text entry.now) }
+{
+    match entry {
+        Record::Mounting { token } => push_number(line, b"mounting ", u64::from(token.0)),
+        Record::Mounted { mount } => push_number(line, b"mounted ", mount.0),
+        Record::Unmounting { token, mount } => {
             push_number(line, b"unmounting ", u64::from(token.0))?;
             push_number(line, b" ", mount.0)
         }

@@ -1,7 +1,7 @@
 //! Lines and words.
 
 ghost use Rattle.std.specs.Prelude.{◌≡◌, ◌+◌, ◌∷◌, [], length, position, IfNone, IfSome, option_copied};
-ghost use Rattle.am_script.specs.Lines.{is_line_feed, is_blank, lines_of, lines_in, words_of, is_long, begins_with, are_skipped};
+ghost use Rattle.am_script.specs.Lines.{is_line_feed, is_blank, lines_of, lines_in, parts_of, words_of, is_long, begins_with, are_skipped};
 
 /// The first line, without its line feed, and what stands behind that, if there is one.
 pub fn split_line(text: &[u8]) -> (&[u8], Option<&[u8]>)
@@ -26,8 +26,7 @@ pub fn split_word(line: &[u8]) -> Option<(&[u8], &[u8])>
     ensures some { IfSome result (λ cut. words_of line.now ≡ cut.0.now ∷ words_of cut.1.now) }
 {
     let mut rest = line;
-    while let Some(at) = blank_place(rest) {
-        let (word, others) = (&rest[..at], &rest[at + 1..]);
+    while let Some((word, others)) = cut_at_blank(rest) {
         if !word.is_empty() {
             return Some((word, others));
         }
@@ -37,6 +36,16 @@ pub fn split_word(line: &[u8]) -> Option<(&[u8], &[u8])>
         return None;
     }
     Some((rest, &[]))
+}
+
+/// What stands before the first blank and what stands behind it.
+fn cut_at_blank(line: &[u8]) -> Option<(&[u8], &[u8])>
+    ensures none { IfNone result (parts_of line.now ≡ line.now ∷ []) }
+    ensures some { IfSome result (λ cut. parts_of line.now ≡ cut.0.now ∷ parts_of cut.1.now) }
+    ensures parted { IfSome result (λ cut. length cut.0.now + 1 + length cut.1.now ≡ length line.now) }
+{
+    let at = blank_place(line)?;
+    Some((&line[..at], &line[at + 1..]))
 }
 
 fn blank_place(line: &[u8]) -> Option<usize>

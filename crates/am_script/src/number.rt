@@ -1,6 +1,6 @@
 //! Numbers as scripts write them.
 
-ghost use Rattle.std.specs.Prelude.{◌≡◌, ◌∷◌, length, IfSome, IfNone, None};
+ghost use Rattle.std.specs.Prelude.{◌≡◌, true, false, IfSome, IfNone};
 ghost use Rattle.std.specs.List.{list_all};
 ghost use Rattle.std.specs.Result.{result_ok};
 ghost use Rattle.hex.specs.Hex.{decode_sized};
@@ -13,20 +13,28 @@ use std::str;
 pub fn read_u32(digits: &[u8]) -> Option<u32>
     ensures { result ≡ u32_read digits.now }
 {
-    if !is_numeral(digits) {
-        return None;
-    }
-    str::from_utf8(digits).ok()?.parse::<u32>().ok()
+    numeral(digits)?.parse::<u32>().ok()
 }
 
 /// A number that fits 64 bits, in the same form.
 pub fn read_u64(digits: &[u8]) -> Option<u64>
     ensures { result ≡ u64_read digits.now }
 {
+    numeral(digits)?.parse::<u64>().ok()
+}
+
+/// The text of a numeral.
+fn numeral(digits: &[u8]) -> Option<&str>
+    ensures none { IfNone result (is_numeral digits.now ≡ false) }
+    ensures some { IfSome result (λ text. (is_numeral digits.now ≡ true) × (text.now ≡ digits.now)) }
+{
     if !is_numeral(digits) {
         return None;
     }
-    str::from_utf8(digits).ok()?.parse::<u64>().ok()
+    match str::from_utf8(digits) {
+        Ok(text) => Some(text),
+        Err(_) => None,
+    }
 }
 
 fn is_numeral(digits: &[u8]) -> bool
