@@ -1,3 +1,4 @@
 pub mod Cuts
 pub mod Numerals
 pub mod Pieces
+pub mod Writes

@@ -2,5 +2,9 @@ pub mod Answers
 pub mod Events
 pub mod Fault
 pub mod Head
+pub mod Heading
 pub mod Lines
 pub mod Numbers
+pub mod Read
+pub mod Script
+pub mod Written

@@ -6,7 +6,10 @@ pub mod answer_line;
 pub mod event_line;
 pub mod fault;
 pub mod head;
+pub mod heading;
+pub mod input;
 pub mod line;
 pub mod number;
+pub mod output;
 
 pub use fault::{ScriptFault, ScriptFaultKind};
