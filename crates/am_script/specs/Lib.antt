@@ -5,6 +5,8 @@ pub mod Head
 pub mod Heading
 pub mod Lines
 pub mod Numbers
+pub mod Played
 pub mod Read
 pub mod Script
+pub mod Turns
 pub mod Written

@@ -1,5 +1,5 @@
 -- The lines of a text, and the words of a line.
-use Rattle.std.specs.Prelude.{ℕ, Bool, true, false, not, ◌||◌, ◌==◌, nat_lt, List, [], ◌∷◌, length, Option, None, Some}
+use Rattle.std.specs.Prelude.{ℕ, ◌+◌, Bool, true, false, not, ◌||◌, ◌==◌, nat_lt, List, [], ◌∷◌, length, Option, None, Some}
 use Rattle.std.specs.List.{slice_split, filter}
 
 abbrev pub is_line_feed : ℕ → Bool
@@ -18,6 +18,11 @@ lines_of text = slice_split is_line_feed text
 abbrev pub lines_in : Option (List ℕ) → List (List ℕ)
 lines_in None = []
 lines_in (Some text) = lines_of text
+
+-- how many bytes are left, a line feed before them counted
+abbrev pub size_in : Option (List ℕ) → ℕ
+size_in None = 0
+size_in (Some text) = length text + 1
 
 -- the parts between blanks, empty ones among them
 abbrev pub parts_of : List ℕ → List (List ℕ)

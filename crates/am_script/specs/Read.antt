@@ -27,8 +27,11 @@ abbrev pub played : Option ScriptFaultKind → List ℕ → List ℕ
 played None text = text
 played (Some kind) text = take (length text - length (cut_line text)) text
 
--- the fault behind the lines that were read whole, if reading broke off: a line that is too long
--- is told as soon as 8,193 bytes of it were read
+-- a line that is too long is told as soon as 8,193 bytes of it were read
+abbrev pub cut_kind : List ℕ → ScriptFaultKind → ScriptFaultKind
+cut_kind cut kind = if is_long cut then LongLine else kind
+
+-- the fault behind the lines that were read whole, if reading broke off
 abbrev pub broken : Option ScriptFaultKind → List ℕ → Option ScriptFaultKind
 broken None text = None
-broken (Some kind) text = Some (if is_long (cut_line text) then LongLine else kind)
+broken (Some kind) text = Some (cut_kind (cut_line text) kind)

@@ -92,7 +92,7 @@ abbrev pub script_from : Option ScriptFaultKind → HeadSoFar → ℕ → List (
 script_from broke head before [] = head_ends broke head before
 script_from broke head before (line ∷ lines) =
     script_by (line_taken head (before + 1) line) (before + 1) (events_from broke (before + 1) lines)
-      (λ next. script_from broke next (before + 1) lines)
+    (λ next. script_from broke next (before + 1) lines)
 
 -- what was read of a script, up to its end or to where reading broke off
 abbrev pub script_of : Option ScriptFaultKind → List ℕ → Script

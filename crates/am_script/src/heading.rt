@@ -7,7 +7,8 @@ use crate::fault::ScriptFaultKind;
 use crate::head::{Entry, HeadLine, Part, default_limits, read_head_line, section_of};
 use crate::line::{is_long, is_skipped};
 use am_names::{Limits, Name};
-use std::alloc::Global;
+use am_world::World;
+use std::alloc::{AllocError, Global};
 use std::marker::Model;
 
 /// What the lines so far have said.
@@ -30,7 +31,8 @@ impl Model for Heading {
 }
 
 impl Heading {
-    ghost use Rattle.am_script.specs.Heading.{no_head, line_taken, Stops, taken_as};
+    ghost use Rattle.am_script.specs.Heading.{no_head, line_taken, Stops, taken_as, opening_from};
+    ghost use Rattle.am_world.specs.State.{opening_of};
     ghost use Rattle.am_script.specs.Head.{section_of};
 
     /// Nothing is read yet.
@@ -72,6 +74,18 @@ impl Heading {
             HeadLine::Begins { entry } => Ok(Some(entry)),
             HeadLine::Bad { kind } => Err(kind),
         }
+    }
+
+    /// The world that begins behind it.
+    pub fn begin(self, alloc: Global, entry: Entry) -> Result<World, AllocError>
+        ensures { IfOk result (λ world. world ≡ opening_of (opening_from entry self)) }
+    {
+        let Heading {
+            part: _,
+            limits,
+            keys,
+        } = self;
+        World::first(alloc, limits, entry.point, entry.timeout, keys)
     }
 
     /// The first line of the section that it is in, if it is in one.

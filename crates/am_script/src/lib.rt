@@ -11,5 +11,8 @@ pub mod input;
 pub mod line;
 pub mod number;
 pub mod output;
+pub mod play;
+pub mod turn;
 
 pub use fault::{ScriptFault, ScriptFaultKind};
+pub use play::{Summary, run_script};

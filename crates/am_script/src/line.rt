@@ -1,17 +1,31 @@
 //! Lines and words.
 
-ghost use Rattle.std.specs.Prelude.{◌≡◌, ◌+◌, ◌∷◌, [], length, position, IfNone, IfSome, option_copied};
-ghost use Rattle.am_script.specs.Lines.{is_line_feed, is_blank, lines_of, lines_in, parts_of, words_of, is_long, begins_with, are_skipped};
+ghost use Rattle.std.specs.Prelude.{◌≡◌, ◌+◌, ◌≤◌, ◌∷◌, [], length, position, IfNone, IfSome, option_copied};
+ghost use Rattle.am_script.specs.Lines.{is_line_feed, is_blank, lines_of, lines_in, size_in, parts_of, words_of, is_long, begins_with, are_skipped};
+ghost use Rattle.am_script.specs.Read.{cut_line};
 
 /// The first line, without its line feed, and what stands behind that, if there is one.
 pub fn split_line(text: &[u8]) -> (&[u8], Option<&[u8]>)
     ensures lines { lines_of text.now ≡ result.0.now ∷ lines_in (option_copied result.1) }
-    ensures parted { IfSome result.1 (λ rest. length result.0.now + 1 + length rest.now ≡ length text.now) }
+    ensures shorter { size_in (option_copied result.1) + length result.0.now ≤ length text.now }
+    ensures whole { IfNone result.1 (result.0.now ≡ text.now) }
 {
     match line_feed_place(text) {
         None => (text, None),
         Some(at) => (&text[..at], Some(&text[at + 1..])),
     }
+}
+
+/// What stands behind the last line feed.
+pub fn cut_line(text: &[u8]) -> &[u8]
+    ensures line { result.now ≡ cut_line text.now }
+    ensures short { length result.now ≤ length text.now }
+{
+    let mut rest = text;
+    while let (_, Some(after)) = split_line(rest) {
+        rest = after;
+    }
+    rest
 }
 
 fn line_feed_place(text: &[u8]) -> Option<usize>
