@@ -78,9 +78,9 @@ section_fault None = None
 section_fault (Some first) = Some (fault_at first BadSection)
 
 -- the text ends within the head
-abbrev pub head_ends : Option ScriptFaultKind → HeadSoFar → ℕ → Script
-head_ends None head before = without_world (section_fault (section_of head.part))
-head_ends (Some kind) head before = without_world (Some (fault_at before kind))
+abbrev pub head_ends : Option ScriptFaultKind → Option ℕ → ℕ → Script
+head_ends None section before = without_world (section_fault section)
+head_ends (Some kind) section before = without_world (Some (fault_at before kind))
 
 abbrev pub script_by : Taken → ℕ → Told → (HeadSoFar → Script) → Script
 script_by (GoesOn head) number told others = others head
@@ -89,7 +89,7 @@ script_by (Stops kind) number told others = without_world (Some (fault_at number
 
 -- the head so far and these lines, behind so many lines
 abbrev pub script_from : Option ScriptFaultKind → HeadSoFar → ℕ → List (List ℕ) → Script
-script_from broke head before [] = head_ends broke head before
+script_from broke head before [] = head_ends broke (section_of head.part) before
 script_from broke head before (line ∷ lines) =
     script_by (line_taken head (before + 1) line) (before + 1) (events_from broke (before + 1) lines)
     (λ next. script_from broke next (before + 1) lines)

@@ -1,6 +1,6 @@
 //! Lines and words.
 
-ghost use Rattle.std.specs.Prelude.{◌≡◌, ◌+◌, ◌≤◌, ◌∷◌, [], length, position, IfNone, IfSome, option_copied};
+ghost use Rattle.std.specs.Prelude.{◌≡◌, ◌+◌, ◌<◌, ◌≤◌, ◌∷◌, [], length, position, IfNone, IfSome, option_copied};
 ghost use Rattle.am_script.specs.Lines.{is_line_feed, is_blank, lines_of, lines_in, size_in, parts_of, words_of, is_long, begins_with, are_skipped};
 ghost use Rattle.am_script.specs.Read.{cut_line};
 
@@ -22,10 +22,20 @@ pub fn cut_line(text: &[u8]) -> &[u8]
     ensures short { length result.now ≤ length text.now }
 {
     let mut rest = text;
-    while let (_, Some(after)) = split_line(rest) {
+    while let Some(after) = behind_line(rest) {
         rest = after;
     }
     rest
+}
+
+/// What stands behind the first line feed.
+fn behind_line(text: &[u8]) -> Option<&[u8]>
+    ensures none { IfNone result (cut_line text.now ≡ text.now) }
+    ensures some { IfSome result (λ rest. cut_line text.now ≡ cut_line rest.now) }
+    ensures shorter { IfSome result (λ rest. length rest.now < length text.now) }
+{
+    let at = line_feed_place(text)?;
+    Some(&text[at + 1..])
 }
 
 fn line_feed_place(text: &[u8]) -> Option<usize>

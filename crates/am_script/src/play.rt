@@ -1,6 +1,6 @@
 //! A script is played.
 
-ghost use Rattle.std.specs.Prelude.{◌≡◌, ◌⊎◌, ◌+◌, ◌<◌, ◌≤◌, ◌^◌, length, option_copied, IfOk, IfErr};
+ghost use Rattle.std.specs.Prelude.{◌≡◌, ◌⊎◌, ◌+◌, ◌<◌, ◌≤◌, ◌^◌, length, option_copied, None, IfOk, IfErr, OnOk};
 ghost use Rattle.am_script.specs.Lines.{lines_of, lines_in, size_in};
 ghost use Rattle.am_script.specs.Heading.{no_head};
 ghost use Rattle.am_script.specs.Read.{cut_kind};
@@ -69,6 +69,7 @@ fn play_text<W: Write>(
     writer: &mut W,
 ) -> Result<Summary, ScriptFault>
     requires { length text.now < 2 ^ 63 }
+    ensures whole { OnOk result (broke ≡ None) }
     ensures ok { IfOk result (IsPlayed (script_from broke no_head 0 (lines_of text.now)) (W.contents writer.old) (W.contents writer.new)) }
     ensures err { IfErr result (IsStopped (script_from broke no_head 0 (lines_of text.now)) (W.contents writer.old) (W.contents writer.new)) }
 {
@@ -104,6 +105,7 @@ fn play_events<W: Write>(
     writer: &mut W,
 ) -> Result<Summary, ScriptFault>
     requires { before + size_in (option_copied text) ≤ 2 ^ 63 }
+    ensures whole { OnOk result (broke ≡ None) }
     ensures ok { IfOk result (AllAnswered world (events_from broke before (lines_in (option_copied text.entry))) (W.contents writer.old) (W.contents writer.new)) }
     ensures err { IfErr result (λ fault. RanOut (W.contents writer.old) (W.contents writer.new) fault ⊎ Stops world (events_from broke before (lines_in (option_copied text.entry))) (W.contents writer.old) (W.contents writer.new) fault) }
 {
