@@ -1,9 +1,10 @@
 -- A script whose head is read line by line.
-use Rattle.std.proofs.Common.{◌≡◌, ◌⊎◌, ◌+◌, ℕ, List, [], ◌∷◌, Option, Some, None, Result, Ok, Err, IfOk, IfErr, refl, sym, ap, ◌∙◌, inl, inr}
+use Rattle.std.proofs.Common.{◌≡◌, ◌⊎◌, ◌+◌, ℕ, List, [], ◌∷◌, Option, Some, None, Result, Ok, Err, IfOk, IfErr, refl, sym, ap, subst, ◌∙◌, inl, inr}
 use Rattle.std.specs.Io.KnownBytes.{Appends}
 use Rattle.am_world.specs.State.{Opening}
 use Rattle.am_script.specs.declared.fault.ScriptFault.{ScriptFault}
 use Rattle.am_script.specs.declared.fault.ScriptFaultKind.{ScriptFaultKind}
+use Rattle.am_script.specs.declared.fault.ScriptFaultKind.TheVariants.{NoMemory}
 use Rattle.am_script.specs.declared.play.Summary.{Summary}
 use Rattle.am_script.specs.Lines.{lines_of, lines_in}
 use Rattle.am_script.specs.Heading.{HeadSoFar, Taken, GoesOn, Begins, Stops, line_taken}
@@ -25,3 +26,14 @@ pub ended_err : (broke : Option ScriptFaultKind) (section : Option ℕ) (number 
 ended_err None None number old = tt
 ended_err None (Some first) number old = inr (record { found = refl; written = appends_none old })
 ended_err (Some kind) section number old = inr (record { found = refl; written = appends_none old })
+
+kept_none : (old new : Option (List ℕ)) → new ≡ old → Appends old new []
+kept_none old new e = subst (λ (n : Option (List ℕ)). Appends old n []) (sym e) (appends_none old)
+
+-- a line of the head stops the script, or there is no memory for it
+pub head_stops : (script : Script) (broke : Option ScriptFaultKind) (head : HeadSoFar) (before : ℕ) (rest : Option (List ℕ)) (here line : List ℕ) (lines : List (List ℕ)) (kind : ScriptFaultKind) (old new : Option (List ℕ)) → script ≡ script_from broke head before (lines_in rest) → rest ≡ Some here → lines_of here ≡ line ∷ lines → new ≡ old → (line_taken head (before + 1) line ≡ Stops kind) ⊎ (kind ≡ NoMemory) → IsStopped script old new (fault_at (before + 1) kind)
+head_stops script broke head before rest here line lines kind old new same e f kept (inl t) =
+    let whole = same ∙ script_step broke head before rest here line lines (Stops kind) e f t in
+    subst (λ (s : Script). IsStopped s old new (fault_at (before + 1) kind)) (sym whole) (inr (record { found = refl; written = kept_none old new kept }))
+head_stops script broke head before rest here line lines kind old new same e f kept (inr none) =
+    inl (record { kind = none; written = kept_none old new kept })
