@@ -1,6 +1,5 @@
 -- The last line is the last of the rest.
-use Rattle.std.proofs.Common.{◌≡◌, ◌<◌, ◌+◌, ℕ, List, [], ◌∷◌, length, refl, arith, ap, ◌∙◌}
-use Rattle.std.specs.List.{slice_split, count_by}
+use Rattle.std.proofs.Common.{◌≡◌, ◌<◌, ℕ, List, [], ◌∷◌, length, refl, arith, ap, ◌∙◌}
 use Rattle.std.proofs.lemmas.List.Splits.{length-slice_split}
 use Rattle.am_script.specs.Lines.{lines_of, is_line_feed}
 use Rattle.am_script.specs.Read.{last_of, cut_line}

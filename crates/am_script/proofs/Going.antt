@@ -1,6 +1,5 @@
 -- The events so far are answered, and their lines are written.
-use Rattle.std.proofs.Common.{◌≡◌, ◌⊎◌, ◌+◌, ℕ, add-zero, ◌≤◌, Bool, true, false, cond, List, [], ◌∷◌, ◌++◌, length, take, map, count_by, Option, Some, None, Result, Ok, Err, refl, sym, ap, ◌∙◌, subst, inl, inr, append_assoc, arith}
-use Rattle.std.specs.List.{flat_map}
+use Rattle.std.proofs.Common.{◌≡◌, ◌+◌, ℕ, ◌≤◌, Bool, true, false, cond, List, [], ◌∷◌, ◌++◌, length, take, count_by, Option, Some, None, Result, Ok, Err, refl, sym, ap, ◌∙◌, subst, inl, inr, append_assoc, arith}
 use Rattle.std.specs.Io.KnownBytes.{Appends}
 use Rattle.std.proofs.lemmas.List.{map_push, append-nil, length-append}
 use Rattle.std.proofs.lemmas.Grind.{flat_map-append}
@@ -16,8 +15,8 @@ use Rattle.am_script.specs.declared.play.Summary.{Summary}
 use Rattle.am_script.specs.Answers.{answer_line, is_refused}
 use Rattle.am_script.specs.Lines.{lines_of, lines_in}
 use Rattle.am_script.specs.Script.{Numbered, Told, events_in, events_from, line_read, told_by, only_fault, fault_at}
-use Rattle.am_script.specs.Played.{AllAnswered, StopsAtFault, StopsAtEvent, Stops, lines_for}
-use Rattle.am_script.specs.Turns.{IsAnswered, IsLost, IsIdle, TurnDone, TurnStopped, counted}
+use Rattle.am_script.specs.Played.{AllAnswered, StopsAtFault, Stops, lines_for}
+use Rattle.am_script.specs.Turns.{TurnDone, TurnStopped, counted}
 use Rattle.am_script.proofs.Writes.{appends_more, appends_none}
 
 -- these events come first

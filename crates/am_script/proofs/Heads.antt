@@ -1,14 +1,11 @@
 -- A script whose head is read line by line.
-use Rattle.std.proofs.Common.{◌≡◌, ◌⊎◌, ◌+◌, ℕ, List, [], ◌∷◌, Option, Some, None, Result, Ok, Err, IfOk, IfErr, refl, sym, ap, subst, ◌∙◌, inl, inr}
+use Rattle.std.proofs.Common.{◌≡◌, ◌⊎◌, ◌+◌, ℕ, List, [], ◌∷◌, Option, Some, None, IfOk, IfErr, refl, sym, ap, subst, ◌∙◌, inl, inr}
 use Rattle.std.specs.Io.KnownBytes.{Appends}
-use Rattle.am_world.specs.State.{Opening}
-use Rattle.am_script.specs.declared.fault.ScriptFault.{ScriptFault}
 use Rattle.am_script.specs.declared.fault.ScriptFaultKind.{ScriptFaultKind}
 use Rattle.am_script.specs.declared.fault.ScriptFaultKind.TheVariants.{NoMemory}
-use Rattle.am_script.specs.declared.play.Summary.{Summary}
 use Rattle.am_script.specs.Lines.{lines_of, lines_in}
-use Rattle.am_script.specs.Heading.{HeadSoFar, Taken, GoesOn, Begins, Stops, line_taken}
-use Rattle.am_script.specs.Script.{Script, Told, script_from, script_by, events_from, head_ends, without_world, fault_at}
+use Rattle.am_script.specs.Heading.{HeadSoFar, Taken, Stops, line_taken}
+use Rattle.am_script.specs.Script.{Script, script_from, script_by, events_from, head_ends, fault_at}
 use Rattle.am_script.specs.Played.{IsPlayed, IsStopped, end_of_head}
 use Rattle.am_script.proofs.Writes.{appends_none}
 

@@ -1,5 +1,5 @@
 -- What reading broke off is played up to its last whole line.
-use Rattle.std.proofs.Common.{◌≡◌, ◌-◌, ℕ, List, length, take, Option, Some, None, Result, Ok, Err, IfErr, refl, sym, ap, ◌∙◌, subst}
+use Rattle.std.proofs.Common.{◌≡◌, ◌-◌, ℕ, List, length, take, Option, Some, Result, Ok, Err, IfErr, ap, ◌∙◌, subst}
 use Rattle.std.specs.Io.KnownBytes.{Consumes}
 use Rattle.am_script.specs.declared.fault.ScriptFault.{ScriptFault}
 use Rattle.am_script.specs.declared.fault.ScriptFaultKind.{ScriptFaultKind}

@@ -1,5 +1,5 @@
 -- A numeral is text, and std reads its number.
-use Rattle.std.proofs.Common.{◌≡◌, ℕ, ◌^◌, ◌<◌, ◌&&◌, zero, suc, Bool, true, false, not, List, [], ◌∷◌, length, slice_index, Result, Ok, Err, Some, None, refl, sym, arith, rules, ltb}
+use Rattle.std.proofs.Common.{◌≡◌, ℕ, ◌^◌, ◌<◌, ◌&&◌, zero, suc, Bool, true, false, List, [], ◌∷◌, length, Result, Ok, Err, refl, arith, rules, ltb}
 use Rattle.std.proofs.lemmas.Bool.Decides.{nat_tests}
 use Rattle.std.proofs.lemmas.Str.{IsUtf8-from_ascii}
 use Rattle.std.proofs.lemmas.Str.Parse.{IsNumeralModel, numerals_by_value, parse_digits}

@@ -1,5 +1,5 @@
 -- Pieces that are put one behind another.
-use Rattle.std.proofs.Common.{◌≡◌, ℕ, List, ◌++◌, append_assoc, ap, ◌∙◌}
+use Rattle.std.proofs.Common.{◌≡◌, ℕ, List, ◌++◌, append_assoc, ◌∙◌}
 
 pub two : (line a b : List ℕ) → (line ++ a) ++ b ≡ line ++ (a ++ b)
 two line a b = append_assoc line a b

@@ -1,7 +1,7 @@
 -- What a writer took so far.
-use Rattle.std.proofs.Common.{◌≡◌, ℕ, List, [], ◌∷◌, ◌++◌, length, take, drop, Option, Some, None, refl, sym, ap, ◌∙◌, append_assoc, arith, subst}
+use Rattle.std.proofs.Common.{◌≡◌, ℕ, List, [], ◌∷◌, ◌++◌, length, take, drop, Option, Some, None, refl, sym, ap, ◌∙◌, append_assoc, subst}
 use Rattle.std.specs.Io.KnownBytes.{Appends, Keeps}
-use Rattle.std.proofs.lemmas.List.{take-append-drop, append-nil, length-append, take_at}
+use Rattle.std.proofs.lemmas.List.{take-append-drop, append-nil, take_at}
 use Rattle.am_script.specs.Written.{AppendsFront}
 
 -- a front of the bytes was taken, and this is left of them

@@ -1,10 +1,9 @@
 -- The event that a line spells by its words, if it spells one.
-use Rattle.std.specs.Prelude.{ℕ, Bool, true, false, List, [], ◌∷◌, codes, bytes_eq, Option, None, Some, option_map, Result, if◌then◌else◌}
+use Rattle.std.specs.Prelude.{ℕ, Bool, true, false, List, [], ◌∷◌, codes, bytes_eq, Option, None, Some, option_map, if◌then◌else◌}
 use Rattle.std.specs.Result.{result_ok}
 use Rattle.hex.specs.Hex.{decode_sized}
 use Rattle.am_names.specs.Name.{name_read}
 use Rattle.am_names.specs.Path.{path_read}
-use Rattle.am_names.specs.declared.trigger.Trigger.{Trigger}
 use Rattle.am_world.specs.declared.event.Event.{Event}
 use Rattle.am_world.specs.declared.event.Event.TheVariants as events
 use Rattle.am_script.specs.Numbers.{u32_read, u64_read}

@@ -1,13 +1,12 @@
 -- The head of a script: what stands before the line `events`. It has limits if wanted, a master
 -- section with one line, and one section of the map that this line names.
-use Rattle.std.specs.Prelude.{⊤, ℕ, Bool, true, false, not, ◌&&◌, ◌==◌, nat_lt, nat_le, List, [], ◌∷◌, length, codes, bytes_eq, take, drop, Option, None, Some, if◌then◌else◌}
+use Rattle.std.specs.Prelude.{⊤, ℕ, Bool, false, not, ◌&&◌, ◌==◌, nat_lt, nat_le, List, [], ◌∷◌, length, codes, bytes_eq, take, drop, Option, None, Some, if◌then◌else◌}
 use Rattle.std.specs.List.{after_first}
 use Rattle.std.specs.Result.{result_ok}
 use Rattle.am_names.specs.Name.{name_read}
 use Rattle.am_names.specs.Path.{path_read, text_of}
 use Rattle.am_names.specs.Limits.{IsInRange}
 use Rattle.am_names.specs.declared.limits.Limits.{Limits}
-use Rattle.am_script.specs.declared.fault.ScriptFaultKind.{ScriptFaultKind}
 use Rattle.am_script.specs.declared.fault.ScriptFaultKind.TheVariants.{BadSection, BadLimits}
 use Rattle.am_script.specs.declared.head.Entry.{Entry}
 use Rattle.am_script.specs.declared.head.Part.{Part}

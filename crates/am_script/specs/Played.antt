@@ -1,9 +1,8 @@
 -- How a script is played: its answers are those of a run from its world, and their lines are
 -- what is written.
-use Rattle.std.specs.Prelude.{◌≡◌, ◌⊎◌, ℕ, Bool, List, [], ◌∷◌, ◌++◌, length, take, count_by, Option, None, Some, Result, Ok, Err}
+use Rattle.std.specs.Prelude.{◌≡◌, ◌⊎◌, ℕ, List, [], ◌∷◌, ◌++◌, length, take, count_by, Option, None, Some, Result, Ok, Err}
 use Rattle.std.specs.List.{flat_map}
 use Rattle.std.specs.Io.KnownBytes.{Appends, Consumes, IsAtEnd}
-use Rattle.am_world.specs.declared.event.Event.{Event}
 use Rattle.am_world.specs.declared.answer.Answer.{Answer}
 use Rattle.am_world.specs.State.{State, Opening, opening_of}
 use Rattle.am_world.specs.Machine.{Run}

@@ -1,4 +1,4 @@
-use Rattle.std.proofs.Common.{sym, ◌≡◌, ◌∙◌, rules}
+use Rattle.std.proofs.Common.{◌∙◌}
 use Rattle.am_script.proofs.Numerals.{number_is}
 use Rattle.am_script.proofs.number.read_u64.Goals as goal
 

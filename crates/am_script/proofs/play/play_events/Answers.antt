@@ -1,4 +1,4 @@
-use Rattle.std.proofs.Common.{◌≡◌, Option, Some, None, ℕ, List, option_copied, sym, ap, ◌∙◌, subst, inl, inr, arith, rules, ◌+◌}
+use Rattle.std.proofs.Common.{option_copied, ap, subst, inr, arith, ◌+◌}
 use Rattle.am_script.specs.Lines.{lines_in, size_in}
 use Rattle.am_script.specs.Script.{Told, events_from, line_read}
 use Rattle.am_script.proofs.Going.{Going, going_none, going_more, going_stops, events_step, counted_lines, counted_refused}

@@ -1,4 +1,4 @@
-use Rattle.std.proofs.Common.{◌≡◌, Option, Some, None, ℕ, List, option_copied, sym, ap, ◌∙◌, subst, inl, inr, arith, rules, ◌+◌}
+use Rattle.std.proofs.Common.{option_copied, ap}
 use Rattle.am_script.specs.Lines.{lines_in, lines_of}
 use Rattle.am_script.specs.Heading.{no_head}
 use Rattle.am_script.specs.Script.{script_from}

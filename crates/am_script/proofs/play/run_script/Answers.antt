@@ -1,4 +1,4 @@
-use Rattle.std.proofs.Common.{◌≡◌, ◌-◌, length, take, refl, sym, ap, ◌∙◌, subst, arith, rules}
+use Rattle.std.proofs.Common.{◌-◌, length, take, refl}
 use Rattle.am_script.proofs.Inputs.{stops_input}
 use Rattle.am_script.proofs.play.run_script.Goals as goal
 
