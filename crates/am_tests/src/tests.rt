@@ -60,7 +60,11 @@ fn heads_that_are_none(rt: HostRuntime) {
         (b"master\n/a m\nend\nmap m\nk a:/b c\n".as_slice(), 5, bad),
         (b"master\n/a m\nend\nmap m\n.. a:/b\n".as_slice(), 5, bad),
         (b"master\n/a m\nend\nmap m\nend\nmap m\n".as_slice(), 6, bad),
-        (b"master\n/a m\nend\nmap m\nend\nevents x\n".as_slice(), 6, bad),
+        (
+            b"master\n/a m\nend\nmap m\nend\nevents x\n".as_slice(),
+            6,
+            bad,
+        ),
         (b"limits 1 1 1\nlimits 1 1 1\n".as_slice(), 2, bad),
         (b"limits 1 1\n".as_slice(), 1, limits),
         (b"limits 1 1 1 1\n".as_slice(), 1, limits),
@@ -89,9 +93,18 @@ fn heads_that_end_early(rt: HostRuntime) {
         (b"master".as_slice(), fault(1, bad)),
         (b"\nmaster\n/a m\n".as_slice(), fault(2, bad)),
         (b"master\n/a m\nend".as_slice(), None),
-        (b"master\n/a m\nend\n\nmap m\nk a:/b\n".as_slice(), fault(5, bad)),
-        (b"master\n/a m --timeout=0\nend\nmap m\n # k\n\nk -o,p :/b\nend\n".as_slice(), None),
-        (b"master\n/a m\nend\nmap m\nend\n\tevents \n".as_slice(), None),
+        (
+            b"master\n/a m\nend\n\nmap m\nk a:/b\n".as_slice(),
+            fault(5, bad),
+        ),
+        (
+            b"master\n/a m --timeout=0\nend\nmap m\n # k\n\nk -o,p :/b\nend\n".as_slice(),
+            None,
+        ),
+        (
+            b"master\n/a m\nend\nmap m\nend\n\tevents \n".as_slice(),
+            None,
+        ),
     ] {
         let (got, output) = play(rt.alloc(), script);
         assert_eq!(rt; got, want, "at {script:?}");
@@ -151,7 +164,10 @@ fn numbers_at_the_greatest_of_their_type(rt: HostRuntime) -> Result<(), Fail> {
     let script = with_events(rt.alloc(), events)?;
     let (got, output) = play(rt.alloc(), script.as_slice());
     assert_eq!(rt; got, fault(13, ScriptFaultKind::BadEvent));
-    assert_eq!(rt; output.as_slice(), b"fs 2 attach 1 mount 2\nerr 5\nerr 5\nerr 12\nerr 5\n".as_slice());
+    assert_eq!(rt;
+        output.as_slice(),
+        b"fs 2 attach 1 mount 2\nerr 5\nerr 5\nerr 12\nerr 5\n".as_slice()
+    );
     Ok(())
 }
 
@@ -164,7 +180,10 @@ fn lines_of_8192_bytes_and_of_8193(rt: HostRuntime) -> Result<(), Fail> {
     let script = joined(alloc, &[HEAD, b"attach /auto\n", &full, b"\nact 1 ok\n"])?;
     let (got, output) = play(alloc, script.as_slice());
     assert_eq!(rt; got, None);
-    assert_eq!(rt; output.as_slice(), b"fs 2 attach 1 mount 2\nerr 5\n".as_slice());
+    assert_eq!(rt;
+        output.as_slice(),
+        b"fs 2 attach 1 mount 2\nerr 5\n".as_slice()
+    );
     for end in [b"".as_slice(), b"\n", b"\nact 1 ok\n"] {
         let script = joined(alloc, &[HEAD, b"attach /auto\n", &comment, end])?;
         let (got, output) = play(alloc, script.as_slice());
@@ -203,7 +222,10 @@ fn packets_as_hex(rt: HostRuntime) -> Result<(), Fail> {
 #[test]
 fn a_script_cut_at_every_byte(rt: HostRuntime) -> Result<(), Fail> {
     let alloc = rt.alloc();
-    let script = with_events(alloc, b"attach /auto\nwalk 7 0 /auto/home 5 room\ndeliver 1\n")?;
+    let script = with_events(
+        alloc,
+        b"attach /auto\nwalk 7 0 /auto/home 5 room\ndeliver 1\n",
+    )?;
     let script = script.as_slice();
     let (_, whole) = play(alloc, script);
     for len in 0..script.len() {
@@ -253,10 +275,15 @@ fn a_reader_that_fails(rt: HostRuntime) -> Result<(), Fail> {
     let alloc = rt.alloc();
     let script = with_events(alloc, b"attach /auto\nact 1 ok\nact 2")?;
     let mut output = Vec::new(alloc);
-    let mut reader = Breaks { text: script.as_slice() };
+    let mut reader = Breaks {
+        text: script.as_slice(),
+    };
     let got = run_script(alloc, &mut reader, &mut output).err();
     assert_eq!(rt; got, fault(10, ScriptFaultKind::ReadFailed));
-    assert_eq!(rt; output.as_slice(), b"fs 2 attach 1 mount 2\nerr 5\n".as_slice());
+    assert_eq!(rt;
+        output.as_slice(),
+        b"fs 2 attach 1 mount 2\nerr 5\n".as_slice()
+    );
     for text in [b"".as_slice(), b"master", b"limits 0 0 0"] {
         let got = run_script(alloc, &mut Breaks { text }, &mut output).err();
         assert_eq!(rt; got, fault(1, ScriptFaultKind::ReadFailed));
@@ -301,7 +328,10 @@ fn a_writer_that_takes_so_many_bytes(rt: HostRuntime) -> Result<(), Fail> {
         (27, fault(10, ScriptFaultKind::WriteFailed)),
         (28, None),
     ] {
-        let mut writer = Takes { bytes: Vec::new(alloc), room };
+        let mut writer = Takes {
+            bytes: Vec::new(alloc),
+            room,
+        };
         let got = run_script(alloc, &mut script.as_slice(), &mut writer).err();
         assert_eq!(rt; got, want, "at {room}");
         assert_eq!(rt; writer.bytes.as_slice(), &whole[..room], "at {room}");
