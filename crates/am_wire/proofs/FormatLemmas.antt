@@ -1,11 +1,10 @@
 -- Bytes are those of one packet at most, and what is written is read back.
-use Rattle.std.proofs.Common.{◌≡◌, ℕ, ◌<◌, ◌-◌, List, [], ◌++◌, length, take, drop, refl, sym, ap, ◌∙◌, subst, append_assoc, arith}
+use Rattle.std.proofs.Common.{◌≡◌, ℕ, ◌-◌, List, [], ◌++◌, length, take, drop, refl, sym, ap, ◌∙◌, subst, append_assoc, arith}
 use Rattle.std.specs.Prelude.{Bool, ◌||◌, ◌==◌, IsTrue, replicate}
 use Rattle.std.proofs.lemmas.List.{take_at, append-nil, length-append}
 use Rattle.byteorder.specs.Numbers.{little_number-reads_back}
 use Rattle.am_wire.specs.declared.head.Head.{Head}
 use Rattle.am_wire.specs.declared.kind.Kind.{Kind}
-use Rattle.am_wire.specs.Kind.{kind_number}
 use Rattle.am_wire.specs.Stored.{padded}
 use Rattle.am_wire.specs.Said.{Said}
 use Rattle.am_wire.specs.Head.{IsHead, HasFittingNumbers, head_of, head_bytes}

@@ -1,5 +1,5 @@
--- A packet as bytes: the fields at their offsets, little endian (auto_fs.h, struct autofs_v5_packet,
--- as it lies on x86-64).
+-- A packet as bytes: the fields at their offsets, little endian
+-- (auto_fs.h, struct autofs_v5_packet, as it lies on x86-64).
 use Rattle.std.specs.Prelude.{◌≡◌, ◌≢◌, ℕ, ◌==◌, ◌||◌, ◌&&◌, nat_lt, not, Bool, false, IsTrue, List, ◌++◌, length, take, drop, replicate}
 use Rattle.am_names.specs.Name.{is_name}
 use Rattle.byteorder.specs.Endian.{little_number, little_bytes}
@@ -59,24 +59,43 @@ IsOnlyPacket p bytes = (q : Said) → IsPacket q bytes → q ≡ p
 abbrev pub IsNoPacket : List ℕ → Type 0
 IsNoPacket bytes = (p : Said) → IsPacket p bytes → ⊥
 
--- which test the bytes fail first
+-- which test the bytes fail first: those before it hold
 abbrev pub FailsFirst : WireFault → List ℕ → Type 0
 FailsFirst faults.Length bytes = has_length bytes ≡ false
 FailsFirst faults.Version bytes = IsTrue (has_length bytes) × (word_at 0 bytes ≢ 5)
-FailsFirst faults.Kind bytes = IsTrue (has_length bytes) × (word_at 0 bytes ≡ 5) × ((k : Kind) → word_at 4 bytes ≢ kind_number k)
+FailsFirst faults.Kind bytes =
+    IsTrue (has_length bytes)
+    × (word_at 0 bytes ≡ 5)
+    × ((k : Kind) → word_at 4 bytes ≢ kind_number k)
 FailsFirst faults.NameLength bytes =
-    IsTrue (has_length bytes) × (word_at 0 bytes ≡ 5) × (k : Kind) × (word_at 4 bytes ≡ kind_number k)
+    IsTrue (has_length bytes)
+    × (word_at 0 bytes ≡ 5)
+    × (k : Kind)
+    × (word_at 4 bytes ≡ kind_number k)
     × (may_have_length k (word_at 40 bytes) ≡ false)
 FailsFirst faults.BadName bytes =
-    IsTrue (has_length bytes) × (word_at 0 bytes ≡ 5) × (k : Kind) × (word_at 4 bytes ≡ kind_number k)
-    × IsTrue (may_have_length k (word_at 40 bytes)) × (may_have_name k (name_at bytes) ≡ false)
+    IsTrue (has_length bytes)
+    × (word_at 0 bytes ≡ 5)
+    × (k : Kind)
+    × (word_at 4 bytes ≡ kind_number k)
+    × IsTrue (may_have_length k (word_at 40 bytes))
+    × (may_have_name k (name_at bytes) ≡ false)
 
 -- what is written: all that is free is zero
 abbrev pub canonical : Said → List ℕ
 canonical p =
-    little_bytes 4 5 ++ little_bytes 4 (kind_number p.kind) ++ little_bytes 4 p.token ++ little_bytes 4 p.dev ++ little_bytes 8 p.ino
-    ++ little_bytes 4 p.uid ++ little_bytes 4 p.gid ++ little_bytes 4 p.pid ++ little_bytes 4 p.tgid ++ little_bytes 4 (length p.name)
-    ++ padded p.name ++ replicate 4 0
+    little_bytes 4 5
+    ++ little_bytes 4 (kind_number p.kind)
+    ++ little_bytes 4 p.token
+    ++ little_bytes 4 p.dev
+    ++ little_bytes 8 p.ino
+    ++ little_bytes 4 p.uid
+    ++ little_bytes 4 p.gid
+    ++ little_bytes 4 p.pid
+    ++ little_bytes 4 p.tgid
+    ++ little_bytes 4 (length p.name)
+    ++ padded p.name
+    ++ replicate 4 0
 
 -- a packet of the format: its name is allowed for its kind
 pub record IsWritable (p : Said) : Type 0 where

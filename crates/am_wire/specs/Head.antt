@@ -33,10 +33,30 @@ pub record HasFittingNumbers (h : Head) : Type 0 where
 
 -- the numbers of a packet
 abbrev pub head_of : Said → Head
-head_of p = record { proto_version = 5; kind = kind_number p.kind; token = p.token; dev = p.dev; ino = p.ino; uid = p.uid; gid = p.gid; pid = p.pid; tgid = p.tgid; len = length p.name }
+head_of p =
+    record {
+      proto_version = 5;
+      kind = kind_number p.kind;
+      token = p.token;
+      dev = p.dev;
+      ino = p.ino;
+      uid = p.uid;
+      gid = p.gid;
+      pid = p.pid;
+      tgid = p.tgid;
+      len = length p.name;
+    }
 
 -- the bytes of the numbers, in the order of their offsets
 abbrev pub head_bytes : Head → List ℕ
 head_bytes h =
-    little_bytes 4 h.proto_version ++ little_bytes 4 h.kind ++ little_bytes 4 h.token ++ little_bytes 4 h.dev ++ little_bytes 8 h.ino
-    ++ little_bytes 4 h.uid ++ little_bytes 4 h.gid ++ little_bytes 4 h.pid ++ little_bytes 4 h.tgid ++ little_bytes 4 h.len
+    little_bytes 4 h.proto_version
+    ++ little_bytes 4 h.kind
+    ++ little_bytes 4 h.token
+    ++ little_bytes 4 h.dev
+    ++ little_bytes 8 h.ino
+    ++ little_bytes 4 h.uid
+    ++ little_bytes 4 h.gid
+    ++ little_bytes 4 h.pid
+    ++ little_bytes 4 h.tgid
+    ++ little_bytes 4 h.len

@@ -17,8 +17,30 @@ pub record Said : Type 0 where
 
 -- what a packet says that owns its name
 abbrev pub said : Packet → Said
-said p = record { kind = p.kind; token = p.token; dev = p.dev; ino = p.ino; uid = p.uid; gid = p.gid; pid = p.pid; tgid = p.tgid; name = p.name }
+said p =
+    record {
+      kind = p.kind;
+      token = p.token;
+      dev = p.dev;
+      ino = p.ino;
+      uid = p.uid;
+      gid = p.gid;
+      pid = p.pid;
+      tgid = p.tgid;
+      name = p.name;
+    }
 
 -- what a packet says whose name is where it was read
 abbrev pub said_of : PacketRef → Said
-said_of p = record { kind = p.kind; token = p.token; dev = p.dev; ino = p.ino; uid = p.uid; gid = p.gid; pid = p.pid; tgid = p.tgid; name = p.name.now }
+said_of p =
+    record {
+      kind = p.kind;
+      token = p.token;
+      dev = p.dev;
+      ino = p.ino;
+      uid = p.uid;
+      gid = p.gid;
+      pid = p.pid;
+      tgid = p.tgid;
+      name = p.name.now;
+    }

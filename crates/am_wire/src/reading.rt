@@ -2,7 +2,8 @@
 
 ghost use Rattle.std.specs.Prelude.{◌≡◌, ◌≤◌, ◌+◌, length, take, drop, true, IfOk, IfErr};
 ghost use Rattle.am_wire.specs.Said.{Said, said_of};
-ghost use Rattle.am_wire.specs.Format.{IsPacket, IsOnlyPacket, IsNoPacket, FailsFirst, has_length, may_have_length, may_have_name};
+ghost use Rattle.am_wire.specs.Format.{IsPacket, IsOnlyPacket, IsNoPacket, FailsFirst};
+ghost use Rattle.am_wire.specs.Format.{has_length, may_have_length, may_have_name};
 ghost use Rattle.am_wire.specs.Head.{IsHead};
 
 use crate::fault::WireFault;

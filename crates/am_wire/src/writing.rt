@@ -75,8 +75,8 @@ pub fn is_writable(packet: &Packet) -> bool
 /// packet of the format, and its first 300 bytes, are read as that packet.
 pub fn write(packet: &Packet, out: &mut [u8; 304])
     ensures bytes { out.new ≡ canonical (said packet.now) }
-    ensures back { IsWritable (said packet.now) → IsPacket (said packet.now) out.new }
-    ensures back_300 { IsWritable (said packet.now) → IsPacket (said packet.now) (take 300 out.new) }
+    ensures whole { IsWritable (said packet.now) → IsPacket (said packet.now) out.new }
+    ensures cut { IsWritable (said packet.now) → IsPacket (said packet.now) (take 300 out.new) }
 {
     let head = head_of(packet);
     write_head(head, out);

@@ -1,0 +1,5 @@
+pub mod WalkLemmas
+pub mod RowLemmas
+pub mod BeginLemmas
+pub mod EventLemmas
+pub mod Runs

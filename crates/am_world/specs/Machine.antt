@@ -43,7 +43,8 @@ use Rattle.am_world.specs.declared.walk.Stop.TheVariants as stops
 use Rattle.am_world.specs.State.{State, opening_of}
 use Rattle.am_world.specs.Kernel.Sites.{root_of, autofs_at, autofs_of, is_current}
 use Rattle.am_world.specs.Kernel.Walks.{Scene, Walked, walk_of, position_of}
-use Rattle.am_world.specs.Kernel.Waits.{Begin, arrived, joined, notified, collected, answered, releases, passes, touched, wait_of, walker_of, token_of, queued_of, missing_packet}
+use Rattle.am_world.specs.declared.walk.Begin.{Begin}
+use Rattle.am_world.specs.Kernel.Waits.{arrived, joined, notified, collected, answered, releases, passes, touched, wait_of, walker_of, token_of, queued_of, missing_packet}
 use Rattle.am_world.specs.Kernel.Calls.{greatest_u32, attach_refusal, attached, mkdir_refusal, with_directory, rmdir_refusal, without_directory, location_of, mount_refusal, mounted_on, answer_refusal}
 use Rattle.am_world.specs.Daemon.Book.{record_of, recorded, with_record, holds}
 use Rattle.am_world.specs.Daemon.Jobs.{has_entry, missing_plan, is_reply, reply_after, job_of, with_left, without_job}
@@ -62,8 +63,8 @@ abbrev pub with_kernel : KernelState → State → State
 with_kernel k s = record s { kernel = k }
 
 -- the moment of an event: its own, or the latest so far
-abbrev pub moment : State → ℕ → ℕ
-moment s now = max s.latest now
+abbrev pub moment_of : State → ℕ → ℕ
+moment_of s now = max s.latest now
 
 -- ---- attach: the autofs of the master's point is mounted there, and the daemon attaches to it
 
@@ -102,7 +103,7 @@ attached_at (Ok at) s path =
 -- a point of the master; not attached yet; a path of namespace 0
 abbrev pub attach_outcome : State → List (List ℕ) → Outcome
 attach_outcome s path =
-    if not (same_names path s.opening.point) then refused s ENOENT
+    if not (same_names s.opening.point path) then refused s ENOENT
     else if is_known s.daemon.known path then refused s EEXIST
     else attached_at (position_of (scene_of s.kernel) 0 path) s path
 
@@ -117,14 +118,14 @@ abbrev pub arrives : State → Begin → Position → List Trigger → Outcome
 arrives s begin at passed = record {
   answer = answers.At at;
   seen = passes begin.walker passed ++ seen.Entered begin.walker at.mount ∷ [];
-  state = record s { kernel = arrived begin at.mount passed s.kernel; latest = begin.now };
+  state = record s { kernel = arrived begin at.mount passed s.kernel; latest = begin.moment };
 }
 
 abbrev pub joins : State → Begin → OpenToken → List Trigger → Outcome
 joins s begin row passed = record {
   answer = answers.Wait row.token;
   seen = passes begin.walker passed ++ seen.Waits begin.walker row.token ∷ [];
-  state = record s { kernel = joined begin row passed s.kernel; latest = begin.now };
+  state = record s { kernel = joined begin row passed s.kernel; latest = begin.moment };
 }
 
 abbrev pub is_full : State → Bool
@@ -141,7 +142,7 @@ notifies s begin trigger attach passed =
     record {
       answer = answers.Wait token;
       seen = passes begin.walker passed ++ seen.Queued token attach (missing_packet token begin.walker trigger) ∷ seen.Waits begin.walker token ∷ [];
-      state = record s { kernel = notified begin trigger attach passed s.kernel; latest = begin.now };
+      state = record s { kernel = notified begin trigger attach passed s.kernel; latest = begin.moment };
     }
 
 abbrev pub current_of : Option AutofsRow → Option ℕ
@@ -173,11 +174,14 @@ abbrev pub or_refused : State → Begun → Outcome
 or_refused s (Goes done) = done
 or_refused s (Fails e) = refused s e
 
+abbrev pub is_busy : List WalkerRow → ℕ → Bool
+is_busy walkers walker = list_any (λ row. row.walker == walker) walkers
+
 -- the walker is idle
 abbrev pub walk_outcome : State → ℕ → ℕ → List (List ℕ) → ℕ → Outcome
 walk_outcome s walker ns path now =
-    if is_some (walker_of s.kernel.walkers walker) then refused s EINVAL
-    else or_refused s (begun s (record { walker = walker; ns = ns; path = path; begins = 1; now = moment s now }))
+    if is_busy s.kernel.walkers walker then refused s EINVAL
+    else or_refused s (begun s (record { walker = walker; ns = ns; path = path; begins = 1; moment = moment_of s now }))
 
 -- ---- the next event of a walker that waits
 
@@ -193,11 +197,11 @@ or_failed s now (Fails e) = failed s now e
 abbrev pub most_begins : ℕ
 most_begins = 40
 
--- the walk begins again from its first name; own: the 41st time it doesn't
+-- the walk begins once more from its first name; own: the 41st time it doesn't
 abbrev pub again : State → Begin → Outcome
 again s begin =
-    if nat_lt most_begins begin.begins then failed s begin.now ELOOP
-    else or_failed s begin.now (begun s begin)
+    if nat_le most_begins begin.begins then failed s begin.moment ELOOP
+    else or_failed s begin.moment (begun s (record begin { begins = begin.begins + 1 }))
 
 -- the wait is collected; one on an expiry sets the last use of its trigger
 abbrev pub collected_at : TokenKind → State → WaitRow → ℕ → State
@@ -205,14 +209,14 @@ collected_at Missing s row now = with_kernel (collected row.walker s.kernel) s
 collected_at Expire s row now =
     with_kernel (record (collected row.walker s.kernel) { uses = touched row.trigger now s.kernel.uses }) s
 
-abbrev pub next_begin : WaitRow → ℕ → List (List ℕ) → ℕ → ℕ → Begin
-next_begin row ns path begins now = record { walker = row.walker; ns = ns; path = path; begins = begins + 1; now = now }
+abbrev pub last_begin : WaitRow → ℕ → List (List ℕ) → ℕ → ℕ → Begin
+last_begin row ns path begins now = record { walker = row.walker; ns = ns; path = path; begins = begins; moment = now }
 
 -- a wait on a pending mount that failed fails; any other lets the walk begin again
 abbrev pub resumed_as : TokenKind → Status → State → WaitRow → ℕ → List (List ℕ) → ℕ → ℕ → Outcome
 resumed_as Missing Fail s row ns path begins now = failed (collected_at Missing s row now) now ENOENT
-resumed_as Missing Ready s row ns path begins now = again (collected_at Missing s row now) (next_begin row ns path begins now)
-resumed_as Expire status s row ns path begins now = again (collected_at Expire s row now) (next_begin row ns path begins now)
+resumed_as Missing Ready s row ns path begins now = again (collected_at Missing s row now) (last_begin row ns path begins now)
+resumed_as Expire status s row ns path begins now = again (collected_at Expire s row now) (last_begin row ns path begins now)
 
 abbrev pub resumed_doing : Doing → Status → State → WaitRow → ℕ → Outcome
 resumed_doing (Waiting ns path begins) status s row now = resumed_as row.kind status s row ns path begins now
@@ -232,7 +236,7 @@ resumed_at (Some row) s now = resumed_by row.status s row now
 
 -- the walker waits; its token is acknowledged
 abbrev pub resume_outcome : State → ℕ → ℕ → Outcome
-resume_outcome s walker now = resumed_at (wait_of s.kernel.waits walker) s (moment s now)
+resume_outcome s walker now = resumed_at (wait_of s.kernel.waits walker) s (moment_of s now)
 
 -- ---- the daemon takes a packet from the pipe
 
@@ -263,17 +267,24 @@ takes_with s row trigger acts =
       };
     }
 
+-- the plan for a packet that asks for a mount on this trigger
+abbrev pub plan_of : State → Trigger → ActsLeft
+plan_of s trigger = missing_plan (is_some (record_of s.daemon.book trigger)) (has_entry s.opening.keys trigger.name)
+
 -- a job begins with its plan, and the record says so
 abbrev pub takes : State → QueuedRow → Outcome
 takes s row =
     let trigger = named_in row.packet in
-    takes_with s row trigger (missing_plan (is_some (record_of s.daemon.book trigger)) (has_entry s.opening.keys trigger.name))
+    takes_with s row trigger (plan_of s trigger)
+
+-- the packet is that of the row, and the daemon holds the row's attachment
+abbrev pub may_take : State → QueuedRow → Option (List ℕ) → Bool
+may_take s row bytes = has_bytes bytes row.packet && holds s.daemon.held row.packet.dev row.attach
 
 abbrev pub delivered_at : Option QueuedRow → State → Option (List ℕ) → Outcome
 delivered_at None s bytes = refused s Stranger
 delivered_at (Some row) s bytes =
-    if has_bytes bytes row.packet && holds s.daemon.held row.packet.dev row.attach then takes s row
-    else refused s Stranger
+    if may_take s row bytes then takes s row else refused s Stranger
 
 -- a packet of this token is queued, with these bytes, under the attachment that the daemon holds
 abbrev pub deliver_outcome : State → ℕ → Option (List ℕ) → Outcome
@@ -385,6 +396,10 @@ abbrev pub record_outcome : State → Trigger → Outcome
 record_outcome s trigger =
     if not (is_trigger_of (autofs_of s.kernel.autofs trigger.fs) trigger.name) then refused s EINVAL
     else record { answer = answers.Record (record_of s.daemon.book trigger); seen = []; state = s }
+
+-- the bytes of a queued packet
+abbrev pub packet_bytes : QueuedRow → List ℕ
+packet_bytes row = canonical (said row.packet)
 
 -- ---- a step
 

@@ -2,10 +2,22 @@
 #![tactic(auto)]
 
 pub mod answer;
+mod begin;
+mod calls;
+mod daemon;
 pub mod event;
+mod handle;
+mod kernel;
+mod reach;
+mod resolve;
+mod rows;
 mod sites;
+mod tables;
+mod twice;
 pub mod walk;
+pub mod world;
 
 pub use am_state::{Obs, Record};
 pub use answer::Answer;
 pub use event::Event;
+pub use world::{Ran, World, run};

@@ -1,9 +1,11 @@
 //! Mounts and mount traps that are looked for.
 
 ghost use Rattle.std.specs.Prelude.{◌≡◌};
-ghost use Rattle.am_world.specs.Kernel.Sites.{is_position, top_at, root_of, fs_of, autofs_of, autofs_at, trigger_in, is_made, is_current, is_attached, is_number};
+ghost use Rattle.am_names.specs.Path.{same_names};
+ghost use Rattle.am_world.specs.Machine.{current_of};
+ghost use Rattle.am_world.specs.Kernel.Sites.{is_position, top_at, root_of, fs_of, autofs_of, autofs_at, trigger_in, place_of, is_made, is_current, is_attached, is_number};
 
-use am_names::{Attach, FsId, MountId, MountRow, NsId, Place, Position, Trigger};
+use am_names::{Attach, FsId, MountId, MountRow, NsId, Place, Position, Trigger, split_first_name};
 use am_state::AutofsRow;
 
 fn is_position(mount: MountId, place: &Place, at: &Option<Position>) -> bool
@@ -23,6 +25,39 @@ pub fn top_at(mounts: &[MountRow], mount: MountId, place: &Place) -> Option<Moun
         .iter()
         .rev()
         .find(|row| is_position(mount, place, &row.mountpoint))
+        .map(|row| row.mount)
+}
+
+/// Whether this is the place of the trigger in each mount of its file system.
+fn is_place_of(trigger: &Trigger, place: &Place) -> bool
+    ensures { result ≡ same_names place.now (place_of trigger.now) }
+{
+    match (&trigger.name, split_first_name(place.text())) {
+        (None, None) => true,
+        (Some(name), Some((first, below))) => {
+            first.as_bytes() == name.as_bytes() && split_first_name(below).is_none()
+        }
+        (None, Some(_)) | (Some(_), None) => false,
+    }
+}
+
+fn is_on(mount: MountId, trigger: &Trigger, at: &Option<Position>) -> bool
+    ensures { result ≡ is_position mount (place_of trigger.now) at.now }
+{
+    match at {
+        None => false,
+        Some(at) => at.mount == mount && is_place_of(trigger, &at.place),
+    }
+}
+
+/// The most recently mounted one on a trigger, at this mount of its file system.
+pub fn top_on(mounts: &[MountRow], mount: MountId, trigger: &Trigger) -> Option<MountId>
+    ensures { result ≡ top_at mounts.now mount (place_of trigger.now) }
+{
+    mounts
+        .iter()
+        .rev()
+        .find(|row| is_on(mount, trigger, &row.mountpoint))
         .map(|row| row.mount)
 }
 
@@ -84,4 +119,27 @@ fn is_number(current: Option<Attach>, attach: Attach) -> bool
         None => false,
         Some(current) => current == attach,
     }
+}
+
+/// The place at a trigger: the root of a direct one, a name in the root of an indirect one.
+pub fn trigger_in(row: &AutofsRow, place: &Place) -> Option<Trigger>
+    ensures { result ≡ trigger_in row.now place.now }
+{
+    let Some((name, below)) = split_first_name(place.text()) else {
+        return if row.direct { Some(Trigger { fs: row.fs, name: None }) } else { None };
+    };
+    if row.direct || split_first_name(below).is_some() {
+        return None;
+    }
+    Some(Trigger {
+        fs: row.fs,
+        name: Some(name),
+    })
+}
+
+/// The current attachment of a file system; none in catatonic mode.
+pub fn attach_of(autofs: &[AutofsRow], fs: FsId) -> Option<Attach>
+    ensures { result ≡ current_of (autofs_of autofs.now fs) }
+{
+    autofs_of(autofs, fs)?.attach
 }

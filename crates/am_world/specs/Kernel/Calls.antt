@@ -1,6 +1,7 @@
 -- What the daemon asks of the kernel: the tests of each call in their order, and what it leaves.
 use Rattle.std.specs.Prelude.{ℕ, ◌+◌, ◌==◌, nat_le, Bool, true, false, ◌&&◌, ◌||◌, not, is_some, is_none, List, [], ◌∷◌, ◌++◌, filter, Option, Some, None, if◌then◌else◌}
 use Rattle.std.specs.List.{list_any}
+use Rattle.std.specs.Option.{option_map}
 use Rattle.am_names.specs.Trigger.{same_trigger}
 use Rattle.am_names.specs.declared.errno.Errno.{Errno}
 use Rattle.am_names.specs.declared.errno.Errno.TheVariants.{ENOENT, EPERM, EBUSY, EEXIST, EINVAL, ENOSPC}
@@ -13,7 +14,7 @@ use Rattle.am_names.specs.declared.row.Position.{Position}
 use Rattle.am_state.specs.declared.kernel_row.AutofsRow.{AutofsRow}
 use Rattle.am_state.specs.KernelState.{KernelState}
 use Rattle.am_world.specs.State.{private_row}
-use Rattle.am_world.specs.Kernel.Sites.{top_at, place_of, is_made, is_current, autofs_of}
+use Rattle.am_world.specs.Kernel.Sites.{top_at, place_of, is_made, is_current, is_number, autofs_of}
 use Rattle.am_world.specs.Kernel.Waits.{token_of}
 
 -- the greatest number of a file system or an attachment
@@ -64,10 +65,12 @@ mkdir_refusal k attach trigger =
 abbrev pub with_directory : Trigger → KernelState → KernelState
 with_directory trigger k = record k { made = k.made ++ trigger ∷ [] }
 
+abbrev pub is_below : List MountRow → Trigger → MountRow → Bool
+is_below mounts trigger row = row.fs == trigger.fs && is_some (top_at mounts row.mount (place_of trigger))
+
 -- something is mounted on the trigger, at some mount of its file system
 abbrev pub is_mounted_on : List MountRow → Trigger → Bool
-is_mounted_on mounts trigger =
-    list_any (λ row. row.fs == trigger.fs && is_some (top_at mounts row.mount (place_of trigger))) mounts
+is_mounted_on mounts trigger = list_any (λ row. is_below mounts trigger row) mounts
 
 -- the attachment is current, the autofs is indirect, the directory is made, and nothing is
 -- mounted on it anywhere (own)
@@ -112,13 +115,13 @@ mounted_on location trigger k =
 
 -- ---- acknowledging a notification
 
-abbrev pub is_open_of : Option OpenToken → ℕ → Bool
-is_open_of None fs = false
-is_open_of (Some row) fs = row.trigger.fs == fs
+-- the file system of an open token
+abbrev pub token_fs : List OpenToken → ℕ → Option ℕ
+token_fs tokens token = option_map (λ row. row.trigger.fs) (token_of tokens token)
 
 -- the attachment is current; the token is open and of its file system
 abbrev pub answer_refusal : KernelState → ℕ → ℕ → ℕ → Option Errno
 answer_refusal k attach fs token =
     if not (is_current k.autofs fs attach) then Some EPERM
-    else if not (is_open_of (token_of k.tokens token) fs) then Some EINVAL
+    else if not (is_number (token_fs k.tokens token) fs) then Some EINVAL
     else None

@@ -18,6 +18,7 @@ use Rattle.am_state.specs.declared.kernel_row.Doing.TheVariants.{Waiting, Inside
 use Rattle.am_state.specs.declared.obs.Obs.{Obs}
 use Rattle.am_state.specs.declared.obs.Obs.TheVariants as seen
 use Rattle.am_state.specs.KernelState.{KernelState}
+use Rattle.am_world.specs.declared.walk.Begin.{Begin}
 
 -- ---- when a trigger was last used
 
@@ -58,22 +59,13 @@ queued_of queue token = find (λ row. row.token == token) queue
 
 -- ---- what a walk leaves
 
--- who walks, where to, and when
-pub record Begin : Type 0 where
-  pub walker : ℕ
-  pub ns : ℕ
-  pub path : List (List ℕ)
-  -- how many walks it began on this path, with this one
-  pub begins : ℕ
-  pub now : ℕ
-
 abbrev pub passes : ℕ → List Trigger → List Obs
 passes walker triggers = map (λ trigger. seen.Passed walker trigger) triggers
 
 -- the walker is inside the mount
 abbrev pub arrived : Begin → ℕ → List Trigger → KernelState → KernelState
 arrived begin mount passed k = record k {
-  uses = all_touched passed begin.now k.uses;
+  uses = all_touched passed begin.moment k.uses;
   walkers = with_walker (record { walker = begin.walker; doing = Inside mount }) k.walkers;
 }
 
@@ -84,18 +76,21 @@ waiting begin token trigger kind k = record k {
   walkers = with_walker (record { walker = begin.walker; doing = Waiting begin.ns begin.path begin.begins }) k.walkers;
 }
 
+abbrev pub joined_row : OpenToken → ℕ → OpenToken
+joined_row row walker = record row { waiters = row.waiters ++ walker ∷ [] }
+
 -- the walker is the last in the row of waiters of this token
 abbrev pub with_waiter : ℕ → ℕ → List OpenToken → List OpenToken
 with_waiter token walker [] = []
 with_waiter token walker (row ∷ tokens) =
-    if row.token == token then (record row { waiters = row.waiters ++ walker ∷ [] }) ∷ tokens
+    if row.token == token then joined_row row walker ∷ tokens
     else row ∷ with_waiter token walker tokens
 
 -- the walker joins those that wait on an open token
 abbrev pub joined : Begin → OpenToken → List Trigger → KernelState → KernelState
 joined begin row passed k =
     waiting begin row.token row.trigger row.kind (record k {
-      uses = all_touched passed begin.now k.uses;
+      uses = all_touched passed begin.moment k.uses;
       tokens = with_waiter row.token begin.walker k.tokens;
     })
 
@@ -124,7 +119,7 @@ abbrev pub notified : Begin → Trigger → ℕ → List Trigger → KernelState
 notified begin trigger attach passed k =
     let token = k.last_token + 1 in
     waiting begin token trigger Missing (record k {
-      uses = touched trigger begin.now (all_touched passed begin.now k.uses);
+      uses = touched trigger begin.moment (all_touched passed begin.moment k.uses);
       tokens = k.tokens ++ (record { token = token; trigger = trigger; kind = Missing; waiters = begin.walker ∷ [] }) ∷ [];
       queue = k.queue ++ (record { token = token; attach = attach; packet = missing_packet token begin.walker trigger }) ∷ [];
       last_token = token;

@@ -1,6 +1,6 @@
 -- A walk along a path, and what it meets at a mount trap (autofs.rst, "Mount Traps").
-use Rattle.std.specs.Prelude.{ℕ, suc, zero, ◌==◌, Bool, true, false, ◌&&◌, not, is_some, is_none, List, [], ◌∷◌, ◌++◌, length, Option, Some, None, Result, Ok, Err, find, if◌then◌else◌}
-use Rattle.std.specs.List.{list_any}
+use Rattle.std.specs.Prelude.{ℕ, suc, zero, ◌+◌, ◌==◌, Bool, true, false, ◌&&◌, ◌||◌, not, is_some, is_none, List, [], ◌∷◌, ◌++◌, length, Option, Some, None, Result, Ok, Err, find, if◌then◌else◌}
+use Rattle.std.specs.Option.{option_map}
 use Rattle.am_names.specs.Trigger.{same_trigger}
 use Rattle.am_names.specs.declared.errno.Errno.{Errno}
 use Rattle.am_names.specs.declared.errno.Errno.TheVariants.{ENOENT, ELOOP}
@@ -11,6 +11,8 @@ use Rattle.am_names.specs.declared.row.OpenToken.{OpenToken}
 use Rattle.am_names.specs.declared.row.TokenKind.{TokenKind}
 use Rattle.am_names.specs.declared.row.TokenKind.TheVariants.{Missing, Expire}
 use Rattle.am_state.specs.declared.kernel_row.AutofsRow.{AutofsRow}
+use Rattle.am_world.specs.declared.walk.Next.{Next}
+use Rattle.am_world.specs.declared.walk.Next.TheVariants as nexts
 use Rattle.am_world.specs.declared.walk.Stop.{Stop}
 use Rattle.am_world.specs.declared.walk.Stop.TheVariants as stops
 use Rattle.am_world.specs.Kernel.Sites.{top_at, root_of, autofs_at, trigger_in, place_of, is_made}
@@ -38,62 +40,71 @@ same_kind Expire Expire = true
 same_kind Missing Expire = false
 same_kind Expire Missing = false
 
+abbrev pub is_open_on : TokenKind → Trigger → OpenToken → Bool
+is_open_on kind trigger row = same_trigger row.trigger trigger && same_kind row.kind kind
+
 -- the open token of this kind for a trigger
-abbrev pub open_on : List OpenToken → TokenKind → Trigger → Option OpenToken
-open_on tokens kind trigger = find (λ row. same_trigger row.trigger trigger && same_kind row.kind kind) tokens
+abbrev pub open_on : List OpenToken → TokenKind → Trigger → Option ℕ
+open_on tokens kind trigger = option_map (λ row. row.token) (find (λ row. is_open_on kind trigger row) tokens)
 
-abbrev pub if_open : Option OpenToken → List Trigger → Visit → Visit
-if_open (Some row) passed others = Stops (stops.Block row.token) passed
-if_open None passed others = others
+abbrev pub if_open : Option ℕ → Next → Next
+if_open (Some token) others = nexts.Halts (stops.Block token)
+if_open None others = others
 
-abbrev pub if_mounted : Option ℕ → (ℕ → Visit) → Visit → Visit
-if_mounted (Some mount) enter others = enter mount
-if_mounted None enter others = others
+abbrev pub if_mounted : Option ℕ → Trigger → Next → Next
+if_mounted (Some mount) trigger others = nexts.Passes mount trigger
+if_mounted None trigger others = others
 
 -- Catatonic mode: the directory itself, if it is made, or the direct root itself
 -- (autofs.rst, "Catatonic mode").
-abbrev pub at_catatonic : Scene → AutofsRow → Trigger → ℕ → List (List ℕ) → List Trigger → Visit
-at_catatonic scene row trigger mount place passed =
-    if row.direct then Stands mount place passed
-    else if is_made scene.made trigger then Stands mount place passed
-    else Stops (stops.Refuse ENOENT) passed
+abbrev pub at_catatonic : Scene → AutofsRow → Trigger → Next
+at_catatonic scene row trigger =
+    if row.direct || is_made scene.made trigger then nexts.Rests else nexts.Halts (stops.Refuse ENOENT)
 
 -- At a trigger the first of these holds: it is expiring, and the walk waits; a mount is pending,
 -- and the walk waits; something is mounted here, and the walk passes; the file system is
 -- catatonic; own: something is mounted at the daemon's mount alone, ELOOP; else the daemon is notified.
-abbrev pub at_trigger : Scene → AutofsRow → Trigger → ℕ → List (List ℕ) → List Trigger → (ℕ → Visit) → Visit
-at_trigger scene row trigger mount place passed enter =
-    if_open (open_on scene.tokens Expire trigger) passed
-    (if_open (open_on scene.tokens Missing trigger) passed
-    (if_mounted (top_at scene.mounts mount place) enter
-    (if is_none row.attach then at_catatonic scene row trigger mount place passed
-    else if is_some (top_at scene.mounts row.location (place_of trigger)) then Stops (stops.Refuse ELOOP) passed
-    else Stops (stops.Missing trigger) passed)))
+abbrev pub at_trigger : Scene → AutofsRow → Trigger → ℕ → List (List ℕ) → Next
+at_trigger scene row trigger mount place =
+    if_open (open_on scene.tokens Expire trigger)
+    (if_open (open_on scene.tokens Missing trigger)
+    (if_mounted (top_at scene.mounts mount place) trigger
+    (if is_none row.attach then at_catatonic scene row trigger
+    else if is_some (top_at scene.mounts row.location (place_of trigger)) then nexts.Halts (stops.Refuse ELOOP)
+    else nexts.Halts (stops.Missing trigger))))
 
 -- a place that is no trigger: what is mounted there is entered
-abbrev pub at_plain : Scene → ℕ → List (List ℕ) → List Trigger → (ℕ → List Trigger → Visit) → Visit
-at_plain scene mount place passed enter =
-    if_mounted (top_at scene.mounts mount place) (λ m. enter m passed) (Stands mount place passed)
+abbrev pub at_plain : Option ℕ → Next
+at_plain (Some mount) = nexts.Enters mount
+at_plain None = nexts.Rests
 
-abbrev pub at_autofs : Scene → AutofsRow → Option Trigger → ℕ → List (List ℕ) → List Trigger → (ℕ → List Trigger → Visit) → Visit
-at_autofs scene row None mount place passed enter = at_plain scene mount place passed enter
-at_autofs scene row (Some trigger) mount place passed enter =
-    at_trigger scene row trigger mount place passed (λ m. enter m (passed ++ trigger ∷ []))
+abbrev pub at_autofs : Scene → AutofsRow → Option Trigger → ℕ → List (List ℕ) → Next
+at_autofs scene row None mount place = at_plain (top_at scene.mounts mount place)
+at_autofs scene row (Some trigger) mount place = at_trigger scene row trigger mount place
 
-abbrev pub at_site : Scene → Option AutofsRow → ℕ → List (List ℕ) → List Trigger → (ℕ → List Trigger → Visit) → Visit
-at_site scene None mount place passed enter = at_plain scene mount place passed enter
-at_site scene (Some row) mount place passed enter =
-    at_autofs scene row (trigger_in row place) mount place passed enter
+abbrev pub at_site : Scene → Option AutofsRow → ℕ → List (List ℕ) → Next
+at_site scene None mount place = at_plain (top_at scene.mounts mount place)
+at_site scene (Some row) mount place = at_autofs scene row (trigger_in row place) mount place
+
+-- what a walk meets at a place
+abbrev pub next_at : Scene → ℕ → List (List ℕ) → Next
+next_at scene mount place = at_site scene (autofs_at scene.mounts scene.autofs mount) mount place
+
+abbrev pub followed : Next → ℕ → List (List ℕ) → List Trigger → (ℕ → List Trigger → Visit) → Visit
+followed nexts.Rests mount place passed enter = Stands mount place passed
+followed (nexts.Halts stop) mount place passed enter = Stops stop passed
+followed (nexts.Enters below) mount place passed enter = enter below passed
+followed (nexts.Passes below trigger) mount place passed enter = enter below (passed ++ trigger ∷ [])
 
 -- Where the walk comes to rest at a place, or stops: mounts are entered one on another. A mount's
 -- number is above that of the mount under it, so as many steps as there are mounts are enough.
 abbrev pub visited : ℕ → Scene → ℕ → List (List ℕ) → List Trigger → Visit
 visited zero scene mount place passed = Stands mount place passed
 visited (suc steps) scene mount place passed =
-    at_site scene (autofs_at scene.mounts scene.autofs mount) mount place passed (λ m gs. visited steps scene m [] gs)
+    followed (next_at scene mount place) mount place passed (λ m gs. visited steps scene m [] gs)
 
 abbrev pub visit : Scene → ℕ → List (List ℕ) → List Trigger → Visit
-visit scene mount place passed = visited (suc (length scene.mounts)) scene mount place passed
+visit scene mount place passed = visited (length scene.mounts + 1) scene mount place passed
 
 -- A plain file system has every name as a directory (own). Below an autofs there are names at
 -- the root of an indirect one alone, since nothing is mounted where the walk stands.
@@ -147,11 +158,11 @@ reached scene (name ∷ names) at =
     let below = at.place ++ name ∷ [] in
     if not (has_names row at.place) then Err ENOENT
     else if is_missing scene row at.mount below then Err ENOENT
-    else reached scene names (entered (suc (length scene.mounts)) scene.mounts at.mount below)
+    else reached scene names (entered (length scene.mounts + 1) scene.mounts at.mount below)
 
 abbrev pub reached_from : Scene → List (List ℕ) → Option ℕ → Result Position Errno
 reached_from scene names None = Err ENOENT
-reached_from scene names (Some root) = reached scene names (entered (suc (length scene.mounts)) scene.mounts root [])
+reached_from scene names (Some root) = reached scene names (entered (length scene.mounts + 1) scene.mounts root [])
 
 abbrev pub position_of : Scene → ℕ → List (List ℕ) → Result Position Errno
 position_of scene ns names = reached_from scene names (root_of scene.mounts ns)

@@ -14,7 +14,7 @@ returns-clause-ok c =
     let sized : may_have_length c.in-Some.kind head_len ≡ true = search rules in
     record {
       long = search rules;
-      proto_version = h.proto_version ∙ c.if-head-ne5.false;
+      proto_version = omega arith;
       kind = h.kind ∙ kind_read_is _ _ (sym c.in-Some.ensures);
       token = h.token;
       dev = h.dev;

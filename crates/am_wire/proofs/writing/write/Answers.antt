@@ -1,11 +1,10 @@
-use Rattle.std.proofs.Common.{◌≡◌, ◌+◌, ◌++◌, ◌∷◌, [], ◌∙◌, subst, ℕ, length, take, drop, refl, ap, arith}
+use Rattle.std.proofs.Common.{◌≡◌, ◌+◌, ◌++◌, ◌∷◌, [], ◌∙◌, subst, ℕ, length, take, drop, refl, arith}
 use Rattle.std.specs.Prelude.{List}
 use Rattle.std.proofs.lemmas.List.{append-nil, length-append}
 use Rattle.std.proofs.Math.ListN.{drop_of_length-le}
 use Rattle.am_wire.specs.declared.head.Head.{Head}
 use Rattle.am_wire.specs.Head.{head_bytes, head_of, HasFittingNumbers}
 use Rattle.am_wire.specs.Said.{said}
-use Rattle.am_wire.specs.Format.{canonical}
 use Rattle.am_wire.specs.Stored.{padded}
 use Rattle.am_names.proofs.Puts.{next}
 use Rattle.am_wire.proofs.FormatLemmas.{canonical_reads_back, canonical_300_reads_back}
@@ -24,15 +23,15 @@ returns-clause-bytes c =
     let nothing : drop 304 out ≡ [] = drop_of_length-le out {i = 304} (omega (arith, c.told-out)) in
     third ∙ rw (nothing, c.padded.ensures.bytes) (append-nil _)
 
-pub returns-clause-back : goal.returns-clause-back
-returns-clause-back c =
+pub returns-clause-whole : goal.returns-clause-whole
+returns-clause-whole c =
     let p = said c.args.packet.now in
     let long : length (padded p.name) ≡ 256 = subst (λ (name : List ℕ). length name ≡ 256) c.padded.ensures.bytes c.padded.ensures.long in
     let fits : HasFittingNumbers (head_of p) = subst HasFittingNumbers c.head_of-head.ensures c.write_head.ensures.fitting in
     canonical_reads_back p c.write_bytes-2.new.out (returns-clause-bytes c) long fits
 
-pub returns-clause-back_300 : goal.returns-clause-back_300
-returns-clause-back_300 c =
+pub returns-clause-cut : goal.returns-clause-cut
+returns-clause-cut c =
     let p = said c.args.packet.now in
     let long : length (padded p.name) ≡ 256 = subst (λ (name : List ℕ). length name ≡ 256) c.padded.ensures.bytes c.padded.ensures.long in
     let fits : HasFittingNumbers (head_of p) = subst HasFittingNumbers c.head_of-head.ensures c.write_head.ensures.fitting in

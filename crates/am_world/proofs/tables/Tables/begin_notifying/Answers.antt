@@ -1,0 +1,10 @@
+use Rattle.std.proofs.Common.{sym, subst}
+use Rattle.am_world.specs.State.{State}
+use Rattle.am_world.specs.Tables.{IsOrdered}
+use Rattle.am_world.proofs.BeginLemmas.{freed_ordered}
+use Rattle.am_world.proofs.tables.Tables.begin_notifying.Goals as goal
+
+pub notify-twice-requires-clause-ordered : goal.notify-twice-requires-clause-ordered
+notify-twice-requires-clause-ordered c =
+    let same = subst (λ (s : State). IsOrdered s.kernel) (sym c.make_room.ensures.same) c.requires.ordered in
+    subst (λ (s : State). IsOrdered s.kernel) (sym c.free.ensures.left) (freed_ordered _ _ _ same)
