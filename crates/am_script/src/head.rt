@@ -119,9 +119,9 @@ pub fn section_of(part: &Part) -> Option<u64>
     ensures { result ≡ section_of part.now }
 {
     match *part {
-        Part::Master { first } | Part::Listed { first, .. } | Part::Map { first, .. } => Some(
-            first,
-        ),
+        Part::Master { first } => Some(first),
+        Part::Listed { first, .. } => Some(first),
+        Part::Map { first, .. } => Some(first),
         _ => None,
     }
 }

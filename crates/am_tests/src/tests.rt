@@ -1,10 +1,9 @@
 //! Faults, each at its line, with the answers before it kept; readers, writers and allocations
 //! that fail.
 
-use am_script::{ScriptFault, ScriptFaultKind, run_script};
+use am_script::{ScriptFault, ScriptFaultKind, Summary, run_script};
 use std::alloc::Global;
 use std::io::{self, Read, Write};
-use std::process::Abort;
 use std::test::Fail;
 
 const HEAD: &[u8] = b"master\n/auto auto.home\nend\nmap auto.home\nhome srv:/home\nend\nevents\n";
@@ -31,6 +30,39 @@ fn joined(alloc: Global, parts: &[&[u8]]) -> Result<Vec<u8>, Fail> {
 /// The head, and these lines behind `events`: 8 is the number of the first of them.
 fn with_events(alloc: Global, events: &[u8]) -> Result<Vec<u8>, Fail> {
     joined(alloc, &[HEAD, events])
+}
+
+#[test]
+fn faults_have_numbers_and_words(rt: HostRuntime) -> Result<(), Fail> {
+    for (kind, number, text) in [
+        (ScriptFaultKind::BadSection, 1, "line 5: BadSection"),
+        (ScriptFaultKind::BadLimits, 2, "line 5: BadLimits"),
+        (ScriptFaultKind::BadEvent, 6, "line 5: BadEvent"),
+        (ScriptFaultKind::LongLine, 7, "line 5: LongLine"),
+        (ScriptFaultKind::NoMemory, 8, "line 5: NoMemory"),
+        (ScriptFaultKind::ReadFailed, 9, "line 5: ReadFailed"),
+        (ScriptFaultKind::WriteFailed, 10, "line 5: WriteFailed"),
+    ] {
+        assert_eq!(rt; kind.number(), number);
+        let fault = ScriptFault { line: 5, kind };
+        assert_eq!(rt; format!(in rt.alloc(); "{fault}")?.as_str(), text);
+    }
+    Ok(())
+}
+
+#[test]
+fn lines_and_refusals_are_counted(rt: HostRuntime) -> Result<(), Fail> {
+    let script = with_events(rt.alloc(), b"# a\nattach /auto\nact 1 ok\n\nattach /auto\n")?;
+    let mut output = Vec::new(rt.alloc());
+    let summary = run_script(rt.alloc(), &mut script.as_slice(), &mut output).ok();
+    assert_eq!(rt;
+        summary,
+        Some(Summary {
+            lines: 3,
+            refused: 2
+        })
+    );
+    Ok(())
 }
 
 #[test]
