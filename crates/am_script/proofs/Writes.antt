@@ -1,0 +1,50 @@
+-- What a writer took so far.
+use Rattle.std.proofs.Common.{◌≡◌, ℕ, List, [], ◌∷◌, ◌++◌, length, take, drop, Option, Some, None, refl, sym, ap, ◌∙◌, append_assoc, subst}
+use Rattle.std.specs.Io.KnownBytes.{Appends, Keeps}
+use Rattle.std.proofs.lemmas.List.{take-append-drop, append-nil, take_at}
+use Rattle.am_script.specs.Written.{AppendsFront}
+
+-- a front of the bytes was taken, and this is left of them
+pub record Took (old new : Option (List ℕ)) (bytes rest : List ℕ) : Type 0 where
+  pub front : List ℕ
+  pub parts : bytes ≡ front ++ rest
+  pub taken : Appends old new front
+
+pub appends_more : (old mid new : Option (List ℕ)) (xs ys : List ℕ) → Appends old mid xs → Appends mid new ys → Appends old new (xs ++ ys)
+appends_more None mid new xs ys h g = tt
+appends_more (Some a) (Some b) (Some c) xs ys h g = g ∙ ap (λ (t : List ℕ). t ++ ys) h ∙ append_assoc a xs ys
+appends_more (Some a) None new xs ys h g = absurd h
+appends_more (Some a) (Some b) None xs ys h g = absurd g
+
+keeps_appends : (old new : Option (List ℕ)) → Keeps old new → Appends old new []
+keeps_appends None new h = tt
+keeps_appends (Some a) (Some b) h = h ∙ sym (append-nil a)
+keeps_appends (Some a) None h = absurd h
+
+pub appends_none : (old : Option (List ℕ)) → Appends old old []
+appends_none None = tt
+appends_none (Some a) = sym (append-nil a)
+
+pub took_more : (old mid new : Option (List ℕ)) (bytes rest : List ℕ) (n : ℕ) → Took old mid bytes rest → Appends mid new (take n rest) → Took old new bytes (drop n rest)
+took_more old mid new bytes rest n t g = record {
+  front = t.front ++ take n rest;
+  parts = t.parts ∙ ap (λ (r : List ℕ). t.front ++ r) (sym (take-append-drop n rest)) ∙ sym (append_assoc t.front (take n rest) (drop n rest));
+  taken = appends_more old mid new t.front (take n rest) t.taken g;
+}
+
+pub took_kept : (old mid new : Option (List ℕ)) (bytes rest : List ℕ) → Took old mid bytes rest → Keeps mid new → Took old new bytes rest
+took_kept old mid new bytes rest t g = record {
+  front = t.front;
+  parts = t.parts;
+  taken = subst (λ (f : List ℕ). Appends old new f) (append-nil t.front) (appends_more old mid new t.front [] t.taken (keeps_appends mid new g));
+}
+
+pub took_all : (old new : Option (List ℕ)) (bytes rest : List ℕ) → length rest ≡ 0 → Took old new bytes rest → Appends old new bytes
+took_all old new bytes [] e t = subst (λ (f : List ℕ). Appends old new f) (sym (t.parts ∙ append-nil t.front)) t.taken
+took_all old new bytes (x ∷ rest) e t = absurd cc
+
+pub took_front : (old new : Option (List ℕ)) (bytes rest : List ℕ) → Took old new bytes rest → AppendsFront old new bytes
+took_front old new bytes rest t = record {
+  taken = length t.front;
+  written = subst (λ (f : List ℕ). Appends old new f) (sym (ap (take (length t.front)) t.parts ∙ take_at t.front rest (length t.front) refl)) t.taken;
+}

@@ -1,0 +1,49 @@
+-- How answers are written.
+use Rattle.std.specs.Prelude.{ℕ, Bool, true, false, ◌==◌, List, [], ◌∷◌, ◌++◌, length, codes, decimal, Option, None, Some, if◌then◌else◌}
+use Rattle.am_names.specs.Errno.{errno_number}
+use Rattle.am_names.specs.Path.{text_of}
+use Rattle.am_state.specs.declared.daemon_row.Record.{Record}
+use Rattle.am_state.specs.declared.daemon_row.Record.TheVariants.{Mounting, Mounted, Unmounting}
+use Rattle.am_world.specs.declared.answer.Answer.{Answer}
+use Rattle.am_world.specs.declared.answer.Answer.TheVariants as answers
+
+-- the names below the mount's root, each behind a slash; the root is one slash
+abbrev pub place_text : List (List ℕ) → List ℕ
+place_text place = if length (text_of place) == 0 then codes "/" else text_of place
+
+abbrev pub record_text : Record → List ℕ
+record_text (Mounting token) = codes "mounting " ++ decimal token
+record_text (Mounted mount) = codes "mounted " ++ decimal mount
+record_text (Unmounting token mount) =
+    codes "unmounting " ++ decimal token ++ (codes " " ++ decimal mount)
+
+-- what the book says of a trigger
+abbrev pub entry_text : Option Record → List ℕ
+entry_text None = codes "none"
+entry_text (Some entry) = record_text entry
+
+abbrev pub answer_text : Answer → List ℕ
+answer_text (answers.Attached fs attach mount) =
+    codes "fs " ++ decimal fs ++ (codes " attach " ++ decimal attach ++ (codes " mount " ++ decimal mount))
+answer_text (answers.At position) =
+    codes "at " ++ decimal position.mount ++ (codes " " ++ place_text position.place)
+answer_text (answers.Wait token) = codes "wait " ++ decimal token
+answer_text (answers.Job job) = codes "job " ++ decimal job
+answer_text answers.DidMkdir = codes "did mkdir"
+answer_text (answers.DidMount mount) = codes "did mount " ++ decimal mount
+answer_text answers.DidRmdir = codes "did rmdir"
+answer_text answers.DidRecord = codes "did record"
+answer_text answers.DidReply = codes "did reply"
+answer_text answers.FailedMount = codes "failed mount"
+answer_text (answers.Record entry) = codes "record " ++ entry_text entry
+answer_text (answers.Refused errno) = codes "err " ++ decimal (errno_number errno)
+answer_text (answers.Failed errno) = codes "fail " ++ decimal (errno_number errno)
+
+-- the line that is written for an answer
+abbrev pub answer_line : Answer → List ℕ
+answer_line answer = answer_text answer ++ 10 ∷ []
+
+-- nothing was done
+abbrev pub is_refused : Answer → Bool
+is_refused (answers.Refused errno) = true
+is_refused answer = false

@@ -1,0 +1,12 @@
+pub mod Answers
+pub mod Events
+pub mod Fault
+pub mod Head
+pub mod Heading
+pub mod Lines
+pub mod Numbers
+pub mod Played
+pub mod Read
+pub mod Script
+pub mod Turns
+pub mod Written

@@ -1,0 +1,120 @@
+-- How a script is played: its answers are those of a run from its world, and their lines are
+-- what is written.
+use Rattle.std.specs.Prelude.{◌≡◌, ◌⊎◌, ℕ, List, [], ◌∷◌, ◌++◌, length, take, count_by, Option, None, Some, Result, Ok, Err}
+use Rattle.std.specs.List.{flat_map}
+use Rattle.std.specs.Io.KnownBytes.{Appends, Consumes, IsAtEnd}
+use Rattle.am_world.specs.declared.answer.Answer.{Answer}
+use Rattle.am_world.specs.State.{State, Opening, opening_of}
+use Rattle.am_world.specs.Machine.{Run}
+use Rattle.am_script.specs.declared.fault.ScriptFault.{ScriptFault}
+use Rattle.am_script.specs.declared.fault.ScriptFaultKind.{ScriptFaultKind}
+use Rattle.am_script.specs.declared.fault.ScriptFaultKind.TheVariants.{BadSection, NoMemory, WriteFailed}
+use Rattle.am_script.specs.declared.play.Summary.{Summary}
+use Rattle.am_script.specs.Answers.{answer_line, is_refused}
+use Rattle.am_script.specs.Read.{WasRead}
+use Rattle.am_script.specs.Script.{Numbered, events_in, Told, Script, fault_at, script_of}
+
+abbrev pub lines_for : List Answer → List ℕ
+lines_for answers = flat_map answer_line answers
+
+-- ---- a script with a world
+
+-- all events are answered, and nothing but the answers is written
+pub record AllAnswered (start : State) (told : Told) (old new : Option (List ℕ)) (summary : Summary) : Type 0 where
+  pub no_fault : told.fault ≡ None
+  pub answers : List Answer
+  pub last : State
+  pub run : Run start (events_in told.events) answers last
+  pub written : Appends old new (lines_for answers)
+  pub lines : summary.lines ≡ length answers
+  pub refused : summary.refused ≡ count_by is_refused answers
+
+-- the script's own fault comes behind its events, which are all answered
+pub record StopsAtFault (start : State) (told : Told) (old new : Option (List ℕ)) (fault : ScriptFault) : Type 0 where
+  pub found : told.fault ≡ Some fault
+  pub answers : List Answer
+  pub last : State
+  pub run : Run start (events_in told.events) answers last
+  pub written : Appends old new (lines_for answers)
+
+-- an answer isn't written, or not to its end
+abbrev pub IsLoss : ScriptFaultKind → Type 0
+IsLoss kind = (kind ≡ WriteFailed) ⊎ (kind ≡ NoMemory)
+
+-- the line of an answer is lost, but for a beginning; all before it are written
+pub record StopsAtEvent (start : State) (told : Told) (old new : Option (List ℕ)) (fault : ScriptFault) : Type 0 where
+  pub loss : IsLoss fault.kind
+  pub done : List Numbered
+  pub here : Numbered
+  pub others : List Numbered
+  pub parted : told.events ≡ (done ++ here ∷ []) ++ others
+  pub line : fault.line ≡ here.line
+  pub answers : List Answer
+  pub answer : Answer
+  pub last : State
+  pub run : Run start (events_in (done ++ here ∷ [])) (answers ++ answer ∷ []) last
+  pub taken : ℕ
+  pub written : Appends old new (lines_for answers ++ take taken (answer_line answer))
+
+abbrev pub Stops : State → Told → Option (List ℕ) → Option (List ℕ) → ScriptFault → Type 0
+Stops start told old new fault =
+    StopsAtFault start told old new fault ⊎ StopsAtEvent start told old new fault
+
+-- ---- a script that ends before its events
+
+pub record NothingPlayed (told : Told) (old new : Option (List ℕ)) (summary : Summary) : Type 0 where
+  pub no_fault : told.fault ≡ None
+  pub written : Appends old new []
+  pub lines : summary.lines ≡ 0
+  pub refused : summary.refused ≡ 0
+
+pub record StopsBefore (told : Told) (old new : Option (List ℕ)) (fault : ScriptFault) : Type 0 where
+  pub found : told.fault ≡ Some fault
+  pub written : Appends old new []
+
+-- ---- any script
+
+abbrev pub PlayedFrom : Option Opening → Told → Option (List ℕ) → Option (List ℕ) → Summary → Type 0
+PlayedFrom None told old new summary = NothingPlayed told old new summary
+PlayedFrom (Some opening) told old new summary = AllAnswered (opening_of opening) told old new summary
+
+-- the script is played to its end
+abbrev pub IsPlayed : Script → Option (List ℕ) → Option (List ℕ) → Summary → Type 0
+IsPlayed script old new summary = PlayedFrom script.opening script.told old new summary
+
+abbrev pub StoppedFrom : Option Opening → Told → Option (List ℕ) → Option (List ℕ) → ScriptFault → Type 0
+StoppedFrom None told old new fault = StopsBefore told old new fault
+StoppedFrom (Some opening) told old new fault = Stops (opening_of opening) told old new fault
+
+-- no memory for the head or for the world: nothing is written
+pub record RanOut (old new : Option (List ℕ)) (fault : ScriptFault) : Type 0 where
+  pub kind : fault.kind ≡ NoMemory
+  pub written : Appends old new []
+
+-- the script isn't played to its end
+abbrev pub IsStopped : Script → Option (List ℕ) → Option (List ℕ) → ScriptFault → Type 0
+IsStopped script old new fault = RanOut old new fault ⊎ StoppedFrom script.opening script.told old new fault
+
+-- ---- with a reader
+
+-- the input was read to its end, and what it says is played
+pub record PlaysInput (input rest old new : Option (List ℕ)) (summary : Summary) : Type 0 where
+  pub text : List ℕ
+  pub read : Consumes input rest text
+  pub ended : IsAtEnd rest
+  pub whole : IsPlayed (script_of None text) old new summary
+
+-- what was read, to its end or not, isn't played to its end
+pub record StopsInput (input rest old new : Option (List ℕ)) (fault : ScriptFault) : Type 0 where
+  pub text : List ℕ
+  pub broke : Option ScriptFaultKind
+  pub read : WasRead input rest text broke
+  pub stopped : IsStopped (script_of broke text) old new fault
+
+-- ---- the end of a head
+
+-- what is answered where a script ends within its head
+abbrev pub end_of_head : Option ScriptFaultKind → Option ℕ → ℕ → Result Summary ScriptFault
+end_of_head None None number = Ok (record { lines = 0; refused = 0 })
+end_of_head None (Some first) number = Err (fault_at first BadSection)
+end_of_head (Some kind) section number = Err (fault_at number kind)

@@ -1,0 +1,99 @@
+-- What the whole text of a script says: the opening of its world, its events with their lines,
+-- and its first fault.
+use Rattle.std.specs.Prelude.{ℕ, ◌+◌, List, [], ◌∷◌, map, Option, None, Some, Result, Ok, Err, if◌then◌else◌}
+use Rattle.am_world.specs.declared.event.Event.{Event}
+use Rattle.am_world.specs.State.{Opening}
+use Rattle.am_script.specs.declared.fault.ScriptFault.{ScriptFault}
+use Rattle.am_script.specs.declared.fault.ScriptFaultKind.{ScriptFaultKind}
+use Rattle.am_script.specs.declared.fault.ScriptFaultKind.TheVariants.{BadSection, BadEvent, LongLine}
+use Rattle.am_script.specs.Lines.{lines_of, words_of, is_long, are_skipped}
+use Rattle.am_script.specs.Events.{event_read}
+use Rattle.am_script.specs.Head.{section_of}
+use Rattle.am_script.specs.Heading.{HeadSoFar, no_head, Taken, GoesOn, Begins, Stops, line_taken}
+use Rattle.am_script.specs.Read.{played, broken}
+
+-- an event and the number of its line
+pub record Numbered : Type 0 where
+  pub line : ℕ
+  pub event : Event
+
+abbrev pub events_in : List Numbered → List Event
+events_in rows = map (λ row. row.event) rows
+
+-- events, and the fault behind them
+pub record Told : Type 0 where
+  pub events : List Numbered
+  pub fault : Option ScriptFault
+
+-- the opening is there if the head is whole
+pub record Script : Type 0 where
+  pub opening : Option Opening
+  pub told : Told
+
+abbrev pub fault_at : ℕ → ScriptFaultKind → ScriptFault
+fault_at line kind = record { line = line; kind = kind }
+
+abbrev pub only_fault : Option ScriptFault → Told
+only_fault fault = record { events = []; fault = fault }
+
+-- ---- the events
+
+abbrev pub event_or_fault : Option Event → Result (Option Event) ScriptFaultKind
+event_or_fault (Some event) = Ok (Some event)
+event_or_fault None = Err BadEvent
+
+-- the event of a line; a blank line and a comment have none
+abbrev pub line_read : List ℕ → Result (Option Event) ScriptFaultKind
+line_read line =
+    if is_long line then Err LongLine
+    else if are_skipped (words_of line) then Ok None
+    else event_or_fault (event_read (words_of line))
+
+-- a fault of the reading comes at the line after those that were read whole
+abbrev pub read_fault : ℕ → Option ScriptFaultKind → Option ScriptFault
+read_fault number None = None
+read_fault number (Some kind) = Some (fault_at number kind)
+
+-- a line before others; nothing behind a fault is told
+abbrev pub told_by : Result (Option Event) ScriptFaultKind → ℕ → Told → Told
+told_by (Ok None) number told = told
+told_by (Ok (Some event)) number told =
+    record told { events = (record { line = number; event = event }) ∷ told.events }
+told_by (Err kind) number told = only_fault (Some (fault_at number kind))
+
+-- these lines of events, behind so many lines
+abbrev pub events_from : Option ScriptFaultKind → ℕ → List (List ℕ) → Told
+events_from broke before [] = only_fault (read_fault before broke)
+events_from broke before (line ∷ lines) =
+    told_by (line_read line) (before + 1) (events_from broke (before + 1) lines)
+
+-- ---- the head
+
+abbrev pub without_world : Option ScriptFault → Script
+without_world fault = record { opening = None; told = only_fault fault }
+
+-- a section that doesn't end is told at its first line
+abbrev pub section_fault : Option ℕ → Option ScriptFault
+section_fault None = None
+section_fault (Some first) = Some (fault_at first BadSection)
+
+-- the text ends within the head
+abbrev pub head_ends : Option ScriptFaultKind → Option ℕ → ℕ → Script
+head_ends None section before = without_world (section_fault section)
+head_ends (Some kind) section before = without_world (Some (fault_at before kind))
+
+abbrev pub script_by : Taken → ℕ → Told → (HeadSoFar → Script) → Script
+script_by (GoesOn head) number told others = others head
+script_by (Begins opening) number told others = record { opening = Some opening; told = told }
+script_by (Stops kind) number told others = without_world (Some (fault_at number kind))
+
+-- the head so far and these lines, behind so many lines
+abbrev pub script_from : Option ScriptFaultKind → HeadSoFar → ℕ → List (List ℕ) → Script
+script_from broke head before [] = head_ends broke (section_of head.part) before
+script_from broke head before (line ∷ lines) =
+    script_by (line_taken head (before + 1) line) (before + 1) (events_from broke (before + 1) lines)
+    (λ next. script_from broke next (before + 1) lines)
+
+-- what was read of a script, up to its end or to where reading broke off
+abbrev pub script_of : Option ScriptFaultKind → List ℕ → Script
+script_of broke text = script_from (broken broke text) no_head 0 (lines_of (played broke text))

@@ -1,0 +1,91 @@
+//! One line of events is played.
+
+ghost use Rattle.std.specs.Prelude.{◌≡◌, ◌+◌, ◌<◌, ◌≤◌, ◌^◌, IfOk, IfErr};
+ghost use Rattle.am_script.specs.Script.{line_read, event_or_fault};
+ghost use Rattle.am_script.specs.Turns.{IsAnswered, IsLost, TurnDone, TurnStopped, counted};
+
+use crate::answer_line::{is_refused, push_answer};
+use crate::event_line::read_event;
+use crate::fault::ScriptFaultKind;
+use crate::line::{is_long, is_skipped};
+use crate::output::write_bytes;
+use crate::play::Summary;
+use am_world::{Event, World};
+use std::alloc::Global;
+use std::io::Write;
+
+/// Plays a line of events. It answers whether the event was refused, or none where the line is
+/// skipped.
+pub(crate) fn play_line<W: Write>(
+    alloc: Global,
+    world: &mut World,
+    line: &[u8],
+    buffer: &mut Vec<u8>,
+    writer: &mut W,
+) -> Result<Option<bool>, ScriptFaultKind>
+    ensures ok { IfOk result (TurnDone world.old (line_read line.now) world.new (W.contents writer.old) (W.contents writer.new)) }
+    ensures err { IfErr result (TurnStopped world.old (line_read line.now) world.new (W.contents writer.old) (W.contents writer.new)) }
+{
+    match read_line(line) {
+        Ok(None) => Ok(None),
+        Ok(Some(event)) => match answer_event(alloc, world, &event, buffer, writer) {
+            Ok(refused) => Ok(Some(refused)),
+            Err(kind) => Err(kind),
+        },
+        Err(kind) => Err(kind),
+    }
+}
+
+/// The event of a line, or none where the line is skipped.
+pub fn read_line(line: &[u8]) -> Result<Option<Event>, ScriptFaultKind>
+    ensures { result ≡ line_read line.now }
+{
+    if is_long(line) {
+        return Err(ScriptFaultKind::LongLine);
+    }
+    if is_skipped(line) {
+        return Ok(None);
+    }
+    match read_event(line) {
+        Some(event) => Ok(Some(event)),
+        None => Err(ScriptFaultKind::BadEvent),
+    }
+}
+
+/// Makes a step and writes the line of its answer, in one call of the writer where that takes it
+/// whole.
+fn answer_event<W: Write>(
+    alloc: Global,
+    world: &mut World,
+    event: &Event,
+    buffer: &mut Vec<u8>,
+    writer: &mut W,
+) -> Result<bool, ScriptFaultKind>
+    ensures ok { IfOk result (IsAnswered world.old event.now world.new (W.contents writer.old) (W.contents writer.new)) }
+    ensures err { IfErr result (IsLost world.old event.now world.new (W.contents writer.old) (W.contents writer.new)) }
+{
+    let answer = world.step(alloc, event);
+    buffer.clear();
+    if let Err(_) = push_answer(buffer, &answer) {
+        return Err(ScriptFaultKind::NoMemory);
+    }
+    if let Err(_) = write_bytes(writer, buffer.as_slice()) {
+        return Err(ScriptFaultKind::WriteFailed);
+    }
+    Ok(is_refused(&answer))
+}
+
+/// Counts one more line, if there is one.
+pub(crate) fn counted(summary: Summary, played: Option<bool>) -> Summary
+    requires lines { summary.lines + 1 < 2 ^ 64 }
+    requires refused { summary.refused ≤ summary.lines }
+    ensures { result ≡ counted summary played }
+{
+    match played {
+        None => summary,
+        Some(refused) => Summary {
+            lines: summary.lines + 1,
+            refused: summary.refused + if refused { 1 } else { 0 },
+        },
+    }
+}

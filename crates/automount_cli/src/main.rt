@@ -1,0 +1,21 @@
+//! The program: plays a script from standard input.
+#![tactic(auto)]
+
+mod args;
+mod program;
+#[cfg(test)]
+mod tests;
+
+use program::run_words;
+use std::process::ExitCode;
+
+fn main(rt: HostRuntime) -> ExitCode {
+    let status = run_words(
+        rt.alloc(),
+        std::env::args(&rt),
+        rt.stdin(),
+        rt.stdout(),
+        rt.stderr(),
+    );
+    ExitCode::from(status)
+}
