@@ -1,6 +1,5 @@
 -- The changes that give up a peer group, by name.
-use Rattle.std.proofs.Common.{◌≡◌, ℕ, true, false, List, refl}
-use Rattle.am_names.specs.declared.row.MemberRow.{MemberRow}
+use Rattle.std.proofs.Common.{◌≡◌, ℕ, true, false}
 use Rattle.am_names.specs.PeerGroups.{PeerGroups}
 use Rattle.am_group.specs.declared.kind.Change.{Change}
 use Rattle.am_group.specs.declared.kind.Change.TheVariants.{MakeShared, MakeSlave, MakePrivate, MakeUnbindable}

@@ -1,11 +1,11 @@
 -- A mount that is added, between those with lower and those with higher numbers.
 use Rattle.std.proofs.Common.{◌≡◌, ◌≤◌, ◌<◌, ◌+◌, ℕ, Bool, true, false, cond, List, [], ◌∷◌, ◌++◌, length, take, drop, Option, Some, None, refl, sym, ap, subst, ◌∙◌, arith}
-use Rattle.std.specs.Prelude.{filter, nat_lt, is_some, ◌==◌}
+use Rattle.std.specs.Prelude.{nat_lt, is_some, ◌==◌}
 use Rattle.std.specs.List.{insert}
 use Rattle.std.proofs.lemmas.Bool.Decides.{nat_tests}
 use Rattle.std.specs.Option.{option_or}
 use Rattle.std.proofs.lemmas.List.Folds.{find-append}
-use Rattle.std.proofs.lemmas.Bool.{eqb-true, eq-eqb, ne_eqb, cases_eq, ltb-true, ltb-false}
+use Rattle.std.proofs.lemmas.Bool.{eqb-true, ltb-true, ltb-false}
 use Rattle.am_names.specs.declared.row.MemberRow.{MemberRow}
 use Rattle.am_names.specs.declared.row.GroupRow.{GroupRow}
 use Rattle.am_names.specs.PeerGroups.{PeerGroups}
@@ -15,9 +15,9 @@ use Rattle.am_group.specs.Propagation.{member_row, group_row}
 use Rattle.am_group.specs.Changes.{has_members}
 use Rattle.am_group.specs.Members.{row_with, below, above, with_member, may_have}
 use Rattle.am_group.specs.Invariant.{RiseFrom, IsGroup, HasMembers, IsSound}
-use Rattle.am_group.proofs.LookupLemmas.{find_filter, none_below, RiseFrom-filter, RiseFrom-lower, members_from_test}
+use Rattle.am_group.proofs.LookupLemmas.{find_filter, RiseFrom-lower, members_from_test}
 use Rattle.am_group.proofs.ChangeLemmas.{KeepsLaw}
-use Rattle.am_group.proofs.GrowLemmas.{NamesWell, grown_keeps, old_is_group, old_member}
+use Rattle.am_group.proofs.GrowLemmas.{grown_keeps, old_is_group, old_member}
 
 pub none_of : {A : Type 0} (o : Option A) → is_some o ≡ false → o ≡ None
 none_of None e = refl

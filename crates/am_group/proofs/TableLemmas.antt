@@ -1,22 +1,21 @@
 -- A mount's state after a change is that of the table.
-use Rattle.std.proofs.Common.{◌≡◌, ◌<◌, ◌+◌, ◌⊎◌, ℕ, Bool, true, false, cond, ◌||◌, ◌&&◌, List, [], ◌∷◌, Option, Some, None, refl, sym, ap, subst, inl, inr, ⊎_elim, ◌∙◌, arith}
+use Rattle.std.proofs.Common.{◌≡◌, ◌<◌, ◌+◌, ℕ, Bool, true, false, cond, ◌||◌, ◌&&◌, List, [], ◌∷◌, Option, Some, None, refl, sym, ap, subst, inl, inr, ◌∙◌, arith}
 use Rattle.std.specs.Prelude.{map, not, option_map, ◌==◌, Result, Ok, Err, OnOk}
-use Rattle.std.proofs.lemmas.Bool.{eqb-true, eq-eqb, ne_eqb, cases_eq, or_cases, and_parts}
+use Rattle.std.proofs.lemmas.Bool.{eqb-true, eq-eqb, ne_eqb}
 use Rattle.am_names.specs.declared.row.MemberRow.{MemberRow}
-use Rattle.am_names.specs.declared.row.GroupRow.{GroupRow}
 use Rattle.am_names.specs.PeerGroups.{PeerGroups}
 use Rattle.am_group.specs.declared.kind.Kind.{Kind}
 use Rattle.am_group.specs.declared.kind.Kind.TheVariants.{Shared, Slave, SharedSlave, Private, Unbindable}
 use Rattle.am_group.specs.declared.kind.Change.{Change}
 use Rattle.am_group.specs.declared.kind.Change.TheVariants.{MakeShared, MakeSlave, MakePrivate, MakeUnbindable}
 use Rattle.am_group.specs.Propagation.{member_row, group_in, slave_in, group_of, master_of_group}
-use Rattle.am_group.specs.Changes.{is_just, has_members, lifted, lifted_member, settled, slave_from, slave_row, private_row, unbindable_row, shared_from, shared_row, shared_where, at_row, with_row, with_group, made_shared, changed}
+use Rattle.am_group.specs.Changes.{is_just, has_members, lifted, lifted_member, settled, slave_from, slave_row, private_row, unbindable_row, shared_row, shared_where, at_row, with_row, made_shared, changed}
 use Rattle.am_group.specs.Kinds.{shared_kind, lone_kind, kind_where, kind_of_row, kind_of, has_others, alone_in, is_alone, kind_after}
-use Rattle.am_group.specs.Invariant.{IsMaster, HasMembers, IsOrderly, IsSound}
+use Rattle.am_group.specs.Invariant.{IsMaster, IsOrderly, IsSound}
 use Rattle.am_group.proofs.LookupLemmas.{found_passes}
 use Rattle.am_group.proofs.SettleLemmas.{member_row-settled, master-settled}
 use Rattle.am_group.proofs.LiftLemmas.{lifted_here, lifted_step}
-use Rattle.am_group.proofs.ChangeLemmas.{RowThins, slave_row_thins, row_thins, thin_orderly, member_row-map, at_row_mount}
+use Rattle.am_group.proofs.ChangeLemmas.{slave_row_thins, row_thins, thin_orderly, member_row-map, at_row_mount}
 use Rattle.am_group.proofs.SharedLemmas.{after, fresh_master, shared_mount}
 use Rattle.am_group.proofs.ScanLemmas.{or_left, or_right, just_self}
 

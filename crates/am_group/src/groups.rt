@@ -4,7 +4,7 @@ ghost use Rattle.std.specs.Prelude.{◌≡◌, ◌+◌, ◌<◌, ◌≤◌, leng
 ghost use Rattle.am_names.specs.Errno.{RefusedAs};
 ghost use Rattle.am_group.specs.Propagation.{member_row, group_of, master_of_group};
 ghost use Rattle.am_group.specs.Changes.{with_group};
-ghost use Rattle.am_group.specs.Invariant.{AddsNoReceivers};
+ghost use Rattle.am_group.specs.Invariant.{AddsNoReceivers, IsSound};
 ghost use Rattle.am_group.specs.Kinds.{kind_of_row, kind_of};
 ghost use Rattle.am_group.specs.Members.{no_mounts, below, row_with, with_member, is_exhausted, may_be_master, may_have, fresh_refusal, add_refusal};
 
@@ -17,6 +17,8 @@ use std::marker::Model;
 
 mod changes;
 mod receivers;
+#[cfg(test)]
+mod tests;
 
 /// Mounts in rising order of number, and peer groups with their masters (sharedsubtree.rst, 5a).
 /// A master has a lower number than the groups under it, and has members.
@@ -54,7 +56,8 @@ impl Groups {
 
     /// The mounts, in rising order of number.
     pub fn members(&self) -> &[MemberRow]
-        ensures { result.now ≡ self.now.members }
+        ensures rows { result.now ≡ self.now.members }
+        ensures sound { IsSound self.now }
     {
         self.members.as_slice()
     }

@@ -53,7 +53,7 @@ macro_rules! table {
 }
 
 /// What a change makes of a mount that isn't alone in its peer group.
-pub fn asked(change: Change, kind: Kind) -> Kind
+pub(crate) fn asked(change: Change, kind: Kind) -> Kind
     ensures { result ≡ kind_after change false kind }
 {
     table!(change, kind)
@@ -89,7 +89,7 @@ fn slave_row(row: MemberRow) -> MemberRow
 
 /// The row of a mount that comes to this state. A shared one that was in no peer group comes into
 /// the fresh one; a slave is that of the peer group that it leaves.
-pub fn row_as(kind: Kind, fresh: GroupId, row: MemberRow) -> MemberRow
+pub(crate) fn row_as(kind: Kind, fresh: GroupId, row: MemberRow) -> MemberRow
     ensures { result ≡ row_as kind fresh row }
 {
     match kind {

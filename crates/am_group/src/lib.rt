@@ -5,7 +5,7 @@
 pub mod groups;
 pub mod kind;
 pub mod membership;
-pub mod tables;
+mod tables;
 
 pub use groups::Groups;
 pub use kind::{Change, Kind};

@@ -31,10 +31,7 @@ pub fn is_just(group: GroupId, of: Option<GroupId>) -> bool
 pub fn has_members(members: &[MemberRow], group: GroupId) -> bool
     ensures { result ≡ has_members members.now group }
 {
-    members
-        .iter()
-        .copied()
-        .any(|row| is_just(group, row.group))
+    members.iter().copied().any(|row| is_just(group, row.group))
 }
 
 /// The peer group with its master.

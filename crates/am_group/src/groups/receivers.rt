@@ -12,11 +12,7 @@ use crate::tables::is_just;
 use am_names::{Errno, GroupId, MountId};
 use std::alloc::{AllocError, Global};
 
-fn takes_from(
-    sender: Option<GroupId>,
-    group: Option<GroupId>,
-    master: Option<GroupId>,
-) -> bool
+fn takes_from(sender: Option<GroupId>, group: Option<GroupId>, master: Option<GroupId>) -> bool
     ensures { result ≡ takes_from sender group master }
 {
     match sender {

@@ -1,5 +1,4 @@
-use Rattle.std.proofs.Common.{◌≡◌, ◌+◌, ◌++◌, List, [], ◌∷◌, true, ap, sym, subst, ◌∙◌}
-use Rattle.am_names.specs.declared.row.GroupRow.{GroupRow}
+use Rattle.std.proofs.Common.{◌≡◌, ◌+◌, ◌++◌, [], ◌∷◌, true, ap, sym, subst, ◌∙◌}
 use Rattle.am_names.specs.PeerGroups.{PeerGroups}
 use Rattle.am_group.specs.Changes.{with_group}
 use Rattle.am_group.specs.Invariant.{IsSound, AddsNoReceivers}

@@ -1,10 +1,9 @@
-use Rattle.std.proofs.Common.{◌≡◌, ◌+◌, ◌++◌, ℕ, List, [], ◌∷◌, Some, None, refl, ap, sym, subst, ◌∙◌}
+use Rattle.std.proofs.Common.{◌≡◌, ◌+◌, ◌++◌, ℕ, List, [], ◌∷◌, Some, None, ap, sym, subst, ◌∙◌}
 use Rattle.am_names.specs.declared.row.GroupRow.{GroupRow}
 use Rattle.am_names.specs.PeerGroups.{PeerGroups}
 use Rattle.am_group.specs.Propagation.{member_row}
 use Rattle.am_group.specs.Changes.{settled, shared_row, with_row, made_shared}
 use Rattle.am_group.specs.Invariant.{IsOrderly, IsSound, AddsNoReceivers}
-use Rattle.am_group.specs.Tables.{state_of}
 use Rattle.am_group.proofs.LiftLemmas.{same_state}
 use Rattle.am_group.proofs.MemberLemmas.{none_of}
 use Rattle.am_group.proofs.SharedLemmas.{after, shared_here, shared_orderly, made_shared_keeps}
