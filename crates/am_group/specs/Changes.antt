@@ -1,4 +1,5 @@
--- Changes of a mount's propagation (sharedsubtree.rst, 5c and 8), and what an emptied peer group leaves.
+-- Changes of a mount's propagation (sharedsubtree.rst, 5c and 8), and what an emptied peer
+-- group leaves.
 use Rattle.std.specs.Prelude.{◌==◌, ◌+◌, ℕ, zero, suc, Bool, true, false, not, List, [], ◌∷◌, ◌++◌, map, filter, find, Option, Some, None, if◌then◌else◌}
 use Rattle.std.specs.List.{list_any}
 use Rattle.am_names.specs.declared.row.MemberRow.{MemberRow}
@@ -27,7 +28,8 @@ abbrev pub up : PeerGroups → Option ℕ → List ℕ
 up s None = []
 up s (Some g) = up_within (suc g) s (Some g)
 
--- own: in place of a master without members the first group up its chain of masters that has members
+-- own: in place of a master without members the first group up its chain of masters that has
+-- members, else none
 abbrev pub lifted : PeerGroups → Option ℕ → Option ℕ
 lifted s master = find (has_members s.members) (up s master)
 
@@ -39,7 +41,10 @@ lifted_group s row = record row { master = lifted s row.master }
 
 -- every master is lifted
 abbrev pub settled : PeerGroups → PeerGroups
-settled s = record s { members = map (lifted_member s) s.members; groups = map (lifted_group s) s.groups }
+settled s = record s {
+  members = map (lifted_member s) s.members;
+  groups = map (lifted_group s) s.groups;
+}
 
 -- slave: of the peer group that it leaves; what is in none stays as it is
 abbrev pub slave_from : Option ℕ → MemberRow → MemberRow
@@ -81,7 +86,8 @@ with_group master s = record s {
 abbrev pub shared_where : Option MemberRow → Option ℕ → ℕ → PeerGroups → PeerGroups
 shared_where None group m s = s
 shared_where (Some row) (Some group) m s = s
-shared_where (Some row) None m s = settled (with_row (shared_row (s.last_group + 1)) m (with_group row.master s))
+shared_where (Some row) None m s =
+    settled (with_row (shared_row (s.last_group + 1)) m (with_group row.master s))
 
 -- the four changes: the mount's row, then the masters that it leaves without members
 abbrev pub made_shared : ℕ → PeerGroups → PeerGroups

@@ -15,7 +15,8 @@ IsGroup s g = is_some (group_row s.groups g) ≡ true
 
 -- a mount or a peer group has this master
 abbrev pub IsMaster : PeerGroups → ℕ → Type 0
-IsMaster s g = ((m : ℕ) × (slave_in (member_row s.members m) ≡ Some g)) ⊎ ((h : ℕ) × (master_of_group s h ≡ Some g))
+IsMaster s g =
+    ((m : ℕ) × (slave_in (member_row s.members m) ≡ Some g)) ⊎ ((h : ℕ) × (master_of_group s h ≡ Some g))
 
 -- a mount is in the peer group
 abbrev pub HasMembers : PeerGroups → ℕ → Type 0
@@ -34,6 +35,9 @@ pub record IsSound (s : PeerGroups) : Type 0 where
   pub orderly : IsOrderly s
   pub peopled : (g : ℕ) → IsMaster s g → HasMembers s g
 
--- the law of receivers: of two mounts that stood before, none receives from the other what it did not before
+-- the law of receivers: of two mounts that were there before, none receives from the other
+-- unless it did already
 abbrev pub AddsNoReceivers : PeerGroups → PeerGroups → Type 0
-AddsNoReceivers old new = (b c : ℕ) → is_some (member_row old.members b) ≡ true → is_some (member_row old.members c) ≡ true → Receives new b c → Receives old b c
+AddsNoReceivers old new =
+    (b c : ℕ) → is_some (member_row old.members b) ≡ true → is_some (member_row old.members c) ≡ true →
+    Receives new b c → Receives old b c

@@ -1,5 +1,5 @@
 -- The states of a mount (sharedsubtree.rst, 5a), and what each change makes of them (5c).
-use Rattle.std.specs.Prelude.{◌==◌, ◌&&◌, ℕ, Bool, true, false, not, List, Option, Some, None, option_map, if◌then◌else◌}
+use Rattle.std.specs.Prelude.{◌≡◌, ◌==◌, ◌&&◌, ℕ, Bool, true, false, not, List, Option, Some, None, option_map, if◌then◌else◌}
 use Rattle.std.specs.List.{list_any}
 use Rattle.am_names.specs.declared.row.MemberRow.{MemberRow}
 use Rattle.am_names.specs.PeerGroups.{PeerGroups}
@@ -53,8 +53,14 @@ column MakeUnbindable shared slave private unbindable = unbindable
 -- the table of changes: what make-shared, make-slave, make-private and make-unbindable make of
 -- each state (own: of a shared mount that is alone in its peer group)
 abbrev pub kind_after : Change → Bool → Kind → Kind
-kind_after change alone Shared = column change Shared (if alone then Private else Slave) Private Unbindable
+kind_after change alone Shared =
+    column change Shared (if alone then Private else Slave) Private Unbindable
 kind_after change alone Slave = column change SharedSlave Slave Private Unbindable
 kind_after change alone SharedSlave = column change SharedSlave Slave Private Unbindable
 kind_after change alone Private = column change Shared Private Private Unbindable
 kind_after change alone Unbindable = column change Shared Unbindable Private Unbindable
+
+-- the mount's state afterwards is that which the table has for its state before
+abbrev pub FollowsTable : Change → ℕ → PeerGroups → PeerGroups → Type 0
+FollowsTable change m old new =
+    kind_of new m ≡ option_map (kind_after change (is_alone old m)) (kind_of old m)

@@ -30,7 +30,8 @@ above m members = filter (λ row. nat_lt m row.mount) members
 
 -- the row stands between those with lower and those with higher numbers
 abbrev pub with_member : MemberRow → PeerGroups → PeerGroups
-with_member row s = record s { members = below row.mount s.members ++ row ∷ above row.mount s.members }
+with_member row s =
+    record s { members = below row.mount s.members ++ row ∷ above row.mount s.members }
 
 -- own: there may be no master without members
 abbrev pub may_be_master : PeerGroups → Option ℕ → Bool

@@ -40,7 +40,8 @@ master_of s m = master_where s (group_of s m) (slave_in (member_row s.members m)
 
 -- an event on b propagates to c at once: c is a peer of b, or a slave of b's peer group
 abbrev pub PropagatesTo : PeerGroups → ℕ → ℕ → Type 0
-PropagatesTo s b c = (g : ℕ) × (group_of s b ≡ Some g) × ((group_of s c ≡ Some g) ⊎ (master_of s c ≡ Some g))
+PropagatesTo s b c =
+    (g : ℕ) × (group_of s b ≡ Some g) × ((group_of s c ≡ Some g) ⊎ (master_of s c ≡ Some g))
 
 -- an event on b reaches c by way of these mounts, each of which propagates to the next
 abbrev pub PropagatesBy : PeerGroups → List ℕ → ℕ → ℕ → Type 0

@@ -1,10 +1,10 @@
 //! The changes of a mount's state, and mounts that leave.
 
-ghost use Rattle.std.specs.Prelude.{◌≡◌, true, not, None, option_map, IfOk, OnOk, OnErr};
+ghost use Rattle.std.specs.Prelude.{◌≡◌, true, not, None, IfOk, OnOk, OnErr};
 ghost use Rattle.am_names.specs.Errno.{RefusedAs};
 ghost use Rattle.am_group.specs.Changes.{settled, with_row, made_shared, made_slave, made_private, made_unbindable, changed, is_among, with_only, without};
 ghost use Rattle.am_group.specs.Invariant.{IsOrderly, AddsNoReceivers};
-ghost use Rattle.am_group.specs.Kinds.{kind_of, kind_after, is_alone};
+ghost use Rattle.am_group.specs.Kinds.{FollowsTable};
 ghost use Rattle.am_group.specs.Members.{change_refusal};
 ghost use Rattle.am_group.specs.Tables.{state_of, row_of, gives_up};
 
@@ -147,7 +147,7 @@ impl Groups {
     pub fn change(&mut self, alloc: Global, change: Change, mount: MountId) -> Result<(), Errno>
         ensures refusal { RefusedAs (change_refusal change mount self.old) result }
         ensures ok { OnOk result (self.new ≡ changed change mount self.old) }
-        ensures table { OnOk result (kind_of self.new mount ≡ option_map (kind_after change (is_alone self.old mount)) (kind_of self.old mount)) }
+        ensures table { OnOk result (FollowsTable change mount self.old self.new) }
         ensures err { OnErr result (self.new ≡ self.old) }
         ensures law { AddsNoReceivers self.old self.new }
     {
