@@ -11,6 +11,9 @@ use am_names::{MountId, MountRow, NsId};
 use std::alloc::{AllocError, Global};
 use std::marker::Model;
 
+#[cfg(test)]
+mod tests;
+
 /// A set of mount rows, no two with the same number (Linux: the mounts of all namespaces).
 #[derive(Debug, Drop)]
 pub struct Tree {

@@ -1,4 +1,4 @@
-use Rattle.std.proofs.Common.{◌≡◌, ◌<◌, ℕ, Bool, cond, List, length, take, get_or, Option, Some, sym, ap, subst, ◌∙◌, arith}
+use Rattle.std.proofs.Common.{◌≡◌, ℕ, Bool, cond, List, length, take, get_or, Option, Some, sym, ap, subst, ◌∙◌, arith}
 use Rattle.std.proofs.lemmas.List.{take_all}
 use Rattle.am_names.specs.Path.{names_of}
 use Rattle.am_names.specs.declared.row.MountRow.{MountRow}
@@ -18,7 +18,7 @@ loop-row-preserved c =
     let before = top_of (take i rows) c.args.mount place in
     let more = top_more rows c.args.mount place i row (omega arith) (c.row-item.is ∙ ap (λ (xs : List MountRow). get_or xs i row) items) in
     elim c.if-is_at.branch [
-        then-is_at w ↦ w.top-is ∙ sym (more ∙ ap (λ (b : Bool). cond b (Some row.mount) before) (sym c.is_at.ensures ∙ w.if-is_at.true))
+      | then-is_at w ↦ w.top-is ∙ sym (more ∙ ap (λ (b : Bool). cond b (Some row.mount) before) (sym c.is_at.ensures ∙ w.if-is_at.true))
       | else-is_at w ↦ w.top-is ∙ c.loop-row.invariant ∙ sym (more ∙ ap (λ (b : Bool). cond b (Some row.mount) before) (sym c.is_at.ensures ∙ w.if-is_at.false))
     ]
 
