@@ -10,7 +10,7 @@ pub mod CopyLemmas
 pub mod LiftLemmas
 pub mod KindLemmas
 pub mod ClearLemmas
-pub mod MoreAddLemmas
+pub mod JoinLemmas
 pub mod GrowLemmas
 pub mod MemberLemmas
 pub mod TableLemmas

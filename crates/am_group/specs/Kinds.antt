@@ -44,11 +44,12 @@ alone_in s m (Some g) = not (has_others s.members m g)
 abbrev pub is_alone : PeerGroups → ℕ → Bool
 is_alone s m = alone_in s m (group_of s m)
 
+-- what stands in the column of the change
 abbrev pub column : Change → Kind → Kind → Kind → Kind → Kind
-column MakeShared shared slave private unbindable = shared
-column MakeSlave shared slave private unbindable = slave
-column MakePrivate shared slave private unbindable = private
-column MakeUnbindable shared slave private unbindable = unbindable
+column MakeShared first second third fourth = first
+column MakeSlave first second third fourth = second
+column MakePrivate first second third fourth = third
+column MakeUnbindable first second third fourth = fourth
 
 -- the table of changes: what make-shared, make-slave, make-private and make-unbindable make of
 -- each state (own: of a shared mount that is alone in its peer group)

@@ -4,7 +4,7 @@ use Rattle.am_group.specs.Changes.{with_group}
 use Rattle.am_group.specs.Invariant.{IsSound, AddsNoReceivers}
 use Rattle.am_group.specs.Members.{may_be_master}
 use Rattle.am_group.proofs.LiftLemmas.{same_state}
-use Rattle.am_group.proofs.MoreAddLemmas.{fresh_keeps}
+use Rattle.am_group.proofs.JoinLemmas.{fresh_keeps}
 use Rattle.am_group.proofs.groups.Groups.fresh.Goals as goal
 
 pub invariant_of-self-2 : goal.invariant_of-self-2
