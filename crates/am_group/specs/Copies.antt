@@ -13,6 +13,10 @@ abbrev pub added : List MemberRow → List GroupRow → ℕ → PeerGroups → P
 added ms gs last s =
     record { members = s.members ++ ms; groups = s.groups ++ gs; last_group = last }
 
+-- these rows and groups are added, the groups with the next numbers
+abbrev pub all_added : List MemberRow → List GroupRow → PeerGroups → PeerGroups
+all_added ms gs s = added ms gs (s.last_group + length gs) s
+
 -- one of the receivers is in the peer group
 abbrev pub has_receiver : PeerGroups → List ℕ → ℕ → Bool
 has_receiver s receivers g = list_any (λ r. is_just g (group_of s r)) receivers

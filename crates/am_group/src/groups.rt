@@ -1,9 +1,10 @@
 //! The peer groups of all mounts.
 
-ghost use Rattle.std.specs.Prelude.{◌≡◌, ◌+◌, ◌<◌, ◌≤◌, length, IfOk, IfSome, OnOk, OnErr};
+ghost use Rattle.std.specs.Prelude.{◌≡◌, ◌+◌, ◌^◌, ◌<◌, ◌≤◌, length, IfOk, IfSome, OnOk, OnErr};
 ghost use Rattle.am_names.specs.Errno.{RefusedAs};
 ghost use Rattle.am_group.specs.Propagation.{member_row, group_of, master_of_group};
 ghost use Rattle.am_group.specs.Changes.{with_group};
+ghost use Rattle.am_group.specs.Copies.{all_added};
 ghost use Rattle.am_group.specs.Invariant.{AddsNoReceivers, IsSound};
 ghost use Rattle.am_group.specs.Kinds.{kind_of_row, kind_of};
 ghost use Rattle.am_group.specs.Members.{no_mounts, below, row_with, with_member, is_exhausted, may_be_master, may_have, fresh_refusal, add_refusal};
@@ -12,7 +13,7 @@ use crate::kind::Kind;
 use crate::membership::Membership;
 use crate::tables::{group_row, has_members};
 use am_names::{Errno, GroupId, GroupRow, MemberRow, MountId};
-use std::alloc::Global;
+use std::alloc::{AllocError, Global};
 use std::marker::Model;
 
 mod changes;
@@ -180,6 +181,28 @@ impl Groups {
         let _group: Option<GroupId> = row.group;
         let index = self.rank(mount);
         self.members.insert(index, row)?;
+        Ok(())
+    }
+
+    /// Adds new mounts and peer groups, all or none, as a mount with its copies brings them. The
+    /// caller shows that the invariant holds of all together: the numbers rise above all that
+    /// are there, and what is named is there, masters with lower numbers and with members.
+    pub fn add_all(
+        &mut self,
+        mut members: Vec<MemberRow>,
+        mut groups: Vec<GroupRow>,
+    ) -> Result<(), AllocError>
+        requires numbers { self.old.last_group + length groups.items < 2 ^ 64 }
+        requires sound { IsSound (all_added members.items groups.items self.old) }
+        ensures ok { OnOk result (self.new ≡ all_added members.items groups.items self.old) }
+        ensures err { OnErr result (self.new ≡ self.old) }
+        ensures law { AddsNoReceivers self.old self.new }
+    {
+        let count = groups.len();
+        self.members.reserve(members.len())?;
+        self.groups.append(&mut groups)?;
+        self.members.append(&mut members)?;
+        self.last_group += count as u64;
         Ok(())
     }
 

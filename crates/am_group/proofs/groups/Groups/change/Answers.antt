@@ -1,5 +1,5 @@
 use Rattle.std.proofs.Common.{subst, sym}
-use Rattle.std.specs.Prelude.{◌≡◌, option_map, OnOk}
+use Rattle.std.specs.Prelude.{OnOk}
 use Rattle.am_names.specs.PeerGroups.{PeerGroups}
 use Rattle.am_group.specs.declared.kind.Change.{Change}
 use Rattle.am_group.specs.declared.kind.Change.TheVariants.{MakeShared, MakeSlave, MakePrivate, MakeUnbindable}
