@@ -1,0 +1,9 @@
+//! The lines and words of maps and of the master map (autofs(5), "MAP FORMAT").
+//! Joined lines are put together in the caller's buffer; words are borrowed.
+#![tactic(auto)]
+
+pub mod lines;
+pub mod words;
+
+pub use lines::{Behind, next_line};
+pub use words::{first_word, next_word};
