@@ -6,4 +6,4 @@ pub mod lines;
 pub mod words;
 
 pub use lines::{Behind, next_line};
-pub use words::{first_word, next_word};
+pub use words::{begins_with, first_word, next_word};

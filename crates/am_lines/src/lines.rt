@@ -9,6 +9,7 @@ ghost use Rattle.am_lines.specs.Behind.{lines_behind};
 use std::alloc::AllocError;
 
 /// What stands behind a line.
+#[derive(Clone, Copy, Debug)]
 pub struct Behind<'a> {
     /// How many raw lines the line was made of, at least 1.
     pub raw_lines: usize,
@@ -17,8 +18,10 @@ pub struct Behind<'a> {
 }
 
 /// Puts the first line of a text into the buffer, joined with the raw lines on which it goes on.
+/// What the buffer held goes; out of memory it holds a part of the line.
 pub fn next_line<'a>(text: &'a [u8], line: &mut Vec<u8>) -> Result<Behind<'a>, AllocError>
     ensures ok { IfOk result (λ behind. (n : ℕ) → lines_from n text.now ≡ record { number = n; bytes = line.new.items } ∷ lines_behind n behind) }
+    ensures counted { IfOk result (λ behind. 1 ≤ behind.raw_lines) }
     ensures shorter { IfOk result (λ behind. IfSome behind.rest (λ rest. behind.raw_lines + length rest.now ≤ length text.now)) }
 {
     line.clear();

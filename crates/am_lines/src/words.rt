@@ -31,17 +31,18 @@ pub fn first_word(line: &[u8]) -> Option<(&[u8], &[u8])>
         ≡ record { number = n; first = cut.0.now; others = words cut.1.now } ∷ []) }
 {
     let (word, others) = next_word(line)?;
-    if is_comment(word) {
+    if begins_with(word, b'#') {
         return None;
     }
     Some((word, others))
 }
 
-fn is_comment(word: &[u8]) -> bool
-    ensures { result ≡ begins_with 35 word.now }
+/// Whether the first byte of a word is this one.
+pub fn begins_with(word: &[u8], byte: u8) -> bool
+    ensures { result ≡ begins_with byte word.now }
 {
     match word {
-        [b, ..] => *b == b'#',
+        [first, ..] => *first == byte,
         [] => false,
     }
 }
