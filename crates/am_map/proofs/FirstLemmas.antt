@@ -71,6 +71,7 @@ new_hides front row rows = filter_within (unseen front) (λ other. not (has_key 
         let same : list_any (has_key other.key) (front ++ row ∷ []) ≡ list_any (has_key other.key) front =
         list_any-append (has_key other.key) front (row ∷ []) ∙ rw differs (or_nothing (list_any (has_key other.key) front)) in
         ap not (sym same)
+
     outside : (other : Row) → not (has_key row.key other) ≡ false → unseen (front ++ row ∷ []) other ≡ false
     outside other e =
         let same : has_key other.key row ≡ true = bytes_eq-comm other.key row.key ∙ not_true _ e in
@@ -127,6 +128,7 @@ find-first_of_each key (row ∷ rows) = by (has_key key row) refl (find-first_of
     others e other f =
         let same : key ≡ other.key = (bytes_eq-Decides key other.key).0 f in
         ap not (ap (λ (k : List ℕ). bytes_eq row.key k) (sym same) ∙ bytes_eq-comm row.key key ∙ e)
+
     by : (b : Bool) → has_key key row ≡ b → find (has_key key) (first_of_each rows) ≡ find (has_key key) rows → find (has_key key) (first_of_each (row ∷ rows)) ≡ find (has_key key) (row ∷ rows)
     by true e rest = rw e refl
     by false e rest = rw e (find_within (has_key key) (λ other. not (has_key row.key other)) (others e) (first_of_each rows) ∙ rest)

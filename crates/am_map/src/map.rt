@@ -101,12 +101,7 @@ impl Map {
     }
 
     /// Adds the row of a line, if the line says something.
-    fn read_line(
-        &mut self,
-        alloc: Global,
-        line: &[u8],
-        kind: MapKind,
-    ) -> Result<(), MapFaultKind>
+    fn read_line(&mut self, alloc: Global, line: &[u8], kind: MapKind) -> Result<(), MapFaultKind>
         ensures ok { OnOk result ((n : ℕ) → line_added kind self.old (statement_of_words n (words line.now)) ≡ Ok self.new) }
         ensures err { IfErr result (λ fault. IsFaultOr fault ((n : ℕ) → line_added kind self.old (statement_of_words n (words line.now)) ≡ Err fault)) }
     {
