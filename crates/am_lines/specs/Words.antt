@@ -7,6 +7,9 @@ use Rattle.am_lines.specs.Lines.{Line, lines_from}
 abbrev pub is_blank : ℕ → Bool
 is_blank b = (b == 32) || (b == 9)
 
+abbrev pub is_colon : ℕ → Bool
+is_colon b = b == 58
+
 -- what stands between blanks
 abbrev pub words : List ℕ → List (List ℕ)
 words line = filter (λ word. not (length word == 0)) (slice_split is_blank line)

@@ -6,4 +6,4 @@ pub mod lines;
 pub mod words;
 
 pub use lines::{Behind, next_line};
-pub use words::{begins_with, first_word, next_word};
+pub use words::{begins_with, cut_at_colon, first_word, next_word};

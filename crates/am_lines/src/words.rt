@@ -1,8 +1,8 @@
 //! The words of a line.
 
 ghost use Rattle.std.specs.Prelude.{◌≡◌, ◌<◌, ◌∷◌, [], ℕ, IfNone, IfSome, length, position};
-ghost use Rattle.std.specs.List.{slice_split};
-ghost use Rattle.am_lines.specs.Words.{is_blank, words, begins_with, statement_of_words};
+ghost use Rattle.std.specs.List.{slice_split, before_first, after_first};
+ghost use Rattle.am_lines.specs.Words.{is_blank, is_colon, words, begins_with, statement_of_words};
 
 /// The first word of a line and what stands behind it, or none where no word is left.
 pub fn next_word(line: &[u8]) -> Option<(&[u8], &[u8])>
@@ -45,6 +45,23 @@ pub fn begins_with(word: &[u8], byte: u8) -> bool
         [first, ..] => *first == byte,
         [] => false,
     }
+}
+
+/// What stands before the first colon, and what stands behind it: nothing where there is none.
+pub fn cut_at_colon(word: &[u8]) -> (&[u8], &[u8])
+    ensures before { result.0.now ≡ before_first is_colon word.now }
+    ensures behind { result.1.now ≡ after_first is_colon word.now }
+{
+    match colon_place(word) {
+        Some(at) => (&word[..at], &word[at + 1..]),
+        None => (word, &[]),
+    }
+}
+
+fn colon_place(word: &[u8]) -> Option<usize>
+    ensures { result ≡ position is_colon word.now }
+{
+    word.iter().position(|b| *b == b':')
 }
 
 /// What stands before the first blank and what stands behind it.

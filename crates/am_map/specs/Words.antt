@@ -5,7 +5,7 @@ use Rattle.std.specs.List.{list_all, before_first, after_first}
 use Rattle.am_names.specs.declared.errno.Errno.{Errno}
 use Rattle.am_names.specs.Name.{is_name}
 use Rattle.am_names.specs.Path.{path_read, text_of}
-use Rattle.am_lines.specs.Words.{begins_with}
+use Rattle.am_lines.specs.Words.{begins_with, is_colon}
 use Rattle.am_map.specs.declared.fault.MapFaultKind.{MapFaultKind}
 use Rattle.am_map.specs.declared.fault.MapFaultKind.TheVariants.{BadKey}
 use Rattle.am_map.specs.declared.kind.MapKind.{MapKind}
@@ -38,9 +38,6 @@ key_read Direct word = if is_plain word then text_read (path_read word) else Err
 -- a dash and at least one byte more
 abbrev pub is_options : List ℕ → Bool
 is_options word = is_plain word && not (length word == 1)
-
-abbrev pub is_colon : ℕ → Bool
-is_colon b = b == 58
 
 -- own: a single host, so no `/`, `,`, `(` or `[`
 abbrev pub is_host_byte : ℕ → Bool

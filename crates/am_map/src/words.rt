@@ -1,9 +1,9 @@
 //! What the words of a line may be.
 
-ghost use Rattle.std.specs.Prelude.{◌≡◌, position, IfOk, IfErr, OnOk};
+ghost use Rattle.std.specs.Prelude.{◌≡◌, IfOk, IfErr, OnOk};
 ghost use Rattle.std.specs.List.{list_all};
 ghost use Rattle.am_lines.specs.Words.{words};
-ghost use Rattle.am_map.specs.Words.{is_plain, is_plain_byte, is_indirect_key, key_read, is_options, is_location, is_host_byte, is_colon, host_of, path_of};
+ghost use Rattle.am_map.specs.Words.{is_plain, is_plain_byte, is_indirect_key, key_read, is_options, is_location, is_host_byte};
 ghost use Rattle.am_map.specs.Grammar.{entry_read, entry_with};
 ghost use Rattle.am_map.specs.Parts.{entry_of};
 ghost use Rattle.am_names.specs.Name.{is_name};
@@ -13,7 +13,7 @@ ghost use Rattle.std.specs.Option.{option_copied};
 
 use crate::fault::MapFaultKind;
 use crate::parts::EntryRef;
-use am_lines::{begins_with, next_word};
+use am_lines::{begins_with, cut_at_colon, next_word};
 use am_names::{AbsPath, Name};
 
 /// Reads the key of an indirect map's line.
@@ -118,23 +118,6 @@ fn is_location(word: &[u8]) -> bool
         return false;
     }
     begins_with(path, b'/')
-}
-
-/// What stands before the first colon, and what stands behind it: nothing where there is none.
-fn cut_at_colon(word: &[u8]) -> (&[u8], &[u8])
-    ensures host { result.0.now ≡ host_of word.now }
-    ensures path { result.1.now ≡ path_of word.now }
-{
-    match colon_place(word) {
-        Some(at) => (&word[..at], &word[at + 1..]),
-        None => (word, &[]),
-    }
-}
-
-fn colon_place(word: &[u8]) -> Option<usize>
-    ensures { result ≡ position is_colon word.now }
-{
-    word.iter().position(|b| *b == b':')
 }
 
 fn is_plain(word: &[u8]) -> bool

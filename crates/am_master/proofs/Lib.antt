@@ -1,0 +1,4 @@
+pub mod DecimalLemmas
+pub mod FaultLemmas
+pub mod PointLemmas
+pub mod ReadLemmas

@@ -1,0 +1,6 @@
+pub mod Fault
+pub mod Grammar
+pub mod MasterRow
+pub mod Served
+pub mod Timeout
+pub mod Words
