@@ -2,3 +2,4 @@ pub mod DecimalLemmas
 pub mod FaultLemmas
 pub mod PointLemmas
 pub mod ReadLemmas
+pub mod TextLemmas

@@ -1,27 +1,19 @@
 -- The grammar of a master map: a text and its rows, or its first fault (auto.master(5), "FORMAT").
-use Rattle.std.specs.Prelude.{◌≡◌, ℕ, Bool, false, List, [], ◌∷◌, ◌++◌, Result, Ok, Err, if◌then◌else◌}
-use Rattle.std.specs.Str.{bytes_eq}
-use Rattle.std.specs.List.{list_any}
-use Rattle.std.specs.Cmp.Lexicographic.{pointwise}
+use Rattle.std.specs.Prelude.{◌≡◌, ℕ, Bool, List, [], ◌∷◌, ◌++◌, Result, Ok, Err, if◌then◌else◌}
 use Rattle.am_lines.specs.Words.{Statement, statements}
 use Rattle.am_master.specs.declared.fault.MasterFault.{MasterFault}
 use Rattle.am_master.specs.declared.fault.MasterFaultKind.{MasterFaultKind}
 use Rattle.am_master.specs.declared.fault.MasterFaultKind.TheVariants.{NoMap, Twice}
 use Rattle.am_master.specs.declared.point.Point.{Point}
-use Rattle.am_master.specs.declared.point.Point.TheVariants.{Direct, Indirect}
 use Rattle.am_master.specs.Fault.{IsFaultOf}
 use Rattle.am_master.specs.MasterRow.{MasterRow}
+use Rattle.am_master.specs.Points.{is_among, texts_of}
 use Rattle.am_master.specs.Timeout.{timeout_read}
 use Rattle.am_master.specs.Words.{point_read, name_read}
 
-abbrev pub is_point_at : List (List ℕ) → Point → Bool
-is_point_at names Direct = false
-is_point_at names (Indirect others) = pointwise bytes_eq names others
-
 -- an indirect point that a line above has
 abbrev pub is_taken : List MasterRow → Point → Bool
-is_taken above Direct = false
-is_taken above (Indirect names) = list_any (λ row. is_point_at names row.point) above
+is_taken above point = is_among (texts_of above) point
 
 abbrev pub once : List MasterRow → Result Point MasterFaultKind → Result Point MasterFaultKind
 once above (Ok point) = if is_taken above point then Err Twice else Ok point

@@ -6,6 +6,7 @@ pub mod entry;
 pub mod fault;
 pub mod master;
 pub mod point;
+mod points;
 pub mod timeout;
 pub mod words;
 
@@ -13,3 +14,6 @@ pub use entry::MasterEntry;
 pub use fault::{MasterFault, MasterFaultKind};
 pub use master::Master;
 pub use point::Point;
+
+#[cfg(test)]
+mod tests;

@@ -1,35 +1,41 @@
 //! A master map that has been read.
 
-ghost use Rattle.std.specs.Prelude.{◌≡◌, ◌∷◌, ◌++◌, [], IfErr, OnOk};
+ghost use Rattle.std.specs.Prelude.{◌≡◌, ◌∷◌, ◌++◌, [], IfErr, OnOk, OnErr, IsOk, false};
+ghost use Rattle.std.specs.Str.{bytes_eq};
 ghost use Rattle.std.specs.List.{list_any};
-ghost use Rattle.am_names.specs.Path.{IsCanonical, names_of};
 ghost use Rattle.am_lines.specs.Words.{words, statement_of_words};
 ghost use Rattle.am_master.specs.Fault.{IsFaultOr};
+ghost use Rattle.am_master.specs.Points.{texts_of};
 ghost use Rattle.am_master.specs.declared.fault.MasterFaultKind.TheVariants.{NoMemory};
-ghost use Rattle.am_master.specs.Grammar.{master_read, ReadAs, line_added, is_point_at};
+ghost use Rattle.am_master.specs.Grammar.{master_read, ReadAs, line_added, is_taken};
 
 use crate::entry::MasterEntry;
 use crate::fault::{MasterFault, MasterFaultKind};
 use crate::point::Point;
+use crate::points::Points;
 use crate::words::{ServedRef, is_direct, read_point, read_served};
 use am_lines::{first_word, next_line};
 use am_names::Place;
-use std::alloc::Global;
+use std::alloc::{AllocError, Global};
 use std::marker::Model;
 
 /// The lines of a master map, in their order.
 #[derive(Debug, Drop)]
 pub struct Master {
     entries: Vec<MasterEntry>,
+    points: Points,
 }
 
 impl Model for Master {
-    ghost use Rattle.std.specs.Prelude.{List};
+    ghost use Rattle.std.specs.Prelude.{◌≡◌, List};
     ghost use Rattle.am_master.specs.MasterRow.{MasterRow};
+    ghost use Rattle.am_master.specs.Points.{texts_of};
 
     ghost Value = { List MasterRow };
 
     ghost view = { λ m. m.entries.items };
+
+    ghost invariant = { λ m. m.points ≡ texts_of m.entries.items };
 }
 
 impl Master {
@@ -72,6 +78,7 @@ impl Master {
     {
         Master {
             entries: Vec::new(alloc),
+            points: Points::new(alloc),
         }
     }
 
@@ -90,7 +97,7 @@ impl Master {
         };
         if is_direct(first) {
             let served = read_served(others)?;
-            return self.add(alloc, Point::Direct, &served, number);
+            return in_memory(self.add(alloc, Point::Direct, &served, number));
         }
         let path = read_point(first)?;
         if self.has_point(path.text()) {
@@ -100,15 +107,14 @@ impl Master {
         let Ok(place) = Place::of(alloc, path.text()) else {
             return Err(MasterFaultKind::NoMemory);
         };
-        self.add(alloc, Point::Indirect(place), &served, number)
+        in_memory(self.add(alloc, Point::Indirect(place), &served, number))
     }
 
-    /// Whether a line has the point of a canonical text.
+    /// Whether a line has the point of this canonical text.
     fn has_point(&self, text: &[u8]) -> bool
-        requires { IsCanonical text.now }
-        ensures { result ≡ list_any (λ row. is_point_at (names_of text.now) row.point) self.now }
+        ensures { result ≡ list_any (bytes_eq text.now) (texts_of self.now) }
     {
-        self.entries.iter().any(|entry| is_point_at(&entry.point, text))
+        self.points.has(text)
     }
 
     /// Adds a line behind the others.
@@ -118,33 +124,31 @@ impl Master {
         point: Point,
         served: &ServedRef<'_>,
         line: usize,
-    ) -> Result<(), MasterFaultKind>
+    ) -> Result<(), AllocError>
+        requires { is_taken self.old point ≡ false }
         ensures ok { OnOk result (self.new ≡ self.old ++ record { point = point; map = served.now.map.now; timeout = served.now.timeout; line = line } ∷ []) }
-        ensures err { IfErr result (λ fault. fault ≡ NoMemory) }
+        ensures err { OnErr result (self.new ≡ self.old) }
     {
-        let Ok(map) = Vec::from_slice(alloc, served.map) else {
-            return Err(MasterFaultKind::NoMemory);
-        };
-        let entry = MasterEntry {
+        let map = Vec::from_slice(alloc, served.map)?;
+        self.entries.reserve(1)?;
+        self.points.add(alloc, &point)?;
+        self.entries.push_reserved(MasterEntry {
             point,
             map,
             timeout: served.timeout,
             line,
-        };
-        match self.entries.push(entry) {
-            Ok(()) => Ok(()),
-            Err(_) => Err(MasterFaultKind::NoMemory),
-        }
+        });
+        Ok(())
     }
 }
 
-/// Whether a point is that of a canonical text.
-fn is_point_at(point: &Point, text: &[u8]) -> bool
-    requires { IsCanonical text.now }
-    ensures { result ≡ is_point_at (names_of text.now) point.now }
+/// The fault of an addition that found no memory.
+fn in_memory(added: Result<(), AllocError>) -> Result<(), MasterFaultKind>
+    ensures ok { OnOk result (IsOk added) }
+    ensures err { IfErr result (λ fault. fault ≡ NoMemory) }
 {
-    match point {
-        Point::Direct => false,
-        Point::Indirect(place) => place.is_at(text),
+    match added {
+        Ok(()) => Ok(()),
+        Err(_) => Err(MasterFaultKind::NoMemory),
     }
 }
