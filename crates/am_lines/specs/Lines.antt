@@ -1,4 +1,4 @@
--- How the text of a map is cut into lines (autofs(5), "MAP FORMAT"; auto.master(5), "FORMAT").
+-- How the text of a map is cut into lines (autofs(5), "SUN FORMAT"; auto.master(5), "FORMAT").
 -- Lines end with a line feed, the last one possibly without; a backslash before a line end
 -- goes together with it.
 use Rattle.std.specs.Prelude.{ℕ, ◌+◌, ◌-◌, ◌==◌, Bool, List, [], ◌∷◌, ◌++◌, length, take, drop, if◌then◌else◌}

@@ -1,4 +1,4 @@
--- The words of a line, and the lines that say something (autofs(5), "MAP FORMAT").
+-- The words of a line, and the lines that say something (autofs(5), "SUN FORMAT").
 use Rattle.std.specs.Prelude.{ℕ, ◌==◌, Bool, not, ◌||◌, List, [], ◌∷◌, length, filter, if◌then◌else◌}
 use Rattle.std.specs.List.{slice_split, flat_map}
 use Rattle.am_lines.specs.Lines.{Line, lines_from}

@@ -1,13 +1,13 @@
 -- Of the rows with one key the first is kept.
-use Rattle.std.proofs.Common.{◌≡◌, ℕ, Bool, true, false, not, ◌||◌, cond, List, [], ◌∷◌, ◌++◌, refl, sym, ap, ◌∙◌, append_assoc}
-use Rattle.std.specs.Prelude.{Option, Some, find, filter, fold}
+use Rattle.std.proofs.Common.{◌≡◌, ℕ, Bool, true, false, not, ◌||◌, List, [], ◌∷◌, ◌++◌, refl, sym, ap, ◌∙◌, append_assoc}
+use Rattle.std.specs.Prelude.{Option, find, filter, fold}
 use Rattle.std.specs.Str.{bytes_eq}
 use Rattle.std.specs.List.{list_any}
 use Rattle.std.proofs.lemmas.List.{append-nil}
 use Rattle.std.proofs.lemmas.List.Folds.{list_any-append}
 use Rattle.std.proofs.lemmas.Slice.Eq.{bytes_eq-Decides}
 use Rattle.am_map.specs.EntryText.{Row}
-use Rattle.am_map.specs.LookUp.{has_key, first_of_each, or_else, row_for, entry_for, entry_of_row}
+use Rattle.am_map.specs.LookUp.{has_key, first_of_each, or_else, entry_for, entry_of_row}
 use Rattle.am_map.specs.Words.{star}
 use Rattle.am_map.specs.Stored.{row_added}
 use Rattle.am_map.proofs.StoredLemmas.{row_added-there, row_added-new}

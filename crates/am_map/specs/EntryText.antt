@@ -1,4 +1,4 @@
--- What a line of a map says (autofs(5), "MAP FORMAT").
+-- What a line of a map says (autofs(5), "SUN FORMAT").
 use Rattle.std.specs.Prelude.{ℕ, List, Option}
 
 -- the mount options without their dash, if there are any, and the location `host:path`

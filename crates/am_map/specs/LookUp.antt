@@ -1,7 +1,7 @@
--- Looking up a key in a map (autofs(5), "MAP FORMAT", "Wildcard Key").
-use Rattle.std.specs.Prelude.{ℕ, ◌==◌, Bool, not, List, [], ◌∷◌, ◌++◌, Option, Some, None, find, filter, map, if◌then◌else◌}
+-- Looking up a key in a map (autofs(5), "SUN FORMAT", "Wildcard Key").
+use Rattle.std.specs.Prelude.{ℕ, ◌==◌, Bool, not, List, [], ◌∷◌, Option, Some, None, find, filter, if◌then◌else◌}
 use Rattle.std.specs.Str.{bytes_eq}
-use Rattle.std.specs.List.{flat_map, list_any}
+use Rattle.std.specs.List.{flat_map}
 use Rattle.am_map.specs.EntryText.{EntryText, Row}
 use Rattle.am_map.specs.Words.{star}
 

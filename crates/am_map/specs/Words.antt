@@ -1,4 +1,4 @@
--- What the words of a map line may be (autofs(5), "MAP FORMAT").
+-- What the words of a map line may be (autofs(5), "SUN FORMAT").
 use Rattle.std.specs.Prelude.{ℕ, ◌==◌, Bool, not, ◌&&◌, ◌||◌, List, [], ◌∷◌, length, Result, Ok, Err, if◌then◌else◌}
 use Rattle.std.specs.Str.{bytes_eq}
 use Rattle.std.specs.List.{list_all, before_first, after_first}

@@ -6,7 +6,7 @@ ghost use Rattle.am_map.specs.LookUp.{with_key, entry_with_key};
 use std::alloc::{AllocError, Global};
 use std::marker::Model;
 
-/// The mount options and the location of a key (autofs(5), "MAP FORMAT").
+/// The mount options and the location of a key (autofs(5), "SUN FORMAT").
 #[derive(Debug, Drop)]
 pub struct Entry {
     /// Without the dash; none where the line has no options.

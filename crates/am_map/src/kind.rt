@@ -1,6 +1,6 @@
 //! The two kinds of maps.
 
-/// How the keys of a map are read (autofs(5), "Direct Map", "Indirect Map").
+/// How the keys of a map are read (autofs(5), "SUN FORMAT").
 #[derive(Clone, Copy, Debug, PartialEq, Eq, Hash)]
 pub enum MapKind {
     /// A key is a name, or `*`.

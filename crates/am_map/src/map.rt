@@ -36,7 +36,7 @@ impl Model for Map {
 }
 
 impl Map {
-    /// Reads a whole text, or tells its first faulty line.
+    /// Reads a whole text, or tells its first faulty line. A text without lines is an empty map.
     pub fn read(alloc: Global, text: &[u8], kind: MapKind) -> Result<Map, MapFault>
         ensures read { ReadAs (map_read kind text.now) result }
         ensures look_ups { IfOk result (FindsFirst (rows_read kind (statements text.now))) }
@@ -64,7 +64,8 @@ impl Map {
     }
 
     /// The entry of the first line with this key, else of the first `*` line, with each `&` of
-    /// its host and its path replaced by the key (autofs(5), "Wildcard Key").
+    /// its host and its path replaced by the key (autofs(5), "Map Key Substitution" and "Wildcard
+    /// Key"). A key of a direct map is a canonical text, as `AbsPath::text` lends it.
     pub fn look_up(&self, alloc: Global, key: &[u8]) -> Result<Option<Entry>, AllocError>
         ensures { IfOk result (λ found. found ≡ entry_for self.now key.now) }
     {

@@ -1,17 +1,16 @@
 -- A mount point that a line above has.
-use Rattle.std.proofs.Common.{◌≡◌, ℕ, Bool, true, false, List, [], ◌∷◌, ◌++◌, refl, sym, ap, ◌∙◌}
-use Rattle.std.specs.Prelude.{Result, Ok, Err, IsTrue, ◌↔◌, if◌then◌else◌}
+use Rattle.std.proofs.Common.{◌≡◌, ℕ, Bool, false, List, [], ◌∷◌, ◌++◌, refl, sym, ap, ◌∙◌}
+use Rattle.std.specs.Prelude.{Result, Ok, Err, if◌then◌else◌}
 use Rattle.std.specs.Str.{bytes_eq}
 use Rattle.std.specs.List.{list_any}
 use Rattle.am_names.specs.Path.{path_read, text_of}
-use Rattle.am_lines.specs.Words.{Statement, statement_of_words}
+use Rattle.am_lines.specs.Words.{statement_of_words}
 use Rattle.am_master.specs.declared.fault.MasterFaultKind.{MasterFaultKind}
 use Rattle.am_master.specs.declared.fault.MasterFaultKind.TheVariants.{Twice}
-use Rattle.am_master.specs.declared.point.Point.{Point}
-use Rattle.am_master.specs.declared.point.Point.TheVariants.{Direct, Indirect}
+use Rattle.am_master.specs.declared.point.Point.TheVariants.{Indirect}
 use Rattle.am_master.specs.MasterRow.{MasterRow}
 use Rattle.am_master.specs.Points.{texts_of}
-use Rattle.am_master.specs.Words.{is_direct, below_root, point_read}
+use Rattle.am_master.specs.Words.{is_direct, below_root}
 use Rattle.am_master.specs.Grammar.{Served, is_taken, served_read, row_of, added, line_added}
 
 -- a line with the point of an indirect map

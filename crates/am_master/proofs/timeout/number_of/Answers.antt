@@ -1,4 +1,4 @@
-use Rattle.std.proofs.Common.{◌≡◌, ◌<◌, ◌+◌, ◌*◌, ◌-◌, get_or, refl, arith}
+use Rattle.std.proofs.Common.{◌<◌, ◌+◌, ◌*◌, ◌-◌, get_or, refl, arith}
 use Rattle.am_master.proofs.DecimalLemmas.{too_big}
 use Rattle.am_master.proofs.timeout.number_of.Goals as goal
 

@@ -1,4 +1,4 @@
-use Rattle.std.proofs.Common.{◌≡◌, ◌≤◌, ◌+◌, ◌∷◌, ℕ, [], List, Ok, Err, sym, ap, ◌∙◌, arith, length}
+use Rattle.std.proofs.Common.{◌≡◌, ℕ, Ok, Err, sym, ◌∙◌, arith}
 use Rattle.am_lines.specs.Words.{statements, words, statement_of_words}
 use Rattle.am_lines.specs.Behind.{lines_behind}
 use Rattle.am_map.specs.Grammar.{rows_read, map_read}

@@ -1,4 +1,4 @@
-use Rattle.std.proofs.Common.{◌≡◌, ◌≤◌, ◌+◌, ◌∷◌, [], List, Ok, Err, sym, ap, ◌∙◌, arith, length}
+use Rattle.std.proofs.Common.{◌≡◌, Err, sym, ◌∙◌, arith}
 use Rattle.am_lines.specs.Words.{words, statement_of_words}
 use Rattle.am_lines.specs.Behind.{lines_behind}
 use Rattle.am_master.specs.Grammar.{line_added}

@@ -1,4 +1,4 @@
-use Rattle.std.proofs.Common.{◌≡◌, true, false, List, ◌∷◌, ◌++◌, [], Ok, Err, sym, ap, ◌∙◌}
+use Rattle.std.proofs.Common.{true, false, List, Ok, sym, ap, ◌∙◌}
 use Rattle.std.proofs.lemmas.Result.{err_from_is_err_and, on_ok_weaker}
 use Rattle.am_lines.specs.Words.{words}
 use Rattle.am_master.specs.declared.point.Point.TheVariants.{Indirect}
