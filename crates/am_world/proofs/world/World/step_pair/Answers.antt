@@ -18,4 +18,4 @@ returns-clause-step c =
     let o = outcome_of old c.args.event.now in
     let left = c.in-Ok.ensures in
     subst (λ (s : State). (seen : List Obs) × Step s c.args.event.now c.in-Ok.told.one seen (state_of c.handle.new.self)) c.self.view_is
-      (o.seen, inr (record { told = left.told.one; shown = refl; left = left.left }))
+    (o.seen, inr (record { told = left.told.one; shown = refl; left = left.left }))
