@@ -1,5 +1,5 @@
 -- Each event keeps the rows of walkers in order.
-use Rattle.std.proofs.Common.{◌≡◌, ℕ, ◌+◌, ◌<◌, ◌≤◌, Bool, true, false, cond, not, ◌==◌, List, [], ◌∷◌, ◌++◌, map, Option, Some, None, refl, sym, subst, arith, inl, inr}
+use Rattle.std.proofs.Common.{◌≡◌, ℕ, ◌+◌, ◌≤◌, Bool, true, false, cond, not, ◌==◌, List, [], ◌∷◌, ◌++◌, map, Option, Some, None, refl, sym, subst, arith, inl, inr}
 use Rattle.std.specs.Prelude.{filter, nat_lt, nat_le, is_some, Result, Ok, Err, if◌then◌else◌}
 use Rattle.std.proofs.lemmas.Bool.{cases_lt}
 use Rattle.std.proofs.lemmas.Bool.Decides.{nat_tests}
@@ -37,7 +37,7 @@ use Rattle.am_world.specs.Kernel.Waits.{with_wait, with_walker, waiting, release
 use Rattle.am_world.specs.Machine
 use Rattle.am_world.specs.Tables.{RiseBy, IsOrdered}
 use Rattle.am_world.proofs.RowLemmas.{none_below}
-use Rattle.am_world.proofs.BeginLemmas.{rises_filter, rises_higher}
+use Rattle.am_world.proofs.BeginLemmas.{rises_filter}
 
 kept_above : {X : Type 0} (key : X → ℕ) (k : ℕ) (row : X) (rows : List X) (b : Bool) → nat_lt k (key row) ≡ b → RiseBy key (key row + 1) (filter (λ other. nat_lt k (key other)) rows) → RiseBy key (k + 1) (filter (λ other. nat_lt k (key other)) rows) →
     RiseBy key (k + 1) (cond b (row ∷ filter (λ other. nat_lt k (key other)) rows) (filter (λ other. nat_lt k (key other)) rows))

@@ -1,4 +1,4 @@
-use Rattle.std.proofs.Common.{◌≡◌, Bool, List, ℕ, subst}
+use Rattle.std.proofs.Common.{◌≡◌, List, ℕ, subst}
 use Rattle.std.specs.Str.{bytes_eq}
 use Rattle.am_names.proofs.PathLemmas.{texts_tell}
 use Rattle.am_names.proofs.place.Place.is_at.Goals as goal

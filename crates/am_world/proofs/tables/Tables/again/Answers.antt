@@ -1,4 +1,4 @@
-use Rattle.std.proofs.Common.{◌≡◌, ◌+◌, subst, arith}
+use Rattle.std.proofs.Common.{◌+◌, subst, arith}
 use Rattle.am_world.specs.declared.begin.Beginning.{Beginning}
 use Rattle.am_world.specs.State.{State}
 use Rattle.am_world.specs.Machine.{begun, failed}

@@ -1,4 +1,4 @@
-use Rattle.std.proofs.Common.{◌≡◌, ◌==◌, ◌∙◌, Some, None, ℕ, List, true, false, sym, ap, subst, refl, get_or, set}
+use Rattle.std.proofs.Common.{◌≡◌, ◌==◌, ◌∙◌, Some, None, List, sym, ap, subst, refl, get_or, set}
 use Rattle.std.specs.Prelude.{position}
 use Rattle.am_names.specs.declared.row.OpenToken.{OpenToken}
 use Rattle.am_world.specs.State.{State}

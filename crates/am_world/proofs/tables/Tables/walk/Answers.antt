@@ -2,7 +2,7 @@ use Rattle.std.proofs.Common.{◌≡◌, false, ℕ, List, sym, ap, subst, ◌�
 use Rattle.am_state.specs.declared.kernel_row.WalkerRow.{WalkerRow}
 use Rattle.am_world.specs.declared.walk.Begin.{Begin}
 use Rattle.am_world.specs.declared.begin.Beginning.{Beginning}
-use Rattle.am_world.specs.Machine.{begun, is_busy, moment_of}
+use Rattle.am_world.specs.Machine.{begun, is_busy}
 use Rattle.am_world.specs.Tables.{BeginsAs, state_of}
 use Rattle.am_world.proofs.EventLemmas.{walked_goes, walked_fails}
 use Rattle.am_world.proofs.tables.Tables.walk.Goals as goal

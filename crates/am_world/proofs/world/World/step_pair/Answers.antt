@@ -1,8 +1,7 @@
-use Rattle.std.proofs.Common.{◌≡◌, ◌∙◌, List, refl, subst, sym, ap, inr}
+use Rattle.std.proofs.Common.{List, refl, subst, sym, inr}
 use Rattle.am_state.specs.declared.obs.Obs.{Obs}
 use Rattle.am_world.specs.State.{State}
-use Rattle.am_world.specs.Inside.{view_of}
-use Rattle.am_world.specs.Machine.{Step, Outcome, outcome_of, after}
+use Rattle.am_world.specs.Machine.{Step, outcome_of}
 use Rattle.am_world.specs.Tables.{IsOrdered, state_of}
 use Rattle.am_world.proofs.OrderLemmas.{outcome_kept}
 use Rattle.am_world.proofs.world.World.step_pair.Goals as goal
