@@ -18,6 +18,9 @@ const LIMITS: Limits = Limits {
 
 /// A world of an autofs at /auto, with the keys home and work.
 fn world_within(alloc: Global, limits: Limits) -> Result<World, Fail> {
+    if !limits.is_in_range() {
+        return Err(Fail::new("limits out of their range"));
+    }
     let mut keys = Vec::new(alloc);
     keys.push(Name::read(b"home")?)?;
     keys.push(Name::read(b"work")?)?;
