@@ -22,7 +22,7 @@ use Rattle.am_names.specs.declared.errno.Errno.TheVariants.{EINVAL, ENOSPC}
 use Rattle.am_names.proofs.Cuts.{passes_on}
 use Rattle.am_world.specs.Tables.{RiseBy, IsOrdered, IsTwice, BeginsAs, freed, waits_on}
 
-rises_higher : {X : Type 0} (key : X → ℕ) (low lower : ℕ) (rows : List X) → RiseBy key low rows → lower ≤ low → RiseBy key lower rows
+pub rises_higher : {X : Type 0} (key : X → ℕ) (low lower : ℕ) (rows : List X) → RiseBy key low rows → lower ≤ low → RiseBy key lower rows
 rises_higher key low lower [] h e = tt
 rises_higher key low lower (row ∷ rows) h e = (omega (arith, h.0, e), h.1)
 

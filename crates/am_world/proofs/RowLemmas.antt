@@ -8,7 +8,7 @@ use Rattle.std.proofs.lemmas.List.Sums.{position_or_len_is}
 use Rattle.am_world.specs.Tables.{RiseBy}
 
 -- rows that all stand above a number
-none_below : {X : Type 0} (key : X → ℕ) (k low : ℕ) (rows : List X) → RiseBy key low rows → k ≤ low → filter (λ row. nat_lt (key row) k) rows ≡ []
+pub none_below : {X : Type 0} (key : X → ℕ) (k low : ℕ) (rows : List X) → RiseBy key low rows → k ≤ low → filter (λ row. nat_lt (key row) k) rows ≡ []
 none_below key k low [] h e = refl
 none_below key k low (row ∷ rows) h e =
     let no_less : nat_lt (key row) k ≡ false = grind (arith, nat_tests, h.0) in

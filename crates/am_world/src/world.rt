@@ -16,7 +16,7 @@ use crate::event::Event;
 use crate::handle::queued_of;
 use crate::kernel::Kernel;
 use crate::tables::Tables;
-use crate::twice::{Twice, refuse};
+use crate::twice::refuse;
 use am_names::{AbsPath, Errno, FsId, Limits, MemberRow, MountId, MountRow, Name, NsId, Place, Seconds, Token};
 use am_state::Obs;
 use am_wire::write;
@@ -99,11 +99,11 @@ impl World {
         ensures step { (seen : List Obs) × Step self.old event.now result.0 seen self.new }
         ensures same { result.1 ≡ result.0 }
     {
-        let Twice { one, other } = match self.tables.handle(alloc, event) {
-            Ok(twice) => twice,
-            Err(_) => refuse(Errno::NoMemory),
+        let Ok(told) = self.tables.handle(alloc, event) else {
+            let refused = refuse(Errno::NoMemory);
+            return (refused.one, refused.other);
         };
-        (one, other)
+        (told.one, told.other)
     }
 }
 

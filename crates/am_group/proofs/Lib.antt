@@ -1,0 +1,16 @@
+pub mod ReceiveLemmas
+pub mod LookupLemmas
+pub mod SettleLemmas
+pub mod LawLemmas
+pub mod ChangeLemmas
+pub mod SharedLemmas
+pub mod ScanLemmas
+pub mod AddLemmas
+pub mod CopyLemmas
+pub mod LiftLemmas
+pub mod KindLemmas
+pub mod ClearLemmas
+pub mod JoinLemmas
+pub mod GrowLemmas
+pub mod MemberLemmas
+pub mod TableLemmas

@@ -1,0 +1,153 @@
+-- Lifting masters: what a settled state keeps, and that nothing new comes under a group.
+use Rattle.std.proofs.Common.{◌≡◌, ◌≤◌, ◌<◌, ℕ, zero, suc, Bool, true, false, cond, List, [], ◌∷◌, ◌++◌, Option, Some, None, refl, sym, ap, subst, inl, inr, ◌∙◌, arith}
+use Rattle.std.specs.Prelude.{find, option_map, is_some}
+use Rattle.am_names.specs.declared.row.MemberRow.{MemberRow}
+use Rattle.am_names.specs.declared.row.GroupRow.{GroupRow}
+use Rattle.am_names.specs.PeerGroups.{PeerGroups}
+use Rattle.am_group.specs.Propagation.{member_row, group_row, group_in, slave_in, master_in, group_of, master_of_group}
+use Rattle.am_group.specs.Changes.{has_members, up_within, up, lifted, lifted_member, lifted_group, settled}
+use Rattle.am_group.specs.Invariant.{IsMaster, IsOrderly, IsSound}
+use Rattle.am_group.proofs.ReceiveLemmas.{LeadsUp, home_where, IsUnder}
+use Rattle.am_group.proofs.LookupLemmas.{find_map_same, found_passes, RiseFrom-map, members_from_test}
+
+pub leads_append : (s : PeerGroups) (way more : List ℕ) (h n g : ℕ) → LeadsUp s way h n → LeadsUp s more n g → LeadsUp s (way ++ more) h g
+leads_append s [] more h n g here there = subst (λ (x : ℕ). LeadsUp s more x g) (sym here) there
+leads_append s (x ∷ way) more h n g here there = (here.0, leads_append s way more x n g here.1 there)
+
+-- where one state has the masters of another, what leads up there leads up here
+pub leads_same : (s t : PeerGroups) → ((h n : ℕ) → master_of_group t h ≡ Some n → master_of_group s h ≡ Some n) → (way : List ℕ) (h g : ℕ) → LeadsUp t way h g → LeadsUp s way h g
+leads_same s t same [] h g leads = leads
+leads_same s t same (n ∷ way) h g leads = (same h n leads.0, leads_same s t same way n g leads.1)
+
+-- what the search up the chain finds stands above
+pub found_above : (s : PeerGroups) (test : ℕ → Bool) (steps : ℕ) (start : Option ℕ) (n : ℕ) → find test (up_within steps s start) ≡ Some n → (m : ℕ) × (start ≡ Some m) × (way : List ℕ) × LeadsUp s way m n
+found_above s test zero start n e = absurd cc
+found_above s test (suc steps) None n e = absurd cc
+found_above s test (suc steps) (Some m) n e = go (test m) e (found_above s test steps (master_of_group s m) n)
+  where
+    go : (b : Bool) → cond b (Some m) (find test (up_within steps s (master_of_group s m))) ≡ Some n → (find test (up_within steps s (master_of_group s m)) ≡ Some n → (k : ℕ) × (master_of_group s m ≡ Some k) × (way : List ℕ) × LeadsUp s way k n) → (k : ℕ) × (Some m ≡ Some k) × (way : List ℕ) × LeadsUp s way k n
+    go true e ih = let same : m ≡ n = cc in (m, refl, [], same)
+    go false e ih = let rest = ih e in (m, refl, rest.0 ∷ rest.2, (rest.1, rest.3))
+
+pub lifted_above : (s : PeerGroups) (start : Option ℕ) (n : ℕ) → lifted s start ≡ Some n → (m : ℕ) × (start ≡ Some m) × (way : List ℕ) × LeadsUp s way m n
+lifted_above s None n e = absurd cc
+lifted_above s (Some m) n e = found_above s (has_members s.members) (suc m) (Some m) n e
+
+pub lifted_has : (s : PeerGroups) (start : Option ℕ) (n : ℕ) → lifted s start ≡ Some n → has_members s.members n ≡ true
+lifted_has s start n e = found_passes (has_members s.members) (up s start) n e
+
+-- the look-ups of a settled state
+group_in_lifted : (s : PeerGroups) (o : Option MemberRow) → group_in (option_map (lifted_member s) o) ≡ group_in o
+group_in_lifted s None = refl
+group_in_lifted s (Some row) = refl
+
+slave_in_lifted : (s : PeerGroups) (o : Option MemberRow) → slave_in (option_map (lifted_member s) o) ≡ lifted s (slave_in o)
+slave_in_lifted s None = refl
+slave_in_lifted s (Some row) = refl
+
+master_in_lifted : (s : PeerGroups) (o : Option GroupRow) → master_in (option_map (lifted_group s) o) ≡ lifted s (master_in o)
+master_in_lifted s None = refl
+master_in_lifted s (Some row) = refl
+
+is_some_mapped : {A B : Type 0} (f : A → B) (o : Option A) → is_some (option_map f o) ≡ is_some o
+is_some_mapped f None = refl
+is_some_mapped f (Some x) = refl
+
+pub member_row-settled : (s : PeerGroups) (m : ℕ) → member_row (settled s).members m ≡ option_map (lifted_member s) (member_row s.members m)
+member_row-settled s m = find_map_same (λ (r : MemberRow). r.mount) m (lifted_member s) (λ r. refl) s.members
+
+group_row-settled : (s : PeerGroups) (g : ℕ) → group_row (settled s).groups g ≡ option_map (lifted_group s) (group_row s.groups g)
+group_row-settled s g = find_map_same (λ (r : GroupRow). r.group) g (lifted_group s) (λ r. refl) s.groups
+
+pub group_of-settled : (s : PeerGroups) (m : ℕ) → group_of (settled s) m ≡ group_of s m
+group_of-settled s m = ap group_in (member_row-settled s m) ∙ group_in_lifted s (member_row s.members m)
+
+pub slave-settled : (s : PeerGroups) (m : ℕ) → slave_in (member_row (settled s).members m) ≡ lifted s (slave_in (member_row s.members m))
+slave-settled s m = ap slave_in (member_row-settled s m) ∙ slave_in_lifted s (member_row s.members m)
+
+pub master-settled : (s : PeerGroups) (h : ℕ) → master_of_group (settled s) h ≡ lifted s (master_of_group s h)
+master-settled s h = ap master_in (group_row-settled s h) ∙ master_in_lifted s (group_row s.groups h)
+
+pub IsGroup-settled : (s : PeerGroups) (g : ℕ) → is_some (group_row (settled s).groups g) ≡ is_some (group_row s.groups g)
+IsGroup-settled s g = ap is_some (group_row-settled s g) ∙ is_some_mapped (lifted_group s) (group_row s.groups g)
+
+pub stands-settled : (s : PeerGroups) (m : ℕ) → is_some (member_row (settled s).members m) ≡ is_some (member_row s.members m)
+stands-settled s m = ap is_some (member_row-settled s m) ∙ is_some_mapped (lifted_member s) (member_row s.members m)
+
+-- what leads up in the settled state led up before
+leads-settled : (s : PeerGroups) (way : List ℕ) (h g : ℕ) → LeadsUp (settled s) way h g → (before : List ℕ) × LeadsUp s before h g
+leads-settled s [] h g leads = ([], leads)
+leads-settled s (n ∷ way) h g leads =
+    let rest = leads-settled s way n g leads.1 in
+    let first = lifted_above s (master_of_group s h) n (sym (master-settled s h) ∙ leads.0) in
+    (first.0 ∷ first.2 ++ rest.0, (first.1, leads_append s first.2 rest.0 first.0 n g first.3 rest.1))
+
+pub under-settled : (s : PeerGroups) (c g : ℕ) → IsUnder (settled s) c g → IsUnder s c g
+under-settled s c g under = go (group_of s c) refl (rw (group_of-settled s c, slave-settled s c) at under.is_home)
+  where
+    go : (in_group : Option ℕ) → group_of s c ≡ in_group → home_where (group_of s c) (lifted s (slave_in (member_row s.members c))) ≡ Some under.home → IsUnder s c g
+    go (Some h) e home =
+        let before = leads-settled s under.way under.home g under.leads in
+        record { home = under.home; is_home = rw e (rw e at home); way = before.0; leads = before.1 }
+    go None e home =
+        let before = leads-settled s under.way under.home g under.leads in
+        let first = lifted_above s (slave_in (member_row s.members c)) under.home (rw e at home) in
+        record { home = first.0; is_home = rw e first.1; way = first.2 ++ before.0; leads = leads_append s first.2 before.0 first.0 under.home g first.3 before.1 }
+
+-- what stands above a master is a master
+master_above : (s : PeerGroups) (way : List ℕ) (m g : ℕ) → IsMaster s m → LeadsUp s way m g → IsMaster s g
+master_above s [] m g is_master leads = subst (λ (x : ℕ). IsMaster s x) leads is_master
+master_above s (n ∷ way) m g is_master leads = master_above s way n g (inr (m, leads.0)) leads.1
+
+-- and has a lower number
+not_below : (s : PeerGroups) → IsOrderly s → (way : List ℕ) (m g : ℕ) → LeadsUp s way m g → g ≤ m
+not_below s orderly [] m g leads = omega arith
+not_below s orderly (n ∷ way) m g leads =
+    let first : n < m = orderly.down m n leads.0 in
+    let rest : g ≤ n = not_below s orderly way n g leads.1 in
+    omega arith
+
+-- a master of the settled state was one before, and has members
+master-settled-has : (s : PeerGroups) (g : ℕ) → IsMaster (settled s) g → IsMaster s g × (has_members s.members g ≡ true)
+master-settled-has s g (inl (m, e)) =
+    let lift : lifted s (slave_in (member_row s.members m)) ≡ Some g = sym (slave-settled s m) ∙ e in
+    let above = lifted_above s (slave_in (member_row s.members m)) g lift in
+    (master_above s above.2 above.0 g (inl (m, above.1)) above.3, lifted_has s _ g lift)
+master-settled-has s g (inr (h, e)) =
+    let lift : lifted s (master_of_group s h) ≡ Some g = sym (master-settled s h) ∙ e in
+    let above = lifted_above s (master_of_group s h) g lift in
+    (master_above s above.2 above.0 g (inr (h, above.1)) above.3, lifted_has s _ g lift)
+
+-- an orderly state settles into a sound one
+pub settled_sound : (s : PeerGroups) → IsOrderly s → IsSound (settled s)
+settled_sound s orderly = record {
+  orderly = record {
+    rising = RiseFrom-map (lifted_member s) (λ r. refl) 0 s.members orderly.rising;
+    group_named = λ m g e. IsGroup-settled s g ∙ orderly.group_named m g (sym (group_of-settled s m) ∙ e);
+    master_named = λ g is_master. IsGroup-settled s g ∙ orderly.master_named g (master-settled-has s g is_master).0;
+    down = λ h g e.
+        let above = lifted_above s (master_of_group s h) g (sym (master-settled s h) ∙ e) in
+        let first : above.0 < h = orderly.down h above.0 above.1 in
+        let rest : g ≤ above.0 = not_below s orderly above.2 above.0 g above.3 in
+        omega arith;
+    fresh = λ g is_group. orderly.fresh g (sym (IsGroup-settled s g) ∙ is_group);
+  };
+  peopled = λ g is_master.
+      let member = members_from_test s g orderly.rising (master-settled-has s g is_master).1 in
+      (member.0, group_of-settled s member.0 ∙ member.1);
+}
+
+-- the steps of `up` are enough: where a group above has members, the lift finds one
+found_within : (s : PeerGroups) → IsOrderly s → (test : ℕ → Bool) (steps m : ℕ) → m < steps → (way : List ℕ) (g : ℕ) → LeadsUp s way m g → test g ≡ true → is_some (find test (up_within steps s (Some m))) ≡ true
+found_within s orderly test zero m fits way g leads passes = absurd (omega arith)
+found_within s orderly test (suc steps) m fits [] g leads passes = rw (leads, passes) refl
+found_within s orderly test (suc steps) m fits (n ∷ way) g leads passes =
+    let lower : n < m = orderly.down m n leads.0 in
+    rw (leads.0) (go (test m) (found_within s orderly test steps n (omega arith) way g leads.1 passes))
+  where
+    go : (b : Bool) → is_some (find test (up_within steps s (Some n))) ≡ true → is_some (cond b (Some m) (find test (up_within steps s (Some n)))) ≡ true
+    go true ih = refl
+    go false ih = ih
+
+pub lifted_finds : (s : PeerGroups) → IsOrderly s → (m : ℕ) (way : List ℕ) (g : ℕ) → LeadsUp s way m g → has_members s.members g ≡ true → is_some (lifted s (Some m)) ≡ true
+lifted_finds s orderly m way g leads has = found_within s orderly (has_members s.members) (suc m) m (omega arith) way g leads has

@@ -1,0 +1,124 @@
+-- Changes of a mount's propagation (sharedsubtree.rst, 5c and 8), and what an emptied peer
+-- group leaves.
+use Rattle.std.specs.Prelude.{◌==◌, ◌+◌, ℕ, zero, suc, Bool, true, false, not, List, [], ◌∷◌, ◌++◌, map, filter, find, Option, Some, None, if◌then◌else◌}
+use Rattle.std.specs.List.{list_any}
+use Rattle.am_names.specs.declared.row.MemberRow.{MemberRow}
+use Rattle.am_names.specs.declared.row.GroupRow.{GroupRow}
+use Rattle.am_names.specs.PeerGroups.{PeerGroups}
+use Rattle.am_group.specs.declared.kind.Change.{Change}
+use Rattle.am_group.specs.declared.kind.Change.TheVariants.{MakeShared, MakeSlave, MakePrivate, MakeUnbindable}
+use Rattle.am_group.specs.Propagation.{member_row, group_of, master_of_group}
+
+abbrev pub is_just : ℕ → Option ℕ → Bool
+is_just g None = false
+is_just g (Some h) = h == g
+
+-- a mount is in the peer group
+abbrev pub has_members : List MemberRow → ℕ → Bool
+has_members members g = list_any (λ row. is_just g row.group) members
+
+-- the group, its master, that one's master and so on, for at most so many steps
+abbrev pub up_within : ℕ → PeerGroups → Option ℕ → List ℕ
+up_within zero s start = []
+up_within (suc steps) s None = []
+up_within (suc steps) s (Some g) = g ∷ up_within steps s (master_of_group s g)
+
+-- the whole chain of masters: a master's number is below its group's, so so many steps are enough
+abbrev pub up : PeerGroups → Option ℕ → List ℕ
+up s None = []
+up s (Some g) = up_within (suc g) s (Some g)
+
+-- own: in place of a master without members the first group up its chain of masters that has
+-- members, else none
+abbrev pub lifted : PeerGroups → Option ℕ → Option ℕ
+lifted s master = find (has_members s.members) (up s master)
+
+abbrev pub lifted_member : PeerGroups → MemberRow → MemberRow
+lifted_member s row = record row { master = lifted s row.master }
+
+abbrev pub lifted_group : PeerGroups → GroupRow → GroupRow
+lifted_group s row = record row { master = lifted s row.master }
+
+-- every master is lifted
+abbrev pub settled : PeerGroups → PeerGroups
+settled s = record s {
+  members = map (lifted_member s) s.members;
+  groups = map (lifted_group s) s.groups;
+}
+
+-- slave: of the peer group that it leaves; what is in none stays as it is
+abbrev pub slave_from : Option ℕ → MemberRow → MemberRow
+slave_from (Some group) row = record row { group = None; master = Some group; unbindable = false }
+slave_from None row = row
+
+abbrev pub slave_row : MemberRow → MemberRow
+slave_row row = slave_from row.group row
+
+abbrev pub private_row : MemberRow → MemberRow
+private_row row = record row { group = None; master = None; unbindable = false }
+
+abbrev pub unbindable_row : MemberRow → MemberRow
+unbindable_row row = record row { group = None; master = None; unbindable = true }
+
+-- shared: in this fresh peer group; what is in a group stays in it
+abbrev pub shared_from : Option ℕ → ℕ → MemberRow → MemberRow
+shared_from (Some group) fresh row = row
+shared_from None fresh row = record row { group = Some fresh; master = None; unbindable = false }
+
+abbrev pub shared_row : ℕ → MemberRow → MemberRow
+shared_row fresh row = shared_from row.group fresh row
+
+abbrev pub at_row : (MemberRow → MemberRow) → ℕ → MemberRow → MemberRow
+at_row change m row = if row.mount == m then change row else row
+
+-- this mount's row changes so
+abbrev pub with_row : (MemberRow → MemberRow) → ℕ → PeerGroups → PeerGroups
+with_row change m s = record s { members = map (at_row change m) s.members }
+
+-- a fresh peer group with this master
+abbrev pub with_group : Option ℕ → PeerGroups → PeerGroups
+with_group master s = record s {
+  groups = s.groups ++ (record { group = s.last_group + 1; master = master }) ∷ [];
+  last_group = s.last_group + 1;
+}
+
+-- a mount in no group comes into a fresh one, whose master is the mount's own
+abbrev pub shared_where : Option MemberRow → Option ℕ → ℕ → PeerGroups → PeerGroups
+shared_where None group m s = s
+shared_where (Some row) (Some group) m s = s
+shared_where (Some row) None m s =
+    settled (with_row (shared_row (s.last_group + 1)) m (with_group row.master s))
+
+-- the four changes: the mount's row, then the masters that it leaves without members
+abbrev pub made_shared : ℕ → PeerGroups → PeerGroups
+made_shared m s = shared_where (member_row s.members m) (group_of s m) m s
+
+abbrev pub made_slave : ℕ → PeerGroups → PeerGroups
+made_slave m s = settled (with_row slave_row m s)
+
+abbrev pub made_private : ℕ → PeerGroups → PeerGroups
+made_private m s = settled (with_row private_row m s)
+
+abbrev pub made_unbindable : ℕ → PeerGroups → PeerGroups
+made_unbindable m s = settled (with_row unbindable_row m s)
+
+abbrev pub changed : Change → ℕ → PeerGroups → PeerGroups
+changed MakeShared = made_shared
+changed MakeSlave = made_slave
+changed MakePrivate = made_private
+changed MakeUnbindable = made_unbindable
+
+-- the mount is one of these
+abbrev pub is_among : List ℕ → ℕ → Bool
+is_among ms m = list_any (λ x. x == m) ms
+
+-- the mounts that the test keeps are left
+abbrev pub with_only : (ℕ → Bool) → PeerGroups → PeerGroups
+with_only keeps s = record s { members = filter (λ row. keeps row.mount) s.members }
+
+abbrev pub without : (ℕ → Bool) → PeerGroups → PeerGroups
+without gone s = settled (with_only (λ m. not (gone m)) s)
+
+-- the peer groups that have members are left
+abbrev pub cleared : PeerGroups → PeerGroups
+cleared s = record s { groups = filter (λ row. has_members s.members row.group) s.groups }

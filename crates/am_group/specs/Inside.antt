@@ -1,0 +1,6 @@
+-- What the fields stand for.
+use Rattle.am_names.specs.PeerGroups.{PeerGroups}
+use Rattle.am_group.specs.declared.groups.Groups.TheInside.{Inside}
+
+abbrev pub view_of : Inside → PeerGroups
+view_of g = record { members = g.members.items; groups = g.groups.items; last_group = g.last_group }

@@ -1,0 +1,9 @@
+pub mod Propagation
+pub mod Changes
+pub mod Kinds
+pub mod Members
+pub mod Invariant
+pub mod Scan
+pub mod Inside
+pub mod Copies
+pub mod Tables

@@ -1,0 +1,35 @@
+-- The rows of a change before the masters are lifted.
+use Rattle.std.specs.Prelude.{ℕ, Bool, true, false}
+use Rattle.am_names.specs.declared.row.MemberRow.{MemberRow}
+use Rattle.am_names.specs.PeerGroups.{PeerGroups}
+use Rattle.am_group.specs.declared.tables.Tables.{Tables}
+use Rattle.am_group.specs.declared.kind.Kind.{Kind}
+use Rattle.am_group.specs.declared.kind.Kind.TheVariants.{Shared, Slave, SharedSlave, Private, Unbindable}
+use Rattle.am_group.specs.declared.kind.Change.{Change}
+use Rattle.am_group.specs.declared.kind.Change.TheVariants.{MakeShared, MakeSlave, MakePrivate, MakeUnbindable}
+use Rattle.am_group.specs.Changes.{shared_row, slave_row, private_row, unbindable_row}
+
+abbrev pub state_of : Tables → PeerGroups
+state_of t = record { members = t.members.items; groups = t.groups.items; last_group = t.last_group }
+
+-- what a change makes of a row
+abbrev pub row_of : Change → ℕ → MemberRow → MemberRow
+row_of MakeShared fresh = shared_row fresh
+row_of MakeSlave fresh = slave_row
+row_of MakePrivate fresh = private_row
+row_of MakeUnbindable fresh = unbindable_row
+
+-- the row of a mount that comes to this state
+abbrev pub row_as : Kind → ℕ → MemberRow → MemberRow
+row_as Shared fresh = shared_row fresh
+row_as SharedSlave fresh = shared_row fresh
+row_as Slave fresh = slave_row
+row_as Private fresh = private_row
+row_as Unbindable fresh = unbindable_row
+
+-- the change puts no mount into a peer group
+abbrev pub gives_up : Change → Bool
+gives_up MakeShared = false
+gives_up MakeSlave = true
+gives_up MakePrivate = true
+gives_up MakeUnbindable = true

@@ -1,0 +1,216 @@
+//! The peer groups of all mounts.
+
+ghost use Rattle.std.specs.Prelude.{◌≡◌, ◌+◌, ◌^◌, ◌<◌, ◌≤◌, length, IfOk, IfSome, OnOk, OnErr};
+ghost use Rattle.am_names.specs.Errno.{RefusedAs};
+ghost use Rattle.am_group.specs.Propagation.{member_row, group_of, master_of_group};
+ghost use Rattle.am_group.specs.Changes.{with_group};
+ghost use Rattle.am_group.specs.Copies.{all_added};
+ghost use Rattle.am_group.specs.Invariant.{AddsNoReceivers, IsSound};
+ghost use Rattle.am_group.specs.Kinds.{kind_of_row, kind_of};
+ghost use Rattle.am_group.specs.Members.{no_mounts, below, row_with, with_member, is_exhausted, may_be_master, may_have, fresh_refusal, add_refusal};
+
+use crate::kind::Kind;
+use crate::membership::Membership;
+use crate::tables::{group_row, has_members};
+use am_names::{Errno, GroupId, GroupRow, MemberRow, MountId};
+use std::alloc::{AllocError, Global};
+use std::marker::Model;
+
+mod changes;
+mod receivers;
+#[cfg(test)]
+mod tests;
+
+/// Mounts in rising order of number, and peer groups with their masters (sharedsubtree.rst, 5a).
+/// A master has a lower number than the groups under it, and has members.
+#[derive(Drop)]
+pub struct Groups {
+    members: Vec<MemberRow>,
+    groups: Vec<GroupRow>,
+    last_group: u64,
+}
+
+impl Model for Groups {
+    ghost use Rattle.am_names.specs.PeerGroups.{PeerGroups};
+
+    ghost Value = { PeerGroups };
+
+    ghost use Rattle.am_group.specs.Invariant.{IsSound};
+    ghost use Rattle.am_group.specs.Inside.{view_of};
+
+    ghost view = { view_of };
+
+    ghost invariant = { λ g. IsSound (view_of g) };
+}
+
+impl Groups {
+    /// No mount and no peer group.
+    pub fn new(alloc: Global) -> Groups
+        ensures { result ≡ no_mounts }
+    {
+        Groups {
+            members: Vec::new(alloc),
+            groups: Vec::new(alloc),
+            last_group: 0,
+        }
+    }
+
+    /// The mounts, in rising order of number.
+    pub fn members(&self) -> &[MemberRow]
+        ensures rows { result.now ≡ self.now.members }
+        ensures sound { IsSound self.now }
+    {
+        self.members.as_slice()
+    }
+
+    /// The mount with its peer group or master.
+    pub fn member(&self, mount: MountId) -> Option<MemberRow>
+        ensures { result ≡ member_row self.now.members mount }
+    {
+        self.members.iter().copied().find(|row| row.mount == mount)
+    }
+
+    /// The peer group of a shared mount.
+    pub fn group_of(&self, mount: MountId) -> Option<GroupId>
+        ensures { result ≡ group_of self.now mount }
+    {
+        match self.member(mount) {
+            Some(row) => row.group,
+            None => None,
+        }
+    }
+
+    /// The master of a peer group.
+    pub fn master_of_group(&self, group: GroupId) -> Option<GroupId>
+        ensures master { result ≡ master_of_group self.now group }
+        ensures lower { IfSome result (λ master. master < group) }
+    {
+        match group_row(self.groups.as_slice(), group) {
+            Some(row) => row.master,
+            None => None,
+        }
+    }
+
+    fn kind_of_row(&self, row: &MemberRow) -> Kind
+        ensures { result ≡ kind_of_row self.now row.now }
+    {
+        match row.group {
+            Some(group) => match self.master_of_group(group) {
+                Some(_) => Kind::SharedSlave,
+                None => Kind::Shared,
+            },
+            None => match row.master {
+                Some(_) => Kind::Slave,
+                None if row.unbindable => Kind::Unbindable,
+                None => Kind::Private,
+            },
+        }
+    }
+
+    /// The state of the mount; none where there is no such mount.
+    pub fn kind(&self, mount: MountId) -> Option<Kind>
+        ensures { result ≡ kind_of self.now mount }
+    {
+        match self.member(mount) {
+            Some(row) => Some(self.kind_of_row(&row)),
+            None => None,
+        }
+    }
+
+    fn is_exhausted(&self) -> bool
+        ensures { result ≡ is_exhausted self.now }
+    {
+        self.last_group == u64::MAX
+    }
+
+    fn may_be_master(&self, master: &Option<GroupId>) -> bool
+        ensures { result ≡ may_be_master self.now master.now }
+    {
+        match master {
+            Some(group) => has_members(self.members.as_slice(), *group),
+            None => true,
+        }
+    }
+
+    fn may_have(&self, membership: &Membership) -> bool
+        ensures { result ≡ may_have self.now membership.now }
+    {
+        match membership {
+            Membership::InGroup(group) => group_row(self.groups.as_slice(), *group).is_some(),
+            Membership::SlaveOf(group) => has_members(self.members.as_slice(), *group),
+            Membership::Private | Membership::Unbindable => true,
+        }
+    }
+
+    /// A fresh peer group, of the next number. Own: its master must have members already, so
+    /// that no master is ever without.
+    pub fn fresh(&mut self, master: Option<GroupId>) -> Result<GroupId, Errno>
+        ensures refusal { RefusedAs (fresh_refusal master self.old) result }
+        ensures number { IfOk result (λ group. group ≡ self.old.last_group + 1) }
+        ensures ok { OnOk result (self.new ≡ with_group master self.old) }
+        ensures err { OnErr result (self.new ≡ self.old) }
+        ensures law { AddsNoReceivers self.old self.new }
+    {
+        if !self.may_be_master(&master) {
+            return Err(Errno::EINVAL);
+        }
+        if self.is_exhausted() {
+            return Err(Errno::ENOSPC);
+        }
+        let group = GroupId(self.last_group + 1);
+        let row = GroupRow { group, master };
+        self.groups.push(row)?;
+        self.last_group = group.0;
+        Ok(group)
+    }
+
+    /// A mount that isn't there yet. Own: a slave's master must have members already.
+    pub fn add(&mut self, mount: MountId, membership: Membership) -> Result<(), Errno>
+        ensures refusal { RefusedAs (add_refusal mount membership self.old) result }
+        ensures ok { OnOk result (self.new ≡ with_member (row_with membership mount) self.old) }
+        ensures err { OnErr result (self.new ≡ self.old) }
+        ensures law { AddsNoReceivers self.old self.new }
+    {
+        if self.member(mount).is_some() {
+            return Err(Errno::EEXIST);
+        }
+        if !self.may_have(&membership) {
+            return Err(Errno::EINVAL);
+        }
+        let row = membership.row(mount);
+        let _group: Option<GroupId> = row.group;
+        let index = self.rank(mount);
+        self.members.insert(index, row)?;
+        Ok(())
+    }
+
+    /// Adds new mounts and peer groups, all or none, as a mount with its copies brings them. The
+    /// caller shows that the invariant holds of all together: the numbers rise above all that
+    /// are there, and what is named is there, masters with lower numbers and with members.
+    pub fn add_all(
+        &mut self,
+        mut members: Vec<MemberRow>,
+        mut groups: Vec<GroupRow>,
+    ) -> Result<(), AllocError>
+        requires numbers { self.old.last_group + length groups.items < 2 ^ 64 }
+        requires sound { IsSound (all_added members.items groups.items self.old) }
+        ensures ok { OnOk result (self.new ≡ all_added members.items groups.items self.old) }
+        ensures err { OnErr result (self.new ≡ self.old) }
+        ensures law { AddsNoReceivers self.old self.new }
+    {
+        let count = groups.len();
+        self.members.reserve(members.len())?;
+        self.groups.append(&mut groups)?;
+        self.members.append(&mut members)?;
+        self.last_group += count as u64;
+        Ok(())
+    }
+
+    /// How many mounts have lower numbers.
+    fn rank(&self, mount: MountId) -> usize
+        ensures rank { result ≡ length (below mount self.now.members) }
+        ensures within { result ≤ length self.now.members }
+    {
+        self.members.iter().filter(|row| row.mount < mount).count()
+    }
+}

@@ -1,0 +1,193 @@
+//! The changes of a mount's state, and mounts that leave.
+
+ghost use Rattle.std.specs.Prelude.{◌≡◌, true, not, None, IfOk, OnOk, OnErr};
+ghost use Rattle.am_names.specs.Errno.{RefusedAs};
+ghost use Rattle.am_group.specs.Changes.{settled, with_row, made_shared, made_slave, made_private, made_unbindable, changed, is_among, with_only, without};
+ghost use Rattle.am_group.specs.Invariant.{IsOrderly, AddsNoReceivers};
+ghost use Rattle.am_group.specs.Kinds.{FollowsTable};
+ghost use Rattle.am_group.specs.Members.{change_refusal};
+ghost use Rattle.am_group.specs.Tables.{state_of, row_of, gives_up};
+
+use crate::groups::Groups;
+use crate::kind::{Change, asked, row_as};
+use crate::tables::Tables;
+use am_names::{Errno, GroupId, GroupRow, MemberRow, MountId};
+use std::alloc::{AllocError, Global};
+
+fn is_among(mount: MountId, mounts: &[MountId]) -> bool
+    ensures { result ≡ is_among mounts.now mount }
+{
+    mounts.iter().copied().any(|other| other == mount)
+}
+
+impl Groups {
+    fn changed_row(&self, change: Change, fresh: GroupId, row: MemberRow) -> MemberRow
+        ensures { result ≡ row_of change fresh row }
+    {
+        let kind = self.kind_of_row(&row);
+        row_as(asked(change, kind), fresh, row)
+    }
+
+    fn with_row(
+        &self,
+        alloc: Global,
+        change: Change,
+        fresh: GroupId,
+        mount: MountId,
+    ) -> Result<Tables, AllocError>
+        ensures { IfOk result (λ t. state_of t ≡ with_row (row_of change fresh) mount self.now) }
+    {
+        let mut members = Vec::new(alloc);
+        for row in self.members.iter() {
+            let row = if row.mount == mount {
+                self.changed_row(change, fresh, *row)
+            } else {
+                *row
+            };
+            members.push(row)?;
+        }
+        let groups = Vec::from_slice(alloc, self.groups.as_slice())?;
+        Ok(Tables {
+            members,
+            groups,
+            last_group: self.last_group,
+        })
+    }
+
+    /// Takes these rows, and lifts the masters that are left without members.
+    fn settle(&mut self, alloc: Global, raw: Tables) -> Result<(), AllocError>
+        requires { IsOrderly (state_of raw) }
+        ensures ok { OnOk result (self.new ≡ settled (state_of raw)) }
+        ensures err { OnErr result (self.new ≡ self.old) }
+    {
+        let members = raw.settled_members(alloc)?;
+        let groups = raw.settled_groups(alloc)?;
+        self.members = members;
+        self.groups = groups;
+        self.last_group = raw.last_group;
+        Ok(())
+    }
+
+    fn give_up(&mut self, alloc: Global, change: Change, mount: MountId) -> Result<(), Errno>
+        requires { gives_up change ≡ true }
+        ensures refusal { RefusedAs (change_refusal change mount self.old) result }
+        ensures ok { OnOk result (self.new ≡ settled (with_row (row_of change 0) mount self.old)) }
+        ensures err { OnErr result (self.new ≡ self.old) }
+        ensures law { AddsNoReceivers self.old self.new }
+    {
+        let _members = &self.members;
+        if self.member(mount).is_none() {
+            return Err(Errno::EINVAL);
+        }
+        let raw = self.with_row(alloc, change, GroupId(0), mount)?;
+        self.settle(alloc, raw)?;
+        Ok(())
+    }
+
+    /// Makes the mount shared (sharedsubtree.rst, 5c). One that is shared stays in its peer
+    /// group; another comes into a fresh one, whose master is the one that it had.
+    pub fn make_shared(&mut self, alloc: Global, mount: MountId) -> Result<(), Errno>
+        ensures refusal { RefusedAs (change_refusal Change.MakeShared mount self.old) result }
+        ensures ok { OnOk result (self.new ≡ made_shared mount self.old) }
+        ensures err { OnErr result (self.new ≡ self.old) }
+        ensures law { AddsNoReceivers self.old self.new }
+    {
+        let Some(row) = self.member(mount) else {
+            return Err(Errno::EINVAL);
+        };
+        if row.group.is_some() {
+            return Ok(());
+        }
+        if self.is_exhausted() {
+            return Err(Errno::ENOSPC);
+        }
+        let group = GroupId(self.last_group + 1);
+        let mut raw = self.with_row(alloc, Change::MakeShared, group, mount)?;
+        raw.groups.push(GroupRow {
+            group,
+            master: row.master,
+        })?;
+        raw.last_group = group.0;
+        self.settle(alloc, raw)?;
+        Ok(())
+    }
+
+    /// Makes the mount a slave of the peer group that it leaves (sharedsubtree.rst, 5c). Own: one
+    /// that was alone there is a slave of the group's master, if there is one.
+    pub fn make_slave(&mut self, alloc: Global, mount: MountId) -> Result<(), Errno>
+        ensures refusal { RefusedAs (change_refusal Change.MakeSlave mount self.old) result }
+        ensures ok { OnOk result (self.new ≡ made_slave mount self.old) }
+        ensures err { OnErr result (self.new ≡ self.old) }
+        ensures law { AddsNoReceivers self.old self.new }
+    {
+        self.give_up(alloc, Change::MakeSlave, mount)
+    }
+
+    /// Makes the mount private (sharedsubtree.rst, 5c).
+    pub fn make_private(&mut self, alloc: Global, mount: MountId) -> Result<(), Errno>
+        ensures refusal { RefusedAs (change_refusal Change.MakePrivate mount self.old) result }
+        ensures ok { OnOk result (self.new ≡ made_private mount self.old) }
+        ensures err { OnErr result (self.new ≡ self.old) }
+        ensures law { AddsNoReceivers self.old self.new }
+    {
+        self.give_up(alloc, Change::MakePrivate, mount)
+    }
+
+    /// Makes the mount private, and not to be bound (sharedsubtree.rst, 5c).
+    pub fn make_unbindable(&mut self, alloc: Global, mount: MountId) -> Result<(), Errno>
+        ensures refusal { RefusedAs (change_refusal Change.MakeUnbindable mount self.old) result }
+        ensures ok { OnOk result (self.new ≡ made_unbindable mount self.old) }
+        ensures err { OnErr result (self.new ≡ self.old) }
+        ensures law { AddsNoReceivers self.old self.new }
+    {
+        self.give_up(alloc, Change::MakeUnbindable, mount)
+    }
+
+    /// One of the four changes: the mount's state afterwards is that of the table.
+    pub fn change(&mut self, alloc: Global, change: Change, mount: MountId) -> Result<(), Errno>
+        ensures refusal { RefusedAs (change_refusal change mount self.old) result }
+        ensures ok { OnOk result (self.new ≡ changed change mount self.old) }
+        ensures table { OnOk result (FollowsTable change mount self.old self.new) }
+        ensures err { OnErr result (self.new ≡ self.old) }
+        ensures law { AddsNoReceivers self.old self.new }
+    {
+        let _members = &self.members;
+        match change {
+            Change::MakeShared => self.make_shared(alloc, mount),
+            Change::MakeSlave => self.make_slave(alloc, mount),
+            Change::MakePrivate => self.make_private(alloc, mount),
+            Change::MakeUnbindable => self.make_unbindable(alloc, mount),
+        }
+    }
+
+    /// Takes these mounts away, as an unmount does. Of the numbers that are no mount's, nothing
+    /// comes. Masters that are left without members are lifted once, at the end.
+    pub fn leave(&mut self, alloc: Global, gone: &[MountId]) -> Result<(), Errno>
+        ensures refusal { RefusedAs None result }
+        ensures ok { OnOk result (self.new ≡ without (is_among gone.now) self.old) }
+        ensures err { OnErr result (self.new ≡ self.old) }
+        ensures law { AddsNoReceivers self.old self.new }
+    {
+        let _members = &self.members;
+        let raw = self.with_only(alloc, gone)?;
+        self.settle(alloc, raw)?;
+        Ok(())
+    }
+
+    fn with_only(&self, alloc: Global, gone: &[MountId]) -> Result<Tables, AllocError>
+        ensures { IfOk result (λ t. state_of t ≡ with_only (λ m. not (is_among gone.now m)) self.now) }
+    {
+        let mut members = Vec::new(alloc);
+        for row in self.members.iter() {
+            if !is_among(row.mount, gone) {
+                members.push(*row)?;
+            }
+        }
+        let groups = Vec::from_slice(alloc, self.groups.as_slice())?;
+        Ok(Tables {
+            members,
+            groups,
+            last_group: self.last_group,
+        })
+    }
+}

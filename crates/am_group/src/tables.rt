@@ -1,0 +1,93 @@
+//! The rows of a change before the masters are lifted.
+
+ghost use Rattle.std.specs.Prelude.{◌≡◌, map, IfOk};
+ghost use Rattle.am_group.specs.Propagation.{group_row, master_of_group};
+ghost use Rattle.am_group.specs.Changes.{is_just, has_members, lifted, lifted_member, lifted_group};
+ghost use Rattle.am_group.specs.Invariant.{IsOrderly};
+ghost use Rattle.am_group.specs.Tables.{state_of};
+
+use am_names::{GroupId, GroupRow, MemberRow};
+use std::alloc::{AllocError, Global};
+
+/// Rows in which a master may have lost its members.
+#[derive(Drop)]
+pub struct Tables {
+    pub members: Vec<MemberRow>,
+    pub groups: Vec<GroupRow>,
+    pub last_group: u64,
+}
+
+/// Whether the group of a mount, or its master, is this one.
+pub fn is_just(group: GroupId, of: Option<GroupId>) -> bool
+    ensures { result ≡ is_just group of }
+{
+    match of {
+        Some(other) => other == group,
+        None => false,
+    }
+}
+
+/// Whether a mount is in the peer group.
+pub fn has_members(members: &[MemberRow], group: GroupId) -> bool
+    ensures { result ≡ has_members members.now group }
+{
+    members.iter().copied().any(|row| is_just(group, row.group))
+}
+
+/// The peer group with its master.
+pub fn group_row(groups: &[GroupRow], group: GroupId) -> Option<GroupRow>
+    ensures { result ≡ group_row groups.now group }
+{
+    groups.iter().copied().find(|row| row.group == group)
+}
+
+impl Tables {
+    fn master_of_group(&self, group: GroupId) -> Option<GroupId>
+        ensures { result ≡ master_of_group (state_of self.now) group }
+    {
+        match group_row(self.groups.as_slice(), group) {
+            Some(row) => row.master,
+            None => None,
+        }
+    }
+
+    fn lifted(&self, master: Option<GroupId>) -> Option<GroupId>
+        requires { IsOrderly (state_of self.now) }
+        ensures { result ≡ lifted (state_of self.now) master }
+    {
+        let mut current = master;
+        while let Some(group) = current {
+            if has_members(self.members.as_slice(), group) {
+                return Some(group);
+            }
+            current = self.master_of_group(group);
+        }
+        None
+    }
+
+    /// The mounts, with their masters lifted.
+    pub fn settled_members(&self, alloc: Global) -> Result<Vec<MemberRow>, AllocError>
+        requires { IsOrderly (state_of self.now) }
+        ensures { IfOk result (λ v. v.items ≡ map (lifted_member (state_of self.now)) (state_of self.now).members) }
+    {
+        let mut rows = Vec::new(alloc);
+        for row in self.members.iter() {
+            let master = self.lifted(row.master);
+            rows.push(MemberRow { master, ..*row })?;
+        }
+        Ok(rows)
+    }
+
+    /// The peer groups, with their masters lifted.
+    pub fn settled_groups(&self, alloc: Global) -> Result<Vec<GroupRow>, AllocError>
+        requires { IsOrderly (state_of self.now) }
+        ensures { IfOk result (λ v. v.items ≡ map (lifted_group (state_of self.now)) (state_of self.now).groups) }
+    {
+        let mut rows = Vec::new(alloc);
+        for row in self.groups.iter() {
+            let master = self.lifted(row.master);
+            rows.push(GroupRow { master, ..*row })?;
+        }
+        Ok(rows)
+    }
+}

@@ -1,0 +1,12 @@
+//! The lines and words of maps and of the master map (autofs(5), "SUN FORMAT").
+//! Joined lines are put together in the caller's buffer; words are borrowed.
+#![tactic(auto)]
+
+pub mod lines;
+pub mod words;
+
+pub use lines::{Behind, next_line};
+pub use words::{begins_with, cut_at_colon, first_word, next_word};
+
+#[cfg(test)]
+mod tests;

@@ -1,0 +1,4 @@
+pub mod FaultLemmas
+pub mod FirstLemmas
+pub mod ReadLemmas
+pub mod StoredLemmas

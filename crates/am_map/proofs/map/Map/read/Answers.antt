@@ -1,0 +1,34 @@
+use Rattle.std.proofs.Common.{◌≡◌, ℕ, Ok, Err, sym, ◌∙◌, arith}
+use Rattle.am_lines.specs.Words.{statements, words, statement_of_words}
+use Rattle.am_lines.specs.Behind.{lines_behind}
+use Rattle.am_map.specs.Grammar.{rows_read, map_read}
+use Rattle.am_map.specs.Stored.{line_added}
+use Rattle.am_map.proofs.FaultLemmas.{passed_on}
+use Rattle.am_map.proofs.ReadLemmas.{line_goes, line_stops, read_is, finds_first}
+use Rattle.am_map.proofs.map.Map.read.Goals as goal
+
+pub returns-in-Err-clause-read : goal.returns-in-Err-clause-read
+returns-in-Err-clause-read c =
+    let number = c.loop-behind.number in
+    let stops = λ (e : (n : ℕ) → line_added c.args.kind c.loop-behind.map (statement_of_words n (words c.as_slice.result.now)) ≡ Err c.in-Err.kind).
+    sym (read_is (rows_read c.args.kind (statements c.args.text.now))) ∙ sym c.loop-behind.invariant.read
+    ∙ line_stops c.args.kind number c.loop-behind.map c.in-Err.kind c.loop-behind.rest.now c.next_line.new.line.items (lines_behind number c.in-Ok.behind) (c.in-Ok.ensures.ok number) (rw c.as_slice.ensures.value at (e number)) in
+    passed_on c.in-Err.kind stops c.in-Err.ensures.err
+
+pub returns-in_default-rest : goal.returns-in_default-rest
+returns-in_default-rest c =
+    let number = c.loop-behind.number in
+    let goes = line_goes c.args.kind number c.loop-behind.map c.read_line.new.self c.loop-behind.rest.now c.next_line.new.line.items (lines_behind number c.in-Ok.behind) (c.in-Ok.ensures.ok number) (rw c.as_slice.ensures.value at (c.in_default-read_line.ensures.ok number)) in
+    let whole : map_read c.args.kind c.args.text.now ≡ Ok c.read_line.new.self =
+    sym (read_is (rows_read c.args.kind (statements c.args.text.now))) ∙ sym c.loop-behind.invariant.read ∙ (rw c.in_default-rest.is at goes) in
+    record { read = whole; look_ups = finds_first (rows_read c.args.kind (statements c.args.text.now)) c.read_line.new.self whole }
+
+pub loop-behind-preserved : goal.loop-behind-preserved
+loop-behind-preserved c =
+    let number = c.loop-behind.number in
+    let goes = line_goes c.args.kind number c.loop-behind.map c.read_line.new.self c.loop-behind.rest.now c.next_line.new.line.items (lines_behind number c.in-Ok.behind) (c.in-Ok.ensures.ok number) (rw c.as_slice.ensures.value at (c.in_default-read_line.ensures.ok number)) in
+    let shorter = (rw c.in-Some.is at c.in-Ok.ensures.shorter) in
+    record {
+      read = sym (rw c.in-Some.is at goes) ∙ c.loop-behind.invariant.read;
+      counted = omega (arith, shorter, c.loop-behind.invariant.counted);
+    }

@@ -1,0 +1,14 @@
+use Rattle.std.proofs.Common.{◌≡◌, ◌≤◌, ◌+◌, [], length}
+use Rattle.am_lines.specs.Words.{statements, statements_from}
+use Rattle.am_map.specs.Grammar.{rows_read}
+use Rattle.am_map.proofs.ReadLemmas.{behind}
+use Rattle.am_map.proofs.map.Map.read.Given as goal
+
+abbrev pub invariant-loop-behind : goal.invariant-loop-behind
+invariant-loop-behind l = record {
+  read : behind l.map (rows_read l.fn.kind (statements_from l.number l.rest)) ≡ behind [] (rows_read l.fn.kind (statements l.fn.text));
+  counted : l.number + length l.rest ≤ 1 + length l.fn.text;
+}
+
+abbrev pub decreases-loop-behind : goal.decreases-loop-behind
+decreases-loop-behind l = length l.rest

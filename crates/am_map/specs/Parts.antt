@@ -1,0 +1,7 @@
+-- What the borrowed parts of a line say.
+use Rattle.std.specs.Option.{option_copied}
+use Rattle.am_map.specs.declared.parts.EntryRef.{EntryRef}
+use Rattle.am_map.specs.EntryText.{EntryText}
+
+abbrev pub entry_of : EntryRef → EntryText
+entry_of entry = record { options = option_copied entry.options; host = entry.host.now; path = entry.path.now }

@@ -1,0 +1,5 @@
+pub mod DecimalLemmas
+pub mod FaultLemmas
+pub mod PointLemmas
+pub mod ReadLemmas
+pub mod TextLemmas

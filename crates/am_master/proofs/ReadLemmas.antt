@@ -1,0 +1,59 @@
+-- A text is read line by line.
+use Rattle.std.proofs.Common.{◌≡◌, ℕ, true, false, cond, List, [], ◌∷◌, ◌++◌, ap, ◌∙◌}
+use Rattle.std.specs.Prelude.{Result, Ok, Err}
+use Rattle.std.specs.List.{flat_map}
+use Rattle.am_lines.specs.Lines.{Line, lines_from}
+use Rattle.am_lines.specs.Words.{Statement, words, begins_with, statement_of, statement_of_words, statements_from}
+use Rattle.am_master.specs.declared.fault.MasterFault.{MasterFault}
+use Rattle.am_master.specs.declared.fault.MasterFaultKind.{MasterFaultKind}
+use Rattle.am_master.specs.MasterRow.{MasterRow}
+use Rattle.am_master.specs.Grammar.{rows_read, row_read, with_row, added, line_added}
+
+row_goes : (number : ℕ) (above new : List MasterRow) (read : Result MasterRow MasterFaultKind) (below : List MasterRow → Result (List MasterRow) MasterFault) → added above read ≡ Ok new → with_row number above read below ≡ below new
+row_goes number above new (Ok row) below e =
+    let is : above ++ row ∷ [] ≡ new = cc in
+    ap below is
+row_goes number above new (Err kind) below e = absurd cc
+
+row_stops : (number : ℕ) (above : List MasterRow) (kind : MasterFaultKind) (read : Result MasterRow MasterFaultKind) (below : List MasterRow → Result (List MasterRow) MasterFault) → added above read ≡ Err kind → with_row number above read below ≡ Err (record { line = number; kind = kind })
+row_stops number above kind (Ok row) below e = absurd cc
+row_stops number above kind (Err fault) below e =
+    let is : fault ≡ kind = cc in
+    ap (λ (f : MasterFaultKind). Err (record { line = number; kind = f })) is
+
+nothing_goes : (above new : List MasterRow) (others : List Statement) → ◌≡◌ {A = Result (List MasterRow) MasterFaultKind} (Ok above) (Ok new) → rows_read above others ≡ rows_read new others
+nothing_goes above new others e =
+    let is : above ≡ new = cc in
+    ap (λ (rows : List MasterRow). rows_read rows others) is
+
+-- no statement or one
+statement_goes : (number : ℕ) (above new : List MasterRow) (ws : List (List ℕ)) (others : List Statement) → line_added above (statement_of_words number ws) ≡ Ok new → rows_read above (statement_of_words number ws ++ others) ≡ rows_read new others
+statement_goes number above new [] others e = nothing_goes above new others e
+statement_goes number above new (first ∷ ws) others e =
+    let line : Statement = record { number = number; first = first; others = ws } in
+    elim (begins_with 35 first) as (λ b. line_added above (cond b [] (line ∷ [])) ≡ Ok new → rows_read above (cond b [] (line ∷ []) ++ others) ≡ rows_read new others) [
+      | true ↦ λ same. nothing_goes above new others same
+      | false ↦ λ read. row_goes number above new (row_read above line) (λ rows. rows_read rows others) read
+    ] e
+
+nothing_stops : (above : List MasterRow) (kind : MasterFaultKind) → ◌≡◌ {A = Result (List MasterRow) MasterFaultKind} (Ok above) (Err kind) → ⊥
+nothing_stops above kind e = cc
+
+statement_stops : (number : ℕ) (above : List MasterRow) (kind : MasterFaultKind) (ws : List (List ℕ)) (others : List Statement) → line_added above (statement_of_words number ws) ≡ Err kind → rows_read above (statement_of_words number ws ++ others) ≡ Err (record { line = number; kind = kind })
+statement_stops number above kind [] others e = absurd (nothing_stops above kind e)
+statement_stops number above kind (first ∷ ws) others e =
+    let line : Statement = record { number = number; first = first; others = ws } in
+    elim (begins_with 35 first) as (λ b. line_added above (cond b [] (line ∷ [])) ≡ Err kind → rows_read above (cond b [] (line ∷ []) ++ others) ≡ Err (record { line = number; kind = kind })) [
+      | true ↦ λ same. absurd (nothing_stops above kind same)
+      | false ↦ λ read. row_stops number above kind (row_read above line) (λ rows. rows_read rows others) read
+    ] e
+
+pub line_goes : (number : ℕ) (above new : List MasterRow) (text bytes : List ℕ) (lines : List Line) → lines_from number text ≡ record { number = number; bytes = bytes } ∷ lines → line_added above (statement_of_words number (words bytes)) ≡ Ok new →
+    rows_read above (statements_from number text) ≡ rows_read new (flat_map statement_of lines)
+line_goes number above new text bytes lines cut e =
+    ap (λ (all : List Line). rows_read above (flat_map statement_of all)) cut ∙ statement_goes number above new (words bytes) (flat_map statement_of lines) e
+
+pub line_stops : (number : ℕ) (above : List MasterRow) (kind : MasterFaultKind) (text bytes : List ℕ) (lines : List Line) → lines_from number text ≡ record { number = number; bytes = bytes } ∷ lines → line_added above (statement_of_words number (words bytes)) ≡ Err kind →
+    rows_read above (statements_from number text) ≡ Err (record { line = number; kind = kind })
+line_stops number above kind text bytes lines cut e =
+    ap (λ (all : List Line). rows_read above (flat_map statement_of all)) cut ∙ statement_stops number above kind (words bytes) (flat_map statement_of lines) e

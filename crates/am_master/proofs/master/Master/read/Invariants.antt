@@ -1,0 +1,13 @@
+use Rattle.std.proofs.Common.{◌≡◌, ◌≤◌, ◌+◌, length}
+use Rattle.am_lines.specs.Words.{statements_from}
+use Rattle.am_master.specs.Grammar.{rows_read, master_read}
+use Rattle.am_master.proofs.master.Master.read.Given as goal
+
+abbrev pub invariant-loop-behind : goal.invariant-loop-behind
+invariant-loop-behind l = record {
+  read : rows_read l.master (statements_from l.number l.rest) ≡ master_read l.fn.text;
+  counted : l.number + length l.rest ≤ 1 + length l.fn.text;
+}
+
+abbrev pub decreases-loop-behind : goal.decreases-loop-behind
+decreases-loop-behind l = length l.rest

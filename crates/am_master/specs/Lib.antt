@@ -1,0 +1,7 @@
+pub mod Fault
+pub mod Grammar
+pub mod MasterRow
+pub mod Points
+pub mod Served
+pub mod Timeout
+pub mod Words

@@ -1,0 +1,22 @@
+-- The mount points that lines have.
+use Rattle.std.specs.Prelude.{ℕ, Bool, false, List, [], ◌∷◌}
+use Rattle.std.specs.Str.{bytes_eq}
+use Rattle.std.specs.List.{list_any, flat_map}
+use Rattle.am_names.specs.Path.{text_of}
+use Rattle.am_master.specs.declared.point.Point.{Point}
+use Rattle.am_master.specs.declared.point.Point.TheVariants.{Direct, Indirect}
+use Rattle.am_master.specs.MasterRow.{MasterRow}
+
+-- the canonical text of an indirect point; `/-` has none
+abbrev pub point_texts : Point → List (List ℕ)
+point_texts Direct = []
+point_texts (Indirect names) = text_of names ∷ []
+
+-- the canonical texts of the lines' points
+abbrev pub texts_of : List MasterRow → List (List ℕ)
+texts_of rows = flat_map (λ row. point_texts row.point) rows
+
+-- the point has one of these texts
+abbrev pub is_among : List (List ℕ) → Point → Bool
+is_among texts Direct = false
+is_among texts (Indirect names) = list_any (bytes_eq (text_of names)) texts

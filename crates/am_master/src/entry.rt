@@ -1,0 +1,25 @@
+//! A line of the master map.
+
+use crate::point::Point;
+use std::marker::Model;
+
+/// Which map serves a mount point, and how long its mounts stay.
+#[derive(Debug, Drop)]
+pub struct MasterEntry {
+    pub point: Point,
+    /// The name of the map, without its type.
+    pub map: Vec<u8>,
+    /// Seconds without use after which a mount may expire, 0 for never by itself
+    /// (autofs.rst, "Mountpoint expiry").
+    pub timeout: u32,
+    /// The first raw line of the line, from 1.
+    pub line: usize,
+}
+
+impl Model for MasterEntry {
+    ghost use Rattle.am_master.specs.MasterRow.{MasterRow};
+
+    ghost Value = { MasterRow };
+
+    ghost view = { λ e. record { point = e.point; map = e.map.items; timeout = e.timeout; line = e.line } };
+}

@@ -1,0 +1,154 @@
+//! A master map that has been read.
+
+ghost use Rattle.std.specs.Prelude.{◌≡◌, ◌∷◌, ◌++◌, [], IfErr, OnOk, OnErr, IsOk, false};
+ghost use Rattle.std.specs.Str.{bytes_eq};
+ghost use Rattle.std.specs.List.{list_any};
+ghost use Rattle.am_lines.specs.Words.{words, statement_of_words};
+ghost use Rattle.am_master.specs.Fault.{IsFaultOr};
+ghost use Rattle.am_master.specs.Points.{texts_of};
+ghost use Rattle.am_master.specs.declared.fault.MasterFaultKind.TheVariants.{NoMemory};
+ghost use Rattle.am_master.specs.Grammar.{master_read, ReadAs, line_added, is_taken};
+
+use crate::entry::MasterEntry;
+use crate::fault::{MasterFault, MasterFaultKind};
+use crate::point::Point;
+use crate::points::Points;
+use crate::words::{ServedRef, is_direct, read_point, read_served};
+use am_lines::{first_word, next_line};
+use am_names::Place;
+use std::alloc::{AllocError, Global};
+use std::marker::Model;
+
+/// The lines of a master map, in their order.
+#[derive(Debug, Drop)]
+pub struct Master {
+    entries: Vec<MasterEntry>,
+    points: Points,
+}
+
+impl Model for Master {
+    ghost use Rattle.std.specs.Prelude.{◌≡◌, List};
+    ghost use Rattle.am_master.specs.MasterRow.{MasterRow};
+    ghost use Rattle.am_master.specs.Points.{texts_of};
+
+    ghost Value = { List MasterRow };
+
+    ghost view = { λ m. m.entries.items };
+
+    ghost invariant = { λ m. m.points ≡ texts_of m.entries.items };
+}
+
+impl Master {
+    /// Reads a whole text, or tells its first faulty line.
+    pub fn read(alloc: Global, text: &[u8]) -> Result<Master, MasterFault>
+        ensures { ReadAs (master_read text.now) result }
+    {
+        let mut master = Master::new(alloc);
+        let mut line = Vec::new(alloc);
+        let mut rest = text;
+        let mut number = 1;
+        loop {
+            let Ok(behind) = next_line(rest, &mut line) else {
+                return Err(MasterFault {
+                    line: number,
+                    kind: MasterFaultKind::NoMemory,
+                });
+            };
+            if let Err(kind) = master.read_line(alloc, line.as_slice(), number) {
+                return Err(MasterFault { line: number, kind });
+            }
+            let Some(next) = behind.rest else {
+                return Ok(master);
+            };
+            number += behind.raw_lines;
+            rest = next;
+        }
+    }
+
+    /// The lines, in their order.
+    pub fn entries(&self) -> &[MasterEntry]
+        ensures { result.now ≡ self.now }
+    {
+        self.entries.as_slice()
+    }
+
+    /// No lines.
+    fn new(alloc: Global) -> Master
+        ensures { result ≡ [] }
+    {
+        Master {
+            entries: Vec::new(alloc),
+            points: Points::new(alloc),
+        }
+    }
+
+    /// Adds what a line says, if it says something.
+    fn read_line(
+        &mut self,
+        alloc: Global,
+        line: &[u8],
+        number: usize,
+    ) -> Result<(), MasterFaultKind>
+        ensures ok { OnOk result (line_added self.old (statement_of_words number (words line.now)) ≡ Ok self.new) }
+        ensures err { IfErr result (λ fault. IsFaultOr fault (line_added self.old (statement_of_words number (words line.now)) ≡ Err fault)) }
+    {
+        let Some((first, others)) = first_word(line) else {
+            return Ok(());
+        };
+        if is_direct(first) {
+            let served = read_served(others)?;
+            return in_memory(self.add(alloc, Point::Direct, &served, number));
+        }
+        let path = read_point(first)?;
+        if self.has_point(path.text()) {
+            return Err(MasterFaultKind::Twice);
+        }
+        let served = read_served(others)?;
+        let Ok(place) = Place::of(alloc, path.text()) else {
+            return Err(MasterFaultKind::NoMemory);
+        };
+        in_memory(self.add(alloc, Point::Indirect(place), &served, number))
+    }
+
+    /// Whether a line has the point of this canonical text.
+    fn has_point(&self, text: &[u8]) -> bool
+        ensures { result ≡ list_any (bytes_eq text.now) (texts_of self.now) }
+    {
+        self.points.has(text)
+    }
+
+    /// Adds a line behind the others.
+    fn add(
+        &mut self,
+        alloc: Global,
+        point: Point,
+        served: &ServedRef<'_>,
+        line: usize,
+    ) -> Result<(), AllocError>
+        requires { is_taken self.old point ≡ false }
+        ensures ok { OnOk result (self.new ≡ self.old ++ record { point = point; map = served.now.map.now; timeout = served.now.timeout; line = line } ∷ []) }
+        ensures err { OnErr result (self.new ≡ self.old) }
+    {
+        let map = Vec::from_slice(alloc, served.map)?;
+        self.entries.reserve(1)?;
+        self.points.add(alloc, &point)?;
+        self.entries.push_reserved(MasterEntry {
+            point,
+            map,
+            timeout: served.timeout,
+            line,
+        });
+        Ok(())
+    }
+}
+
+/// The fault of an addition that found no memory.
+fn in_memory(added: Result<(), AllocError>) -> Result<(), MasterFaultKind>
+    ensures ok { OnOk result (IsOk added) }
+    ensures err { IfErr result (λ fault. fault ≡ NoMemory) }
+{
+    match added {
+        Ok(()) => Ok(()),
+        Err(_) => Err(MasterFaultKind::NoMemory),
+    }
+}

@@ -1,0 +1,188 @@
+//! The rows of all mounts.
+
+ghost use Rattle.std.specs.Prelude.{◌≡◌, ◌≤◌, ◌-◌, ◌++◌, ◌↔◌, ℕ, [], take, length, filter, not, option_map, IsTrue, IfOk, IfSome, IfNone, OnOk, OnErr};
+ghost use Rattle.std.specs.List.{Contains, slice_get};
+ghost use Rattle.std.specs.List.Sorted.{IsStrictlyIncreasing};
+ghost use Rattle.std.specs.Option.{option_copied};
+ghost use Rattle.am_names.specs.Path.{IsCanonical, names_of};
+ghost use Rattle.am_mount.specs.Rows.{IsRising, next_of, mount_row, is_among, mounts_where, is_in, is_child, is_at, top_of, HasRow, IsIn, IsOn, IsTop, IsFree};
+
+use am_names::{MountId, MountRow, NsId};
+use std::alloc::{AllocError, Global};
+use std::marker::Model;
+
+#[cfg(test)]
+mod tests;
+
+/// A set of mount rows, no two with the same number (Linux: the mounts of all namespaces).
+#[derive(Debug, Drop)]
+pub struct Tree {
+    rows: Vec<MountRow>,
+}
+
+impl Model for Tree {
+    ghost use Rattle.std.specs.Prelude.{List};
+    ghost use Rattle.am_names.specs.declared.row.MountRow.{MountRow};
+    ghost use Rattle.am_mount.specs.Rows.{IsRising};
+
+    ghost Value = { List MountRow };
+
+    ghost view = { λ t. t.rows.items };
+
+    ghost invariant = { λ t. IsRising t.rows.items };
+}
+
+fn is_among(mount: MountId, mounts: &[MountId]) -> bool
+    ensures { result ≡ is_among mounts.now mount }
+{
+    mounts.iter().copied().any(|other| other == mount)
+}
+
+fn is_child(mount: MountId, row: &MountRow) -> bool
+    ensures { result ≡ is_child mount row.now }
+{
+    match &row.mountpoint {
+        Some(position) => position.mount == mount,
+        None => false,
+    }
+}
+
+fn is_at(mount: MountId, place: &[u8], row: &MountRow) -> bool
+    requires { IsCanonical place.now }
+    ensures { result ≡ is_at mount (names_of place.now) row.now }
+{
+    match &row.mountpoint {
+        Some(position) => position.mount == mount && position.place.is_at(place),
+        None => false,
+    }
+}
+
+fn last_of(rows: &[MountRow]) -> Option<MountId>
+    ensures { result ≡ option_map (λ row. row.mount) (slice_get rows.now (length rows.now - 1)) }
+{
+    match rows.last() {
+        Some(row) => Some(row.mount),
+        None => None,
+    }
+}
+
+fn is_above(mount: MountId, last: &Option<MountId>) -> bool
+    ensures { IsTrue result ↔ (next_of last.now ≤ mount) }
+{
+    match last {
+        Some(last) => *last < mount,
+        None => true,
+    }
+}
+
+impl Tree {
+    /// No mount.
+    pub fn new(alloc: Global) -> Tree
+        ensures { result ≡ [] }
+    {
+        Tree {
+            rows: Vec::new(alloc),
+        }
+    }
+
+    /// All rows, in rising order of number.
+    pub fn rows(&self) -> &[MountRow]
+        ensures rows { result.now ≡ self.now }
+        ensures rising { IsRising self.now }
+    {
+        self.rows.as_slice()
+    }
+
+    /// The row of the mount, if it is there.
+    pub fn row(&self, mount: MountId) -> Option<&MountRow>
+        ensures { option_copied result ≡ mount_row self.now mount }
+    {
+        self.rows.iter().find(|row| row.mount == mount)
+    }
+
+    /// Whether the numbers of these rows rise, and are above all that are there.
+    pub fn can_add(&self, rows: &[MountRow]) -> bool
+        ensures { IsTrue result ↔ IsRising (self.now ++ rows.now) }
+    {
+        let mut last = last_of(self.rows.as_slice());
+        for row in rows {
+            if !is_above(row.mount, &last) {
+                return false;
+            }
+            last = Some(row.mount);
+        }
+        true
+    }
+
+    /// Adds new mounts, all or none. Their numbers are above all that are there: `can_add` tells.
+    pub fn add_all(&mut self, mut rows: Vec<MountRow>) -> Result<(), AllocError>
+        requires { IsRising (self.old ++ rows.items) }
+        ensures ok { OnOk result (self.new ≡ self.old ++ rows.items) }
+        ensures err { OnErr result (self.new ≡ self.old) }
+    {
+        self.rows.append(&mut rows)
+    }
+
+    /// Takes the newest mounts back, so many of them: those that `add_all` added last, where a
+    /// later step of the same operation fails.
+    pub fn take_back(&mut self, count: usize)
+        ensures { self.new ≡ take (length self.old - count) self.old }
+    {
+        let left = self.rows.len().saturating_sub(count);
+        self.rows.truncate(left);
+    }
+
+    /// Removes these mounts. Of the numbers that are no mount's, nothing comes.
+    pub fn remove_all(&mut self, gone: &[MountId])
+        ensures { self.new ≡ filter (λ row. not (is_among gone.now row.mount)) self.old }
+    {
+        self.rows.retain(|row| !is_among(row.mount, gone));
+    }
+
+    /// The top at a place of the mount: of the mounts there the most recently mounted. The
+    /// place is told by its canonical text, as `Place::text` and `AbsPath::text` lend it.
+    pub fn top(&self, mount: MountId, place: &[u8]) -> Option<MountId>
+        requires { IsCanonical place.now }
+        ensures exact { result ≡ top_of self.now mount (names_of place.now) }
+        ensures greatest { IfSome result (IsTop self.now mount (names_of place.now)) }
+        ensures free { IfNone result (IsFree self.now mount (names_of place.now)) }
+    {
+        let mut top = None;
+        for row in self.rows.iter() {
+            if is_at(mount, place, row) {
+                top = Some(row.mount);
+            }
+        }
+        top
+    }
+
+    /// The mounts that are mounted on this one, at any place.
+    pub fn children(&self, alloc: Global, mount: MountId) -> Result<Vec<MountId>, AllocError>
+        ensures exact { IfOk result (λ v. v.items ≡ mounts_where (is_child mount) self.now) }
+        ensures every { IfOk result (λ v. (m : ℕ) → Contains v.items m ↔ HasRow (IsOn mount) self.now m) }
+        ensures rising { IfOk result (λ v. IsStrictlyIncreasing v.items) }
+    {
+        let mut mounts = Vec::new(alloc);
+        for row in self.rows.iter() {
+            if is_child(mount, row) {
+                mounts.push(row.mount)?;
+            }
+        }
+        Ok(mounts)
+    }
+
+    /// The mounts of the namespace.
+    pub fn mounts_of(&self, alloc: Global, ns: NsId) -> Result<Vec<MountId>, AllocError>
+        ensures exact { IfOk result (λ v. v.items ≡ mounts_where (is_in ns) self.now) }
+        ensures every { IfOk result (λ v. (m : ℕ) → Contains v.items m ↔ HasRow (IsIn ns) self.now m) }
+        ensures rising { IfOk result (λ v. IsStrictlyIncreasing v.items) }
+    {
+        let mut mounts = Vec::new(alloc);
+        for row in self.rows.iter() {
+            if row.ns == ns {
+                mounts.push(row.mount)?;
+            }
+        }
+        Ok(mounts)
+    }
+}
