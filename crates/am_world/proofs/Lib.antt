@@ -3,4 +3,4 @@ pub mod RowLemmas
 pub mod BeginLemmas
 pub mod EventLemmas
 pub mod Runs
-pub mod OrderLemmas
+pub mod StepLemmas

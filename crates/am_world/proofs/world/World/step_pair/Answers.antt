@@ -3,7 +3,7 @@ use Rattle.am_state.specs.declared.obs.Obs.{Obs}
 use Rattle.am_world.specs.State.{State}
 use Rattle.am_world.specs.Machine.{Step, outcome_of}
 use Rattle.am_world.specs.Tables.{IsOrdered, state_of}
-use Rattle.am_world.proofs.OrderLemmas.{outcome_kept}
+use Rattle.am_world.proofs.StepLemmas.{outcome_kept}
 use Rattle.am_world.proofs.world.World.step_pair.Goals as goal
 
 pub invariant_of-self-2 : goal.invariant_of-self-2
