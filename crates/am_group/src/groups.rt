@@ -63,6 +63,13 @@ impl Groups {
         self.members.as_slice()
     }
 
+    /// The greatest number that a peer group ever had, 0 for none. The next have those above.
+    pub fn last_group(&self) -> GroupId
+        ensures { result ≡ self.now.last_group }
+    {
+        GroupId(self.last_group)
+    }
+
     /// The mount with its peer group or master.
     pub fn member(&self, mount: MountId) -> Option<MemberRow>
         ensures { result ≡ member_row self.now.members mount }
@@ -185,8 +192,9 @@ impl Groups {
     }
 
     /// Adds new mounts and peer groups, all or none, as a mount with its copies brings them. The
-    /// caller shows that the invariant holds of all together: the numbers rise above all that
-    /// are there, and what is named is there, masters with lower numbers and with members.
+    /// groups have the numbers above `last_group`. The caller shows that the invariant holds of
+    /// all together: the mounts' numbers rise above all that are there, and each group that is
+    /// named is there, a master with a lower number and with members.
     pub fn add_all(
         &mut self,
         mut members: Vec<MemberRow>,

@@ -217,6 +217,10 @@ fn a_point_on_two_lines(rt: HostRuntime) {
             b"/a a\n/a/ -hosts".as_slice(),
             Some((2, MasterFaultKind::Twice)),
         ),
+        (
+            b"# x\n/a a\n\n/\\\na b\n/ c".as_slice(),
+            Some((4, MasterFaultKind::Twice)),
+        ),
         (b"/a a\n/a".as_slice(), Some((2, MasterFaultKind::Twice))),
         (
             b"/a a\n/b b\n/c \\\nc\n//a a -t".as_slice(),

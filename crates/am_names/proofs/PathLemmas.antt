@@ -182,6 +182,6 @@ texts_tell text mine names r h m e b =
     let read : Decides r (text ≡ mine) = slice_eq-Decides Decides-eqb text mine r b in
     let told : Decides r (names ≡ names_of text) = (
       λ is_true. sym e ∙ ap names_of (sym (read.0 is_true)),
-      λ same. read.1 (h.spelled ∙ ap text_of (sym (e ∙ same)) ∙ sym m.spelled)
+      λ same. read.1 (h.spelled ∙ ap text_of (sym (e ∙ same)) ∙ sym m.spelled),
     ) in
     same_from_decides r (same_names names (names_of text)) told (same_names-Decides names (names_of text))

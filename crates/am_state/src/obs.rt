@@ -14,11 +14,19 @@ pub enum Obs {
         packet: Packet,
     },
     /// A walker waits on a token.
-    Waits { walker: WalkerId, token: Token },
+    Waits {
+        walker: WalkerId,
+        token: Token,
+    },
     /// A token was acknowledged.
-    Answered { token: Token, status: Status },
+    Answered {
+        token: Token,
+        status: Status,
+    },
     /// A file system became catatonic.
-    Catatonic { fs: FsId },
+    Catatonic {
+        fs: FsId,
+    },
     /// A waiter was released.
     Released {
         walker: WalkerId,
@@ -26,15 +34,28 @@ pub enum Obs {
         status: Status,
     },
     /// A walk passed a trigger, on which something is mounted.
-    Passed { walker: WalkerId, trigger: Trigger },
+    Passed {
+        walker: WalkerId,
+        trigger: Trigger,
+    },
     /// A walk arrived in a mount, which is in use until the walker leaves.
-    Entered { walker: WalkerId, mount: MountId },
+    Entered {
+        walker: WalkerId,
+        mount: MountId,
+    },
     /// A walker left a mount.
-    Left { walker: WalkerId, mount: MountId },
+    Left {
+        walker: WalkerId,
+        mount: MountId,
+    },
     /// These mounts came.
-    Mounted { mounts: Mounts },
+    Mounted {
+        mounts: Mounts,
+    },
     /// These mounts went.
-    Unmounted { mounts: Mounts },
+    Unmounted {
+        mounts: Mounts,
+    },
     /// The daemon took a packet from the pipe.
     Delivered {
         token: Token,
@@ -47,7 +68,10 @@ pub enum Obs {
         entry: Option<Record>,
     },
     /// The daemon attached again to a catatonic file system.
-    Reattached { fs: FsId, attach: Attach },
+    Reattached {
+        fs: FsId,
+        attach: Attach,
+    },
     /// The daemon died.
     Died,
 }

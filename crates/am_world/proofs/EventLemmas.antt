@@ -1,5 +1,5 @@
 -- From what a walk that begins leaves to what its event leaves.
-use Rattle.std.proofs.Common.{◌≡◌, ◌++◌, [], ◌∷◌, ℕ, Bool, List, ◌+◌, ◌<◌, true, false, Option, Some, None, length, ltb, get_or, refl, sym, ap, subst, ◌∙◌, arith}
+use Rattle.std.proofs.Common.{◌≡◌, ◌++◌, [], ◌∷◌, ℕ, Bool, List, ◌+◌, ◌<◌, false, Some, None, length, ltb, get_or, refl, sym, ap, subst, ◌∙◌, arith}
 use Rattle.std.specs.Prelude.{find, position, nat_le, Result}
 use Rattle.std.specs.List.{position_or_len}
 use Rattle.std.proofs.lemmas.Bool.{ltb-true, le-ltb}

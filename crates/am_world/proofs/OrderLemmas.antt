@@ -1,5 +1,5 @@
 -- Each event keeps the rows of walkers in order.
-use Rattle.std.proofs.Common.{◌≡◌, ℕ, ◌+◌, ◌<◌, ◌≤◌, Bool, true, false, cond, not, ◌==◌, List, [], ◌∷◌, ◌++◌, map, Option, Some, None, refl, sym, subst, arith, inl, inr}
+use Rattle.std.proofs.Common.{◌≡◌, ℕ, ◌+◌, ◌≤◌, Bool, true, false, cond, not, ◌==◌, List, [], ◌∷◌, ◌++◌, map, Option, Some, None, refl, sym, subst, arith, inl, inr}
 use Rattle.std.specs.Prelude.{filter, nat_lt, nat_le, is_some, Result, Ok, Err, if◌then◌else◌}
 use Rattle.std.proofs.lemmas.Bool.{cases_lt}
 use Rattle.std.proofs.lemmas.Bool.Decides.{nat_tests}
@@ -37,7 +37,7 @@ use Rattle.am_world.specs.Kernel.Waits.{with_wait, with_walker, waiting, release
 use Rattle.am_world.specs.Machine
 use Rattle.am_world.specs.Tables.{RiseBy, IsOrdered}
 use Rattle.am_world.proofs.RowLemmas.{none_below}
-use Rattle.am_world.proofs.BeginLemmas.{rises_filter, rises_higher}
+use Rattle.am_world.proofs.BeginLemmas.{rises_filter}
 
 kept_above : {X : Type 0} (key : X → ℕ) (k : ℕ) (row : X) (rows : List X) (b : Bool) → nat_lt k (key row) ≡ b → RiseBy key (key row + 1) (filter (λ other. nat_lt k (key other)) rows) → RiseBy key (k + 1) (filter (λ other. nat_lt k (key other)) rows) →
     RiseBy key (k + 1) (cond b (row ∷ filter (λ other. nat_lt k (key other)) rows) (filter (λ other. nat_lt k (key other)) rows))
@@ -54,13 +54,13 @@ rises_put key low x [] h e = (e, tt)
 rises_put key low x (row ∷ rows) h e =
     elim (cases_lt (key row) (key x)) [
       | inl less ↦
-        let is_lt : nat_lt (key row) (key x) ≡ true = grind (arith, nat_tests) in
-        let no_lt : nat_lt (key x) (key row) ≡ false = grind (arith, nat_tests) in
-        rw (is_lt, no_lt) (h.0, rises_put key (key row + 1) x rows h.1 (omega arith))
+          let is_lt : nat_lt (key row) (key x) ≡ true = grind (arith, nat_tests) in
+          let no_lt : nat_lt (key x) (key row) ≡ false = grind (arith, nat_tests) in
+          rw (is_lt, no_lt) (h.0, rises_put key (key row + 1) x rows h.1 (omega arith))
       | inr more ↦
-        let no_lt : nat_lt (key row) (key x) ≡ false = grind (arith, nat_tests) in
-        let above = rises_above key (key x) low (row ∷ rows) h in
-        rw (no_lt, none_below key (key x) (key row + 1) rows h.1 (omega (arith, more))) (e, above)
+          let no_lt : nat_lt (key row) (key x) ≡ false = grind (arith, nat_tests) in
+          let above = rises_above key (key x) low (row ∷ rows) h in
+          rw (no_lt, none_below key (key x) (key row + 1) rows h.1 (omega (arith, more))) (e, above)
     ]
 
 rises_map : {X : Type 0} (key : X → ℕ) (f : X → X) (low : ℕ) (rows : List X) → ((x : X) → key (f x) ≡ key x) → RiseBy key low rows → RiseBy key low (map f rows)
@@ -117,13 +117,13 @@ attached_kept : (at : Result Position Errno) (s : State) (path : List (List ℕ)
 attached_kept (Err e) s path h = record { kept = h }
 attached_kept (Ok at) s path h =
     either (is_some (autofs_at s.kernel.mounts s.kernel.autofs at.mount)) _ _ (record { kept = h })
-      (unless_kept (attach_refusal s.opening.limits s.kernel) s _ h (record { kept = same_rows s.kernel _ refl refl h }))
+    (unless_kept (attach_refusal s.opening.limits s.kernel) s _ h (record { kept = same_rows s.kernel _ refl refl h }))
 
 attach_kept : (s : State) (path : List (List ℕ)) → IsOrdered s.kernel → Keeps (Machine.attach_outcome s path)
 attach_kept s path h =
     either (not (same_names s.opening.point path)) _ _ (record { kept = h })
-      (either (Machine.is_known s.daemon.known path) _ _ (record { kept = h })
-        (attached_kept (position_of (Machine.scene_of s.kernel) 0 path) s path h))
+    (either (Machine.is_known s.daemon.known path) _ _ (record { kept = h })
+    (attached_kept (position_of (Machine.scene_of s.kernel) 0 path) s path h))
 
 waiting_kept : (begin : Begin) (token : ℕ) (trigger : Trigger) (kind : TokenKind) (k : KernelState) → IsOrdered k → IsOrdered (waiting begin token trigger kind k)
 waiting_kept begin token trigger kind k h = record { waits = wait_put _ k h; walkers = walker_put _ k h }
@@ -132,14 +132,14 @@ joins_kept : (row : Option OpenToken) (s : State) (begin : Begin) (passed : List
 joins_kept None s begin passed h = fails _
 joins_kept (Some row) s begin passed h =
     either_begun (Machine.is_full s) _ _ (fails _)
-      (goes _ (waiting_kept begin row.token row.trigger row.kind _ (same_rows s.kernel _ refl refl h)))
+    (goes _ (waiting_kept begin row.token row.trigger row.kind _ (same_rows s.kernel _ refl refl h)))
 
 notifies_kept : (attach : Option ℕ) (s : State) (begin : Begin) (trigger : Trigger) (passed : List Trigger) → IsOrdered s.kernel → KeepsBegun (Machine.notifies_at attach s begin trigger passed)
 notifies_kept None s begin trigger passed h = fails _
 notifies_kept (Some attach) s begin trigger passed h =
     either_begun (nat_le s.opening.limits.tokens s.kernel.last_token) _ _ (fails _)
-      (either_begun (Machine.is_full s) _ _ (fails _)
-        (goes _ (waiting_kept begin (s.kernel.last_token + 1) trigger Missing _ (same_rows s.kernel _ refl refl h))))
+    (either_begun (Machine.is_full s) _ _ (fails _)
+    (goes _ (waiting_kept begin (s.kernel.last_token + 1) trigger Missing _ (same_rows s.kernel _ refl refl h))))
 
 begun_kept : (stop : Stop) (s : State) (begin : Begin) (passed : List Trigger) → IsOrdered s.kernel → KeepsBegun (Machine.begun_by stop s begin passed)
 begun_kept (stops.Arrive at) s begin passed h = goes _ (record { waits = h.waits; walkers = walker_put _ s.kernel h })
@@ -160,7 +160,7 @@ again_kept s begin h =
     let walked = walk_of (Machine.scene_of s.kernel) begin.ns begin.path in
     let next : Begin = record begin { begins = begin.begins + 1 } in
     either (nat_le Machine.most_begins begin.begins) _ _ (record { kept = h })
-      (failed_kept (Machine.begun s next) s begin.moment h (begun_kept walked.stop s next walked.passed h))
+    (failed_kept (Machine.begun s next) s begin.moment h (begun_kept walked.stop s next walked.passed h))
 
 collected_kept : (kind : TokenKind) (s : State) (row : WaitRow) (now : ℕ) → IsOrdered s.kernel → IsOrdered (Machine.collected_at kind s row now).kernel
 collected_kept Missing s row now h = record { waits = rises_filter _ _ 0 s.kernel.waits h.waits; walkers = rises_filter _ _ 0 s.kernel.walkers h.walkers }
@@ -207,7 +207,7 @@ mount_by_kept (Some e) s row h = record { kept = h }
 mount_act_kept : (s : State) (row : JobRow) (ok : Bool) → IsOrdered s.kernel → Keeps (Machine.mount_act s row ok)
 mount_act_kept s row ok h =
     either (not (is_current s.kernel.autofs row.trigger.fs row.attach)) _ _ (record { kept = h })
-      (either (not ok) _ _ (record { kept = h }) (mount_by_kept (mount_refusal s.opening.limits s.kernel row.trigger) s row h))
+    (either (not ok) _ _ (record { kept = h }) (mount_by_kept (mount_refusal s.opening.limits s.kernel row.trigger) s row h))
 
 rmdir_kept : (e : Option Errno) (s : State) (row : JobRow) → IsOrdered s.kernel → Keeps (Machine.rmdir_by e s row)
 rmdir_kept None s row h = record { kept = same_rows s.kernel _ refl refl h }
@@ -238,7 +238,7 @@ walk_kept s walker ns path now h =
     let begin : Begin = record { walker = walker; ns = ns; path = path; begins = 1; moment = Machine.moment_of s now } in
     let walked = walk_of (Machine.scene_of s.kernel) ns path in
     either (Machine.is_busy s.kernel.walkers walker) _ _ (record { kept = h })
-      (refused_kept (Machine.begun s begin) s h (begun_kept walked.stop s begin walked.passed h))
+    (refused_kept (Machine.begun s begin) s h (begun_kept walked.stop s begin walked.passed h))
 
 record_kept : (s : State) (trigger : Trigger) → IsOrdered s.kernel → Keeps (Machine.record_outcome s trigger)
 record_kept s trigger h = either (not (Machine.is_trigger_of (autofs_of s.kernel.autofs trigger.fs) trigger.name)) _ _ (record { kept = h }) (record { kept = h })

@@ -1,5 +1,5 @@
 -- Rows in rising order, and one put at its place.
-use Rattle.std.proofs.Common.{◌≡◌, ◌≢◌, ℕ, suc, ◌+◌, ◌<◌, ◌≤◌, Bool, true, false, cond, ◌||◌, not, ◌==◌, List, [], ◌∷◌, ◌++◌, length, set, refl, ap, ◌∙◌, ◌⊎◌, inl, inr, get_or, sym, arith}
+use Rattle.std.proofs.Common.{◌≡◌, ◌≢◌, ℕ, suc, ◌+◌, ◌<◌, ◌≤◌, Bool, true, false, cond, not, ◌==◌, List, [], ◌∷◌, ◌++◌, length, set, refl, ap, ◌∙◌, inl, inr, get_or, sym, arith}
 use Rattle.std.specs.Prelude.{nat_lt, nat_le, insert, filter}
 use Rattle.std.specs.List.{list_any, position_or_len}
 use Rattle.std.proofs.lemmas.Bool.{cases_lt}
@@ -57,7 +57,7 @@ put_new key k low x (row ∷ rows) h none =
     elim (cases_lt (key row) k) [
       | inl less ↦ less_new key k x row rows _ _ _ less next
       | inr more ↦
-        more_new key k x row rows _ _ _ (omega (arith, differs, more)) (none_below key k (key row + 1) rows h.1 (omega (arith, more))) (all_above key k (key row + 1) rows h.1 (omega (arith, more)))
+          more_new key k x row rows _ _ _ (omega (arith, differs, more)) (none_below key k (key row + 1) rows h.1 (omega (arith, more))) (all_above key k (key row + 1) rows h.1 (omega (arith, more)))
     ]
 
 less_again : {X : Type 0} (key : X → ℕ) (k : ℕ) (x row : X) (rows : List X) (p : ℕ) (lows highs : List X) → key row < k → set rows p x ≡ lows ++ x ∷ highs →
@@ -89,11 +89,11 @@ put_again key k low x [] h some = absurd cc
 put_again key k low x (row ∷ rows) h some =
     elim (cases_lt (key row) k) [
       | inl less ↦
-        let others : list_any (λ other. key other == k) rows ≡ true = grind (arith, nat_tests, some) in
-        less_again key k x row rows _ _ _ less (put_again key k (key row + 1) x rows h.1 others)
+          let others : list_any (λ other. key other == k) rows ≡ true = grind (arith, nat_tests, some) in
+          less_again key k x row rows _ _ _ less (put_again key k (key row + 1) x rows h.1 others)
       | inr more ↦
-        let same : key row ≡ k = grind (arith, nat_tests, some, no_other key k (key row + 1) rows h.1 (omega (arith, more))) in
-        same_again key k x row rows _ _ _ same (none_below key k (key row + 1) rows h.1 (omega (arith, more))) (all_above key k (key row + 1) rows h.1 (omega (arith, more)))
+          let same : key row ≡ k = grind (arith, nat_tests, some, no_other key k (key row + 1) rows h.1 (omega (arith, more))) in
+          same_again key k x row rows _ _ _ same (none_below key k (key row + 1) rows h.1 (omega (arith, more))) (all_above key k (key row + 1) rows h.1 (omega (arith, more)))
     ]
 
 -- the place of a row that is there
@@ -102,12 +102,12 @@ position_within key k [] some = absurd cc
 position_within key k (row ∷ rows) some =
     elim (cases_lt (key row) k) [
       | inl less ↦
-        let others : list_any (λ other. key other == k) rows ≡ true = grind (arith, nat_tests, some) in
-        let no_le : nat_le k (key row) ≡ false = grind (arith, nat_tests) in
-        rw no_le (omega (arith, position_within key k rows others))
+          let others : list_any (λ other. key other == k) rows ≡ true = grind (arith, nat_tests, some) in
+          let no_le : nat_le k (key row) ≡ false = grind (arith, nat_tests) in
+          rw no_le (omega (arith, position_within key k rows others))
       | inr more ↦
-        let is_le : nat_le k (key row) ≡ true = grind (arith, nat_tests) in
-        rw is_le (omega arith)
+          let is_le : nat_le k (key row) ≡ true = grind (arith, nat_tests) in
+          rw is_le (omega arith)
     ]
 
 -- where no row passes, the place is the end

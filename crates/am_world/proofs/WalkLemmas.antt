@@ -1,5 +1,5 @@
 -- A walk is followed step by step.
-use Rattle.std.proofs.Common.{◌≡◌, ℕ, suc, ◌+◌, ◌-◌, ◌<◌, true, false, List, [], ◌∷◌, ◌++◌, length, Option, Some, None, refl, sym, ap, subst, ◌∙◌, arith}
+use Rattle.std.proofs.Common.{◌≡◌, ℕ, suc, ◌-◌, ◌<◌, true, false, List, [], ◌∷◌, ◌++◌, Option, Some, sym, ap, subst, ◌∙◌, arith}
 use Rattle.am_names.specs.declared.errno.Errno.TheVariants.{ENOENT}
 use Rattle.am_names.specs.declared.trigger.Trigger.{Trigger}
 use Rattle.am_names.specs.declared.row.MountRow.{MountRow}
@@ -8,8 +8,8 @@ use Rattle.am_world.specs.declared.walk.Next.{Next}
 use Rattle.am_world.specs.declared.walk.Next.TheVariants as nexts
 use Rattle.am_world.specs.declared.walk.Stop.{Stop}
 use Rattle.am_world.specs.declared.walk.Stop.TheVariants as stops
-use Rattle.am_world.specs.Kernel.Sites.{autofs_at, root_of, top_at}
-use Rattle.am_world.specs.Kernel.Walks.{Scene, Visit, Stands, Stops, Walked, next_at, followed, visited, visit, has_names, walked, walk_of, entered, entered_on}
+use Rattle.am_world.specs.Kernel.Sites.{autofs_at, top_at}
+use Rattle.am_world.specs.Kernel.Walks.{Scene, Visit, Stands, Stops, Walked, next_at, followed, visited, visit, has_names, walked, entered, entered_on}
 
 met : (steps fewer : ℕ) (scene : Scene) (mount : ℕ) (place : List (List ℕ)) (passed : List Trigger) (next : Next) → steps ≡ suc fewer → next ≡ next_at scene mount place → followed next mount place passed (λ m gs. visited fewer scene m [] gs) ≡ visited steps scene mount place passed
 met steps fewer scene mount place passed next e n =

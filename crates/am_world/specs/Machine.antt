@@ -1,5 +1,5 @@
 -- The machine: what each event comes to.
-use Rattle.std.specs.Prelude.{◌≡◌, ◌⊎◌, ℕ, suc, ◌+◌, ◌==◌, nat_lt, nat_le, max, Bool, true, false, ◌&&◌, not, is_some, is_none, List, [], ◌∷◌, ◌++◌, length, map, filter, Option, Some, None, Result, Ok, Err, if◌then◌else◌}
+use Rattle.std.specs.Prelude.{◌≡◌, ◌⊎◌, ℕ, ◌+◌, ◌==◌, nat_le, max, Bool, true, false, ◌&&◌, not, is_some, List, [], ◌∷◌, ◌++◌, length, filter, Option, Some, None, Result, Ok, Err, if◌then◌else◌}
 use Rattle.std.specs.List.{list_any}
 use Rattle.std.specs.Str.{bytes_eq}
 use Rattle.std.specs.Result.{result_ok}
@@ -33,7 +33,6 @@ use Rattle.am_state.specs.declared.daemon_row.Record.TheVariants.{Mounting, Moun
 use Rattle.am_state.specs.declared.obs.Obs.{Obs}
 use Rattle.am_state.specs.declared.obs.Obs.TheVariants as seen
 use Rattle.am_state.specs.KernelState.{KernelState}
-use Rattle.am_state.specs.DaemonState.{DaemonState}
 use Rattle.am_world.specs.declared.event.Event.{Event}
 use Rattle.am_world.specs.declared.event.Event.TheVariants as events
 use Rattle.am_world.specs.declared.answer.Answer.{Answer}
@@ -41,11 +40,11 @@ use Rattle.am_world.specs.declared.answer.Answer.TheVariants as answers
 use Rattle.am_world.specs.declared.walk.Stop.{Stop}
 use Rattle.am_world.specs.declared.walk.Stop.TheVariants as stops
 use Rattle.am_world.specs.State.{State, opening_of}
-use Rattle.am_world.specs.Kernel.Sites.{root_of, autofs_at, autofs_of, is_current}
+use Rattle.am_world.specs.Kernel.Sites.{autofs_at, autofs_of, is_current}
 use Rattle.am_world.specs.Kernel.Walks.{Scene, Walked, walk_of, position_of}
 use Rattle.am_world.specs.declared.walk.Begin.{Begin}
 use Rattle.am_world.specs.Kernel.Waits.{arrived, joined, notified, collected, answered, releases, passes, touched, wait_of, walker_of, token_of, queued_of, missing_packet}
-use Rattle.am_world.specs.Kernel.Calls.{greatest_u32, attach_refusal, attached, mkdir_refusal, with_directory, rmdir_refusal, without_directory, location_of, mount_refusal, mounted_on, answer_refusal}
+use Rattle.am_world.specs.Kernel.Calls.{attach_refusal, attached, mkdir_refusal, with_directory, rmdir_refusal, without_directory, location_of, mount_refusal, mounted_on, answer_refusal}
 use Rattle.am_world.specs.Daemon.Book.{record_of, recorded, with_record, holds}
 use Rattle.am_world.specs.Daemon.Jobs.{has_entry, missing_plan, is_reply, reply_after, job_of, with_left, without_job}
 

@@ -16,21 +16,35 @@ pub enum Answer {
         mount: MountId,
     },
     /// The walk has arrived there.
-    At { position: Position },
+    At {
+        position: Position,
+    },
     /// The walker waits on this token.
-    Wait { token: Token },
+    Wait {
+        token: Token,
+    },
     /// The daemon has taken the packet up as this job.
-    Job { job: JobId },
+    Job {
+        job: JobId,
+    },
     DidMkdir,
-    DidMount { mount: MountId },
+    DidMount {
+        mount: MountId,
+    },
     DidRmdir,
     DidRecord,
     DidReply,
     FailedMount,
     /// What the book says.
-    Record { entry: Option<Record> },
+    Record {
+        entry: Option<Record>,
+    },
     /// Nothing has changed.
-    Refused { errno: Errno },
+    Refused {
+        errno: Errno,
+    },
     /// The wait is collected and the walk can't go on.
-    Failed { errno: Errno },
+    Failed {
+        errno: Errno,
+    },
 }

@@ -10,14 +10,14 @@ ghost use Rattle.am_world.specs.Tables.{kernel_of, state_of, HasKernelRoom, HasR
 
 use crate::answer::Answer;
 use crate::kernel::Kernel;
-use crate::rows::{put_walker, put_wait, take_wait, take_walker, touch};
+use crate::rows::{put_wait, put_walker, take_wait, take_walker, touch};
 use crate::sites::attach_of;
 use crate::tables::Tables;
 use crate::twice::{Twice, twice};
 use crate::walk::{Begin, Stop, Walk};
 use am_names::{
-    Attach, Errno, FsId, Name, OpenToken, Position, Seconds, Token, TokenKind, Trigger, WaitRow, Waiters,
-    WalkerId,
+    Attach, Errno, FsId, Name, OpenToken, Position, Seconds, Token, TokenKind, Trigger, WaitRow,
+    Waiters, WalkerId,
 };
 use am_state::{Doing, Obs, QueuedRow, UseRow, WalkerRow};
 use am_wire::{Kind, Packet, PacketName};
@@ -147,7 +147,14 @@ impl Kernel {
 
 impl Kernel {
     /// A token is opened, its packet is queued, and the walker waits on it.
-    fn open(&mut self, begin: Begin, trigger: Trigger, attach: Attach, waiters: Waiters, passed: &[Trigger])
+    fn open(
+        &mut self,
+        begin: Begin,
+        trigger: Trigger,
+        attach: Attach,
+        waiters: Waiters,
+        passed: &[Trigger],
+    )
         requires room { HasKernelRoom self.old (length passed.now + 1) }
         requires ordered { IsOrdered (kernel_of self.old) }
         requires waiters { waiters ≡ begin.walker ∷ [] }
@@ -242,7 +249,14 @@ impl Tables {
     }
 
     /// The walker has joined those that wait on a token, whose row tells so already.
-    fn wait_on(&mut self, begin: Begin, token: Token, trigger: Trigger, kind: TokenKind, passed: &[Trigger]) -> Twice
+    fn wait_on(
+        &mut self,
+        begin: Begin,
+        token: Token,
+        trigger: Trigger,
+        kind: TokenKind,
+        passed: &[Trigger],
+    ) -> Twice
         requires room { HasRoom self.old (length passed.now) (length passed.now + 1) }
         requires ordered { IsOrdered (kernel_of self.old.kernel) }
         ensures told { IsTwice result (Wait token) }
@@ -259,7 +273,14 @@ impl Tables {
     }
 
     /// A token is opened, its packet is queued, and the walker waits on it.
-    fn notify(&mut self, begin: Begin, trigger: Trigger, attach: Attach, waiters: Waiters, passed: &[Trigger]) -> Twice
+    fn notify(
+        &mut self,
+        begin: Begin,
+        trigger: Trigger,
+        attach: Attach,
+        waiters: Waiters,
+        passed: &[Trigger],
+    ) -> Twice
         requires room { HasRoom self.old (length passed.now + 1) (length passed.now + 2) }
         requires ordered { IsOrdered (kernel_of self.old.kernel) }
         requires waiters { waiters ≡ begin.walker ∷ [] }
@@ -284,7 +305,14 @@ impl Tables {
 
 impl Tables {
     /// The walk arrives, once there is room for its answer.
-    fn begin_arriving(&mut self, alloc: Global, begin: &Begin, waited: &Waited, at: Position, passed: &[Trigger]) -> Result<Beginning, AllocError>
+    fn begin_arriving(
+        &mut self,
+        alloc: Global,
+        begin: &Begin,
+        waited: &Waited,
+        at: Position,
+        passed: &[Trigger],
+    ) -> Result<Beginning, AllocError>
         requires ordered { IsOrdered (kernel_of self.old.kernel) }
         ensures ok { IfOk result (λ b. let base = freed waited.now begin.now (state_of self.old) in
             BeginsAs b (begun_by (Arrive at) base begin.now passed.now) base (state_of self.old) (state_of self.new)) }
@@ -299,7 +327,14 @@ impl Tables {
     }
 
     /// The walker joins those that wait on a token, if the limit of waits allows.
-    fn begin_joining(&mut self, alloc: Global, begin: &Begin, waited: &Waited, token: Token, passed: &[Trigger]) -> Result<Beginning, AllocError>
+    fn begin_joining(
+        &mut self,
+        alloc: Global,
+        begin: &Begin,
+        waited: &Waited,
+        token: Token,
+        passed: &[Trigger],
+    ) -> Result<Beginning, AllocError>
         requires ordered { IsOrdered (kernel_of self.old.kernel) }
         ensures ok { IfOk result (λ b. let base = freed waited.now begin.now (state_of self.old) in
             BeginsAs b (begun_by (Block token) base begin.now passed.now) base (state_of self.old) (state_of self.new)) }
@@ -328,7 +363,14 @@ impl Tables {
     }
 
     /// The daemon is notified, if tokens and waits are left.
-    fn begin_notifying(&mut self, alloc: Global, begin: &Begin, waited: &Waited, trigger: Trigger, passed: &[Trigger]) -> Result<Beginning, AllocError>
+    fn begin_notifying(
+        &mut self,
+        alloc: Global,
+        begin: &Begin,
+        waited: &Waited,
+        trigger: Trigger,
+        passed: &[Trigger],
+    ) -> Result<Beginning, AllocError>
         requires ordered { IsOrdered (kernel_of self.old.kernel) }
         ensures ok { IfOk result (λ b. let base = freed waited.now begin.now (state_of self.old) in
             BeginsAs b (begun_by (Missing trigger) base begin.now passed.now) base (state_of self.old) (state_of self.new)) }
@@ -354,7 +396,12 @@ impl Tables {
     }
 
     /// A walk begins.
-    pub fn begin(&mut self, alloc: Global, begin: &Begin, waited: &Waited) -> Result<Beginning, AllocError>
+    pub fn begin(
+        &mut self,
+        alloc: Global,
+        begin: &Begin,
+        waited: &Waited,
+    ) -> Result<Beginning, AllocError>
         requires ordered { IsOrdered (kernel_of self.old.kernel) }
         ensures ok { IfOk result (λ b. let base = freed waited.now begin.now (state_of self.old) in
             BeginsAs b (begun base begin.now) base (state_of self.old) (state_of self.new)) }

@@ -6,7 +6,9 @@ use am_names::{AbsPath, JobId, NsId, Seconds, Token, Trigger, WalkerId};
 #[derive(Clone, Copy, Debug)]
 pub enum Event {
     /// The autofs of the master's point is mounted there, and the daemon attaches to it.
-    Attach { path: AbsPath },
+    Attach {
+        path: AbsPath,
+    },
     /// A walker begins a walk in a namespace; one more packet fits into the pipe.
     Walk {
         walker: WalkerId,
@@ -15,14 +17,22 @@ pub enum Event {
         now: Seconds,
     },
     /// A walker that waits goes on, if its token is acknowledged.
-    Resume { walker: WalkerId, now: Seconds },
+    Resume {
+        walker: WalkerId,
+        now: Seconds,
+    },
     /// The daemon takes a packet from the pipe: the queued one of this token, or these bytes.
     Deliver {
         token: Token,
         bytes: Option<[u8; 304]>,
     },
     /// The daemon makes the next act of a job. A mount that isn't `ok` fails.
-    Act { job: JobId, ok: bool },
+    Act {
+        job: JobId,
+        ok: bool,
+    },
     /// The daemon's book is read.
-    Record { trigger: Trigger },
+    Record {
+        trigger: Trigger,
+    },
 }

@@ -30,11 +30,11 @@ use crate::twice::{Twice, refuse, twice};
 use crate::walk::Begin;
 use am_names::{
     AbsPath, Attach, Errno, FsId, JobId, MemberRow, MountId, MountRow, Mounts, Name, NsId,
-    OpenToken, Place, Position,
-    Seconds, Status, Token, TokenKind, Trigger, WaitRow, WalkerId,
+    OpenToken, Place, Position, Seconds, Status, Token, TokenKind, Trigger, WaitRow, WalkerId,
 };
 use am_state::{
-    ActsLeft, AutofsRow, Doing, HeldRow, JobRow, KnownRow, Obs, QueuedRow, Record, RecordRow, WalkerRow,
+    ActsLeft, AutofsRow, Doing, HeldRow, JobRow, KnownRow, Obs, QueuedRow, Record, RecordRow,
+    WalkerRow,
 };
 use am_wire::{Packet, write};
 use std::alloc::{AllocError, Global};
@@ -201,7 +201,12 @@ fn walker_place(rows: &[WalkerRow], walker: WalkerId) -> Option<usize>
 }
 
 /// The last walk of a walker that waits.
-fn last_begin_of(alloc: Global, row: &WalkerRow, walker: WalkerId, now: Seconds) -> Result<Option<Begin>, AllocError>
+fn last_begin_of(
+    alloc: Global,
+    row: &WalkerRow,
+    walker: WalkerId,
+    now: Seconds,
+) -> Result<Option<Begin>, AllocError>
     ensures { IfOk result (λ begin. begin ≡ begin_of (Some row.now) walker now) }
 {
     match &row.doing {
@@ -332,7 +337,14 @@ impl Tables {
     }
 
     /// A walker begins a walk.
-    pub fn walk(&mut self, alloc: Global, walker: WalkerId, ns: NsId, path: &AbsPath, now: Seconds) -> Result<Twice, AllocError>
+    pub fn walk(
+        &mut self,
+        alloc: Global,
+        walker: WalkerId,
+        ns: NsId,
+        path: &AbsPath,
+        now: Seconds,
+    ) -> Result<Twice, AllocError>
         requires ordered { IsOrdered (kernel_of self.old.kernel) }
         ensures { LeavesOrRanOut result (walk_outcome (state_of self.old) walker ns path.now now) (state_of self.old) (state_of self.new) }
     {
@@ -367,7 +379,12 @@ impl Tables {
     }
 
     /// The last walk of a walker that waits; none if it isn't waiting.
-    fn last_begin(&self, alloc: Global, walker: WalkerId, now: Seconds) -> Result<Option<Begin>, AllocError>
+    fn last_begin(
+        &self,
+        alloc: Global,
+        walker: WalkerId,
+        now: Seconds,
+    ) -> Result<Option<Begin>, AllocError>
         ensures { IfOk result (λ begin. begin ≡ begin_of (walker_of self.now.kernel.walkers.items walker) walker now) }
     {
         let Some(at) = walker_place(&self.kernel.walkers, walker) else {
@@ -406,7 +423,12 @@ impl Tables {
     }
 
     /// A walker that waits goes on, if its token is acknowledged.
-    pub fn resume(&mut self, alloc: Global, walker: WalkerId, now: Seconds) -> Result<Twice, AllocError>
+    pub fn resume(
+        &mut self,
+        alloc: Global,
+        walker: WalkerId,
+        now: Seconds,
+    ) -> Result<Twice, AllocError>
         requires ordered { IsOrdered (kernel_of self.old.kernel) }
         ensures { LeavesOrRanOut result (resume_outcome (state_of self.old) walker now) (state_of self.old) (state_of self.new) }
     {
@@ -555,7 +577,12 @@ impl Tables {
         if !is_current(&self.kernel.autofs, row.trigger.fs, row.attach) {
             return Ok(refuse(Errno::EPERM));
         }
-        if !ok || self.kernel.mount_refusal(&self.limits, &row.trigger).is_some() {
+        if !ok
+            || self
+                .kernel
+                .mount_refusal(&self.limits, &row.trigger)
+                .is_some()
+        {
             return Ok(self.fail_mount(row));
         }
         let Some(location) = location_of(&self.kernel.autofs, row.trigger.fs) else {

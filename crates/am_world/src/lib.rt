@@ -13,6 +13,8 @@ mod resolve;
 mod rows;
 mod sites;
 mod tables;
+#[cfg(test)]
+mod tests;
 mod twice;
 pub mod walk;
 pub mod world;

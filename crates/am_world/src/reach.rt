@@ -41,7 +41,12 @@ impl Kernel {
 
     /// The position at the end of a path, from the root of a namespace on; none if a directory is
     /// missing.
-    pub fn position(&self, alloc: Global, ns: NsId, path: &[u8]) -> Result<Option<Position>, AllocError>
+    pub fn position(
+        &self,
+        alloc: Global,
+        ns: NsId,
+        path: &[u8],
+    ) -> Result<Option<Position>, AllocError>
         requires { IsCanonical path.now }
         ensures { IfOk result (λ at. IsReached at (position_of (scene_in self.now) ns (names_of path.now))) }
     {

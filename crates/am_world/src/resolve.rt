@@ -182,7 +182,9 @@ impl Kernel {
     {
         let Some(root) = root_of(&self.mounts, ns) else {
             return Ok(Walk {
-                stop: Stop::Refuse { errno: Errno::ENOENT },
+                stop: Stop::Refuse {
+                    errno: Errno::ENOENT,
+                },
                 passed: Vec::new(alloc),
             });
         };
@@ -197,7 +199,9 @@ impl Kernel {
         let mut rest = path;
         while let Some((name, others)) = split_first_name(rest) {
             if !has_names(autofs_at(&self.mounts, &self.autofs, at.mount), &at.place) {
-                return Ok(at.stopped(Stop::Refuse { errno: Errno::ENOENT }));
+                return Ok(at.stopped(Stop::Refuse {
+                    errno: Errno::ENOENT,
+                }));
             }
             at.place.push(&name)?;
             if let Some(stop) = self.settle(alloc, &mut at)? {

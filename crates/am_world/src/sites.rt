@@ -126,7 +126,14 @@ pub fn trigger_in(row: &AutofsRow, place: &Place) -> Option<Trigger>
     ensures { result ≡ trigger_in row.now place.now }
 {
     let Some((name, below)) = split_first_name(place.text()) else {
-        return if row.direct { Some(Trigger { fs: row.fs, name: None }) } else { None };
+        return if row.direct {
+            Some(Trigger {
+                fs: row.fs,
+                name: None,
+            })
+        } else {
+            None
+        };
     };
     if row.direct || split_first_name(below).is_some() {
         return None;

@@ -17,7 +17,9 @@ use crate::handle::queued_of;
 use crate::kernel::Kernel;
 use crate::tables::Tables;
 use crate::twice::refuse;
-use am_names::{AbsPath, Errno, FsId, Limits, MemberRow, MountId, MountRow, Name, NsId, Place, Seconds, Token};
+use am_names::{
+    AbsPath, Errno, FsId, Limits, MemberRow, MountId, MountRow, Name, NsId, Place, Seconds, Token,
+};
 use am_state::Obs;
 use am_wire::write;
 use std::alloc::{AllocError, Global};
@@ -44,10 +46,20 @@ impl Model for World {
 impl World {
     /// The initial world of one indirect autofs: the point at which it may be attached, the
     /// seconds after which its mounts may expire, and the keys of its map.
-    pub fn first(alloc: Global, limits: Limits, point: AbsPath, timeout: u32, keys: Vec<Name>) -> Result<World, AllocError>
+    pub fn first(
+        alloc: Global,
+        limits: Limits,
+        point: AbsPath,
+        timeout: u32,
+        keys: Vec<Name>,
+    ) -> Result<World, AllocError>
         requires { IsInRange limits }
         ensures { IfOk result (λ world. world ≡ opening_of (record {
-            limits = limits; point = point; timeout = timeout; keys = keys.items })) }
+          limits = limits;
+          point = point;
+          timeout = timeout;
+          keys = keys.items;
+        })) }
     {
         let point = Place::of(alloc, point.text())?;
         Ok(World {

@@ -43,8 +43,11 @@ pub fn run_words<R: Read + Drop, W: Write + Drop, E: Write + Drop>(
             Ok(words) => words,
             Err(_) => return without_memory(errors),
         },
-        // A word that isn't UTF-8 is no command.
-        Err(_) => {
+        Err(error) => {
+            if error.kind() == io::ErrorKind::OutOfMemory {
+                return without_memory(errors);
+            }
+            // A word that isn't UTF-8 is no command.
             let _ = writeln!(errors, "fault: Usage");
             return 2;
         }

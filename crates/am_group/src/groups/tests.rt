@@ -270,6 +270,7 @@ fn exhausted_numbers_are_told(rt: HostRuntime) -> Result<(), Fail> {
     };
     let last = groups.fresh(None)?;
     assert_eq!(rt; last, GroupId(u64::MAX));
+    assert_eq!(rt; groups.last_group(), last);
     assert_eq!(rt; groups.fresh(Some(FIRST)), Err(Errno::EINVAL));
     assert_eq!(rt; groups.fresh(None), Err(Errno::ENOSPC));
     groups.add(MountId(1), Membership::InGroup(last))?;

@@ -1,5 +1,5 @@
 -- Mounts, what is mounted on them, and which places are mount traps (autofs.rst, "Mount Traps").
-use Rattle.std.specs.Prelude.{ℕ, ◌==◌, Bool, true, false, ◌&&◌, not, is_some, List, [], ◌∷◌, Option, Some, None, find, reverse, if◌then◌else◌}
+use Rattle.std.specs.Prelude.{ℕ, ◌==◌, Bool, false, ◌&&◌, not, is_some, List, [], ◌∷◌, Option, Some, None, find, reverse, if◌then◌else◌}
 use Rattle.std.specs.List.{list_any}
 use Rattle.std.specs.Option.{option_map, option_and_then}
 use Rattle.am_names.specs.Path.{same_names}

@@ -1,5 +1,5 @@
 -- Waiters, tokens and the notifications that open them (autofs.rst, "Communicating with autofs: the event pipe").
-use Rattle.std.specs.Prelude.{ℕ, ◌+◌, ◌==◌, nat_lt, nat_le, max, Bool, true, false, ◌&&◌, not, is_none, List, [], ◌∷◌, ◌++◌, length, map, filter, Option, Some, None, find, if◌then◌else◌}
+use Rattle.std.specs.Prelude.{ℕ, ◌+◌, ◌==◌, nat_lt, not, is_none, List, [], ◌∷◌, ◌++◌, map, filter, Option, Some, None, find, if◌then◌else◌}
 use Rattle.std.specs.List.{list_any}
 use Rattle.am_names.specs.Trigger.{same_trigger}
 use Rattle.am_names.specs.declared.trigger.Trigger.{Trigger}
@@ -13,7 +13,6 @@ use Rattle.am_wire.specs.Kind.{kind_of}
 use Rattle.am_state.specs.declared.kernel_row.UseRow.{UseRow}
 use Rattle.am_state.specs.declared.kernel_row.QueuedRow.{QueuedRow}
 use Rattle.am_state.specs.declared.kernel_row.WalkerRow.{WalkerRow}
-use Rattle.am_state.specs.declared.kernel_row.Doing.{Doing}
 use Rattle.am_state.specs.declared.kernel_row.Doing.TheVariants.{Waiting, Inside}
 use Rattle.am_state.specs.declared.obs.Obs.{Obs}
 use Rattle.am_state.specs.declared.obs.Obs.TheVariants as seen

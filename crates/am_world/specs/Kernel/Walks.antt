@@ -1,5 +1,5 @@
 -- A walk along a path, and what it meets at a mount trap (autofs.rst, "Mount Traps").
-use Rattle.std.specs.Prelude.{ℕ, suc, zero, ◌+◌, ◌==◌, Bool, true, false, ◌&&◌, ◌||◌, not, is_some, is_none, List, [], ◌∷◌, ◌++◌, length, Option, Some, None, Result, Ok, Err, find, if◌then◌else◌}
+use Rattle.std.specs.Prelude.{ℕ, suc, zero, ◌+◌, Bool, true, false, ◌&&◌, ◌||◌, not, is_some, is_none, List, [], ◌∷◌, ◌++◌, length, Option, Some, None, Result, Ok, Err, find, if◌then◌else◌}
 use Rattle.std.specs.Option.{option_map}
 use Rattle.am_names.specs.Trigger.{same_trigger}
 use Rattle.am_names.specs.declared.errno.Errno.{Errno}

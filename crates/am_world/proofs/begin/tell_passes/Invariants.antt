@@ -1,4 +1,4 @@
-use Rattle.std.proofs.Common.{◌≡◌, ◌≤◌, ◌+◌, ◌++◌, vec_len, length, take}
+use Rattle.std.proofs.Common.{◌≡◌, ◌+◌, ◌++◌, vec_len, take}
 use Rattle.std.specs.Prelude.{vec_capacity}
 use Rattle.am_world.specs.Kernel.Waits.{passes}
 use Rattle.am_world.proofs.begin.tell_passes.Given as goal

@@ -1,4 +1,4 @@
-use Rattle.std.proofs.Common.{◌≡◌, ◌==◌, ◌∙◌, Option, sym, ap}
+use Rattle.std.proofs.Common.{◌==◌, ◌∙◌, sym, ap}
 use Rattle.am_names.specs.declared.row.OpenToken.{OpenToken}
 use Rattle.am_world.specs.Machine.{waiters_of}
 use Rattle.am_world.proofs.EventLemmas.{found_at, found_nowhere}

@@ -1,8 +1,7 @@
-use Rattle.std.proofs.Common.{◌≡◌, ◌<◌, ◌≤◌, ℕ, true, false, List, insert, length, set, sym, ap, ◌∙◌, arith}
+use Rattle.std.proofs.Common.{◌≡◌, ℕ, true, false, insert, length, set, sym, ap, ◌∙◌, arith}
 use Rattle.std.specs.Prelude.{nat_le, ◌==◌}
 use Rattle.std.specs.List.{list_any, position_or_len}
 use Rattle.am_names.specs.declared.row.WaitRow.{WaitRow}
-use Rattle.am_world.specs.Kernel.Waits.{with_wait}
 use Rattle.am_world.proofs.RowLemmas.{put_new, put_again, position_within, position_fits}
 use Rattle.am_world.proofs.rows.put_wait.Goals as goal
 

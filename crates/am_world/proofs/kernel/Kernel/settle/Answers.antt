@@ -1,5 +1,4 @@
-use Rattle.std.proofs.Common.{◌≡◌, ◌+◌, ◌-◌, ◌<◌, ◌∷◌, ◌++◌, [], suc, ℕ, List, ap, ◌∙◌, arith}
-use Rattle.am_world.specs.Kernel.Walks.{visited, visit}
+use Rattle.std.proofs.Common.{arith}
 use Rattle.am_world.specs.Tables.{scene_in}
 use Rattle.am_world.proofs.WalkLemmas.{rests, halts, enters, goes_past, ends}
 use Rattle.am_world.proofs.kernel.Kernel.settle.Goals.{in-Enters, in-Passes+in_ok-push-in-Passes}

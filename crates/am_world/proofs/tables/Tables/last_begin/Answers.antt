@@ -1,4 +1,4 @@
-use Rattle.std.proofs.Common.{◌≡◌, ◌==◌, ◌∙◌, Option, Some, None, ℕ, List, sym, ap, subst}
+use Rattle.std.proofs.Common.{◌≡◌, ◌==◌, ◌∙◌, Option, Some, None, sym, ap, subst}
 use Rattle.std.specs.Prelude.{position, IfOk}
 use Rattle.am_state.specs.declared.kernel_row.WalkerRow.{WalkerRow}
 use Rattle.am_world.specs.Tables.{begin_of}

@@ -1,8 +1,7 @@
-use Rattle.std.proofs.Common.{◌≡◌, ◌∙◌, List, refl, subst, sym, ap, inr}
+use Rattle.std.proofs.Common.{List, refl, subst, sym, inr}
 use Rattle.am_state.specs.declared.obs.Obs.{Obs}
 use Rattle.am_world.specs.State.{State}
-use Rattle.am_world.specs.Inside.{view_of}
-use Rattle.am_world.specs.Machine.{Step, Outcome, outcome_of, after}
+use Rattle.am_world.specs.Machine.{Step, outcome_of}
 use Rattle.am_world.specs.Tables.{IsOrdered, state_of}
 use Rattle.am_world.proofs.OrderLemmas.{outcome_kept}
 use Rattle.am_world.proofs.world.World.step_pair.Goals as goal
@@ -18,4 +17,4 @@ returns-clause-step c =
     let o = outcome_of old c.args.event.now in
     let left = c.in-Ok.ensures in
     subst (λ (s : State). (seen : List Obs) × Step s c.args.event.now c.in-Ok.told.one seen (state_of c.handle.new.self)) c.self.view_is
-      (o.seen, inr (record { told = left.told.one; shown = refl; left = left.left }))
+    (o.seen, inr (record { told = left.told.one; shown = refl; left = left.left }))
