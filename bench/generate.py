@@ -1,0 +1,90 @@
+#!/usr/bin/env python3
+"""Writes a script of so many keys, or the answers that it must get.
+
+usage: generate.py one-by-one|all-first KEYS script|answers
+
+Key I is walked to by walker I, which waits on token I. The same arguments give the same bytes.
+"""
+
+import sys
+
+SHAPES = ("one-by-one", "all-first")
+
+
+def head(shape, keys):
+    # By default 1024 walkers may wait at once.
+    if shape == "all-first" and keys > 1024:
+        yield f"limits 1000000 {keys} 4294967295"
+    yield "master"
+    yield "/auto auto.keys --timeout=10"
+    yield "end"
+    yield "map auto.keys"
+    for i in range(1, keys + 1):
+        yield f"{name(i)} server:/export/{name(i)}"
+    yield "end"
+    yield "events"
+
+
+def name(i):
+    return f"key{i:06d}"
+
+
+def attach():
+    yield "attach /auto", "fs 2 attach 1 mount 2"
+
+
+def walk(i):
+    yield f"walk {i} 0 /auto/{name(i)} 100 room", f"wait {i}"
+
+
+def serve(i):
+    """The daemon serves token I by job I, which mounts mount I + 2, and walker I arrives."""
+    mount = i + 2
+    yield f"deliver {i}", f"job {i}"
+    yield f"act {i} ok", "did mkdir"
+    yield f"act {i} ok", f"did mount {mount}"
+    yield f"act {i} ok", "did record"
+    yield f"act {i} ok", "did reply"
+    yield f"record 2 {name(i)}", f"record mounted {mount}"
+    yield f"resume {i} 101 room", f"at {mount} /"
+
+
+def events(shape, keys):
+    """Each event with its answer."""
+    yield from attach()
+    if shape == "one-by-one":
+        for i in range(1, keys + 1):
+            yield from walk(i)
+            yield from serve(i)
+    else:
+        for i in range(1, keys + 1):
+            yield from walk(i)
+        for i in range(1, keys + 1):
+            yield from serve(i)
+
+
+def script(shape, keys):
+    yield from head(shape, keys)
+    for event, _ in events(shape, keys):
+        yield event
+
+
+def answers(shape, keys):
+    for _, answer in events(shape, keys):
+        yield answer
+
+
+def text(lines):
+    return "".join(line + "\n" for line in lines).encode("ascii")
+
+
+def main(words):
+    if len(words) != 3 or words[0] not in SHAPES or not words[1].isdigit() \
+            or words[2] not in ("script", "answers"):
+        sys.exit(__doc__)
+    tell = script if words[2] == "script" else answers
+    sys.stdout.buffer.write(text(tell(words[0], int(words[1]))))
+
+
+if __name__ == "__main__":
+    main(sys.argv[1:])

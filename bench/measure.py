@@ -1,0 +1,109 @@
+#!/usr/bin/env python3
+"""Measures a built program and prints a table.
+
+usage: measure.py PROGRAM [RUNS [KEYS..]]
+
+Each run's answers are compared with those that the script must get. Where one line differs,
+nothing is printed for it, and the exit status is 1.
+"""
+
+import os
+import statistics
+import subprocess
+import sys
+import tempfile
+import time
+
+import generate
+
+RUNS = 15
+KEYS = (10, 100, 1000)
+# Short runs are repeated so many times more often.
+SHORT = 10
+ATTACH = b"\nattach /auto\n"
+
+
+def run(program, script, wrote):
+    """Seconds of processor time and seconds on the clock of one run."""
+    with open(script, "rb") as source, open(wrote, "wb") as sink:
+        start = time.perf_counter()
+        child = subprocess.Popen([program, "script"], stdin=source, stdout=sink, stderr=subprocess.PIPE)
+        _, status, usage = os.wait4(child.pid, 0)
+        clock = time.perf_counter() - start
+        child.returncode = os.waitstatus_to_exitcode(status)
+        said = child.stderr.read()
+        child.stderr.close()
+    if child.returncode != 0 or said:
+        sys.exit(f"bench: wrong run: status {child.returncode}, it said {said!r}")
+    return usage.ru_utime + usage.ru_stime, clock
+
+
+def check(wrote, wanted):
+    with open(wrote, "rb") as source:
+        got = source.read()
+    if got == wanted:
+        return
+    got, wanted = got.splitlines(), wanted.splitlines()
+    for number, (one, other) in enumerate(zip(got, wanted), 1):
+        if one != other:
+            sys.exit(f"bench: wrong run: answer {number} is {one!r} and must be {other!r}")
+    sys.exit(f"bench: wrong run: {len(got)} answers, and there must be {len(wanted)}")
+
+
+def medians(program, room, script, wanted, runs):
+    source, wrote = os.path.join(room, "script"), os.path.join(room, "wrote")
+    with open(source, "wb") as sink:
+        sink.write(script)
+    times = []
+    # Each run is checked; the first is not counted.
+    for at in range(runs + 1):
+        took = run(program, source, wrote)
+        check(wrote, wanted)
+        if at > 0:
+            times.append(took)
+    processor, clock = zip(*times)
+    return statistics.median(processor), statistics.median(clock)
+
+
+def row(*cells):
+    print("| " + " | ".join(cells) + " |", flush=True)
+
+
+def ms(seconds):
+    return f"{seconds * 1e3:.2f}"
+
+
+def main(words):
+    if not words or not all(word.isdigit() and int(word) > 0 for word in words[1:]):
+        sys.exit(__doc__)
+    program = words[0]
+    runs = int(words[1]) if len(words) > 1 else RUNS
+    sizes = [int(word) for word in words[2:]] or KEYS
+    row("shape", "keys", "events", "runs", "clock ms", "cpu ms", "head ms", "µs/event", "events/s", "growth")
+    row("---", *["---:"] * 9)
+    with tempfile.TemporaryDirectory() as room:
+        cpu, clock = medians(program, room, b"", b"", runs * SHORT)
+        row("empty", "0", "0", str(runs * SHORT), ms(clock), ms(cpu), "", "", "", "")
+        for shape in generate.SHAPES:
+            before = None
+            for keys in sizes:
+                again = runs * SHORT if keys <= 100 else runs
+                script = generate.text(generate.script(shape, keys))
+                wanted = generate.text(generate.answers(shape, keys))
+                begun = script[:script.index(ATTACH) + len(ATTACH)]
+                answer = wanted[:wanted.index(b"\n") + 1]
+                head, _ = medians(program, room, begun, answer, again)
+                cpu, clock = medians(program, room, script, wanted, again)
+                count = wanted.count(b"\n") - 1
+                each = (cpu - head) / count
+                # A run that isn't told from its head has no time of its own.
+                known = each > 0
+                row(shape, str(keys), str(count), str(again), ms(clock), ms(cpu), ms(head),
+                    f"{each * 1e6:.2f}" if known else "?",
+                    f"{1 / each:.0f}" if known else "?",
+                    f"{each / before:.1f}" if known and before else "")
+                before = each if known else None
+
+
+if __name__ == "__main__":
+    main(sys.argv[1:])

@@ -1,0 +1,15 @@
+#!/bin/sh
+# Builds the program where it isn't built or is older than its sources, and then measures it.
+# The words are passed on: bench/run.sh [RUNS [KEYS..]]
+set -eu
+bench=$(cd "$(dirname "$0")" && pwd)
+cd "$bench/../crates/automount_cli"
+program=out/automount_cli
+newer() {
+    find .. ../../crates.txt -name out -prune -o -type f -newer "$program" -print
+}
+if [ ! -x "$program" ] || [ -n "$(newer)" ]; then
+    echo "bench: the program is proved and built first, which takes some minutes" >&2
+    rt run -- script < /dev/null >&2
+fi
+exec python3 -B "$bench/measure.py" "$PWD/$program" "$@"
