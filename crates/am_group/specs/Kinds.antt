@@ -52,7 +52,7 @@ column MakePrivate first second third fourth = third
 column MakeUnbindable first second third fourth = fourth
 
 -- the table of changes: what make-shared, make-slave, make-private and make-unbindable make of
--- each state (own: of a shared mount that is alone in its peer group)
+-- each state (sharedsubtree.rst, 5c; alone: the mount is the only one of its peer group)
 abbrev pub kind_after : Change → Bool → Kind → Kind
 kind_after change alone Shared =
     column change Shared (if alone then Private else Slave) Private Unbindable

@@ -66,7 +66,7 @@ entry_of (Some point) (Some map_name) (Some timeout) =
     Some (record { point = point; map_name = map_name; timeout = timeout })
 entry_of point map_name timeout = None
 
--- `PATH NAME`, with 300 seconds, or `PATH NAME --timeout=N`
+-- `PATH NAME`, with 300 seconds (own), or `PATH NAME --timeout=N`
 abbrev pub entry_read : List (List ℕ) → Option Entry
 entry_read (point ∷ name ∷ []) = entry_of (point_read point) (result_ok (name_read name)) (Some 300)
 entry_read (point ∷ name ∷ timeout ∷ []) =

@@ -32,7 +32,7 @@ pub enum ScriptFaultKind {
 }
 
 impl ScriptFaultKind {
-    /// The number of the fault. 3 to 5 are kept for those of the master map and the maps.
+    /// The number of the fault. No fault has 3, 4 or 5.
     pub fn number(self) -> u8
         ensures { result ≡ kind_number self }
     {

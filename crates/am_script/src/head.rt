@@ -45,7 +45,7 @@ pub enum HeadLine {
     Goes { part: Part },
     /// These are the limits.
     Limited { limits: Limits },
-    /// This is a key of the map (autofs(5), "Indirect maps").
+    /// This is a key of the map (autofs(5), "SUN FORMAT").
     Key { key: Name },
     /// The events begin behind it.
     Begins { entry: Entry },

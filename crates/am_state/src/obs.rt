@@ -4,7 +4,7 @@ use crate::daemon_row::Record;
 use am_names::{Attach, FsId, MountId, Mounts, Status, Token, Trigger, WalkerId};
 use am_wire::Packet;
 
-/// One observation. A trace is a list of them, and the safety laws speak of the trace alone.
+/// One observation. A trace is a list of them.
 #[derive(Debug, Drop)]
 pub enum Obs {
     /// A packet was queued for the daemon.
