@@ -12,5 +12,5 @@ returns-then-eq c =
     let position = c.in-Some.position in
     let place = names_of c.args.place.now in
     let mount : (position.mount == c.args.mount) ≡ true = cc in
-    same_from_decides c.is_at.result (pointwise bytes_eq position.place place) c.is_at.ensures (pointwise_decides bytes_decides position.place place) ∙
+    same_from_decides c.is_at.result (pointwise bytes_eq position.place place) c.is_at.ensures.same (pointwise_decides bytes_decides position.place place) ∙
     sym (is_position_some c.args.mount place c.args.row.now.mountpoint position (cc) mount)
