@@ -203,28 +203,44 @@ fn numbers_at_the_greatest_of_their_type(rt: HostRuntime) -> Result<(), Fail> {
     Ok(())
 }
 
-#[test]
-fn lines_of_8192_bytes_and_of_8193(rt: HostRuntime) -> Result<(), Fail> {
-    let alloc = rt.alloc();
+/// A line of 8,192 bytes between these two texts.
+fn with_line_of_8192(alloc: Global, before: &[u8], behind: &[u8]) -> Result<Vec<u8>, Fail> {
     let full = [b' '; 8192];
-    let comment = [b'#'; 8193];
-    let long = fault(9, ScriptFaultKind::LongLine);
-    let script = joined(alloc, &[HEAD, b"attach /auto\n", &full, b"\nact 1 ok\n"])?;
+    joined(alloc, &[before, &full, behind])
+}
+
+/// The same behind the head and an event, with a line of 8,193 bytes.
+fn with_line_of_8193(alloc: Global, behind: &[u8]) -> Result<Vec<u8>, Fail> {
+    let long = [b'#'; 8193];
+    joined(alloc, &[HEAD, b"attach /auto\n", &long, behind])
+}
+
+#[test]
+fn lines_of_8192_bytes(rt: HostRuntime) -> Result<(), Fail> {
+    let alloc = rt.alloc();
+    let script = with_line_of_8192(alloc, b"attach /auto\n", b"\nact 1 ok\n")?;
+    let script = with_events(alloc, script.as_slice())?;
     let (got, output) = play(alloc, script.as_slice());
     assert_eq!(rt; got, None);
     assert_eq!(rt;
         output.as_slice(),
         b"fs 2 attach 1 mount 2\nerr 5\n".as_slice()
     );
-    for end in [b"".as_slice(), b"\n", b"\nact 1 ok\n"] {
-        let script = joined(alloc, &[HEAD, b"attach /auto\n", &comment, end])?;
-        let (got, output) = play(alloc, script.as_slice());
-        assert_eq!(rt; got, long);
-        assert_eq!(rt; output.as_slice(), b"fs 2 attach 1 mount 2\n".as_slice());
-    }
-    let script = joined(alloc, &[b"master\n", &full, b"\r\n"])?;
+    let script = with_line_of_8192(alloc, b"master\n", b"\r\n")?;
     let (got, _) = play(alloc, script.as_slice());
     assert_eq!(rt; got, fault(2, ScriptFaultKind::LongLine));
+    Ok(())
+}
+
+#[test]
+fn lines_of_8193_bytes(rt: HostRuntime) -> Result<(), Fail> {
+    let alloc = rt.alloc();
+    for behind in [b"".as_slice(), b"\n", b"\nact 1 ok\n"] {
+        let script = with_line_of_8193(alloc, behind)?;
+        let (got, output) = play(alloc, script.as_slice());
+        assert_eq!(rt; got, fault(9, ScriptFaultKind::LongLine));
+        assert_eq!(rt; output.as_slice(), b"fs 2 attach 1 mount 2\n".as_slice());
+    }
     Ok(())
 }
 
