@@ -48,7 +48,7 @@ rank_within a (x ∷ xs) = go (nat_lt x a) (rank_within a xs)
     go true ih = omega arith
     go false ih = omega arith
 
-rank_bound : (a : ℕ) (xs : List ℕ) → has a xs ≡ true → rank a xs < length xs
+pub rank_bound : (a : ℕ) (xs : List ℕ) → has a xs ≡ true → rank a xs < length xs
 rank_bound a [] h = absurd cc
 rank_bound a (x ∷ xs) h = go (nat_lt x a) refl (eqb a x) refl h (rank_within a xs) (rank_bound a xs)
   where
@@ -154,11 +154,11 @@ module _ (s : PeerGroups) (sound : IsSound s) (b own : ℕ) (in_own : group_of s
   stand = stand_in own new s.last_group (receiving_groups s receivers own)
 
   -- the new mount stands for the group, or a fresh one does
-  abbrev Stands : ℕ → Type 0
+  abbrev pub Stands : ℕ → Type 0
   Stands k = (k ≡ own) ⊎ (has k (receiving_groups s receivers own) ≡ true)
 
   -- a group that a receiver is in
-  stands_of_receiver : (r k : ℕ) → has r receivers ≡ true → group_of s r ≡ Some k → Stands k
+  pub stands_of_receiver : (r k : ℕ) → has r receivers ≡ true → group_of s r ≡ Some k → Stands k
   stands_of_receiver r k h e = ⊎_elim
       (λ same. inl same)
       (λ other. inr (has-filter (λ g. not (g == own) && has_receiver s receivers g) (map (λ row. row.group) s.groups) k
@@ -186,14 +186,14 @@ module _ (s : PeerGroups) (sound : IsSound s) (b own : ℕ) (in_own : group_of s
       subst (λ (g : ℕ). IsUnder s r g) (some_same (sym found.1 ∙ in_own)) found.2
 
   -- the master of a receiver that is only a slave
-  stands_of_slave : (r k : ℕ) → has r receivers ≡ true → group_of s r ≡ None → slave_in (member_row s.members r) ≡ Some k → Stands k
+  pub stands_of_slave : (r k : ℕ) → has r receivers ≡ true → group_of s r ≡ None → slave_in (member_row s.members r) ≡ Some k → Stands k
   stands_of_slave r k h none e =
       let under = receiver_under r h in
       let home : under.home ≡ k = some_same (sym (rw none at under.is_home) ∙ e) in
       stands_of_master k under.way (inl (r, e)) (subst (λ (x : ℕ). LeadsUp s under.way x own) home under.leads)
 
   -- the master of a group that receivers are in
-  stands_above : (h m : ℕ) → has h (receiving_groups s receivers own) ≡ true → master_of_group s h ≡ Some m → Stands m
+  pub stands_above : (h m : ℕ) → has h (receiving_groups s receivers own) ≡ true → master_of_group s h ≡ Some m → Stands m
   stands_above h m e up =
       let tests = has-from_filter (λ g. not (g == own) && has_receiver s receivers g) (map (λ row. row.group) s.groups) h e in
       let both = and_parts (not (h == own)) (has_receiver s receivers h) tests.1 in

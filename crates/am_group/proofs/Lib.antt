@@ -14,3 +14,4 @@ pub mod JoinLemmas
 pub mod GrowLemmas
 pub mod MemberLemmas
 pub mod TableLemmas
+pub mod ReceiverLemmas

@@ -7,3 +7,4 @@ pub mod Scan
 pub mod Inside
 pub mod Copies
 pub mod Tables
+pub mod Receivers

@@ -63,6 +63,13 @@ impl Groups {
         self.members.as_slice()
     }
 
+    /// The peer groups with their masters, in order of making.
+    pub fn groups(&self) -> &[GroupRow]
+        ensures { result.now ≡ self.now.groups }
+    {
+        self.groups.as_slice()
+    }
+
     /// The greatest number that a peer group ever had, 0 for none. The next have those above.
     pub fn last_group(&self) -> GroupId
         ensures { result ≡ self.now.last_group }

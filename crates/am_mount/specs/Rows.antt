@@ -1,5 +1,6 @@
 -- The rows of all mounts (Linux: the mounts of all namespaces), and which of them are where.
-use Rattle.std.specs.Prelude.{◌≡◌, ◌≤◌, ◌==◌, ◌&&◌, ◌+◌, ℕ, Bool, false, List, [], ◌∷◌, map, filter, find, Option, Some, None}
+use Rattle.std.specs.Prelude.{◌≡◌, ◌≤◌, ◌==◌, ◌&&◌, ◌+◌, ℕ, Bool, false, is_none, List, [], ◌∷◌, map, filter, find, Option, Some, None}
+use Rattle.std.specs.Option.{option_map}
 use Rattle.std.specs.List.{list_any}
 use Rattle.std.specs.Cmp.Lexicographic.{pointwise}
 use Rattle.std.specs.Str.{bytes_eq}
@@ -68,6 +69,13 @@ top_of rows m place = last_of (mounts_where (is_at m place) rows)
 -- the mount is there, and its row is so
 abbrev pub HasRow : (MountRow → Type 0) → List MountRow → ℕ → Type 0
 HasRow P rows m = (row : MountRow) × (mount_row rows m ≡ Some row) × P row
+
+-- the root mount of a namespace: the one that is mounted nowhere
+abbrev pub is_root : ℕ → MountRow → Bool
+is_root ns row = row.ns == ns && is_none row.mountpoint
+
+abbrev pub root_of : List MountRow → ℕ → Option ℕ
+root_of rows ns = option_map (λ row. row.mount) (find (λ row. is_root ns row) rows)
 
 -- it belongs to this namespace
 abbrev pub IsIn : ℕ → MountRow → Type 0

@@ -5,7 +5,7 @@ ghost use Rattle.std.specs.List.{Contains, slice_get};
 ghost use Rattle.std.specs.List.Sorted.{IsStrictlyIncreasing};
 ghost use Rattle.std.specs.Option.{option_copied};
 ghost use Rattle.am_names.specs.Path.{IsCanonical, names_of};
-ghost use Rattle.am_mount.specs.Rows.{IsRising, next_of, mount_row, is_among, mounts_where, is_in, is_child, is_at, top_of, HasRow, IsIn, IsOn, IsTop, IsFree};
+ghost use Rattle.am_mount.specs.Rows.{IsRising, next_of, mount_row, is_among, mounts_where, is_in, is_child, is_at, top_of, root_of, HasRow, IsIn, IsOn, IsTop, IsFree};
 
 use am_names::{MountId, MountRow, NsId};
 use std::alloc::{AllocError, Global};
@@ -154,6 +154,16 @@ impl Tree {
             }
         }
         top
+    }
+
+    /// The root mount of the namespace.
+    pub fn root_of(&self, ns: NsId) -> Option<MountId>
+        ensures { result ≡ root_of self.now ns }
+    {
+        self.rows
+            .iter()
+            .find(|row| row.ns == ns && row.mountpoint.is_none())
+            .map(|row| row.mount)
     }
 
     /// The mounts that are mounted on this one, at any place.

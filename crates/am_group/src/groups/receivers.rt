@@ -6,6 +6,7 @@ ghost use Rattle.std.specs.List.Sorted.{IsStrictlyIncreasing};
 ghost use Rattle.am_names.specs.Errno.{RefusedAs};
 ghost use Rattle.am_group.specs.Propagation.{Receives, master_of};
 ghost use Rattle.am_group.specs.Scan.{numbers, takes_from, propagates, is_handed, is_reached};
+ghost use Rattle.am_group.specs.Receivers.{receivers_of};
 
 use crate::groups::Groups;
 use crate::tables::is_just;
@@ -77,6 +78,7 @@ impl Groups {
         ensures refusal { RefusedAs None result }
         ensures exact { IfOk result (λ v. (c : ℕ) → Contains v.items c ↔ Receives self.now mount c) }
         ensures rising { IfOk result (λ v. IsStrictlyIncreasing v.items) }
+        ensures listed { IfOk result (λ v. v.items ≡ receivers_of self.now mount) }
     {
         let _members = &self.members;
         let mut reached = Vec::new(alloc);

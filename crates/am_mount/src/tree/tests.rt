@@ -90,6 +90,15 @@ fn top_over_stacks_and_after_removal(rt: HostRuntime) -> Result<(), Fail> {
 }
 
 #[test]
+fn root_of_each_namespace(rt: HostRuntime) -> Result<(), Fail> {
+    let tree = tree_of(rt.alloc(), two_namespaces(rt.alloc())?)?;
+    for (ns, root) in [(0, Some(MountId(1))), (1, Some(MountId(4))), (2, None)] {
+        assert_eq!(rt; tree.root_of(NsId(ns)), root, "{ns}");
+    }
+    Ok(())
+}
+
+#[test]
 fn children_and_mounts_of_a_namespace(rt: HostRuntime) -> Result<(), Fail> {
     let tree = tree_of(rt.alloc(), two_namespaces(rt.alloc())?)?;
     let children = tree.children(rt.alloc(), MountId(1))?;

@@ -5,9 +5,11 @@ use Rattle.std.specs.List.Sorted.{IsStrictlyIncreasing}
 use Rattle.std.proofs.lemmas.Fn.{filter_same}
 use Rattle.am_names.specs.PeerGroups.{PeerGroups}
 use Rattle.am_group.specs.Propagation.{Receives}
-use Rattle.am_group.specs.Invariant.{RiseFrom}
+use Rattle.am_group.specs.Invariant.{RiseFrom, IsSound}
 use Rattle.am_group.specs.Scan.{numbers, is_reached}
-use Rattle.am_group.proofs.ScanLemmas.{IsPartial, partial_start, partial_next, longer, at_most, found_receives, found_rises}
+use Rattle.am_group.specs.Receivers.{receivers_of}
+use Rattle.am_group.proofs.ReceiverLemmas.{listed_from}
+use Rattle.am_group.proofs.ScanLemmas.{IsPartial, partial_start, partial_next, longer, at_most, closed, found_receives, found_rises}
 use Rattle.am_group.proofs.groups.Groups.receivers.Goals as goal
 
 pub loop-alloc-init : goal.loop-alloc-init
@@ -46,3 +48,17 @@ returns-clause-rising c =
     let left : c.retain.new.self.items ≡ filter (λ x. not (eqb x c.args.mount)) found = filter_same _ (λ (x : ℕ). not (eqb x c.args.mount)) _ (λ x b q k. search (rules, tests)) _ _ c.retain.ensures.filtered in
     let partial : IsPartial s c.args.mount found = c.loop-alloc.invariant.partial in
     subst (λ (xs : List ℕ). IsStrictlyIncreasing xs) (sym left) (found_rises s c.args.mount found (subst (λ (v : PeerGroups). RiseFrom 0 v.members) c.self.view_is c.self.invariant.orderly.rising) partial)
+
+pub returns-clause-listed : goal.returns-clause-listed
+returns-clause-listed c =
+    let s = c.args.self.now in
+    let found = c.loop-alloc.reached.items in
+    let left : c.retain.new.self.items ≡ filter (λ x. not (eqb x c.args.mount)) found = filter_same _ (λ (x : ℕ). not (eqb x c.args.mount)) _ (λ x b q k. search (rules, tests)) _ _ c.retain.ensures.filtered in
+    let partial : IsPartial s c.args.mount found = c.loop-alloc.invariant.partial in
+    let grown : length found ≤ length (filter (is_reached s c.args.mount found) (numbers s.members)) = longer s c.args.mount found partial in
+    let same : length c.loop-alloc.next.items ≡ length (filter (is_reached s c.args.mount found) (numbers s.members)) = ap (λ (xs : List ℕ). length xs) c.loop-alloc.invariant.next in
+    let stop : length (filter (is_reached s c.args.mount found) (numbers s.members)) ≡ length found = omega arith in
+    let all : found ≡ filter (is_reached s c.args.mount found) (numbers s.members) = closed s c.args.mount found partial stop in
+    let sound : IsSound s = subst (λ (v : PeerGroups). IsSound v) c.self.view_is c.self.invariant in
+    left ∙ ap (filter (λ x. not (eqb x c.args.mount))) all ∙ listed_from s sound c.args.mount (λ x. not (eqb x c.args.mount)) (is_reached s c.args.mount found)
+    (λ other. subst (λ (xs : List ℕ). Contains (filter (λ x. not (eqb x c.args.mount)) xs) other ↔ Receives s c.args.mount other) all (found_receives s c.args.mount found partial stop other))
