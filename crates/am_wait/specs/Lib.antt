@@ -1,0 +1,4 @@
+pub mod Rows
+pub mod Calls
+pub mod Invariant
+pub mod Inside

@@ -1,0 +1,8 @@
+//! Tokens and waiters: who waits on which notification until the daemon acknowledges it
+//! (autofs.rst, "Communicating with autofs: the event pipe").
+#![tactic(auto)]
+
+mod rows;
+pub mod waits;
+
+pub use waits::Waits;

@@ -1,0 +1,252 @@
+//! Open tokens, and the walkers that wait on them.
+
+ghost use Rattle.std.specs.Prelude.{◌≡◌, ◌+◌, Some, IfOk, OnOk, OnErr};
+ghost use Rattle.std.specs.Option.{option_map, option_copied};
+ghost use Rattle.am_names.specs.Errno.{RefusedAs, RefusedOnlyAs};
+ghost use Rattle.am_wait.specs.Rows.{no_waits, open_on, token_of, wait_of, waiters_of, tokens_of};
+ghost use Rattle.am_wait.specs.Invariant.{IsSound};
+ghost use Rattle.am_wait.specs.Calls.{is_exhausted, is_full, open_refusal, waiting_on, opened, join_refusal, joined, answer_refusal, answered, fs_released, collect_refusal, status_of, collected};
+
+use crate::rows::{
+    add_waiter, fail_waits_of, is_open_on, put_wait, release, take_token, take_tokens_of, take_wait,
+};
+use am_names::{
+    Errno, FsId, OpenToken, Status, Token, TokenKind, Trigger, WaitRow, Waiters, WalkerId,
+};
+use std::alloc::{AllocError, Global};
+use std::marker::Model;
+
+#[cfg(test)]
+mod tests;
+
+/// The open tokens with their waiters, and for each walker that waits, or has not collected its
+/// status yet, its wait (Linux: the wait queues of an autofs).
+#[derive(Debug, Drop)]
+pub struct Waits {
+    tokens: Vec<OpenToken>,
+    waits: Vec<WaitRow>,
+    last_token: u32,
+    most_waits: u32,
+    most_tokens: u32,
+}
+
+impl Model for Waits {
+    ghost use Rattle.am_wait.specs.Rows.{WaitRows};
+
+    ghost Value = { WaitRows };
+
+    ghost use Rattle.am_wait.specs.Invariant.{IsSound};
+    ghost use Rattle.am_wait.specs.Inside.{rows_of};
+
+    ghost view = { rows_of };
+
+    ghost invariant = { λ w. IsSound (rows_of w) };
+}
+
+/// The wait of a walker on an open token.
+fn waiting_on(token: Token, row: &OpenToken, walker: WalkerId) -> WaitRow
+    ensures { result ≡ waiting_on token row.now.trigger row.now.kind walker }
+{
+    WaitRow {
+        walker,
+        token,
+        trigger: row.trigger,
+        kind: row.kind,
+        status: None,
+    }
+}
+
+impl Waits {
+    /// Nobody waits. At most so many may wait at one time, and so many tokens be given.
+    pub fn new(alloc: Global, waiters: u32, tokens: u32) -> Waits
+        ensures { result ≡ no_waits waiters tokens }
+    {
+        Waits {
+            tokens: Vec::new(alloc),
+            waits: Vec::new(alloc),
+            last_token: 0,
+            most_waits: waiters,
+            most_tokens: tokens,
+        }
+    }
+
+    /// The row of a token, if it is open.
+    fn token_row(&self, token: Token) -> Option<&OpenToken>
+        ensures { option_copied result ≡ token_of self.now.tokens token }
+    {
+        self.tokens.iter().find(|row| row.token == token)
+    }
+
+    /// The open token of this kind for a trigger.
+    pub fn open_on(&self, kind: TokenKind, trigger: &Trigger) -> Option<Token>
+        ensures { result ≡ open_on self.now.tokens kind trigger.now }
+    {
+        self.tokens
+            .iter()
+            .find(|row| is_open_on(row, kind, trigger))
+            .map(|row| row.token)
+    }
+
+    /// The trigger of a token; none if it isn't open.
+    pub fn trigger_of(&self, token: Token) -> Option<Trigger>
+        ensures { result ≡ option_map (λ row. row.trigger) (token_of self.now.tokens token) }
+    {
+        match self.token_row(token) {
+            Some(row) => Some(row.trigger),
+            None => None,
+        }
+    }
+
+    /// The wait of a walker, with what it waits for and the status with which it was released.
+    pub fn wait_of(&self, walker: WalkerId) -> Option<WaitRow>
+        ensures wait { result ≡ wait_of self.now.waits walker }
+        ensures sound { IsSound self.now }
+    {
+        self.waits.iter().copied().find(|row| row.walker == walker)
+    }
+
+    /// The waiters of a token, in the order in which they joined; none if it isn't open.
+    pub fn waiters_of(&self, alloc: Global, token: Token) -> Result<Vec<WalkerId>, AllocError>
+        ensures { IfOk result (λ v. v.items ≡ waiters_of self.now.tokens token) }
+    {
+        match self.token_row(token) {
+            Some(row) => Vec::from_slice(alloc, row.waiters.as_slice()),
+            None => Ok(Vec::new(alloc)),
+        }
+    }
+
+    /// The open tokens of a file system, in rising order.
+    pub fn tokens_of(&self, alloc: Global, fs: FsId) -> Result<Vec<Token>, AllocError>
+        ensures { IfOk result (λ v. v.items ≡ tokens_of self.now.tokens fs) }
+    {
+        let mut tokens = Vec::new(alloc);
+        for row in self.tokens.iter() {
+            if row.trigger.fs == fs {
+                tokens.push(row.token)?;
+            }
+        }
+        Ok(tokens)
+    }
+
+    fn is_exhausted(&self) -> bool
+        ensures { result ≡ is_exhausted self.now }
+    {
+        self.last_token >= self.most_tokens
+    }
+
+    fn is_full(&self) -> bool
+        ensures { result ≡ is_full self.now }
+    {
+        self.waits.len() >= self.most_waits as usize
+    }
+
+    /// Why `open` would refuse this walker, if it would.
+    pub fn open_refusal(&self, walker: WalkerId) -> Option<Errno>
+        ensures { result ≡ open_refusal walker self.now }
+    {
+        if self.wait_of(walker).is_some() {
+            return Some(Errno::EINVAL);
+        }
+        if self.is_exhausted() {
+            return Some(Errno::ENOSPC);
+        }
+        if self.is_full() {
+            return Some(Errno::ENOSPC);
+        }
+        None
+    }
+
+    /// Opens the next token, on which the walker waits.
+    pub fn open(
+        &mut self,
+        alloc: Global,
+        trigger: Trigger,
+        kind: TokenKind,
+        walker: WalkerId,
+    ) -> Result<Token, Errno>
+        ensures refusal { RefusedAs (open_refusal walker self.old) result }
+        ensures token { IfOk result (λ token. token ≡ self.old.last_token + 1) }
+        ensures ok { OnOk result (self.new ≡ opened trigger kind walker self.old) }
+        ensures err { OnErr result (self.new ≡ self.old) }
+    {
+        if let Some(errno) = self.open_refusal(walker) {
+            return Err(errno);
+        }
+        let number = self.last_token + 1;
+        let token = Token(number);
+        let row = OpenToken {
+            token,
+            trigger,
+            kind,
+            waiters: Waiters::one(alloc, walker)?,
+        };
+        let wait = waiting_on(token, &row, walker);
+        self.waits.reserve(1)?;
+        self.tokens.push(row)?;
+        put_wait(&mut self.waits, wait);
+        self.last_token = number;
+        Ok(token)
+    }
+
+    /// The walker waits on an open token too.
+    pub fn join(&mut self, token: Token, walker: WalkerId) -> Result<(), Errno>
+        ensures refusal { RefusedAs (join_refusal token walker self.old) result }
+        ensures ok { OnOk result (self.new ≡ joined token walker self.old) }
+        ensures err { OnErr result (self.new ≡ self.old) }
+    {
+        if self.wait_of(walker).is_some() {
+            return Err(Errno::EINVAL);
+        }
+        let Some(row) = self.token_row(token) else {
+            return Err(Errno::EINVAL);
+        };
+        if self.is_full() {
+            return Err(Errno::ENOSPC);
+        }
+        let wait = waiting_on(token, row, walker);
+        self.waits.reserve(1)?;
+        add_waiter(&mut self.tokens, token, walker)?;
+        put_wait(&mut self.waits, wait);
+        Ok(())
+    }
+
+    /// The daemon acknowledges a token: it closes, and each of its waiters has the status.
+    pub fn answer(&mut self, token: Token, status: Status) -> Result<(), Errno>
+        ensures refusal { RefusedOnlyAs (answer_refusal token self.old) result }
+        ensures ok { OnOk result (self.new ≡ answered token status self.old) }
+        ensures err { OnErr result (self.new ≡ self.old) }
+    {
+        if self.trigger_of(token).is_none() {
+            return Err(Errno::EINVAL);
+        }
+        take_token(&mut self.tokens, token);
+        release(&mut self.waits, token, status);
+        Ok(())
+    }
+
+    /// Closes all tokens of a file system, and fails those that wait on them
+    /// (autofs.rst, "Catatonic mode").
+    pub fn release_fs(&mut self, fs: FsId)
+        ensures { self.new ≡ fs_released fs self.old }
+    {
+        take_tokens_of(&mut self.tokens, fs);
+        fail_waits_of(&mut self.waits, fs);
+    }
+
+    /// The status with which the walker was released. Its wait counts no more.
+    pub fn collect(&mut self, walker: WalkerId) -> Result<Status, Errno>
+        ensures refusal { RefusedOnlyAs (collect_refusal walker self.old) result }
+        ensures status { IfOk result (λ status. status_of walker self.old ≡ Some status) }
+        ensures ok { OnOk result (self.new ≡ collected walker self.old) }
+        ensures err { OnErr result (self.new ≡ self.old) }
+    {
+        let Some(row) = self.wait_of(walker) else {
+            return Err(Errno::EINVAL);
+        };
+        let Some(status) = row.status else {
+            return Err(Errno::NotReleased);
+        };
+        take_wait(&mut self.waits, walker);
+        Ok(status)
+    }
+}
