@@ -1,0 +1,52 @@
+-- One row more, for one receiver more.
+use Rattle.std.proofs.Common.{◌≡◌, ◌<◌, ◌+◌, ℕ, zero, suc, List, [], ◌∷◌, ◌++◌, length, take, get_or, refl, sym, ap, ◌∙◌, arith, add-one}
+use Rattle.am_names.specs.declared.row.MountRow.{MountRow}
+use Rattle.am_names.specs.declared.row.MemberRow.{MemberRow}
+use Rattle.am_names.specs.PeerGroups.{PeerGroups}
+use Rattle.am_group.specs.Propagation.{member_row, slave_in, group_of}
+use Rattle.am_group.specs.Copies.{copy_row, copies_from}
+use Rattle.am_propagate.specs.MountTable.{MountTable}
+use Rattle.am_propagate.specs.Added.{row_at, rows_at}
+
+module _ (t : MountTable) (place : List (List ℕ)) (fs origin : ℕ) where
+  rows_one_more : (n : ℕ) (parents : List ℕ) (i d : ℕ) → i < length parents → rows_at t place fs origin n (take (suc i) parents) ≡ rows_at t place fs origin n (take i parents) ++ row_at t place fs origin (n + i) (get_or parents i d) ∷ []
+  rows_one_more n [] i d h = absurd (omega arith)
+  rows_one_more n (p ∷ ps) zero d h = ap (λ (k : ℕ). row_at t place fs origin k p ∷ []) (same_number n)
+    where
+      same_number : (n : ℕ) → n ≡ n + 0
+      same_number n = omega arith
+  rows_one_more n (p ∷ ps) (suc i) d h =
+      ap (λ (xs : List MountRow). row_at t place fs origin n p ∷ xs) (rows_one_more (n + 1) ps i d (omega arith) ∙
+      ap (λ (k : ℕ). rows_at t place fs origin (n + 1) (take i ps) ++ row_at t place fs origin k (get_or ps i d) ∷ []) (next n i))
+    where
+      next : (n i : ℕ) → n + 1 + i ≡ n + suc i
+      next n i = omega arith
+
+  pub rows_more : (n number : ℕ) (parents : List ℕ) (i d : ℕ) → i < length parents → d ≡ get_or parents i d → number ≡ n + i → rows_at t place fs origin n (take (i + 1) parents) ≡ rows_at t place fs origin n (take i parents) ++ row_at t place fs origin number d ∷ []
+  rows_more n number parents i d h is at =
+      ap (λ (k : ℕ). rows_at t place fs origin n (take k parents)) (add-one i) ∙ rows_one_more n parents i d h ∙
+      ap (λ (k : ℕ). rows_at t place fs origin n (take i parents) ++ row_at t place fs origin (n + i) k ∷ []) (sym is) ∙
+      ap (λ (k : ℕ). rows_at t place fs origin n (take i parents) ++ row_at t place fs origin k d ∷ []) (sym at)
+
+module _ (stand : ℕ → ℕ) (s : PeerGroups) where
+  abbrev copy_at : ℕ → ℕ → MemberRow
+  copy_at number r = copy_row stand number (group_of s r) (slave_in (member_row s.members r))
+
+  copies_one_more : (n : ℕ) (rs : List ℕ) (i d : ℕ) → i < length rs → copies_from stand s n (take (suc i) rs) ≡ copies_from stand s n (take i rs) ++ copy_row stand (n + i) (group_of s (get_or rs i d)) (slave_in (member_row s.members (get_or rs i d))) ∷ []
+  copies_one_more n [] i d h = absurd (omega arith)
+  copies_one_more n (r ∷ rs) zero d h = ap (λ (k : ℕ). copy_row stand k (group_of s r) (slave_in (member_row s.members r)) ∷ []) (same_number n)
+    where
+      same_number : (n : ℕ) → n ≡ n + 0
+      same_number n = omega arith
+  copies_one_more n (r ∷ rs) (suc i) d h =
+      ap (λ (xs : List MemberRow). copy_row stand n (group_of s r) (slave_in (member_row s.members r)) ∷ xs) (copies_one_more (n + 1) rs i d (omega arith) ∙
+      ap (λ (k : ℕ). copies_from stand s (n + 1) (take i rs) ++ copy_row stand k (group_of s (get_or rs i d)) (slave_in (member_row s.members (get_or rs i d))) ∷ []) (next n i))
+    where
+      next : (n i : ℕ) → n + 1 + i ≡ n + suc i
+      next n i = omega arith
+
+  pub copies_more : (n number : ℕ) (rs : List ℕ) (i d : ℕ) → i < length rs → d ≡ get_or rs i d → number ≡ n + i → copies_from stand s n (take (i + 1) rs) ≡ copies_from stand s n (take i rs) ++ copy_row stand number (group_of s d) (slave_in (member_row s.members d)) ∷ []
+  copies_more n number rs i d h is at =
+      ap (λ (k : ℕ). copies_from stand s n (take k rs)) (add-one i) ∙ copies_one_more n rs i d h ∙
+      ap (λ (k : ℕ). copies_from stand s n (take i rs) ++ copy_row stand (n + i) (group_of s k) (slave_in (member_row s.members k)) ∷ []) (sym is) ∙
+      ap (λ (k : ℕ). copies_from stand s n (take i rs) ++ copy_row stand k (group_of s d) (slave_in (member_row s.members d)) ∷ []) (sym at)

@@ -1,0 +1,9 @@
+-- A change of one mount's state.
+use Rattle.std.specs.Prelude.{ℕ}
+use Rattle.am_group.specs.declared.kind.Change.{Change}
+use Rattle.am_group.specs.Changes.{changed}
+use Rattle.am_propagate.specs.MountTable.{MountTable}
+
+-- the mounts stay, and the peer groups change
+abbrev pub with_change : Change → ℕ → MountTable → MountTable
+with_change change m t = record t { groups = changed change m t.groups }

@@ -1,0 +1,9 @@
+pub mod MountTable
+pub mod Invariant
+pub mod Inside
+pub mod Removed
+pub mod Added
+pub mod Joining
+pub mod Grown
+pub mod Changed
+pub mod Namespaces

@@ -1,0 +1,154 @@
+//! All mounts with their propagation.
+
+ghost use Rattle.std.specs.Prelude.{◌≡◌, ◌+◌, ◌^◌, ◌<◌, length, None, IfOk, OnOk, OnErr};
+ghost use Rattle.am_names.specs.Errno.{RefusedAs};
+ghost use Rattle.am_group.specs.Invariant.{AddsNoReceivers};
+ghost use Rattle.am_group.specs.Kinds.{FollowsTable};
+ghost use Rattle.am_group.specs.Members.{change_refusal};
+ghost use Rattle.am_propagate.specs.Changed.{with_change};
+ghost use Rattle.am_propagate.specs.MountTable.{opening, is_mount, lacks_mounts, lacks_groups};
+ghost use Rattle.am_propagate.specs.Grown.{grown};
+ghost use Rattle.am_propagate.specs.Invariant.{IsWhole};
+
+use crate::subtree::joining::Joining;
+use am_group::{Change, Groups, Membership};
+use am_mount::Tree;
+use am_names::{Errno, FsId, MountId, MountRow, NsId};
+use std::alloc::{AllocError, Global};
+use std::marker::Model;
+
+mod addition;
+mod joining;
+mod namespace;
+mod removal;
+#[cfg(test)]
+mod tests;
+#[cfg(test)]
+mod world_tests;
+
+/// The mounts of all namespaces, and how they take part in propagation (sharedsubtree.rst, 5).
+#[derive(Drop)]
+pub struct Subtree {
+    tree: Tree,
+    groups: Groups,
+    last_mount: u64,
+    last_ns: u32,
+    limit: u64,
+}
+
+impl Model for Subtree {
+    ghost use Rattle.am_propagate.specs.MountTable.{MountTable};
+
+    ghost Value = { MountTable };
+
+    ghost use Rattle.am_propagate.specs.Invariant.{IsWhole};
+    ghost use Rattle.am_propagate.specs.Inside.{table_of};
+
+    ghost view = { table_of };
+
+    ghost invariant = { λ s. IsWhole (table_of s) };
+}
+
+impl Subtree {
+    /// Namespace 0 with mount 1 as its root. No mount gets a number above the limit.
+    pub fn new(alloc: Global, limit: u64) -> Result<Subtree, Errno>
+        ensures refusal { RefusedAs None result }
+        ensures ok { IfOk result (λ subtree. subtree ≡ opening limit) }
+    {
+        let mut rows = Vec::new(alloc);
+        rows.push(MountRow {
+            mount: MountId(1),
+            ns: NsId(0),
+            mountpoint: None,
+            fs: FsId(1),
+            origin: MountId(1),
+        })?;
+        let mut tree = Tree::new(alloc);
+        tree.add_all(rows)?;
+        let mut groups = Groups::new(alloc);
+        groups.add(MountId(1), Membership::Private)?;
+        Ok(Subtree {
+            tree,
+            groups,
+            last_mount: 1,
+            last_ns: 0,
+            limit,
+        })
+    }
+
+    /// The mount rows.
+    pub fn tree(&self) -> &Tree
+        ensures rows { result.now ≡ self.now.rows }
+        ensures whole { IsWhole self.now }
+    {
+        &self.tree
+    }
+
+    /// The propagation of the same mounts.
+    pub fn groups(&self) -> &Groups
+        ensures { result.now ≡ self.now.groups }
+    {
+        &self.groups
+    }
+
+    /// Changes the mount's state (sharedsubtree.rst, 5c).
+    pub fn change(&mut self, alloc: Global, change: Change, mount: MountId) -> Result<(), Errno>
+        ensures refusal { RefusedAs (change_refusal change mount self.old.groups) result }
+        ensures ok { OnOk result (self.new ≡ with_change change mount self.old) }
+        ensures table { OnOk result (FollowsTable change mount self.old.groups self.new.groups) }
+        ensures err { OnErr result (self.new ≡ self.old) }
+        ensures law { AddsNoReceivers self.old.groups self.new.groups }
+    {
+        self.groups.change(alloc, change, mount)?;
+        Ok(())
+    }
+
+    fn is_mount(&self, mount: MountId) -> bool
+        ensures { result ≡ is_mount self.now mount }
+    {
+        self.tree.row(mount).is_some()
+    }
+
+    /// Whether so many more mounts would go past the limit.
+    fn lacks_mounts(&self, count: usize) -> bool
+        ensures { result ≡ lacks_mounts count self.now }
+    {
+        if self.limit < self.last_mount {
+            return true;
+        }
+        self.limit - self.last_mount < count as u64
+    }
+
+    /// Whether there are no numbers for so many more peer groups.
+    fn lacks_groups(&self, count: usize) -> bool
+        ensures { result ≡ lacks_groups count self.now }
+    {
+        u64::MAX - self.groups.last_group().0 < count as u64
+    }
+
+    /// Adds these rows, all or none. The caller shows that the invariant holds of all together.
+    fn grow(
+        &mut self,
+        rows: Vec<MountRow>,
+        joining: Joining,
+        last_ns: NsId,
+    ) -> Result<(), AllocError>
+        requires mounts { self.old.last_mount + length rows.items < 2 ^ 64 }
+        requires groups { 0 < length joining.groups.items → self.old.groups.last_group + length joining.groups.items < 2 ^ 64 }
+        requires whole { IsWhole (grown rows.items joining.members.items joining.groups.items last_ns self.old) }
+        ensures ok { OnOk result (self.new ≡ grown rows.items joining.members.items joining.groups.items last_ns self.old) }
+        ensures err { OnErr result (self.new ≡ self.old) }
+    {
+        // The numbers of groups have 64 bits, also where none is added.
+        let _last = self.groups.last_group().0;
+        let count = rows.len();
+        self.tree.add_all(rows)?;
+        if let Err(error) = self.groups.add_all(joining.members, joining.groups) {
+            self.tree.take_back(count);
+            return Err(error);
+        }
+        self.last_mount += count as u64;
+        self.last_ns = last_ns.0;
+        Ok(())
+    }
+}

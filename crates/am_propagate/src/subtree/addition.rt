@@ -1,0 +1,188 @@
+//! Mounts and binds, with the copies on the mounts that receive them.
+
+ghost use Rattle.std.specs.Prelude.{◌≡◌, ◌+◌, ◌^◌, ◌<◌, ◌∷◌, true, length, IfOk, OnOk, OnErr};
+ghost use Rattle.am_names.specs.Errno.{RefusedAs};
+ghost use Rattle.am_group.specs.Invariant.{AddsNoReceivers};
+ghost use Rattle.am_group.specs.Propagation.{group_of};
+ghost use Rattle.am_group.specs.declared.membership.Membership.TheVariants.{Private};
+ghost use Rattle.am_mount.specs.Rows.{mount_row};
+ghost use Rattle.am_propagate.specs.MountTable.{is_mount};
+ghost use Rattle.am_propagate.specs.Added.{ns_in, row_at, rows_at, membership_where, membership_of, is_unbindable, fresh_count, made_beside, mount_refusal, bind_refusal, mounted, bound, numbers_refusal, HasSource};
+
+use crate::subtree::Subtree;
+use am_group::Membership;
+use am_names::{Errno, FsId, GroupId, MountId, MountRow, NsId, Place, Position};
+use std::alloc::{AllocError, Global};
+
+fn membership_where(group: Option<GroupId>, master: Option<GroupId>, unbindable: bool) -> Membership
+    ensures { result ≡ membership_where group master unbindable }
+{
+    match (group, master) {
+        (Some(group), _) => Membership::InGroup(group),
+        (None, Some(master)) => Membership::SlaveOf(master),
+        (None, None) if unbindable => Membership::Unbindable,
+        (None, None) => Membership::Private,
+    }
+}
+
+fn is_unbindable(membership: &Membership) -> bool
+    ensures { result ≡ is_unbindable membership.now }
+{
+    match membership {
+        Membership::Unbindable => true,
+        Membership::InGroup(_) | Membership::SlaveOf(_) | Membership::Private => false,
+    }
+}
+
+fn fresh_count(membership: &Membership) -> usize
+    ensures { result ≡ fresh_count membership.now }
+{
+    match membership {
+        Membership::InGroup(_) => 0,
+        Membership::SlaveOf(_) | Membership::Private | Membership::Unbindable => 1,
+    }
+}
+
+impl Subtree {
+    /// How many peer groups a mount on the mount `at` makes.
+    fn groups_made(&self, at: MountId, membership: &Membership, others: &[GroupId]) -> usize
+        ensures { result ≡ made_beside membership.now (group_of self.now.groups at) others.now }
+    {
+        match self.groups.group_of(at) {
+            Some(_) => others.len() + fresh_count(membership),
+            None => 0,
+        }
+    }
+
+    fn ns_of(&self, mount: MountId) -> NsId
+        ensures { result ≡ ns_in (mount_row self.now.rows mount) }
+    {
+        match self.tree.row(mount) {
+            Some(row) => row.ns,
+            None => NsId(0),
+        }
+    }
+
+    fn row_at(
+        &self,
+        alloc: Global,
+        place: &Place,
+        parent: MountId,
+        fs: FsId,
+        origin: MountId,
+        mount: MountId,
+    ) -> Result<MountRow, AllocError>
+        ensures { IfOk result (λ row. row ≡ row_at self.now place.now fs origin mount parent) }
+    {
+        Ok(MountRow {
+            mount,
+            ns: self.ns_of(parent),
+            mountpoint: Some(Position {
+                mount: parent,
+                place: place.copy(alloc)?,
+            }),
+            fs,
+            origin,
+        })
+    }
+
+    fn rows_at(
+        &self,
+        alloc: Global,
+        at: &Position,
+        fs: FsId,
+        mount: MountId,
+        receivers: &[MountId],
+    ) -> Result<Vec<MountRow>, AllocError>
+        requires { mount + length receivers.now < 2 ^ 64 }
+        ensures { IfOk result (λ v. v.items ≡ rows_at self.now at.now.place fs mount mount (at.now.mount ∷ receivers.now)) }
+    {
+        let mut rows = Vec::new(alloc);
+        rows.push(self.row_at(alloc, &at.place, at.mount, fs, mount, mount)?)?;
+        let mut number = mount.0;
+        for receiver in receivers {
+            number += 1;
+            rows.push(self.row_at(alloc, &at.place, *receiver, fs, mount, MountId(number))?)?;
+        }
+        Ok(rows)
+    }
+
+    /// Adds a mount of this file system, of whose source the membership tells, with its copies.
+    fn add_at(
+        &mut self,
+        alloc: Global,
+        at: &Position,
+        fs: FsId,
+        membership: Membership,
+    ) -> Result<MountId, Errno>
+        requires there { is_mount self.old at.now.mount ≡ true }
+        requires source { HasSource self.old fs membership }
+        ensures refusal { RefusedAs (numbers_refusal at.now.mount membership self.old) result }
+        ensures number { IfOk result (λ mount. mount ≡ self.old.last_mount + 1) }
+        ensures ok { OnOk result (self.new ≡ mounted at.now fs membership self.old) }
+        ensures err { OnErr result (self.new ≡ self.old) }
+        ensures law { AddsNoReceivers self.old.groups self.new.groups }
+    {
+        let receivers = self.groups.receivers(alloc, at.mount)?;
+        if self.lacks_mounts(receivers.len() + 1) {
+            return Err(Errno::ENOSPC);
+        }
+        let others = self.others(alloc, at.mount, receivers.as_slice())?;
+        if self.lacks_groups(self.groups_made(at.mount, &membership, others.as_slice())) {
+            return Err(Errno::ENOSPC);
+        }
+        let mount = MountId(self.last_mount + 1);
+        let receivers = receivers.as_slice();
+        let joining = self.joining(alloc, at.mount, membership, mount, receivers, others)?;
+        let rows = self.rows_at(alloc, at, fs, mount, receivers)?;
+        self.grow(rows, joining, NsId(self.last_ns))?;
+        Ok(mount)
+    }
+
+    /// Mounts a new file system at the position, and copies of it at the same place of each mount
+    /// that receives from the position's (sharedsubtree.rst, 5b). It has the next number.
+    pub fn mount(&mut self, alloc: Global, at: &Position, fs: FsId) -> Result<MountId, Errno>
+        ensures refusal { RefusedAs (mount_refusal at.now.mount self.old) result }
+        ensures number { IfOk result (λ mount. mount ≡ self.old.last_mount + 1) }
+        ensures ok { OnOk result (self.new ≡ mounted at.now fs Private self.old) }
+        ensures err { OnErr result (self.new ≡ self.old) }
+        ensures law { AddsNoReceivers self.old.groups self.new.groups }
+    {
+        if !self.is_mount(at.mount) {
+            return Err(Errno::EINVAL);
+        }
+        self.add_at(alloc, at, fs, Membership::Private)
+    }
+
+    fn membership_of(&self, mount: MountId) -> Membership
+        ensures { result ≡ membership_of self.now mount }
+    {
+        match self.groups.member(mount) {
+            Some(row) => membership_where(row.group, row.master, row.unbindable),
+            None => Membership::Private,
+        }
+    }
+
+    /// Mounts at the position what the source has mounted, with copies as `mount` makes them
+    /// (sharedsubtree.rst, 5b to 5e). It has the next number.
+    pub fn bind(&mut self, alloc: Global, source: MountId, at: &Position) -> Result<MountId, Errno>
+        ensures refusal { RefusedAs (bind_refusal source at.now.mount self.old) result }
+        ensures number { IfOk result (λ mount. mount ≡ self.old.last_mount + 1) }
+        ensures ok { OnOk result (self.new ≡ bound source at.now self.old) }
+        ensures err { OnErr result (self.new ≡ self.old) }
+        ensures law { AddsNoReceivers self.old.groups self.new.groups }
+    {
+        let Some(row) = self.tree.row(source) else {
+            return Err(Errno::EINVAL);
+        };
+        let fs = row.fs;
+        let membership = self.membership_of(source);
+        if is_unbindable(&membership) {
+            return Err(Errno::EINVAL);
+        }
+        if !self.is_mount(at.mount) {
+            return Err(Errno::EINVAL);
+        }
+        self.add_at(alloc, at, fs, membership)
+    }
+}

@@ -1,0 +1,271 @@
+//! The peer groups of a new mount and of its copies.
+
+ghost use Rattle.std.specs.Prelude.{◌≡◌, ◌==◌, ◌&&◌, ◌+◌, ◌^◌, ◌<◌, ◌∷◌, ◌++◌, not, [], Some, length, option_map, IfOk};
+ghost use Rattle.std.specs.Option.{option_to_list};
+ghost use Rattle.am_group.specs.declared.membership.Membership.TheVariants.{InGroup};
+ghost use Rattle.am_group.specs.Changes.{is_just};
+ghost use Rattle.am_group.specs.Propagation.{member_row, slave_in, group_of};
+ghost use Rattle.am_group.specs.Copies.{has_receiver, receiving_groups, rank, copy_row, copies_from, group_copies};
+ghost use Rattle.am_group.specs.Receivers.{receivers_of};
+ghost use Rattle.am_group.specs.Members.{row_with};
+ghost use Rattle.am_propagate.specs.Joining.{stand_of, others_of, group_copy, AreNew};
+ghost use Rattle.am_propagate.specs.Added.{new_group, last_fresh, fresh_groups, fresh_count, groups_made};
+
+use crate::subtree::Subtree;
+use am_group::Membership;
+use am_names::{GroupId, GroupRow, MemberRow, MountId};
+use std::alloc::{AllocError, Global};
+
+/// Rows for the peer groups of new mounts.
+#[derive(Drop)]
+pub struct Joining {
+    pub members: Vec<MemberRow>,
+    pub groups: Vec<GroupRow>,
+}
+
+/// Which groups stand among copies for the receivers' groups.
+#[derive(Drop)]
+pub struct StandIns {
+    /// The group of the mount at the place, for which the new mount's stands.
+    pub own: GroupId,
+    pub new: GroupId,
+    /// The greatest number before the fresh groups of the copies.
+    pub last: u64,
+    /// The other groups that receivers are in.
+    pub groups: Vec<GroupId>,
+}
+
+fn is_just(group: GroupId, of: Option<GroupId>) -> bool
+    ensures { result ≡ is_just group of }
+{
+    match of {
+        Some(other) => other == group,
+        None => false,
+    }
+}
+
+fn rank(group: GroupId, groups: &[GroupId]) -> usize
+    ensures { result ≡ rank group groups.now }
+{
+    groups.iter().filter(|other| **other < group).count()
+}
+
+impl StandIns {
+    /// For a mount with this source. The last group has had the number `last`.
+    fn of(own: GroupId, groups: Vec<GroupId>, membership: &Membership, last: u64) -> StandIns
+        requires { last + fresh_count membership.now < 2 ^ 64 }
+        ensures own { result.own ≡ own }
+        ensures new { result.new ≡ new_group membership.now last }
+        ensures last { result.last ≡ last_fresh membership.now last }
+        ensures groups { result.groups.items ≡ groups.items }
+    {
+        let (new, last) = match membership {
+            Membership::InGroup(new) => (*new, last),
+            Membership::SlaveOf(_) | Membership::Private | Membership::Unbindable => {
+                (GroupId(last + 1), last + 1)
+            }
+        };
+        StandIns {
+            own,
+            new,
+            last,
+            groups,
+        }
+    }
+
+    fn stand_of(&self, group: GroupId) -> GroupId
+        ensures { result ≡ stand_of self.now group }
+    {
+        if group == self.own {
+            return self.new;
+        }
+        let rank = rank(group, self.groups.as_slice());
+        GroupId(self.last.saturating_add(1).saturating_add(rank as u64))
+    }
+
+    fn stand_of_master(&self, master: Option<GroupId>) -> Option<GroupId>
+        ensures { result ≡ option_map (stand_of self.now) master }
+    {
+        match master {
+            Some(group) => Some(self.stand_of(group)),
+            None => None,
+        }
+    }
+}
+
+/// The fresh group of a new mount, if it needs one, with its master.
+fn fresh_group(membership: &Membership, group: GroupId) -> Option<GroupRow>
+    ensures { option_to_list result ≡ fresh_groups membership.now group }
+{
+    let master = match membership {
+        Membership::InGroup(_) => return None,
+        Membership::SlaveOf(master) => Some(*master),
+        Membership::Private | Membership::Unbindable => None,
+    };
+    Some(GroupRow { group, master })
+}
+
+impl Joining {
+    /// A mount without copies is as its source is.
+    pub fn alone(
+        alloc: Global,
+        membership: Membership,
+        mount: MountId,
+    ) -> Result<Joining, AllocError>
+        ensures { IfOk result (λ joining. (joining.members.items ≡ row_with membership mount ∷ []) × (joining.groups.items ≡ [])) }
+    {
+        let mut members = Vec::new(alloc);
+        let row = membership.row(mount);
+        let _group: Option<GroupId> = row.group;
+        members.push(row)?;
+        Ok(Joining {
+            members,
+            groups: Vec::new(alloc),
+        })
+    }
+}
+
+impl Subtree {
+    fn has_receiver(&self, receivers: &[MountId], group: GroupId) -> bool
+        ensures { result ≡ has_receiver self.now.groups receivers.now group }
+    {
+        receivers
+            .iter()
+            .copied()
+            .any(|receiver| is_just(group, self.groups.group_of(receiver)))
+    }
+
+    fn is_receiving(&self, receivers: &[MountId], own: GroupId, group: GroupId) -> bool
+        ensures { result ≡ (not (group == own) && has_receiver self.now.groups receivers.now group) }
+    {
+        if group == own {
+            return false;
+        }
+        self.has_receiver(receivers, group)
+    }
+
+    fn receiving_groups(
+        &self,
+        alloc: Global,
+        receivers: &[MountId],
+        own: GroupId,
+    ) -> Result<Vec<GroupId>, AllocError>
+        ensures { IfOk result (λ v. v.items ≡ receiving_groups self.now.groups receivers.now own) }
+    {
+        let mut groups = Vec::new(alloc);
+        for row in self.groups.groups() {
+            if self.is_receiving(receivers, own, row.group) {
+                groups.push(row.group)?;
+            }
+        }
+        Ok(groups)
+    }
+
+    fn copy_row(&self, stands: &StandIns, mount: MountId, receiver: MountId) -> MemberRow
+        ensures { result ≡ copy_row (stand_of stands.now) mount (group_of self.now.groups receiver) (slave_in (member_row self.now.groups.members receiver)) }
+    {
+        let (group, master) = match self.groups.member(receiver) {
+            Some(row) => match row.group {
+                Some(group) => (Some(stands.stand_of(group)), None),
+                None => (None, stands.stand_of_master(row.master)),
+            },
+            None => (None, None),
+        };
+        MemberRow {
+            mount,
+            group,
+            master,
+            unbindable: false,
+        }
+    }
+
+    fn new_members(
+        &self,
+        alloc: Global,
+        stands: &StandIns,
+        mount: MountId,
+        receivers: &[MountId],
+    ) -> Result<Vec<MemberRow>, AllocError>
+        requires { mount + length receivers.now < 2 ^ 64 }
+        ensures { IfOk result (λ v. v.items ≡ row_with (InGroup stands.now.new) mount ∷ copies_from (stand_of stands.now) self.now.groups (mount + 1) receivers.now) }
+    {
+        let mut members = Vec::new(alloc);
+        let first = Membership::InGroup(stands.new).row(mount);
+        let _group: Option<GroupId> = first.group;
+        members.push(first)?;
+        let mut number = mount.0;
+        for receiver in receivers {
+            number += 1;
+            members.push(self.copy_row(stands, MountId(number), *receiver))?;
+        }
+        Ok(members)
+    }
+
+    fn group_copy(&self, stands: &StandIns, group: GroupId) -> GroupRow
+        ensures { result ≡ group_copy (stand_of stands.now) self.now.groups group }
+    {
+        GroupRow {
+            group: stands.stand_of(group),
+            master: stands.stand_of_master(self.groups.master_of_group(group)),
+        }
+    }
+
+    fn new_groups(
+        &self,
+        alloc: Global,
+        stands: &StandIns,
+        fresh: Option<GroupRow>,
+    ) -> Result<Vec<GroupRow>, AllocError>
+        ensures { IfOk result (λ v. v.items ≡ option_to_list fresh ++ group_copies (stand_of stands.now) self.now.groups stands.now.groups.items) }
+    {
+        let mut rows = Vec::new(alloc);
+        if let Some(row) = fresh {
+            rows.push(row)?;
+        }
+        for group in stands.groups.iter() {
+            rows.push(self.group_copy(stands, *group))?;
+        }
+        Ok(rows)
+    }
+
+    /// The groups, beside that of the mount `at`, in which mounts are that receive from it.
+    pub fn others(
+        &self,
+        alloc: Global,
+        at: MountId,
+        receivers: &[MountId],
+    ) -> Result<Vec<GroupId>, AllocError>
+        ensures { IfOk result (λ v. v.items ≡ others_of self.now.groups receivers.now (group_of self.now.groups at)) }
+    {
+        match self.groups.group_of(at) {
+            Some(own) => self.receiving_groups(alloc, receivers, own),
+            None => Ok(Vec::new(alloc)),
+        }
+    }
+
+    /// The rows for the peer groups of a mount on the mount `at`, and of its copies.
+    pub fn joining(
+        &self,
+        alloc: Global,
+        at: MountId,
+        membership: Membership,
+        mount: MountId,
+        receivers: &[MountId],
+        others: Vec<GroupId>,
+    ) -> Result<Joining, AllocError>
+        requires receivers { receivers.now ≡ receivers_of self.now.groups at }
+        requires others { others.items ≡ others_of self.now.groups receivers.now (group_of self.now.groups at) }
+        requires groups { self.now.groups.last_group + groups_made membership (group_of self.now.groups at) receivers.now self.now.groups < 2 ^ 64 }
+        requires mounts { mount + length receivers.now < 2 ^ 64 }
+        ensures { IfOk result (λ joining. AreNew membership (group_of self.now.groups at) receivers.now mount self.now.groups joining) }
+    {
+        let Some(own) = self.groups.group_of(at) else {
+            return Joining::alone(alloc, membership, mount);
+        };
+        let stands = StandIns::of(own, others, &membership, self.groups.last_group().0);
+        let members = self.new_members(alloc, &stands, mount, receivers)?;
+        let fresh = fresh_group(&membership, stands.new);
+        let groups = self.new_groups(alloc, &stands, fresh)?;
+        Ok(Joining { members, groups })
+    }
+}

@@ -1,0 +1,119 @@
+//! Copies of namespaces.
+
+ghost use Rattle.std.specs.Prelude.{◌≡◌, ◌+◌, ◌^◌, ◌<◌, ◌≤◌, map, filter, length, IfOk, OnOk, OnErr};
+ghost use Rattle.am_names.specs.Errno.{RefusedAs};
+ghost use Rattle.am_group.specs.Invariant.{AddsNoReceivers};
+ghost use Rattle.am_mount.specs.Rows.{is_among, is_in};
+ghost use Rattle.am_propagate.specs.Namespaces.{count_up_to, copy_number, row_in, member_in, copy_refusal, with_copy};
+
+use crate::subtree::Subtree;
+use crate::subtree::joining::Joining;
+use crate::subtree::removal::is_among;
+use am_names::{Errno, MemberRow, MountId, MountRow, NsId, Position};
+use std::alloc::{AllocError, Global};
+
+fn count_up_to(mount: MountId, mounts: &[MountId]) -> usize
+    ensures count { result ≡ count_up_to mount mounts.now }
+    ensures within { result ≤ length mounts.now }
+{
+    mounts.iter().filter(|other| **other <= mount).count()
+}
+
+/// The copies of these mounts have the numbers behind `last`, in their order.
+fn copy_number(last: u64, mounts: &[MountId], mount: MountId) -> MountId
+    requires { last + length mounts.now < 2 ^ 64 }
+    ensures { result ≡ copy_number last mounts.now mount }
+{
+    MountId(last + count_up_to(mount, mounts) as u64)
+}
+
+impl Subtree {
+    fn rows_in(
+        &self,
+        alloc: Global,
+        mounts: &[MountId],
+        ns: NsId,
+        to: NsId,
+    ) -> Result<Vec<MountRow>, AllocError>
+        requires { self.now.last_mount + length mounts.now < 2 ^ 64 }
+        ensures { IfOk result (λ v. v.items ≡ map (row_in (copy_number self.now.last_mount mounts.now) to) (filter (is_in ns) self.now.rows)) }
+    {
+        let mut rows = Vec::new(alloc);
+        for row in self.tree.rows() {
+            if row.ns == ns {
+                rows.push(self.row_in(alloc, mounts, row, to)?)?;
+            }
+        }
+        Ok(rows)
+    }
+
+    fn row_in(
+        &self,
+        alloc: Global,
+        mounts: &[MountId],
+        row: &MountRow,
+        to: NsId,
+    ) -> Result<MountRow, AllocError>
+        requires { self.now.last_mount + length mounts.now < 2 ^ 64 }
+        ensures { IfOk result (λ copy. copy ≡ row_in (copy_number self.now.last_mount mounts.now) to row.now) }
+    {
+        let mountpoint = match &row.mountpoint {
+            Some(position) => Some(Position {
+                mount: copy_number(self.last_mount, mounts, position.mount),
+                place: position.place.copy(alloc)?,
+            }),
+            None => None,
+        };
+        Ok(MountRow {
+            mount: copy_number(self.last_mount, mounts, row.mount),
+            ns: to,
+            mountpoint,
+            fs: row.fs,
+            origin: row.origin,
+        })
+    }
+
+    fn members_in(&self, alloc: Global, mounts: &[MountId]) -> Result<Vec<MemberRow>, AllocError>
+        requires { self.now.last_mount + length mounts.now < 2 ^ 64 }
+        ensures { IfOk result (λ v. v.items ≡ map (member_in (copy_number self.now.last_mount mounts.now)) (filter (λ row. is_among mounts.now row.mount) self.now.groups.members)) }
+    {
+        let mut members = Vec::new(alloc);
+        for row in self.groups.members() {
+            if is_among(row.mount, mounts) {
+                let mount = copy_number(self.last_mount, mounts, row.mount);
+                members.push(MemberRow { mount, ..*row })?;
+            }
+        }
+        Ok(members)
+    }
+
+    /// A new namespace with a copy of each mount of this one, mounted alike (sharedsubtree.rst,
+    /// 7). It gives the new namespace.
+    pub fn copy_namespace(&mut self, alloc: Global, ns: NsId) -> Result<NsId, Errno>
+        ensures refusal { RefusedAs (copy_refusal ns self.old) result }
+        ensures number { IfOk result (λ to. to ≡ self.old.last_ns + 1) }
+        ensures ok { OnOk result (self.new ≡ with_copy ns self.old) }
+        ensures err { OnErr result (self.new ≡ self.old) }
+        ensures law { AddsNoReceivers self.old.groups self.new.groups }
+    {
+        if !self.is_namespace(ns) {
+            return Err(Errno::ENOENT);
+        }
+        let mounts = self.tree.mounts_of(alloc, ns)?;
+        if self.lacks_mounts(mounts.len()) {
+            return Err(Errno::ENOSPC);
+        }
+        if self.last_ns == u32::MAX {
+            return Err(Errno::ENOSPC);
+        }
+        let to = NsId(self.last_ns + 1);
+        let rows = self.rows_in(alloc, mounts.as_slice(), ns, to)?;
+        let members = self.members_in(alloc, mounts.as_slice())?;
+        let joining = Joining {
+            members,
+            groups: Vec::new(alloc),
+        };
+        self.grow(rows, joining, to)?;
+        Ok(to)
+    }
+}

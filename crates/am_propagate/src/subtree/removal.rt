@@ -1,0 +1,183 @@
+//! Unmounts, and namespaces that are dropped.
+
+ghost use Rattle.std.specs.Prelude.{◌≡◌, ◌||◌, ◌==◌, ℕ, true, false, None, IfOk, OnOk, OnErr};
+ghost use Rattle.std.specs.List.{list_any};
+ghost use Rattle.std.specs.List.Sorted.{IsStrictlyIncreasing};
+ghost use Rattle.am_names.specs.Errno.{RefusedAs};
+ghost use Rattle.am_names.specs.Path.{IsCanonical, names_of};
+ghost use Rattle.am_names.specs.declared.row.MountRow.{MountRow};
+ghost use Rattle.am_group.specs.Invariant.{AddsNoReceivers};
+ghost use Rattle.am_group.specs.Receivers.{receivers_of};
+ghost use Rattle.am_mount.specs.Rows.{is_child, is_among, mounts_where};
+ghost use Rattle.am_propagate.specs.MountTable.{is_mount, mountpoint_of};
+ghost use Rattle.am_propagate.specs.Removed.{is_bare, is_top_on, goes_with, unmounted, umount_refusal, mounts_in, is_namespace, drop_refusal, removed, LeavesParents};
+
+use crate::in_use::{InUse, is_used};
+use crate::subtree::Subtree;
+use am_names::{Errno, MountId, MountRow, NsId, Position};
+use std::alloc::Global;
+
+pub fn is_among(mount: MountId, mounts: &[MountId]) -> bool
+    ensures { result ≡ is_among mounts.now mount }
+{
+    mounts.iter().copied().any(|other| other == mount)
+}
+
+fn is_child(mount: MountId, row: &MountRow) -> bool
+    ensures { result ≡ is_child mount row.now }
+{
+    match &row.mountpoint {
+        Some(position) => position.mount == mount,
+        None => false,
+    }
+}
+
+impl Subtree {
+    fn has_children(&self, mount: MountId) -> bool
+        ensures { result ≡ list_any (is_child mount) self.now.rows }
+    {
+        self.tree.rows().iter().any(|row| is_child(mount, row))
+    }
+
+    /// Whether nothing is mounted on the mount.
+    fn is_bare(&self, mount: MountId) -> bool
+        ensures { result ≡ is_bare self.now mount }
+    {
+        !self.has_children(mount)
+    }
+
+    /// Whether this is the top at the place of one of these mounts.
+    fn is_top_on(&self, mounts: &[MountId], place: &[u8], row: &MountRow) -> bool
+        requires { IsCanonical place.now }
+        ensures { result ≡ is_top_on self.now mounts.now (names_of place.now) row.now }
+    {
+        let Some(position) = &row.mountpoint else {
+            return false;
+        };
+        if !is_among(position.mount, mounts) {
+            return false;
+        }
+        match self.tree.top(position.mount, place) {
+            Some(top) => top == row.mount,
+            None => false,
+        }
+    }
+
+    /// Whether an unmount of the mount at this position removes this one.
+    fn goes_with(
+        &self,
+        mount: MountId,
+        receivers: &[MountId],
+        position: &Position,
+        row: &MountRow,
+    ) -> bool
+        requires { receivers.now ≡ receivers_of self.now.groups position.now.mount }
+        ensures { result ≡ goes_with self.now mount (Some position.now) row.now }
+    {
+        if row.mount == mount {
+            return true;
+        }
+        if !self.is_top_on(receivers, position.place.text(), row) {
+            return false;
+        }
+        self.is_bare(row.mount)
+    }
+
+    fn unmounted(
+        &self,
+        alloc: Global,
+        mount: MountId,
+        position: &Position,
+    ) -> Result<Vec<MountId>, Errno>
+        ensures refusal { RefusedAs None result }
+        ensures exact { IfOk result (λ v. v.items ≡ mounts_where (goes_with self.now mount (Some position.now)) self.now.rows) }
+    {
+        let receivers = self.groups.receivers(alloc, position.mount)?;
+        let mut gone = Vec::new(alloc);
+        for row in self.tree.rows() {
+            if self.goes_with(mount, receivers.as_slice(), position, row) {
+                gone.push(row.mount)?;
+            }
+        }
+        Ok(gone)
+    }
+
+    fn remove(&mut self, alloc: Global, gone: &[MountId]) -> Result<(), Errno>
+        requires { LeavesParents gone.now self.old }
+        ensures refusal { RefusedAs None result }
+        ensures ok { OnOk result (self.new ≡ removed gone.now self.old) }
+        ensures err { OnErr result (self.new ≡ self.old) }
+        ensures law { AddsNoReceivers self.old.groups self.new.groups }
+    {
+        self.groups.leave(alloc, gone)?;
+        self.tree.remove_all(gone);
+        Ok(())
+    }
+
+    /// Unmounts the mount, and what was mounted with it on the mounts that receive from its
+    /// parent (sharedsubtree.rst, 5f). The answer tells all that went, in rising order.
+    pub fn umount<U: InUse>(
+        &mut self,
+        alloc: Global,
+        mount: MountId,
+        in_use: &U,
+    ) -> Result<Vec<MountId>, Errno>
+        ensures refusal { RefusedAs (umount_refusal (U.uses in_use.now) mount self.old) result }
+        ensures gone { IfOk result (λ v. v.items ≡ unmounted self.old mount) }
+        ensures rising { IfOk result (λ v. IsStrictlyIncreasing v.items) }
+        ensures ok { OnOk result (self.new ≡ removed (unmounted self.old mount) self.old) }
+        ensures err { OnErr result (self.new ≡ self.old) }
+        ensures law { AddsNoReceivers self.old.groups self.new.groups }
+    {
+        let Some(row) = self.tree.row(mount) else {
+            return Err(Errno::EINVAL);
+        };
+        let Some(position) = &row.mountpoint else {
+            return Err(Errno::EBUSY);
+        };
+        if !self.is_bare(mount) {
+            return Err(Errno::EBUSY);
+        }
+        let gone = self.unmounted(alloc, mount, position)?;
+        if is_used(in_use, gone.as_slice()) {
+            return Err(Errno::EBUSY);
+        }
+        self.remove(alloc, gone.as_slice())?;
+        Ok(gone)
+    }
+
+    pub fn is_namespace(&self, ns: NsId) -> bool
+        ensures { result ≡ is_namespace self.now ns }
+    {
+        self.tree.rows().iter().any(|row| row.ns == ns)
+    }
+
+    /// Drops a namespace: its mounts go, and nothing propagates. The answer tells them, in
+    /// rising order.
+    pub fn drop_namespace<U: InUse>(
+        &mut self,
+        alloc: Global,
+        ns: NsId,
+        in_use: &U,
+    ) -> Result<Vec<MountId>, Errno>
+        ensures refusal { RefusedAs (drop_refusal (U.uses in_use.now) ns self.old) result }
+        ensures gone { IfOk result (λ v. v.items ≡ mounts_in self.old ns) }
+        ensures rising { IfOk result (λ v. IsStrictlyIncreasing v.items) }
+        ensures ok { OnOk result (self.new ≡ removed (mounts_in self.old ns) self.old) }
+        ensures err { OnErr result (self.new ≡ self.old) }
+        ensures law { AddsNoReceivers self.old.groups self.new.groups }
+    {
+        if ns == NsId(0) {
+            return Err(Errno::EINVAL);
+        }
+        if !self.is_namespace(ns) {
+            return Err(Errno::ENOENT);
+        }
+        let mounts = self.tree.mounts_of(alloc, ns)?;
+        if is_used(in_use, mounts.as_slice()) {
+            return Err(Errno::EBUSY);
+        }
+        self.remove(alloc, mounts.as_slice())?;
+        Ok(mounts)
+    }
+}
