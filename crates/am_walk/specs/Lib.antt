@@ -1,0 +1,5 @@
+pub mod Scene
+pub mod Meet
+pub mod Walks
+pub mod Laws
+pub mod Inside
