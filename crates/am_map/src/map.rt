@@ -1,6 +1,6 @@
 //! A map that has been read.
 
-ghost use Rattle.std.specs.Prelude.{◌≡◌, [], ℕ, IfOk, IfErr, OnOk, OnErr, find};
+ghost use Rattle.std.specs.Prelude.{◌≡◌, ◌≤◌, ◌+◌, [], ℕ, length, is_some, IfOk, IfErr, OnOk, OnErr, find};
 ghost use Rattle.std.specs.Option.{option_copied, option_map};
 ghost use Rattle.am_lines.specs.Words.{words, statements, statement_of_words};
 ghost use Rattle.am_map.specs.LookUp.{has_key, row_for, entry_for};
@@ -40,6 +40,7 @@ impl Map {
     pub fn read(alloc: Global, text: &[u8], kind: MapKind) -> Result<Map, MapFault>
         ensures read { ReadAs (map_read kind text.now) result }
         ensures look_ups { IfOk result (FindsFirst (rows_read kind (statements text.now))) }
+        ensures line { IfErr result (λ fault. fault.line ≤ length text.now + 1) }
     {
         let mut map = Map::new(alloc);
         let mut line = Vec::new(alloc);
@@ -73,6 +74,13 @@ impl Map {
             Some(entry) => Ok(Some(entry.with_key(alloc, key)?)),
             None => Ok(None),
         }
+    }
+
+    /// Whether a look-up of this key finds an entry.
+    pub fn has_entry(&self, key: &[u8]) -> bool
+        ensures { result ≡ is_some (row_for self.now key.now) }
+    {
+        self.line_for(key).is_some()
     }
 
     /// The entry of the first line with this key, else of the first `*` line.

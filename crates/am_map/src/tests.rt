@@ -566,6 +566,24 @@ fn a_map_of_50000_lines(rt: HostRuntime) -> Result<(), Fail> {
 }
 
 #[test]
+fn a_key_has_an_entry_where_it_is_found(rt: HostRuntime) -> Result<(), Fail> {
+    let map = Map::read(rt.alloc(), b"web srv:/www", MapKind::Indirect)?;
+    assert!(rt; map.has_entry(b"web"));
+    assert!(rt; !map.has_entry(b"ann"));
+    assert!(rt; !map.has_entry(b"*"));
+    let map = Map::read(
+        rt.alloc(),
+        b"web srv:/www\n* srv:/home/&",
+        MapKind::Indirect,
+    )?;
+    assert!(rt; map.has_entry(b"web") && map.has_entry(b"ann"));
+    let map = Map::read(rt.alloc(), b"//srv/data/ nas:/data", MapKind::Direct)?;
+    assert!(rt; map.has_entry(b"/srv/data"));
+    assert!(rt; !map.has_entry(b"//srv/data/"));
+    Ok(())
+}
+
+#[test]
 fn entries_are_copied(rt: HostRuntime) -> Result<(), Fail> {
     let text = b"a -ro h:/x\nb h:/x\nc -ro i:/x\nd -ro h:/y\ne -rw h:/x\nf -ro h:/x\n";
     let map = Map::read(rt.alloc(), text, MapKind::Indirect)?;

@@ -1,5 +1,6 @@
 -- A text is read line by line.
-use Rattle.std.proofs.Common.{◌≡◌, ℕ, true, false, cond, List, [], ◌∷◌, ◌++◌, ap, ◌∙◌}
+use Rattle.std.proofs.Common.{◌≡◌, ◌≤◌, ℕ, true, false, cond, List, [], ◌∷◌, ◌++◌, ap, subst, ◌∙◌}
+use Rattle.std.proofs.lemmas.List.Elements.{All-push}
 use Rattle.std.specs.Prelude.{Result, Ok, Err}
 use Rattle.std.specs.List.{flat_map}
 use Rattle.am_lines.specs.Lines.{Line, lines_from}
@@ -7,7 +8,9 @@ use Rattle.am_lines.specs.Words.{Statement, words, begins_with, statement_of, st
 use Rattle.am_master.specs.declared.fault.MasterFault.{MasterFault}
 use Rattle.am_master.specs.declared.fault.MasterFaultKind.{MasterFaultKind}
 use Rattle.am_master.specs.MasterRow.{MasterRow}
-use Rattle.am_master.specs.Grammar.{rows_read, row_read, with_row, added, line_added}
+use Rattle.am_master.specs.declared.point.Point.{Point}
+use Rattle.am_master.specs.Grammar.{Served, rows_read, row_read, row_of, with_row, added, line_added, once, served_read, StandWithin}
+use Rattle.am_master.specs.Words.{point_read}
 
 row_goes : (number : ℕ) (above new : List MasterRow) (read : Result MasterRow MasterFaultKind) (below : List MasterRow → Result (List MasterRow) MasterFault) → added above read ≡ Ok new → with_row number above read below ≡ below new
 row_goes number above new (Ok row) below e =
@@ -57,3 +60,27 @@ pub line_stops : (number : ℕ) (above : List MasterRow) (kind : MasterFaultKind
     rows_read above (statements_from number text) ≡ Err (record { line = number; kind = kind })
 line_stops number above kind text bytes lines cut e =
     ap (λ (all : List Line). rows_read above (flat_map statement_of all)) cut ∙ statement_stops number above kind (words bytes) (flat_map statement_of lines) e
+
+-- ---- the lines on which rows stand
+
+row_stands : (number last : ℕ) (point : Result Point MasterFaultKind) (s : Result Served MasterFaultKind) (above new : List MasterRow) → added above (row_of number point s) ≡ Ok new → number ≤ last → StandWithin last above → StandWithin last new
+row_stands number last (Ok point) (Ok s) above new e h stand =
+    let row : MasterRow = record { point = point; map = s.map; timeout = s.timeout; line = number } in
+    let is : above ++ row ∷ [] ≡ new = cc in
+    subst (StandWithin last) is (All-push (λ (r : MasterRow). r.line ≤ last) above row stand h)
+row_stands number last (Ok point) (Err fault) above new e h stand = absurd cc
+row_stands number last (Err fault) s above new e h stand = absurd cc
+
+nothing_stands : (last : ℕ) (above new : List MasterRow) → ◌≡◌ {A = Result (List MasterRow) MasterFaultKind} (Ok above) (Ok new) → StandWithin last above → StandWithin last new
+nothing_stands last above new e stand =
+    let is : above ≡ new = cc in
+    subst (StandWithin last) is stand
+
+pub line_stands : (number last : ℕ) (above new : List MasterRow) (ws : List (List ℕ)) → line_added above (statement_of_words number ws) ≡ Ok new → number ≤ last → StandWithin last above → StandWithin last new
+line_stands number last above new [] e h stand = nothing_stands last above new e stand
+line_stands number last above new (first ∷ ws) e h stand =
+    let line : Statement = record { number = number; first = first; others = ws } in
+    elim (begins_with 35 first) as (λ b. line_added above (cond b [] (line ∷ [])) ≡ Ok new → StandWithin last new) [
+      | true ↦ λ same. nothing_stands last above new same stand
+      | false ↦ λ read. row_stands number last (once above (point_read first)) (served_read ws) above new read h stand
+    ] e

@@ -1,5 +1,5 @@
 -- The grammar of a master map: a text and its rows, or its first fault (auto.master(5), "FORMAT").
-use Rattle.std.specs.Prelude.{◌≡◌, ℕ, Bool, List, [], ◌∷◌, ◌++◌, Result, Ok, Err, if◌then◌else◌}
+use Rattle.std.specs.Prelude.{◌≡◌, ◌≤◌, ℕ, Bool, All, List, [], ◌∷◌, ◌++◌, Result, Ok, Err, if◌then◌else◌}
 use Rattle.am_lines.specs.Words.{Statement, statements}
 use Rattle.am_master.specs.declared.fault.MasterFault.{MasterFault}
 use Rattle.am_master.specs.declared.fault.MasterFaultKind.{MasterFaultKind}
@@ -55,6 +55,10 @@ rows_read above (line ∷ lines) = with_row line.number above (row_read above li
 -- what a text is read as: the rows of its lines, or its first fault
 abbrev pub master_read : List ℕ → Result (List MasterRow) MasterFault
 master_read text = rows_read [] (statements text)
+
+-- the rows stand on raw lines up to this one
+abbrev pub StandWithin : ℕ → List MasterRow → Type 0
+StandWithin last rows = All (λ row. row.line ≤ last) rows
 
 -- the answer is what the text is read as, but that memory may run out
 abbrev pub ReadAs : Result (List MasterRow) MasterFault → Result (List MasterRow) MasterFault → Type 0

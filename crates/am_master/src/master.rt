@@ -1,13 +1,13 @@
 //! A master map that has been read.
 
-ghost use Rattle.std.specs.Prelude.{◌≡◌, ◌∷◌, ◌++◌, [], IfErr, OnOk, OnErr, IsOk, false};
+ghost use Rattle.std.specs.Prelude.{◌≡◌, ◌≤◌, ◌+◌, ◌∷◌, ◌++◌, [], length, IfOk, IfErr, OnOk, OnErr, IsOk, false};
 ghost use Rattle.std.specs.Str.{bytes_eq};
 ghost use Rattle.std.specs.List.{list_any};
 ghost use Rattle.am_lines.specs.Words.{words, statement_of_words};
 ghost use Rattle.am_master.specs.Fault.{IsFaultOr};
 ghost use Rattle.am_master.specs.Points.{texts_of};
 ghost use Rattle.am_master.specs.declared.fault.MasterFaultKind.TheVariants.{NoMemory};
-ghost use Rattle.am_master.specs.Grammar.{master_read, ReadAs, line_added, is_taken};
+ghost use Rattle.am_master.specs.Grammar.{master_read, ReadAs, line_added, is_taken, StandWithin};
 
 use crate::entry::MasterEntry;
 use crate::fault::{MasterFault, MasterFaultKind};
@@ -41,7 +41,9 @@ impl Model for Master {
 impl Master {
     /// Reads a whole text, or tells its first faulty line.
     pub fn read(alloc: Global, text: &[u8]) -> Result<Master, MasterFault>
-        ensures { ReadAs (master_read text.now) result }
+        ensures read { ReadAs (master_read text.now) result }
+        ensures lines { IfOk result (StandWithin (length text.now + 1)) }
+        ensures line { IfErr result (λ fault. fault.line ≤ length text.now + 1) }
     {
         let mut master = Master::new(alloc);
         let mut line = Vec::new(alloc);

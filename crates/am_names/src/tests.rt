@@ -194,3 +194,63 @@ fn limits_have_their_ranges(rt: HostRuntime) {
         assert_eq!(rt; limits.is_in_range(), in_range);
     }
 }
+
+#[test]
+fn a_call_that_finds_no_memory_changes_nothing(rt: HostRuntime) -> Result<(), Fail> {
+    let alloc = rt.alloc();
+    let mut place = match Place::of(alloc, b"/srv") {
+        Ok(place) => place,
+        Err(_) => Place::of(alloc, b"/srv")?,
+    };
+    let name = Name::read(b"data")?;
+    if place.push(&name).is_err() {
+        assert_eq!(rt; place.text(), b"/srv".as_slice());
+        place.push(&name)?;
+    }
+    assert_eq!(rt; place.text(), b"/srv/data".as_slice());
+    let row = MountRow {
+        mount: MountId(2),
+        ns: NsId(0),
+        mountpoint: Some(Position {
+            mount: MountId(1),
+            place,
+        }),
+        fs: FsId(2),
+        origin: MountId(2),
+    };
+    let copy = match row.copy(alloc) {
+        Ok(copy) => copy,
+        Err(_) => row.copy(alloc)?,
+    };
+    assert!(rt; copy.mountpoint.is_some());
+    Ok(())
+}
+
+#[test]
+fn a_list_that_finds_no_memory_is_as_before(rt: HostRuntime) -> Result<(), Fail> {
+    let alloc = rt.alloc();
+    let numbers = [MountId(5), MountId(6)];
+    let numbers = match Vec::from_slice(alloc, &numbers) {
+        Ok(numbers) => numbers,
+        Err(_) => Vec::from_slice(alloc, &numbers)?,
+    };
+    let mounts = Mounts::of(numbers);
+    let copy = match mounts.copy(alloc) {
+        Ok(copy) => copy,
+        Err(_) => mounts.copy(alloc)?,
+    };
+    assert!(rt; copy.is_same(&mounts));
+    let mut waiters = match Waiters::one(alloc, WalkerId(7)) {
+        Ok(waiters) => waiters,
+        Err(_) => Waiters::one(alloc, WalkerId(7))?,
+    };
+    for walker in [3, 4, 5, 6, 8] {
+        let before = waiters.as_slice().len();
+        if waiters.join(WalkerId(walker)).is_err() {
+            assert_eq!(rt; waiters.as_slice().len(), before);
+            waiters.join(WalkerId(walker))?;
+        }
+    }
+    assert_eq!(rt; waiters.as_slice().len(), 6);
+    Ok(())
+}

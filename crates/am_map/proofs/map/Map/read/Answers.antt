@@ -21,7 +21,7 @@ returns-in_default-rest c =
     let goes = line_goes c.args.kind number c.loop-behind.map c.read_line.new.self c.loop-behind.rest.now c.next_line.new.line.items (lines_behind number c.in-Ok.behind) (c.in-Ok.ensures.ok number) (rw c.as_slice.ensures.value at (c.in_default-read_line.ensures.ok number)) in
     let whole : map_read c.args.kind c.args.text.now ≡ Ok c.read_line.new.self =
     sym (read_is (rows_read c.args.kind (statements c.args.text.now))) ∙ sym c.loop-behind.invariant.read ∙ (rw c.in_default-rest.is at goes) in
-    record { read = whole; look_ups = finds_first (rows_read c.args.kind (statements c.args.text.now)) c.read_line.new.self whole }
+    record { read = whole; look_ups = finds_first (rows_read c.args.kind (statements c.args.text.now)) c.read_line.new.self whole; line = tt }
 
 pub loop-behind-preserved : goal.loop-behind-preserved
 loop-behind-preserved c =
