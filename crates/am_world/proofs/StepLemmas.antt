@@ -32,15 +32,15 @@ use Rattle.am_world.specs.declared.walk.Begin.{Begin}
 use Rattle.am_world.specs.declared.walk.Stop.{Stop}
 use Rattle.am_world.specs.declared.walk.Stop.TheVariants as stops
 use Rattle.am_world.specs.State.{State}
-use Rattle.am_names.specs.Path.{same_names}
 use Rattle.am_world.specs.Daemon.Book.{holds}
 use Rattle.am_world.specs.Daemon.Jobs.{job_of}
+use Rattle.am_world.specs.Daemon.Points.{point_of}
 use Rattle.am_world.specs.Kernel.Calls.{attach_refusal, mkdir_refusal, mount_refusal, rmdir_refusal, answer_refusal, location_of}
 use Rattle.am_world.specs.Kernel.Sites.{autofs_of, autofs_at, is_current}
 use Rattle.am_world.specs.Kernel.Walks.{walk_of, position_of}
 use Rattle.am_world.specs.Kernel.Waits.{with_wait, with_walker, waiting, released_row, answered, wait_of, walker_of, queued_of, token_of, passes, releases, missing_packet}
 use Rattle.am_world.specs.Machine
-use Rattle.am_world.specs.Counts.{is_queued}
+use Rattle.am_world.specs.Laws.OneObservation.{is_queued}
 use Rattle.am_world.specs.StepLaws.{IsLawful}
 use Rattle.am_world.specs.Tables.{RiseBy, IsOrdered}
 use Rattle.am_world.proofs.RowLemmas.{none_below}
@@ -139,11 +139,12 @@ attached_kept : (at : Result Position Errno) (s : State) (path : List (List ℕ)
 attached_kept (Err e) s path = record { kept = λ h. h; opening = refl; once = omega arith }
 attached_kept (Ok at) s path =
     either s (is_some (autofs_at s.kernel.mounts s.kernel.autofs at.mount)) _ _ (record { kept = λ h. h; opening = refl; once = omega arith })
-    (unless_kept (attach_refusal s.opening.limits s.kernel) s _ (record { kept = same_rows s.kernel _ refl refl; opening = refl; once = omega arith }))
+    (either s (Machine.is_beyond_one s path) _ _ (record { kept = λ h. h; opening = refl; once = omega arith })
+    (unless_kept (attach_refusal s.opening.limits s.kernel) s _ (record { kept = same_rows s.kernel _ refl refl; opening = refl; once = omega arith })))
 
 attach_kept : (s : State) (path : List (List ℕ)) → Keeps s (Machine.attach_outcome s path)
 attach_kept s path =
-    either s (not (same_names s.opening.point path)) _ _ (record { kept = λ h. h; opening = refl; once = omega arith })
+    either s (not (is_some (point_of s.opening path))) _ _ (record { kept = λ h. h; opening = refl; once = omega arith })
     (either s (Machine.is_known s.daemon.known path) _ _ (record { kept = λ h. h; opening = refl; once = omega arith })
     (attached_kept (position_of (Machine.scene_of s.kernel) 0 path) s path))
 
@@ -198,7 +199,7 @@ again_kept s begin =
     either s (nat_le Machine.most_begins begin.begins) _ _ (record { kept = λ h. h; opening = refl; once = omega arith })
     (failed_kept (Machine.begun s next) s begin.moment (begun_kept walked.stop s next walked.passed))
 
-collected_kept : (kind : TokenKind) (s : State) (row : WaitRow) (now : ℕ) → IsOrdered s.kernel → IsOrdered (Machine.collected_at kind s row now).kernel
+pub collected_kept : (kind : TokenKind) (s : State) (row : WaitRow) (now : ℕ) → IsOrdered s.kernel → IsOrdered (Machine.collected_at kind s row now).kernel
 collected_kept Missing s row now h = record { waits = rises_filter _ _ 0 s.kernel.waits h.waits; walkers = rises_filter _ _ 0 s.kernel.walkers h.walkers }
 collected_kept Expire s row now h = record { waits = rises_filter _ _ 0 s.kernel.waits h.waits; walkers = rises_filter _ _ 0 s.kernel.walkers h.walkers }
 

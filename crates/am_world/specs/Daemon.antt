@@ -1,3 +1,4 @@
 -- The daemon's half of the machine.
 pub mod Book
 pub mod Jobs
+pub mod Points

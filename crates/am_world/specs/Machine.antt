@@ -1,5 +1,5 @@
 -- The machine: what each event comes to.
-use Rattle.std.specs.Prelude.{◌≡◌, ◌⊎◌, ℕ, ◌+◌, ◌==◌, nat_le, max, Bool, true, false, ◌&&◌, not, is_some, List, [], ◌∷◌, ◌++◌, length, filter, Option, Some, None, Result, Ok, Err, if◌then◌else◌}
+use Rattle.std.specs.Prelude.{◌≡◌, ◌⊎◌, ℕ, ◌+◌, ◌==◌, nat_le, max, Bool, true, false, ◌&&◌, ◌||◌, not, is_some, List, [], ◌∷◌, ◌++◌, length, filter, Option, Some, None, Result, Ok, Err, if◌then◌else◌}
 use Rattle.std.specs.List.{list_any}
 use Rattle.std.specs.Str.{bytes_eq}
 use Rattle.std.specs.Result.{result_ok}
@@ -46,6 +46,7 @@ use Rattle.am_world.specs.declared.walk.Begin.{Begin}
 use Rattle.am_world.specs.Kernel.Waits.{arrived, joined, notified, collected, answered, releases, passes, touched, wait_of, walker_of, token_of, queued_of, missing_packet}
 use Rattle.am_world.specs.Kernel.Calls.{attach_refusal, attached, mkdir_refusal, with_directory, rmdir_refusal, without_directory, location_of, mount_refusal, mounted_on, answer_refusal}
 use Rattle.am_world.specs.Daemon.Book.{record_of, recorded, with_record, holds}
+use Rattle.am_world.specs.Daemon.Points.{point_of, timeout_at, is_direct_at, map_of}
 use Rattle.am_world.specs.Daemon.Jobs.{has_entry, missing_plan, is_reply, reply_after, job_of, with_left, without_job}
 
 -- What an event comes to: its answer, what is seen of it, and the state but for the trace.
@@ -65,7 +66,7 @@ with_kernel k s = record s { kernel = k }
 abbrev pub moment_of : State → ℕ → ℕ
 moment_of s now = max s.latest now
 
--- ---- attach: the autofs of the master's point is mounted there, and the daemon attaches to it
+-- ---- attach: an autofs is mounted at a point of the master, and the daemon attaches to it
 
 abbrev pub scene_of : KernelState → Scene
 scene_of k = record { mounts = k.mounts; autofs = k.autofs; made = k.made; tokens = k.tokens }
@@ -80,7 +81,7 @@ attached_to s path at =
       answer = answers.Attached (k.last_fs + 1) (k.last_attach + 1) (k.last_mount + 1);
       seen = seen.Mounted ((k.last_mount + 1) ∷ []) ∷ [];
       state = record s {
-        kernel = attached at s.opening.timeout k;
+        kernel = attached at (timeout_at s.opening path) k;
         daemon = record s.daemon {
           known = s.daemon.known ++ (record { fs = k.last_fs + 1; path = path }) ∷ [];
           held = s.daemon.held ++ (record { fs = k.last_fs + 1; attach = k.last_attach + 1 }) ∷ [];
@@ -92,17 +93,22 @@ abbrev pub unless_refused : Option Errno → State → Outcome → Outcome
 unless_refused (Some e) s done = refused s e
 unless_refused None s done = done
 
--- not on an autofs; the numbers are left
+-- own: a world has one autofs at most, and that is an indirect one
+abbrev pub is_beyond_one : State → List (List ℕ) → Bool
+is_beyond_one s path = is_direct_at s.opening path || not (length s.kernel.autofs == 0)
+
+-- not on an autofs; the one autofs that a world may have; the numbers are left
 abbrev pub attached_at : Result Position Errno → State → List (List ℕ) → Outcome
 attached_at (Err e) s path = refused s e
 attached_at (Ok at) s path =
     if is_some (autofs_at s.kernel.mounts s.kernel.autofs at.mount) then refused s EPERM
+    else if is_beyond_one s path then refused s ENOSPC
     else unless_refused (attach_refusal s.opening.limits s.kernel) s (attached_to s path at)
 
 -- a point of the master; not attached yet; a path of namespace 0
 abbrev pub attach_outcome : State → List (List ℕ) → Outcome
 attach_outcome s path =
-    if not (same_names s.opening.point path) then refused s ENOENT
+    if not (is_some (point_of s.opening path)) then refused s ENOENT
     else if is_known s.daemon.known path then refused s EEXIST
     else attached_at (position_of (scene_of s.kernel) 0 path) s path
 
@@ -268,7 +274,7 @@ takes_with s row trigger acts =
 
 -- the plan for a packet that asks for a mount on this trigger
 abbrev pub plan_of : State → Trigger → ActsLeft
-plan_of s trigger = missing_plan (is_some (record_of s.daemon.book trigger)) (has_entry s.opening.keys trigger.name)
+plan_of s trigger = missing_plan (is_some (record_of s.daemon.book trigger)) (has_entry (map_of s.opening s.daemon.known trigger.fs) trigger.name)
 
 -- a job begins with its plan, and the record says so
 abbrev pub takes : State → QueuedRow → Outcome

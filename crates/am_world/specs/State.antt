@@ -3,17 +3,18 @@ use Rattle.std.specs.Prelude.{ℕ, false, List, [], ◌∷◌, None}
 use Rattle.am_names.specs.declared.limits.Limits.{Limits}
 use Rattle.am_names.specs.declared.row.MountRow.{MountRow}
 use Rattle.am_names.specs.declared.row.MemberRow.{MemberRow}
+use Rattle.am_map.specs.EntryText.{Row}
+use Rattle.am_master.specs.MasterRow.{MasterRow}
 use Rattle.am_state.specs.declared.obs.Obs.{Obs}
 use Rattle.am_state.specs.KernelState.{KernelState}
 use Rattle.am_state.specs.DaemonState.{DaemonState}
 
--- what a world begins with, which no event changes: the limits, the point of the one indirect
--- autofs that may be attached, its timeout in seconds, and the keys of its map
+-- what a world begins with, which no event changes: the limits, the lines of the master map, and
+-- for each of them, in order, the rows of its map
 pub record Opening : Type 0 where
   pub limits : Limits
-  pub point : List (List ℕ)
-  pub timeout : ℕ
-  pub keys : List (List ℕ)
+  pub master : List MasterRow
+  pub maps : List (List Row)
 
 pub record State : Type 0 where
   pub opening : Opening

@@ -3,7 +3,7 @@ use Rattle.std.specs.Prelude.{◌≡◌, ◌≤◌, List, ◌++◌}
 use Rattle.std.specs.List.{count_by}
 use Rattle.am_state.specs.declared.obs.Obs.{Obs}
 use Rattle.am_world.specs.State.{State}
-use Rattle.am_world.specs.Counts.{is_queued}
+use Rattle.am_world.specs.Laws.OneObservation.{is_queued}
 
 -- The opening stays, the trace grows by what was seen, and one packet at most is queued.
 pub record IsLawful (old : State) (seen : List Obs) (new : State) : Type 0 where

@@ -1,6 +1,9 @@
 -- What the lists stand for, and the room in them.
 use Rattle.std.specs.Prelude.{◌≡◌, ℕ, ◌+◌, ◌≤◌, ◌<◌, List, [], ◌∷◌, ◌++◌, Option, Some, None, Result, Ok, Err, vec_len, vec_capacity}
 use Rattle.std.specs.Global.{Vec}
+use Rattle.std.specs.Borrow.{Bor}
+use Rattle.am_map.specs.EntryText.{Row}
+use Rattle.am_master.specs.MasterRow.{MasterRow}
 use Rattle.am_state.specs.declared.kernel_row.WalkerRow.{WalkerRow}
 use Rattle.am_state.specs.declared.kernel_row.Doing.{Doing}
 use Rattle.am_state.specs.declared.kernel_row.Doing.TheVariants.{Waiting, Inside}
@@ -19,13 +22,14 @@ use Rattle.am_world.specs.declared.begin.Waited.{Waited}
 use Rattle.am_world.specs.declared.begin.Waited.TheVariants.{Idle, OnMount, OnExpiry}
 use Rattle.am_world.specs.declared.begin.Beginning.{Beginning}
 use Rattle.am_world.specs.declared.begin.Beginning.TheVariants as started
-use Rattle.am_world.specs.State.{State}
+use Rattle.am_world.specs.State.{State, Opening}
+use Rattle.am_world.specs.Daemon.Points.{Served}
 use Rattle.am_world.specs.Kernel.Waits.{collected, touched, all_touched, waiting, passes}
 use Rattle.am_names.specs.declared.trigger.Trigger.{Trigger}
 use Rattle.am_names.specs.declared.row.Position.{Position}
 use Rattle.am_names.specs.declared.errno.Errno.{Errno}
 use Rattle.am_names.specs.declared.errno.Errno.TheVariants.{ENOENT}
-use Rattle.std.specs.Option.{ok_or}
+use Rattle.std.specs.Option.{ok_or, option_map}
 use Rattle.std.specs.declared.alloc.AllocError.{AllocError}
 use Rattle.am_names.specs.declared.row.TokenKind.{TokenKind}
 use Rattle.am_state.specs.declared.obs.Obs.TheVariants as seen
@@ -53,9 +57,16 @@ kernel_of k = record {
 abbrev pub daemon_of : Daemon → DaemonState
 daemon_of d = record { known = d.known.items; held = d.held.items; book = d.book.items; jobs = d.jobs.items }
 
+abbrev pub opening_in : Tables → Opening
+opening_in t = record { limits = t.limits; master = t.master; maps = t.maps.items }
+
+-- the line and the map that are lent
+abbrev pub served_in : Option (Bor MasterRow × Bor (List Row)) → Option Served
+served_in served = option_map (λ s. (s.0.now, s.1.now)) served
+
 abbrev pub state_of : Tables → State
 state_of t = record {
-  opening = record { limits = t.limits; point = t.point; timeout = t.timeout; keys = t.keys.items };
+  opening = opening_in t;
   kernel = kernel_of t.kernel;
   daemon = daemon_of t.daemon;
   latest = t.latest;

@@ -5,7 +5,7 @@ use am_names::{AbsPath, JobId, NsId, Seconds, Token, Trigger, WalkerId};
 /// One event. The moment is handed in with those that have one, and may go back.
 #[derive(Clone, Copy, Debug)]
 pub enum Event {
-    /// The autofs of the master's point is mounted there, and the daemon attaches to it.
+    /// An autofs is mounted at a point of the master, and the daemon attaches to it.
     Attach {
         path: AbsPath,
     },

@@ -1,9 +1,10 @@
 //! Each event's case of the machine.
 
 ghost use Rattle.std.specs.Prelude.{◌≡◌, ◌∷◌, ◌++◌, [], true, ◌+◌, ◌<◌, ◌≤◌, IfOk, OnOk, OnErr, Option, Some, None, length, vec_len, vec_capacity, position, max, ◌==◌};
+ghost use Rattle.std.specs.List.{list_all};
+ghost use Rattle.am_names.specs.Name.{is_name};
+ghost use Rattle.am_world.specs.Invariant.Events.{IsSpelled};
 ghost use Rattle.am_names.specs.Path.{IsCanonical, names_of};
-ghost use Rattle.std.specs.List.{list_any};
-ghost use Rattle.std.specs.Str.{bytes_eq};
 ghost use Rattle.am_wire.specs.Said.{said};
 ghost use Rattle.am_wire.specs.Format.{canonical};
 ghost use Rattle.am_world.specs.Kernel.Waits.{queued_of, wait_of, walker_of, token_of, releases};
@@ -11,15 +12,17 @@ ghost use Rattle.am_world.specs.Kernel.Calls.{with_mount};
 ghost use Rattle.am_world.specs.Kernel.Sites.{place_of};
 ghost use Rattle.am_state.specs.declared.daemon_row.ActsLeft.TheVariants.{Mkdir, Rmdir, Reply};
 ghost use Rattle.am_world.specs.Daemon.Book.{record_of, holds};
-ghost use Rattle.am_world.specs.Daemon.Jobs.{has_entry, missing_plan, is_reply, reply_after, job_of};
+ghost use Rattle.am_world.specs.Daemon.Points.{timeout_at};
+ghost use Rattle.am_world.specs.Daemon.Jobs.{missing_plan, is_reply, reply_after, job_of};
 ghost use Rattle.am_world.specs.Machine.{is_busy, attach_outcome, attached_to, is_known, walk_outcome, resume_outcome, failed, again, deliver_outcome, outcome_of, takes, takes_with, may_take, plan_of, has_bytes, named_in, act_outcome, acted, goes_on, mkdir_by, mount_act, rmdir_by, record_act, reply_by, mount_fails, mounts_at, record_outcome, is_trigger_of, moment_of, entry_of, waiters_of};
-ghost use Rattle.am_world.specs.Tables.{state_of, kernel_of, HasRoom, IsOrdered, Leaves, LeavesOrRanOut, LeavesFrom, begin_of, freed};
+ghost use Rattle.am_world.specs.Tables.{state_of, opening_in, kernel_of, HasRoom, IsOrdered, Leaves, LeavesOrRanOut, LeavesFrom, begin_of, freed};
 
 use crate::answer::Answer;
 use crate::begin::{Beginning, Waited, find_token};
 use crate::calls::location_of;
 use crate::event::Event;
 use crate::kernel::Kernel;
+use crate::points::is_direct;
 use crate::rows::{
     put_left, put_record, release, take_directory, take_job, take_queued, take_record, take_token,
     take_wait, take_walker,
@@ -66,22 +69,6 @@ fn later(latest: Seconds, now: Seconds) -> Seconds
     ensures { result ≡ max latest now }
 {
     Seconds(latest.0.max(now.0))
-}
-
-fn has_key(keys: &[Name], name: &Name) -> bool
-    ensures { result ≡ list_any (λ key. bytes_eq key name.now) keys.now }
-{
-    keys.iter().any(|key| key.as_bytes() == name.as_bytes())
-}
-
-/// Whether the map has an entry for a name.
-fn has_entry(keys: &[Name], name: &Option<Name>) -> bool
-    ensures { result ≡ has_entry keys.now name.now }
-{
-    match name {
-        None => false,
-        Some(name) => has_key(keys, name),
-    }
 }
 
 fn missing_plan(is_recorded: bool, has_entry: bool) -> ActsLeft
@@ -283,7 +270,8 @@ impl Kernel {
 
 impl Tables {
     /// The new autofs is mounted there, and the daemon holds its attachment.
-    fn attach_at(&mut self, path: Place, at: Position, mounted: Vec<MountId>) -> Twice
+    fn attach_at(&mut self, path: Place, timeout: u32, at: Position, mounted: Vec<MountId>) -> Twice
+        requires timeout { timeout ≡ timeout_at (opening_in self.old) path }
         requires room { HasRoom self.old 0 1 }
         requires mounts { self.old.kernel.last_mount < 4294967295 }
         requires fs { self.old.kernel.last_fs < 4294967295 }
@@ -299,7 +287,7 @@ impl Tables {
             fs,
             direct: false,
             location: mount,
-            timeout: self.timeout,
+            timeout,
             attach: Some(attach),
         });
         self.kernel.last_attach = attach.0;
@@ -311,13 +299,15 @@ impl Tables {
         twice!(Answer::Attached { fs, attach, mount })
     }
 
-    /// The autofs of the master's point is attached.
+    /// An autofs is attached at a point of the master.
     pub fn attach(&mut self, alloc: Global, path: &AbsPath) -> Result<Twice, AllocError>
         ensures { LeavesOrRanOut result (attach_outcome (state_of self.old) path.now) (state_of self.old) (state_of self.new) }
     {
-        if !self.point.is_at(path.text()) {
+        let Some((line, _map)) = self.point_of(path.text()) else {
             return Ok(refuse(Errno::ENOENT));
-        }
+        };
+        let timeout = line.timeout;
+        let is_direct = is_direct(&line.point);
         if is_known(&self.daemon.known, path.text()) {
             return Ok(refuse(Errno::EEXIST));
         }
@@ -327,13 +317,17 @@ impl Tables {
         if autofs_at(&self.kernel.mounts, &self.kernel.autofs, at.mount).is_some() {
             return Ok(refuse(Errno::EPERM));
         }
+        // Own: a world has one autofs at most, and that is an indirect one.
+        if is_direct || !self.kernel.autofs.is_empty() {
+            return Ok(refuse(Errno::ENOSPC));
+        }
         if let Some(errno) = self.kernel.attach_refusal(&self.limits) {
             return Ok(refuse(errno));
         }
         let path = Place::of(alloc, path.text())?;
         let mounted = Vec::from_slice(alloc, &[MountId(self.kernel.last_mount + 1)])?;
         self.make_room(0, 1)?;
-        Ok(self.attach_at(path, at, mounted))
+        Ok(self.attach_at(path, timeout, at, mounted))
     }
 
     /// A walker begins a walk.
@@ -346,15 +340,17 @@ impl Tables {
         now: Seconds,
     ) -> Result<Twice, AllocError>
         requires ordered { IsOrdered (kernel_of self.old.kernel) }
-        ensures { LeavesOrRanOut result (walk_outcome (state_of self.old) walker ns path.now now) (state_of self.old) (state_of self.new) }
+        ensures outcome { LeavesOrRanOut result (walk_outcome (state_of self.old) walker ns path.now now) (state_of self.old) (state_of self.new) }
+        ensures spelled { list_all is_name path.now ≡ true }
     {
+        let text = path.text();
         if is_busy(&self.kernel.walkers, walker) {
             return Ok(refuse(Errno::EINVAL));
         }
         let begin = Begin {
             walker,
             ns,
-            path: Place::of(alloc, path.text())?,
+            path: Place::of(alloc, text)?,
             begins: 1,
             moment: later(self.latest, now),
         };
@@ -489,7 +485,7 @@ impl Tables {
         ensures { result ≡ plan_of (state_of self.now) trigger.now }
     {
         let is_recorded = record_of(&self.daemon.book, trigger).is_some();
-        missing_plan(is_recorded, has_entry(&self.keys, &trigger.name))
+        missing_plan(is_recorded, self.has_entry(trigger.fs, &trigger.name))
     }
 
     /// Whether a packet is that of a queued row, and the daemon holds the row's attachment.
@@ -676,7 +672,8 @@ impl Tables {
     /// The event's case of the machine.
     pub fn handle(&mut self, alloc: Global, event: &Event) -> Result<Twice, AllocError>
         requires ordered { IsOrdered (kernel_of self.old.kernel) }
-        ensures { LeavesOrRanOut result (outcome_of (state_of self.old) event.now) (state_of self.old) (state_of self.new) }
+        ensures outcome { LeavesOrRanOut result (outcome_of (state_of self.old) event.now) (state_of self.old) (state_of self.new) }
+        ensures spelled { IsSpelled event.now }
     {
         match event {
             Event::Attach { path } => self.attach(alloc, path),

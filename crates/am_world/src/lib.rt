@@ -8,6 +8,8 @@ mod daemon;
 pub mod event;
 mod handle;
 mod kernel;
+pub mod laws;
+mod points;
 mod reach;
 mod resolve;
 mod rows;

@@ -5,16 +5,18 @@ ghost use Rattle.am_world.specs.Tables.{state_of, HasRoom};
 
 use crate::daemon::Daemon;
 use crate::kernel::Kernel;
-use am_names::{Limits, Name, Place, Seconds};
+use am_map::Map;
+use am_master::Master;
+use am_names::{Limits, Seconds};
 use am_state::Obs;
 use std::alloc::AllocError;
 
 #[derive(Drop)]
 pub struct Tables {
     pub limits: Limits,
-    pub point: Place,
-    pub timeout: u32,
-    pub keys: Vec<Name>,
+    pub master: Master,
+    /// The maps of the master's lines, in their order.
+    pub maps: Vec<Map>,
     pub kernel: Kernel,
     pub daemon: Daemon,
     pub latest: Seconds,

@@ -1,7 +1,10 @@
 //! Worlds, one step after another. Run with each allocation refused in turn too: a step that finds
 //! no memory has changed nothing, and goes on when it is made again.
 
+use crate::laws::trace_holds;
 use crate::{Answer, Event, Obs, Record, World, run};
+use am_map::{Map, MapKind};
+use am_master::Master;
 use am_names::{
     AbsPath, Errno, FsId, JobId, Limits, MountId, Name, NsId, Seconds, Token, Trigger, WalkerId,
 };
@@ -16,15 +19,46 @@ const LIMITS: Limits = Limits {
     tokens: u32::MAX,
 };
 
-/// A world of an autofs at /auto, with the keys home and work.
-fn world_within(alloc: Global, limits: Limits) -> Result<World, Fail> {
-    if !limits.is_in_range() {
-        return Err(Fail::new("limits out of their range"));
+/// A world of these master lines, and of a map for each of them.
+fn world_of(
+    alloc: Global,
+    limits: Limits,
+    master: &[u8],
+    texts: &[(&[u8], MapKind)],
+) -> Result<World, Errno> {
+    let Ok(master) = Master::read(alloc, master) else {
+        return Err(Errno::NoMemory);
+    };
+    let mut maps = Vec::new(alloc);
+    for (text, kind) in texts {
+        let Ok(map) = Map::read(alloc, text, *kind) else {
+            return Err(Errno::NoMemory);
+        };
+        maps.push(map)?;
     }
-    let mut keys = Vec::new(alloc);
-    keys.push(Name::read(b"home")?)?;
-    keys.push(Name::read(b"work")?)?;
-    Ok(World::first(alloc, limits, AbsPath::read(b"/auto")?, 10, keys)?)
+    if !limits.is_in_range() || maps.len() != master.entries().len() {
+        return Err(Errno::EINVAL);
+    }
+    Ok(World::new(alloc, limits, master, maps)?)
+}
+
+/// A world of an autofs at /auto, with the keys home and work.
+fn world_within(alloc: Global, limits: Limits) -> Result<World, Errno> {
+    let map = b"home srv:/home\nwork srv:/work".as_slice();
+    world_of(
+        alloc,
+        limits,
+        b"/auto auto.home --timeout=10",
+        &[(map, MapKind::Indirect)],
+    )
+}
+
+/// The same, tried again where it found no memory.
+fn world_in_the_end(alloc: Global, limits: Limits) -> Result<World, Errno> {
+    match world_within(alloc, limits) {
+        Err(Errno::NoMemory) => world_within(alloc, limits),
+        other => other,
+    }
 }
 
 fn attach(path: &[u8]) -> Result<Event, Fail> {
@@ -170,6 +204,7 @@ fn is_trace(rt: &impl Abort, alloc: Global, world: &World, wanted: &[&str]) -> R
         let seen = seen(alloc, obs)?;
         assert_eq!(rt; seen.as_str(), *wanted);
     }
+    assert!(rt; trace_holds(world.trace()));
     Ok(())
 }
 
@@ -301,6 +336,120 @@ fn an_autofs_is_attached_once_at_its_point(rt: HostRuntime) -> Result<(), Fail> 
             (walk(1, b"/auto/home", 1)?, "refused 5"),
         ],
     )
+}
+
+/// The tests of an attachment, in their order.
+#[test]
+fn an_attachment_is_tested_in_order(rt: HostRuntime) -> Result<(), Fail> {
+    let alloc = rt.alloc();
+    let mut world = world_of(
+        alloc,
+        LIMITS,
+        b"/auto a\n/auto/in b\n/other c --timeout=7\n/- d\n/- e",
+        &[
+            (b"", MapKind::Indirect),
+            (b"", MapKind::Indirect),
+            (b"* srv:/&", MapKind::Indirect),
+            (b"/srv/data nas:/d", MapKind::Direct),
+            (
+                b"/srv/more nas:/m\n/auto x:/y\n/auto/key x:/k",
+                MapKind::Direct,
+            ),
+        ],
+    )?;
+    plays(
+        &rt,
+        alloc,
+        &mut world,
+        &[
+            (attach(b"/")?, "refused 1"),
+            (attach(b"/-")?, "refused 1"),
+            (attach(b"/srv")?, "refused 1"),
+            (attach(b"/srv/data/x")?, "refused 1"),
+            (attach(b"/srv/data")?, "refused 9"),
+            (attach(b"/srv/more")?, "refused 9"),
+            (attach(b"/auto")?, "attached 2 1 2"),
+            (attach(b"/auto")?, "refused 4"),
+            (attach(b"/auto/in")?, "refused 1"),
+            (attach(b"/auto/key")?, "refused 1"),
+            (attach(b"/srv/more")?, "refused 9"),
+            (attach(b"/other")?, "refused 9"),
+            (walk(1, b"/auto/any", 1)?, "wait 1"),
+            (deliver(1), "job 1"),
+            (act(1, true), "record"),
+        ],
+    )
+}
+
+/// On an autofs only its daemon mounts.
+#[test]
+fn an_autofs_takes_no_autofs(rt: HostRuntime) -> Result<(), Fail> {
+    let alloc = rt.alloc();
+    let mut world = world_of(
+        alloc,
+        LIMITS,
+        b"/auto a\n/auto/in b\n/- c",
+        &[
+            (b"in srv:/in", MapKind::Indirect),
+            (b"", MapKind::Indirect),
+            (b"/auto/in/deep x:/d", MapKind::Direct),
+        ],
+    )?;
+    plays(
+        &rt,
+        alloc,
+        &mut world,
+        &[
+            (attach(b"/auto")?, "attached 2 1 2"),
+            (walk(1, b"/auto/in", 1)?, "wait 1"),
+            (deliver(1), "job 1"),
+            (act(1, true), "mkdir"),
+            (attach(b"/auto/in")?, "refused 2"),
+            (act(1, true), "mount 3"),
+            (attach(b"/auto/in")?, "refused 9"),
+            (attach(b"/auto/in/deep")?, "refused 9"),
+        ],
+    )
+}
+
+/// The map is that of the line whose point is attached, and a `*` line serves any name.
+#[test]
+fn a_plan_looks_into_the_map_of_its_line(rt: HostRuntime) -> Result<(), Fail> {
+    let alloc = rt.alloc();
+    for (point, any) in [
+        (b"/one".as_slice(), "record"),
+        (b"/two".as_slice(), "mkdir"),
+    ] {
+        let mut world = world_of(
+            alloc,
+            LIMITS,
+            b"/- d\n/one a\n/two b",
+            &[
+                (b"/srv/data nas:/d", MapKind::Direct),
+                (b"home srv:/home", MapKind::Indirect),
+                (b"home srv:/home\n* srv:/&", MapKind::Indirect),
+            ],
+        )?;
+        let mut below = Vec::from_slice(alloc, point)?;
+        below.extend_from_slice(b"/home")?;
+        let mut other = Vec::from_slice(alloc, point)?;
+        other.extend_from_slice(b"/other")?;
+        plays(
+            &rt,
+            alloc,
+            &mut world,
+            &[
+                (attach(point)?, "attached 2 1 2"),
+                (walk(1, below.as_slice(), 1)?, "wait 1"),
+                (walk(2, other.as_slice(), 1)?, "wait 2"),
+                (deliver(1), "job 1"),
+                (deliver(2), "job 2"),
+                (act(1, true), "mkdir"),
+                (act(2, true), any),
+            ],
+        )?;
+    }
+    Ok(())
 }
 
 #[test]
@@ -462,4 +611,54 @@ fn a_run_is_a_step_for_each_event(rt: HostRuntime) -> Result<(), Fail> {
             "recorded busy",
         ],
     )
+}
+
+/// What an answer must be in a test that may take no memory to tell it.
+#[derive(Clone, Copy)]
+enum Wanted {
+    Attached,
+    Wait(u32),
+    Job,
+    Did,
+    At(u64),
+}
+
+fn is_wanted(answer: &Answer, wanted: Wanted) -> bool {
+    match (answer, wanted) {
+        (Answer::Attached { .. }, Wanted::Attached) => true,
+        (Answer::Wait { token }, Wanted::Wait(number)) => token.0 == number,
+        (Answer::Job { .. }, Wanted::Job) => true,
+        (Answer::DidMkdir, Wanted::Did) => true,
+        (Answer::DidMount { .. }, Wanted::Did) => true,
+        (Answer::DidRecord, Wanted::Did) => true,
+        (Answer::DidReply, Wanted::Did) => true,
+        (Answer::At { position }, Wanted::At(mount)) => position.mount.0 == mount,
+        _ => false,
+    }
+}
+
+/// Any allocation may be refused: the event is then refused, nothing has changed, and it goes on
+/// as if nothing had been when it is made again.
+#[test]
+fn memory_may_run_out_anywhere(rt: HostRuntime) -> Result<(), Fail> {
+    let alloc = rt.alloc();
+    let mut world = world_in_the_end(alloc, LIMITS)?;
+    let wanted = [
+        (attach(b"/auto")?, Wanted::Attached),
+        (walk(7, b"/auto/home", 100)?, Wanted::Wait(1)),
+        (walk(8, b"/auto/home/a", 100)?, Wanted::Wait(1)),
+        (deliver(1), Wanted::Job),
+        (act(1, true), Wanted::Did),
+        (act(1, true), Wanted::Did),
+        (act(1, true), Wanted::Did),
+        (act(1, true), Wanted::Did),
+        (resume(8, 101), Wanted::At(3)),
+        (resume(7, 101), Wanted::At(3)),
+    ];
+    for (event, wanted) in &wanted {
+        let answer = step(&mut world, alloc, event);
+        assert!(rt; is_wanted(&answer, *wanted), "at {event:?}");
+    }
+    assert_eq!(rt; world.trace().len(), 15);
+    Ok(())
 }

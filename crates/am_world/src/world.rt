@@ -1,11 +1,13 @@
 //! The world: what happens to it, event by event.
 
-ghost use Rattle.std.specs.Prelude.{◌≡◌, List, IfOk, IfErr};
+ghost use Rattle.std.specs.Prelude.{◌≡◌, List, length, IfOk, IfErr};
 ghost use Rattle.std.specs.Option.{option_map};
 ghost use Rattle.am_names.specs.Limits.{IsInRange};
 ghost use Rattle.am_state.specs.declared.obs.Obs.{Obs};
 ghost use Rattle.am_world.specs.State.{State, opening_of};
 ghost use Rattle.am_world.specs.Kernel.Waits.{queued_of};
+ghost use Rattle.am_world.specs.Laws.TraceLaws.{Lawful};
+ghost use Rattle.am_world.specs.Laws.Agreement.{Agrees};
 ghost use Rattle.am_world.specs.Machine.{Step, Run, packet_bytes};
 ghost use Rattle.am_world.specs.State.{initial_kernel};
 ghost use Rattle.am_world.specs.Tables.{kernel_of};
@@ -17,9 +19,9 @@ use crate::handle::queued_of;
 use crate::kernel::Kernel;
 use crate::tables::Tables;
 use crate::twice::refuse;
-use am_names::{
-    AbsPath, Errno, FsId, Limits, MemberRow, MountId, MountRow, Name, NsId, Place, Seconds, Token,
-};
+use am_map::Map;
+use am_master::Master;
+use am_names::{Errno, FsId, Limits, MemberRow, MountId, MountRow, NsId, Seconds, Token};
 use am_state::Obs;
 use am_wire::write;
 use std::alloc::{AllocError, Global};
@@ -44,30 +46,26 @@ impl Model for World {
 }
 
 impl World {
-    /// The initial world of one indirect autofs: the point at which it may be attached, the
-    /// seconds after which its mounts may expire, and the keys of its map.
-    pub fn first(
+    /// The initial world of a master map, with the maps of its lines in their order.
+    pub fn new(
         alloc: Global,
         limits: Limits,
-        point: AbsPath,
-        timeout: u32,
-        keys: Vec<Name>,
+        master: Master,
+        maps: Vec<Map>,
     ) -> Result<World, AllocError>
-        requires { IsInRange limits }
+        requires limits { IsInRange limits }
+        requires maps { length maps.items ≡ length master }
         ensures { IfOk result (λ world. world ≡ opening_of (record {
           limits = limits;
-          point = point;
-          timeout = timeout;
-          keys = keys.items;
+          master = master;
+          maps = maps.items;
         })) }
     {
-        let point = Place::of(alloc, point.text())?;
         Ok(World {
             tables: Tables {
                 limits,
-                point,
-                timeout,
-                keys,
+                master,
+                maps,
                 kernel: initial_kernel(alloc)?,
                 daemon: Daemon {
                     known: Vec::new(alloc),
@@ -83,7 +81,8 @@ impl World {
 
     /// What was observed so far.
     pub fn trace(&self) -> &[Obs]
-        ensures { result.now ≡ self.now.trace }
+        ensures trace { result.now ≡ self.now.trace }
+        ensures lawful { Lawful result.now }
     {
         self.tables.trace.as_slice()
     }
@@ -170,6 +169,8 @@ pub struct Ran {
 /// Makes a step for each event. Where the list of answers finds no memory, nothing runs.
 pub fn run(alloc: Global, mut world: World, events: &[Event]) -> Result<Ran, World>
     ensures run { IfOk result (λ ran. Run world events.now ran.answers.items ran.world) }
+    ensures lawful { IfOk result (λ ran. Lawful ran.world.trace) }
+    ensures agrees { IfOk result (λ ran. Agrees ran.world) }
     ensures err { IfErr result (λ same. same ≡ world) }
 {
     let Ok(mut answers) = Vec::with_capacity(alloc, events.len()) else {
@@ -179,5 +180,7 @@ pub fn run(alloc: Global, mut world: World, events: &[Event]) -> Result<Ran, Wor
         let answer = world.step(alloc, event);
         answers.push_reserved(answer);
     }
+    // What every world keeps is known where its fields are read.
+    let _ = &world.tables;
     Ok(Ran { world, answers })
 }

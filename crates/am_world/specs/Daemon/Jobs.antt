@@ -1,16 +1,16 @@
 -- The daemon's jobs: a plan for each packet, act by act.
-use Rattle.std.specs.Prelude.{ℕ, ◌==◌, Bool, true, false, not, List, map, filter, Option, Some, None, find, if◌then◌else◌}
-use Rattle.std.specs.List.{list_any}
-use Rattle.std.specs.Str.{bytes_eq}
+use Rattle.std.specs.Prelude.{ℕ, ◌==◌, Bool, true, false, not, is_some, List, map, filter, Option, Some, None, find, if◌then◌else◌}
 use Rattle.am_names.specs.declared.trigger.Status.TheVariants.{Ready, Fail}
+use Rattle.am_map.specs.EntryText.{Row}
+use Rattle.am_map.specs.LookUp.{row_for}
 use Rattle.am_state.specs.declared.daemon_row.ActsLeft.{ActsLeft}
 use Rattle.am_state.specs.declared.daemon_row.ActsLeft.TheVariants as left
 use Rattle.am_state.specs.declared.daemon_row.JobRow.{JobRow}
 
 -- the map has an entry for the trigger's name
-abbrev pub has_entry : List (List ℕ) → Option (List ℕ) → Bool
-has_entry keys None = false
-has_entry keys (Some name) = list_any (λ key. bytes_eq key name) keys
+abbrev pub has_entry : List Row → Option (List ℕ) → Bool
+has_entry rows None = false
+has_entry rows (Some name) = is_some (row_for rows name)
 
 -- The plan for a packet that asks for a mount. With an entry: make the directory, mount, record the mount,
 -- reply READY. Without one: record that there is none, reply FAIL. Where it is recorded already: reply READY.
