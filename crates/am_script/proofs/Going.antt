@@ -14,7 +14,8 @@ use Rattle.am_script.specs.declared.fault.ScriptFaultKind.{ScriptFaultKind}
 use Rattle.am_script.specs.declared.play.Summary.{Summary}
 use Rattle.am_script.specs.Answers.{answer_line, is_refused}
 use Rattle.am_script.specs.Lines.{lines_of, lines_in}
-use Rattle.am_script.specs.Script.{Numbered, Told, events_in, events_from, line_read, told_by, only_fault, fault_at}
+use Rattle.am_script.specs.Script.{Numbered, Told, events_in, events_from, line_read, told_by, only_fault}
+use Rattle.am_script.specs.Fault.{fault_at}
 use Rattle.am_script.specs.Played.{AllAnswered, StopsAtFault, Stops, lines_for}
 use Rattle.am_script.specs.Turns.{TurnDone, TurnStopped, counted}
 use Rattle.am_script.proofs.Writes.{appends_more, appends_none}

@@ -1,36 +1,126 @@
 -- A script whose head is read line by line.
-use Rattle.std.proofs.Common.{◌≡◌, ◌⊎◌, ◌+◌, ℕ, List, [], ◌∷◌, Option, Some, None, IfOk, IfErr, refl, sym, ap, subst, ◌∙◌, inl, inr}
+use Rattle.std.proofs.Common.{◌≡◌, ◌⊎◌, ◌+◌, ℕ, List, [], ◌∷◌, length, drop, Option, Some, None, Result, Ok, Err, IfOk, IfErr, refl, sym, ap, subst, ◌∙◌, inl, inr, arith}
 use Rattle.std.specs.Io.KnownBytes.{Appends}
+use Rattle.std.proofs.lemmas.List.{drop-drop}
+use Rattle.am_world.specs.State.{State, Opening, opening_of}
+use Rattle.am_script.specs.declared.fault.ScriptFault.{ScriptFault}
 use Rattle.am_script.specs.declared.fault.ScriptFaultKind.{ScriptFaultKind}
 use Rattle.am_script.specs.declared.fault.ScriptFaultKind.TheVariants.{NoMemory}
-use Rattle.am_script.specs.Lines.{lines_of, lines_in}
-use Rattle.am_script.specs.Heading.{HeadSoFar, Taken, Stops, line_taken}
-use Rattle.am_script.specs.Script.{Script, script_from, script_by, events_from, head_ends, fault_at}
-use Rattle.am_script.specs.Played.{IsPlayed, IsStopped, end_of_head}
+use Rattle.am_script.specs.declared.play.Summary.{Summary}
+use Rattle.am_script.specs.Fault.{IsFaultOr}
+use Rattle.am_script.specs.Sections.{parts_of_lines}
+use Rattle.am_script.specs.Head.{head_of}
+use Rattle.am_script.specs.Heading.{HeadSoFar, no_lines, Taken, GoesOn, EventsBegin, Stops, StopsAt, line_taken, first_open}
+use Rattle.am_script.specs.Maps.{opening_read}
+use Rattle.am_script.specs.Script.{Script, Told, script_from, script_by, begun_by, events_from, head_ends, without_world}
+use Rattle.am_script.specs.Played.{AllAnswered, IsPlayed, IsStopped, end_of_head}
+use Rattle.am_script.specs.Played as played
+use Rattle.am_script.proofs.HeadSteps.{head_left, follows, head_step, head_ends_so}
 use Rattle.am_script.proofs.Writes.{appends_none}
 
--- the first of the lines that are left makes this of the head
-pub script_step : (broke : Option ScriptFaultKind) (head : HeadSoFar) (before : ℕ) (rest : Option (List ℕ)) (here line : List ℕ) (lines : List (List ℕ)) (taken : Taken) → rest ≡ Some here → lines_of here ≡ line ∷ lines → line_taken head (before + 1) line ≡ taken → script_from broke head before (lines_in rest) ≡ script_by taken (before + 1) (events_from broke (before + 1) lines) (λ next. script_from broke next (before + 1) lines)
-script_step broke head before rest here line lines taken e f t =
-    ap (λ (r : Option (List ℕ)). script_from broke head before (lines_in r)) e ∙ ap (script_from broke head before) f ∙ ap (λ (x : Taken). script_by x (before + 1) (events_from broke (before + 1) lines) (λ next. script_from broke next (before + 1) lines)) t
+-- of all lines so many are taken, which say this, and these are left
+pub record IsLeft (all : List (List ℕ)) (head : HeadSoFar) (number : ℕ) (rest : List (List ℕ)) : Type 0 where
+  pub goes : head_of (parts_of_lines all) ≡ head_left head number rest
+  pub behind : drop number all ≡ rest
+  pub counted : length all ≡ number + length rest
 
-pub ended_ok : (broke : Option ScriptFaultKind) (section : Option ℕ) (number : ℕ) (old : Option (List ℕ)) → IfOk (end_of_head broke section number) (IsPlayed (head_ends broke section number) old old)
-ended_ok None None number old = record { no_fault = refl; written = appends_none old; lines = refl; refused = refl }
-ended_ok None (Some first) number old = tt
-ended_ok (Some kind) section number old = tt
+pub none_taken : (all : List (List ℕ)) → IsLeft all no_lines 0 all
+none_taken all = record { goes = refl; behind = refl; counted = omega arith }
 
-pub ended_err : (broke : Option ScriptFaultKind) (section : Option ℕ) (number : ℕ) (old : Option (List ℕ)) → IfErr (end_of_head broke section number) (IsStopped (head_ends broke section number) old old)
-ended_err None None number old = tt
-ended_err None (Some first) number old = inr (record { found = refl; written = appends_none old })
-ended_err (Some kind) section number old = inr (record { found = refl; written = appends_none old })
+went : (all : List (List ℕ)) (head : HeadSoFar) (number : ℕ) (rest : List (List ℕ)) (line : List ℕ) (lines : List (List ℕ)) (taken : Taken) →
+    IsLeft all head number rest → rest ≡ line ∷ lines → line_taken head (number + 1) line ≡ taken → head_of (parts_of_lines all) ≡ follows taken (number + 1) (λ next. head_left next (number + 1) lines)
+went all head number rest line lines taken left e t =
+    left.goes ∙ ap (head_left head number) e ∙ head_step head number line lines ∙ ap (λ (x : Taken). follows x (number + 1) (λ (next : HeadSoFar). head_left next (number + 1) lines)) t
+
+behind_more : (all : List (List ℕ)) (head : HeadSoFar) (number : ℕ) (rest : List (List ℕ)) (line : List ℕ) (lines : List (List ℕ)) → IsLeft all head number rest → rest ≡ line ∷ lines → drop (number + 1) all ≡ lines
+behind_more all head number rest line lines left e = sym (drop-drop 1 number all) ∙ ap (drop 1) (left.behind ∙ e)
+
+pub one_taken : (all : List (List ℕ)) (head next : HeadSoFar) (number : ℕ) (rest : List (List ℕ)) (line : List ℕ) (lines : List (List ℕ)) →
+    IsLeft all head number rest → rest ≡ line ∷ lines → line_taken head (number + 1) line ≡ GoesOn next → IsLeft all next (number + 1) lines
+one_taken all head next number rest line lines left e t = record {
+  goes = went all head number rest line lines (GoesOn next) left e t;
+  behind = behind_more all head number rest line lines left e;
+  counted = omega (arith, left.counted, ap (λ (ls : List (List ℕ)). length ls) e);
+}
 
 kept_none : (old new : Option (List ℕ)) → new ≡ old → Appends old new []
 kept_none old new e = subst (λ (n : Option (List ℕ)). Appends old n []) (sym e) (appends_none old)
 
+faulty : (fault : ScriptFault) (script : Script) (old new : Option (List ℕ)) → script ≡ without_world (Some fault) → new ≡ old → IsStopped script old new fault
+faulty fault script old new e kept =
+    subst (λ (s : Script). IsStopped s old new fault) (sym e) (inr (record { found = refl; written = kept_none old new kept }))
+
+ran_out : (fault : ScriptFault) (script : Script) (old new : Option (List ℕ)) → fault.kind ≡ NoMemory → new ≡ old → IsStopped script old new fault
+ran_out fault script old new e kept = inl (record { kind = e; written = kept_none old new kept })
+
 -- a line of the head stops the script, or there is no memory for it
-pub head_stops : (script : Script) (broke : Option ScriptFaultKind) (head : HeadSoFar) (before : ℕ) (rest : Option (List ℕ)) (here line : List ℕ) (lines : List (List ℕ)) (kind : ScriptFaultKind) (old new : Option (List ℕ)) → script ≡ script_from broke head before (lines_in rest) → rest ≡ Some here → lines_of here ≡ line ∷ lines → new ≡ old → (line_taken head (before + 1) line ≡ Stops kind) ⊎ (kind ≡ NoMemory) → IsStopped script old new (fault_at (before + 1) kind)
-head_stops script broke head before rest here line lines kind old new same e f kept (inl t) =
-    let whole = same ∙ script_step broke head before rest here line lines (Stops kind) e f t in
-    subst (λ (s : Script). IsStopped s old new (fault_at (before + 1) kind)) (sym whole) (inr (record { found = refl; written = kept_none old new kept }))
-head_stops script broke head before rest here line lines kind old new same e f kept (inr none) =
-    inl (record { kind = none; written = kept_none old new kept })
+pub head_stops : (broke : Option ScriptFaultKind) (all : List (List ℕ)) (head : HeadSoFar) (number : ℕ) (rest : List (List ℕ)) (line : List ℕ) (lines : List (List ℕ)) (fault : ScriptFault) (old new : Option (List ℕ)) →
+    IsLeft all head number rest → rest ≡ line ∷ lines → StopsAt (line_taken head (number + 1) line) fault → new ≡ old → IsStopped (script_from broke all) old new fault
+head_stops broke all head number rest line lines fault old new left e (inl t) kept =
+    faulty fault (script_from broke all) old new (ap (script_by broke all) (went all head number rest line lines (Stops fault) left e t)) kept
+head_stops broke all head number rest line lines fault old new left e (inr none) kept = ran_out fault (script_from broke all) old new none kept
+
+-- ---- the events begin
+
+begun : (broke : Option ScriptFaultKind) (all : List (List ℕ)) (head next : HeadSoFar) (number : ℕ) (rest : List (List ℕ)) (line : List ℕ) (lines : List (List ℕ)) →
+    IsLeft all head number rest → rest ≡ line ∷ lines → line_taken head (number + 1) line ≡ EventsBegin next → script_from broke all ≡ begun_by (opening_read next.said) (events_from broke (number + 1) lines)
+begun broke all head next number rest line lines left e t =
+    let starts = went all head number rest line lines (EventsBegin next) left e t in
+    ap (script_by broke all) starts ∙ ap (λ (ls : List (List ℕ)). begun_by (opening_read next.said) (events_from broke (number + 1) ls)) (behind_more all head number rest line lines left e)
+
+pub begin_fails : (broke : Option ScriptFaultKind) (all : List (List ℕ)) (head next : HeadSoFar) (number : ℕ) (rest : List (List ℕ)) (line : List ℕ) (lines : List (List ℕ)) (fault : ScriptFault) (old new : Option (List ℕ)) →
+    IsLeft all head number rest → rest ≡ line ∷ lines → line_taken head (number + 1) line ≡ EventsBegin next → IsFaultOr fault (opening_read next.said) → new ≡ old → IsStopped (script_from broke all) old new fault
+begin_fails broke all head next number rest line lines fault old new left e t (inl f) kept =
+    faulty fault (script_from broke all) old new (begun broke all head next number rest line lines left e t ∙ ap (λ (r : Result Opening ScriptFault). begun_by r (events_from broke (number + 1) lines)) f) kept
+begin_fails broke all head next number rest line lines fault old new left e t (inr none) kept = ran_out fault (script_from broke all) old new none kept
+
+-- the script is that of this world and of the lines that are left
+pub begins : (broke : Option ScriptFaultKind) (all : List (List ℕ)) (head next : HeadSoFar) (number : ℕ) (rest : List (List ℕ)) (line : List ℕ) (lines : List (List ℕ)) (opening : Opening) →
+    IsLeft all head number rest → rest ≡ line ∷ lines → line_taken head (number + 1) line ≡ EventsBegin next → opening_read next.said ≡ Ok opening → script_from broke all ≡ record { opening = Some opening; told = events_from broke (number + 1) lines }
+begins broke all head next number rest line lines opening left e t o =
+    begun broke all head next number rest line lines left e t ∙ ap (λ (r : Result Opening ScriptFault). begun_by r (events_from broke (number + 1) lines)) o
+
+pub begun_played : (script : Script) (told : Told) (world : State) (old mid new : Option (List ℕ)) (r : Result Summary ScriptFault) → script ≡ record { opening = Some world.opening; told = told } → world ≡ opening_of world.opening → mid ≡ old →
+    IfOk r (AllAnswered world told mid new) → IfOk r (IsPlayed script old new)
+begun_played script told world old mid new (Ok summary) e w kept h =
+    subst (λ (s : Script). IsPlayed s old new summary) (sym e) (subst (λ (s : State). AllAnswered s told old new summary) w (subst (λ (o : Option (List ℕ)). AllAnswered world told o new summary) kept h))
+begun_played script told world old mid new (Err fault) e w kept h = tt
+
+stopped_from : (script : Script) (told : Told) (world : State) (old new : Option (List ℕ)) (fault : ScriptFault) → script ≡ record { opening = Some world.opening; told = told } → world ≡ opening_of world.opening →
+    played.RanOut old new fault ⊎ played.Stops world told old new fault → IsStopped script old new fault
+stopped_from script told world old new fault e w (inl none) = inl none
+stopped_from script told world old new fault e w (inr stops) =
+    subst (λ (s : Script). IsStopped s old new fault) (sym e) (inr (subst (λ (s : State). played.Stops s told old new fault) w stops))
+
+pub begun_stopped : (script : Script) (told : Told) (world : State) (old mid new : Option (List ℕ)) (r : Result Summary ScriptFault) → script ≡ record { opening = Some world.opening; told = told } → world ≡ opening_of world.opening → mid ≡ old →
+    IfErr r (λ fault. played.RanOut mid new fault ⊎ played.Stops world told mid new fault) → IfErr r (IsStopped script old new)
+begun_stopped script told world old mid new (Ok summary) e w kept h = tt
+begun_stopped script told world old mid new (Err fault) e w kept h =
+    stopped_from script told world old new fault e w (subst (λ (o : Option (List ℕ)). played.RanOut o new fault ⊎ played.Stops world told o new fault) kept h)
+
+-- ---- the head ends
+
+ended : (broke : Option ScriptFaultKind) (all : List (List ℕ)) (head : HeadSoFar) (number : ℕ) (rest : List (List ℕ)) → IsLeft all head number rest → rest ≡ [] → script_from broke all ≡ head_ends broke (first_open head.within) number
+ended broke all head number rest left e =
+    let count : length all ≡ number = omega (arith, left.counted, ap (λ (ls : List (List ℕ)). length ls) e) in
+    ap (script_by broke all) (left.goes ∙ ap (head_left head number) e ∙ head_ends_so head number) ∙ ap (head_ends broke (first_open head.within)) count
+
+ended_ok : (broke : Option ScriptFaultKind) (section : Option ℕ) (number : ℕ) (old : Option (List ℕ)) → IfOk (end_of_head broke section number) (IsPlayed (head_ends broke section number) old old)
+ended_ok None None number old = record { no_fault = refl; written = appends_none old; lines = refl; refused = refl }
+ended_ok None (Some first) number old = tt
+ended_ok (Some kind) section number old = tt
+
+ended_err : (broke : Option ScriptFaultKind) (section : Option ℕ) (number : ℕ) (old : Option (List ℕ)) → IfErr (end_of_head broke section number) (IsStopped (head_ends broke section number) old old)
+ended_err None None number old = tt
+ended_err None (Some first) number old = inr (record { found = refl; written = appends_none old })
+ended_err (Some kind) section number old = inr (record { found = refl; written = appends_none old })
+
+pub end_played : (broke : Option ScriptFaultKind) (all : List (List ℕ)) (head : HeadSoFar) (number : ℕ) (rest : List (List ℕ)) (old new : Option (List ℕ)) (r : Result Summary ScriptFault) →
+    IsLeft all head number rest → rest ≡ [] → new ≡ old → r ≡ end_of_head broke (first_open head.within) number → IfOk r (IsPlayed (script_from broke all) old new)
+end_played broke all head number rest old new r left e kept is =
+    rw (is, kept, ended broke all head number rest left e) (ended_ok broke (first_open head.within) number old)
+
+pub end_stopped : (broke : Option ScriptFaultKind) (all : List (List ℕ)) (head : HeadSoFar) (number : ℕ) (rest : List (List ℕ)) (old new : Option (List ℕ)) (r : Result Summary ScriptFault) →
+    IsLeft all head number rest → rest ≡ [] → new ≡ old → r ≡ end_of_head broke (first_open head.within) number → IfErr r (IsStopped (script_from broke all) old new)
+end_stopped broke all head number rest old new r left e kept is =
+    rw (is, kept, ended broke all head number rest left e) (ended_err broke (first_open head.within) number old)

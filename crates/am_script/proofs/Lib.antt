@@ -1,8 +1,10 @@
 pub mod CutLine
 pub mod Cuts
 pub mod Going
+pub mod HeadSteps
 pub mod Heads
 pub mod Inputs
+pub mod MapsLemmas
 pub mod Numerals
 pub mod Pieces
 pub mod Writes

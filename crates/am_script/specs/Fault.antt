@@ -1,13 +1,28 @@
--- The numbers of the faults.
-use Rattle.std.specs.Prelude.{ℕ}
+-- Faults: their numbers, and where they are told.
+use Rattle.std.specs.Prelude.{◌≡◌, ◌⊎◌, ℕ, ◌+◌, Result, Err}
+use Rattle.am_script.specs.declared.fault.ScriptFault.{ScriptFault}
 use Rattle.am_script.specs.declared.fault.ScriptFaultKind.{ScriptFaultKind}
-use Rattle.am_script.specs.declared.fault.ScriptFaultKind.TheVariants.{BadSection, BadLimits, BadEvent, LongLine, NoMemory, ReadFailed, WriteFailed}
+use Rattle.am_script.specs.declared.fault.ScriptFaultKind.TheVariants.{BadSection, BadLimits, BadMaster, BadMap, NoSuchMap, BadEvent, LongLine, NoMemory, ReadFailed, WriteFailed}
 
 abbrev pub kind_number : ScriptFaultKind → ℕ
 kind_number BadSection = 1
 kind_number BadLimits = 2
+kind_number (BadMaster kind) = 3
+kind_number (BadMap kind) = 4
+kind_number NoSuchMap = 5
 kind_number BadEvent = 6
 kind_number LongLine = 7
 kind_number NoMemory = 8
 kind_number ReadFailed = 9
 kind_number WriteFailed = 10
+
+abbrev pub fault_at : ℕ → ScriptFaultKind → ScriptFault
+fault_at line kind = record { line = line; kind = kind }
+
+-- a fault on a line of a section's text, the first of which is the line behind the section's first
+abbrev pub fault_in : ℕ → ℕ → ScriptFaultKind → ScriptFault
+fault_in first line kind = fault_at (first + line) kind
+
+-- this is the fault that is expected, or memory ran out
+abbrev pub IsFaultOr : {T : Type 0} → ScriptFault → Result T ScriptFault → Type 0
+IsFaultOr fault expected = (expected ≡ Err fault) ⊎ (fault.kind ≡ NoMemory)

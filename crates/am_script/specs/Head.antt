@@ -1,160 +1,105 @@
--- The head of a script: what stands before the line `events`. It has limits if wanted, a master
--- section with one line, and one section of the map that this line names.
-use Rattle.std.specs.Prelude.{⊤, ℕ, Bool, false, not, ◌&&◌, ◌==◌, nat_lt, nat_le, List, [], ◌∷◌, length, codes, bytes_eq, take, drop, Option, None, Some, if◌then◌else◌}
-use Rattle.std.specs.List.{after_first}
-use Rattle.std.specs.Result.{result_ok}
-use Rattle.am_names.specs.Name.{name_read}
-use Rattle.am_names.specs.Path.{path_read, text_of}
-use Rattle.am_names.specs.Limits.{IsInRange}
+-- What the head of a script says: limits if wanted, a master section if wanted, any number of map
+-- sections, and the line `events`.
+use Rattle.std.specs.Prelude.{ℕ, Bool, false, is_some, List, [], ◌∷◌, ◌++◌, codes, bytes_eq, drop, Option, None, Some, Result, Ok, Err, if◌then◌else◌}
 use Rattle.am_names.specs.declared.limits.Limits.{Limits}
-use Rattle.am_script.specs.declared.fault.ScriptFaultKind.TheVariants.{BadSection, BadLimits}
-use Rattle.am_script.specs.declared.head.Entry.{Entry}
-use Rattle.am_script.specs.declared.head.Part.{Part}
-use Rattle.am_script.specs.declared.head.Part.TheVariants as parts
-use Rattle.am_script.specs.declared.head.HeadLine.{HeadLine}
-use Rattle.am_script.specs.declared.head.HeadLine.TheVariants as says
-use Rattle.am_script.specs.Lines.{words_of, begins_with}
-use Rattle.am_script.specs.Numbers.{u32_read}
+use Rattle.am_master.specs.declared.fault.MasterFault.{MasterFault}
+use Rattle.am_master.specs.Grammar.{master_read}
+use Rattle.am_master.specs.MasterRow.{MasterRow}
+use Rattle.am_script.specs.declared.fault.ScriptFault.{ScriptFault}
+use Rattle.am_script.specs.declared.fault.ScriptFaultKind.TheVariants.{BadSection, BadLimits, BadMaster, LongLine}
+use Rattle.am_script.specs.Fault.{fault_at, fault_in}
+use Rattle.am_script.specs.Limits.{default_limits, limits_read}
+use Rattle.am_script.specs.Sections.{Section, Part, Alone, Whole, Unended, Long, are_only}
 
--- ---- limits
+-- the master section: the number of its first line, and the rows of its text
+pub record Mastered : Type 0 where
+  pub first : ℕ
+  pub rows : List MasterRow
 
--- 1000000 mounts, 1024 waiters, 4294967295 tokens
-abbrev pub default_limits : Limits
-default_limits = record { mounts = 1000000; waiters = 1024; tokens = 4294967295 }
+-- what a head says
+pub record Head : Type 0 where
+  pub limits : Limits
+  pub master : Mastered
+  pub maps : List Section
 
--- at least 1 each, and at most 65,536 waiters
-abbrev pub in_range : ℕ → ℕ → ℕ → Bool
-in_range mounts waiters tokens =
-    nat_le 1 mounts && nat_le 1 waiters && nat_le waiters 65536 && nat_le 1 tokens
+-- own: a head without a master section has an empty master map
+abbrev pub no_head : Head
+no_head = record { limits = default_limits; master = record { first = 0; rows = [] }; maps = [] }
 
-abbrev pub limits_of : Option ℕ → Option ℕ → Option ℕ → Option Limits
-limits_of (Some mounts) (Some waiters) (Some tokens) =
-    if in_range mounts waiters tokens then
-    Some (record { mounts = mounts; waiters = waiters; tokens = tokens })
-    else None
-limits_of mounts waiters tokens = None
+-- how the head of a script goes
+pub data Headed : Type 0 where
+  -- it is whole, and the events begin behind the line with this number
+  Begins : Head → ℕ → Headed
+  -- its lines end first, in the section that begins at this line or in none
+  Ends : Option ℕ → Headed
+  -- its first fault
+  Faulty : ScriptFault → Headed
 
--- `M W T` behind `limits`
-abbrev pub limits_read : List (List ℕ) → Option Limits
-limits_read (mounts ∷ waiters ∷ tokens ∷ []) =
-    limits_of (u32_read mounts) (u32_read waiters) (u32_read tokens)
-limits_read words = None
+abbrev pub bad : ℕ → Headed
+bad number = Faulty (fault_at number BadSection)
 
--- ---- the line of the master section
+abbrev pub too_long : ℕ → Headed
+too_long number = Faulty (fault_at number LongLine)
 
--- `--timeout=`
-abbrev pub timeout_mark : List ℕ
-timeout_mark = codes "--timeout="
+-- a section that may stand there, but doesn't end
+abbrev pub unended : Section → Option ℕ → Headed
+unended section None = Ends (Some section.first)
+unended section (Some number) = too_long number
 
--- `--timeout=N`
-abbrev pub timeout_read : List ℕ → Option ℕ
-timeout_read word =
-    if nat_lt (length word) 10 then None
-    else if bytes_eq (take 10 word) timeout_mark then u32_read (drop 10 word)
-    else None
+abbrev pub is_map : Section → Bool
+is_map section = is_some section.name
 
--- a path other than the root; the word `/-` stands for direct triggers and is none
-abbrev pub point_of : Option (List (List ℕ)) → Option (List (List ℕ))
-point_of (Some path) = if length (text_of path) == 0 then None else Some path
-point_of None = None
+abbrev pub with_map : Head → Section → Head
+with_map head section = record head { maps = head.maps ++ section ∷ [] }
 
-abbrev pub point_read : List ℕ → Option (List (List ℕ))
-point_read word = if bytes_eq word (codes "/-") then None else point_of (result_ok (path_read word))
+-- map sections, and then `events`
+abbrev pub maps_then : Head → List Part → Headed
+maps_then head [] = Ends None
+maps_then head (Long number ∷ parts) = too_long number
+maps_then head (Alone number words ∷ parts) = if are_only (codes "events") words then Begins head number else bad number
+maps_then head (Unended section long ∷ parts) = if is_map section then unended section long else bad section.first
+maps_then head (Whole section ∷ parts) = if is_map section then maps_then (with_map head section) parts else bad section.first
 
-abbrev pub entry_of : Option (List (List ℕ)) → Option (List ℕ) → Option ℕ → Option Entry
-entry_of (Some point) (Some map_name) (Some timeout) =
-    Some (record { point = point; map_name = map_name; timeout = timeout })
-entry_of point map_name timeout = None
+abbrev pub master_in : ℕ → Result (List MasterRow) MasterFault → Result (List MasterRow) ScriptFault
+master_in first (Ok rows) = Ok rows
+master_in first (Err fault) = Err (fault_in first fault.line (BadMaster fault.kind))
 
--- `PATH NAME`, with 300 seconds (own), or `PATH NAME --timeout=N`
-abbrev pub entry_read : List (List ℕ) → Option Entry
-entry_read (point ∷ name ∷ []) = entry_of (point_read point) (result_ok (name_read name)) (Some 300)
-entry_read (point ∷ name ∷ timeout ∷ []) =
-    entry_of (point_read point) (result_ok (name_read name)) (timeout_read timeout)
-entry_read words = None
+-- what a section is read as, as the master's
+abbrev pub section_read : Section → Result (List MasterRow) ScriptFault
+section_read section = master_in section.first (master_read section.text)
 
--- ---- a line of the map section
+abbrev pub with_master : Head → ℕ → List MasterRow → Head
+with_master head first rows = record head { master = record { first = first; rows = rows } }
 
-abbrev pub is_colon : ℕ → Bool
-is_colon b = b == 58
+abbrev pub master_by : Result (List MasterRow) ScriptFault → ℕ → Head → List Part → Headed
+master_by (Ok rows) first head parts = maps_then (with_master head first rows) parts
+master_by (Err fault) first head parts = Faulty fault
 
--- `host:path`, where the path begins with a slash
-abbrev pub is_location : List ℕ → Bool
-is_location word = begins_with 47 (after_first is_colon word)
+-- a master section if there is one, and what may follow it
+abbrev pub master_then : Head → List Part → Headed
+master_then head [] = Ends None
+master_then head (Long number ∷ parts) = too_long number
+master_then head (Alone number words ∷ parts) = maps_then head (Alone number words ∷ parts)
+master_then head (Unended section long ∷ parts) = unended section long
+master_then head (Whole section ∷ parts) =
+    if is_map section then maps_then head (Whole section ∷ parts)
+    else master_by (section_read section) section.first head parts
 
--- a word that begins with `-`
-abbrev pub is_options : List ℕ → Bool
-is_options word = begins_with 45 word
+abbrev pub is_limits : List (List ℕ) → Bool
+is_limits [] = false
+is_limits (word ∷ words) = bytes_eq word (codes "limits")
 
--- `NAME location` or `NAME -options location`
-abbrev pub key_read : List (List ℕ) → Option (List ℕ)
-key_read (key ∷ location ∷ []) =
-    if not (is_options location) && is_location location then result_ok (name_read key) else None
-key_read (key ∷ options ∷ location ∷ []) =
-    if is_options options && is_location location then result_ok (name_read key) else None
-key_read words = None
+abbrev pub limits_by : Option Limits → ℕ → Head → List Part → Headed
+limits_by (Some limits) number head parts = master_then (record head { limits = limits }) parts
+limits_by None number head parts = Faulty (fault_at number BadLimits)
 
--- ---- what a line says, by the part of the head in which it stands
+-- limits if they come first, and what may follow them
+abbrev pub limits_then : Head → List Part → Headed
+limits_then head (Alone number words ∷ parts) =
+    if is_limits words then limits_by (limits_read (drop 1 words)) number head parts
+    else master_then head (Alone number words ∷ parts)
+limits_then head parts = master_then head parts
 
-abbrev pub bad : HeadLine
-bad = says.Bad BadSection
-
--- `end`, and not a byte more
-abbrev pub is_end : List ℕ → Bool
-is_end line = bytes_eq line (codes "end")
-
--- the words are one, and it is this
-abbrev pub are_only : List ℕ → List (List ℕ) → Bool
-are_only text (word ∷ []) = bytes_eq word text
-are_only text words = false
-
-abbrev pub limits_line : Option Limits → HeadLine
-limits_line (Some limits) = says.Limited limits
-limits_line None = says.Bad BadLimits
-
--- `limits M W T` may come first; then comes `master`
-abbrev pub master_line : List (List ℕ) → ℕ → HeadLine
-master_line words n = if are_only (codes "master") words then says.Goes (parts.Master n) else bad
-
-abbrev pub start_line : List (List ℕ) → ℕ → HeadLine
-start_line [] n = bad
-start_line (word ∷ words) n =
-    if bytes_eq word (codes "limits") then limits_line (limits_read words)
-    else master_line (word ∷ words) n
-
-abbrev pub entry_line : Option Entry → ℕ → HeadLine
-entry_line (Some entry) first = says.Goes (parts.Listed first entry)
-entry_line None first = bad
-
-abbrev pub is_map_of : List ℕ → List (List ℕ) → Bool
-is_map_of name (word ∷ other ∷ []) = bytes_eq word (codes "map") && bytes_eq other name
-is_map_of name words = false
-
-abbrev pub key_line : Option (List ℕ) → HeadLine
-key_line (Some key) = says.Key key
-key_line None = bad
-
-abbrev pub head_line : Part → ℕ → List ℕ → HeadLine
-head_line parts.Start n line = start_line (words_of line) n
-head_line parts.Limited n line = master_line (words_of line) n
-head_line (parts.Master first) n line = entry_line (entry_read (words_of line)) first
-head_line (parts.Listed first entry) n line =
-    if is_end line then says.Goes (parts.Mastered entry) else bad
-head_line (parts.Mastered entry) n line =
-    if is_map_of entry.map_name (words_of line) then says.Goes (parts.Map n entry) else bad
-head_line (parts.Map first entry) n line =
-    if is_end line then says.Goes (parts.Mapped entry) else key_line (key_read (words_of line))
-head_line (parts.Mapped entry) n line =
-    if are_only (codes "events") (words_of line) then says.Begins entry else bad
-
--- the first line of the section that the head is in, if it is in one
-abbrev pub section_of : Part → Option ℕ
-section_of (parts.Master first) = Some first
-section_of (parts.Listed first entry) = Some first
-section_of (parts.Map first entry) = Some first
-section_of part = None
-
--- limits that a line tells are in their ranges
-abbrev pub AreInRange : HeadLine → Type 0
-AreInRange (says.Limited limits) = IsInRange limits
-AreInRange line = ⊤
+-- how the head of a script goes that has these parts
+abbrev pub head_of : List Part → Headed
+head_of parts = limits_then no_head parts

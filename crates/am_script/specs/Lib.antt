@@ -3,10 +3,14 @@ pub mod Events
 pub mod Fault
 pub mod Head
 pub mod Heading
+pub mod Inside
+pub mod Limits
 pub mod Lines
+pub mod Maps
 pub mod Numbers
 pub mod Played
 pub mod Read
 pub mod Script
+pub mod Sections
 pub mod Turns
 pub mod Written

@@ -10,9 +10,10 @@ use Rattle.am_script.specs.declared.fault.ScriptFault.{ScriptFault}
 use Rattle.am_script.specs.declared.fault.ScriptFaultKind.{ScriptFaultKind}
 use Rattle.am_script.specs.declared.fault.ScriptFaultKind.TheVariants.{BadSection, NoMemory, WriteFailed}
 use Rattle.am_script.specs.declared.play.Summary.{Summary}
+use Rattle.am_script.specs.Fault.{fault_at}
 use Rattle.am_script.specs.Answers.{answer_line, is_refused}
 use Rattle.am_script.specs.Read.{WasRead}
-use Rattle.am_script.specs.Script.{Numbered, events_in, Told, Script, fault_at, script_of}
+use Rattle.am_script.specs.Script.{Numbered, events_in, Told, Script, script_of}
 
 abbrev pub lines_for : List Answer → List ℕ
 lines_for answers = flat_map answer_line answers

@@ -1,6 +1,6 @@
 -- What the whole text of a script says: the opening of its world, its events with their lines,
 -- and its first fault.
-use Rattle.std.specs.Prelude.{ℕ, ◌+◌, List, [], ◌∷◌, map, Option, None, Some, Result, Ok, Err, if◌then◌else◌}
+use Rattle.std.specs.Prelude.{ℕ, ◌+◌, List, [], ◌∷◌, map, length, drop, Option, None, Some, Result, Ok, Err, if◌then◌else◌}
 use Rattle.am_world.specs.declared.event.Event.{Event}
 use Rattle.am_world.specs.State.{Opening}
 use Rattle.am_script.specs.declared.fault.ScriptFault.{ScriptFault}
@@ -8,8 +8,10 @@ use Rattle.am_script.specs.declared.fault.ScriptFaultKind.{ScriptFaultKind}
 use Rattle.am_script.specs.declared.fault.ScriptFaultKind.TheVariants.{BadSection, BadEvent, LongLine}
 use Rattle.am_script.specs.Lines.{lines_of, words_of, is_long, are_skipped}
 use Rattle.am_script.specs.Events.{event_read}
-use Rattle.am_script.specs.Head.{section_of}
-use Rattle.am_script.specs.Heading.{HeadSoFar, no_head, Taken, GoesOn, Begins, Stops, line_taken}
+use Rattle.am_script.specs.Fault.{fault_at}
+use Rattle.am_script.specs.Head.{Headed, Begins, Ends, Faulty, head_of}
+use Rattle.am_script.specs.Maps.{opening_read}
+use Rattle.am_script.specs.Sections.{parts_of_lines}
 use Rattle.am_script.specs.Read.{played, broken}
 
 -- an event and the number of its line
@@ -29,9 +31,6 @@ pub record Told : Type 0 where
 pub record Script : Type 0 where
   pub opening : Option Opening
   pub told : Told
-
-abbrev pub fault_at : ℕ → ScriptFaultKind → ScriptFault
-fault_at line kind = record { line = line; kind = kind }
 
 abbrev pub only_fault : Option ScriptFault → Told
 only_fault fault = record { events = []; fault = fault }
@@ -82,18 +81,20 @@ abbrev pub head_ends : Option ScriptFaultKind → Option ℕ → ℕ → Script
 head_ends None section before = without_world (section_fault section)
 head_ends (Some kind) section before = without_world (Some (fault_at before kind))
 
-abbrev pub script_by : Taken → ℕ → Told → (HeadSoFar → Script) → Script
-script_by (GoesOn head) number told others = others head
-script_by (Begins opening) number told others = record { opening = Some opening; told = told }
-script_by (Stops kind) number told others = without_world (Some (fault_at number kind))
+-- the events begin, if each line of the master has its map
+abbrev pub begun_by : Result Opening ScriptFault → Told → Script
+begun_by (Ok opening) told = record { opening = Some opening; told = told }
+begun_by (Err fault) told = without_world (Some fault)
 
--- the head so far and these lines, behind so many lines
-abbrev pub script_from : Option ScriptFaultKind → HeadSoFar → ℕ → List (List ℕ) → Script
-script_from broke head before [] = head_ends broke (section_of head.part) before
-script_from broke head before (line ∷ lines) =
-    script_by (line_taken head (before + 1) line) (before + 1) (events_from broke (before + 1) lines)
-    (λ next. script_from broke next (before + 1) lines)
+-- the script of these lines, whose head goes so
+abbrev pub script_by : Option ScriptFaultKind → List (List ℕ) → Headed → Script
+script_by broke lines (Begins head number) = begun_by (opening_read head) (events_from broke number (drop number lines))
+script_by broke lines (Ends section) = head_ends broke section (length lines)
+script_by broke lines (Faulty fault) = without_world (Some fault)
+
+abbrev pub script_from : Option ScriptFaultKind → List (List ℕ) → Script
+script_from broke lines = script_by broke lines (head_of (parts_of_lines lines))
 
 -- what was read of a script, up to its end or to where reading broke off
 abbrev pub script_of : Option ScriptFaultKind → List ℕ → Script
-script_of broke text = script_from (broken broke text) no_head 0 (lines_of (played broke text))
+script_of broke text = script_from (broken broke text) (lines_of (played broke text))

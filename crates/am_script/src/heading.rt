@@ -1,97 +1,304 @@
 //! The head of a script as far as it is read.
 
-ghost use Rattle.std.specs.Prelude.{◌≡◌, ◌⊎◌, IfOk, IfErr};
+ghost use Rattle.std.specs.Prelude.{◌≡◌, ◌≤◌, ◌^◌, [], true, false, drop, None, Ok, IfOk, IfErr, IfNone, IfSome};
+ghost use Rattle.am_master.specs.Grammar.{master_read, StandWithin};
 ghost use Rattle.am_script.specs.declared.fault.ScriptFaultKind.TheVariants.{NoMemory};
+ghost use Rattle.am_script.specs.Fault.{IsFaultOr};
+ghost use Rattle.am_script.specs.Head.{is_limits, master_in};
+ghost use Rattle.am_script.specs.Heading.{may_open, is_start};
+ghost use Rattle.am_script.specs.Lines.{words_of};
 
-use crate::fault::ScriptFaultKind;
-use crate::head::{Entry, HeadLine, Part, default_limits, read_head_line, section_of};
-use crate::line::{is_long, is_skipped};
-use am_names::{Limits, Name};
+use crate::event_line::is_word;
+use crate::fault::{ScriptFault, ScriptFaultKind, fault_at};
+use crate::limits::{default_limits, read_limits};
+use crate::line::{is_long, is_skipped, split_word};
+use crate::maps::read_maps;
+use crate::section::{Section, fault_in, is_end, is_only};
+use am_master::{Master, MasterFaultKind};
+use am_names::Limits;
 use am_world::World;
-use std::alloc::{AllocError, Global};
+use std::alloc::Global;
 use std::marker::Model;
+
+/// How far the head has come.
+#[derive(Clone, Copy, Debug, PartialEq, Eq)]
+pub enum Stage {
+    /// Only lines that are skipped have come.
+    Start,
+    /// Behind the limits.
+    Limited,
+    /// Behind the master section, or behind a map section.
+    Mastered,
+}
 
 /// What the lines so far have said.
 #[derive(Debug, Drop)]
 pub struct Heading {
-    part: Part,
+    stage: Stage,
+    /// The section that the lines are in.
+    within: Option<Section>,
     limits: Limits,
-    keys: Vec<Name>,
+    master: Option<Master>,
+    /// The number of the master section's first line.
+    master_first: u64,
+    /// The map sections, in their order.
+    maps: Vec<Section>,
 }
 
 impl Model for Heading {
-    ghost use Rattle.am_names.specs.Limits.{IsInRange};
     ghost use Rattle.am_script.specs.Heading.{HeadSoFar};
 
     ghost Value = { HeadSoFar };
 
-    ghost view = { λ h. record { part = h.part; limits = h.limits; keys = h.keys.items } };
+    ghost use Rattle.am_script.specs.Inside.{view_of, IsSound};
 
-    ghost invariant = { λ h. IsInRange h.limits };
+    ghost view = { view_of };
+
+    ghost invariant = { IsSound };
 }
 
 impl Heading {
-    ghost use Rattle.am_script.specs.Heading.{no_head, line_taken, Stops, taken_as, opening_from};
+    ghost use Rattle.am_script.specs.Heading.{no_lines, line_taken, within_taken, outside_taken, alone_taken, opened, closed, limits_taken, taken_as, first_open, StopsAt};
+    ghost use Rattle.am_script.specs.Limits.{limits_read};
+    ghost use Rattle.am_script.specs.Maps.{opening_read};
     ghost use Rattle.am_world.specs.State.{opening_of};
-    ghost use Rattle.am_script.specs.Head.{section_of};
 
     /// Nothing is read yet.
     pub fn new(alloc: Global) -> Heading
-        ensures { result ≡ no_head }
+        ensures { result ≡ no_lines }
     {
         Heading {
-            part: Part::Start,
+            stage: Stage::Start,
+            within: None,
             limits: default_limits(),
-            keys: Vec::new(alloc),
+            master: None,
+            master_first: 0,
+            maps: Vec::new(alloc),
         }
     }
 
-    /// Takes the line with this number. The events begin behind it where it answers with an entry.
-    pub fn take_line(&mut self, number: u64, line: &[u8]) -> Result<Option<Entry>, ScriptFaultKind>
+    /// Takes the line with this number, and answers whether the events begin behind it.
+    pub fn take_line(
+        &mut self,
+        alloc: Global,
+        number: u64,
+        line: &[u8],
+    ) -> Result<bool, ScriptFault>
+        requires { number ≤ 2 ^ 62 }
         ensures ok { IfOk result (λ begins. line_taken self.old number line.now ≡ taken_as begins self.new) }
-        ensures err { IfErr result (λ kind. (line_taken self.old number line.now ≡ Stops kind) ⊎ (kind ≡ NoMemory)) }
+        ensures err { IfErr result (StopsAt (line_taken self.old number line.now)) }
     {
         if is_long(line) {
-            return Err(ScriptFaultKind::LongLine);
+            return Err(fault_at(number, ScriptFaultKind::LongLine));
         }
-        if is_skipped(line) {
-            return Ok(None);
-        }
-        match read_head_line(&self.part, number, line) {
-            HeadLine::Goes { part } => {
-                self.part = part;
-                Ok(None)
-            }
-            HeadLine::Limited { limits } => {
-                self.limits = limits;
-                self.part = Part::Limited;
-                Ok(None)
-            }
-            HeadLine::Key { key } => match self.keys.push(key) {
-                Ok(()) => Ok(None),
-                Err(_) => Err(ScriptFaultKind::NoMemory),
-            },
-            HeadLine::Begins { entry } => Ok(Some(entry)),
-            HeadLine::Bad { kind } => Err(kind),
+        match self.within.take() {
+            Some(section) => self.take_within(alloc, section, number, line),
+            None => self.take_outside(alloc, number, line),
         }
     }
 
-    /// The world that begins behind it.
-    pub fn begin(self, alloc: Global, entry: Entry) -> Result<World, AllocError>
-        ensures { IfOk result (λ world. world ≡ opening_of (opening_from entry self)) }
+    /// Takes a line of the open section.
+    fn take_within(
+        &mut self,
+        alloc: Global,
+        mut section: Section,
+        number: u64,
+        line: &[u8],
+    ) -> Result<bool, ScriptFault>
+        requires { self.old.within ≡ None }
+        ensures ok { IfOk result (λ begins. within_taken self.old section line.now ≡ taken_as begins self.new) }
+        ensures err { IfErr result (StopsAt (within_taken self.old section line.now)) }
+    {
+        if is_end(line) {
+            return self.close(alloc, section, number);
+        }
+        match section.push_line(line) {
+            Ok(()) => {
+                self.within = Some(section);
+                Ok(false)
+            }
+            Err(_) => Err(fault_at(number, ScriptFaultKind::NoMemory)),
+        }
+    }
+
+    /// The section ends with the line of this number.
+    fn close(&mut self, alloc: Global, section: Section, number: u64) -> Result<bool, ScriptFault>
+        requires { self.old.within ≡ None }
+        ensures ok { IfOk result (λ begins. closed self.old section ≡ taken_as begins self.new) }
+        ensures err { IfErr result (StopsAt (closed self.old section)) }
+    {
+        self.stage = Stage::Mastered;
+        if section.is_map() {
+            return match self.maps.push(section) {
+                Ok(()) => Ok(false),
+                Err(_) => Err(fault_at(number, ScriptFaultKind::NoMemory)),
+            };
+        }
+        match read_master(alloc, &section, number) {
+            Ok(master) => {
+                self.master_first = section.first();
+                self.master = Some(master);
+                Ok(false)
+            }
+            Err(fault) => Err(fault),
+        }
+    }
+
+    /// Takes a line outside of sections.
+    fn take_outside(&mut self, alloc: Global, number: u64, line: &[u8]) -> Result<bool, ScriptFault>
+        requires number { number ≤ 2 ^ 62 }
+        requires outside { self.old.within ≡ None }
+        ensures ok { IfOk result (λ begins. outside_taken self.old number (words_of line.now) ≡ taken_as begins self.new) }
+        ensures err { IfErr result (StopsAt (outside_taken self.old number (words_of line.now))) }
+    {
+        if is_skipped(line) {
+            return Ok(false);
+        }
+        match Section::open(alloc, number, line) {
+            Ok(Some(section)) => self.open_section(section),
+            Ok(None) => self.take_alone(number, line),
+            Err(_) => Err(fault_at(number, ScriptFaultKind::NoMemory)),
+        }
+    }
+
+    /// A section begins, if it may.
+    fn open_section(&mut self, section: Section) -> Result<bool, ScriptFault>
+        ensures ok { IfOk result (λ begins. opened self.old section ≡ taken_as begins self.new) }
+        ensures err { IfErr result (StopsAt (opened self.old section)) }
+    {
+        if !may_open(&self.stage, &section) {
+            return Err(fault_at(section.first(), ScriptFaultKind::BadSection));
+        }
+        self.within = Some(section);
+        Ok(false)
+    }
+
+    /// Takes a line that opens no section.
+    fn take_alone(&mut self, number: u64, line: &[u8]) -> Result<bool, ScriptFault>
+        ensures ok { IfOk result (λ begins. alone_taken self.old number (words_of line.now) ≡ taken_as begins self.new) }
+        ensures err { IfErr result (StopsAt (alone_taken self.old number (words_of line.now))) }
+    {
+        if is_start(&self.stage) {
+            if let Some(words) = behind_limits(line) {
+                return self.take_limits(number, words);
+            }
+        }
+        if is_only(b"events", line) {
+            return Ok(true);
+        }
+        Err(fault_at(number, ScriptFaultKind::BadSection))
+    }
+
+    /// Takes the words behind `limits`.
+    fn take_limits(&mut self, number: u64, words: &[u8]) -> Result<bool, ScriptFault>
+        ensures ok { IfOk result (λ begins. limits_taken self.old number (limits_read (words_of words.now)) ≡ taken_as begins self.new) }
+        ensures err { IfErr result (StopsAt (limits_taken self.old number (limits_read (words_of words.now)))) }
+    {
+        match read_limits(words) {
+            Some(limits) => {
+                self.limits = limits;
+                self.stage = Stage::Limited;
+                Ok(false)
+            }
+            None => Err(fault_at(number, ScriptFaultKind::BadLimits)),
+        }
+    }
+
+    /// The world that begins behind the line with this number.
+    pub fn begin(self, alloc: Global, number: u64) -> Result<World, ScriptFault>
+        ensures opening { IfOk result (λ world. opening_read self.said ≡ Ok world.opening) }
+        ensures world { IfOk result (λ world. world ≡ opening_of world.opening) }
+        ensures err { IfErr result (λ fault. IsFaultOr fault (opening_read self.said)) }
     {
         let Heading {
-            part: _,
+            stage: _,
+            within: _,
             limits,
-            keys,
+            master,
+            master_first,
+            maps,
         } = self;
-        World::first(alloc, limits, entry.point, entry.timeout, keys)
+        let master = match master {
+            Some(master) => master,
+            None => empty_master(alloc, number)?,
+        };
+        let maps = read_maps(alloc, &maps, master_first, master.entries(), number)?;
+        match World::new(alloc, limits, master, maps) {
+            Ok(world) => Ok(world),
+            Err(_) => Err(fault_at(number, ScriptFaultKind::NoMemory)),
+        }
     }
 
-    /// The first line of the section that it is in, if it is in one.
+    /// The first line of the section that the lines are in, if they are in one.
     pub fn section(&self) -> Option<u64>
-        ensures { result ≡ section_of self.now.part }
+        ensures { result ≡ first_open self.now.within }
     {
-        section_of(&self.part)
+        match &self.within {
+            Some(section) => Some(section.first()),
+            None => None,
+        }
+    }
+}
+
+/// Whether the section may stand there: a second master section may not, and nor may one behind a
+/// map section.
+fn may_open(stage: &Stage, section: &Section) -> bool
+    ensures { result ≡ may_open stage.now section.now }
+{
+    match stage {
+        Stage::Mastered => section.is_map(),
+        Stage::Start | Stage::Limited => true,
+    }
+}
+
+fn is_start(stage: &Stage) -> bool
+    ensures { result ≡ is_start stage.now }
+{
+    match stage {
+        Stage::Start => true,
+        Stage::Limited | Stage::Mastered => false,
+    }
+}
+
+/// What stands behind the word `limits`, if that is the first.
+fn behind_limits(line: &[u8]) -> Option<&[u8]>
+    ensures none { IfNone result (is_limits (words_of line.now) ≡ false) }
+    ensures first { IfSome result (λ words. is_limits (words_of line.now) ≡ true) }
+    ensures others { IfSome result (λ words. words_of words.now ≡ drop 1 (words_of line.now)) }
+{
+    let (word, words) = split_word(line)?;
+    if !is_word(word, b"limits") {
+        return None;
+    }
+    Some(words)
+}
+
+/// The master map of a section. Out of memory is told at the line `number`.
+fn read_master(alloc: Global, section: &Section, number: u64) -> Result<Master, ScriptFault>
+    ensures ok { IfOk result (λ master. master_in section.now.first (master_read section.now.text) ≡ Ok master) }
+    ensures lines { IfOk result (StandWithin (2 ^ 63)) }
+    ensures err { IfErr result (λ fault. IsFaultOr fault (master_in section.now.first (master_read section.now.text))) }
+{
+    match Master::read(alloc, section.text()) {
+        Ok(master) => Ok(master),
+        Err(fault) => match fault.kind {
+            MasterFaultKind::NoMemory => Err(fault_at(number, ScriptFaultKind::NoMemory)),
+            kind => Err(fault_in(
+                section.first(),
+                fault.line,
+                ScriptFaultKind::BadMaster { kind },
+            )),
+        },
+    }
+}
+
+/// The master map of a script that has no master section.
+fn empty_master(alloc: Global, number: u64) -> Result<Master, ScriptFault>
+    ensures ok { IfOk result (λ master. master ≡ []) }
+    ensures err { IfErr result (λ fault. fault.kind ≡ NoMemory) }
+{
+    match Master::read(alloc, b"") {
+        Ok(master) => Ok(master),
+        Err(_) => Err(fault_at(number, ScriptFaultKind::NoMemory)),
     }
 }

@@ -22,7 +22,7 @@ pub fn read_all<R: Read>(alloc: Global, reader: &mut R) -> Input
     ensures read { Consumes (R.remaining reader.old) (R.remaining reader.new) result.text.items }
     ensures end { IfNone result.broke (IsAtEnd (R.remaining reader.new)) }
     ensures kind { IfSome result.broke IsReadFault }
-    ensures short { vec_len result.text < 2 ^ 63 }
+    ensures short { vec_len result.text < 2 ^ 62 }
 {
     let mut text = Vec::new(alloc);
     let mut buffer = [0; 4096];

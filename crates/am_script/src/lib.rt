@@ -5,13 +5,15 @@
 pub mod answer_line;
 pub mod event_line;
 pub mod fault;
-pub mod head;
 pub mod heading;
 pub mod input;
+pub mod limits;
 pub mod line;
+pub mod maps;
 pub mod number;
 pub mod output;
 pub mod play;
+pub mod section;
 pub mod turn;
 
 pub use fault::{ScriptFault, ScriptFaultKind};

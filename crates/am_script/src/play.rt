@@ -2,7 +2,6 @@
 
 ghost use Rattle.std.specs.Prelude.{◌≡◌, ◌⊎◌, ◌+◌, ◌<◌, ◌≤◌, ◌^◌, length, option_copied, None, IfOk, IfErr, OnOk};
 ghost use Rattle.am_script.specs.Lines.{lines_of, lines_in, size_in};
-ghost use Rattle.am_script.specs.Heading.{no_head};
 ghost use Rattle.am_script.specs.Read.{cut_kind};
 ghost use Rattle.am_script.specs.Script.{script_from, events_from};
 ghost use Rattle.am_script.specs.Played.{AllAnswered, Stops, RanOut, IsPlayed, IsStopped, PlaysInput, StopsInput, end_of_head};
@@ -68,10 +67,10 @@ fn play_text<W: Write>(
     broke: Option<ScriptFaultKind>,
     writer: &mut W,
 ) -> Result<Summary, ScriptFault>
-    requires { length text.now < 2 ^ 63 }
+    requires { length text.now < 2 ^ 62 }
     ensures whole { OnOk result (broke ≡ None) }
-    ensures ok { IfOk result (IsPlayed (script_from broke no_head 0 (lines_of text.now)) (W.contents writer.old) (W.contents writer.new)) }
-    ensures err { IfErr result (IsStopped (script_from broke no_head 0 (lines_of text.now)) (W.contents writer.old) (W.contents writer.new)) }
+    ensures ok { IfOk result (IsPlayed (script_from broke (lines_of text.now)) (W.contents writer.old) (W.contents writer.new)) }
+    ensures err { IfErr result (IsStopped (script_from broke (lines_of text.now)) (W.contents writer.old) (W.contents writer.new)) }
 {
     let mut heading = Heading::new(alloc);
     let mut rest = Some(text);
@@ -79,18 +78,15 @@ fn play_text<W: Write>(
     while let Some(here) = rest {
         let (line, after) = split_line(here);
         number += 1;
-        match heading.take_line(number, line) {
-            Ok(None) => rest = after,
-            Ok(Some(entry)) => {
-                return match heading.begin(alloc, entry) {
+        match heading.take_line(alloc, number, line) {
+            Ok(false) => rest = after,
+            Ok(true) => {
+                return match heading.begin(alloc, number) {
                     Ok(world) => play_events(alloc, world, after, number, broke, writer),
-                    Err(_) => Err(ScriptFault {
-                        line: number,
-                        kind: ScriptFaultKind::NoMemory,
-                    }),
+                    Err(fault) => Err(fault),
                 };
             }
-            Err(kind) => return Err(ScriptFault { line: number, kind }),
+            Err(fault) => return Err(fault),
         }
     }
     end_head(broke, heading.section(), number)

@@ -3,6 +3,10 @@
 #![tactic(auto)]
 
 #[cfg(test)]
+mod head_faults;
+#[cfg(test)]
+mod heads;
+#[cfg(test)]
 mod tests;
 
 use am_script::run_script;

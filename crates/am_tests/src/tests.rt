@@ -1,25 +1,27 @@
 //! Faults, each at its line, with the answers before it kept; readers, writers and allocations
 //! that fail.
 
+use am_map::MapFaultKind;
+use am_master::MasterFaultKind;
 use am_script::{ScriptFault, ScriptFaultKind, Summary, run_script};
-use std::alloc::Global;
+use std::alloc::{AllocError, Global};
 use std::io::{self, Read, Write};
 use std::test::Fail;
 
 const HEAD: &[u8] = b"master\n/auto auto.home\nend\nmap auto.home\nhome srv:/home\nend\nevents\n";
 
-fn fault(line: u64, kind: ScriptFaultKind) -> Option<ScriptFault> {
+pub fn fault(line: u64, kind: ScriptFaultKind) -> Option<ScriptFault> {
     Some(ScriptFault { line, kind })
 }
 
-fn play(alloc: Global, script: &[u8]) -> (Option<ScriptFault>, Vec<u8>) {
+pub fn play(alloc: Global, script: &[u8]) -> (Option<ScriptFault>, Vec<u8>) {
     let mut output = Vec::new(alloc);
     let mut reader = script;
     let fault = run_script(alloc, &mut reader, &mut output).err();
     (fault, output)
 }
 
-fn joined(alloc: Global, parts: &[&[u8]]) -> Result<Vec<u8>, Fail> {
+pub fn joined(alloc: Global, parts: &[&[u8]]) -> Result<Vec<u8>, Fail> {
     let mut text = Vec::new(alloc);
     for part in parts {
         text.extend_from_slice(part)?;
@@ -37,6 +39,21 @@ fn faults_have_numbers_and_words(rt: HostRuntime) -> Result<(), Fail> {
     for (kind, number, text) in [
         (ScriptFaultKind::BadSection, 1, "line 5: BadSection"),
         (ScriptFaultKind::BadLimits, 2, "line 5: BadLimits"),
+        (
+            ScriptFaultKind::BadMaster {
+                kind: MasterFaultKind::BadTimeout,
+            },
+            3,
+            "line 5: BadTimeout",
+        ),
+        (
+            ScriptFaultKind::BadMap {
+                kind: MapFaultKind::NoLocation,
+            },
+            4,
+            "line 5: NoLocation",
+        ),
+        (ScriptFaultKind::NoSuchMap, 5, "line 5: NoSuchMap"),
         (ScriptFaultKind::BadEvent, 6, "line 5: BadEvent"),
         (ScriptFaultKind::LongLine, 7, "line 5: LongLine"),
         (ScriptFaultKind::NoMemory, 8, "line 5: NoMemory"),
@@ -63,85 +80,6 @@ fn lines_and_refusals_are_counted(rt: HostRuntime) -> Result<(), Fail> {
         })
     );
     Ok(())
-}
-
-#[test]
-fn heads_that_are_none(rt: HostRuntime) {
-    let bad = ScriptFaultKind::BadSection;
-    let limits = ScriptFaultKind::BadLimits;
-    for (script, line, kind) in [
-        (b"events\n".as_slice(), 1, bad),
-        (b"end\n".as_slice(), 1, bad),
-        (b"\n# a\nmaster x\n".as_slice(), 3, bad),
-        (b"master\nend\n".as_slice(), 2, bad),
-        (b"master\n/a m\n/b n\n".as_slice(), 3, bad),
-        (b"master\n/a m\n end\n".as_slice(), 3, bad),
-        (b"master\n/a\nend\n".as_slice(), 2, bad),
-        (b"master\na m\n".as_slice(), 2, bad),
-        (b"master\n/ m\n".as_slice(), 2, bad),
-        (b"master\n/- m\n".as_slice(), 2, bad),
-        (b"master\n/a m --timeout=\n".as_slice(), 2, bad),
-        (b"master\n/a m --timeout=4294967296\n".as_slice(), 2, bad),
-        (b"master\n/a m -t=5\n".as_slice(), 2, bad),
-        (b"master\n/a m\nend\nmap n\n".as_slice(), 4, bad),
-        (b"master\n/a m\nend\nevents\n".as_slice(), 4, bad),
-        (b"master\n/a m\nend\nlimits 1 1 1\n".as_slice(), 4, bad),
-        (b"master\n/a m\nend\nmap m\nk\n".as_slice(), 5, bad),
-        (b"master\n/a m\nend\nmap m\nk -o\n".as_slice(), 5, bad),
-        (b"master\n/a m\nend\nmap m\nk a:b\n".as_slice(), 5, bad),
-        (b"master\n/a m\nend\nmap m\nk a:/b c\n".as_slice(), 5, bad),
-        (b"master\n/a m\nend\nmap m\n.. a:/b\n".as_slice(), 5, bad),
-        (b"master\n/a m\nend\nmap m\nend\nmap m\n".as_slice(), 6, bad),
-        (
-            b"master\n/a m\nend\nmap m\nend\nevents x\n".as_slice(),
-            6,
-            bad,
-        ),
-        (b"limits 1 1 1\nlimits 1 1 1\n".as_slice(), 2, bad),
-        (b"limits 1 1\n".as_slice(), 1, limits),
-        (b"limits 1 1 1 1\n".as_slice(), 1, limits),
-        (b"limits 0 1 1\n".as_slice(), 1, limits),
-        (b"limits 1 0 1\n".as_slice(), 1, limits),
-        (b"limits 1 1 0\n".as_slice(), 1, limits),
-        (b"limits 1 65537 1\n".as_slice(), 1, limits),
-        (b"limits 4294967296 1 1\n".as_slice(), 1, limits),
-        (b"limits 01 1 1\n".as_slice(), 1, limits),
-        (b"limits +1 1 1\n".as_slice(), 1, limits),
-        (b"limits 1 1 4294967296\n".as_slice(), 1, limits),
-    ] {
-        let (got, output) = play(rt.alloc(), script);
-        assert_eq!(rt; got, fault(line, kind), "at {script:?}");
-        assert_eq!(rt; output.len(), 0);
-    }
-}
-
-#[test]
-fn heads_that_end_early(rt: HostRuntime) {
-    let bad = ScriptFaultKind::BadSection;
-    for (script, want) in [
-        (b"".as_slice(), None),
-        (b"\n \t\n# x".as_slice(), None),
-        (b"limits 4294967295 65536 4294967295".as_slice(), None),
-        (b"master".as_slice(), fault(1, bad)),
-        (b"\nmaster\n/a m\n".as_slice(), fault(2, bad)),
-        (b"master\n/a m\nend".as_slice(), None),
-        (
-            b"master\n/a m\nend\n\nmap m\nk a:/b\n".as_slice(),
-            fault(5, bad),
-        ),
-        (
-            b"master\n/a m --timeout=0\nend\nmap m\n # k\n\nk -o,p :/b\nend\n".as_slice(),
-            None,
-        ),
-        (
-            b"master\n/a m\nend\nmap m\nend\n\tevents \n".as_slice(),
-            None,
-        ),
-    ] {
-        let (got, output) = play(rt.alloc(), script);
-        assert_eq!(rt; got, want, "at {script:?}");
-        assert_eq!(rt; output.len(), 0);
-    }
 }
 
 #[test]
@@ -265,8 +203,8 @@ fn packets_as_hex(rt: HostRuntime) -> Result<(), Fail> {
     Ok(())
 }
 
-/// Cut anywhere, a script ends well or in a fault of its own, and its output is a beginning of the
-/// whole one's, but for the last line.
+/// Cut anywhere behind its head, a script ends well or in its last line's fault, and its output is
+/// a beginning of the whole one's, but for the last line.
 #[test]
 fn a_script_cut_at_every_byte(rt: HostRuntime) -> Result<(), Fail> {
     let alloc = rt.alloc();
@@ -276,11 +214,10 @@ fn a_script_cut_at_every_byte(rt: HostRuntime) -> Result<(), Fail> {
     )?;
     let script = script.as_slice();
     let (_, whole) = play(alloc, script);
-    for len in 0..script.len() {
+    for len in HEAD.len()..script.len() {
         let (got, output) = play(alloc, &script[..len]);
         if let Some(ScriptFault { kind, .. }) = got {
-            let own = kind == ScriptFaultKind::BadSection || kind == ScriptFaultKind::BadEvent;
-            assert!(rt; own, "at {len}");
+            assert_eq!(rt; kind, ScriptFaultKind::BadEvent, "at {len}");
         }
         let lines = before_last_line(output.as_slice());
         assert!(rt; whole.as_slice().starts_with(lines), "at {len}");
@@ -384,5 +321,61 @@ fn a_writer_that_takes_so_many_bytes(rt: HostRuntime) -> Result<(), Fail> {
         assert_eq!(rt; got, want, "at {room}");
         assert_eq!(rt; writer.bytes.as_slice(), &whole[..room], "at {room}");
     }
+    Ok(())
+}
+
+/// A script that says each event twice: the second time it is refused, unless the first time it
+/// found no memory.
+const TWICE: &[u8] = b"master\n/auto auto.home\nend\nmap auto.home\nhome srv:/home\nend\nevents\n\
+    attach /auto\nattach /auto\nwalk 7 0 /auto/home 5 room\nwalk 7 0 /auto/home 5 room\n\
+    deliver 1\ndeliver 1\nact 1 ok\nact 1 ok\nact 1 ok\nact 1 ok\nact 1 ok\n\
+    resume 7 6 room\nresume 7 6 room\n";
+
+/// What it does, refusals left out.
+const DONE: [&[u8]; 8] = [
+    b"fs 2 attach 1 mount 2",
+    b"wait 1",
+    b"job 1",
+    b"did mkdir",
+    b"did mount 3",
+    b"did record",
+    b"did reply",
+    b"at 3 /",
+];
+
+/// Room for all that it writes, tried again where there was no memory for it.
+fn room_in_the_end(alloc: Global) -> Result<Vec<u8>, AllocError> {
+    match Vec::with_capacity(alloc, 256) {
+        Err(_) => Vec::with_capacity(alloc, 256),
+        room => room,
+    }
+}
+
+/// A run of that script, made again where there was no memory for its head or its world.
+fn run_in_the_end(alloc: Global, output: &mut Vec<u8>) -> Option<ScriptFault> {
+    match run_script(alloc, &mut &*TWICE, output) {
+        Err(fault) if fault.kind == ScriptFaultKind::NoMemory && output.is_empty() => {
+            run_script(alloc, &mut &*TWICE, output).err()
+        }
+        result => result.err(),
+    }
+}
+
+/// Any allocation may be refused: a script begins again, and an event that is refused has changed
+/// nothing and is done when it is said again.
+#[test]
+fn memory_may_run_out_in_a_script(rt: HostRuntime) -> Result<(), Fail> {
+    let mut output = room_in_the_end(rt.alloc())?;
+    let fault = run_in_the_end(rt.alloc(), &mut output);
+    assert_eq!(rt; fault, None);
+    let mut done = 0;
+    for line in output.split(|b| *b == b'\n') {
+        if !line.is_empty() && !line.starts_with(b"err") {
+            assert!(rt; done < DONE.len());
+            assert_eq!(rt; line, DONE[done]);
+            done += 1;
+        }
+    }
+    assert_eq!(rt; done, DONE.len());
     Ok(())
 }

@@ -40,12 +40,9 @@ fn statuses_and_faults(rt: HostRuntime) -> Result<(), Fail> {
     let alloc = rt.alloc();
     let (status, output, errors) = run(alloc, &["cli", "script"], b"# nothing\n")?;
     assert_eq!(rt; (status, output.len(), errors.len()), (0, 0, 0));
-    let (status, output, errors) = run(alloc, &["cli", "script"], b"\nmaster\nx\n")?;
+    let (status, output, errors) = run(alloc, &["cli", "script"], b"\nmaster\nx\nend\n")?;
     assert_eq!(rt; (status, output.len()), (1, 0));
-    assert_eq!(rt;
-        errors.as_slice(),
-        b"fault: line 3: BadSection\n".as_slice()
-    );
+    assert_eq!(rt; errors.as_slice(), b"fault: line 3: BadPoint\n".as_slice());
     let (status, output, errors) = run(alloc, &["cli", "--help"], b"")?;
     assert_eq!(rt; (status, output.len()), (2, 0));
     assert_eq!(rt; errors.as_slice(), b"fault: Usage\n".as_slice());
