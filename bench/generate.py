@@ -1,14 +1,18 @@
 #!/usr/bin/env python3
-"""Writes a script of so many keys, or the answers that it must get.
+"""Writes a script of so many keys or lines, or the answers that it must get.
 
 usage: generate.py one-by-one|all-first KEYS script|answers
+       generate.py map|master LINES script|answers
 
-Key I is walked to by walker I, which waits on token I. The same arguments give the same bytes.
+Key I is walked to by walker I, which waits on token I. Of a long map, or of a long master map with
+a map for each of its lines, the last line is attached, walked to and begun to be served, so that
+the answers tell whether it was read. The same arguments give the same bytes.
 """
 
 import sys
 
 SHAPES = ("one-by-one", "all-first")
+HEADS = ("map", "master")
 
 
 def head(shape, keys):
@@ -63,14 +67,52 @@ def events(shape, keys):
             yield from serve(i)
 
 
+def long_map(lines):
+    yield "master"
+    yield "/auto auto.keys --timeout=10"
+    yield "end"
+    yield "map auto.keys"
+    for i in range(1, lines + 1):
+        yield f"{name(i)} -fstype=nfs server:/export/{name(i)}"
+    yield "end"
+    yield "events"
+
+
+def long_master(lines):
+    yield "master"
+    for i in range(1, lines + 1):
+        yield f"/auto/{name(i)} file:auto.{name(i)} --timeout 10"
+    yield "end"
+    for i in range(1, lines + 1):
+        yield f"map auto.{name(i)}"
+        yield f"home -fstype=nfs server:/export/{name(i)}"
+        yield "end"
+    yield "events"
+
+
+def last_line(shape, lines):
+    """Each event with its answer."""
+    point = "/auto" if shape == "map" else f"/auto/{name(lines)}"
+    key = name(lines) if shape == "map" else "home"
+    yield f"attach {point}", "fs 2 attach 1 mount 2"
+    yield f"walk 1 0 {point}/{key} 100 room", "wait 1"
+    yield "deliver 1", "job 1"
+    yield "act 1 ok", "did mkdir"
+
+
 def script(shape, keys):
+    if shape in HEADS:
+        yield from long_map(keys) if shape == "map" else long_master(keys)
+        for event, _ in last_line(shape, keys):
+            yield event
+        return
     yield from head(shape, keys)
     for event, _ in events(shape, keys):
         yield event
 
 
 def answers(shape, keys):
-    for _, answer in events(shape, keys):
+    for _, answer in last_line(shape, keys) if shape in HEADS else events(shape, keys):
         yield answer
 
 
@@ -79,7 +121,7 @@ def text(lines):
 
 
 def main(words):
-    if len(words) != 3 or words[0] not in SHAPES or not words[1].isdigit() \
+    if len(words) != 3 or words[0] not in SHAPES + HEADS or not words[1].isdigit() \
             or words[2] not in ("script", "answers"):
         sys.exit(__doc__)
     tell = script if words[2] == "script" else answers

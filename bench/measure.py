@@ -1,7 +1,9 @@
 #!/usr/bin/env python3
-"""Measures a built program and prints a table.
+"""Measures a built program and prints two tables.
 
 usage: measure.py PROGRAM [RUNS [KEYS..]]
+
+The second table, of long heads, has the same sizes each time.
 
 Each run's answers are compared with those that the script must get. Where one line differs,
 nothing is printed for it, and the exit status is 1.
@@ -18,6 +20,7 @@ import generate
 
 RUNS = 15
 KEYS = (10, 100, 1000)
+LINES = {"map": (500, 5000, 50000), "master": (10, 100, 1000)}
 # Short runs are repeated so many times more often.
 SHORT = 10
 ATTACH = b"\nattach /auto\n"
@@ -83,6 +86,7 @@ def main(words):
     row("---", *["---:"] * 9)
     with tempfile.TemporaryDirectory() as room:
         cpu, clock = medians(program, room, b"", b"", runs * SHORT)
+        cpu_of_empty = cpu
         row("empty", "0", "0", str(runs * SHORT), ms(clock), ms(cpu), "", "", "", "")
         for shape in generate.SHAPES:
             before = None
@@ -103,6 +107,25 @@ def main(words):
                     f"{1 / each:.0f}" if known else "?",
                     f"{each / before:.1f}" if known and before else "")
                 before = each if known else None
+        heads(program, room, runs, cpu_of_empty)
+
+
+def heads(program, room, runs, start_up):
+    print()
+    row("head", "lines", "bytes", "runs", "clock ms", "cpu ms", "ns/byte", "growth")
+    row("---", *["---:"] * 7)
+    for shape in generate.HEADS:
+        before = None
+        for lines in LINES[shape]:
+            script = generate.text(generate.script(shape, lines))
+            wanted = generate.text(generate.answers(shape, lines))
+            cpu, clock = medians(program, room, script, wanted, runs)
+            each = (cpu - start_up) / len(script)
+            known = each > 0
+            row(shape, str(lines), str(len(script)), str(runs), ms(clock), ms(cpu),
+                f"{each * 1e9:.1f}" if known else "?",
+                f"{each / before:.1f}" if known and before else "")
+            before = each if known else None
 
 
 if __name__ == "__main__":
