@@ -28,8 +28,9 @@ abbrev pub up : PeerGroups → Option ℕ → List ℕ
 up s None = []
 up s (Some g) = up_within (suc g) s (Some g)
 
--- own: in place of a master without members the first group up its chain of masters that has
--- members, else none
+-- own (docs/DECISIONS.md, "A group without members is gone"):
+-- in place of a master without members the first group up its chain of masters that has members,
+-- else none
 abbrev pub lifted : PeerGroups → Option ℕ → Option ℕ
 lifted s master = find (has_members s.members) (up s master)
 

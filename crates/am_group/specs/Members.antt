@@ -33,7 +33,8 @@ abbrev pub with_member : MemberRow → PeerGroups → PeerGroups
 with_member row s =
     record s { members = below row.mount s.members ++ row ∷ above row.mount s.members }
 
--- own: there may be no master without members
+-- own (docs/DECISIONS.md, "A fresh group's master has members"):
+-- there may be no master without members
 abbrev pub may_be_master : PeerGroups → Option ℕ → Bool
 may_be_master s None = true
 may_be_master s (Some g) = has_members s.members g

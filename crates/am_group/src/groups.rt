@@ -156,8 +156,8 @@ impl Groups {
         }
     }
 
-    /// A fresh peer group, of the next number. Own: its master must have members already, so
-    /// that no master is ever without.
+    /// A fresh peer group, of the next number. Its master must have members already, so that no
+    /// master is ever without: own (docs/DECISIONS.md, "A fresh group's master has members").
     pub fn fresh(&mut self, master: Option<GroupId>) -> Result<GroupId, Errno>
         ensures refusal { RefusedAs (fresh_refusal master self.old) result }
         ensures number { IfOk result (λ group. group ≡ self.old.last_group + 1) }
@@ -178,7 +178,8 @@ impl Groups {
         Ok(group)
     }
 
-    /// A mount that isn't there yet. Own: a slave's master must have members already.
+    /// A mount that isn't there yet. A slave's master must have members already:
+    /// own (docs/DECISIONS.md, "A fresh group's master has members").
     pub fn add(&mut self, mount: MountId, membership: Membership) -> Result<(), Errno>
         ensures refusal { RefusedAs (add_refusal mount membership self.old) result }
         ensures ok { OnOk result (self.new ≡ with_member (row_with membership mount) self.old) }

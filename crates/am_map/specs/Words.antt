@@ -11,7 +11,8 @@ use Rattle.am_map.specs.declared.fault.MapFaultKind.TheVariants.{BadKey}
 use Rattle.am_map.specs.declared.kind.MapKind.{MapKind}
 use Rattle.am_map.specs.declared.kind.MapKind.TheVariants.{Indirect, Direct}
 
--- own: no variables, quotes or escapes, so no `$`, `"` or `\`, and no zero byte
+-- own (docs/DECISIONS.md, "Maps are plain"): no variables, quotes or escapes, so no `$`, `"`
+-- or `\`, and no zero byte
 abbrev pub is_plain_byte : ℕ → Bool
 is_plain_byte b = not (b == 36) && not (b == 34) && not (b == 92) && not (b == 0)
 
@@ -39,7 +40,7 @@ key_read Direct word = if is_plain word then text_read (path_read word) else Err
 abbrev pub is_options : List ℕ → Bool
 is_options word = is_plain word && not (length word == 1)
 
--- own: a single host, so no `/`, `,`, `(` or `[`
+-- own (docs/DECISIONS.md, "Maps are plain"): a single host, so no `/`, `,`, `(` or `[`
 abbrev pub is_host_byte : ℕ → Bool
 is_host_byte b = not (b == 47) && not (b == 44) && not (b == 40) && not (b == 91)
 

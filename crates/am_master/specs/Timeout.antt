@@ -36,6 +36,6 @@ abbrev pub timeout_of : ℕ → List (List ℕ) → Result ℕ MasterFaultKind
 timeout_of timeout [] = Ok timeout
 timeout_of timeout (value ∷ values) = if is_seconds value then timeout_of (decimal value) values else Err BadTimeout
 
--- own: 300 seconds where no option says another timeout
+-- own (docs/DECISIONS.md, "A timeout that no option tells is 300 seconds")
 abbrev pub timeout_read : List (List ℕ) → Result ℕ MasterFaultKind
 timeout_read options = timeout_of 300 (timeout_values options)

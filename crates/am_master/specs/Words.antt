@@ -37,7 +37,7 @@ some_name [] = Err NoMap
 some_name (b ∷ bytes) = Ok (b ∷ bytes)
 
 -- what the second word is read as: the name of a map, behind its type if there is a colon.
--- own: no built-in maps, which begin with a dash.
+-- own (docs/DECISIONS.md, "Maps are plain"): no built-in maps, which begin with a dash.
 abbrev pub name_read : List ℕ → Result (List ℕ) MasterFaultKind
 name_read word =
     if begins_with 45 word then Err BadType

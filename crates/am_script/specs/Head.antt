@@ -22,7 +22,7 @@ pub record Head : Type 0 where
   pub master : Mastered
   pub maps : List Section
 
--- own: a head without a master section has an empty master map
+-- own (docs/DECISIONS.md, "A script without a master section has an empty master map")
 abbrev pub no_head : Head
 no_head = record { limits = default_limits; master = record { first = 0; rows = [] }; maps = [] }
 

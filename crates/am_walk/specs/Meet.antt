@@ -38,7 +38,7 @@ at_directory scene row trigger =
 -- a mount is pending, and the walk waits;
 -- something is mounted on it here, and the walk passes it;
 -- the file system is catatonic (autofs.rst, "Catatonic mode");
--- own: something is mounted on it at the daemon's mount alone, ELOOP;
+-- own (docs/DECISIONS.md, "Something mounted at the daemon's mount alone is ELOOP");
 -- else the daemon is notified.
 abbrev pub at_trap : List OpenToken → Scene → Autofs → Trigger → ℕ → List (List ℕ) → Next
 at_trap tokens scene row trigger mount place =
@@ -50,8 +50,8 @@ at_trap tokens scene row trigger mount place =
     then nexts.Halts (stops.Refuse ELOOP)
     else nexts.Halts (stops.Missing trigger))))
 
--- own: with the traps off nothing blocks; what is mounted is entered, and so is a directory that
--- is made
+-- with the traps off nothing blocks; what is mounted is entered, and so is a directory that is
+-- made: own (docs/DECISIONS.md, "An administrator's path is followed with the traps off")
 abbrev pub at_trigger : Option (List OpenToken) → Scene → Autofs → Trigger → ℕ → List (List ℕ) → Next
 at_trigger (Some tokens) scene row trigger mount place = at_trap tokens scene row trigger mount place
 at_trigger None scene row trigger mount place =

@@ -20,7 +20,8 @@ abbrev pub with_traps : MountTable → TriggerRows → WaitRows → Scene
 with_traps subtree triggers waits =
     record { mounts = subtree.rows; triggers = triggers; tokens = Some waits.tokens }
 
--- own: what an administrator looks at, for whom they are off
+-- what an administrator looks at:
+-- own (docs/DECISIONS.md, "An administrator's path is followed with the traps off")
 abbrev pub without_traps : MountTable → TriggerRows → Scene
 without_traps subtree triggers =
     record { mounts = subtree.rows; triggers = triggers; tokens = None }
@@ -31,8 +32,8 @@ autofs_at scene mount =
     option_and_then (λ fs. autofs_of scene.triggers fs)
     (option_map (λ row. row.fs) (mount_row scene.mounts mount))
 
--- Own: a plain file system has every name as a directory. Below an autofs there are names at the
--- root of an indirect one alone, where nothing is mounted.
+-- own (docs/DECISIONS.md, "A plain file system has every name as a directory")
+-- Below an autofs there are names at the root of an indirect one alone, where nothing is mounted.
 abbrev pub has_names : Option Autofs → List (List ℕ) → Bool
 has_names None place = true
 has_names (Some row) [] = not row.direct

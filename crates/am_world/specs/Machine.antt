@@ -93,7 +93,7 @@ abbrev pub unless_refused : Option Errno → State → Outcome → Outcome
 unless_refused (Some e) s done = refused s e
 unless_refused None s done = done
 
--- own: a world has one autofs at most, and that is an indirect one
+-- own (docs/DECISIONS.md, "A world has one autofs at most, and that is an indirect one")
 abbrev pub is_beyond_one : State → List (List ℕ) → Bool
 is_beyond_one s path = is_direct_at s.opening path || not (length s.kernel.autofs == 0)
 
@@ -202,7 +202,8 @@ or_failed s now (Fails e) = failed s now e
 abbrev pub most_begins : ℕ
 most_begins = 40
 
--- the walk begins once more from its first name; own: the 41st time it doesn't
+-- the walk begins once more, but not the 41st time:
+-- own (docs/DECISIONS.md, "A walk begins again from its first name")
 abbrev pub again : State → Begin → Outcome
 again s begin =
     if nat_le most_begins begin.begins then failed s begin.moment ELOOP

@@ -317,7 +317,7 @@ impl Tables {
         if autofs_at(&self.kernel.mounts, &self.kernel.autofs, at.mount).is_some() {
             return Ok(refuse(Errno::EPERM));
         }
-        // Own: a world has one autofs at most, and that is an indirect one.
+        // own (docs/DECISIONS.md, "A world has one autofs at most, and that is an indirect one")
         if is_direct || !self.kernel.autofs.is_empty() {
             return Ok(refuse(Errno::ENOSPC));
         }

@@ -112,8 +112,9 @@ impl Groups {
         Ok(())
     }
 
-    /// Makes the mount a slave of the peer group that it leaves (sharedsubtree.rst, 5c). Own: one
-    /// that was alone there is a slave of the group's master, if there is one.
+    /// Makes the mount a slave of the peer group that it leaves (sharedsubtree.rst, 5c). One
+    /// that was alone there is a slave of the group's master, if there is one:
+    /// own (docs/DECISIONS.md, "A shared mount that is alone in its group and becomes a slave").
     pub fn make_slave(&mut self, alloc: Global, mount: MountId) -> Result<(), Errno>
         ensures refusal { RefusedAs (change_refusal Change.MakeSlave mount self.old) result }
         ensures ok { OnOk result (self.new ≡ made_slave mount self.old) }

@@ -72,7 +72,7 @@ abbrev pub is_mounted_on : List MountRow → Trigger → Bool
 is_mounted_on mounts trigger = list_any (λ row. is_below mounts trigger row) mounts
 
 -- the attachment is current, the autofs is indirect, the directory is made, and nothing is
--- mounted on it anywhere (own)
+-- mounted on it: own (docs/DECISIONS.md, "A directory stays while something is mounted on it")
 abbrev pub rmdir_refusal : KernelState → ℕ → Trigger → Option Errno
 rmdir_refusal k attach trigger =
     if not (is_current k.autofs trigger.fs attach) then Some EPERM

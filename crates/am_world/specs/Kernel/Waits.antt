@@ -93,13 +93,13 @@ joined begin row passed k =
       tokens = with_waiter row.token begin.walker k.tokens;
     })
 
--- the name in a packet; own: `direct` where the trigger has none
+-- the name in a packet; own (docs/DECISIONS.md, "Packets"): `direct` where the trigger has none
 abbrev pub packet_name : Option (List ℕ) → List ℕ
 packet_name (Some name) = name
 packet_name None = 100 ∷ 105 ∷ 114 ∷ 101 ∷ 99 ∷ 116 ∷ []
 
--- the packet that asks for a mount (auto_fs.h, struct autofs_v5_packet); own: the numbers of the
--- file system, of its root and of the walker
+-- the packet that asks for a mount (auto_fs.h, struct autofs_v5_packet);
+-- own (docs/DECISIONS.md, "Packets"): the numbers of the file system, of its root and of the walker
 abbrev pub missing_packet : ℕ → ℕ → Trigger → Packet
 missing_packet token walker trigger = record {
   kind = kind_of Missing (is_none trigger.name);

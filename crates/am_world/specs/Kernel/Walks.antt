@@ -63,7 +63,9 @@ at_catatonic scene row trigger =
 
 -- At a trigger the first of these holds: it is expiring, and the walk waits; a mount is pending,
 -- and the walk waits; something is mounted here, and the walk passes; the file system is
--- catatonic; own: something is mounted at the daemon's mount alone, ELOOP; else the daemon is notified.
+-- catatonic;
+-- own (docs/DECISIONS.md, "Something mounted at the daemon's mount alone is ELOOP");
+-- else the daemon is notified.
 abbrev pub at_trigger : Scene → AutofsRow → Trigger → ℕ → List (List ℕ) → Next
 at_trigger scene row trigger mount place =
     if_open (open_on scene.tokens Expire trigger)
@@ -106,8 +108,9 @@ visited (suc steps) scene mount place passed =
 abbrev pub visit : Scene → ℕ → List (List ℕ) → List Trigger → Visit
 visit scene mount place passed = visited (length scene.mounts + 1) scene mount place passed
 
--- A plain file system has every name as a directory (own). Below an autofs there are names at
--- the root of an indirect one alone, since nothing is mounted where the walk stands.
+-- own (docs/DECISIONS.md, "A plain file system has every name as a directory")
+-- Below an autofs there are names at the root of an indirect one alone, since nothing is mounted
+-- where the walk stands.
 abbrev pub has_names : Option AutofsRow → List (List ℕ) → Bool
 has_names None place = true
 has_names (Some row) [] = not row.direct
@@ -130,7 +133,7 @@ from_root scene names (Some root) = walked scene names (visit scene root [] [])
 abbrev pub walk_of : Scene → ℕ → List (List ℕ) → Walked
 walk_of scene ns names = from_root scene names (root_of scene.mounts ns)
 
--- ---- own: an administrator's path is followed with the traps off
+-- ---- own (docs/DECISIONS.md, "An administrator's path is followed with the traps off")
 
 abbrev pub entered_on : Option ℕ → ℕ → List (List ℕ) → (ℕ → Position) → Position
 entered_on None mount place enter = record { mount = mount; place = place }
