@@ -19,12 +19,17 @@ def head(shape, keys):
     # By default 1024 walkers may wait at once.
     if shape == "all-first" and keys > 1024:
         yield f"limits 1000000 {keys} 4294967295"
+    yield from one_map(keys, "")
+
+
+def one_map(lines, options):
+    """A master map of one line, its map of so many lines with these options, and `events`."""
     yield "master"
     yield "/auto auto.keys --timeout=10"
     yield "end"
     yield "map auto.keys"
-    for i in range(1, keys + 1):
-        yield f"{name(i)} server:/export/{name(i)}"
+    for i in range(1, lines + 1):
+        yield f"{name(i)} {options}server:/export/{name(i)}"
     yield "end"
     yield "events"
 
@@ -67,17 +72,6 @@ def events(shape, keys):
             yield from serve(i)
 
 
-def long_map(lines):
-    yield "master"
-    yield "/auto auto.keys --timeout=10"
-    yield "end"
-    yield "map auto.keys"
-    for i in range(1, lines + 1):
-        yield f"{name(i)} -fstype=nfs server:/export/{name(i)}"
-    yield "end"
-    yield "events"
-
-
 def long_master(lines):
     yield "master"
     for i in range(1, lines + 1):
@@ -102,7 +96,7 @@ def last_line(shape, lines):
 
 def script(shape, keys):
     if shape in HEADS:
-        yield from long_map(keys) if shape == "map" else long_master(keys)
+        yield from one_map(keys, "-fstype=nfs ") if shape == "map" else long_master(keys)
         for event, _ in last_line(shape, keys):
             yield event
         return

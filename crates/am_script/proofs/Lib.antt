@@ -3,6 +3,7 @@ pub mod Cuts
 pub mod Going
 pub mod HeadSteps
 pub mod Heads
+pub mod IndexLemmas
 pub mod Inputs
 pub mod MapsLemmas
 pub mod Numerals

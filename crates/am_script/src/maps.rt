@@ -1,7 +1,8 @@
 //! The maps of a master's lines.
 
-ghost use Rattle.std.specs.Prelude.{◌≡◌, ◌≤◌, ◌^◌, length, Ok, IfOk, IfErr};
+ghost use Rattle.std.specs.Prelude.{◌≡◌, ◌≤◌, ◌^◌, ℕ, List, bytes_eq, length, Ok, IfOk, IfErr};
 ghost use Rattle.std.specs.Option.{option_copied};
+ghost use Rattle.indexmap.specs.IndexMap.{get_by};
 ghost use Rattle.am_map.specs.Grammar.{map_read};
 ghost use Rattle.am_master.specs.Grammar.{StandWithin};
 ghost use Rattle.am_script.specs.Fault.{IsFaultOr};
@@ -11,13 +12,25 @@ use crate::fault::{ScriptFault, ScriptFaultKind, fault_at};
 use crate::section::{Section, fault_in};
 use am_map::{Map, MapFaultKind, MapKind};
 use am_master::{MasterEntry, Point};
-use std::alloc::Global;
+use indexmap::IndexMap;
+use std::alloc::{AllocError, Global};
 
-/// The first section of this name.
-fn section_for<'a>(sections: &'a [Section], name: &[u8]) -> Option<&'a Section>
-    ensures { option_copied result ≡ section_for sections.now name.now }
+/// The sections of maps by their names, of those with one name the first.
+fn first_sections<'a>(
+    alloc: Global,
+    sections: &'a [Section],
+) -> Result<IndexMap<&'a [u8], &'a Section>, AllocError>
+    ensures { IfOk result (λ index. (name : List ℕ) → option_copied (get_by (λ key. bytes_eq name key.now) index) ≡ section_for sections.now name) }
 {
-    sections.iter().find(|section| section.is_named(name))
+    let mut index = IndexMap::with_capacity(alloc, sections.len())?;
+    for section in sections {
+        if let Some(name) = section.name() {
+            if !index.contains_key(name) {
+                index.insert(name, section)?;
+            }
+        }
+    }
+    Ok(index)
 }
 
 /// How the map of a point is read.
@@ -45,11 +58,15 @@ pub fn read_maps(
     ensures counted { IfOk result (λ maps. length maps.items ≡ length entries.now) }
     ensures err { IfErr result (λ fault. IsFaultOr fault (maps_read sections.now first entries.now)) }
 {
+    let Ok(index) = first_sections(alloc, sections) else {
+        return Err(fault_at(number, ScriptFaultKind::NoMemory));
+    };
     let Ok(mut maps) = Vec::with_capacity(alloc, entries.len()) else {
         return Err(fault_at(number, ScriptFaultKind::NoMemory));
     };
     for entry in entries {
-        match read_map(alloc, sections, first, entry, number) {
+        let section = index.get(entry.map.as_slice()).copied();
+        match read_map(alloc, section, first, entry, number) {
             Ok(map) => maps.push_reserved(map),
             Err(fault) => return Err(fault),
         }
@@ -57,20 +74,20 @@ pub fn read_maps(
     Ok(maps)
 }
 
-/// The map of a line of the master section.
+/// The map of a line of the master section, of which this is the section.
 fn read_map(
     alloc: Global,
-    sections: &[Section],
+    section: Option<&Section>,
     first: u64,
     entry: &MasterEntry,
     number: u64,
 ) -> Result<Map, ScriptFault>
     requires first { first ≤ 2 ^ 62 }
     requires line { entry.now.line ≤ 2 ^ 63 }
-    ensures ok { IfOk result (λ map. map_by (section_for sections.now entry.now.map) first entry.now ≡ Ok map) }
-    ensures err { IfErr result (λ fault. IsFaultOr fault (map_by (section_for sections.now entry.now.map) first entry.now)) }
+    ensures ok { IfOk result (λ map. map_by (option_copied section.entry) first entry.now ≡ Ok map) }
+    ensures err { IfErr result (λ fault. IsFaultOr fault (map_by (option_copied section.entry) first entry.now)) }
 {
-    match section_for(sections, entry.map.as_slice()) {
+    match section {
         None => Err(fault_in(first, entry.line, ScriptFaultKind::NoSuchMap)),
         Some(section) => read_section(alloc, section, kind_for(&entry.point), number),
     }

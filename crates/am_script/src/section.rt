@@ -5,7 +5,6 @@ ghost use Rattle.std.specs.Option.{option_copied};
 ghost use Rattle.am_script.specs.Fault.{fault_in};
 ghost use Rattle.am_script.specs.Head.{is_map};
 ghost use Rattle.am_script.specs.Lines.{words_of};
-ghost use Rattle.am_script.specs.Maps.{is_named};
 ghost use Rattle.am_script.specs.Sections.{is_end, are_only, map_name, section_opened, with_line};
 
 use crate::event_line::is_word;
@@ -78,13 +77,13 @@ impl Section {
         self.name.is_some()
     }
 
-    /// Whether it is that of the map of this name.
-    pub fn is_named(&self, name: &[u8]) -> bool
-        ensures { result ≡ is_named name.now self.now.name }
+    /// The name of its map; none for the master section.
+    pub fn name(&self) -> Option<&[u8]>
+        ensures { option_copied result ≡ self.now.name }
     {
         match &self.name {
-            None => false,
-            Some(other) => is_word(other.as_slice(), name),
+            None => None,
+            Some(name) => Some(name.as_slice()),
         }
     }
 
