@@ -222,27 +222,47 @@ fn points_that_look_direct(rt: HostRuntime) -> Result<(), Fail> {
     Ok(())
 }
 
-/// A line that is too long is told as the lines come, in a section and outside.
+/// A line of 8,193 bytes between these two texts.
+fn with_long_line(alloc: Global, before: &[u8], behind: &[u8]) -> Result<Vec<u8>, Fail> {
+    let long = [b'#'; 8193];
+    joined(alloc, &[before, &long, behind])
+}
+
+/// A line that is too long is told as the lines come, outside of sections.
 #[test]
 fn long_lines_in_a_head(rt: HostRuntime) -> Result<(), Fail> {
     let alloc = rt.alloc();
-    let long = [b'#'; 8193];
-    let kind = ScriptFaultKind::LongLine;
-    for (before, behind, line) in [
-        (b"".as_slice(), b"".as_slice(), 1),
-        (b"\nlimits 1 1 1\n", b"\nbad\n", 3),
-        (b"master\n/\n", b"\nend\n", 3),
-        (b"master\n/a m\nend\nmap m\n", b"\nend\n", 5),
-        (b"master\nend\n", b"", 3),
-    ] {
-        let script = joined(alloc, &[before, &long, behind])?;
-        let (got, output) = play(alloc, script.as_slice());
-        assert_eq!(rt; got, fault(line, kind), "at {before:?}");
-        assert_eq!(rt; output.len(), 0);
-    }
-    // What stands wrongly is told at its first line, before what it holds.
-    let script = joined(alloc, &[b"map m\nend\nmaster\n", &long])?;
-    let (got, _) = play(alloc, script.as_slice());
+    let script = with_long_line(alloc, b"\nlimits 1 1 1\n", b"\nbad\n")?;
+    let (got, output) = play(alloc, script.as_slice());
+    assert_eq!(rt; got, fault(3, ScriptFaultKind::LongLine));
+    assert_eq!(rt; output.len(), 0);
+    let script = with_long_line(alloc, b"master\nend\n", b"")?;
+    let (got, output) = play(alloc, script.as_slice());
+    assert_eq!(rt; got, fault(3, ScriptFaultKind::LongLine));
+    assert_eq!(rt; output.len(), 0);
+    Ok(())
+}
+
+/// And in a section, before what the section holds.
+#[test]
+fn long_lines_in_a_section(rt: HostRuntime) -> Result<(), Fail> {
+    let alloc = rt.alloc();
+    let script = with_long_line(alloc, b"master\n/\n", b"\nend\n")?;
+    let (got, output) = play(alloc, script.as_slice());
+    assert_eq!(rt; got, fault(3, ScriptFaultKind::LongLine));
+    assert_eq!(rt; output.len(), 0);
+    let script = with_long_line(alloc, b"master\n/a m\nend\nmap m\n", b"\nend\n")?;
+    let (got, output) = play(alloc, script.as_slice());
+    assert_eq!(rt; got, fault(5, ScriptFaultKind::LongLine));
+    assert_eq!(rt; output.len(), 0);
+    Ok(())
+}
+
+/// What stands wrongly is told at its first line, before what it holds.
+#[test]
+fn a_long_line_in_a_section_that_stands_wrongly(rt: HostRuntime) -> Result<(), Fail> {
+    let script = with_long_line(rt.alloc(), b"map m\nend\nmaster\n", b"")?;
+    let (got, _) = play(rt.alloc(), script.as_slice());
     assert_eq!(rt; got, fault(3, ScriptFaultKind::BadSection));
     Ok(())
 }
