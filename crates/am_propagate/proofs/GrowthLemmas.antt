@@ -71,7 +71,7 @@ IsKin t new fs g =
     ((t.groups.last_group < g) × (fs ≡ new))
 
 -- what comes: rows above all that are there, of the same mounts as the members, whose parents are
--- there; the peer groups that they name are of their file system, or new
+-- there and older; the peer groups that they name are of their file system, or new
 pub record ComesWell (t : MountTable) (rows : List MountRow) (members : List MemberRow) (groups : List GroupRow) (ns fs : ℕ) : Type 0 where
   pub rising : RiseFrom (t.last_mount + 1) rows
   pub sound : IsSound (all_added members groups t.groups)
@@ -79,6 +79,7 @@ pub record ComesWell (t : MountTable) (rows : List MountRow) (members : List Mem
   pub numbered : (m : ℕ) (row : MountRow) → mount_row rows m ≡ Some row → (m ≤ t.last_mount + length rows) × (row.ns ≤ ns)
   pub last_ns : t.last_ns ≤ ns
   pub parents : (m p : ℕ) (row : MountRow) → mount_row rows m ≡ Some row → IsOn p row → HasRow (IsIn row.ns) (t.rows ++ rows) p
+  pub older : (m p : ℕ) (row : MountRow) → mount_row rows m ≡ Some row → IsOn p row → p < m
   pub row_kin : (m h : ℕ) (member : MemberRow) (row : MountRow) → member_row members m ≡ Some member → mount_row rows m ≡ Some row → home_where member.group member.master ≡ Some h → IsKin t fs row.fs h
   pub group_kin : (h n : ℕ) (group : GroupRow) → group_row groups h ≡ Some group → group.master ≡ Some n → IsKin t fs fs n
 
@@ -203,6 +204,10 @@ module _ (t : MountTable) (whole : IsWhole t) (rows : List MountRow) (members : 
     parents = λ m p row e on. ⊎_elim
         (λ old. let parent = whole.parents m p row old on in (parent.0, old_row p parent.0 parent.1, parent.2))
         (λ new. well.parents m p row new.1 on)
+        (row_cases m row e);
+    older = λ m p row e on. ⊎_elim
+        (λ old. whole.older m p row old on)
+        (λ new. well.older m p row new.1 on)
         (row_cases m row e);
     one_fs = grown_fs;
   }

@@ -343,6 +343,13 @@ module _ (t : MountTable) (whole : IsWhole t) (ns : ℕ) where
           subst (λ (n : ℕ). mount_row (t.rows ++ rows) n ≡ Some (row_in (copy_number t.last_mount (mounts_in t ns)) (t.last_ns + 1) parent.0)) from.1 (copy_there from.0 parent.0 parent.1 (found_mount from.0 parent.0 parent.1) inside),
           sym (ap (λ (y : MountRow). y.ns) x.4),
         );
+    older = λ m q row e on.
+        let x = row_from m row e in
+        let from = mounted_on (copy_number t.last_mount (mounts_in t ns)) x.0.mountpoint q on.0 (sym (ap (λ (y : MountRow). y.mountpoint) x.4) ∙ on.1) in
+        let at : row.mount ≡ m = eqb-true row.mount m (found_passes (λ (r : MountRow). r.mount == m) rows row e) in
+        let is : m ≡ copy_number t.last_mount (mounts_in t ns) x.0.mount = sym at ∙ ap (λ (y : MountRow). y.mount) x.4 in
+        let less : from.0 < x.0.mount = whole.older x.0.mount from.0 x.0 x.2 (on.0, from.2) in
+        rw (is, sym from.1) (strict from.0 x.0.mount less (in_mounts x.0 x.2 x.3));
     row_kin = λ m h member row fm fr home.
         let x = row_from m row fr in
         let y = member_from m member fm in

@@ -109,6 +109,7 @@ module _ (t : MountTable) (whole : IsWhole t) where
         let was = was_row gone m row e in
         let parent = whole.parents m p row was.1 on in
         (parent.0, still_row gone p parent.0 (leaves m p row was.1 on was.0) parent.1, parent.2);
+    older = λ m p row e on. whole.older m p row (was_row gone m row e).1 on;
     one_fs = λ b c p x y ex ey.
         law_same_fs (removed gone t).groups b c (without_keeps (is_among gone) t.groups whole.sound).law p x y (was_row gone b x ex).1 (was_row gone c y ey).1;
   }
