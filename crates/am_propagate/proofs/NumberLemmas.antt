@@ -16,7 +16,7 @@ use Rattle.am_group.specs.Receivers.{receivers_of}
 use Rattle.am_group.proofs.ScanLemmas.{has, or_left, or_right}
 use Rattle.am_group.proofs.CopyLemmas.{rank_bound, stands_of_receiver, stands_of_slave, stands_above}
 use Rattle.am_mount.specs.Rows.{mount_row}
-use Rattle.am_propagate.specs.declared.subtree.joining.StandIns.{StandIns}
+use Rattle.am_propagate.specs.declared.subtree.stand_ins.StandIns.{StandIns}
 use Rattle.am_propagate.specs.MountTable.{MountTable}
 use Rattle.am_propagate.specs.Invariant.{IsWhole}
 use Rattle.am_propagate.specs.Added.{new_group, last_fresh, fresh_groups, stands, fresh_count, groups_made, new_members, new_groups}
