@@ -1,5 +1,5 @@
 -- Mounts that come: what they have to show so that the invariant holds of all together.
-use Rattle.std.proofs.Common.{◌≡◌, ◌≤◌, ◌<◌, ◌+◌, ◌⊎◌, ℕ, Bool, true, false, cond, List, [], ◌∷◌, ◌++◌, length, Option, Some, None, refl, sym, ap, subst, inl, inr, ⊎_elim, ◌∙◌, arith}
+use Rattle.std.proofs.Common.{◌≡◌, ◌≤◌, ◌<◌, ◌+◌, ◌⊎◌, ℕ, Bool, true, false, List, [], ◌∷◌, ◌++◌, length, Option, Some, None, refl, sym, ap, subst, inl, inr, ⊎_elim, ◌∙◌, arith}
 use Rattle.std.specs.Prelude.{map, is_some, ◌==◌}
 use Rattle.std.specs.Option.{option_or}
 use Rattle.std.proofs.lemmas.List.{map-append}
@@ -11,11 +11,11 @@ use Rattle.am_names.specs.declared.row.GroupRow.{GroupRow}
 use Rattle.am_names.specs.PeerGroups.{PeerGroups}
 use Rattle.am_group.specs.Propagation.{member_row, group_row, group_in, slave_in, master_in, group_of, master_of_group, PropagatesTo}
 use Rattle.am_group.specs.Copies.{all_added}
-use Rattle.am_group.specs.Invariant.{IsGroup, IsMaster, HasMembers, IsOrderly, IsSound, AddsNoReceivers}
+use Rattle.am_group.specs.Invariant.{IsGroup, HasMembers, IsSound, AddsNoReceivers}
 use Rattle.am_group.specs.Scan.{numbers}
 use Rattle.am_group.proofs.ReceiveLemmas.{LeadsUp, home_where, home_of, IsUnder, leads_more, under_from_way, reached_from_under}
 use Rattle.am_group.proofs.AddLemmas.{added_law}
-use Rattle.am_mount.specs.Rows.{RiseFrom, IsRising, mount_row, HasRow, IsIn, IsOn}
+use Rattle.am_mount.specs.Rows.{RiseFrom, mount_row, HasRow, IsIn, IsOn}
 use Rattle.am_propagate.specs.MountTable.{MountTable}
 use Rattle.am_propagate.specs.Invariant.{ShareFs, IsWhole}
 use Rattle.am_propagate.specs.Grown.{grown}
