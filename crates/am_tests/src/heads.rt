@@ -1,6 +1,6 @@
 //! Heads of scripts: their sections, what each kind of line may be, and heads that are cut.
 
-use crate::tests::{fault, joined, play};
+use crate::tests::{fault, joined, play, room_in_the_end};
 use am_script::{ScriptFault, ScriptFaultKind, run_script};
 use std::alloc::Global;
 use std::process::Abort;
@@ -315,7 +315,7 @@ fn a_head_cut_at_every_byte(rt: HostRuntime) -> Result<(), Fail> {
 #[test]
 fn a_head_that_finds_no_memory(rt: HostRuntime) -> Result<(), Fail> {
     let alloc = rt.alloc();
-    let mut output = Vec::new(alloc);
+    let mut output = room_in_the_end(alloc)?;
     let mut script = WHOLE;
     let mut got = run_script(alloc, &mut script, &mut output).err();
     if let Some(
