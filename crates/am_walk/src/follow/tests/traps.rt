@@ -1,9 +1,11 @@
 //! What a walk meets at a trigger: each case of autofs.rst, "Mount Traps" and "Catatonic mode",
-//! and where several hold at once, the first.
+//! and where several hold at once, the first. Each table is one text, with a row in each part:
+//! the facts that hold, a path, and the walk.
 
 use crate::follow::tests::{World, direct, named};
 use am_names::{Errno, FsId, TokenKind, Trigger};
 use std::alloc::Global;
+use std::process::Abort;
 use std::test::Fail;
 
 /// A trigger, and the path of its place at each mount of its file system.
@@ -15,7 +17,7 @@ pub struct Trap {
 
 /// One more fact of a trigger of autofs 2: it is expiring (`x`), a mount is pending (`p`),
 /// something is mounted on it at mount 4 (`m`), the file system is catatonic (`c`), the directory
-/// is made (`k`), something is mounted on it at mount 2, the daemon's (`d`).
+/// is made (`k`), something is mounted on it at mount 2, the daemon's (`d`). `-` is no fact.
 fn hold(world: &mut World, alloc: Global, trap: &Trap, fact: u8) -> Result<(), Errno> {
     match fact {
         b'x' => world.open(alloc, trap.trigger, TokenKind::Expire, 1)?,
@@ -25,9 +27,10 @@ fn hold(world: &mut World, alloc: Global, trap: &Trap, fact: u8) -> Result<(), E
         }
         b'c' => world.triggers.set_catatonic(FsId(2), true)?,
         b'k' => world.triggers.mkdir(trap.trigger)?,
-        _ => {
+        b'd' => {
             world.mount(alloc, 2, trap.place, 7)?;
         }
+        _ => {}
     }
     Ok(())
 }
@@ -61,102 +64,181 @@ pub fn direct_where(alloc: Global, facts: &str) -> Result<World, Errno> {
     world_where(alloc, &trap, facts)
 }
 
-#[test]
-fn of_two_cases_of_an_indirect_autofs_the_first_decides(rt: HostRuntime) -> Result<(), Fail> {
-    for (facts, expected) in [
-        ("", "notify 2 home"),
-        ("k", "notify 2 home"),
-        ("x", "wait 1"),
-        ("p", "wait 1"),
-        ("m", "pass 2 home, at 5 /"),
-        ("c", "ENOENT"),
-        ("ck", "at 4 /home"),
-        ("d", "ELOOP"),
-        ("xp", "wait 1"),
-        ("px", "wait 2"),
-        ("xm", "wait 1"),
-        ("xck", "wait 1"),
-        ("xd", "wait 1"),
-        ("pm", "wait 1"),
-        ("pck", "wait 1"),
-        ("pd", "wait 1"),
-        ("mc", "pass 2 home, at 5 /"),
-        ("mck", "pass 2 home, at 5 /"),
-        ("md", "pass 2 home, at 5 /"),
-        ("cd", "ENOENT"),
-        ("ckd", "at 4 /home"),
-        ("xpmckd", "wait 1"),
-        ("pmckd", "wait 1"),
-        ("mckd", "pass 2 home, at 5 /"),
-    ] {
-        let world = indirect_where(rt.alloc(), facts)?;
-        let walk = world.walk(rt.alloc(), 1, "/auto/home")?;
-        assert_eq!(rt; walk.as_str(), expected, "where {facts} holds");
+/// A row's facts, path and walk.
+fn parts(row: &str) -> Option<(&str, &str, &str)> {
+    let (left, expected) = row.trim().split_once(": ")?;
+    let (facts, path) = left.split_once(' ')?;
+    Some((facts, path, expected))
+}
+
+/// Each walk in this namespace is as the table tells.
+fn are_walks(
+    rt: &impl Abort,
+    alloc: Global,
+    ns: u32,
+    is_direct: bool,
+    table: &str,
+) -> Result<(), Fail> {
+    for row in table.split(';') {
+        let Some((facts, path, expected)) = parts(row) else {
+            panic!(rt; "no row: {row}");
+        };
+        let world = match is_direct {
+            true => direct_where(alloc, facts)?,
+            false => indirect_where(alloc, facts)?,
+        };
+        let walk = world.walk(alloc, ns, path)?;
+        assert_eq!(rt; walk.as_str(), expected, "{row}");
     }
     Ok(())
+}
+
+/// Each position in namespace 1 is as the table tells.
+pub fn are_positions(
+    rt: &impl Abort,
+    alloc: Global,
+    is_direct: bool,
+    table: &str,
+) -> Result<(), Fail> {
+    for row in table.split(';') {
+        let Some((facts, path, expected)) = parts(row) else {
+            panic!(rt; "no row: {row}");
+        };
+        let world = match is_direct {
+            true => direct_where(alloc, facts)?,
+            false => indirect_where(alloc, facts)?,
+        };
+        let at = world.position(alloc, 1, path)?;
+        assert_eq!(rt; at.as_str(), expected, "{row}");
+    }
+    Ok(())
+}
+
+#[test]
+fn of_two_cases_of_an_indirect_autofs_the_first_decides(rt: HostRuntime) -> Result<(), Fail> {
+    are_walks(
+        &rt,
+        rt.alloc(),
+        1,
+        false,
+        "- /auto/home: notify 2 home; \
+         k /auto/home: notify 2 home; \
+         x /auto/home: wait 1; \
+         p /auto/home: wait 1; \
+         m /auto/home: pass 2 home, at 5 /; \
+         c /auto/home: ENOENT; \
+         ck /auto/home: at 4 /home; \
+         d /auto/home: ELOOP; \
+         xp /auto/home: wait 1; \
+         px /auto/home: wait 2; \
+         xm /auto/home: wait 1; \
+         xck /auto/home: wait 1; \
+         xd /auto/home: wait 1; \
+         pm /auto/home: wait 1; \
+         pck /auto/home: wait 1; \
+         pd /auto/home: wait 1; \
+         mc /auto/home: pass 2 home, at 5 /; \
+         mck /auto/home: pass 2 home, at 5 /; \
+         md /auto/home: pass 2 home, at 5 /; \
+         cd /auto/home: ENOENT; \
+         ckd /auto/home: at 4 /home; \
+         xpmckd /auto/home: wait 1; \
+         pmckd /auto/home: wait 1; \
+         mckd /auto/home: pass 2 home, at 5 /",
+    )
 }
 
 #[test]
 fn of_two_cases_of_a_direct_autofs_the_first_decides(rt: HostRuntime) -> Result<(), Fail> {
-    for (facts, expected) in [
-        ("", "notify 2 -"),
-        ("x", "wait 1"),
-        ("p", "wait 1"),
-        ("m", "pass 2 -, at 5 /"),
-        ("c", "at 4 /"),
-        ("d", "ELOOP"),
-        ("xp", "wait 1"),
-        ("px", "wait 2"),
-        ("xm", "wait 1"),
-        ("xc", "wait 1"),
-        ("xd", "wait 1"),
-        ("pm", "wait 1"),
-        ("pc", "wait 1"),
-        ("pd", "wait 1"),
-        ("mc", "pass 2 -, at 5 /"),
-        ("md", "pass 2 -, at 5 /"),
-        ("cd", "at 4 /"),
-    ] {
-        let world = direct_where(rt.alloc(), facts)?;
-        let walk = world.walk(rt.alloc(), 1, "/auto")?;
-        assert_eq!(rt; walk.as_str(), expected, "where {facts} holds");
-    }
-    Ok(())
+    are_walks(
+        &rt,
+        rt.alloc(),
+        1,
+        true,
+        "- /auto: notify 2 -; \
+         x /auto: wait 1; \
+         p /auto: wait 1; \
+         m /auto: pass 2 -, at 5 /; \
+         c /auto: at 4 /; \
+         d /auto: ELOOP; \
+         xp /auto: wait 1; \
+         px /auto: wait 2; \
+         xm /auto: wait 1; \
+         xc /auto: wait 1; \
+         xd /auto: wait 1; \
+         pm /auto: wait 1; \
+         pc /auto: wait 1; \
+         pd /auto: wait 1; \
+         mc /auto: pass 2 -, at 5 /; \
+         md /auto: pass 2 -, at 5 /; \
+         cd /auto: at 4 /",
+    )
 }
 
 #[test]
 fn what_is_mounted_on_another_mount_is_not_mounted_here(rt: HostRuntime) -> Result<(), Fail> {
-    for (facts, expected) in [
-        ("m", "notify 2 home"),
-        ("mc", "ENOENT"),
-        ("mck", "at 2 /home"),
-        ("d", "pass 2 home, at 5 /"),
-        ("cd", "pass 2 home, at 5 /"),
-        ("md", "pass 2 home, at 6 /"),
-        ("xd", "wait 1"),
-        ("pd", "wait 1"),
-    ] {
-        let world = indirect_where(rt.alloc(), facts)?;
-        let walk = world.walk(rt.alloc(), 0, "/auto/home")?;
-        assert_eq!(rt; walk.as_str(), expected, "where {facts} holds");
-    }
-    Ok(())
+    are_walks(
+        &rt,
+        rt.alloc(),
+        0,
+        false,
+        "m /auto/home: notify 2 home; \
+         mc /auto/home: ENOENT; \
+         mck /auto/home: at 2 /home; \
+         d /auto/home: pass 2 home, at 5 /; \
+         cd /auto/home: pass 2 home, at 5 /; \
+         md /auto/home: pass 2 home, at 6 /; \
+         xd /auto/home: wait 1; \
+         pd /auto/home: wait 1",
+    )
 }
 
 #[test]
 fn names_of_one_autofs_are_triggers_of_their_own(rt: HostRuntime) -> Result<(), Fail> {
-    for (facts, expected) in [
-        ("x", "notify 2 work"),
-        ("p", "notify 2 work"),
-        ("m", "notify 2 work"),
-        ("ck", "ENOENT"),
-        ("d", "notify 2 work"),
-    ] {
-        let world = indirect_where(rt.alloc(), facts)?;
-        let walk = world.walk(rt.alloc(), 1, "/auto/work")?;
-        assert_eq!(rt; walk.as_str(), expected, "where {facts} holds");
-    }
-    Ok(())
+    are_walks(
+        &rt,
+        rt.alloc(),
+        1,
+        false,
+        "x /auto/work: notify 2 work; \
+         p /auto/work: notify 2 work; \
+         m /auto/work: notify 2 work; \
+         ck /auto/work: ENOENT; \
+         d /auto/work: notify 2 work",
+    )
+}
+
+#[test]
+fn names_below_an_indirect_autofs(rt: HostRuntime) -> Result<(), Fail> {
+    are_walks(
+        &rt,
+        rt.alloc(),
+        1,
+        false,
+        "- /auto: at 4 /; \
+         c /auto: at 4 /; \
+         - /auto/home/x: notify 2 home; \
+         x /auto/home/x: wait 1; \
+         m /auto/home/x/y: pass 2 home, at 5 /x/y; \
+         c /auto/home/x: ENOENT; \
+         ck /auto/home/x: ENOENT; \
+         d /auto/home/x: ELOOP",
+    )
+}
+
+#[test]
+fn names_below_a_direct_autofs(rt: HostRuntime) -> Result<(), Fail> {
+    are_walks(
+        &rt,
+        rt.alloc(),
+        1,
+        true,
+        "- /auto/x: notify 2 -; \
+         p /auto/x: wait 1; \
+         m /auto/x/y: pass 2 -, at 5 /x/y; \
+         c /auto/x: ENOENT; \
+         d /auto/x: ELOOP",
+    )
 }
 
 #[test]
@@ -166,40 +248,5 @@ fn tokens_of_another_file_system_are_nothing_to_a_walk(rt: HostRuntime) -> Resul
     world.open(rt.alloc(), direct(2), TokenKind::Missing, 2)?;
     let walk = world.walk(rt.alloc(), 0, "/auto/home")?;
     assert_eq!(rt; walk.as_str(), "notify 2 home");
-    Ok(())
-}
-
-#[test]
-fn names_below_an_indirect_autofs(rt: HostRuntime) -> Result<(), Fail> {
-    for (facts, path, expected) in [
-        ("", "/auto", "at 4 /"),
-        ("c", "/auto", "at 4 /"),
-        ("", "/auto/home/x", "notify 2 home"),
-        ("x", "/auto/home/x", "wait 1"),
-        ("m", "/auto/home/x/y", "pass 2 home, at 5 /x/y"),
-        ("c", "/auto/home/x", "ENOENT"),
-        ("ck", "/auto/home/x", "ENOENT"),
-        ("d", "/auto/home/x", "ELOOP"),
-    ] {
-        let world = indirect_where(rt.alloc(), facts)?;
-        let walk = world.walk(rt.alloc(), 1, path)?;
-        assert_eq!(rt; walk.as_str(), expected, "{path} where {facts} holds");
-    }
-    Ok(())
-}
-
-#[test]
-fn names_below_a_direct_autofs(rt: HostRuntime) -> Result<(), Fail> {
-    for (facts, path, expected) in [
-        ("", "/auto/x", "notify 2 -"),
-        ("p", "/auto/x", "wait 1"),
-        ("m", "/auto/x/y", "pass 2 -, at 5 /x/y"),
-        ("c", "/auto/x", "ENOENT"),
-        ("d", "/auto/x", "ELOOP"),
-    ] {
-        let world = direct_where(rt.alloc(), facts)?;
-        let walk = world.walk(rt.alloc(), 1, path)?;
-        assert_eq!(rt; walk.as_str(), expected, "{path} where {facts} holds");
-    }
     Ok(())
 }
