@@ -9,6 +9,7 @@ use am_propagate::Subtree;
 use am_trigger::Triggers;
 use am_wait::Waits;
 use std::alloc::Global;
+use std::process::Abort;
 use std::test::Fail;
 
 mod administrator;
@@ -159,4 +160,40 @@ fn told(alloc: Global, walk: &Walk) -> Result<String, Fail> {
     }
     text.push_str(end(alloc, &walk.stop)?.as_str())?;
     Ok(text)
+}
+
+/// Each walk in this namespace is as the table tells: a path and its walk in each part.
+pub fn are_walks(
+    rt: &impl Abort,
+    alloc: Global,
+    world: &World,
+    ns: u32,
+    table: &str,
+) -> Result<(), Fail> {
+    for row in table.split(';') {
+        let Some((path, expected)) = row.trim().split_once(": ") else {
+            panic!(rt; "no row: {row}");
+        };
+        let walk = world.walk(alloc, ns, path)?;
+        assert_eq!(rt; walk.as_str(), expected, "{row}");
+    }
+    Ok(())
+}
+
+/// The same of positions.
+pub fn are_positions(
+    rt: &impl Abort,
+    alloc: Global,
+    world: &World,
+    ns: u32,
+    table: &str,
+) -> Result<(), Fail> {
+    for row in table.split(';') {
+        let Some((path, expected)) = row.trim().split_once(": ") else {
+            panic!(rt; "no row: {row}");
+        };
+        let at = world.position(alloc, ns, path)?;
+        assert_eq!(rt; at.as_str(), expected, "{row}");
+    }
+    Ok(())
 }

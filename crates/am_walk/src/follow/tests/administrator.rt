@@ -1,13 +1,13 @@
 //! An administrator's path: the mount traps are off.
 
-use crate::follow::tests::World;
 use crate::follow::tests::paths::two_on_the_way;
-use crate::follow::tests::traps::are_positions;
+use crate::follow::tests::traps::are_positions_where;
+use crate::follow::tests::{World, are_positions};
 use std::test::Fail;
 
 #[test]
 fn what_is_mounted_on_a_trigger_is_entered(rt: HostRuntime) -> Result<(), Fail> {
-    are_positions(
+    are_positions_where(
         &rt,
         rt.alloc(),
         false,
@@ -30,7 +30,7 @@ fn what_is_mounted_on_a_trigger_is_entered(rt: HostRuntime) -> Result<(), Fail> 
 
 #[test]
 fn a_directory_that_is_made_is_entered(rt: HostRuntime) -> Result<(), Fail> {
-    are_positions(
+    are_positions_where(
         &rt,
         rt.alloc(),
         false,
@@ -51,7 +51,7 @@ fn a_directory_that_is_made_is_entered(rt: HostRuntime) -> Result<(), Fail> {
 
 #[test]
 fn a_missing_directory_is_not_found(rt: HostRuntime) -> Result<(), Fail> {
-    are_positions(
+    are_positions_where(
         &rt,
         rt.alloc(),
         false,
@@ -74,7 +74,7 @@ fn a_missing_directory_is_not_found(rt: HostRuntime) -> Result<(), Fail> {
 
 #[test]
 fn the_root_of_a_direct_autofs_is_entered(rt: HostRuntime) -> Result<(), Fail> {
-    are_positions(
+    are_positions_where(
         &rt,
         rt.alloc(),
         true,
@@ -94,29 +94,37 @@ fn the_root_of_a_direct_autofs_is_entered(rt: HostRuntime) -> Result<(), Fail> {
 fn a_direct_root_before_the_first_name_is_entered(rt: HostRuntime) -> Result<(), Fail> {
     let mut world = World::new(rt.alloc())?;
     world.autofs(rt.alloc(), 1, "/", 2, true)?;
-    for (path, expected) in [("/", "at 2 /"), ("/a", "ENOENT")] {
-        let at = world.position(rt.alloc(), 0, path)?;
-        assert_eq!(rt; at.as_str(), expected, "at {path}");
-    }
+    are_positions(
+        &rt,
+        rt.alloc(),
+        &world,
+        0,
+        "/: at 2 /; \
+         /a: ENOENT",
+    )?;
     world.mount(rt.alloc(), 2, "/", 3)?;
-    for (path, expected) in [("/", "at 3 /"), ("/a", "at 3 /a")] {
-        let at = world.position(rt.alloc(), 0, path)?;
-        assert_eq!(rt; at.as_str(), expected, "at {path}");
-    }
-    Ok(())
+    are_positions(
+        &rt,
+        rt.alloc(),
+        &world,
+        0,
+        "/: at 3 /; \
+         /a: at 3 /a",
+    )
 }
 
 #[test]
 fn a_path_over_two_autofs_is_entered(rt: HostRuntime) -> Result<(), Fail> {
     let world = two_on_the_way(rt.alloc())?;
-    for (ns, path, expected) in [
-        (0, "/auto/home/srv/work/x", "at 5 /x"),
-        (0, "/auto/home/srv/home", "ENOENT"),
-        (0, "/auto/home/srv", "at 4 /"),
-        (1, "/auto/home", "ENOENT"),
-    ] {
-        let at = world.position(rt.alloc(), ns, path)?;
-        assert_eq!(rt; at.as_str(), expected, "{path} in namespace {ns}");
-    }
+    are_positions(
+        &rt,
+        rt.alloc(),
+        &world,
+        0,
+        "/auto/home/srv/work/x: at 5 /x; \
+         /auto/home/srv/home: ENOENT; \
+         /auto/home/srv: at 4 /",
+    )?;
+    are_positions(&rt, rt.alloc(), &world, 1, "/auto/home: ENOENT")?;
     Ok(())
 }

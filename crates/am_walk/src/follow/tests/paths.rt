@@ -1,7 +1,7 @@
 //! Paths over stacks, over several triggers, and in several namespaces.
 
 use crate::follow::resolve_text;
-use crate::follow::tests::{World, direct, named, told};
+use crate::follow::tests::{World, are_positions, are_walks, direct, named, told};
 use am_names::{AbsPath, Errno, FsId, NsId, Place, TokenKind};
 use std::alloc::Global;
 use std::test::Fail;
@@ -20,18 +20,18 @@ pub fn two_on_the_way(alloc: Global) -> Result<World, Errno> {
 #[test]
 fn triggers_are_passed_in_the_order_of_the_path(rt: HostRuntime) -> Result<(), Fail> {
     let world = two_on_the_way(rt.alloc())?;
-    for (path, expected) in [
-        ("/auto", "at 2 /"),
-        ("/auto/home", "pass 2 home, at 3 /"),
-        ("/auto/home/srv", "pass 2 home, at 4 /"),
-        ("/auto/home/srv/work", "pass 2 home, pass 4 work, at 5 /"),
-        ("/auto/home/srv/work/x", "pass 2 home, pass 4 work, at 5 /x"),
-        ("/auto/home/srv/home", "pass 2 home, notify 4 home"),
-    ] {
-        let walk = world.walk(rt.alloc(), 0, path)?;
-        assert_eq!(rt; walk.as_str(), expected, "at {path}");
-    }
-    Ok(())
+    are_walks(
+        &rt,
+        rt.alloc(),
+        &world,
+        0,
+        "/auto: at 2 /; \
+         /auto/home: pass 2 home, at 3 /; \
+         /auto/home/srv: pass 2 home, at 4 /; \
+         /auto/home/srv/work: pass 2 home, pass 4 work, at 5 /; \
+         /auto/home/srv/work/x: pass 2 home, pass 4 work, at 5 /x; \
+         /auto/home/srv/home: pass 2 home, notify 4 home",
+    )
 }
 
 #[test]
@@ -53,20 +53,30 @@ fn a_walk_that_stops_tells_what_it_passed(rt: HostRuntime) -> Result<(), Fail> {
 #[test]
 fn slashes_may_be_doubled_and_trail(rt: HostRuntime) -> Result<(), Fail> {
     let world = two_on_the_way(rt.alloc())?;
-    for (path, expected) in [
-        ("/", "at 1 /"),
-        ("///", "at 1 /"),
-        ("//auto/", "at 2 /"),
-        ("//auto///home/", "pass 2 home, at 3 /"),
-        ("/auto//home//x//", "pass 2 home, at 3 /x"),
-        ("/x//y/", "at 1 /x/y"),
-    ] {
-        let walk = world.walk(rt.alloc(), 0, path)?;
-        assert_eq!(rt; walk.as_str(), expected, "at {path}");
-        let walk = world.position(rt.alloc(), 0, path)?;
-        assert!(rt; expected.ends_with(walk.as_str()), "at {path}");
-    }
-    Ok(())
+    are_walks(
+        &rt,
+        rt.alloc(),
+        &world,
+        0,
+        "/: at 1 /; \
+         ///: at 1 /; \
+         //auto/: at 2 /; \
+         //auto///home/: pass 2 home, at 3 /; \
+         /auto//home//x//: pass 2 home, at 3 /x; \
+         /x//y/: at 1 /x/y",
+    )?;
+    are_positions(
+        &rt,
+        rt.alloc(),
+        &world,
+        0,
+        "/: at 1 /; \
+         ///: at 1 /; \
+         //auto/: at 2 /; \
+         //auto///home/: at 3 /; \
+         /auto//home//x//: at 3 /x; \
+         /x//y/: at 1 /x/y",
+    )
 }
 
 #[test]
@@ -76,13 +86,24 @@ fn five_mounts_one_on_the_root_of_the_other(rt: HostRuntime) -> Result<(), Fail>
     for root in 2..6 {
         world.mount(rt.alloc(), root, "/", 2)?;
     }
-    for (path, expected) in [("/", "at 1 /"), ("/a", "at 6 /"), ("/a/b", "at 6 /b")] {
-        let walk = world.walk(rt.alloc(), 0, path)?;
-        assert_eq!(rt; walk.as_str(), expected, "at {path}");
-        let walk = world.position(rt.alloc(), 0, path)?;
-        assert_eq!(rt; walk.as_str(), expected, "at {path}");
-    }
-    Ok(())
+    are_walks(
+        &rt,
+        rt.alloc(),
+        &world,
+        0,
+        "/: at 1 /; \
+         /a: at 6 /; \
+         /a/b: at 6 /b",
+    )?;
+    are_positions(
+        &rt,
+        rt.alloc(),
+        &world,
+        0,
+        "/: at 1 /; \
+         /a: at 6 /; \
+         /a/b: at 6 /b",
+    )
 }
 
 #[test]
@@ -91,16 +112,16 @@ fn of_five_mounts_at_one_place_the_most_recent(rt: HostRuntime) -> Result<(), Fa
     for _mount in 2..7 {
         world.mount(rt.alloc(), 1, "/a/b", 2)?;
     }
-    for (path, expected) in [
-        ("/a", "at 1 /a"),
-        ("/a/b", "at 6 /"),
-        ("/a/b/c", "at 6 /c"),
-        ("/a/c", "at 1 /a/c"),
-    ] {
-        let walk = world.walk(rt.alloc(), 0, path)?;
-        assert_eq!(rt; walk.as_str(), expected, "at {path}");
-    }
-    Ok(())
+    are_walks(
+        &rt,
+        rt.alloc(),
+        &world,
+        0,
+        "/a: at 1 /a; \
+         /a/b: at 6 /; \
+         /a/b/c: at 6 /c; \
+         /a/c: at 1 /a/c",
+    )
 }
 
 #[test]
@@ -126,15 +147,24 @@ fn direct_at_the_root(alloc: Global) -> Result<World, Errno> {
 #[test]
 fn a_trigger_may_be_met_before_the_first_name(rt: HostRuntime) -> Result<(), Fail> {
     let mut world = direct_at_the_root(rt.alloc())?;
-    for path in ["/", "/a", "/a/b"] {
-        let walk = world.walk(rt.alloc(), 0, path)?;
-        assert_eq!(rt; walk.as_str(), "notify 2 -", "at {path}");
-    }
+    are_walks(
+        &rt,
+        rt.alloc(),
+        &world,
+        0,
+        "/: notify 2 -; \
+         /a: notify 2 -; \
+         /a/b: notify 2 -",
+    )?;
     world.mount(rt.alloc(), 2, "/", 3)?;
-    for (path, expected) in [("/", "pass 2 -, at 3 /"), ("/a", "pass 2 -, at 3 /a")] {
-        let walk = world.walk(rt.alloc(), 0, path)?;
-        assert_eq!(rt; walk.as_str(), expected, "at {path}");
-    }
+    are_walks(
+        &rt,
+        rt.alloc(),
+        &world,
+        0,
+        "/: pass 2 -, at 3 /; \
+         /a: pass 2 -, at 3 /a",
+    )?;
     world.open(rt.alloc(), direct(2), TokenKind::Expire, 1)?;
     let walk = world.walk(rt.alloc(), 0, "/a")?;
     assert_eq!(rt; walk.as_str(), "wait 1");
@@ -145,11 +175,14 @@ fn a_trigger_may_be_met_before_the_first_name(rt: HostRuntime) -> Result<(), Fai
 fn a_catatonic_trigger_before_the_first_name(rt: HostRuntime) -> Result<(), Fail> {
     let mut world = direct_at_the_root(rt.alloc())?;
     world.triggers.set_catatonic(FsId(2), true)?;
-    for (path, expected) in [("/", "at 2 /"), ("/a", "ENOENT")] {
-        let walk = world.walk(rt.alloc(), 0, path)?;
-        assert_eq!(rt; walk.as_str(), expected, "at {path}");
-    }
-    Ok(())
+    are_walks(
+        &rt,
+        rt.alloc(),
+        &world,
+        0,
+        "/: at 2 /; \
+         /a: ENOENT",
+    )
 }
 
 #[test]
@@ -177,21 +210,33 @@ fn a_walk_stays_in_its_namespace(rt: HostRuntime) -> Result<(), Fail> {
     world.copy(rt.alloc())?;
     world.mount(rt.alloc(), 1, "/a", 4)?;
     world.mount(rt.alloc(), 4, "/b", 4)?;
-    for (ns, path, expected) in [
-        (0, "/a/x", "at 7 /x"),
-        (0, "/b/x", "at 1 /b/x"),
-        (0, "/auto/home/x", "pass 2 home, at 3 /x"),
-        (1, "/a/x", "at 4 /a/x"),
-        (1, "/b/x", "at 8 /x"),
-        (1, "/auto/home/x", "pass 2 home, at 6 /x"),
-        (1, "/auto/work", "notify 2 work"),
-        (2, "/", "ENOENT"),
-        (2, "/auto/home", "ENOENT"),
-    ] {
-        let walk = world.walk(rt.alloc(), ns, path)?;
-        assert_eq!(rt; walk.as_str(), expected, "{path} in namespace {ns}");
-    }
-    Ok(())
+    are_walks(
+        &rt,
+        rt.alloc(),
+        &world,
+        0,
+        "/a/x: at 7 /x; \
+         /b/x: at 1 /b/x; \
+         /auto/home/x: pass 2 home, at 3 /x",
+    )?;
+    are_walks(
+        &rt,
+        rt.alloc(),
+        &world,
+        1,
+        "/a/x: at 4 /a/x; \
+         /b/x: at 8 /x; \
+         /auto/home/x: pass 2 home, at 6 /x; \
+         /auto/work: notify 2 work",
+    )?;
+    are_walks(
+        &rt,
+        rt.alloc(),
+        &world,
+        2,
+        "/: ENOENT; \
+         /auto/home: ENOENT",
+    )
 }
 
 #[test]

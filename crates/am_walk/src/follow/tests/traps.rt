@@ -72,7 +72,7 @@ fn parts(row: &str) -> Option<(&str, &str, &str)> {
 }
 
 /// Each walk in this namespace is as the table tells.
-fn are_walks(
+fn are_walks_where(
     rt: &impl Abort,
     alloc: Global,
     ns: u32,
@@ -94,7 +94,7 @@ fn are_walks(
 }
 
 /// Each position in namespace 1 is as the table tells.
-pub fn are_positions(
+pub fn are_positions_where(
     rt: &impl Abort,
     alloc: Global,
     is_direct: bool,
@@ -116,7 +116,7 @@ pub fn are_positions(
 
 #[test]
 fn of_two_cases_of_an_indirect_autofs_the_first_decides(rt: HostRuntime) -> Result<(), Fail> {
-    are_walks(
+    are_walks_where(
         &rt,
         rt.alloc(),
         1,
@@ -150,7 +150,7 @@ fn of_two_cases_of_an_indirect_autofs_the_first_decides(rt: HostRuntime) -> Resu
 
 #[test]
 fn of_two_cases_of_a_direct_autofs_the_first_decides(rt: HostRuntime) -> Result<(), Fail> {
-    are_walks(
+    are_walks_where(
         &rt,
         rt.alloc(),
         1,
@@ -177,7 +177,7 @@ fn of_two_cases_of_a_direct_autofs_the_first_decides(rt: HostRuntime) -> Result<
 
 #[test]
 fn what_is_mounted_on_another_mount_is_not_mounted_here(rt: HostRuntime) -> Result<(), Fail> {
-    are_walks(
+    are_walks_where(
         &rt,
         rt.alloc(),
         0,
@@ -195,7 +195,7 @@ fn what_is_mounted_on_another_mount_is_not_mounted_here(rt: HostRuntime) -> Resu
 
 #[test]
 fn names_of_one_autofs_are_triggers_of_their_own(rt: HostRuntime) -> Result<(), Fail> {
-    are_walks(
+    are_walks_where(
         &rt,
         rt.alloc(),
         1,
@@ -210,7 +210,7 @@ fn names_of_one_autofs_are_triggers_of_their_own(rt: HostRuntime) -> Result<(), 
 
 #[test]
 fn names_below_an_indirect_autofs(rt: HostRuntime) -> Result<(), Fail> {
-    are_walks(
+    are_walks_where(
         &rt,
         rt.alloc(),
         1,
@@ -228,7 +228,7 @@ fn names_below_an_indirect_autofs(rt: HostRuntime) -> Result<(), Fail> {
 
 #[test]
 fn names_below_a_direct_autofs(rt: HostRuntime) -> Result<(), Fail> {
-    are_walks(
+    are_walks_where(
         &rt,
         rt.alloc(),
         1,
