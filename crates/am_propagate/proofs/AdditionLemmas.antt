@@ -1,8 +1,7 @@
 -- A mount with its copies keeps the invariant.
-use Rattle.std.proofs.Common.{◌≡◌, ◌≢◌, ◌≤◌, ◌<◌, ◌+◌, ◌⊎◌, ◌↔◌, ℕ, Bool, true, false, cond, eqb, ◌||◌, ◌&&◌, List, [], ◌∷◌, ◌++◌, length, Option, Some, None, refl, sym, ap, subst, inl, inr, ⊎_elim, ◌∙◌, arith}
+use Rattle.std.proofs.Common.{◌≡◌, ◌≤◌, ◌<◌, ◌+◌, ◌⊎◌, ◌↔◌, ℕ, Bool, true, false, cond, eqb, ◌||◌, ◌&&◌, List, [], ◌∷◌, ◌++◌, length, Option, Some, None, refl, sym, ap, subst, inl, inr, ⊎_elim, ◌∙◌, arith}
 use Rattle.std.specs.Prelude.{filter, map, not, is_some, option_map, ◌==◌}
 use Rattle.std.specs.Option.{option_or}
-use Rattle.std.specs.List.{Contains}
 use Rattle.std.proofs.lemmas.List.{length-map}
 use Rattle.std.proofs.lemmas.List.Folds.{find-append}
 use Rattle.std.proofs.lemmas.Bool.{eqb-true, eq-eqb, or_cases}
@@ -13,24 +12,24 @@ use Rattle.am_names.specs.declared.row.Position.{Position}
 use Rattle.am_names.specs.PeerGroups.{PeerGroups}
 use Rattle.am_group.specs.declared.membership.Membership.{Membership}
 use Rattle.am_group.specs.declared.membership.Membership.TheVariants.{InGroup, SlaveOf, Private, Unbindable}
-use Rattle.am_group.specs.Propagation.{member_row, group_row, group_in, slave_in, master_in, group_of, master_of_group, Receives}
+use Rattle.am_group.specs.Propagation.{member_row, group_row, group_in, slave_in, group_of, master_of_group, Receives}
 use Rattle.am_group.specs.Changes.{with_group}
-use Rattle.am_group.specs.Copies.{added, all_added, receiving_groups, rank, stand_in, copy_row, copies_from, group_copies, copied}
+use Rattle.am_group.specs.Copies.{added, all_added, receiving_groups, rank, stand_in, copy_row, copies_from, group_copies}
 use Rattle.am_group.specs.Members.{row_with}
 use Rattle.am_group.specs.Receivers.{is_under, receives, receivers_of}
 use Rattle.am_group.specs.Scan.{numbers}
-use Rattle.am_group.specs.Invariant.{RiseFrom, IsGroup, IsMaster, HasMembers, IsSound, AddsNoReceivers}
-use Rattle.am_group.proofs.ReceiveLemmas.{home_where, home_of, IsUnder, under_from_way}
+use Rattle.am_group.specs.Invariant.{IsMaster, HasMembers, IsSound, AddsNoReceivers}
+use Rattle.am_group.proofs.ReceiveLemmas.{home_where, under_from_way}
 use Rattle.am_group.proofs.ReceiverLemmas.{receives_test, receives_found}
 use Rattle.am_group.proofs.ScanLemmas.{has, or_left, or_right, has-filter, has-from_filter}
 use Rattle.am_group.proofs.JoinLemmas.{with_group_keeps, joined_keeps}
 use Rattle.am_group.proofs.CopyLemmas.{copied_keeps}
 use Rattle.am_group.proofs.AddLemmas.{added_law}
-use Rattle.am_mount.specs.Rows.{RiseFrom as RowsRise, mount_row, is_among, HasRow, IsIn, IsOn}
+use Rattle.am_mount.specs.Rows.{RiseFrom as RowsRise, mount_row}
 use Rattle.am_propagate.specs.MountTable.{MountTable, is_mount}
 use Rattle.am_propagate.specs.Invariant.{IsWhole}
 use Rattle.am_propagate.specs.Grown.{grown}
-use Rattle.am_propagate.specs.Added.{ns_in, row_at, rows_at, membership_where, membership_in, membership_of, new_group, last_fresh, fresh_groups, stands, new_members, new_groups, fresh_count, groups_made, mounted, HasSource}
+use Rattle.am_propagate.specs.Added.{ns_in, row_at, rows_at, membership_where, membership_in, new_group, last_fresh, fresh_groups, stands, new_members, new_groups, fresh_count, groups_made, mounted, HasSource}
 use Rattle.am_propagate.proofs.RemovalLemmas.{some_of, same_there}
 use Rattle.am_propagate.proofs.GrowthLemmas.{IsKin, ComesWell, grown_whole}
 use Rattle.am_propagate.proofs.StandLemmas.{same_receivers, fresh_there, copied_at_once}
@@ -69,19 +68,20 @@ module _ (t : MountTable) (place : List (List ℕ)) (fs origin : ℕ) where
   rows_rise low number [] le = tt
   rows_rise low number (p ∷ parents) le = (le, rows_rise (number + 1) (number + 1) parents (omega arith))
 
-  row_found : (number : ℕ) (parents : List ℕ) (m : ℕ) (row : MountRow) → mount_row (rows_at t place fs origin number parents) m ≡ Some row → (p : ℕ) × (has p parents ≡ true) × (m < number + length parents) × (row ≡ row_at t place fs origin m p)
+  row_found : (number : ℕ) (parents : List ℕ) (m : ℕ) (row : MountRow) → mount_row (rows_at t place fs origin number parents) m ≡ Some row → (p : ℕ) × (has p parents ≡ true) × (m < number + length parents) × (number ≤ m) × (row ≡ row_at t place fs origin m p)
   row_found number [] m row e = absurd cc
   row_found number (p ∷ parents) m row e = go (number == m) refl e (row_found (number + 1) parents m row)
     where
-      go : (b : Bool) → (number == m) ≡ b → cond b (Some (row_at t place fs origin number p)) (mount_row (rows_at t place fs origin (number + 1) parents) m) ≡ Some row → (mount_row (rows_at t place fs origin (number + 1) parents) m ≡ Some row → (q : ℕ) × (has q parents ≡ true) × (m < number + 1 + length parents) × (row ≡ row_at t place fs origin m q)) → (q : ℕ) × (has q (p ∷ parents) ≡ true) × (m < number + length (p ∷ parents)) × (row ≡ row_at t place fs origin m q)
+      go : (b : Bool) → (number == m) ≡ b → cond b (Some (row_at t place fs origin number p)) (mount_row (rows_at t place fs origin (number + 1) parents) m) ≡ Some row → (mount_row (rows_at t place fs origin (number + 1) parents) m ≡ Some row → (q : ℕ) × (has q parents ≡ true) × (m < number + 1 + length parents) × (number + 1 ≤ m) × (row ≡ row_at t place fs origin m q)) → (q : ℕ) × (has q (p ∷ parents) ≡ true) × (m < number + length (p ∷ parents)) × (number ≤ m) × (row ≡ row_at t place fs origin m q)
       go true f e ih =
           let same : number ≡ m = eqb-true number m f in
           let here : row_at t place fs origin number p ≡ row = cc in
-          (p, or_left (eqb p p) (has p parents) (eq-eqb p p refl), omega arith, sym here ∙ ap (λ (n : ℕ). row_at t place fs origin n p) same)
+          (p, or_left (eqb p p) (has p parents) (eq-eqb p p refl), omega arith, omega arith, sym here ∙ ap (λ (n : ℕ). row_at t place fs origin n p) same)
       go false f e ih =
           let rest = ih e in
           let lt : m < number + 1 + length parents = rest.2 in
-          (rest.0, or_right (eqb rest.0 p) (has rest.0 parents) rest.1, omega arith, rest.3)
+          let le : number + 1 ≤ m = rest.3 in
+          (rest.0, or_right (eqb rest.0 p) (has rest.0 parents) rest.1, omega arith, omega arith, rest.4)
 
   copy_mount : (stand : ℕ → ℕ) (number : ℕ) (group master : Option ℕ) → (copy_row stand number group master).mount ≡ number
   copy_mount stand number (Some g) master = refl
@@ -389,18 +389,25 @@ module _ (t : MountTable) (whole : IsWhole t) (at : Position) (fs : ℕ) (member
         let parent = parent_there found.0 found.1 in
         let long : length comes ≡ length (at.mount ∷ receivers_of t.groups at.mount) = length_rows t at.place fs (t.last_mount + 1) (t.last_mount + 1) (at.mount ∷ receivers_of t.groups at.mount) in
         let lt : m < t.last_mount + 1 + length (at.mount ∷ receivers_of t.groups at.mount) = found.2 in
-        let ns : parent.0.ns ≡ row.ns = sym (ap (λ (x : MountRow). x.ns) found.3 ∙ ap ns_in parent.1) in
+        let ns : parent.0.ns ≡ row.ns = sym (ap (λ (x : MountRow). x.ns) found.4 ∙ ap ns_in parent.1) in
         (omega arith, subst (λ (x : ℕ). x ≤ t.last_ns) ns (whole.numbered found.0 parent.0 parent.1).1);
     last_ns = omega arith;
     parents = λ m q row e on.
         let found = row_found t at.place fs (t.last_mount + 1) (t.last_mount + 1) (at.mount ∷ receivers_of t.groups at.mount) m row e in
         let parent = parent_there found.0 found.1 in
-        let same : found.0 ≡ q = same_parent row.mountpoint found.0 q at.place on.0 (ap (λ (x : MountRow). x.mountpoint) found.3) on.1 in
-        let ns : parent.0.ns ≡ row.ns = sym (ap (λ (x : MountRow). x.ns) found.3 ∙ ap ns_in parent.1) in
+        let same : found.0 ≡ q = same_parent row.mountpoint found.0 q at.place on.0 (ap (λ (x : MountRow). x.mountpoint) found.4) on.1 in
+        let ns : parent.0.ns ≡ row.ns = sym (ap (λ (x : MountRow). x.ns) found.4 ∙ ap ns_in parent.1) in
         (parent.0, still_row comes q parent.0 (ap (mount_row t.rows) (sym same) ∙ parent.1), ns);
+    older = λ m q row e on.
+        let found = row_found t at.place fs (t.last_mount + 1) (t.last_mount + 1) (at.mount ∷ receivers_of t.groups at.mount) m row e in
+        let parent = parent_there found.0 found.1 in
+        let same : found.0 ≡ q = same_parent row.mountpoint found.0 q at.place on.0 (ap (λ (x : MountRow). x.mountpoint) found.4) on.1 in
+        let le : found.0 ≤ t.last_mount = (whole.numbered found.0 parent.0 parent.1).0 in
+        let next : t.last_mount + 1 ≤ m = found.3 in
+        subst (λ (x : ℕ). x < m) same (omega arith);
     row_kin = λ m h member row fm fr home.
         let found = row_found t at.place fs (t.last_mount + 1) (t.last_mount + 1) (at.mount ∷ receivers_of t.groups at.mount) m row fr in
-        let is : row.fs ≡ fs = ap (λ (x : MountRow). x.fs) found.3 in
+        let is : row.fs ≡ fs = ap (λ (x : MountRow). x.fs) found.4 in
         subst (λ (x : ℕ). IsKin t fs x h) (sym is) (member_kin (group_of t.groups at.mount) (receivers_of t.groups at.mount) (t.last_mount + 1) m member fm h home);
     group_kin = λ h n group fg up. groups_kin (group_of t.groups at.mount) (receivers_of t.groups at.mount) h group fg n up;
   }

@@ -1,5 +1,5 @@
 -- Mounts that come: what they have to show so that the invariant holds of all together.
-use Rattle.std.proofs.Common.{◌≡◌, ◌≤◌, ◌<◌, ◌+◌, ◌⊎◌, ℕ, Bool, true, false, cond, List, [], ◌∷◌, ◌++◌, length, Option, Some, None, refl, sym, ap, subst, inl, inr, ⊎_elim, ◌∙◌, arith}
+use Rattle.std.proofs.Common.{◌≡◌, ◌≤◌, ◌<◌, ◌+◌, ◌⊎◌, ℕ, Bool, true, false, List, [], ◌∷◌, ◌++◌, length, Option, Some, None, refl, sym, ap, subst, inl, inr, ⊎_elim, ◌∙◌, arith}
 use Rattle.std.specs.Prelude.{map, is_some, ◌==◌}
 use Rattle.std.specs.Option.{option_or}
 use Rattle.std.proofs.lemmas.List.{map-append}
@@ -11,11 +11,11 @@ use Rattle.am_names.specs.declared.row.GroupRow.{GroupRow}
 use Rattle.am_names.specs.PeerGroups.{PeerGroups}
 use Rattle.am_group.specs.Propagation.{member_row, group_row, group_in, slave_in, master_in, group_of, master_of_group, PropagatesTo}
 use Rattle.am_group.specs.Copies.{all_added}
-use Rattle.am_group.specs.Invariant.{IsGroup, IsMaster, HasMembers, IsOrderly, IsSound, AddsNoReceivers}
+use Rattle.am_group.specs.Invariant.{IsGroup, HasMembers, IsSound, AddsNoReceivers}
 use Rattle.am_group.specs.Scan.{numbers}
 use Rattle.am_group.proofs.ReceiveLemmas.{LeadsUp, home_where, home_of, IsUnder, leads_more, under_from_way, reached_from_under}
 use Rattle.am_group.proofs.AddLemmas.{added_law}
-use Rattle.am_mount.specs.Rows.{RiseFrom, IsRising, mount_row, HasRow, IsIn, IsOn}
+use Rattle.am_mount.specs.Rows.{RiseFrom, mount_row, HasRow, IsIn, IsOn}
 use Rattle.am_propagate.specs.MountTable.{MountTable}
 use Rattle.am_propagate.specs.Invariant.{ShareFs, IsWhole}
 use Rattle.am_propagate.specs.Grown.{grown}
@@ -71,7 +71,7 @@ IsKin t new fs g =
     ((t.groups.last_group < g) × (fs ≡ new))
 
 -- what comes: rows above all that are there, of the same mounts as the members, whose parents are
--- there; the peer groups that they name are of their file system, or new
+-- there and older; the peer groups that they name are of their file system, or new
 pub record ComesWell (t : MountTable) (rows : List MountRow) (members : List MemberRow) (groups : List GroupRow) (ns fs : ℕ) : Type 0 where
   pub rising : RiseFrom (t.last_mount + 1) rows
   pub sound : IsSound (all_added members groups t.groups)
@@ -79,6 +79,7 @@ pub record ComesWell (t : MountTable) (rows : List MountRow) (members : List Mem
   pub numbered : (m : ℕ) (row : MountRow) → mount_row rows m ≡ Some row → (m ≤ t.last_mount + length rows) × (row.ns ≤ ns)
   pub last_ns : t.last_ns ≤ ns
   pub parents : (m p : ℕ) (row : MountRow) → mount_row rows m ≡ Some row → IsOn p row → HasRow (IsIn row.ns) (t.rows ++ rows) p
+  pub older : (m p : ℕ) (row : MountRow) → mount_row rows m ≡ Some row → IsOn p row → p < m
   pub row_kin : (m h : ℕ) (member : MemberRow) (row : MountRow) → member_row members m ≡ Some member → mount_row rows m ≡ Some row → home_where member.group member.master ≡ Some h → IsKin t fs row.fs h
   pub group_kin : (h n : ℕ) (group : GroupRow) → group_row groups h ≡ Some group → group.master ≡ Some n → IsKin t fs fs n
 
@@ -203,6 +204,10 @@ module _ (t : MountTable) (whole : IsWhole t) (rows : List MountRow) (members : 
     parents = λ m p row e on. ⊎_elim
         (λ old. let parent = whole.parents m p row old on in (parent.0, old_row p parent.0 parent.1, parent.2))
         (λ new. well.parents m p row new.1 on)
+        (row_cases m row e);
+    older = λ m p row e on. ⊎_elim
+        (λ old. whole.older m p row old on)
+        (λ new. well.older m p row new.1 on)
         (row_cases m row e);
     one_fs = grown_fs;
   }

@@ -49,5 +49,6 @@ changed_whole t whole change m = record {
   same_mounts = whole.same_mounts ∙ sym (changed_numbers change m t.groups);
   numbered = whole.numbered;
   parents = whole.parents;
+  older = whole.older;
   one_fs = λ b c p. law_same_fs t whole (changed change m t.groups) b c (changed_keeps change m t.groups whole.sound).law p;
 }

@@ -1,8 +1,6 @@
 -- A copied namespace keeps the invariant.
-use Rattle.std.proofs.Common.{◌≡◌, ◌≢◌, ◌≤◌, ◌<◌, ◌+◌, ◌⊎◌, ◌↔◌, ℕ, Bool, true, false, cond, eqb, ◌||◌, ◌&&◌, List, [], ◌∷◌, ◌++◌, length, Option, Some, None, refl, sym, ap, subst, inl, inr, ⊎_elim, ◌∙◌, arith}
+use Rattle.std.proofs.Common.{◌≡◌, ◌≢◌, ◌≤◌, ◌<◌, ◌+◌, ℕ, Bool, true, false, cond, eqb, ◌||◌, List, [], ◌∷◌, ◌++◌, length, Option, Some, None, refl, sym, ap, subst, inl, inr, ⊎_elim, ◌∙◌, arith}
 use Rattle.std.specs.Prelude.{filter, find, map, nat_lt, nat_le, option_map, is_some, ◌==◌}
-use Rattle.std.specs.Option.{option_or}
-use Rattle.std.specs.List.{Contains}
 use Rattle.std.proofs.lemmas.List.{length-map}
 use Rattle.std.proofs.lemmas.List.Folds.{find-append}
 use Rattle.std.proofs.lemmas.Bool.{eqb-true, eq-eqb, ne_eqb, or_cases, cases_eq, ltb-true, ltb-false}
@@ -11,18 +9,17 @@ use Rattle.am_names.specs.declared.row.MountRow.{MountRow}
 use Rattle.am_names.specs.declared.row.MemberRow.{MemberRow}
 use Rattle.am_names.specs.declared.row.GroupRow.{GroupRow}
 use Rattle.am_names.specs.declared.row.Position.{Position}
-use Rattle.am_names.specs.PeerGroups.{PeerGroups}
-use Rattle.am_group.specs.Propagation.{member_row, group_row, group_in, slave_in, group_of}
+use Rattle.am_group.specs.Propagation.{member_row, group_in, slave_in, group_of}
 use Rattle.am_group.specs.Copies.{added, all_added}
 use Rattle.am_group.specs.Scan.{numbers}
-use Rattle.am_group.specs.Invariant.{RiseFrom, HasMembers, IsMaster, IsSound, AddsNoReceivers}
-use Rattle.am_group.proofs.ReceiveLemmas.{home_where, IsUnder}
+use Rattle.am_group.specs.Invariant.{RiseFrom, IsSound, AddsNoReceivers}
+use Rattle.am_group.proofs.ReceiveLemmas.{home_where}
 use Rattle.am_group.proofs.ScanLemmas.{has, or_left, or_right}
 use Rattle.am_group.proofs.ReceiverLemmas.{has_from_Contains, Contains_from_has}
 use Rattle.am_group.proofs.AddLemmas.{added_law}
 use Rattle.am_group.proofs.LookupLemmas.{found_passes}
 use Rattle.am_group.proofs.JoinLemmas.{joined_keeps}
-use Rattle.am_mount.specs.Rows.{RiseFrom as RowsRise, mount_row, is_among, mounts_where, is_in, HasRow, IsIn, IsOn}
+use Rattle.am_mount.specs.Rows.{RiseFrom as RowsRise, mount_row, is_among, is_in}
 use Rattle.am_mount.proofs.RowLemmas.{RiseFrom-filter, RiseOn, in_every}
 use Rattle.am_propagate.specs.MountTable.{MountTable}
 use Rattle.am_propagate.specs.Invariant.{IsWhole}
@@ -30,7 +27,7 @@ use Rattle.am_propagate.specs.Removed.{mounts_in}
 use Rattle.am_propagate.specs.Grown.{grown}
 use Rattle.am_propagate.specs.Namespaces.{count_up_to, copy_number, position_in, row_in, member_in, with_copy}
 use Rattle.am_propagate.proofs.RemovalLemmas.{keys-filter, some_of, same_there, among_has}
-use Rattle.am_propagate.proofs.GrowthLemmas.{IsKin, ComesWell, grown_whole}
+use Rattle.am_propagate.proofs.GrowthLemmas.{ComesWell, grown_whole}
 
 -- the count up to a number rises with the numbers that are counted
 count_at_most : (a b : ℕ) → a ≤ b → (xs : List ℕ) → count_up_to a xs ≤ count_up_to b xs
@@ -343,6 +340,13 @@ module _ (t : MountTable) (whole : IsWhole t) (ns : ℕ) where
           subst (λ (n : ℕ). mount_row (t.rows ++ rows) n ≡ Some (row_in (copy_number t.last_mount (mounts_in t ns)) (t.last_ns + 1) parent.0)) from.1 (copy_there from.0 parent.0 parent.1 (found_mount from.0 parent.0 parent.1) inside),
           sym (ap (λ (y : MountRow). y.ns) x.4),
         );
+    older = λ m q row e on.
+        let x = row_from m row e in
+        let from = mounted_on (copy_number t.last_mount (mounts_in t ns)) x.0.mountpoint q on.0 (sym (ap (λ (y : MountRow). y.mountpoint) x.4) ∙ on.1) in
+        let at : row.mount ≡ m = eqb-true row.mount m (found_passes (λ (r : MountRow). r.mount == m) rows row e) in
+        let is : m ≡ copy_number t.last_mount (mounts_in t ns) x.0.mount = sym at ∙ ap (λ (y : MountRow). y.mount) x.4 in
+        let less : from.0 < x.0.mount = whole.older x.0.mount from.0 x.0 x.2 (on.0, from.2) in
+        rw (is, sym from.1) (strict from.0 x.0.mount less (in_mounts x.0 x.2 x.3));
     row_kin = λ m h member row fm fr home.
         let x = row_from m row fr in
         let y = member_from m member fm in

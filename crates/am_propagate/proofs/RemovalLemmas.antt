@@ -1,24 +1,24 @@
 -- Mounts that go: what is left keeps the invariant.
-use Rattle.std.proofs.Common.{◌≡◌, ◌≢◌, ℕ, Bool, true, false, cond, eqb, ◌||◌, ◌&&◌, List, [], ◌∷◌, Option, Some, None, refl, sym, ap, subst, inl, inr, ⊎_elim, ◌∙◌, arith}
+use Rattle.std.proofs.Common.{◌≡◌, ◌≢◌, ℕ, Bool, true, false, cond, eqb, ◌||◌, List, [], ◌∷◌, Option, Some, None, refl, sym, ap, subst, inl, inr, ⊎_elim, ◌∙◌, arith}
 use Rattle.std.specs.Prelude.{◌⊎◌, map, filter, find, not, is_some, ◌==◌}
 use Rattle.std.specs.List.{list_any, Contains}
-use Rattle.std.proofs.lemmas.Bool.{eqb-true, eq-eqb, ne_eqb, or_cases, and_parts}
+use Rattle.std.proofs.lemmas.Bool.{eqb-true, eq-eqb, or_cases, and_parts}
 use Rattle.std.proofs.lemmas.Map.Views.{Contains-from_any, list_any-from_Contains}
 use Rattle.std.proofs.lemmas.Cmp.{nat_eq_equiv}
 use Rattle.am_names.specs.declared.row.MountRow.{MountRow}
 use Rattle.am_names.specs.declared.row.MemberRow.{MemberRow}
 use Rattle.am_names.specs.declared.row.Position.{Position}
 use Rattle.am_names.specs.PeerGroups.{PeerGroups}
-use Rattle.am_group.specs.Propagation.{member_row, group_in, slave_in, group_of, master_of_group, master_where, master_of, PropagatesTo, PropagatesBy, Receives}
-use Rattle.am_group.specs.Changes.{settled, lifted_member, with_only, without}
-use Rattle.am_group.specs.Invariant.{IsSound, AddsNoReceivers}
+use Rattle.am_group.specs.Propagation.{member_row, group_in, slave_in, master_where, PropagatesTo, PropagatesBy, Receives}
+use Rattle.am_group.specs.Changes.{lifted_member, with_only}
+use Rattle.am_group.specs.Invariant.{AddsNoReceivers}
 use Rattle.am_group.specs.Receivers.{receivers_of}
 use Rattle.am_group.specs.Scan.{numbers}
 use Rattle.am_group.proofs.LookupLemmas.{find_filter}
 use Rattle.am_group.proofs.ChangeLemmas.{without_keeps}
-use Rattle.am_mount.specs.Rows.{mount_row, is_among, mounts_where, is_in, is_position_on, is_child, HasRow, IsIn, IsOn}
+use Rattle.am_mount.specs.Rows.{mount_row, is_among, mounts_where, is_position_on, is_child, HasRow, IsIn, IsOn}
 use Rattle.am_mount.proofs.RowLemmas.{RiseFrom-filter, in_every}
-use Rattle.am_propagate.specs.MountTable.{MountTable, is_mount, mountpoint_of}
+use Rattle.am_propagate.specs.MountTable.{MountTable, mountpoint_of}
 use Rattle.am_propagate.specs.Invariant.{ShareFs, IsWhole}
 use Rattle.am_propagate.specs.Removed.{is_bare, is_top_on, goes_with, unmounted, mounts_in, removed, LeavesParents}
 
@@ -109,6 +109,7 @@ module _ (t : MountTable) (whole : IsWhole t) where
         let was = was_row gone m row e in
         let parent = whole.parents m p row was.1 on in
         (parent.0, still_row gone p parent.0 (leaves m p row was.1 on was.0) parent.1, parent.2);
+    older = λ m p row e on. whole.older m p row (was_row gone m row e).1 on;
     one_fs = λ b c p x y ex ey.
         law_same_fs (removed gone t).groups b c (without_keeps (is_among gone) t.groups whole.sound).law p x y (was_row gone b x ex).1 (was_row gone c y ey).1;
   }

@@ -1,7 +1,6 @@
 -- A new mount's fresh peer group, made together with the groups that stand for others.
-use Rattle.std.proofs.Common.{◌≡◌, ◌≢◌, ◌≤◌, ◌<◌, ◌+◌, ◌⊎◌, ◌↔◌, ℕ, Bool, true, false, cond, eqb, ◌||◌, ◌&&◌, List, [], ◌∷◌, ◌++◌, length, Option, Some, None, refl, sym, ap, subst, inl, inr, ⊎_elim, ◌∙◌, arith}
-use Rattle.std.specs.Prelude.{filter, map, not, nat_lt, is_some, option_map, ◌==◌}
-use Rattle.std.specs.List.{list_any}
+use Rattle.std.proofs.Common.{◌≡◌, ◌≤◌, ◌+◌, ◌↔◌, ℕ, Bool, true, false, cond, eqb, ◌||◌, ◌&&◌, List, [], ◌∷◌, ◌++◌, Option, Some, None, refl, sym, ap, inl, inr, ⊎_elim, ◌∙◌, arith}
+use Rattle.std.specs.Prelude.{filter, map, not, is_some, option_map, ◌==◌}
 use Rattle.std.specs.Option.{option_or}
 use Rattle.std.proofs.lemmas.List.{append-nil, append_assoc, length-map, map-append}
 use Rattle.std.proofs.lemmas.List.Elements.{filter-append}
@@ -13,12 +12,10 @@ use Rattle.am_names.specs.PeerGroups.{PeerGroups}
 use Rattle.am_group.specs.declared.membership.Membership.TheVariants.{InGroup}
 use Rattle.am_group.specs.Propagation.{member_row, group_row, master_in, slave_in, group_of, master_of_group, master_where, master_of, PropagatesTo, PropagatesBy, Receives}
 use Rattle.am_group.specs.Changes.{is_just, with_group}
-use Rattle.am_group.specs.Copies.{added, all_added, has_receiver, receiving_groups, rank, stand_in, copy_row, copies_from, group_copies, copied}
+use Rattle.am_group.specs.Copies.{all_added, has_receiver, receiving_groups, stand_in, copy_row, copies_from, group_copies, copied}
 use Rattle.am_group.specs.Members.{row_with}
-use Rattle.am_group.specs.Invariant.{IsGroup, IsMaster, HasMembers, IsSound}
-use Rattle.am_group.proofs.JoinLemmas.{with_group_keeps}
-use Rattle.am_group.proofs.CopyLemmas.{copied_keeps}
-use Rattle.am_group.proofs.ScanLemmas.{has, or_left, or_right, just_same, has-from_filter}
+use Rattle.am_group.specs.Invariant.{IsGroup, IsSound}
+use Rattle.am_group.proofs.ScanLemmas.{has, or_left, or_right, has-from_filter}
 
 -- with a fresh group all that was there is found as before
 module _ (s : PeerGroups) (sound : IsSound s) (master : Option ℕ) where

@@ -6,7 +6,7 @@ use Rattle.am_group.specs.declared.membership.Membership.{Membership}
 use Rattle.am_group.specs.Propagation.{master_of_group}
 use Rattle.am_group.specs.Copies.{receiving_groups, rank}
 use Rattle.am_propagate.specs.declared.subtree.joining.Joining.{Joining}
-use Rattle.am_propagate.specs.declared.subtree.joining.StandIns.{StandIns}
+use Rattle.am_propagate.specs.declared.subtree.stand_ins.StandIns.{StandIns}
 use Rattle.am_propagate.specs.Added.{new_members, new_groups}
 
 -- numbers have 64 bits

@@ -1,5 +1,5 @@
 -- All mounts with their propagation, and the numbers that were given.
-use Rattle.std.specs.Prelude.{◌+◌, ℕ, Bool, not, nat_lt, List, [], ◌∷◌, Option, Some, None, is_some}
+use Rattle.std.specs.Prelude.{◌+◌, ℕ, Bool, nat_lt, List, [], ◌∷◌, Option, Some, None, is_some}
 use Rattle.am_names.specs.declared.row.MountRow.{MountRow}
 use Rattle.am_names.specs.declared.row.Position.{Position}
 use Rattle.am_names.specs.PeerGroups.{PeerGroups}

@@ -7,7 +7,7 @@ use Rattle.am_names.specs.declared.trigger.Trigger.{Trigger}
 use Rattle.am_names.specs.declared.row.MountRow.{MountRow}
 use Rattle.am_names.specs.declared.row.OpenToken.{OpenToken}
 use Rattle.am_names.specs.declared.row.TokenKind.TheVariants.{Missing, Expire}
-use Rattle.am_mount.specs.Rows.{IsTop, HasRow, IsAt, mount_row, top_of, root_of}
+use Rattle.am_mount.specs.Rows.{IsRising, IsTop, HasRow, IsAt, IsOn, mount_row, top_of, root_of}
 use Rattle.am_mount.proofs.RowLemmas.{top_is, some_greatest}
 use Rattle.am_trigger.specs.declared.autofs.Autofs.{Autofs}
 use Rattle.am_trigger.specs.Rows.{is_made}
@@ -20,7 +20,7 @@ use Rattle.am_walk.specs.declared.stop.Stop.TheVariants as stops
 use Rattle.am_walk.specs.Scene.{Scene, autofs_at, has_names}
 use Rattle.am_walk.specs.Meet.{if_open, if_mounted, if_entered, at_directory, at_trap, at_trigger, at_plain, at_autofs, at_site, next_at}
 use Rattle.am_walk.specs.Walks.{Visit, Stands, Stops, followed, settled_within, settled, onward, after, visit_from, visit_of, ended, walk_of}
-use Rattle.am_walk.specs.Laws.{IsForest, RestsAt}
+use Rattle.am_walk.specs.Laws.{RestsAt}
 
 -- ---- a mount that is entered is the top where the walk stands
 
@@ -121,12 +121,13 @@ at_most n (row ∷ rows) = by_test (nat_lt n row.mount) refl (at_most n rows)
     by_test true f h = rw f (omega (arith, h))
     by_test false f h = rw f (omega (arith, h))
 
-module _ (scene : Scene) (forest : IsForest scene.mounts) where
+-- the mounts rise in number, and each is mounted on an older one
+module _ (scene : Scene) (rising : IsRising scene.mounts) (older : (m p : ℕ) (row : MountRow) → mount_row scene.mounts m ≡ Some row → IsOn p row → p < m) where
   -- what is entered leaves fewer mounts above
   further : (mount below : ℕ) (place : List (List ℕ)) → top_of scene.mounts mount place ≡ Some below → above below scene.mounts < above mount scene.mounts
   further mount below place e =
-      let top : IsTop scene.mounts mount place below = subst (λ (o : Option ℕ). IfSome o (IsTop scene.mounts mount place)) e (some_greatest scene.mounts mount place (top_of scene.mounts mount place) (top_is scene.mounts forest.rising mount place)) in
-      fewer mount below scene.mounts top.is_there.0 (forest.higher below mount place top.is_there) top.is_there.1
+      let top : IsTop scene.mounts mount place below = subst (λ (o : Option ℕ). IfSome o (IsTop scene.mounts mount place)) e (some_greatest scene.mounts mount place (top_of scene.mounts mount place) (top_is scene.mounts rising mount place)) in
+      fewer mount below scene.mounts top.is_there.0 (older below mount top.is_there.0 top.is_there.1 (place, top.is_there.2)) top.is_there.1
 
   abbrev Rests : Visit → Type 0
   Rests (Stands mount place passed) = next_at scene mount place ≡ nexts.Rests

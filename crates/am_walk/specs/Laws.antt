@@ -1,11 +1,9 @@
 -- What every walk keeps to (autofs.rst, "Mount Traps").
-use Rattle.std.specs.Prelude.{◌≡◌, ◌<◌, ℕ, true, is_some, List, None}
+use Rattle.std.specs.Prelude.{◌≡◌, true, is_some, List, None}
 use Rattle.std.specs.List.{All}
 use Rattle.am_names.specs.declared.trigger.Trigger.{Trigger}
 use Rattle.am_names.specs.declared.row.OpenToken.{OpenToken}
-use Rattle.am_names.specs.declared.row.MountRow.{MountRow}
 use Rattle.am_names.specs.declared.row.TokenKind.TheVariants.{Missing, Expire}
-use Rattle.am_mount.specs.Rows.{IsRising, HasRow, IsAt}
 use Rattle.am_wait.specs.Rows.{open_on, token_of}
 use Rattle.am_walk.specs.declared.stop.Next.TheVariants as nexts
 use Rattle.am_walk.specs.declared.stop.Stop.{Stop}
@@ -30,12 +28,6 @@ StopsWell tokens (stops.Refuse errno) = Unit {0}
 pub record IsOrderly (tokens : List OpenToken) (walk : Walked) : Type 0 where
   pub passes : All (IsIdle tokens) walk.passed
   pub stops : StopsWell tokens walk.stop
-
--- the mounts rise in number, and each is above the one on which it is mounted
-pub record IsForest (rows : List MountRow) : Type 0 where
-  pub rising : IsRising rows
-  pub higher : (m parent : ℕ) (place : List (List ℕ)) →
-      HasRow (IsAt parent place) rows m → parent < m
 
 -- where the walk arrives nothing is in its way
 abbrev pub RestsAt : Scene → Stop → Type 0

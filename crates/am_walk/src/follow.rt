@@ -4,7 +4,7 @@ ghost use Rattle.std.specs.Prelude.{◌≡◌, [], None, Some, Ok, IfOk};
 ghost use Rattle.am_names.specs.Errno.{RefusedAs};
 ghost use Rattle.am_names.specs.Path.{IsCanonical, names_of};
 ghost use Rattle.am_walk.specs.Inside.{scene_in, walked_of, left_of, settled_at};
-ghost use Rattle.am_walk.specs.Laws.{IsOrderly, IsForest, RestsAt};
+ghost use Rattle.am_walk.specs.Laws.{IsOrderly, RestsAt};
 ghost use Rattle.am_walk.specs.Scene.{with_traps, without_traps};
 ghost use Rattle.am_walk.specs.Walks.{onward, ended, walk_of, position_of, fault_of};
 
@@ -134,7 +134,7 @@ pub fn resolve<'a>(
 ) -> Result<Walk, AllocError>
     ensures walk { IfOk result (λ walk. walked_of walk ≡ walk_of (with_traps subtree.now triggers.now waits.now) ns path.now) }
     ensures orderly { IfOk result (λ walk. IsOrderly waits.now.tokens (walked_of walk)) }
-    ensures rests { IsForest subtree.now.rows → IfOk result (λ walk. RestsAt (with_traps subtree.now triggers.now waits.now) walk.stop) }
+    ensures rests { IfOk result (λ walk. RestsAt (with_traps subtree.now triggers.now waits.now) walk.stop) }
 {
     resolve_text(alloc, subtree, triggers, waits, ns, path.text())
 }
@@ -151,7 +151,7 @@ pub fn resolve_text<'a>(
     requires { IsCanonical path.now }
     ensures walk { IfOk result (λ walk. walked_of walk ≡ walk_of (with_traps subtree.now triggers.now waits.now) ns (names_of path.now)) }
     ensures orderly { IfOk result (λ walk. IsOrderly waits.now.tokens (walked_of walk)) }
-    ensures rests { IsForest subtree.now.rows → IfOk result (λ walk. RestsAt (with_traps subtree.now triggers.now waits.now) walk.stop) }
+    ensures rests { IfOk result (λ walk. RestsAt (with_traps subtree.now triggers.now waits.now) walk.stop) }
 {
     let view = View {
         tree: subtree.tree(),

@@ -1,17 +1,18 @@
 //! The peer groups of a new mount and of its copies.
 
-ghost use Rattle.std.specs.Prelude.{◌≡◌, ◌==◌, ◌&&◌, ◌+◌, ◌^◌, ◌<◌, ◌∷◌, ◌++◌, not, [], Some, length, option_map, IfOk};
+ghost use Rattle.std.specs.Prelude.{◌≡◌, ◌==◌, ◌&&◌, ◌+◌, ◌^◌, ◌<◌, ◌∷◌, ◌++◌, not, [], length, IfOk};
 ghost use Rattle.std.specs.Option.{option_to_list};
 ghost use Rattle.am_group.specs.declared.membership.Membership.TheVariants.{InGroup};
 ghost use Rattle.am_group.specs.Changes.{is_just};
 ghost use Rattle.am_group.specs.Propagation.{member_row, slave_in, group_of};
-ghost use Rattle.am_group.specs.Copies.{has_receiver, receiving_groups, rank, copy_row, copies_from, group_copies};
+ghost use Rattle.am_group.specs.Copies.{has_receiver, receiving_groups, copy_row, copies_from, group_copies};
 ghost use Rattle.am_group.specs.Receivers.{receivers_of};
 ghost use Rattle.am_group.specs.Members.{row_with};
 ghost use Rattle.am_propagate.specs.Joining.{stand_of, others_of, group_copy, AreNew};
-ghost use Rattle.am_propagate.specs.Added.{new_group, last_fresh, fresh_groups, fresh_count, groups_made};
+ghost use Rattle.am_propagate.specs.Added.{groups_made};
 
 use crate::subtree::Subtree;
+use crate::subtree::stand_ins::{StandIns, fresh_group};
 use am_group::Membership;
 use am_names::{GroupId, GroupRow, MemberRow, MountId};
 use std::alloc::{AllocError, Global};
@@ -23,18 +24,6 @@ pub struct Joining {
     pub groups: Vec<GroupRow>,
 }
 
-/// Which groups stand among copies for the receivers' groups.
-#[derive(Drop)]
-pub struct StandIns {
-    /// The group of the mount at the place, for which the new mount's stands.
-    pub own: GroupId,
-    pub new: GroupId,
-    /// The greatest number before the fresh groups of the copies.
-    pub last: u64,
-    /// The other groups that receivers are in.
-    pub groups: Vec<GroupId>,
-}
-
 fn is_just(group: GroupId, of: Option<GroupId>) -> bool
     ensures { result ≡ is_just group of }
 {
@@ -42,67 +31,6 @@ fn is_just(group: GroupId, of: Option<GroupId>) -> bool
         Some(other) => other == group,
         None => false,
     }
-}
-
-fn rank(group: GroupId, groups: &[GroupId]) -> usize
-    ensures { result ≡ rank group groups.now }
-{
-    groups.iter().filter(|other| **other < group).count()
-}
-
-impl StandIns {
-    /// For a mount with this source. The last group has had the number `last`.
-    fn of(own: GroupId, groups: Vec<GroupId>, membership: &Membership, last: u64) -> StandIns
-        requires { last + fresh_count membership.now < 2 ^ 64 }
-        ensures own { result.own ≡ own }
-        ensures new { result.new ≡ new_group membership.now last }
-        ensures last { result.last ≡ last_fresh membership.now last }
-        ensures groups { result.groups.items ≡ groups.items }
-    {
-        let (new, last) = match membership {
-            Membership::InGroup(new) => (*new, last),
-            Membership::SlaveOf(_) | Membership::Private | Membership::Unbindable => {
-                (GroupId(last + 1), last + 1)
-            }
-        };
-        StandIns {
-            own,
-            new,
-            last,
-            groups,
-        }
-    }
-
-    fn stand_of(&self, group: GroupId) -> GroupId
-        ensures { result ≡ stand_of self.now group }
-    {
-        if group == self.own {
-            return self.new;
-        }
-        let rank = rank(group, self.groups.as_slice());
-        GroupId(self.last.saturating_add(1).saturating_add(rank as u64))
-    }
-
-    fn stand_of_master(&self, master: Option<GroupId>) -> Option<GroupId>
-        ensures { result ≡ option_map (stand_of self.now) master }
-    {
-        match master {
-            Some(group) => Some(self.stand_of(group)),
-            None => None,
-        }
-    }
-}
-
-/// The fresh group of a new mount, if it needs one, with its master.
-fn fresh_group(membership: &Membership, group: GroupId) -> Option<GroupRow>
-    ensures { option_to_list result ≡ fresh_groups membership.now group }
-{
-    let master = match membership {
-        Membership::InGroup(_) => return None,
-        Membership::SlaveOf(master) => Some(*master),
-        Membership::Private | Membership::Unbindable => None,
-    };
-    Some(GroupRow { group, master })
 }
 
 impl Joining {

@@ -2,9 +2,9 @@
 //! `tools/slow_mounts.py 2000 12` prints the number that is expected here.
 
 use crate::subtree::Subtree;
-use crate::subtree::tests::{bind, mount, used_by};
+use crate::subtree::script::{Call, bind, drop_namespace, mount, umount};
 use am_group::Change;
-use am_names::{Errno, GroupId, MountId, MountRow, NsId};
+use am_names::{Errno, GroupId, MountId, MountRow};
 use std::alloc::Global;
 use std::test::Fail;
 
@@ -123,52 +123,65 @@ fn change_of(number: u64) -> Change {
     }
 }
 
-fn step(
-    alloc: Global,
-    subtree: &mut Subtree,
-    random: &mut Random,
-    total: &mut Total,
-) -> Result<(), Errno> {
+/// Two mounts, a number below 4, and the path that goes with it.
+#[derive(Clone, Copy)]
+struct Drawn {
+    call: u64,
+    first: u64,
+    second: u64,
+    number: u64,
+    path: &'static [u8],
+}
+
+fn draw(subtree: &Subtree, random: &mut Random) -> Drawn {
     let call = random.below(8);
     let first = random.mount(subtree);
     let second = random.mount(subtree);
     let number = random.below(4);
-    let path = if number % 2 == 0 {
-        b"/0".as_slice()
-    } else {
-        b"/1".as_slice()
-    };
-    let used = used_by(alloc, &[second])?;
-    match call {
-        0 | 1 => total.answer(mount(alloc, subtree, first, path)),
-        2 | 3 => total.answer(bind(alloc, subtree, first, second, path)),
-        4 | 5 => {
-            subtree.change(alloc, change_of(number), MountId(first))?;
-            total.fold(0);
-        }
-        6 => total.gone(subtree.umount(alloc, MountId(first), &used)),
-        _ => match number {
-            0 | 2 => {
-                let ns = NsId(if number == 0 { 0 } else { 2 });
-                match subtree.copy_namespace(alloc, ns) {
-                    Ok(to) => total.answer(Ok(to.0 as u64)),
-                    Err(error) => total.answer(Err(error)),
-                }
-            }
-            _ => {
-                let ns = NsId(if number == 1 { 1 } else { 3 });
-                total.gone(subtree.drop_namespace(alloc, ns, &used));
-            }
-        },
+    let path: &'static [u8] = if number % 2 == 0 { b"/0" } else { b"/1" };
+    Drawn {
+        call,
+        first,
+        second,
+        number,
+        path,
     }
-    total.table(subtree);
-    Ok(())
+}
+
+impl Total {
+    fn changes(&mut self, alloc: Global, subtree: &mut Subtree, by: Drawn) {
+        match subtree.change(alloc, change_of(by.number), MountId(by.first)) {
+            Ok(()) => self.fold(0),
+            Err(error) => self.answer(Err(error)),
+        }
+    }
+
+    fn namespaces(&mut self, alloc: Global, subtree: &mut Subtree, by: Drawn) {
+        match by.number {
+            0 => self.answer(Call::Copy(0).make(alloc, subtree, 0)),
+            1 => self.gone(drop_namespace(alloc, subtree, 1, by.second)),
+            2 => self.answer(Call::Copy(2).make(alloc, subtree, 0)),
+            _ => self.gone(drop_namespace(alloc, subtree, 3, by.second)),
+        }
+    }
+
+    fn step(&mut self, alloc: Global, subtree: &mut Subtree, by: Drawn) {
+        match by.call {
+            0 | 1 => self.answer(mount(alloc, subtree, by.first, by.path)),
+            2 | 3 => self.answer(bind(alloc, subtree, by.first, by.second, by.path)),
+            4 | 5 => self.changes(alloc, subtree, by),
+            6 => self.gone(umount(alloc, subtree, by.first, by.second)),
+            _ => self.namespaces(alloc, subtree, by),
+        }
+        self.table(subtree);
+    }
 }
 
 fn world(alloc: Global, random: &mut Random, total: &mut Total) -> Result<(), Errno> {
     let mut subtree = Subtree::new(alloc, 40)?;
     for _ in 0..12 {
-        step(alloc, &mut subtree, random, total)?;
+        let by = draw(&subtree, random);
+        total.step(alloc, &mut subtree, by);
     }
     Ok(())
 }

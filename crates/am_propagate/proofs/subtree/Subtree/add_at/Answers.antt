@@ -1,13 +1,11 @@
-use Rattle.std.proofs.Common.{rules, ◌≡◌, ◌≤◌, ◌<◌, ◌+◌, ◌∷◌, ℕ, List, Option, length, arith, ap, sym, subst, ◌∙◌}
+use Rattle.std.proofs.Common.{rules, ◌≡◌, ◌<◌, ◌+◌, ◌∷◌, List, length, arith, ap, sym, subst, ◌∙◌}
 use Rattle.am_names.specs.declared.row.MountRow.{MountRow}
 use Rattle.am_names.specs.declared.row.GroupRow.{GroupRow}
-use Rattle.am_names.specs.PeerGroups.{PeerGroups}
 use Rattle.am_group.specs.Propagation.{group_of}
 use Rattle.am_group.specs.Invariant.{AddsNoReceivers}
 use Rattle.am_group.specs.Receivers.{receivers_of}
 use Rattle.am_propagate.specs.MountTable.{MountTable}
 use Rattle.am_propagate.specs.Invariant.{IsWhole}
-use Rattle.am_propagate.specs.Grown.{grown}
 use Rattle.am_propagate.specs.Added.{groups_made, mounted}
 use Rattle.am_propagate.proofs.AdditionLemmas.{length_rows, made_length, grown_is, mounted_whole, mounted_law}
 use Rattle.am_propagate.proofs.subtree.Subtree.add_at.Goals as goal

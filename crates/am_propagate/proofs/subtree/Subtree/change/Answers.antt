@@ -1,5 +1,3 @@
-use Rattle.std.proofs.Common.{◌≡◌}
-use Rattle.am_group.specs.Changes.{changed}
 use Rattle.am_propagate.specs.Inside.{table_of}
 use Rattle.am_propagate.proofs.KindLemmas.{changed_whole}
 use Rattle.am_propagate.proofs.subtree.Subtree.change.Goals as goal

@@ -1,6 +1,5 @@
 use Rattle.std.proofs.Common.{◌≡◌, ◌+◌, ℕ, List, ap, sym, subst, ◌∙◌}
 use Rattle.std.specs.Prelude.{map, filter}
-use Rattle.am_names.specs.declared.row.MemberRow.{MemberRow}
 use Rattle.am_group.specs.Invariant.{AddsNoReceivers}
 use Rattle.am_mount.specs.Rows.{is_among}
 use Rattle.am_propagate.specs.MountTable.{MountTable}

@@ -1,5 +1,4 @@
-use Rattle.std.proofs.Common.{◌≡◌, ◌+◌, ◌<◌, ℕ, List, Option, Some, ap, sym, subst, ◌∙◌}
-use Rattle.am_names.specs.PeerGroups.{PeerGroups}
+use Rattle.std.proofs.Common.{◌≡◌, ◌+◌, ◌<◌, ℕ, Option, Some, ap, sym, subst, ◌∙◌}
 use Rattle.am_group.specs.Propagation.{group_of}
 use Rattle.am_group.specs.Copies.{receiving_groups}
 use Rattle.am_propagate.specs.MountTable.{MountTable}

@@ -1,6 +1,5 @@
-use Rattle.std.proofs.Common.{◌≡◌, List, sym, subst}
+use Rattle.std.proofs.Common.{◌≡◌, sym, subst}
 use Rattle.std.specs.Prelude.{filter, not}
-use Rattle.am_names.specs.declared.row.MountRow.{MountRow}
 use Rattle.am_group.specs.Changes.{without}
 use Rattle.am_mount.specs.Rows.{is_among}
 use Rattle.am_propagate.specs.MountTable.{MountTable}

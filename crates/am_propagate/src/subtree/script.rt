@@ -1,0 +1,184 @@
+//! Calls and what they are to do as tables, for the tests.
+
+use crate::in_use::InUse;
+use crate::subtree::Subtree;
+use am_group::{Change, Kind};
+use am_names::{AbsPath, Errno, FsId, MountId, NsId, Place, Position};
+use std::alloc::Global;
+use std::process::Abort;
+
+/// The mounts that are in use.
+#[derive(Drop)]
+pub struct Busy {
+    mounts: Vec<MountId>,
+}
+
+impl InUse for Busy {
+    ghost use Rattle.am_mount.specs.Rows.{is_among};
+
+    ghost uses = { λ s m. is_among s.mounts.items m };
+
+    fn in_use(&self, mount: MountId) -> bool {
+        self.mounts.iter().copied().any(|other| other == mount)
+    }
+}
+
+fn used_by(alloc: Global, mounts: &[u64]) -> Result<Busy, Errno> {
+    let mut numbers = Vec::new(alloc);
+    for mount in mounts {
+        numbers.push(MountId(*mount))?;
+    }
+    Ok(Busy { mounts: numbers })
+}
+
+fn position(alloc: Global, mount: u64, path: &[u8]) -> Result<Position, Errno> {
+    Ok(Position {
+        mount: MountId(mount),
+        place: Place::of(alloc, AbsPath::read(path)?.text())?,
+    })
+}
+
+pub fn mount(alloc: Global, subtree: &mut Subtree, parent: u64, path: &[u8]) -> Result<u64, Errno> {
+    let at = position(alloc, parent, path)?;
+    Ok(subtree.mount(alloc, &at, FsId(2))?.0)
+}
+
+pub fn bind(
+    alloc: Global,
+    subtree: &mut Subtree,
+    source: u64,
+    parent: u64,
+    path: &[u8],
+) -> Result<u64, Errno> {
+    let at = position(alloc, parent, path)?;
+    Ok(subtree.bind(alloc, MountId(source), &at)?.0)
+}
+
+/// What an unmount removes while this mount is in use.
+pub fn umount(
+    alloc: Global,
+    subtree: &mut Subtree,
+    mount: u64,
+    busy: u64,
+) -> Result<Vec<MountId>, Errno> {
+    let used = used_by(alloc, &[busy])?;
+    subtree.umount(alloc, MountId(mount), &used)
+}
+
+/// What goes with a namespace while this mount is in use.
+pub fn drop_namespace(
+    alloc: Global,
+    subtree: &mut Subtree,
+    ns: u32,
+    busy: u64,
+) -> Result<Vec<MountId>, Errno> {
+    let used = used_by(alloc, &[busy])?;
+    subtree.drop_namespace(alloc, NsId(ns), &used)
+}
+
+/// A call of a mount table.
+#[derive(Clone, Copy)]
+pub enum Call {
+    Mount(u64, &'static [u8]),
+    Bind(u64, u64, &'static [u8]),
+    Change(Change, u64),
+    Umount(u64),
+    Copy(u32),
+    Drop(u32),
+}
+
+impl Call {
+    /// Makes it while this mount is in use. It gives the number of what was made or how many
+    /// mounts went, 0 for a change.
+    pub fn make(self, alloc: Global, subtree: &mut Subtree, busy: u64) -> Result<u64, Errno> {
+        match self {
+            Call::Mount(parent, path) => mount(alloc, subtree, parent, path),
+            Call::Bind(source, parent, path) => bind(alloc, subtree, source, parent, path),
+            Call::Change(change, mount) => {
+                subtree.change(alloc, change, MountId(mount))?;
+                Ok(0)
+            }
+            Call::Umount(mount) => Ok(umount(alloc, subtree, mount, busy)?.len() as u64),
+            Call::Copy(ns) => Ok(subtree.copy_namespace(alloc, NsId(ns))?.0 as u64),
+            Call::Drop(ns) => Ok(drop_namespace(alloc, subtree, ns, busy)?.len() as u64),
+        }
+    }
+}
+
+/// A step of an example. The number 0 is no mount.
+#[derive(Clone, Copy)]
+pub enum Step {
+    /// The call gives this number.
+    Gives(Call, u64),
+    /// While this mount is in use the call is refused so.
+    Refused(Call, u64, Errno),
+    /// An unmount removes just these mounts.
+    Removes(u64, &'static [u64]),
+    /// On the mount, at this path, this one is the top, or none.
+    Top(u64, &'static [u8], u64),
+    /// The mount is in this state.
+    Is(u64, Kind),
+}
+
+fn is_top(subtree: &Subtree, mount: u64, path: &[u8], top: u64) -> Result<bool, Errno> {
+    let path = AbsPath::read(path)?;
+    match subtree.tree().top(MountId(mount), path.text()) {
+        Some(found) => Ok(found.0 == top),
+        None => Ok(top == 0),
+    }
+}
+
+fn removes(
+    alloc: Global,
+    subtree: &mut Subtree,
+    mount: u64,
+    expected: &[u64],
+) -> Result<bool, Errno> {
+    let gone = umount(alloc, subtree, mount, 0)?;
+    Ok(
+        gone.iter()
+            .map(|mount| mount.0)
+            .eq(expected.iter().copied()),
+    )
+}
+
+impl Step {
+    /// Whether it goes as it says.
+    fn goes(self, alloc: Global, subtree: &mut Subtree) -> Result<bool, Errno> {
+        match self {
+            Step::Gives(call, number) => Ok(call.make(alloc, subtree, 0) == Ok(number)),
+            Step::Refused(call, busy, error) => Ok(call.make(alloc, subtree, busy) == Err(error)),
+            Step::Removes(mount, gone) => removes(alloc, subtree, mount, gone),
+            Step::Top(mount, path, top) => is_top(subtree, mount, path, top),
+            Step::Is(mount, kind) => Ok(subtree.groups().kind(MountId(mount)) == Some(kind)),
+        }
+    }
+}
+
+/// Each step goes as it says.
+pub fn plays(
+    rt: &impl Abort,
+    alloc: Global,
+    subtree: &mut Subtree,
+    steps: &[Step],
+) -> Result<(), Errno> {
+    let mut number = 0_usize;
+    for step in steps {
+        number = number.saturating_add(1);
+        let goes = step.goes(alloc, subtree)?;
+        assert!(rt; goes, "step {number}");
+    }
+    Ok(())
+}
+
+/// The steps of both tables go as they say, from namespace 0 on.
+pub fn plays_both(
+    rt: &impl Abort,
+    alloc: Global,
+    first: &[Step],
+    then: &[Step],
+) -> Result<(), Errno> {
+    let mut subtree = Subtree::new(alloc, 100)?;
+    plays(rt, alloc, &mut subtree, first)?;
+    plays(rt, alloc, &mut subtree, then)
+}
