@@ -16,6 +16,9 @@ use am_trigger::Triggers;
 use am_wait::Waits;
 use std::alloc::{AllocError, Global};
 
+#[cfg(test)]
+mod tests;
+
 /// Where a walk stands, and the triggers that it passed on its way.
 #[derive(Drop)]
 pub struct Walking {

@@ -1,0 +1,240 @@
+//! Paths over stacks, over several triggers, and in several namespaces.
+
+use crate::follow::resolve_text;
+use crate::follow::tests::{End, Step, Trap, World, are_passed, plays, plays_both};
+use crate::stop::{Stop, Walk};
+use am_names::{AbsPath, Errno, NsId, Place};
+use std::alloc::Global;
+use std::process::Abort;
+use std::test::Fail;
+
+const HOME: Trap = Trap(2, b"home");
+
+const WORK: Trap = Trap(4, b"work");
+
+/// Indirect autofs 2 at `/auto` has mount 3 on `home`, at whose `/srv` indirect autofs 4 has mount
+/// 5 on `work`.
+pub static TWO_ON_THE_WAY: [Step; 4] = [
+    Step::Indirect(1, b"/auto", 2),
+    Step::Mount(2, b"/home", 3),
+    Step::Indirect(3, b"/srv", 4),
+    Step::Mount(4, b"/work", 5),
+];
+
+#[test]
+fn triggers_are_passed_in_the_order_of_the_path(rt: HostRuntime) -> Result<(), Fail> {
+    static STEPS: [Step; 6] = [
+        Step::Walk(0, b"/auto", &[], End::At(2, b"")),
+        Step::Walk(0, b"/auto/home", &[HOME], End::At(3, b"")),
+        Step::Walk(0, b"/auto/home/srv", &[HOME], End::At(4, b"")),
+        Step::Walk(0, b"/auto/home/srv/work", &[HOME, WORK], End::At(5, b"")),
+        Step::Walk(
+            0,
+            b"/auto/home/srv/work/x",
+            &[HOME, WORK],
+            End::At(5, b"/x"),
+        ),
+        Step::Walk(
+            0,
+            b"/auto/home/srv/home",
+            &[HOME],
+            End::Notifies(Trap(4, b"home")),
+        ),
+    ];
+    plays_both(&rt, rt.alloc(), &TWO_ON_THE_WAY, &STEPS)?;
+    Ok(())
+}
+
+/// The first trigger on the way decides.
+#[test]
+fn a_walk_that_stops_tells_what_it_passed(rt: HostRuntime) -> Result<(), Fail> {
+    static STEPS: [Step; 6] = [
+        Step::Expires(1, WORK),
+        Step::Walk(0, b"/auto/home/srv/work", &[HOME], End::Waits(1)),
+        Step::Catatonic(4),
+        Step::Walk(
+            0,
+            b"/auto/home/srv/home",
+            &[HOME],
+            End::Fails(Errno::ENOENT),
+        ),
+        Step::Expires(2, HOME),
+        Step::Walk(0, b"/auto/home/srv/work", &[], End::Waits(2)),
+    ];
+    plays_both(&rt, rt.alloc(), &TWO_ON_THE_WAY, &STEPS)?;
+    Ok(())
+}
+
+#[test]
+fn slashes_may_be_doubled_and_trail(rt: HostRuntime) -> Result<(), Fail> {
+    static STEPS: [Step; 12] = [
+        Step::Walk(0, b"/", &[], End::At(1, b"")),
+        Step::Walk(0, b"///", &[], End::At(1, b"")),
+        Step::Walk(0, b"//auto/", &[], End::At(2, b"")),
+        Step::Walk(0, b"//auto///home/", &[HOME], End::At(3, b"")),
+        Step::Walk(0, b"/auto//home//x//", &[HOME], End::At(3, b"/x")),
+        Step::Walk(0, b"/x//y/", &[], End::At(1, b"/x/y")),
+        Step::Leads(0, b"/", End::At(1, b"")),
+        Step::Leads(0, b"///", End::At(1, b"")),
+        Step::Leads(0, b"//auto/", End::At(2, b"")),
+        Step::Leads(0, b"//auto///home/", End::At(3, b"")),
+        Step::Leads(0, b"/auto//home//x//", End::At(3, b"/x")),
+        Step::Leads(0, b"/x//y/", End::At(1, b"/x/y")),
+    ];
+    plays_both(&rt, rt.alloc(), &TWO_ON_THE_WAY, &STEPS)?;
+    Ok(())
+}
+
+#[test]
+fn five_mounts_one_on_the_root_of_the_other(rt: HostRuntime) -> Result<(), Fail> {
+    static STEPS: [Step; 11] = [
+        Step::Mount(1, b"/a", 2),
+        Step::Mount(2, b"/", 2),
+        Step::Mount(3, b"/", 2),
+        Step::Mount(4, b"/", 2),
+        Step::Mount(5, b"/", 2),
+        Step::Walk(0, b"/", &[], End::At(1, b"")),
+        Step::Walk(0, b"/a", &[], End::At(6, b"")),
+        Step::Walk(0, b"/a/b", &[], End::At(6, b"/b")),
+        Step::Leads(0, b"/", End::At(1, b"")),
+        Step::Leads(0, b"/a", End::At(6, b"")),
+        Step::Leads(0, b"/a/b", End::At(6, b"/b")),
+    ];
+    plays(&rt, rt.alloc(), &STEPS)?;
+    Ok(())
+}
+
+#[test]
+fn of_five_mounts_at_one_place_the_most_recent(rt: HostRuntime) -> Result<(), Fail> {
+    static STEPS: [Step; 9] = [
+        Step::Mount(1, b"/a/b", 2),
+        Step::Mount(1, b"/a/b", 2),
+        Step::Mount(1, b"/a/b", 2),
+        Step::Mount(1, b"/a/b", 2),
+        Step::Mount(1, b"/a/b", 2),
+        Step::Walk(0, b"/a", &[], End::At(1, b"/a")),
+        Step::Walk(0, b"/a/b", &[], End::At(6, b"")),
+        Step::Walk(0, b"/a/b/c", &[], End::At(6, b"/c")),
+        Step::Walk(0, b"/a/c", &[], End::At(1, b"/a/c")),
+    ];
+    plays(&rt, rt.alloc(), &STEPS)?;
+    Ok(())
+}
+
+#[test]
+fn five_mounts_on_a_trigger(rt: HostRuntime) -> Result<(), Fail> {
+    static STEPS: [Step; 7] = [
+        Step::Indirect(1, b"/auto", 2),
+        Step::Mount(2, b"/home", 3),
+        Step::Mount(3, b"/", 3),
+        Step::Mount(4, b"/", 3),
+        Step::Mount(5, b"/", 3),
+        Step::Mount(6, b"/", 3),
+        Step::Walk(0, b"/auto/home/x", &[HOME], End::At(7, b"/x")),
+    ];
+    plays(&rt, rt.alloc(), &STEPS)?;
+    Ok(())
+}
+
+#[test]
+fn a_trigger_may_be_met_before_the_first_name(rt: HostRuntime) -> Result<(), Fail> {
+    static STEPS: [Step; 9] = [
+        Step::Direct(1, b"/", 2),
+        Step::Walk(0, b"/", &[], End::Notifies(Trap(2, b""))),
+        Step::Walk(0, b"/a", &[], End::Notifies(Trap(2, b""))),
+        Step::Walk(0, b"/a/b", &[], End::Notifies(Trap(2, b""))),
+        Step::Mount(2, b"/", 3),
+        Step::Walk(0, b"/", &[Trap(2, b"")], End::At(3, b"")),
+        Step::Walk(0, b"/a", &[Trap(2, b"")], End::At(3, b"/a")),
+        Step::Expires(1, Trap(2, b"")),
+        Step::Walk(0, b"/a", &[], End::Waits(1)),
+    ];
+    plays(&rt, rt.alloc(), &STEPS)?;
+    Ok(())
+}
+
+#[test]
+fn a_catatonic_trigger_before_the_first_name(rt: HostRuntime) -> Result<(), Fail> {
+    static STEPS: [Step; 4] = [
+        Step::Direct(1, b"/", 2),
+        Step::Catatonic(2),
+        Step::Walk(0, b"/", &[], End::At(2, b"")),
+        Step::Walk(0, b"/a", &[], End::Fails(Errno::ENOENT)),
+    ];
+    plays(&rt, rt.alloc(), &STEPS)?;
+    Ok(())
+}
+
+/// A plain mount on the root, and a direct autofs on that one, with another on its trigger.
+#[test]
+fn triggers_are_met_in_a_stack(rt: HostRuntime) -> Result<(), Fail> {
+    static STEPS: [Step; 7] = [
+        Step::Mount(1, b"/", 2),
+        Step::Direct(2, b"/", 3),
+        Step::Mount(3, b"/", 4),
+        Step::Direct(4, b"/", 5),
+        Step::Walk(0, b"/", &[Trap(3, b"")], End::Notifies(Trap(5, b""))),
+        Step::Mount(5, b"/", 6),
+        Step::Walk(0, b"/", &[Trap(3, b""), Trap(5, b"")], End::At(6, b"")),
+    ];
+    plays(&rt, rt.alloc(), &STEPS)?;
+    Ok(())
+}
+
+/// The copies of mounts 1 to 3 are 4 to 6; 7 and 8 are mounted later, one in each namespace.
+static TWO_NAMESPACES: [Step; 5] = [
+    Step::Indirect(1, b"/auto", 2),
+    Step::Mount(2, b"/home", 3),
+    Step::Copy,
+    Step::Mount(1, b"/a", 4),
+    Step::Mount(4, b"/b", 4),
+];
+
+#[test]
+fn a_walk_stays_in_its_namespace(rt: HostRuntime) -> Result<(), Fail> {
+    static STEPS: [Step; 9] = [
+        Step::Walk(0, b"/a/x", &[], End::At(7, b"/x")),
+        Step::Walk(0, b"/b/x", &[], End::At(1, b"/b/x")),
+        Step::Walk(0, b"/auto/home/x", &[HOME], End::At(3, b"/x")),
+        Step::Walk(1, b"/a/x", &[], End::At(4, b"/a/x")),
+        Step::Walk(1, b"/b/x", &[], End::At(8, b"/x")),
+        Step::Walk(1, b"/auto/home/x", &[HOME], End::At(6, b"/x")),
+        Step::Walk(1, b"/auto/work", &[], End::Notifies(Trap(2, b"work"))),
+        Step::Walk(2, b"/", &[], End::Fails(Errno::ENOENT)),
+        Step::Walk(2, b"/auto/home", &[], End::Fails(Errno::ENOENT)),
+    ];
+    plays_both(&rt, rt.alloc(), &TWO_NAMESPACES, &STEPS)?;
+    Ok(())
+}
+
+fn two_on_the_way(rt: &impl Abort, alloc: Global) -> Result<World, Errno> {
+    let mut world = World::new(alloc)?;
+    world.plays(rt, alloc, &TWO_ON_THE_WAY)?;
+    Ok(world)
+}
+
+/// The walk along a path that is kept as a place.
+fn kept_walk(world: &World, alloc: Global, path: &[u8]) -> Result<Walk, Errno> {
+    let path = AbsPath::read(path)?;
+    let kept = Place::of(alloc, path.text())?;
+    Ok(resolve_text(
+        alloc,
+        &world.subtree,
+        &world.triggers,
+        &world.waits,
+        NsId(0),
+        kept.text(),
+    )?)
+}
+
+#[test]
+fn a_kept_text_is_walked_like_its_path(rt: HostRuntime) -> Result<(), Fail> {
+    let world = two_on_the_way(&rt, rt.alloc())?;
+    let walk = kept_walk(&world, rt.alloc(), b"//auto/home/x/")?;
+    assert!(rt; are_passed(walk.passed.as_slice(), &[HOME]));
+    let Stop::Arrive(at) = &walk.stop else {
+        panic!(rt; "no arrival");
+    };
+    assert!(rt; End::At(3, b"/x").is_at(at));
+    Ok(())
+}
