@@ -41,6 +41,7 @@ fn join(waits: &mut Waits, token: u32, walker: u32) -> Result<(), Errno> {
     }
 }
 
+/// The whole life of tokens and waits, with room for two waits.
 #[test]
 fn two_may_wait(rt: HostRuntime) -> Result<(), Fail> {
     let (home, work) = (named(b"home")?, named(b"work")?);
@@ -56,32 +57,8 @@ fn two_may_wait(rt: HostRuntime) -> Result<(), Fail> {
         open(alloc, &mut waits, &work, MISSING, 9),
         Err(Errno::ENOSPC)
     );
-    Ok(())
-}
-
-#[test]
-fn a_wait_is_collected_once(rt: HostRuntime) -> Result<(), Fail> {
-    let home = named(b"home")?;
-    let _name: Option<Name> = home.name;
-    let alloc = rt.alloc();
-    let mut waits = Waits::new(alloc, 1, 9);
-    assert_eq!(rt; open(alloc, &mut waits, &home, MISSING, 7), Ok(Token(1)));
-    assert_eq!(rt; waits.answer(Token(1), Status::Ready), Ok(()));
     assert_eq!(rt; waits.collect(WalkerId(7)), Ok(Status::Ready));
     assert_eq!(rt; waits.collect(WalkerId(7)), Err(Errno::EINVAL));
-    // There is a place again, and the next token.
-    assert_eq!(rt; open(alloc, &mut waits, &home, EXPIRE, 7), Ok(Token(2)));
-    Ok(())
-}
-
-#[test]
-fn a_file_system_releases_its_waiters(rt: HostRuntime) -> Result<(), Fail> {
-    let (home, work) = (named(b"home")?, named(b"work")?);
-    let _name: Option<Name> = home.name;
-    let alloc = rt.alloc();
-    let mut waits = Waits::new(alloc, 9, 9);
-    assert_eq!(rt; open(alloc, &mut waits, &home, MISSING, 8), Ok(Token(1)));
-    assert_eq!(rt; waits.answer(Token(1), Status::Ready), Ok(()));
     assert_eq!(rt; open(alloc, &mut waits, &work, EXPIRE, 9), Ok(Token(2)));
     assert_eq!(rt; waits.collect(WalkerId(9)), Err(Errno::NotReleased));
     assert_eq!(rt; waits.answer(Token(1), Status::Ready), Err(Errno::EINVAL));
