@@ -68,6 +68,13 @@ fn make(
     }
 }
 
+fn make_again(alloc: Global, subtree: &mut Subtree, call: Call) -> Result<u64, Errno> {
+    match call.make(alloc, subtree, 0) {
+        Err(Errno::NoMemory) => call.make(alloc, subtree, 0),
+        result => result,
+    }
+}
+
 /// Makes the call in both tables, which are the same before and behind it.
 fn make_twice(
     rt: &impl Abort,
@@ -77,12 +84,8 @@ fn make_twice(
     call: Call,
 ) -> Result<(), Errno> {
     let answer = make(rt, alloc, one, other, call)?;
-    let again = match call.make(alloc, other, 0) {
-        Err(Errno::NoMemory) => call.make(alloc, other, 0)?,
-        result => result?,
-    };
-    assert_eq!(rt; answer, again);
-    assert!(rt; is_same(one, other));
+    let again = make_again(alloc, other, call)?;
+    assert!(rt; answer == again && is_same(one, other));
     Ok(())
 }
 
@@ -109,14 +112,27 @@ static FOUND: [Step; 3] = [
     Step::Top(7, b"/y", 0),
 ];
 
+fn make_all(
+    rt: &impl Abort,
+    alloc: Global,
+    one: &mut Subtree,
+    other: &mut Subtree,
+) -> Result<(), Errno> {
+    for call in CALLS.iter() {
+        make_twice(rt, alloc, one, other, *call)?;
+    }
+    assert!(rt; one.tree().rows().len() == 7);
+    plays(rt, alloc, one, &FOUND)
+}
+
+fn runs_out(rt: &impl Abort, alloc: Global, one: &mut Subtree) -> Result<(), Errno> {
+    let mut other = opened(alloc)?;
+    make_all(rt, alloc, one, &mut other)
+}
+
 #[test]
 fn memory_may_run_out_anywhere(rt: HostRuntime) -> Result<(), Fail> {
     let mut subtree = opened(rt.alloc())?;
-    let mut other = opened(rt.alloc())?;
-    for call in CALLS.iter() {
-        make_twice(&rt, rt.alloc(), &mut subtree, &mut other, *call)?;
-    }
-    assert_eq!(rt; subtree.tree().rows().len(), 7);
-    plays(&rt, rt.alloc(), &mut subtree, &FOUND)?;
+    runs_out(&rt, rt.alloc(), &mut subtree)?;
     Ok(())
 }

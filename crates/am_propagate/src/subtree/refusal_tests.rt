@@ -1,7 +1,6 @@
 //! Each refusal, in the order of the tests.
 
-use crate::subtree::Subtree;
-use crate::subtree::script::{Call, Step, plays, plays_both};
+use crate::subtree::script::{Call, Step, plays_both};
 use crate::subtree::tests::SLAVE_AND_PEERS;
 use am_group::{Change, Kind};
 use am_names::Errno;
@@ -21,8 +20,7 @@ fn a_bind_tests_in_order(rt: HostRuntime) -> Result<(), Fail> {
         Step::Gives(Call::Change(Change::MakePrivate, 2), 0),
         Step::Refused(Call::Bind(2, 1, b"/c"), 0, Errno::ENOSPC),
     ];
-    let mut subtree = Subtree::new(rt.alloc(), 3)?;
-    plays(&rt, rt.alloc(), &mut subtree, &STEPS)?;
+    plays_both(&rt, rt.alloc(), 3, &STEPS, &[])?;
     Ok(())
 }
 
@@ -39,7 +37,7 @@ fn an_unmount_tests_in_order(rt: HostRuntime) -> Result<(), Fail> {
         Step::Refused(Call::Umount(8), 11, Errno::EBUSY),
         Step::Top(7, b"/y", 11),
     ];
-    plays_both(&rt, rt.alloc(), &SLAVE_AND_PEERS, &STEPS)?;
+    plays_both(&rt, rt.alloc(), 100, &SLAVE_AND_PEERS, &STEPS)?;
     Ok(())
 }
 
@@ -57,6 +55,6 @@ fn a_drop_tests_in_order(rt: HostRuntime) -> Result<(), Fail> {
         Step::Is(3, Kind::Private),
         Step::Is(6, Kind::Shared),
     ];
-    plays_both(&rt, rt.alloc(), &SLAVE_AND_PEERS, &STEPS)?;
+    plays_both(&rt, rt.alloc(), 100, &SLAVE_AND_PEERS, &STEPS)?;
     Ok(())
 }

@@ -87,6 +87,19 @@ pub enum Call {
     Drop(u32),
 }
 
+fn change(alloc: Global, subtree: &mut Subtree, change: Change, mount: u64) -> Result<u64, Errno> {
+    subtree.change(alloc, change, MountId(mount))?;
+    Ok(0)
+}
+
+fn copy_namespace(alloc: Global, subtree: &mut Subtree, ns: u32) -> Result<u64, Errno> {
+    Ok(subtree.copy_namespace(alloc, NsId(ns))?.0 as u64)
+}
+
+fn count(gone: Result<Vec<MountId>, Errno>) -> Result<u64, Errno> {
+    Ok(gone?.len() as u64)
+}
+
 impl Call {
     /// Makes it while this mount is in use. It gives the number of what was made or how many
     /// mounts went, 0 for a change.
@@ -94,13 +107,10 @@ impl Call {
         match self {
             Call::Mount(parent, path) => mount(alloc, subtree, parent, path),
             Call::Bind(source, parent, path) => bind(alloc, subtree, source, parent, path),
-            Call::Change(change, mount) => {
-                subtree.change(alloc, change, MountId(mount))?;
-                Ok(0)
-            }
-            Call::Umount(mount) => Ok(umount(alloc, subtree, mount, busy)?.len() as u64),
-            Call::Copy(ns) => Ok(subtree.copy_namespace(alloc, NsId(ns))?.0 as u64),
-            Call::Drop(ns) => Ok(drop_namespace(alloc, subtree, ns, busy)?.len() as u64),
+            Call::Change(to, mount) => change(alloc, subtree, to, mount),
+            Call::Umount(mount) => count(umount(alloc, subtree, mount, busy)),
+            Call::Copy(ns) => copy_namespace(alloc, subtree, ns),
+            Call::Drop(ns) => count(drop_namespace(alloc, subtree, ns, busy)),
         }
     }
 }
@@ -171,14 +181,26 @@ pub fn plays(
     Ok(())
 }
 
-/// The steps of both tables go as they say, from namespace 0 on.
-pub fn plays_both(
+/// Both, one after the other.
+fn plays_in_turn(
     rt: &impl Abort,
     alloc: Global,
+    subtree: &mut Subtree,
     first: &[Step],
     then: &[Step],
 ) -> Result<(), Errno> {
-    let mut subtree = Subtree::new(alloc, 100)?;
-    plays(rt, alloc, &mut subtree, first)?;
-    plays(rt, alloc, &mut subtree, then)
+    plays(rt, alloc, subtree, first)?;
+    plays(rt, alloc, subtree, then)
+}
+
+/// The steps of both tables go as they say, from namespace 0 with this limit on.
+pub fn plays_both(
+    rt: &impl Abort,
+    alloc: Global,
+    limit: u64,
+    first: &[Step],
+    then: &[Step],
+) -> Result<(), Errno> {
+    let mut subtree = Subtree::new(alloc, limit)?;
+    plays_in_turn(rt, alloc, &mut subtree, first, then)
 }

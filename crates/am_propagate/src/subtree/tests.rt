@@ -36,7 +36,7 @@ fn a_slave_bound_on_a_shared_mount(rt: HostRuntime) -> Result<(), Fail> {
         Step::Removes(8, &[8, 9, 10, 11]),
         Step::Top(7, b"/y", 0),
     ];
-    plays_both(&rt, rt.alloc(), &SLAVE_AND_PEERS, &STEPS)?;
+    plays_both(&rt, rt.alloc(), 100, &SLAVE_AND_PEERS, &STEPS)?;
     Ok(())
 }
 
@@ -65,7 +65,7 @@ fn peers_slaves_and_their_slaves(rt: HostRuntime) -> Result<(), Fail> {
         Step::Top(4, b"/x", 7),
         Step::Top(3, b"/x", 0),
     ];
-    plays_both(&rt, rt.alloc(), &SLAVES_OF_SLAVES, &STEPS)?;
+    plays_both(&rt, rt.alloc(), 100, &SLAVES_OF_SLAVES, &STEPS)?;
     Ok(())
 }
 
@@ -94,7 +94,27 @@ fn changes_to(kind: Kind) -> &'static [Change] {
     }
 }
 
-/// With a source in this state, after the first steps, the others go as they say.
+fn come_to(alloc: Global, subtree: &mut Subtree, kind: Kind) -> Result<(), Errno> {
+    for change in changes_to(kind) {
+        subtree.change(alloc, *change, MountId(2))?;
+    }
+    Ok(())
+}
+
+/// The source comes to this state, and then all steps go as they say.
+fn goes_on(
+    rt: &impl Abort,
+    alloc: Global,
+    subtree: &mut Subtree,
+    kind: Kind,
+    steps: [&[Step]; 2],
+) -> Result<(), Errno> {
+    plays(rt, alloc, subtree, &SOURCE)?;
+    come_to(alloc, subtree, kind)?;
+    plays(rt, alloc, subtree, steps[0])?;
+    plays(rt, alloc, subtree, steps[1])
+}
+
 fn binds(
     rt: &impl Abort,
     alloc: Global,
@@ -103,12 +123,7 @@ fn binds(
     then: &[Step],
 ) -> Result<(), Errno> {
     let mut subtree = Subtree::new(alloc, 100)?;
-    plays(rt, alloc, &mut subtree, &SOURCE)?;
-    for change in changes_to(kind) {
-        subtree.change(alloc, *change, MountId(2))?;
-    }
-    plays(rt, alloc, &mut subtree, first)?;
-    plays(rt, alloc, &mut subtree, then)
+    goes_on(rt, alloc, &mut subtree, kind, [first, then])
 }
 
 fn binds_on_shared(rt: &impl Abort, alloc: Global, kind: Kind, gives: Kind) -> Result<(), Errno> {
@@ -151,7 +166,7 @@ fn stacks_are_taken_from_the_top(rt: HostRuntime) -> Result<(), Fail> {
         Step::Removes(5, &[5, 6]),
         Step::Top(2, b"/a", 4),
     ];
-    plays_both(&rt, rt.alloc(), &STEPS, &[])?;
+    plays_both(&rt, rt.alloc(), 100, &STEPS, &[])?;
     Ok(())
 }
 
@@ -174,6 +189,6 @@ fn copies_of_namespaces(rt: HostRuntime) -> Result<(), Fail> {
         Step::Gives(Call::Mount(2, b"/y"), 15),
         Step::Top(9, b"/y", 19),
     ];
-    plays_both(&rt, rt.alloc(), &SLAVE_AND_PEERS, &STEPS)?;
+    plays_both(&rt, rt.alloc(), 100, &SLAVE_AND_PEERS, &STEPS)?;
     Ok(())
 }

@@ -177,12 +177,16 @@ impl Total {
     }
 }
 
+fn steps(alloc: Global, subtree: &mut Subtree, random: &mut Random, total: &mut Total) {
+    for _ in 0..12 {
+        let by = draw(subtree, random);
+        total.step(alloc, subtree, by);
+    }
+}
+
 fn world(alloc: Global, random: &mut Random, total: &mut Total) -> Result<(), Errno> {
     let mut subtree = Subtree::new(alloc, 40)?;
-    for _ in 0..12 {
-        let by = draw(&subtree, random);
-        total.step(alloc, &mut subtree, by);
-    }
+    steps(alloc, &mut subtree, random, total);
     Ok(())
 }
 

@@ -1,0 +1,26 @@
+#!/bin/sh
+# tools/refuse_each.sh CRATE TEST: runs a test of a crate with each of its allocations refused in
+# turn, on the program that `rt test CRATE` or the gate has built. It needs a C compiler.
+set -u
+cd "$(dirname "$0")/.."
+program=crates/$1/out/$1_tests
+[ -x "$program" ] || { echo "build the tests first: rt test $1" >&2; exit 2; }
+room=$(mktemp -d)
+trap 'rm -rf "$room"' EXIT
+cc -shared -fPIC -O1 -o "$room/refuse.so" tools/refuse.c -ldl || exit 2
+count=0
+failed=0
+while :; do
+    next=$((count + 1))
+    REFUSE=$next LD_PRELOAD="$room/refuse.so" "$program" "$2" > "$room/said" 2>&1
+    status=$?
+    grep -q '^calls=.* refused=1$' "$room/said" || break
+    count=$next
+    if [ "$status" -ne 0 ]; then
+        failed=$((failed + 1))
+        echo "allocation $count refused: status $status"
+        grep -v '^calls=' "$room/said"
+    fi
+done
+echo "$1 $2: $count allocations refused in turn, $failed failed"
+[ "$failed" -eq 0 ]
