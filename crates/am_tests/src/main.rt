@@ -8,6 +8,10 @@ mod head_faults;
 mod heads;
 #[cfg(test)]
 mod tests;
+#[cfg(test)]
+mod traces;
+#[cfg(test)]
+mod worlds;
 
 use am_script::run_script;
 use anyhow::Result;

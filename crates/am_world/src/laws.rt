@@ -10,8 +10,6 @@ ghost use Rattle.am_world.specs.Laws.Tests.{is_expiry, is_cause, ends_in_row, ma
 
 mod counts;
 mod one_observation;
-#[cfg(test)]
-mod tests;
 
 use am_names::{FsId, Status, Token, Trigger, WalkerId};
 use am_state::Obs;

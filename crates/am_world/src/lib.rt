@@ -15,8 +15,6 @@ mod resolve;
 mod rows;
 mod sites;
 mod tables;
-#[cfg(test)]
-mod tests;
 mod twice;
 pub mod walk;
 pub mod world;

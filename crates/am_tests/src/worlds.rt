@@ -1,14 +1,14 @@
 //! Worlds, one step after another. Run with each allocation refused in turn too: a step that finds
 //! no memory has changed nothing, and goes on when it is made again.
 
-use crate::laws::trace_holds;
-use crate::{Answer, Event, Obs, Record, World, run};
 use am_map::{Map, MapKind};
 use am_master::Master;
 use am_names::{
     AbsPath, Errno, FsId, JobId, Limits, MountId, Name, NsId, Seconds, Token, Trigger, WalkerId,
 };
 use am_wire::read;
+use am_world::laws::trace_holds;
+use am_world::{Answer, Event, Obs, Record, World, run};
 use std::alloc::Global;
 use std::process::Abort;
 use std::test::Fail;

@@ -1,9 +1,9 @@
 //! Short traces, by hand.
 
-use crate::laws::trace_holds;
 use am_names::{Attach, FsId, MountId, Mounts, Status, Token, Trigger, WalkerId};
 use am_state::Obs;
 use am_wire::{Kind, Packet, PacketName};
+use am_world::laws::trace_holds;
 use std::alloc::Global;
 use std::test::Fail;
 
