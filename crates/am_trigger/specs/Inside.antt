@@ -1,6 +1,16 @@
 -- What the fields stand for.
+use Rattle.std.specs.Prelude.{◌-◌, vec_len, vec_capacity}
+use Rattle.indexmap.specs.IndexMap.{spare}
 use Rattle.am_trigger.specs.Rows.{TriggerRows}
+use Rattle.am_trigger.specs.Table.{TriggerTable}
 use Rattle.am_trigger.specs.declared.triggers.Triggers.TheInside.{Inside}
 
 abbrev pub rows_of : Inside → TriggerRows
 rows_of t = record { autofs = t.autofs.items; made = t.made.keys; uses = t.uses.entries }
+
+abbrev pub table_of : Inside → TriggerTable
+table_of t = record {
+  rows = rows_of t;
+  autofs_room = vec_capacity t.autofs - vec_len t.autofs;
+  use_room = spare t.uses;
+}

@@ -1,3 +1,4 @@
 pub mod Sites
 pub mod Rows
+pub mod Table
 pub mod Inside

@@ -3,6 +3,7 @@
 ghost use Rattle.std.specs.Prelude.{◌≡◌, ◌<◌, ◌≤◌, ◌+◌, length, None, map, IfOk, OnOk, OnErr};
 ghost use Rattle.am_names.specs.Errno.{RefusedAs, RefusedOnlyAs};
 ghost use Rattle.am_trigger.specs.Rows.{no_triggers, autofs_of, add_refusal, with_autofs, catatonic_refusal, catatonic_row, with_catatonic, is_made, mkdir_refusal, with_directory, IsMadeToo, rmdir_refusal, without_directory, IsMadeNoMore, last_use_of, used_in, used, all_used_in, all_used, IsUsedAt};
+ghost use Rattle.am_trigger.specs.Table.{KeepsRoom};
 ghost use Rattle.indexmap.specs.IndexMap.{spare};
 
 use crate::autofs::Autofs;
@@ -24,13 +25,13 @@ pub struct Triggers {
 }
 
 impl Model for Triggers {
-    ghost use Rattle.am_trigger.specs.Rows.{TriggerRows};
+    ghost use Rattle.am_trigger.specs.Table.{TriggerTable};
 
-    ghost Value = { TriggerRows };
+    ghost Value = { TriggerTable };
 
-    ghost use Rattle.am_trigger.specs.Inside.{rows_of};
+    ghost use Rattle.am_trigger.specs.Inside.{table_of};
 
-    ghost view = { rows_of };
+    ghost view = { table_of };
 }
 
 fn catatonic_row(row: Autofs, fs: FsId, catatonic: bool) -> Autofs
@@ -63,7 +64,8 @@ fn use_reserved(uses: &mut IndexMap<Trigger, Seconds>, trigger: &Trigger, moment
 
 fn use_all(uses: &mut IndexMap<Trigger, Seconds>, triggers: &[Trigger], moment: Seconds)
     requires { length triggers.now ≤ spare uses.old }
-    ensures { uses.new.entries ≡ all_used_in triggers.now moment uses.old.entries }
+    ensures entries { uses.new.entries ≡ all_used_in triggers.now moment uses.old.entries }
+    ensures room { spare uses.old ≤ spare uses.new + length triggers.now }
 {
     for trigger in triggers {
         use_reserved(uses, trigger, moment);
@@ -73,7 +75,7 @@ fn use_all(uses: &mut IndexMap<Trigger, Seconds>, triggers: &[Trigger], moment: 
 impl Triggers {
     /// No autofs.
     pub fn new(alloc: Global) -> Triggers
-        ensures { result ≡ no_triggers }
+        ensures { result.rows ≡ no_triggers }
     {
         Triggers {
             autofs: Vec::new(alloc),
@@ -84,34 +86,58 @@ impl Triggers {
 
     /// The autofs of this number.
     pub fn autofs(&self, fs: FsId) -> Option<Autofs>
-        ensures { result ≡ autofs_of self.now fs }
+        ensures { result ≡ autofs_of self.now.rows fs }
     {
         self.autofs.iter().copied().find(|row| row.fs == fs)
     }
 
     /// A new autofs, with the daemon's mount of it. It is not catatonic.
     pub fn add_fs(&mut self, fs: FsId, direct: bool, location: MountId) -> Result<(), Errno>
-        ensures refusal { RefusedAs (add_refusal fs self.old) result }
-        ensures ok { OnOk result (self.new ≡ with_autofs fs direct location self.old) }
-        ensures err { OnErr result (self.new ≡ self.old) }
+        ensures refusal { RefusedAs (add_refusal fs self.old.rows) result }
+        ensures ok { OnOk result (self.new.rows ≡ with_autofs fs direct location self.old.rows) }
+        ensures err { OnErr result (self.new.rows ≡ self.old.rows) }
     {
         if self.autofs(fs).is_some() {
             return Err(Errno::EEXIST);
         }
-        self.autofs.push(Autofs {
+        self.reserve_fs()?;
+        self.add_fs_reserved(fs, direct, location);
+        Ok(())
+    }
+
+    /// Makes room for one more autofs.
+    pub fn reserve_fs(&mut self) -> Result<(), Errno>
+        ensures refusal { RefusedAs None result }
+        ensures rows { self.new.rows ≡ self.old.rows }
+        ensures room { KeepsRoom self.old self.new }
+        ensures ok { OnOk result (1 ≤ self.new.autofs_room) }
+    {
+        self.autofs.reserve(1)?;
+        Ok(())
+    }
+
+    /// A new autofs as `add_fs` adds it, for which there is room.
+    pub fn add_fs_reserved(&mut self, fs: FsId, direct: bool, location: MountId)
+        requires room { 1 ≤ self.old.autofs_room }
+        requires fresh { add_refusal fs self.old.rows ≡ None }
+        ensures rows { self.new.rows ≡ with_autofs fs direct location self.old.rows }
+        ensures room { self.old.autofs_room ≡ self.new.autofs_room + 1 }
+        ensures kept { self.new.use_room ≡ self.old.use_room }
+    {
+        self.autofs.push_reserved(Autofs {
             fs,
             direct,
             location,
             catatonic: false,
-        })?;
-        Ok(())
+        });
     }
 
     /// The file system becomes catatonic, or is so no longer (autofs.rst, "Catatonic mode").
     pub fn set_catatonic(&mut self, fs: FsId, catatonic: bool) -> Result<(), Errno>
-        ensures refusal { RefusedOnlyAs (catatonic_refusal fs self.old) result }
-        ensures ok { OnOk result (self.new ≡ with_catatonic fs catatonic self.old) }
-        ensures err { OnErr result (self.new ≡ self.old) }
+        ensures refusal { RefusedOnlyAs (catatonic_refusal fs self.old.rows) result }
+        ensures ok { OnOk result (self.new.rows ≡ with_catatonic fs catatonic self.old.rows) }
+        ensures err { OnErr result (self.new.rows ≡ self.old.rows) }
+        ensures room { KeepsRoom self.old self.new }
     {
         if self.autofs(fs).is_none() {
             return Err(Errno::EINVAL);
@@ -122,17 +148,18 @@ impl Triggers {
 
     /// Whether the daemon has made this directory.
     pub fn made(&self, trigger: &Trigger) -> bool
-        ensures { result ≡ is_made self.now trigger.now }
+        ensures { result ≡ is_made self.now.rows trigger.now }
     {
         self.made.contains(trigger)
     }
 
     /// Makes a directory for the daemon to mount on (autofs.rst, "Content").
     pub fn mkdir(&mut self, trigger: Trigger) -> Result<(), Errno>
-        ensures refusal { RefusedAs (mkdir_refusal trigger self.old) result }
-        ensures ok { OnOk result (self.new ≡ with_directory trigger self.old) }
-        ensures set { OnOk result (IsMadeToo trigger self.old self.new) }
-        ensures err { OnErr result (self.new ≡ self.old) }
+        ensures refusal { RefusedAs (mkdir_refusal trigger self.old.rows) result }
+        ensures ok { OnOk result (self.new.rows ≡ with_directory trigger self.old.rows) }
+        ensures set { OnOk result (IsMadeToo trigger self.old.rows self.new.rows) }
+        ensures err { OnErr result (self.new.rows ≡ self.old.rows) }
+        ensures room { KeepsRoom self.old self.new }
     {
         if self.made(&trigger) {
             return Err(Errno::EEXIST);
@@ -144,10 +171,11 @@ impl Triggers {
 
     /// Removes a directory.
     pub fn rmdir(&mut self, trigger: &Trigger) -> Result<(), Errno>
-        ensures refusal { RefusedOnlyAs (rmdir_refusal trigger.now self.old) result }
-        ensures ok { OnOk result (self.new ≡ without_directory trigger.now self.old) }
-        ensures set { OnOk result (IsMadeNoMore trigger.now self.old self.new) }
-        ensures err { OnErr result (self.new ≡ self.old) }
+        ensures refusal { RefusedOnlyAs (rmdir_refusal trigger.now self.old.rows) result }
+        ensures ok { OnOk result (self.new.rows ≡ without_directory trigger.now self.old.rows) }
+        ensures set { OnOk result (IsMadeNoMore trigger.now self.old.rows self.new.rows) }
+        ensures err { OnErr result (self.new.rows ≡ self.old.rows) }
+        ensures room { KeepsRoom self.old self.new }
     {
         if !self.made(trigger) {
             return Err(Errno::ENOENT);
@@ -158,7 +186,7 @@ impl Triggers {
 
     /// When the trigger was last used (autofs.rst, "Mountpoint expiry").
     pub fn last_use(&self, trigger: &Trigger) -> Option<Seconds>
-        ensures { result ≡ last_use_of self.now trigger.now }
+        ensures { result ≡ last_use_of self.now.rows trigger.now }
     {
         self.uses.get(trigger).copied()
     }
@@ -166,9 +194,9 @@ impl Triggers {
     /// The trigger was used at this moment.
     pub fn touch(&mut self, trigger: Trigger, moment: Seconds) -> Result<(), Errno>
         ensures refusal { RefusedAs None result }
-        ensures ok { OnOk result (self.new ≡ used trigger moment self.old) }
-        ensures map { OnOk result (IsUsedAt trigger moment self.old self.new) }
-        ensures err { OnErr result (self.new ≡ self.old) }
+        ensures ok { OnOk result (self.new.rows ≡ used trigger moment self.old.rows) }
+        ensures map { OnOk result (IsUsedAt trigger moment self.old.rows self.new.rows) }
+        ensures err { OnErr result (self.new.rows ≡ self.old.rows) }
     {
         let _name: Option<Name> = trigger.name;
         self.uses.insert(trigger, moment)?;
@@ -179,11 +207,42 @@ impl Triggers {
     /// passed.
     pub fn touch_all(&mut self, triggers: &[Trigger], moment: Seconds) -> Result<(), Errno>
         ensures refusal { RefusedAs None result }
-        ensures ok { OnOk result (self.new ≡ all_used triggers.now moment self.old) }
-        ensures err { OnErr result (self.new ≡ self.old) }
+        ensures ok { OnOk result (self.new.rows ≡ all_used triggers.now moment self.old.rows) }
+        ensures err { OnErr result (self.new.rows ≡ self.old.rows) }
     {
-        self.uses.reserve(triggers.len())?;
-        use_all(&mut self.uses, triggers, moment);
+        self.reserve_uses(triggers.len())?;
+        self.touch_all_reserved(triggers, moment);
         Ok(())
+    }
+
+    /// Makes room for so many more last uses.
+    pub fn reserve_uses(&mut self, count: usize) -> Result<(), Errno>
+        ensures refusal { RefusedAs None result }
+        ensures rows { self.new.rows ≡ self.old.rows }
+        ensures room { KeepsRoom self.old self.new }
+        ensures ok { OnOk result (count ≤ self.new.use_room) }
+    {
+        self.uses.reserve(count)?;
+        Ok(())
+    }
+
+    /// The trigger was used at this moment, as `touch` has it, and there is room for that.
+    pub fn touch_reserved(&mut self, trigger: &Trigger, moment: Seconds)
+        requires { 1 ≤ self.old.use_room }
+        ensures rows { self.new.rows ≡ used trigger.now moment self.old.rows }
+        ensures room { self.old.use_room ≤ self.new.use_room + 1 }
+        ensures kept { self.new.autofs_room ≡ self.old.autofs_room }
+    {
+        use_reserved(&mut self.uses, trigger, moment);
+    }
+
+    /// The triggers were used at this moment, as `touch_all` has it, and there is room for that.
+    pub fn touch_all_reserved(&mut self, triggers: &[Trigger], moment: Seconds)
+        requires { length triggers.now ≤ self.old.use_room }
+        ensures rows { self.new.rows ≡ all_used triggers.now moment self.old.rows }
+        ensures room { self.old.use_room ≤ self.new.use_room + length triggers.now }
+        ensures kept { self.new.autofs_room ≡ self.old.autofs_room }
+    {
+        use_all(&mut self.uses, triggers, moment);
     }
 }

@@ -1,6 +1,6 @@
 -- The calls: their tests in order, and what they leave (autofs.rst, "Communicating with autofs:
 -- root directory ioctls").
-use Rattle.std.specs.Prelude.{ℕ, ◌==◌, ◌+◌, nat_le, Bool, ◌&&◌, not, is_some, is_none, List, [], ◌∷◌, ◌++◌, map, filter, length, Option, Some, None, if◌then◌else◌}
+use Rattle.std.specs.Prelude.{ℕ, ◌==◌, ◌+◌, nat_le, Bool, false, ◌&&◌, not, is_some, is_none, List, [], ◌∷◌, ◌++◌, map, filter, length, Option, Some, None, if◌then◌else◌}
 use Rattle.am_names.specs.declared.errno.Errno.{Errno}
 use Rattle.am_names.specs.declared.errno.Errno.TheVariants.{EINVAL, ENOSPC, NotReleased}
 use Rattle.am_names.specs.declared.trigger.Trigger.{Trigger}
@@ -112,3 +112,36 @@ status_of walker w = status_in (wait_of w.waits walker)
 -- the wait counts no more
 abbrev pub collected : ℕ → WaitRows → WaitRows
 collected walker w = record w { waits = without_wait walker w.waits }
+
+-- ---- waiting again: the walker's wait was released, and is collected in the same step
+
+-- the walker has a wait that was not released
+abbrev pub still_waits : Option WaitRow → Bool
+still_waits None = false
+still_waits (Some row) = is_none row.status
+
+-- the tests of `reopen`: the walker waits no longer, a token is left, and with its wait collected a
+-- place among the waits
+abbrev pub reopen_refusal : ℕ → WaitRows → Option Errno
+reopen_refusal walker w =
+    if still_waits (wait_of w.waits walker) then Some EINVAL
+    else if is_exhausted w then Some ENOSPC
+    else if is_full (collected walker w) then Some ENOSPC
+    else None
+
+-- its wait is collected, and it opens the next token
+abbrev pub reopened : Trigger → TokenKind → ℕ → WaitRows → WaitRows
+reopened trigger kind walker w = opened trigger kind walker (collected walker w)
+
+-- the tests of `rejoin`: the walker waits no longer, the token is open, and with its wait collected
+-- a place is left among the waits
+abbrev pub rejoin_refusal : ℕ → ℕ → WaitRows → Option Errno
+rejoin_refusal token walker w =
+    if still_waits (wait_of w.waits walker) then Some EINVAL
+    else if is_none (token_of w.tokens token) then Some EINVAL
+    else if is_full (collected walker w) then Some ENOSPC
+    else None
+
+-- its wait is collected, and it joins those that wait on an open token
+abbrev pub rejoined : ℕ → ℕ → WaitRows → WaitRows
+rejoined token walker w = joined token walker (collected walker w)

@@ -1,6 +1,6 @@
 //! Rows of tokens and waits that are found, put, changed and taken away.
 
-ghost use Rattle.std.specs.Prelude.{◌≡◌, ◌<◌, ◌==◌, nat_le, map, filter, not, None, position, set, get_or, vec_len, vec_capacity, OnOk, OnErr};
+ghost use Rattle.std.specs.Prelude.{◌≡◌, ◌<◌, ◌≤◌, ◌==◌, nat_le, map, filter, not, None, position, set, get_or, length, vec_len, vec_capacity, OnOk, OnErr};
 ghost use Rattle.std.specs.List.{position_or_len};
 ghost use Rattle.am_names.specs.declared.row.OpenToken.{OpenToken as TokenRow};
 ghost use Rattle.am_wait.specs.Rows.{same_kind, is_open_on, wait_of, with_wait, without_wait, with_waiter, without_token, joined_row};
@@ -86,7 +86,7 @@ fn waits_below(rows: &[WaitRow], walker: WalkerId) -> usize
 }
 
 /// Puts the wait of a walker that has none at its place.
-pub fn put_wait(rows: &mut Vec<WaitRow>, row: WaitRow)
+fn put_wait(rows: &mut Vec<WaitRow>, row: WaitRow)
     requires room { vec_len rows.old < vec_capacity rows.old }
     requires rising { RiseBy (λ row. row.walker) 0 rows.old.items }
     requires none { wait_of rows.old.items row.walker ≡ None }
@@ -99,9 +99,28 @@ pub fn put_wait(rows: &mut Vec<WaitRow>, row: WaitRow)
 
 /// The wait of a walker goes.
 pub fn take_wait(rows: &mut Vec<WaitRow>, walker: WalkerId)
-    ensures { rows.new.items ≡ without_wait walker rows.old.items }
+    ensures rows { rows.new.items ≡ without_wait walker rows.old.items }
+    ensures len { vec_len rows.new ≤ vec_len rows.old }
+    ensures capacity { vec_capacity rows.new ≡ vec_capacity rows.old }
 {
     rows.retain(|row| row.walker != walker);
+}
+
+/// The wait of a walker, in place of the one that it had, if it had one.
+pub fn renew_wait(rows: &mut Vec<WaitRow>, row: WaitRow)
+    requires room { vec_len rows.old < vec_capacity rows.old }
+    requires rising { RiseBy (λ row. row.walker) 0 rows.old.items }
+    ensures { rows.new.items ≡ with_wait row (without_wait row.walker rows.old.items) }
+{
+    take_wait(rows, row.walker);
+    put_wait(rows, row);
+}
+
+/// How many waits other walkers have.
+pub fn waits_of_others(rows: &[WaitRow], walker: WalkerId) -> usize
+    ensures { result ≡ length (without_wait walker rows.now) }
+{
+    rows.iter().filter(|row| row.walker != walker).count()
 }
 
 fn released_row(row: WaitRow, token: Token, status: Status) -> WaitRow

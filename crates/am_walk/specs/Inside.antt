@@ -13,7 +13,7 @@ use Rattle.std.specs.Option.{option_map}
 abbrev pub scene_in : View → Scene
 scene_in v = record {
   mounts = v.tree.now;
-  triggers = v.triggers.now;
+  triggers = v.triggers.now.rows;
   tokens = option_map (λ waits. waits.now.tokens) v.waits;
 }
 

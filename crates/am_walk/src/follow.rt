@@ -132,9 +132,9 @@ pub fn resolve<'a>(
     ns: NsId,
     path: &AbsPath,
 ) -> Result<Walk, AllocError>
-    ensures walk { IfOk result (λ walk. walked_of walk ≡ walk_of (with_traps subtree.now triggers.now waits.now) ns path.now) }
+    ensures walk { IfOk result (λ walk. walked_of walk ≡ walk_of (with_traps subtree.now triggers.now.rows waits.now) ns path.now) }
     ensures orderly { IfOk result (λ walk. IsOrderly waits.now.tokens (walked_of walk)) }
-    ensures rests { IfOk result (λ walk. RestsAt (with_traps subtree.now triggers.now waits.now) walk.stop) }
+    ensures rests { IfOk result (λ walk. RestsAt (with_traps subtree.now triggers.now.rows waits.now) walk.stop) }
 {
     resolve_text(alloc, subtree, triggers, waits, ns, path.text())
 }
@@ -149,9 +149,9 @@ pub fn resolve_text<'a>(
     path: &[u8],
 ) -> Result<Walk, AllocError>
     requires { IsCanonical path.now }
-    ensures walk { IfOk result (λ walk. walked_of walk ≡ walk_of (with_traps subtree.now triggers.now waits.now) ns (names_of path.now)) }
+    ensures walk { IfOk result (λ walk. walked_of walk ≡ walk_of (with_traps subtree.now triggers.now.rows waits.now) ns (names_of path.now)) }
     ensures orderly { IfOk result (λ walk. IsOrderly waits.now.tokens (walked_of walk)) }
-    ensures rests { IfOk result (λ walk. RestsAt (with_traps subtree.now triggers.now waits.now) walk.stop) }
+    ensures rests { IfOk result (λ walk. RestsAt (with_traps subtree.now triggers.now.rows waits.now) walk.stop) }
 {
     let view = View {
         tree: subtree.tree(),
@@ -169,8 +169,8 @@ pub fn position<'a>(
     ns: NsId,
     path: &AbsPath,
 ) -> Result<Position, Errno>
-    ensures refusal { RefusedAs (fault_of (position_of (without_traps subtree.now triggers.now) ns path.now)) result }
-    ensures ok { IfOk result (λ at. position_of (without_traps subtree.now triggers.now) ns path.now ≡ Ok at) }
+    ensures refusal { RefusedAs (fault_of (position_of (without_traps subtree.now triggers.now.rows) ns path.now)) result }
+    ensures ok { IfOk result (λ at. position_of (without_traps subtree.now triggers.now.rows) ns path.now ≡ Ok at) }
 {
     let view = View {
         tree: subtree.tree(),

@@ -19,7 +19,7 @@ returns-clause-orderly c =
 
 pub returns-clause-rests : goal.returns-clause-rests
 returns-clause-rests c =
-    let scene : Scene = with_traps c.args.subtree.now c.args.triggers.now c.args.waits.now in
+    let scene : Scene = with_traps c.args.subtree.now c.args.triggers.now.rows c.args.waits.now in
     let names = names_of c.args.path.now in
-    let walks = subst (λ (ms : List MountRow). IfOk c.walk.result (λ walk. walked_of walk ≡ walk_of (record { mounts = ms; triggers = c.args.triggers.now; tokens = Some c.args.waits.now.tokens }) c.args.ns names)) c.tree.ensures.rows c.walk.ensures in
+    let walks = subst (λ (ms : List MountRow). IfOk c.walk.result (λ walk. walked_of walk ≡ walk_of (record { mounts = ms; triggers = c.args.triggers.now.rows; tokens = Some c.args.waits.now.tokens }) c.args.ns names)) c.tree.ensures.rows c.walk.ensures in
     if_ok (λ walk. walked_of walk ≡ walk_of scene c.args.ns names) (λ walk. RestsAt scene walk.stop) (λ walk e. subst (λ (w : Walked). RestsAt scene w.stop) (sym e) (rests scene c.tree.ensures.whole.rising c.tree.ensures.whole.older c.args.ns names)) c.walk.result walks
