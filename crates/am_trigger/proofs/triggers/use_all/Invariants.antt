@@ -1,4 +1,4 @@
-use Rattle.std.proofs.Common.{◌≡◌, ◌≤◌, ◌+◌, length, drop}
+use Rattle.std.proofs.Common.{◌≡◌, ◌≤◌, ◌+◌, drop}
 use Rattle.indexmap.specs.IndexMap.{spare}
 use Rattle.am_trigger.specs.Rows.{all_used_in}
 use Rattle.am_trigger.proofs.triggers.use_all.Given as goal
@@ -6,5 +6,5 @@ use Rattle.am_trigger.proofs.triggers.use_all.Given as goal
 abbrev pub invariant-loop-trigger : goal.invariant-loop-trigger
 invariant-loop-trigger l = record {
   entries : all_used_in (drop l.trigger-index l.triggers) l.moment l.uses.entries ≡ all_used_in l.triggers l.moment l.fn.uses.entries;
-  room : length l.triggers ≤ spare l.uses + l.trigger-index;
+  room : spare l.fn.uses ≤ spare l.uses + l.trigger-index;
 }

@@ -4,6 +4,7 @@ use Rattle.am_names.specs.Trigger.{same_trigger}
 use Rattle.am_names.specs.declared.trigger.Trigger.{Trigger}
 use Rattle.am_names.specs.contracts.trigger.TriggerPartialEq.TheImpl.{eq-value}
 use Rattle.am_trigger.specs.Rows.{TriggerRows, is_made, with_directory}
+use Rattle.am_trigger.specs.Table.{TriggerTable}
 use Rattle.am_trigger.proofs.KeyLemmas.{key_is, any_same}
 use Rattle.am_trigger.proofs.TriggerLemmas.{any_last, either_way}
 use Rattle.am_trigger.proofs.triggers.Triggers.mkdir.Goals as goal
@@ -14,12 +15,12 @@ returns-clause-ok c =
     let trigger = c.args.trigger in
     let none : list_any (eq-value.it trigger) keys ≡ false =
     any_same (eq-value.it trigger) (λ row. same_trigger row trigger) (key_is trigger) keys
-    ∙ ap (λ (t : TriggerRows). is_made t trigger) c.self.view_is ∙ sym c.made.ensures ∙ c.if-made.false in
+    ∙ ap (λ (t : TriggerTable). is_made t.rows trigger) c.self.view_is ∙ sym c.made.ensures ∙ c.if-made.false in
     let made : c.insert.new.self.keys ≡ keys ++ trigger ∷ [] = c.in_ok-insert.ensures.keys ∙ ap (λ (b : Bool). cond b keys (keys ++ trigger ∷ [])) none in
     ap (λ (ks : List Trigger). record { autofs = c.self.inside.autofs.items; made = ks; uses = c.self.inside.uses.entries }) made
-    ∙ ap (with_directory trigger) c.self.view_is
+    ∙ ap (λ (t : TriggerTable). with_directory trigger t.rows) c.self.view_is
 
 pub returns-clause-set : goal.returns-clause-set
 returns-clause-set c g =
     let new = returns-clause-ok c in
-    ap (λ (t : TriggerRows). is_made t g) new ∙ any_last (λ row. same_trigger row g) c.args.self.now.made c.args.trigger
+    ap (λ (t : TriggerRows). is_made t g) new ∙ any_last (λ row. same_trigger row g) c.args.self.now.rows.made c.args.trigger

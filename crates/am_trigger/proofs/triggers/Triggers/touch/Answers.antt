@@ -2,6 +2,7 @@ use Rattle.std.proofs.Common.{◌≡◌, ℕ, List, ap, ◌∙◌}
 use Rattle.am_names.specs.declared.trigger.Trigger.{Trigger}
 use Rattle.am_names.specs.contracts.trigger.TriggerPartialEq.TheImpl.{eq-value}
 use Rattle.am_trigger.specs.Rows.{TriggerRows, used_in, used, last_use_of}
+use Rattle.am_trigger.specs.Table.{TriggerTable}
 use Rattle.am_trigger.proofs.KeyLemmas.{key_is, insert_is}
 use Rattle.am_trigger.proofs.TriggerLemmas.{used_at}
 use Rattle.am_trigger.proofs.triggers.Triggers.touch.Goals as goal
@@ -11,9 +12,9 @@ returns-clause-ok c =
     let entries : c.insert.new.self.entries ≡ used_in c.args.trigger c.args.moment c.self.inside.uses.entries =
     c.in_ok-insert.ensures.entries ∙ insert_is eq-value.it key_is c.args.trigger c.args.moment c.self.inside.uses.entries in
     ap (λ (es : List (Trigger × ℕ)). record { autofs = c.self.inside.autofs.items; made = c.self.inside.made.keys; uses = es }) entries
-    ∙ ap (used c.args.trigger c.args.moment) c.self.view_is
+    ∙ ap (λ (t : TriggerTable). used c.args.trigger c.args.moment t.rows) c.self.view_is
 
 pub returns-clause-map : goal.returns-clause-map
 returns-clause-map c g =
     let new = returns-clause-ok c in
-    ap (λ (t : TriggerRows). last_use_of t g) new ∙ used_at c.args.trigger g c.args.moment c.args.self.now.uses
+    ap (λ (t : TriggerRows). last_use_of t g) new ∙ used_at c.args.trigger g c.args.moment c.args.self.now.rows.uses
