@@ -11,11 +11,11 @@ use Rattle.am_names.specs.declared.row.OpenToken.{OpenToken}
 use Rattle.am_names.specs.declared.row.WaitRow.{WaitRow}
 use Rattle.am_names.specs.declared.row.TokenKind.{TokenKind}
 use Rattle.am_wait.specs.Rows.{WaitRows, token_of, wait_of, waiters_of, waiters_in, with_wait, without_wait, with_waiter, without_token, joined_row}
-use Rattle.am_wait.specs.Calls.{waiting_on, opened, joined, joined_on, released_row, answered, failed_row, fs_released, collected, status_in, status_of}
+use Rattle.am_wait.specs.Calls.{waiting_on, opened, joined, joined_on, released_row, answered, failed_row, fs_released, collected, status_in, status_of, still_waits, reopened}
 use Rattle.am_wait.specs.Invariant.{RiseBy, AreGiven, is_among, is_waiting_on, IsOnOpen, IsSound}
 use Rattle.am_wait.proofs.RowLemmas.{rises_put, rises_filter, rises_map}
-use Rattle.am_wait.proofs.CallLemmas.{released_walker, failed_walker}
-use Rattle.am_wait.proofs.FindLemmas.{or_first, or_none, find_map, wait_put, wait_taken, token_taken, token_last, joined_if, token_joined, absent, unless_of, tokens_off}
+use Rattle.am_wait.proofs.CallLemmas.{released_walker, failed_walker, idle_collected}
+use Rattle.am_wait.proofs.FindLemmas.{or_first, or_none, find_map, wait_put, wait_taken, no_wait_left, token_taken, token_last, joined_if, token_joined, absent, unless_of, tokens_off}
 
 -- ---- small facts
 
@@ -230,6 +230,26 @@ collected_sound w walker row status sound there s = record {
   agree = λ token k. collected_agree w sound walker token k row status (walker == k) there s refl;
   same = λ k r h. collected_same w sound walker k r (walker == k) refl h;
 }
+
+-- ---- reopen and rejoin
+
+freed_row : (w : WaitRows) (walker : ℕ) (row : WaitRow) (o : Option Status) → IsSound w → wait_of w.waits walker ≡ Some row → row.status ≡ o → is_none o ≡ false → IsSound (collected walker w)
+freed_row w walker row None sound there e h = absurd cc
+freed_row w walker row (Some status) sound there e h = collected_sound w walker row status sound there e
+
+freed_by : (w : WaitRows) (walker : ℕ) (o : Option WaitRow) → IsSound w → wait_of w.waits walker ≡ o → still_waits o ≡ false → IsSound (collected walker w)
+freed_by w walker None sound there h = subst (λ (x : WaitRows). IsSound x) (sym (idle_collected walker w there)) sound
+freed_by w walker (Some row) sound there h = freed_row w walker row row.status sound there refl h
+
+freed_sound : (w : WaitRows) (walker : ℕ) → IsSound w → still_waits (wait_of w.waits walker) ≡ false → IsSound (collected walker w)
+freed_sound w walker sound h = freed_by w walker (wait_of w.waits walker) sound refl h
+
+pub reopened_sound : (w : WaitRows) (trigger : Trigger) (kind : TokenKind) (walker : ℕ) → IsSound w → still_waits (wait_of w.waits walker) ≡ false → IsSound (reopened trigger kind walker w)
+reopened_sound w trigger kind walker sound free = opened_sound (collected walker w) trigger kind walker (freed_sound w walker sound free) (no_wait_left walker w.waits)
+
+pub rejoined_sound : (w : WaitRows) (t walker : ℕ) (its : OpenToken) → IsSound w → still_waits (wait_of w.waits walker) ≡ false → token_of w.tokens t ≡ Some its →
+    IsSound (record w { tokens = with_waiter t walker w.tokens; waits = with_wait (waiting_on t its.trigger its.kind walker) (without_wait walker w.waits) })
+rejoined_sound w t walker its sound free there = joined_sound (collected walker w) t walker its (freed_sound w walker sound free) (no_wait_left walker w.waits) there
 
 -- ---- release_fs
 

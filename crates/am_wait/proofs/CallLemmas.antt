@@ -1,14 +1,14 @@
 -- What the tests of a call tell of its rows.
-use Rattle.std.proofs.Common.{◌≡◌, ℕ, Bool, true, false, cond, ◌||◌, ◌&&◌, ◌==◌, List, [], ◌∷◌, Option, Some, None, set, get_or, refl, sym, ap, subst, ◌∙◌}
-use Rattle.std.specs.Prelude.{position, is_some, is_none, find}
+use Rattle.std.proofs.Common.{◌≡◌, ℕ, Bool, true, false, cond, not, ◌||◌, ◌&&◌, ◌==◌, List, [], ◌∷◌, Option, Some, None, set, get_or, refl, sym, ap, subst, ◌∙◌}
+use Rattle.std.specs.Prelude.{position, is_some, is_none, find, filter}
 use Rattle.std.specs.List.{list_any}
 use Rattle.am_names.specs.declared.errno.Errno.{Errno}
 use Rattle.am_names.specs.declared.errno.Errno.TheVariants.{EINVAL, ENOSPC}
 use Rattle.am_names.specs.declared.trigger.Status.{Status}
 use Rattle.am_names.specs.declared.trigger.Status.TheVariants.{Fail}
 use Rattle.am_names.specs.declared.row.WaitRow.{WaitRow}
-use Rattle.am_wait.specs.Rows.{WaitRows, wait_of}
-use Rattle.am_wait.specs.Calls.{open_refusal, released_row, failed_row}
+use Rattle.am_wait.specs.Rows.{WaitRows, wait_of, without_wait}
+use Rattle.am_wait.specs.Calls.{open_refusal, opened, join_refusal, joined, released_row, failed_row, collected, still_waits, reopen_refusal, reopened, rejoin_refusal, rejoined}
 
 -- nothing is found where nothing passes
 pub none_there : {X : Type 0} (test : X → Bool) (xs : List X) → find test xs ≡ None → list_any test xs ≡ false
@@ -23,13 +23,34 @@ pub is_none_of : {X : Type 0} (o : Option X) → is_some o ≡ false → o ≡ N
 is_none_of None h = refl
 is_none_of (Some x) h = absurd cc
 
-first_passed : (o : Option WaitRow) (rest : Option Errno) → cond (is_some o) (Some EINVAL) rest ≡ None → o ≡ None
-first_passed None rest h = refl
-first_passed (Some row) rest h = absurd cc
+first_passed : (b : Bool) (rest : Option Errno) → cond b (Some EINVAL) rest ≡ None → b ≡ false
+first_passed true rest h = absurd cc
+first_passed false rest h = refl
 
--- a walker that may open a token has no wait
-pub new_walker : (walker : ℕ) (w : WaitRows) → open_refusal walker w ≡ None → wait_of w.waits walker ≡ None
-new_walker walker w h = first_passed (wait_of w.waits walker) _ h
+-- a walker that may open a token waits no longer
+pub free_walker : (walker : ℕ) (w : WaitRows) → reopen_refusal walker w ≡ None → still_waits (wait_of w.waits walker) ≡ false
+free_walker walker w h = first_passed (still_waits (wait_of w.waits walker)) _ h
+
+-- ---- a walker that has no wait
+
+all_kept : {X : Type 0} (test : X → Bool) (xs : List X) → find test xs ≡ None → filter (λ x. not (test x)) xs ≡ xs
+all_kept test [] h = refl
+all_kept test (x ∷ xs) h = by_test (test x) h (all_kept test xs)
+  where
+    by_test : (b : Bool) → cond b (Some x) (find test xs) ≡ None → (find test xs ≡ None → filter (λ y. not (test y)) xs ≡ xs) → cond (not b) (x ∷ filter (λ y. not (test y)) xs) (filter (λ y. not (test y)) xs) ≡ x ∷ xs
+    by_test true h later = absurd cc
+    by_test false h later = ap (λ others. x ∷ others) (later h)
+
+-- nothing is collected
+pub idle_collected : (walker : ℕ) (w : WaitRows) → wait_of w.waits walker ≡ None → collected walker w ≡ w
+idle_collected walker w h = ap (λ (waits : List WaitRow). record w { waits = waits }) (all_kept (λ row. row.walker == walker) w.waits h)
+
+-- it may begin to wait again where it may begin to wait, and that leaves the same
+pub idle_opens : (walker : ℕ) (w : WaitRows) → wait_of w.waits walker ≡ None → reopen_refusal walker w ≡ open_refusal walker w
+idle_opens walker w h = rw (all_kept (λ (row : WaitRow). row.walker == walker) w.waits h, h) refl
+
+pub idle_joins : (token walker : ℕ) (w : WaitRows) → wait_of w.waits walker ≡ None → rejoin_refusal token walker w ≡ join_refusal token walker w
+idle_joins token walker w h = rw (all_kept (λ (row : WaitRow). row.walker == walker) w.waits h, h) refl
 
 -- ---- a wait stays that of its walker
 

@@ -100,6 +100,9 @@ pub wait_taken : (n : ℕ) (waits : List WaitRow) (k : ℕ) (b : Bool) → (n ==
 wait_taken n waits k true e = find_gone (λ (r : WaitRow). r.walker == k) (λ r. not (r.walker == n)) (λ r t. the_one r.walker n k t e) waits
 wait_taken n waits k false e = find_kept (λ (r : WaitRow). r.walker == k) (λ r. not (r.walker == n)) (λ r t. both_ways r.walker n k t e) waits
 
+pub no_wait_left : (walker : ℕ) (waits : List WaitRow) → wait_of (without_wait walker waits) walker ≡ None
+no_wait_left walker waits = wait_taken walker waits walker true ((Decides-eqb walker walker).1 refl)
+
 -- ---- tokens
 
 pub token_taken : (t : ℕ) (tokens : List OpenToken) (k : ℕ) (b : Bool) → (t == k) ≡ b → token_of (without_token t tokens) k ≡ cond b None (token_of tokens k)

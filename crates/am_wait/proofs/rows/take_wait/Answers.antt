@@ -4,5 +4,5 @@ use Rattle.std.proofs.lemmas.Fn.{filter_same}
 use Rattle.am_names.specs.declared.row.WaitRow.{WaitRow}
 use Rattle.am_wait.proofs.rows.take_wait.Goals as goal
 
-pub returns : goal.returns
-returns c = filter_same _ (λ (row : WaitRow). not (eqb row.walker c.args.walker)) _ (λ x b q k. search (rules, tests)) _ _ c.retain.ensures.filtered
+pub returns-clause-rows : goal.returns-clause-rows
+returns-clause-rows c = filter_same _ (λ (row : WaitRow). not (eqb row.walker c.args.walker)) _ (λ x b q k. search (rules, tests)) _ _ c.retain.ensures.filtered
