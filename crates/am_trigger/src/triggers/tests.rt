@@ -1,5 +1,7 @@
 //! What the calls answer, in the order of their tests, and calls that find no memory.
 
+ghost use Rattle.std.specs.Prelude.{◌≡◌, ◌≤◌, OnOk};
+
 use super::Triggers;
 use am_names::{Errno, FsId, MountId, Name, Place, Seconds, Trigger};
 use std::alloc::Global;
@@ -114,6 +116,34 @@ fn passed_triggers_are_used(rt: HostRuntime) -> Result<(), Fail> {
     }
     assert_eq!(rt; triggers.last_use(&home), Some(Seconds(9)));
     assert_eq!(rt; triggers.last_use(&work), Some(Seconds(9)));
+    Ok(())
+}
+
+/// Room for one more autofs and three more last uses.
+fn reserve(triggers: &mut Triggers) -> Result<(), Errno>
+    ensures rows { triggers.new.rows ≡ triggers.old.rows }
+    ensures autofs { OnOk result (1 ≤ triggers.new.autofs_room) }
+    ensures uses { OnOk result (3 ≤ triggers.new.use_room) }
+{
+    triggers.reserve_fs()?;
+    triggers.reserve_uses(3)
+}
+
+#[test]
+fn room_is_made_before_anything_changes(rt: HostRuntime) -> Result<(), Fail> {
+    let (home, work) = (named(b"home")?, named(b"work")?);
+    let _name: Option<Name> = home.name;
+    let mut triggers = Triggers::new(rt.alloc());
+    // Once more where no memory was found.
+    let _first = reserve(&mut triggers);
+    reserve(&mut triggers)?;
+    triggers.add_fs_reserved(AUTO, false, MountId(2));
+    triggers.touch_all_reserved(&[work, home], Seconds(9));
+    triggers.touch_reserved(&DIRECT, Seconds(11));
+    assert_eq!(rt; add_fs(&mut triggers, AUTO, true, 4), Err(Errno::EEXIST));
+    assert_eq!(rt; triggers.last_use(&home), Some(Seconds(9)));
+    assert_eq!(rt; triggers.last_use(&work), Some(Seconds(9)));
+    assert_eq!(rt; triggers.last_use(&DIRECT), Some(Seconds(11)));
     Ok(())
 }
 
