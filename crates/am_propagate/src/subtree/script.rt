@@ -38,9 +38,17 @@ fn position(alloc: Global, mount: u64, path: &[u8]) -> Result<Position, Errno> {
     })
 }
 
+/// The mount itself, which comes before its copies.
+fn first(mounts: Vec<MountId>) -> u64 {
+    match mounts.first() {
+        Some(mount) => mount.0,
+        None => 0,
+    }
+}
+
 pub fn mount(alloc: Global, subtree: &mut Subtree, parent: u64, path: &[u8]) -> Result<u64, Errno> {
     let at = position(alloc, parent, path)?;
-    Ok(subtree.mount(alloc, &at, FsId(2))?.0)
+    Ok(first(subtree.mount(alloc, &at, FsId(2))?))
 }
 
 pub fn bind(
@@ -51,7 +59,7 @@ pub fn bind(
     path: &[u8],
 ) -> Result<u64, Errno> {
     let at = position(alloc, parent, path)?;
-    Ok(subtree.bind(alloc, MountId(source), &at)?.0)
+    Ok(first(subtree.bind(alloc, MountId(source), &at)?))
 }
 
 /// What an unmount removes while this mount is in use.
@@ -93,7 +101,7 @@ fn change(alloc: Global, subtree: &mut Subtree, change: Change, mount: u64) -> R
 }
 
 fn copy_namespace(alloc: Global, subtree: &mut Subtree, ns: u32) -> Result<u64, Errno> {
-    Ok(subtree.copy_namespace(alloc, NsId(ns))?.0 as u64)
+    Ok(subtree.copy_namespace(alloc, NsId(ns))?.ns.0 as u64)
 }
 
 fn count(gone: Result<Vec<MountId>, Errno>) -> Result<u64, Errno> {
