@@ -106,10 +106,12 @@ impl Subtree {
     fn itself(&self, alloc: Global, mount: MountId) -> Result<Vec<MountId>, AllocError>
         ensures { IfOk result (λ v. v.items ≡ mounts_where (goes_with self.now mount None) self.now.rows) }
     {
+        let _tree = &self.tree;
         let mut found = Vec::new(alloc);
-        if self.is_mount(mount) {
-            found.push(mount)?;
+        if !self.is_mount(mount) {
+            return Ok(found);
         }
+        found.push(mount)?;
         Ok(found)
     }
 
