@@ -1,7 +1,8 @@
 #!/usr/bin/env python3
 """Mounts, binds, unmounts and namespaces computed the slow way, by chains of mounts, over
 generated small worlds. It prints the number that the test `worlds_of_the_slow_model` of
-am_propagate expects: both fold each answer and the whole mount table after each step."""
+am_propagate expects: both fold each answer, what each unmount would take, and the whole mount
+table after each step."""
 import sys
 
 MASK = (1 << 64) - 1
@@ -72,6 +73,7 @@ class World:
         receivers = self.receivers(b)
         if self.last + 1 + len(receivers) > self.limit:
             return ENOSPC
+        before = set(self.rows)
         number = self.last + 1
         own = self.members[b][0]
         new = {}
@@ -101,7 +103,10 @@ class World:
             self.rows[number + i] = [self.rows[r][0], r, place, fs, number]
         self.members.update(new)
         self.last = number + len(receivers)
-        return 100 + number
+        return self.came(before)
+
+    def came(self, before):
+        return [100 + m for m in sorted(set(self.rows) - before)]
 
     def bind(self, source, b, place):
         if self.members[source][2]:
@@ -118,16 +123,20 @@ class World:
         self.settle()
         return [100 + m for m in sorted(gone)]
 
-    def umount(self, m, used):
+    def takes(self, m):
         _, parent, place, _, _ = self.rows[m]
-        if parent is None or self.on(m):
-            return EBUSY
         gone = {m}
-        for r in self.receivers(parent):
+        for r in self.receivers(parent) if parent is not None else []:
             there = [c for c in self.on(r) if self.rows[c][2] == place]
             if there and not self.on(max(there)):
                 gone.add(max(there))
-        return EBUSY if used in gone else self.remove(gone)
+        return sorted(gone)
+
+    def umount(self, m, used):
+        gone = self.takes(m)
+        if self.rows[m][1] is None or self.on(m) or used in gone:
+            return EBUSY
+        return self.remove(gone)
 
     def in_ns(self, ns):
         return sorted(m for m in self.rows if self.rows[m][0] == ns)
@@ -138,6 +147,7 @@ class World:
             return ENOENT
         if self.last + len(mounts) > self.limit:
             return ENOSPC
+        before = set(self.rows)
         copy = {m: self.last + 1 + i for i, m in enumerate(mounts)}
         self.last_ns += 1
         for m in mounts:
@@ -145,7 +155,7 @@ class World:
             self.rows[copy[m]] = [self.last_ns, copy.get(parent), place, fs, origin]
             self.members[copy[m]] = list(self.members[m])
         self.last += len(mounts)
-        return 100 + self.last_ns
+        return [100 + self.last_ns] + self.came(before)
 
     def drop(self, ns, used):
         mounts = self.in_ns(ns)
@@ -169,7 +179,8 @@ def step(world, random):
     if op <= 5:
         return world.change(n, a) or 0
     if op == 6:
-        return world.umount(a, b)
+        takes, answer = [100 + m for m in world.takes(a)], world.umount(a, b)
+        return takes + (answer if isinstance(answer, list) else [answer])
     return world.copy(n) if n % 2 == 0 else world.drop(n, b)
 
 

@@ -1,4 +1,4 @@
--- One row more, for one receiver more.
+-- One row more, for one receiver more, and one number more.
 use Rattle.std.proofs.Common.{◌≡◌, ◌<◌, ◌+◌, ℕ, zero, suc, List, [], ◌∷◌, ◌++◌, length, take, get_or, sym, ap, ◌∙◌, arith, add-one}
 use Rattle.am_names.specs.declared.row.MountRow.{MountRow}
 use Rattle.am_names.specs.declared.row.MemberRow.{MemberRow}
@@ -6,7 +6,7 @@ use Rattle.am_names.specs.PeerGroups.{PeerGroups}
 use Rattle.am_group.specs.Propagation.{member_row, slave_in, group_of}
 use Rattle.am_group.specs.Copies.{copy_row, copies_from}
 use Rattle.am_propagate.specs.MountTable.{MountTable}
-use Rattle.am_propagate.specs.Added.{row_at, rows_at}
+use Rattle.am_propagate.specs.Added.{row_at, rows_at, numbers_after}
 
 module _ (t : MountTable) (place : List (List ℕ)) (fs origin : ℕ) where
   rows_one_more : (n : ℕ) (parents : List ℕ) (i d : ℕ) → i < length parents → rows_at t place fs origin n (take (suc i) parents) ≡ rows_at t place fs origin n (take i parents) ++ row_at t place fs origin (n + i) (get_or parents i d) ∷ []
@@ -50,3 +50,20 @@ module _ (stand : ℕ → ℕ) (s : PeerGroups) where
       ap (λ (k : ℕ). copies_from stand s n (take k rs)) (add-one i) ∙ copies_one_more n rs i d h ∙
       ap (λ (k : ℕ). copies_from stand s n (take i rs) ++ copy_row stand (n + i) (group_of s k) (slave_in (member_row s.members k)) ∷ []) (sym is) ∙
       ap (λ (k : ℕ). copies_from stand s n (take i rs) ++ copy_row stand k (group_of s d) (slave_in (member_row s.members d)) ∷ []) (sym at)
+
+numbers_one_more : (last i : ℕ) → numbers_after last (suc i) ≡ numbers_after last i ++ (last + 1 + i) ∷ []
+numbers_one_more last zero = ap (λ (n : ℕ). n ∷ []) (same_number last)
+  where
+    same_number : (last : ℕ) → last + 1 ≡ last + 1 + 0
+    same_number last = omega arith
+numbers_one_more last (suc i) =
+    ap (λ (xs : List ℕ). (last + 1) ∷ xs) (numbers_one_more (last + 1) i ∙
+    ap (λ (n : ℕ). numbers_after (last + 1) i ++ n ∷ []) (next last i))
+  where
+    next : (last i : ℕ) → last + 1 + 1 + i ≡ last + 1 + suc i
+    next last i = omega arith
+
+pub numbers_more : (last i number : ℕ) → number ≡ last + 1 + i → numbers_after last (i + 1) ≡ numbers_after last i ++ number ∷ []
+numbers_more last i number at =
+    ap (numbers_after last) (add-one i) ∙ numbers_one_more last i ∙
+    ap (λ (n : ℕ). numbers_after last i ++ n ∷ []) (sym at)

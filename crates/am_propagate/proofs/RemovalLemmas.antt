@@ -1,8 +1,8 @@
 -- Mounts that go: what is left keeps the invariant.
-use Rattle.std.proofs.Common.{◌≡◌, ◌≢◌, ℕ, Bool, true, false, cond, eqb, ◌||◌, List, [], ◌∷◌, Option, Some, None, refl, sym, ap, subst, inl, inr, ⊎_elim, ◌∙◌, arith}
+use Rattle.std.proofs.Common.{◌≡◌, ◌≢◌, ◌≤◌, ◌<◌, ◌+◌, ℕ, Bool, true, false, cond, eqb, ◌||◌, List, [], ◌∷◌, Option, Some, None, refl, sym, ap, subst, inl, inr, ⊎_elim, ◌∙◌, arith}
 use Rattle.std.specs.Prelude.{◌⊎◌, map, filter, find, not, is_some, ◌==◌}
 use Rattle.std.specs.List.{list_any, Contains}
-use Rattle.std.proofs.lemmas.Bool.{eqb-true, eq-eqb, or_cases, and_parts}
+use Rattle.std.proofs.lemmas.Bool.{eqb-true, eq-eqb, ne_eqb, or_cases, and_parts}
 use Rattle.std.proofs.lemmas.Map.Views.{Contains-from_any, list_any-from_Contains}
 use Rattle.std.proofs.lemmas.Cmp.{nat_eq_equiv}
 use Rattle.am_names.specs.declared.row.MountRow.{MountRow}
@@ -16,9 +16,9 @@ use Rattle.am_group.specs.Receivers.{receivers_of}
 use Rattle.am_group.specs.Scan.{numbers}
 use Rattle.am_group.proofs.LookupLemmas.{find_filter}
 use Rattle.am_group.proofs.ChangeLemmas.{without_keeps}
-use Rattle.am_mount.specs.Rows.{mount_row, is_among, mounts_where, is_position_on, is_child, HasRow, IsIn, IsOn}
+use Rattle.am_mount.specs.Rows.{RiseFrom, mount_row, is_among, mounts_where, is_position_on, is_child, HasRow, IsIn, IsOn}
 use Rattle.am_mount.proofs.RowLemmas.{RiseFrom-filter, in_every}
-use Rattle.am_propagate.specs.MountTable.{MountTable, mountpoint_of}
+use Rattle.am_propagate.specs.MountTable.{MountTable, is_mount, mountpoint_of}
 use Rattle.am_propagate.specs.Invariant.{ShareFs, IsWhole}
 use Rattle.am_propagate.specs.Removed.{is_bare, is_top_on, goes_with, unmounted, mounts_in, removed, LeavesParents}
 
@@ -188,3 +188,24 @@ dropped_leaves t ns whole c p row e on stays = not_true (is_among (mounts_in t n
 
     contains : (x : ℕ) (xs : List ℕ) → is_among xs x ≡ true → Contains xs x
     contains x xs h = Contains-from_any {eq = eqb} eqb-true x xs (among_has x xs ∙ h)
+
+-- of rising rows just one is the mount's, where it is there
+pub itself_only : (t : MountTable) (m : ℕ) → IsWhole t → mounts_where (goes_with t m None) t.rows ≡ cond (is_mount t m) (m ∷ []) []
+itself_only t m whole = only t.rows 0 whole.rising
+  where
+    none_above : (rows : List MountRow) (low : ℕ) → RiseFrom low rows → m < low → mounts_where (λ row. row.mount == m) rows ≡ []
+    none_above [] low rises above = refl
+    none_above (r ∷ rows) low rises above =
+        let first : low ≤ r.mount = rises.0 in
+        rw (ne_eqb r.mount m (λ same. omega arith)) (none_above rows (r.mount + 1) rises.1 (omega arith))
+
+    only : (rows : List MountRow) (low : ℕ) → RiseFrom low rows → mounts_where (λ row. row.mount == m) rows ≡ cond (is_some (mount_row rows m)) (m ∷ []) []
+    only [] low rises = refl
+    only (r ∷ rows) low rises = go (r.mount == m) refl (only rows (r.mount + 1) rises.1)
+      where
+        go : (b : Bool) → (r.mount == m) ≡ b → mounts_where (λ row. row.mount == m) rows ≡ cond (is_some (mount_row rows m)) (m ∷ []) [] → map (λ (x : MountRow). x.mount) (cond b (r ∷ filter (λ row. row.mount == m) rows) (filter (λ row. row.mount == m) rows)) ≡ cond (is_some (cond b (Some r) (mount_row rows m))) (m ∷ []) []
+        go true e ih =
+            let same : r.mount ≡ m = eqb-true r.mount m e in
+            ap (λ (n : ℕ). n ∷ mounts_where (λ row. row.mount == m) rows) same ∙
+            ap (λ (xs : List ℕ). m ∷ xs) (none_above rows (r.mount + 1) rises.1 (omega arith))
+        go false e ih = ih

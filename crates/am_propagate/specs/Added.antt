@@ -1,5 +1,5 @@
 -- A mount or bind, with its copies on the mounts that receive it (sharedsubtree.rst, 5b to 5e).
-use Rattle.std.specs.Prelude.{◌≡◌, ◌⊎◌, ◌+◌, ℕ, Bool, true, false, not, List, [], ◌∷◌, ◌++◌, length, Option, Some, None, if◌then◌else◌}
+use Rattle.std.specs.Prelude.{◌≡◌, ◌⊎◌, ◌+◌, ℕ, zero, suc, Bool, true, false, not, List, [], ◌∷◌, ◌++◌, length, Option, Some, None, if◌then◌else◌}
 use Rattle.am_names.specs.declared.errno.Errno.{Errno}
 use Rattle.am_names.specs.declared.errno.Errno.TheVariants.{EINVAL, ENOSPC}
 use Rattle.am_names.specs.declared.row.MountRow.{MountRow}
@@ -112,6 +112,19 @@ mounted at fs membership t =
           t.groups;
       last_mount = number + length receivers;
     }
+
+-- so many numbers in rising order, from the one behind this on
+abbrev pub numbers_after : ℕ → ℕ → List ℕ
+numbers_after last zero = []
+numbers_after last (suc count) = (last + 1) ∷ numbers_after (last + 1) count
+
+-- the next so many mounts, in rising order
+abbrev pub new_mounts : MountTable → ℕ → List ℕ
+new_mounts t count = numbers_after t.last_mount count
+
+-- how many mounts come with one on this mount: itself, and a copy for each that receives it
+abbrev pub mounts_made : ℕ → MountTable → ℕ
+mounts_made at t = suc (length (receivers_of t.groups at))
 
 -- how many fresh peer groups the new mount itself needs
 abbrev pub fresh_count : Membership → ℕ

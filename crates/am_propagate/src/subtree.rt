@@ -33,6 +33,8 @@ mod tests;
 #[cfg(test)]
 mod world_tests;
 
+pub use crate::subtree::namespace::NewNamespace;
+
 /// The mounts of all namespaces, and how they take part in propagation (sharedsubtree.rst, 5).
 #[derive(Drop)]
 pub struct Subtree {
@@ -96,6 +98,13 @@ impl Subtree {
         ensures { result.now ≡ self.now.groups }
     {
         &self.groups
+    }
+
+    /// The greatest number that was given to a mount.
+    pub fn last_mount(&self) -> MountId
+        ensures { result ≡ self.now.last_mount }
+    {
+        MountId(self.last_mount)
     }
 
     /// Changes the mount's state (sharedsubtree.rst, 5c).

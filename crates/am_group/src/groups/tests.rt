@@ -128,8 +128,10 @@ fn the_states_of_a_mount_and_of_its_bound_copy(rt: HostRuntime) -> Result<(), Fa
     groups.add(b, Membership::InGroup(group))?;
     groups.make_slave(rt.alloc(), b)?;
     assert_eq!(rt; groups.kind(b), Some(Kind::Slave));
-    groups.make_shared(rt.alloc(), b)?;
-    assert_eq!(rt; groups.kind(b), Some(Kind::SharedSlave));
+    for _ in 0..2 {
+        groups.make_shared(rt.alloc(), b)?;
+        assert_eq!(rt; groups.kind(b), Some(Kind::SharedSlave));
+    }
     groups.make_slave(rt.alloc(), b)?;
     assert_eq!(rt; groups.kind(b), Some(Kind::Slave));
     Ok(())
@@ -164,6 +166,12 @@ fn receivers_across_slaves_of_slaves(rt: HostRuntime) -> Result<(), Fail> {
     groups.make_private(rt.alloc(), MountId(4))?;
     assert_eq!(rt; groups.master_of_group(SECOND), Some(FIRST));
     assert_eq!(rt;
+        groups.member(MountId(5)),
+        Some(Membership::SlaveOf(FIRST).row(MountId(5)))
+    );
+    assert_eq!(rt; groups.kind(MountId(4)), Some(Kind::Private));
+    assert!(rt; groups.receivers(rt.alloc(), MountId(4))?.is_empty());
+    assert_eq!(rt;
         groups.receivers(rt.alloc(), MountId(3))?.as_slice(),
         [MountId(2), MountId(5)].as_slice()
     );
@@ -190,6 +198,10 @@ fn receivers_in_a_cycle_of_peers_and_a_long_chain(rt: HostRuntime) -> Result<(),
         [MountId(31), MountId(40), MountId(41)].as_slice()
     );
     assert_eq!(rt; groups.receivers(rt.alloc(), MountId(11))?.len(), 7);
+    assert_eq!(rt;
+        groups.receivers(rt.alloc(), MountId(41))?.as_slice(),
+        [MountId(40)].as_slice()
+    );
     // Without the third group the fourth is under the second.
     groups.leave(rt.alloc(), &[MountId(31), MountId(7), MountId(30)])?;
     assert_eq!(rt; groups.master_of_group(GroupId(4)), Some(SECOND));

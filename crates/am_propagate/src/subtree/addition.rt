@@ -1,13 +1,14 @@
 //! Mounts and binds, with the copies on the mounts that receive them.
 
-ghost use Rattle.std.specs.Prelude.{◌≡◌, ◌+◌, ◌^◌, ◌<◌, ◌∷◌, true, length, IfOk, OnOk, OnErr};
+ghost use Rattle.std.specs.Prelude.{◌≡◌, ◌+◌, ◌^◌, ◌<◌, ◌∷◌, true, length, Some, IfOk, OnOk, OnErr};
+ghost use Rattle.std.specs.List.{slice_get};
 ghost use Rattle.am_names.specs.Errno.{RefusedAs};
 ghost use Rattle.am_group.specs.Invariant.{AddsNoReceivers};
 ghost use Rattle.am_group.specs.Propagation.{group_of};
 ghost use Rattle.am_group.specs.declared.membership.Membership.TheVariants.{Private};
 ghost use Rattle.am_mount.specs.Rows.{mount_row};
 ghost use Rattle.am_propagate.specs.MountTable.{is_mount};
-ghost use Rattle.am_propagate.specs.Added.{ns_in, row_at, rows_at, membership_where, membership_of, is_unbindable, fresh_count, made_beside, mount_refusal, bind_refusal, mounted, bound, numbers_refusal, HasSource};
+ghost use Rattle.am_propagate.specs.Added.{ns_in, row_at, rows_at, membership_where, membership_of, is_unbindable, fresh_count, numbers_after, new_mounts, mounts_made, made_beside, mount_refusal, bind_refusal, mounted, bound, numbers_refusal, HasSource};
 
 use crate::subtree::Subtree;
 use am_group::Membership;
@@ -41,6 +42,20 @@ fn fresh_count(membership: &Membership) -> usize
         Membership::InGroup(_) => 0,
         Membership::SlaveOf(_) | Membership::Private | Membership::Unbindable => 1,
     }
+}
+
+/// So many mounts in rising order, from the one behind this number on.
+pub fn numbers_after(alloc: Global, last: u64, count: usize) -> Result<Vec<MountId>, AllocError>
+    requires { last + count < 2 ^ 64 }
+    ensures { IfOk result (λ v. v.items ≡ numbers_after last count) }
+{
+    let mut mounts = Vec::new(alloc);
+    let mut number = last;
+    for _ in 0..count {
+        number += 1;
+        mounts.push(MountId(number))?;
+    }
+    Ok(mounts)
 }
 
 impl Subtree {
@@ -114,11 +129,12 @@ impl Subtree {
         at: &Position,
         fs: FsId,
         membership: Membership,
-    ) -> Result<MountId, Errno>
+    ) -> Result<Vec<MountId>, Errno>
         requires there { is_mount self.old at.now.mount ≡ true }
         requires source { HasSource self.old fs membership }
         ensures refusal { RefusedAs (numbers_refusal at.now.mount membership self.old) result }
-        ensures number { IfOk result (λ mount. mount ≡ self.old.last_mount + 1) }
+        ensures made { IfOk result (λ v. v.items ≡ new_mounts self.old (mounts_made at.now.mount self.old)) }
+        ensures first { IfOk result (λ v. slice_get v.items 0 ≡ Some (self.old.last_mount + 1)) }
         ensures ok { OnOk result (self.new ≡ mounted at.now fs membership self.old) }
         ensures err { OnErr result (self.new ≡ self.old) }
         ensures law { AddsNoReceivers self.old.groups self.new.groups }
@@ -131,19 +147,22 @@ impl Subtree {
         if self.lacks_groups(self.groups_made(at.mount, &membership, others.as_slice())) {
             return Err(Errno::ENOSPC);
         }
+        let mounts = numbers_after(alloc, self.last_mount, receivers.len() + 1)?;
         let mount = MountId(self.last_mount + 1);
         let receivers = receivers.as_slice();
         let joining = self.joining(alloc, at.mount, membership, mount, receivers, others)?;
         let rows = self.rows_at(alloc, at, fs, mount, receivers)?;
         self.grow(rows, joining, NsId(self.last_ns))?;
-        Ok(mount)
+        Ok(mounts)
     }
 
     /// Mounts a new file system at the position, and copies of it at the same place of each mount
-    /// that receives from the position's (sharedsubtree.rst, 5b). It has the next number.
-    pub fn mount(&mut self, alloc: Global, at: &Position, fs: FsId) -> Result<MountId, Errno>
+    /// that receives from the position's (sharedsubtree.rst, 5b). The answer tells all that came,
+    /// in rising order: the mount itself first, which has the next number, then its copies.
+    pub fn mount(&mut self, alloc: Global, at: &Position, fs: FsId) -> Result<Vec<MountId>, Errno>
         ensures refusal { RefusedAs (mount_refusal at.now.mount self.old) result }
-        ensures number { IfOk result (λ mount. mount ≡ self.old.last_mount + 1) }
+        ensures made { IfOk result (λ v. v.items ≡ new_mounts self.old (mounts_made at.now.mount self.old)) }
+        ensures first { IfOk result (λ v. slice_get v.items 0 ≡ Some (self.old.last_mount + 1)) }
         ensures ok { OnOk result (self.new ≡ mounted at.now fs Private self.old) }
         ensures err { OnErr result (self.new ≡ self.old) }
         ensures law { AddsNoReceivers self.old.groups self.new.groups }
@@ -163,11 +182,17 @@ impl Subtree {
         }
     }
 
-    /// Mounts at the position what the source has mounted, with copies as `mount` makes them
-    /// (sharedsubtree.rst, 5b to 5e). It has the next number.
-    pub fn bind(&mut self, alloc: Global, source: MountId, at: &Position) -> Result<MountId, Errno>
+    /// Mounts at the position what the source has mounted, with copies as `mount` makes them, and
+    /// tells all that came as `mount` does (sharedsubtree.rst, 5b to 5e).
+    pub fn bind(
+        &mut self,
+        alloc: Global,
+        source: MountId,
+        at: &Position,
+    ) -> Result<Vec<MountId>, Errno>
         ensures refusal { RefusedAs (bind_refusal source at.now.mount self.old) result }
-        ensures number { IfOk result (λ mount. mount ≡ self.old.last_mount + 1) }
+        ensures made { IfOk result (λ v. v.items ≡ new_mounts self.old (mounts_made at.now.mount self.old)) }
+        ensures first { IfOk result (λ v. slice_get v.items 0 ≡ Some (self.old.last_mount + 1)) }
         ensures ok { OnOk result (self.new ≡ bound source at.now self.old) }
         ensures err { OnErr result (self.new ≡ self.old) }
         ensures law { AddsNoReceivers self.old.groups self.new.groups }

@@ -4,13 +4,23 @@ ghost use Rattle.std.specs.Prelude.{◌≡◌, ◌+◌, ◌^◌, ◌<◌, ◌≤
 ghost use Rattle.am_names.specs.Errno.{RefusedAs};
 ghost use Rattle.am_group.specs.Invariant.{AddsNoReceivers};
 ghost use Rattle.am_mount.specs.Rows.{is_among, is_in};
+ghost use Rattle.am_propagate.specs.Added.{new_mounts};
+ghost use Rattle.am_propagate.specs.Removed.{mounts_in};
 ghost use Rattle.am_propagate.specs.Namespaces.{count_up_to, copy_number, row_in, member_in, copy_refusal, with_copy};
 
 use crate::subtree::Subtree;
+use crate::subtree::addition::numbers_after;
 use crate::subtree::joining::Joining;
 use crate::subtree::removal::is_among;
 use am_names::{Errno, MemberRow, MountId, MountRow, NsId, Position};
 use std::alloc::{AllocError, Global};
+
+/// A namespace that was made, with its mounts in rising order.
+#[derive(Drop)]
+pub struct NewNamespace {
+    pub ns: NsId,
+    pub mounts: Vec<MountId>,
+}
 
 fn count_up_to(mount: MountId, mounts: &[MountId]) -> usize
     ensures count { result ≡ count_up_to mount mounts.now }
@@ -88,10 +98,11 @@ impl Subtree {
     }
 
     /// A new namespace with a copy of each mount of this one, mounted alike (sharedsubtree.rst,
-    /// 7). It gives the new namespace.
-    pub fn copy_namespace(&mut self, alloc: Global, ns: NsId) -> Result<NsId, Errno>
+    /// 7). The answer tells it and the copies.
+    pub fn copy_namespace(&mut self, alloc: Global, ns: NsId) -> Result<NewNamespace, Errno>
         ensures refusal { RefusedAs (copy_refusal ns self.old) result }
-        ensures number { IfOk result (λ to. to ≡ self.old.last_ns + 1) }
+        ensures number { IfOk result (λ made. made.ns ≡ self.old.last_ns + 1) }
+        ensures made { IfOk result (λ made. made.mounts.items ≡ new_mounts self.old (length (mounts_in self.old ns))) }
         ensures ok { OnOk result (self.new ≡ with_copy ns self.old) }
         ensures err { OnErr result (self.new ≡ self.old) }
         ensures law { AddsNoReceivers self.old.groups self.new.groups }
@@ -107,6 +118,7 @@ impl Subtree {
             return Err(Errno::ENOSPC);
         }
         let to = NsId(self.last_ns + 1);
+        let copies = numbers_after(alloc, self.last_mount, mounts.len())?;
         let rows = self.rows_in(alloc, mounts.as_slice(), ns, to)?;
         let members = self.members_in(alloc, mounts.as_slice())?;
         let joining = Joining {
@@ -114,6 +126,9 @@ impl Subtree {
             groups: Vec::new(alloc),
         };
         self.grow(rows, joining, to)?;
-        Ok(to)
+        Ok(NewNamespace {
+            ns: to,
+            mounts: copies,
+        })
     }
 }

@@ -15,7 +15,7 @@ ghost use Rattle.am_propagate.specs.Removed.{is_bare, is_top_on, goes_with, unmo
 use crate::in_use::{InUse, is_used};
 use crate::subtree::Subtree;
 use am_names::{Errno, MountId, MountRow, NsId, Position};
-use std::alloc::Global;
+use std::alloc::{AllocError, Global};
 
 pub fn is_among(mount: MountId, mounts: &[MountId]) -> bool
     ensures { result ≡ is_among mounts.now mount }
@@ -100,6 +100,33 @@ impl Subtree {
             }
         }
         Ok(gone)
+    }
+
+    /// The mount itself, if it is there.
+    fn itself(&self, alloc: Global, mount: MountId) -> Result<Vec<MountId>, AllocError>
+        ensures { IfOk result (λ v. v.items ≡ mounts_where (goes_with self.now mount None) self.now.rows) }
+    {
+        let _tree = &self.tree;
+        let mut found = Vec::new(alloc);
+        if !self.is_mount(mount) {
+            return Ok(found);
+        }
+        found.push(mount)?;
+        Ok(found)
+    }
+
+    /// What an unmount of the mount removes, in rising order, also where `umount` refuses it.
+    pub fn umount_takes(&self, alloc: Global, mount: MountId) -> Result<Vec<MountId>, Errno>
+        ensures refusal { RefusedAs None result }
+        ensures exact { IfOk result (λ v. v.items ≡ unmounted self.now mount) }
+        ensures rising { IfOk result (λ v. IsStrictlyIncreasing v.items) }
+    {
+        if let Some(row) = self.tree.row(mount) {
+            if let Some(position) = &row.mountpoint {
+                return self.unmounted(alloc, mount, position);
+            }
+        }
+        Ok(self.itself(alloc, mount)?)
     }
 
     fn remove(&mut self, alloc: Global, gone: &[MountId]) -> Result<(), Errno>

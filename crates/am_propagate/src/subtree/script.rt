@@ -38,9 +38,14 @@ fn position(alloc: Global, mount: u64, path: &[u8]) -> Result<Position, Errno> {
     })
 }
 
-pub fn mount(alloc: Global, subtree: &mut Subtree, parent: u64, path: &[u8]) -> Result<u64, Errno> {
+pub fn mount(
+    alloc: Global,
+    subtree: &mut Subtree,
+    parent: u64,
+    path: &[u8],
+) -> Result<Vec<MountId>, Errno> {
     let at = position(alloc, parent, path)?;
-    Ok(subtree.mount(alloc, &at, FsId(2))?.0)
+    subtree.mount(alloc, &at, FsId(2))
 }
 
 pub fn bind(
@@ -49,9 +54,9 @@ pub fn bind(
     source: u64,
     parent: u64,
     path: &[u8],
-) -> Result<u64, Errno> {
+) -> Result<Vec<MountId>, Errno> {
     let at = position(alloc, parent, path)?;
-    Ok(subtree.bind(alloc, MountId(source), &at)?.0)
+    subtree.bind(alloc, MountId(source), &at)
 }
 
 /// What an unmount removes while this mount is in use.
@@ -93,7 +98,15 @@ fn change(alloc: Global, subtree: &mut Subtree, change: Change, mount: u64) -> R
 }
 
 fn copy_namespace(alloc: Global, subtree: &mut Subtree, ns: u32) -> Result<u64, Errno> {
-    Ok(subtree.copy_namespace(alloc, NsId(ns))?.0 as u64)
+    Ok(subtree.copy_namespace(alloc, NsId(ns))?.ns.0 as u64)
+}
+
+/// The mount itself, which comes before its copies.
+fn first(came: Result<Vec<MountId>, Errno>) -> Result<u64, Errno> {
+    match came?.first() {
+        Some(mount) => Ok(mount.0),
+        None => Ok(0),
+    }
 }
 
 fn count(gone: Result<Vec<MountId>, Errno>) -> Result<u64, Errno> {
@@ -105,12 +118,27 @@ impl Call {
     /// mounts went, 0 for a change.
     pub fn make(self, alloc: Global, subtree: &mut Subtree, busy: u64) -> Result<u64, Errno> {
         match self {
-            Call::Mount(parent, path) => mount(alloc, subtree, parent, path),
-            Call::Bind(source, parent, path) => bind(alloc, subtree, source, parent, path),
+            Call::Mount(parent, path) => first(mount(alloc, subtree, parent, path)),
+            Call::Bind(source, parent, path) => first(bind(alloc, subtree, source, parent, path)),
             Call::Change(to, mount) => change(alloc, subtree, to, mount),
             Call::Umount(mount) => count(umount(alloc, subtree, mount, busy)),
             Call::Copy(ns) => copy_namespace(alloc, subtree, ns),
             Call::Drop(ns) => count(drop_namespace(alloc, subtree, ns, busy)),
+        }
+    }
+
+    /// Makes it, and gives the mounts that came or went.
+    fn tells(self, alloc: Global, subtree: &mut Subtree) -> Result<Vec<MountId>, Errno> {
+        match self {
+            Call::Mount(parent, path) => mount(alloc, subtree, parent, path),
+            Call::Bind(source, parent, path) => bind(alloc, subtree, source, parent, path),
+            Call::Change(to, mount) => {
+                change(alloc, subtree, to, mount)?;
+                Ok(Vec::new(alloc))
+            }
+            Call::Umount(mount) => umount(alloc, subtree, mount, 0),
+            Call::Copy(ns) => Ok(subtree.copy_namespace(alloc, NsId(ns))?.mounts),
+            Call::Drop(ns) => drop_namespace(alloc, subtree, ns, 0),
         }
     }
 }
@@ -122,8 +150,12 @@ pub enum Step {
     Gives(Call, u64),
     /// While this mount is in use the call is refused so.
     Refused(Call, u64, Errno),
-    /// An unmount removes just these mounts.
-    Removes(u64, &'static [u64]),
+    /// By the call just these mounts come or go.
+    Tells(Call, &'static [u64]),
+    /// An unmount would remove just these mounts.
+    Takes(u64, &'static [u64]),
+    /// The last number that a mount had.
+    Last(u64),
     /// On the mount, at this path, this one is the top, or none.
     Top(u64, &'static [u8], u64),
     /// The mount is in this state.
@@ -138,15 +170,10 @@ fn is_top(subtree: &Subtree, mount: u64, path: &[u8], top: u64) -> Result<bool, 
     }
 }
 
-fn removes(
-    alloc: Global,
-    subtree: &mut Subtree,
-    mount: u64,
-    expected: &[u64],
-) -> Result<bool, Errno> {
-    let gone = umount(alloc, subtree, mount, 0)?;
+fn are(mounts: Result<Vec<MountId>, Errno>, expected: &[u64]) -> Result<bool, Errno> {
     Ok(
-        gone.iter()
+        mounts?
+            .iter()
             .map(|mount| mount.0)
             .eq(expected.iter().copied()),
     )
@@ -158,7 +185,9 @@ impl Step {
         match self {
             Step::Gives(call, number) => Ok(call.make(alloc, subtree, 0) == Ok(number)),
             Step::Refused(call, busy, error) => Ok(call.make(alloc, subtree, busy) == Err(error)),
-            Step::Removes(mount, gone) => removes(alloc, subtree, mount, gone),
+            Step::Tells(call, mounts) => are(call.tells(alloc, subtree), mounts),
+            Step::Takes(mount, gone) => are(subtree.umount_takes(alloc, MountId(mount)), gone),
+            Step::Last(mount) => Ok(subtree.last_mount() == MountId(mount)),
             Step::Top(mount, path, top) => is_top(subtree, mount, path, top),
             Step::Is(mount, kind) => Ok(subtree.groups().kind(MountId(mount)) == Some(kind)),
         }

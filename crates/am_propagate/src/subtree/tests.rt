@@ -18,22 +18,23 @@ pub static SLAVE_AND_PEERS: [Step; 8] = [
     Step::Gives(Call::Mount(1, b"/b"), 4),
     Step::Gives(Call::Change(Change::MakeShared, 4), 0),
     Step::Gives(Call::Bind(4, 1, b"/c"), 5),
-    Step::Gives(Call::Bind(3, 4, b"/x"), 6),
+    Step::Tells(Call::Bind(3, 4, b"/x"), &[6, 7]),
 ];
 
 #[test]
 fn a_slave_bound_on_a_shared_mount(rt: HostRuntime) -> Result<(), Fail> {
-    static STEPS: [Step; 11] = [
+    static STEPS: [Step; 12] = [
+        Step::Last(7),
         Step::Top(4, b"/x", 6),
         Step::Top(5, b"/x", 7),
         Step::Is(6, Kind::SharedSlave),
         Step::Is(7, Kind::SharedSlave),
-        Step::Gives(Call::Mount(2, b"/y"), 8),
+        Step::Tells(Call::Mount(2, b"/y"), &[8, 9, 10, 11]),
         Step::Top(2, b"/y", 8),
         Step::Top(3, b"/y", 9),
         Step::Top(6, b"/y", 10),
         Step::Top(7, b"/y", 11),
-        Step::Removes(8, &[8, 9, 10, 11]),
+        Step::Tells(Call::Umount(8), &[8, 9, 10, 11]),
         Step::Top(7, b"/y", 0),
     ];
     plays_both(&rt, rt.alloc(), 100, &SLAVE_AND_PEERS, &STEPS)?;
@@ -61,7 +62,7 @@ fn peers_slaves_and_their_slaves(rt: HostRuntime) -> Result<(), Fail> {
         Step::Gives(Call::Mount(4, b"/y"), 8),
         Step::Top(2, b"/y", 0),
         Step::Gives(Call::Mount(7, b"/z"), 9),
-        Step::Removes(5, &[5, 6]),
+        Step::Tells(Call::Umount(5), &[5, 6]),
         Step::Top(4, b"/x", 7),
         Step::Top(3, b"/x", 0),
     ];
@@ -163,7 +164,7 @@ fn stacks_are_taken_from_the_top(rt: HostRuntime) -> Result<(), Fail> {
         Step::Gives(Call::Mount(1, b"/a"), 3),
         Step::Gives(Call::Mount(1, b"/a"), 5),
         Step::Top(2, b"/a", 6),
-        Step::Removes(5, &[5, 6]),
+        Step::Tells(Call::Umount(5), &[5, 6]),
         Step::Top(2, b"/a", 4),
     ];
     plays_both(&rt, rt.alloc(), 100, &STEPS, &[])?;
@@ -174,9 +175,10 @@ fn stacks_are_taken_from_the_top(rt: HostRuntime) -> Result<(), Fail> {
 /// to the other.
 #[test]
 fn copies_of_namespaces(rt: HostRuntime) -> Result<(), Fail> {
-    static STEPS: [Step; 13] = [
+    static STEPS: [Step; 16] = [
         Step::Refused(Call::Copy(1), 0, Errno::ENOENT),
         Step::Gives(Call::Copy(0), 1),
+        Step::Last(14),
         Step::Top(8, b"/a", 9),
         Step::Top(8, b"/s", 10),
         Step::Top(8, b"/c", 12),
@@ -188,7 +190,26 @@ fn copies_of_namespaces(rt: HostRuntime) -> Result<(), Fail> {
         Step::Is(13, Kind::SharedSlave),
         Step::Gives(Call::Mount(2, b"/y"), 15),
         Step::Top(9, b"/y", 19),
+        Step::Tells(Call::Drop(1), &[8, 9, 10, 11, 12, 13, 14, 19, 20, 21, 22]),
+        Step::Tells(Call::Copy(0), &[23, 24, 25, 26, 27, 28, 29, 30, 31, 32, 33]),
     ];
     plays_both(&rt, rt.alloc(), 100, &SLAVE_AND_PEERS, &STEPS)?;
+    Ok(())
+}
+
+/// What an unmount would remove, also where it is refused: on 6 is 8, 1 is a root, and 99 is none.
+#[test]
+fn what_an_unmount_takes(rt: HostRuntime) -> Result<(), Fail> {
+    static STEPS: [Step; 8] = [
+        Step::Tells(Call::Mount(2, b"/x"), &[5, 6, 7]),
+        Step::Takes(5, &[5, 6, 7]),
+        Step::Tells(Call::Mount(6, b"/z"), &[8, 9]),
+        Step::Refused(Call::Umount(6), 0, Errno::EBUSY),
+        Step::Takes(6, &[6]),
+        Step::Takes(5, &[5]),
+        Step::Takes(1, &[1]),
+        Step::Takes(99, &[]),
+    ];
+    plays_both(&rt, rt.alloc(), 100, &SLAVES_OF_SLAVES, &STEPS)?;
     Ok(())
 }

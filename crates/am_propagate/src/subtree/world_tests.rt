@@ -1,10 +1,10 @@
 //! Generated small worlds, against a model that computes all the slow way, by chains of mounts:
 //! `tools/slow_mounts.py 2000 12` prints the number that is expected here.
 
-use crate::subtree::Subtree;
-use crate::subtree::script::{Call, bind, drop_namespace, mount, umount};
+use crate::subtree::script::{bind, drop_namespace, mount, umount};
+use crate::subtree::{NewNamespace, Subtree};
 use am_group::Change;
-use am_names::{Errno, GroupId, MountId, MountRow};
+use am_names::{Errno, GroupId, MountId, MountRow, NsId};
 use std::alloc::Global;
 use std::test::Fail;
 
@@ -57,12 +57,22 @@ impl Total {
         }
     }
 
-    fn gone(&mut self, answer: Result<Vec<MountId>, Errno>) {
+    fn mounts(&mut self, answer: Result<Vec<MountId>, Errno>) {
         match answer {
-            Ok(gone) => {
-                for mount in gone.iter() {
+            Ok(mounts) => {
+                for mount in mounts.iter() {
                     self.answer(Ok(mount.0));
                 }
+            }
+            Err(error) => self.answer(Err(error)),
+        }
+    }
+
+    fn copies(&mut self, answer: Result<NewNamespace, Errno>) {
+        match answer {
+            Ok(made) => {
+                self.answer(Ok(made.ns.0 as u64));
+                self.mounts(Ok(made.mounts));
             }
             Err(error) => self.answer(Err(error)),
         }
@@ -158,19 +168,22 @@ impl Total {
 
     fn namespaces(&mut self, alloc: Global, subtree: &mut Subtree, by: Drawn) {
         match by.number {
-            0 => self.answer(Call::Copy(0).make(alloc, subtree, 0)),
-            1 => self.gone(drop_namespace(alloc, subtree, 1, by.second)),
-            2 => self.answer(Call::Copy(2).make(alloc, subtree, 0)),
-            _ => self.gone(drop_namespace(alloc, subtree, 3, by.second)),
+            0 => self.copies(subtree.copy_namespace(alloc, NsId(0))),
+            1 => self.mounts(drop_namespace(alloc, subtree, 1, by.second)),
+            2 => self.copies(subtree.copy_namespace(alloc, NsId(2))),
+            _ => self.mounts(drop_namespace(alloc, subtree, 3, by.second)),
         }
     }
 
     fn step(&mut self, alloc: Global, subtree: &mut Subtree, by: Drawn) {
         match by.call {
-            0 | 1 => self.answer(mount(alloc, subtree, by.first, by.path)),
-            2 | 3 => self.answer(bind(alloc, subtree, by.first, by.second, by.path)),
+            0 | 1 => self.mounts(mount(alloc, subtree, by.first, by.path)),
+            2 | 3 => self.mounts(bind(alloc, subtree, by.first, by.second, by.path)),
             4 | 5 => self.changes(alloc, subtree, by),
-            6 => self.gone(umount(alloc, subtree, by.first, by.second)),
+            6 => {
+                self.mounts(subtree.umount_takes(alloc, MountId(by.first)));
+                self.mounts(umount(alloc, subtree, by.first, by.second));
+            }
             _ => self.namespaces(alloc, subtree, by),
         }
         self.table(subtree);
@@ -197,6 +210,6 @@ fn worlds_of_the_slow_model(rt: HostRuntime) -> Result<(), Fail> {
     for _ in 0..2000 {
         world(rt.alloc(), &mut random, &mut total)?;
     }
-    assert_eq!(rt; total.number, 4_141_832_101_292_040_108);
+    assert_eq!(rt; total.number, 7_394_842_449_687_290_888);
     Ok(())
 }
