@@ -1,0 +1,219 @@
+//! Autofs file systems that are attached, and what their daemons mount on triggers.
+
+ghost use Rattle.std.specs.Prelude.{◌≡◌, ◌+◌, ◌∷◌, ◌++◌, [], None, IfOk, OnOk, OnErr};
+ghost use Rattle.am_names.specs.Errno.{RefusedAs};
+ghost use Rattle.am_names.specs.Path.{IsCanonical, names_of};
+ghost use Rattle.am_state.specs.declared.obs.Obs.TheVariants.{Mounted, Unmounted};
+ghost use Rattle.am_propagate.specs.Removed.{umount_refusal, unmounted};
+ghost use Rattle.am_expire.specs.Uses.{is_used};
+ghost use Rattle.am_kernel.specs.Sites.{fs_refusal, attach_refusal};
+ghost use Rattle.am_kernel.specs.DaemonMounts.{new_fs_refusal, coming, with_mount, autofs_refusal, attaching, with_attached, is_there, location_of, mounted_on, mount_on_refusal, with_mount_on, umount_from_refusal, gone_from, without_mounts, is_top_at, standing_row, standing};
+
+use crate::directories::place_of;
+use crate::kernel::Kernel;
+use crate::row::Attached;
+use am_names::{AbsPath, Attach, Errno, FsId, MountId, MountRow, Mounts, NsId, Position, Trigger};
+use am_state::Obs;
+use std::alloc::Global;
+
+/// An autofs that was attached.
+#[derive(Clone, Copy, Debug)]
+pub struct NewAutofs {
+    pub fs: FsId,
+    pub attach: Attach,
+    /// The daemon's mount of it.
+    pub mount: MountId,
+}
+
+impl Kernel {
+    fn fs_refusal(&self) -> Option<Errno>
+        ensures { result ≡ fs_refusal self.now }
+    {
+        if self.last_fs == u32::MAX {
+            return Some(Errno::ENOSPC);
+        }
+        None
+    }
+
+    /// Mounts a new file system, which propagates. It tells the mount itself.
+    pub fn mount_new(
+        &mut self,
+        alloc: Global,
+        at: &Position,
+        seen: &mut Vec<Obs>,
+    ) -> Result<MountId, Errno>
+        ensures refusal { RefusedAs (new_fs_refusal self.old at.now.mount) result }
+        ensures mount { IfOk result (λ mount. mount ≡ self.old.table.last_mount + 1) }
+        ensures ok { OnOk result (self.new ≡ with_mount at.now self.old) }
+        ensures shown { OnOk result (seen.new.items ≡ seen.old.items ++ Mounted (coming self.old at.now.mount) ∷ []) }
+        ensures err { OnErr result (self.new ≡ self.old) }
+        ensures unseen { OnErr result (seen.new.items ≡ seen.old.items) }
+    {
+        if let Some(errno) = self.fs_refusal() {
+            return Err(errno);
+        }
+        seen.reserve(1)?;
+        let fs = self.last_fs + 1;
+        let mounts = self.subtree.mount(alloc, at, FsId(fs))?;
+        let mount = mounts[0];
+        self.last_fs = fs;
+        seen.push_reserved(Obs::Mounted {
+            mounts: Mounts::of(mounts),
+        });
+        Ok(mount)
+    }
+
+    /// Mounts a new autofs at a path of namespace 0, with an attachment for its daemon.
+    pub fn attach_autofs(
+        &mut self,
+        alloc: Global,
+        path: &AbsPath,
+        direct: bool,
+        timeout: u32,
+        seen: &mut Vec<Obs>,
+    ) -> Result<NewAutofs, Errno>
+        ensures refusal { RefusedAs (autofs_refusal self.old path.now) result }
+        ensures fs { IfOk result (λ row. row.fs ≡ self.old.last_fs + 1) }
+        ensures attach { IfOk result (λ row. row.attach ≡ self.old.last_attach + 1) }
+        ensures mount { IfOk result (λ row. row.mount ≡ self.old.table.last_mount + 1) }
+        ensures ok { OnOk result (self.new ≡ with_attached path.now direct timeout self.old) }
+        ensures shown { OnOk result (seen.new.items ≡ seen.old.items ++ attaching self.old path.now) }
+        ensures err { OnErr result (self.new ≡ self.old) }
+        ensures unseen { OnErr result (seen.new.items ≡ seen.old.items) }
+    {
+        let at = self.position(alloc, NsId(0), path)?;
+        if self.is_on_autofs(at.mount) {
+            return Err(Errno::EPERM);
+        }
+        if self.last_attach == u32::MAX {
+            return Err(Errno::ENOSPC);
+        }
+        self.triggers.reserve_fs()?;
+        self.attached.reserve(1)?;
+        let mount = self.mount_new(alloc, &at, seen)?;
+        let fs = FsId(self.last_fs);
+        let attach = Attach(self.last_attach + 1);
+        self.triggers.add_fs_reserved(fs, direct, mount);
+        self.attached.push_reserved(Attached {
+            fs,
+            attach,
+            timeout,
+        });
+        self.last_attach = attach.0;
+        Ok(NewAutofs { fs, attach, mount })
+    }
+
+    /// Whether the trigger is there: an indirect one once its directory is made.
+    fn is_there(&self, trigger: &Trigger) -> bool
+        ensures { result ≡ is_there self.now trigger.now }
+    {
+        match self.triggers.autofs(trigger.fs) {
+            Some(row) if row.direct => trigger.name.is_none(),
+            Some(_) => trigger.name.is_some() && self.triggers.made(trigger),
+            None => false,
+        }
+    }
+
+    /// The daemon's mount of the file system; 0, which no mount is, where there is none.
+    fn location_of(&self, fs: FsId) -> MountId
+        ensures { result ≡ location_of self.now fs }
+    {
+        match self.triggers.autofs(fs) {
+            Some(row) => row.location,
+            None => MountId(0),
+        }
+    }
+
+    /// Mounts a new file system on a trigger, at the daemon's mount of its autofs.
+    pub fn mount_on(
+        &mut self,
+        alloc: Global,
+        attach: Attach,
+        trigger: &Trigger,
+        seen: &mut Vec<Obs>,
+    ) -> Result<MountId, Errno>
+        ensures refusal { RefusedAs (mount_on_refusal self.old attach trigger.now) result }
+        ensures mount { IfOk result (λ mount. mount ≡ self.old.table.last_mount + 1) }
+        ensures ok { OnOk result (self.new ≡ with_mount_on trigger.now self.old) }
+        ensures shown { OnOk result (seen.new.items ≡ seen.old.items ++ Mounted (coming self.old (location_of self.old trigger.now.fs)) ∷ []) }
+        ensures err { OnErr result (self.new ≡ self.old) }
+        ensures unseen { OnErr result (seen.new.items ≡ seen.old.items) }
+    {
+        if !self.is_current(trigger.fs, attach) {
+            return Err(Errno::EPERM);
+        }
+        if !self.is_there(trigger) {
+            return Err(Errno::ENOENT);
+        }
+        let place = place_of(alloc, trigger)?;
+        let location = self.location_of(trigger.fs);
+        if self.subtree.tree().top(location, place.text()).is_some() {
+            return Err(Errno::EBUSY);
+        }
+        let at = Position {
+            mount: location,
+            place,
+        };
+        self.mount_new(alloc, &at, seen)
+    }
+
+    /// Unmounts what is mounted on a trigger at the daemon's mount of its autofs, and what was
+    /// mounted with it; all that went is told, in rising order.
+    pub fn umount_from(
+        &mut self,
+        alloc: Global,
+        attach: Attach,
+        trigger: &Trigger,
+        seen: &mut Vec<Obs>,
+    ) -> Result<Vec<MountId>, Errno>
+        ensures refusal { RefusedAs (umount_from_refusal self.old attach trigger.now) result }
+        ensures gone { IfOk result (λ v. v.items ≡ gone_from self.old trigger.now) }
+        ensures ok { OnOk result (self.new ≡ without_mounts (gone_from self.old trigger.now) self.old) }
+        ensures shown { OnOk result (seen.new.items ≡ seen.old.items ++ Unmounted (gone_from self.old trigger.now) ∷ []) }
+        ensures err { OnErr result (self.new ≡ self.old) }
+        ensures unseen { OnErr result (seen.new.items ≡ seen.old.items) }
+    {
+        if !self.is_current(trigger.fs, attach) {
+            return Err(Errno::EPERM);
+        }
+        let place = place_of(alloc, trigger)?;
+        let location = self.location_of(trigger.fs);
+        let Some(mount) = self.subtree.tree().top(location, place.text()) else {
+            return Err(Errno::ENOENT);
+        };
+        self.umount_mount(alloc, mount, seen)
+    }
+
+    /// Unmounts a mount with what was mounted with it, and tells all that went.
+    pub fn umount_mount(
+        &mut self,
+        alloc: Global,
+        mount: MountId,
+        seen: &mut Vec<Obs>,
+    ) -> Result<Vec<MountId>, Errno>
+        ensures refusal { RefusedAs (umount_refusal (is_used self.old.uses) mount self.old.table) result }
+        ensures gone { IfOk result (λ v. v.items ≡ unmounted self.old.table mount) }
+        ensures ok { OnOk result (self.new ≡ without_mounts (unmounted self.old.table mount) self.old) }
+        ensures shown { OnOk result (seen.new.items ≡ seen.old.items ++ Unmounted (unmounted self.old.table mount) ∷ []) }
+        ensures err { OnErr result (self.new ≡ self.old) }
+        ensures unseen { OnErr result (seen.new.items ≡ seen.old.items) }
+    {
+        seen.reserve(1)?;
+        let mounts = Mounts::of(self.subtree.umount_takes(alloc, mount)?);
+        let gone = self.subtree.umount(alloc, mount, &self.uses)?;
+        seen.push_reserved(Obs::Unmounted { mounts });
+        Ok(gone)
+    }
+
+    /// Whether the row is the top at its place of this mount.
+    fn is_top_at(&self, location: MountId, row: &MountRow) -> bool
+        ensures { result ≡ is_top_at self.now location row.now }
+    {
+        match &row.mountpoint {
+            Some(at) if at.mount == location => {
+                self.subtree.tree().top(location, at.place.text()) == Some(row.mount)
+            }
+            Some(_) | None => false,
+        }
+    }
+}

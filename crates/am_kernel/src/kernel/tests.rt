@@ -1,0 +1,17 @@
+//! A kernel that is new.
+
+use crate::kernel::Kernel;
+use am_names::{Limits, WalkerId};
+use std::test::Fail;
+
+#[test]
+fn nobody_is_busy_at_first(rt: HostRuntime) -> Result<(), Fail> {
+    let limits = Limits {
+        mounts: 10,
+        waiters: 10,
+        tokens: 10,
+    };
+    let kernel = Kernel::new(rt.alloc(), limits)?;
+    assert!(rt; !kernel.is_busy(WalkerId(7)));
+    Ok(())
+}
