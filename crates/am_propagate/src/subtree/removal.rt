@@ -3,6 +3,7 @@
 ghost use Rattle.std.specs.Prelude.{◌≡◌, ◌||◌, ◌==◌, ℕ, true, false, None, IfOk, OnOk, OnErr};
 ghost use Rattle.std.specs.List.{list_any};
 ghost use Rattle.std.specs.List.Sorted.{IsStrictlyIncreasing};
+ghost use Rattle.std.specs.Option.{option_copied};
 ghost use Rattle.am_names.specs.Errno.{RefusedAs};
 ghost use Rattle.am_names.specs.Path.{IsCanonical, names_of};
 ghost use Rattle.am_names.specs.declared.row.MountRow.{MountRow};
@@ -91,6 +92,7 @@ impl Subtree {
     ) -> Result<Vec<MountId>, Errno>
         ensures refusal { RefusedAs None result }
         ensures exact { IfOk result (λ v. v.items ≡ mounts_where (goes_with self.now mount (Some position.now)) self.now.rows) }
+        ensures rising { IfOk result (λ v. IsStrictlyIncreasing v.items) }
     {
         let receivers = self.groups.receivers(alloc, position.mount)?;
         let mut gone = Vec::new(alloc);
@@ -104,7 +106,8 @@ impl Subtree {
 
     /// The mount itself, if it is there.
     fn itself(&self, alloc: Global, mount: MountId) -> Result<Vec<MountId>, AllocError>
-        ensures { IfOk result (λ v. v.items ≡ mounts_where (goes_with self.now mount None) self.now.rows) }
+        ensures exact { IfOk result (λ v. v.items ≡ mounts_where (goes_with self.now mount None) self.now.rows) }
+        ensures rising { IfOk result (λ v. IsStrictlyIncreasing v.items) }
     {
         let _tree = &self.tree;
         let mut found = Vec::new(alloc);
@@ -115,18 +118,25 @@ impl Subtree {
         Ok(found)
     }
 
+    fn mountpoint_of(&self, mount: MountId) -> Option<&Position>
+        ensures { option_copied result ≡ mountpoint_of self.now mount }
+    {
+        match self.tree.row(mount) {
+            Some(row) => row.mountpoint.as_ref(),
+            None => None,
+        }
+    }
+
     /// What an unmount of the mount removes, in rising order, also where `umount` refuses it.
     pub fn umount_takes(&self, alloc: Global, mount: MountId) -> Result<Vec<MountId>, Errno>
         ensures refusal { RefusedAs None result }
         ensures exact { IfOk result (λ v. v.items ≡ unmounted self.now mount) }
         ensures rising { IfOk result (λ v. IsStrictlyIncreasing v.items) }
     {
-        if let Some(row) = self.tree.row(mount) {
-            if let Some(position) = &row.mountpoint {
-                return self.unmounted(alloc, mount, position);
-            }
+        match self.mountpoint_of(mount) {
+            Some(position) => self.unmounted(alloc, mount, position),
+            None => Ok(self.itself(alloc, mount)?),
         }
-        Ok(self.itself(alloc, mount)?)
     }
 
     fn remove(&mut self, alloc: Global, gone: &[MountId]) -> Result<(), Errno>

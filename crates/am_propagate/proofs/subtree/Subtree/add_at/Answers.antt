@@ -1,4 +1,5 @@
-use Rattle.std.proofs.Common.{rules, ◌≡◌, ◌<◌, ◌+◌, ◌∷◌, List, length, arith, ap, sym, subst, ◌∙◌}
+use Rattle.std.proofs.Common.{rules, ◌≡◌, ◌<◌, ◌+◌, ◌∷◌, ℕ, List, Some, length, arith, add-one, ap, sym, subst, ◌∙◌}
+use Rattle.std.specs.List.{slice_get}
 use Rattle.am_names.specs.declared.row.MountRow.{MountRow}
 use Rattle.am_names.specs.declared.row.GroupRow.{GroupRow}
 use Rattle.am_group.specs.Propagation.{group_of}
@@ -6,7 +7,7 @@ use Rattle.am_group.specs.Invariant.{AddsNoReceivers}
 use Rattle.am_group.specs.Receivers.{receivers_of}
 use Rattle.am_propagate.specs.MountTable.{MountTable}
 use Rattle.am_propagate.specs.Invariant.{IsWhole}
-use Rattle.am_propagate.specs.Added.{groups_made, mounted}
+use Rattle.am_propagate.specs.Added.{groups_made, mounted, numbers_after}
 use Rattle.am_propagate.proofs.AdditionLemmas.{length_rows, made_length, grown_is, mounted_whole, mounted_law}
 use Rattle.am_propagate.proofs.subtree.Subtree.add_at.Goals as goal
 
@@ -45,6 +46,12 @@ returns-clause-ok c =
     let n_is : c.self.inside.last_mount + 1 ≡ t.last_mount + 1 = ap (λ (x : MountTable). x.last_mount + 1) c.self.view_is in
     let ns_is : c.grow.inside.last_ns ≡ t.last_ns = ap (λ (x : MountTable). x.last_ns) c.grow.view_is in
     c.in_ok-grow.ensures.ok ∙ grown_is t c.args.at.now c.args.fs c.args.membership c.as_slice-receivers.result.now (c.self.inside.last_mount + 1) c.grow.inside.last_ns c.in_ok-rows.rows.items c.in_ok-joining.joining.members.items c.in_ok-joining.joining.groups.items rs_is n_is ns_is c.in_ok-rows.ensures c.in_ok-joining.ensures.members_are c.in_ok-joining.ensures.groups_are
+
+pub returns-clause-first : goal.returns-clause-first
+returns-clause-first c =
+    let last : c.self.inside.last_mount ≡ c.args.self.now.last_mount = ap (λ (x : MountTable). x.last_mount) c.self.view_is in
+    ap (λ (xs : List ℕ). slice_get xs 0) (c.in_ok-mounts.ensures ∙ ap (numbers_after c.self.inside.last_mount) (add-one _)) ∙
+    ap (λ (n : ℕ). Some (n + 1)) last
 
 pub returns-clause-law : goal.returns-clause-law
 returns-clause-law c =

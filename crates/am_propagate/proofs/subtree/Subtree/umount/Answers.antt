@@ -1,10 +1,7 @@
 use Rattle.std.proofs.Common.{◌≡◌, ℕ, true, List, Option, Some, ap, sym, subst, ◌∙◌}
-use Rattle.std.specs.List.Sorted.{IsStrictlyIncreasing}
 use Rattle.am_names.specs.declared.row.Position.{Position}
 use Rattle.am_mount.specs.Rows.{mount_row, mounts_where}
-use Rattle.am_mount.proofs.RowLemmas.{where_rises}
 use Rattle.am_propagate.specs.MountTable.{MountTable, mountpoint_in, mountpoint_of}
-use Rattle.am_propagate.specs.Invariant.{IsWhole}
 use Rattle.am_propagate.specs.Removed.{is_bare, goes_with, unmounted, removed, LeavesParents}
 use Rattle.am_propagate.proofs.RemovalLemmas.{unmounted_leaves}
 use Rattle.am_propagate.proofs.subtree.Subtree.umount.Goals as goal
@@ -17,12 +14,6 @@ remove-requires g c =
     let bare : is_bare t c.args.mount ≡ true = cc in
     let gone : c.as_slice-2.result.now ≡ unmounted t c.args.mount = c.as_slice-2.ensures.value ∙ c.in_ok-gone.ensures.exact ∙ ap (λ (o : Option Position). mounts_where (goes_with t c.args.mount o) t.rows) (sym at) in
     subst (λ (xs : List ℕ). LeavesParents xs t) (sym gone) (unmounted_leaves t c.args.mount bare)
-
-pub returns-clause-rising : goal.returns-clause-rising
-returns-clause-rising g c =
-    let t = c.args.self.now in
-    let whole : IsWhole t = subst (λ (x : MountTable). IsWhole x) c.self.view_is c.self.invariant in
-    subst (λ (xs : List ℕ). IsStrictlyIncreasing xs) (sym c.in_ok-gone.ensures.exact) (where_rises _ t.rows whole.rising)
 
 pub returns-clause-ok : goal.returns-clause-ok
 returns-clause-ok g c =

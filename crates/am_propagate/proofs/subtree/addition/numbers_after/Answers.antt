@@ -1,5 +1,4 @@
 use Rattle.std.proofs.Common.{◌≡◌, ◌+◌, ◌∷◌, ◌++◌, [], ℕ, List, arith, sym, ap, ◌∙◌}
-use Rattle.am_propagate.specs.Added.{numbers_after}
 use Rattle.am_propagate.proofs.LoopLemmas.{numbers_more}
 use Rattle.am_propagate.proofs.subtree.addition.numbers_after.Goals as goal
 
