@@ -186,14 +186,14 @@ impl Kernel {
         alloc: Global,
         begin: Begin,
         waited: &Waited,
-        trigger: Trigger,
+        trigger: &Trigger,
         attach: Attach,
         passed: &[Trigger],
         seen: &mut Vec<Obs>,
     ) -> Result<Begun, Errno>
         requires free { IsFree waited.now begin.walker self.old.waits }
         requires room { reopen_refusal begin.walker self.old.waits ≡ None }
-        ensures { Meets (notified (freed_as waited.now begin.walker begin.moment self.old) begin trigger attach passed.now) result self.old self.new seen.old.items seen.new.items }
+        ensures { Meets (notified (freed_as waited.now begin.walker begin.moment self.old) begin trigger.now attach passed.now) result self.old self.new seen.old.items seen.new.items }
     {
         let walker = begin.walker;
         let moment = begin.moment;
@@ -204,10 +204,10 @@ impl Kernel {
         let token = self
             .waits
             .reopen(alloc, trigger, TokenKind::Missing, walker)?;
-        let packet = packet_for(TokenKind::Missing, token, walker, &trigger);
+        let packet = packet_for(TokenKind::Missing, token, walker, trigger);
         touch_expired(&mut self.triggers, waited, moment);
         self.triggers.touch_all_reserved(passed, moment);
-        self.triggers.touch_reserved(&trigger, moment);
+        self.triggers.touch_reserved(trigger, moment);
         put_walk(&mut self.walks, begin);
         self.queue.push_reserved(QueuedRow {
             token,
@@ -292,7 +292,7 @@ impl Kernel {
             return Err(errno);
         }
         match pipe {
-            PipeState::Room => self.queue(alloc, begin, waited, trigger, attach, passed, seen),
+            PipeState::Room => self.queue(alloc, begin, waited, &trigger, attach, passed, seen),
             PipeState::Full => Err(Errno::EAGAIN),
             PipeState::Gone => self.hang_up(alloc, &begin, waited, trigger.fs, seen),
         }

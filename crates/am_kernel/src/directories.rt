@@ -1,6 +1,6 @@
 //! The directories of indirect autofs file systems.
 
-ghost use Rattle.std.specs.Prelude.{◌≡◌, OnOk, OnErr};
+ghost use Rattle.std.specs.Prelude.{◌≡◌, IfOk, OnOk, OnErr};
 ghost use Rattle.am_names.specs.Errno.{RefusedAs, RefusedOnlyAs};
 ghost use Rattle.am_names.specs.Path.{IsCanonical, names_of};
 ghost use Rattle.am_trigger.specs.Sites.{place_of};

@@ -7,7 +7,7 @@ ghost use Rattle.am_kernel.specs.Requests.{token_fs, answer_refusal, acknowledge
 
 use crate::kernel::Kernel;
 use crate::row::Attached;
-use am_names::{Attach, Errno, FsId, MountId, Status, Token, WalkerId};
+use am_names::{Attach, Errno, FsId, MountId, Name, Status, Token, WalkerId};
 use am_state::{Obs, QueuedRow};
 
 fn timeout_row(row: Attached, fs: FsId, timeout: u32) -> Attached
@@ -33,6 +33,7 @@ impl Kernel {
         ensures { result ≡ token_fs self.now token }
     {
         let trigger = self.waits.trigger_of(token)?;
+        let _name: Option<Name> = trigger.name;
         Some(trigger.fs)
     }
 
