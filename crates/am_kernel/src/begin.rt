@@ -203,7 +203,7 @@ impl Kernel {
         self.queue.reserve(1)?;
         let token = self
             .waits
-            .reopen(alloc, trigger, TokenKind::Missing, walker)?;
+            .reopen(alloc, *trigger, TokenKind::Missing, walker)?;
         let packet = packet_for(TokenKind::Missing, token, walker, trigger);
         touch_expired(&mut self.triggers, waited, moment);
         self.triggers.touch_all_reserved(passed, moment);
