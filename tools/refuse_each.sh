@@ -23,4 +23,6 @@ while :; do
     fi
 done
 echo "$1 $2: $count allocations refused in turn, $failed failed"
+# A test takes memory; where nothing was refused there is no test of this name.
+[ "$count" -gt 0 ] || { echo "no such test: give its whole path" >&2; exit 2; }
 [ "$failed" -eq 0 ]

@@ -6,3 +6,4 @@ pub mod AdditionLemmas
 pub mod NumberLemmas
 pub mod NamespaceLemmas
 pub mod KindLemmas
+pub mod CameLemmas

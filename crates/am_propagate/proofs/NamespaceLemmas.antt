@@ -239,13 +239,13 @@ module _ (t : MountTable) (whole : IsWhole t) (ns : ℕ) where
               split true e = ltb-true b a e
               split false e = absurd (other (let up : a ≤ b = ltb-false b a e in omega arith))
 
-  mounts_rise : RiseOn 0 (mounts_in t ns)
+  pub mounts_rise : RiseOn 0 (mounts_in t ns)
   mounts_rise = rises_rows 0 (filter (is_in ns) t.rows) (RiseFrom-filter (is_in ns) 0 t.rows whole.rising)
 
   new_rise : RiseOn (t.last_mount + 1) (map (copy_number t.last_mount (mounts_in t ns)) (mounts_in t ns))
   new_rise = numbers_rise (copy_number t.last_mount (mounts_in t ns)) (mounts_in t ns) strict (mounts_in t ns) (λ m h. h) 0 mounts_rise (t.last_mount + 1) (λ m h. let some : 1 ≤ count_up_to m (mounts_in t ns) = count_some m (mounts_in t ns) h in omega arith)
 
-  row_keys : map (λ row. row.mount) rows ≡ map (copy_number t.last_mount (mounts_in t ns)) (mounts_in t ns)
+  pub row_keys : map (λ row. row.mount) rows ≡ map (copy_number t.last_mount (mounts_in t ns)) (mounts_in t ns)
   row_keys = map_keys (λ (r : MountRow). r.mount) (row_in (copy_number t.last_mount (mounts_in t ns)) (t.last_ns + 1)) (copy_number t.last_mount (mounts_in t ns)) (λ x. refl) (filter (is_in ns) t.rows)
 
   kept_keys : numbers kept ≡ mounts_in t ns

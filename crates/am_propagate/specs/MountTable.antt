@@ -1,5 +1,5 @@
 -- All mounts with their propagation, and the numbers that were given.
-use Rattle.std.specs.Prelude.{◌+◌, ℕ, Bool, nat_lt, List, [], ◌∷◌, Option, Some, None, is_some}
+use Rattle.std.specs.Prelude.{◌+◌, ℕ, Bool, nat_lt, List, [], ◌∷◌, map, Option, Some, None, is_some}
 use Rattle.am_names.specs.declared.row.MountRow.{MountRow}
 use Rattle.am_names.specs.declared.row.Position.{Position}
 use Rattle.am_names.specs.PeerGroups.{PeerGroups}
@@ -27,6 +27,10 @@ opening limit = record {
   last_ns = 0;
   limit = limit;
 }
+
+-- the numbers of all mounts, in rising order
+abbrev pub all_mounts : MountTable → List ℕ
+all_mounts t = map (λ row. row.mount) t.rows
 
 abbrev pub is_mount : MountTable → ℕ → Bool
 is_mount t m = is_some (mount_row t.rows m)

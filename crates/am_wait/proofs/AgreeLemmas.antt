@@ -1,21 +1,19 @@
 -- Tokens and waits still agree after each call.
 use Rattle.std.proofs.Common.{◌≡◌, ◌≤◌, ◌<◌, ◌+◌, ℕ, Bool, true, false, cond, not, ◌==◌, ◌&&◌, ◌||◌, List, [], ◌∷◌, ◌++◌, map, Option, Some, None, refl, sym, ap, subst, ◌∙◌, arith}
-use Rattle.std.specs.Prelude.{filter, find, is_none}
-use Rattle.std.specs.List.{list_any}
+use Rattle.std.specs.Prelude.{filter, is_none}
 use Rattle.std.specs.Option.{option_map}
 use Rattle.std.proofs.lemmas.Bool.Decides.{nat_tests, Decides-eqb}
 use Rattle.am_names.specs.declared.trigger.Trigger.{Trigger}
 use Rattle.am_names.specs.declared.trigger.Status.{Status}
-use Rattle.am_names.specs.declared.trigger.Status.TheVariants.{Fail}
 use Rattle.am_names.specs.declared.row.OpenToken.{OpenToken}
 use Rattle.am_names.specs.declared.row.WaitRow.{WaitRow}
 use Rattle.am_names.specs.declared.row.TokenKind.{TokenKind}
 use Rattle.am_wait.specs.Rows.{WaitRows, token_of, wait_of, waiters_of, waiters_in, with_wait, without_wait, with_waiter, without_token, joined_row}
-use Rattle.am_wait.specs.Calls.{waiting_on, opened, joined, joined_on, released_row, answered, failed_row, fs_released, collected, status_in, status_of, still_waits, reopened}
+use Rattle.am_wait.specs.Calls.{waiting_on, opened, released_row, answered, failed_row, fs_released, collected, still_waits, reopened}
 use Rattle.am_wait.specs.Invariant.{RiseBy, AreGiven, is_among, is_waiting_on, IsOnOpen, IsSound}
 use Rattle.am_wait.proofs.RowLemmas.{rises_put, rises_filter, rises_map}
 use Rattle.am_wait.proofs.CallLemmas.{released_walker, failed_walker, idle_collected}
-use Rattle.am_wait.proofs.FindLemmas.{or_first, or_none, find_map, wait_put, wait_taken, no_wait_left, token_taken, token_last, joined_if, token_joined, absent, unless_of, tokens_off}
+use Rattle.am_wait.proofs.FindLemmas.{or_first, or_none, find_map, wait_put, wait_taken, no_wait_left, token_taken, token_last, joined_if, token_joined, unless_of, tokens_off}
 
 -- ---- small facts
 

@@ -1,14 +1,14 @@
 -- What the tests of a call tell of its rows.
-use Rattle.std.proofs.Common.{◌≡◌, ℕ, Bool, true, false, cond, not, ◌||◌, ◌&&◌, ◌==◌, List, [], ◌∷◌, Option, Some, None, set, get_or, refl, sym, ap, subst, ◌∙◌}
-use Rattle.std.specs.Prelude.{position, is_some, is_none, find, filter}
+use Rattle.std.proofs.Common.{◌≡◌, ℕ, Bool, true, false, cond, not, ◌||◌, ◌&&◌, ◌==◌, List, [], ◌∷◌, Option, Some, None, refl, ap}
+use Rattle.std.specs.Prelude.{is_some, is_none, find, filter}
 use Rattle.std.specs.List.{list_any}
 use Rattle.am_names.specs.declared.errno.Errno.{Errno}
-use Rattle.am_names.specs.declared.errno.Errno.TheVariants.{EINVAL, ENOSPC}
+use Rattle.am_names.specs.declared.errno.Errno.TheVariants.{EINVAL}
 use Rattle.am_names.specs.declared.trigger.Status.{Status}
 use Rattle.am_names.specs.declared.trigger.Status.TheVariants.{Fail}
 use Rattle.am_names.specs.declared.row.WaitRow.{WaitRow}
-use Rattle.am_wait.specs.Rows.{WaitRows, wait_of, without_wait}
-use Rattle.am_wait.specs.Calls.{open_refusal, opened, join_refusal, joined, released_row, failed_row, collected, still_waits, reopen_refusal, reopened, rejoin_refusal, rejoined}
+use Rattle.am_wait.specs.Rows.{WaitRows, wait_of}
+use Rattle.am_wait.specs.Calls.{open_refusal, join_refusal, released_row, failed_row, collected, still_waits, reopen_refusal, rejoin_refusal}
 
 -- nothing is found where nothing passes
 pub none_there : {X : Type 0} (test : X → Bool) (xs : List X) → find test xs ≡ None → list_any test xs ≡ false

@@ -1,6 +1,6 @@
 -- The calls: their tests in order, and what they leave (autofs.rst, "Communicating with autofs:
 -- root directory ioctls").
-use Rattle.std.specs.Prelude.{ℕ, ◌==◌, ◌+◌, nat_le, Bool, false, ◌&&◌, not, is_some, is_none, List, [], ◌∷◌, ◌++◌, map, filter, length, Option, Some, None, if◌then◌else◌}
+use Rattle.std.specs.Prelude.{ℕ, ◌==◌, ◌+◌, nat_le, Bool, false, ◌&&◌, not, is_some, is_none, [], ◌∷◌, ◌++◌, map, filter, length, Option, Some, None, if◌then◌else◌}
 use Rattle.am_names.specs.declared.errno.Errno.{Errno}
 use Rattle.am_names.specs.declared.errno.Errno.TheVariants.{EINVAL, ENOSPC, NotReleased}
 use Rattle.am_names.specs.declared.trigger.Trigger.{Trigger}

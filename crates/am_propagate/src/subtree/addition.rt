@@ -1,13 +1,13 @@
 //! Mounts and binds, with the copies on the mounts that receive them.
 
-ghost use Rattle.std.specs.Prelude.{◌≡◌, ◌+◌, ◌^◌, ◌<◌, ◌∷◌, true, length, Some, IfOk, OnOk, OnErr};
+ghost use Rattle.std.specs.Prelude.{◌≡◌, ◌+◌, ◌^◌, ◌<◌, ◌∷◌, ◌++◌, true, length, Some, IfOk, OnOk, OnErr};
 ghost use Rattle.std.specs.List.{slice_get};
 ghost use Rattle.am_names.specs.Errno.{RefusedAs};
 ghost use Rattle.am_group.specs.Invariant.{AddsNoReceivers};
 ghost use Rattle.am_group.specs.Propagation.{group_of};
 ghost use Rattle.am_group.specs.declared.membership.Membership.TheVariants.{Private};
 ghost use Rattle.am_mount.specs.Rows.{mount_row};
-ghost use Rattle.am_propagate.specs.MountTable.{is_mount};
+ghost use Rattle.am_propagate.specs.MountTable.{is_mount, all_mounts};
 ghost use Rattle.am_propagate.specs.Added.{ns_in, row_at, rows_at, membership_where, membership_of, is_unbindable, fresh_count, numbers_after, new_mounts, mounts_made, made_beside, mount_refusal, bind_refusal, mounted, bound, numbers_refusal, HasSource};
 
 use crate::subtree::Subtree;
@@ -135,6 +135,7 @@ impl Subtree {
         ensures refusal { RefusedAs (numbers_refusal at.now.mount membership self.old) result }
         ensures made { IfOk result (λ v. v.items ≡ new_mounts self.old (mounts_made at.now.mount self.old)) }
         ensures first { IfOk result (λ v. slice_get v.items 0 ≡ Some (self.old.last_mount + 1)) }
+        ensures came { IfOk result (λ v. all_mounts self.new ≡ all_mounts self.old ++ v.items) }
         ensures ok { OnOk result (self.new ≡ mounted at.now fs membership self.old) }
         ensures err { OnErr result (self.new ≡ self.old) }
         ensures law { AddsNoReceivers self.old.groups self.new.groups }
@@ -163,6 +164,7 @@ impl Subtree {
         ensures refusal { RefusedAs (mount_refusal at.now.mount self.old) result }
         ensures made { IfOk result (λ v. v.items ≡ new_mounts self.old (mounts_made at.now.mount self.old)) }
         ensures first { IfOk result (λ v. slice_get v.items 0 ≡ Some (self.old.last_mount + 1)) }
+        ensures came { IfOk result (λ v. all_mounts self.new ≡ all_mounts self.old ++ v.items) }
         ensures ok { OnOk result (self.new ≡ mounted at.now fs Private self.old) }
         ensures err { OnErr result (self.new ≡ self.old) }
         ensures law { AddsNoReceivers self.old.groups self.new.groups }
@@ -193,6 +195,7 @@ impl Subtree {
         ensures refusal { RefusedAs (bind_refusal source at.now.mount self.old) result }
         ensures made { IfOk result (λ v. v.items ≡ new_mounts self.old (mounts_made at.now.mount self.old)) }
         ensures first { IfOk result (λ v. slice_get v.items 0 ≡ Some (self.old.last_mount + 1)) }
+        ensures came { IfOk result (λ v. all_mounts self.new ≡ all_mounts self.old ++ v.items) }
         ensures ok { OnOk result (self.new ≡ bound source at.now self.old) }
         ensures err { OnErr result (self.new ≡ self.old) }
         ensures law { AddsNoReceivers self.old.groups self.new.groups }

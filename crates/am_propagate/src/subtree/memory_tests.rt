@@ -89,7 +89,7 @@ fn make_twice(
     Ok(())
 }
 
-static CALLS: [Call; 14] = [
+static CALLS: [Call; 16] = [
     Call::Mount(1, b"/a"),
     Call::Change(Change::MakeShared, 2),
     Call::Bind(2, 1, b"/s"),
@@ -101,6 +101,8 @@ static CALLS: [Call; 14] = [
     Call::Mount(2, b"/y"),
     Call::Copy(0),
     Call::Drop(1),
+    Call::Takes(1),
+    Call::Takes(8),
     Call::Umount(8),
     Call::Change(Change::MakePrivate, 3),
     Call::Change(Change::MakeUnbindable, 5),

@@ -1,9 +1,10 @@
 //! Copies of namespaces.
 
-ghost use Rattle.std.specs.Prelude.{◌≡◌, ◌+◌, ◌^◌, ◌<◌, ◌≤◌, map, filter, length, IfOk, OnOk, OnErr};
+ghost use Rattle.std.specs.Prelude.{◌≡◌, ◌+◌, ◌^◌, ◌<◌, ◌≤◌, ◌++◌, map, filter, length, IfOk, OnOk, OnErr};
 ghost use Rattle.am_names.specs.Errno.{RefusedAs};
 ghost use Rattle.am_group.specs.Invariant.{AddsNoReceivers};
 ghost use Rattle.am_mount.specs.Rows.{is_among, is_in};
+ghost use Rattle.am_propagate.specs.MountTable.{all_mounts};
 ghost use Rattle.am_propagate.specs.Added.{new_mounts};
 ghost use Rattle.am_propagate.specs.Removed.{mounts_in};
 ghost use Rattle.am_propagate.specs.Namespaces.{count_up_to, copy_number, row_in, member_in, copy_refusal, with_copy};
@@ -103,6 +104,7 @@ impl Subtree {
         ensures refusal { RefusedAs (copy_refusal ns self.old) result }
         ensures number { IfOk result (λ made. made.ns ≡ self.old.last_ns + 1) }
         ensures made { IfOk result (λ made. made.mounts.items ≡ new_mounts self.old (length (mounts_in self.old ns))) }
+        ensures came { IfOk result (λ made. all_mounts self.new ≡ all_mounts self.old ++ made.mounts.items) }
         ensures ok { OnOk result (self.new ≡ with_copy ns self.old) }
         ensures err { OnErr result (self.new ≡ self.old) }
         ensures law { AddsNoReceivers self.old.groups self.new.groups }

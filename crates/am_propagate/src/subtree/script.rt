@@ -88,6 +88,8 @@ pub enum Call {
     Bind(u64, u64, &'static [u8]),
     Change(Change, u64),
     Umount(u64),
+    /// What an unmount of the mount would remove.
+    Takes(u64),
     Copy(u32),
     Drop(u32),
 }
@@ -115,19 +117,20 @@ fn count(gone: Result<Vec<MountId>, Errno>) -> Result<u64, Errno> {
 
 impl Call {
     /// Makes it while this mount is in use. It gives the number of what was made or how many
-    /// mounts went, 0 for a change.
+    /// mounts went or would go, 0 for a change.
     pub fn make(self, alloc: Global, subtree: &mut Subtree, busy: u64) -> Result<u64, Errno> {
         match self {
             Call::Mount(parent, path) => first(mount(alloc, subtree, parent, path)),
             Call::Bind(source, parent, path) => first(bind(alloc, subtree, source, parent, path)),
             Call::Change(to, mount) => change(alloc, subtree, to, mount),
             Call::Umount(mount) => count(umount(alloc, subtree, mount, busy)),
+            Call::Takes(mount) => count(subtree.umount_takes(alloc, MountId(mount))),
             Call::Copy(ns) => copy_namespace(alloc, subtree, ns),
             Call::Drop(ns) => count(drop_namespace(alloc, subtree, ns, busy)),
         }
     }
 
-    /// Makes it, and gives the mounts that came or went.
+    /// Makes it, and gives the mounts that came, went or would go.
     fn tells(self, alloc: Global, subtree: &mut Subtree) -> Result<Vec<MountId>, Errno> {
         match self {
             Call::Mount(parent, path) => mount(alloc, subtree, parent, path),
@@ -137,6 +140,7 @@ impl Call {
                 Ok(Vec::new(alloc))
             }
             Call::Umount(mount) => umount(alloc, subtree, mount, 0),
+            Call::Takes(mount) => subtree.umount_takes(alloc, MountId(mount)),
             Call::Copy(ns) => Ok(subtree.copy_namespace(alloc, NsId(ns))?.mounts),
             Call::Drop(ns) => drop_namespace(alloc, subtree, ns, 0),
         }
@@ -150,10 +154,8 @@ pub enum Step {
     Gives(Call, u64),
     /// While this mount is in use the call is refused so.
     Refused(Call, u64, Errno),
-    /// By the call just these mounts come or go.
+    /// The call tells just these mounts.
     Tells(Call, &'static [u64]),
-    /// An unmount would remove just these mounts.
-    Takes(u64, &'static [u64]),
     /// The last number that a mount had.
     Last(u64),
     /// On the mount, at this path, this one is the top, or none.
@@ -186,7 +188,6 @@ impl Step {
             Step::Gives(call, number) => Ok(call.make(alloc, subtree, 0) == Ok(number)),
             Step::Refused(call, busy, error) => Ok(call.make(alloc, subtree, busy) == Err(error)),
             Step::Tells(call, mounts) => are(call.tells(alloc, subtree), mounts),
-            Step::Takes(mount, gone) => are(subtree.umount_takes(alloc, MountId(mount)), gone),
             Step::Last(mount) => Ok(subtree.last_mount() == MountId(mount)),
             Step::Top(mount, path, top) => is_top(subtree, mount, path, top),
             Step::Is(mount, kind) => Ok(subtree.groups().kind(MountId(mount)) == Some(kind)),

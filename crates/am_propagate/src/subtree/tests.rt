@@ -202,13 +202,13 @@ fn copies_of_namespaces(rt: HostRuntime) -> Result<(), Fail> {
 fn what_an_unmount_takes(rt: HostRuntime) -> Result<(), Fail> {
     static STEPS: [Step; 8] = [
         Step::Tells(Call::Mount(2, b"/x"), &[5, 6, 7]),
-        Step::Takes(5, &[5, 6, 7]),
+        Step::Tells(Call::Takes(5), &[5, 6, 7]),
         Step::Tells(Call::Mount(6, b"/z"), &[8, 9]),
         Step::Refused(Call::Umount(6), 0, Errno::EBUSY),
-        Step::Takes(6, &[6]),
-        Step::Takes(5, &[5]),
-        Step::Takes(1, &[1]),
-        Step::Takes(99, &[]),
+        Step::Tells(Call::Takes(6), &[6]),
+        Step::Tells(Call::Takes(5), &[5]),
+        Step::Tells(Call::Takes(1), &[1]),
+        Step::Tells(Call::Takes(99), &[]),
     ];
     plays_both(&rt, rt.alloc(), 100, &SLAVES_OF_SLAVES, &STEPS)?;
     Ok(())

@@ -155,7 +155,8 @@ impl World {
             mount: MountId(parent),
             place: Place::of(alloc, path.text())?,
         };
-        self.subtree.mount(alloc, &at, FsId(fs))
+        let mounts = self.subtree.mount(alloc, &at, FsId(fs))?;
+        mounts.first().copied().ok_or(Errno::EINVAL)
     }
 
     fn autofs(

@@ -1,12 +1,14 @@
-use Rattle.std.proofs.Common.{◌≡◌, ◌+◌, ℕ, List, ap, sym, subst, ◌∙◌}
+use Rattle.std.proofs.Common.{rules, ◌≡◌, ◌+◌, ◌++◌, length, ℕ, List, ap, sym, subst, ◌∙◌}
 use Rattle.std.specs.Prelude.{map, filter}
 use Rattle.am_group.specs.Invariant.{AddsNoReceivers}
 use Rattle.am_mount.specs.Rows.{is_among}
-use Rattle.am_propagate.specs.MountTable.{MountTable}
+use Rattle.am_propagate.specs.MountTable.{MountTable, all_mounts}
 use Rattle.am_propagate.specs.Invariant.{IsWhole}
+use Rattle.am_propagate.specs.Added.{numbers_after, new_mounts}
 use Rattle.am_propagate.specs.Removed.{mounts_in}
 use Rattle.am_propagate.specs.Namespaces.{copy_number, member_in, with_copy}
 use Rattle.am_propagate.proofs.NamespaceLemmas.{with_copy_whole, with_copy_law, copy_grown}
+use Rattle.am_propagate.proofs.CameLemmas.{copied_came}
 use Rattle.am_propagate.proofs.subtree.Subtree.copy_namespace.Goals as goal
 
 pub grow-requires-clause-whole : goal.grow-requires-clause-whole
@@ -30,6 +32,24 @@ returns-clause-ok c =
     let first : c.as_slice-2.result.now ≡ c.as_slice.result.now = c.as_slice-2.ensures.value ∙ sym c.as_slice.ensures.value in
     let members : c.in_ok-members.members.items ≡ map (member_in (copy_number t.last_mount c.as_slice.result.now)) (filter (λ row. is_among c.as_slice.result.now row.mount) t.groups.members) = c.in_ok-members.ensures ∙ ap (λ (xs : List ℕ). map (member_in (copy_number t.last_mount xs)) (filter (λ row. is_among xs row.mount) t.groups.members)) first in
     c.in_ok-grow.ensures.ok ∙ copy_grown t whole c.args.ns c.as_slice.result.now (c.self.inside.last_ns + 1) c.in_ok-rows.rows.items c.in_ok-members.members.items c.new.result.items (c.as_slice.ensures.value ∙ items) to c.in_ok-rows.ensures members c.new.ensures.items
+
+pub returns-clause-came : goal.returns-clause-came
+returns-clause-came c =
+    let t = c.args.self.now in
+    let whole : IsWhole t = subst (λ (x : MountTable). IsWhole x) c.self.view_is c.self.invariant in
+    let items : c.in_ok-mounts.mounts.items ≡ mounts_in t c.args.ns = c.in_ok-mounts.ensures.exact ∙ ap (λ (x : MountTable). mounts_in x c.args.ns) c.self.view_is in
+    let to : c.self.inside.last_ns + 1 ≡ t.last_ns + 1 = ap (λ (x : MountTable). x.last_ns + 1) c.self.view_is in
+    let first : c.as_slice-2.result.now ≡ c.as_slice.result.now = c.as_slice-2.ensures.value ∙ sym c.as_slice.ensures.value in
+    let members : c.in_ok-members.members.items ≡ map (member_in (copy_number t.last_mount c.as_slice.result.now)) (filter (λ row. is_among c.as_slice.result.now row.mount) t.groups.members) = c.in_ok-members.ensures ∙ ap (λ (xs : List ℕ). map (member_in (copy_number t.last_mount xs)) (filter (λ row. is_among xs row.mount) t.groups.members)) first in
+    let made : c.grow.new.self ≡ with_copy c.args.ns t = c.in_ok-grow.ensures.ok ∙ copy_grown t whole c.args.ns c.as_slice.result.now (c.self.inside.last_ns + 1) c.in_ok-rows.rows.items c.in_ok-members.members.items c.new.result.items (c.as_slice.ensures.value ∙ items) to c.in_ok-rows.ensures members c.new.ensures.items in
+    let many : c.len-2.result ≡ length c.in_ok-mounts.mounts.items = search rules in
+    let numbers : c.in_ok-copies.copies.items ≡ numbers_after c.self.inside.last_mount c.len-2.result = c.in_ok-copies.ensures in
+    let told : c.in_ok-copies.copies.items ≡ new_mounts t (length (mounts_in t c.args.ns)) =
+    numbers ∙ ap (λ (x : MountTable). numbers_after x.last_mount c.len-2.result) c.self.view_is ∙
+    ap (numbers_after t.last_mount) many ∙
+    ap (λ (xs : List ℕ). numbers_after t.last_mount (length xs)) items
+    in
+    ap all_mounts made ∙ copied_came t whole c.args.ns ∙ ap (λ (xs : List ℕ). all_mounts t ++ xs) (sym told)
 
 pub returns-clause-law : goal.returns-clause-law
 returns-clause-law c =

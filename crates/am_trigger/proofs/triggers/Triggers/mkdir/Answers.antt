@@ -1,4 +1,4 @@
-use Rattle.std.proofs.Common.{◌≡◌, ◌||◌, Bool, List, [], ◌∷◌, ◌++◌, cond, false, sym, ap, ◌∙◌}
+use Rattle.std.proofs.Common.{◌≡◌, Bool, List, [], ◌∷◌, ◌++◌, cond, false, sym, ap, ◌∙◌}
 use Rattle.std.specs.List.{list_any}
 use Rattle.am_names.specs.Trigger.{same_trigger}
 use Rattle.am_names.specs.declared.trigger.Trigger.{Trigger}
@@ -6,7 +6,7 @@ use Rattle.am_names.specs.contracts.trigger.TriggerPartialEq.TheImpl.{eq-value}
 use Rattle.am_trigger.specs.Rows.{TriggerRows, is_made, with_directory}
 use Rattle.am_trigger.specs.Table.{TriggerTable}
 use Rattle.am_trigger.proofs.KeyLemmas.{key_is, any_same}
-use Rattle.am_trigger.proofs.TriggerLemmas.{any_last, either_way}
+use Rattle.am_trigger.proofs.TriggerLemmas.{any_last}
 use Rattle.am_trigger.proofs.triggers.Triggers.mkdir.Goals as goal
 
 pub returns-clause-ok : goal.returns-clause-ok
