@@ -1,6 +1,7 @@
 //! A walk begins: it arrives, joins those that wait, or has the daemon notified.
 
 ghost use Rattle.std.specs.Prelude.{◌≡◌, ◌≤◌, ◌<◌, ◌+◌, ◌∷◌, ◌++◌, [], None, false, true, is_some, length, map, IfOk, OnOk, OnErr, vec_len, vec_capacity};
+ghost use Rattle.am_trigger.specs.Rows.{with_catatonic};
 ghost use Rattle.am_names.specs.declared.trigger.Status.TheVariants.{Fail};
 ghost use Rattle.am_names.specs.declared.errno.Errno.TheVariants.{ENOENT};
 ghost use Rattle.am_wait.specs.Rows.{token_of, wait_of};
@@ -11,7 +12,7 @@ ghost use Rattle.am_expire.specs.Uses.{mount_of};
 ghost use Rattle.am_kernel.specs.Sites.{scene_of, attach_of};
 ghost use Rattle.am_kernel.specs.declared.begun.Begun.TheVariants.{Failed};
 ghost use Rattle.am_kernel.specs.Outcome.{Meets, Goes};
-ghost use Rattle.am_kernel.specs.Walks.{passes, releases, closing, closed, with_walk, without_walk, arrives, joins, notified, notifies, begun_by, begun_with};
+ghost use Rattle.am_kernel.specs.Walks.{passes, releases, closing, closed, without_walk, arrives, joins, notified, notifies, begun_by, begun_with};
 ghost use Rattle.am_kernel.specs.Inside.{expired_uses, forgotten_waits, forgotten_walks, freed_as, IsFree};
 
 use crate::begun::{Begin, Begun};
@@ -62,35 +63,32 @@ pub fn forget(waits: &mut Waits, waited: &Waited, walker: WalkerId)
     }
 }
 
+/// The walk of a walker is over.
+fn take_walk(walks: &mut Vec<WalkRow>, walker: WalkerId)
+    ensures items { walks.new.items ≡ without_walk walker walks.old.items }
+    ensures len { vec_len walks.new ≤ vec_len walks.old }
+    ensures capacity { vec_capacity walks.new ≡ vec_capacity walks.old }
+{
+    walks.retain(|row| row.walker != walker);
+}
+
 /// The walk of a walker that waited is over.
 pub fn forget_walk(walks: &mut Vec<WalkRow>, waited: &Waited, walker: WalkerId)
     ensures { walks.new.items ≡ forgotten_walks waited.now walker walks.old.items }
 {
     match waited {
         Waited::Idle => {}
-        Waited::OnMount | Waited::OnExpiry { .. } => walks.retain(|row| row.walker != walker),
+        Waited::OnMount | Waited::OnExpiry { .. } => take_walk(walks, walker),
     }
 }
 
-/// The walk of a walker that waits.
-fn put_walk(walks: &mut Vec<WalkRow>, begin: Begin)
+/// The walk of a walker that waits, in place of the one that it had.
+fn put_walk(walks: &mut Vec<WalkRow>, row: WalkRow)
     requires { vec_len walks.old < vec_capacity walks.old }
-    ensures { walks.new.items ≡ with_walk begin walks.old.items }
+    ensures { walks.new.items ≡ without_walk row.walker walks.old.items ++ row ∷ [] }
 {
-    let Begin {
-        walker,
-        ns,
-        path,
-        begins,
-        moment: _moment,
-    } = begin;
-    walks.retain(|row| row.walker != walker);
-    walks.push_reserved(WalkRow {
-        walker,
-        ns,
-        path,
-        begins,
-    });
+    take_walk(walks, row.walker);
+    walks.push_reserved(row);
 }
 
 /// Tells which triggers a walk passed.
@@ -120,6 +118,15 @@ fn tell_failures(shown: &mut Vec<Obs>, token: Token, walkers: &[WalkerId]) -> Re
         })?;
     }
     Ok(())
+}
+
+/// The file system is catatonic, if it is known.
+fn make_catatonic(triggers: &mut Triggers, fs: FsId)
+    ensures { triggers.new.rows ≡ with_catatonic fs true triggers.old.rows }
+{
+    if triggers.autofs(fs).is_some() {
+        let _known = triggers.set_catatonic(fs, true);
+    }
 }
 
 impl Kernel {
@@ -168,13 +175,14 @@ impl Kernel {
         if self.waits.is_full_for(walker) {
             return Err(Errno::ENOSPC);
         }
+        let row = begin.into_row();
         seen.reserve(passed.len() + 1)?;
         self.triggers.reserve_uses(passed.len() + 1)?;
         self.walks.reserve(1)?;
         self.waits.rejoin(token, walker)?;
         touch_expired(&mut self.triggers, waited, moment);
         self.triggers.touch_all_reserved(passed, moment);
-        put_walk(&mut self.walks, begin);
+        put_walk(&mut self.walks, row);
         tell_passes(seen, walker, passed);
         seen.push_reserved(Obs::Waits { walker, token });
         Ok(Begun::Waits(token))
@@ -201,6 +209,7 @@ impl Kernel {
         self.triggers.reserve_uses(passed.len() + 2)?;
         self.walks.reserve(1)?;
         self.queue.reserve(1)?;
+        let row = begin.into_row();
         let token = self
             .waits
             .reopen(alloc, *trigger, TokenKind::Missing, walker)?;
@@ -208,7 +217,7 @@ impl Kernel {
         touch_expired(&mut self.triggers, waited, moment);
         self.triggers.touch_all_reserved(passed, moment);
         self.triggers.touch_reserved(trigger, moment);
-        put_walk(&mut self.walks, begin);
+        put_walk(&mut self.walks, row);
         self.queue.push_reserved(QueuedRow {
             token,
             attach,
@@ -242,7 +251,7 @@ impl Kernel {
     fn close(&mut self, fs: FsId)
         ensures { self.new ≡ closed fs self.old }
     {
-        let _known = self.triggers.set_catatonic(fs, true);
+        make_catatonic(&mut self.triggers, fs);
         self.waits.release_fs(fs);
         self.queue.retain(|row| row.packet.dev != fs);
     }
