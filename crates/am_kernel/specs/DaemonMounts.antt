@@ -11,6 +11,7 @@ use Rattle.am_state.specs.declared.obs.Obs.TheVariants as seen
 use Rattle.am_group.specs.declared.membership.Membership.TheVariants.{Private}
 use Rattle.am_group.specs.Changes.{is_just}
 use Rattle.am_mount.specs.Rows.{top_of}
+use Rattle.am_propagate.specs.MountTable.{MountTable}
 use Rattle.am_propagate.specs.Added as added
 use Rattle.am_propagate.specs.Removed.{umount_refusal, unmounted, removed}
 use Rattle.am_trigger.specs.declared.autofs.Autofs.{Autofs}
@@ -28,8 +29,11 @@ abbrev pub new_fs_refusal : KernelState → ℕ → Option Errno
 new_fs_refusal k mount = or_else (fs_refusal k) (added.mount_refusal mount k.table)
 
 -- the mounts that come with one on this mount
+abbrev pub coming_in : MountTable → ℕ → List ℕ
+coming_in t mount = added.new_mounts t (added.mounts_made mount t)
+
 abbrev pub coming : KernelState → ℕ → List ℕ
-coming k mount = added.new_mounts k.table (added.mounts_made mount k.table)
+coming k mount = coming_in k.table mount
 
 -- a new file system is mounted there, and propagates
 abbrev pub with_mount : Position → KernelState → KernelState

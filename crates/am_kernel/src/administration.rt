@@ -6,7 +6,7 @@ ghost use Rattle.am_group.specs.Kinds.{kind_of};
 ghost use Rattle.am_propagate.specs.MountTable.{mountpoint_of};
 ghost use Rattle.am_propagate.specs.Removed.{unmounted};
 ghost use Rattle.am_state.specs.declared.obs.Obs.TheVariants.{Unmounted};
-ghost use Rattle.am_kernel.specs.Administration.{mount_refusal, mounting, with_plain, bind_refusal, with_bind, is_unbindable, is_parent_on_autofs, is_daemons, site_refusal, plain_umount_refusal, plain_gone, without_plain, plain_change_refusal, with_changed, kind_refusal, kind_at};
+ghost use Rattle.am_kernel.specs.Administration.{mount_refusal, mounting, with_plain, bind_refusal, with_bind, is_unbindable, is_parent_on_autofs, is_any_on_autofs, is_daemons, site_refusal, plain_umount_refusal, plain_gone, without_plain, plain_change_refusal, with_changed, kind_refusal, kind_at};
 
 use crate::kernel::{Kernel, is_root};
 use am_group::{Change, Kind};
@@ -93,15 +93,23 @@ impl Kernel {
         }
     }
 
+    /// Whether one of the mounts is one of an autofs.
+    fn is_any_on_autofs(&self, mounts: &[MountId]) -> bool
+        ensures { result ≡ is_any_on_autofs self.now mounts.now }
+    {
+        mounts.iter().copied().any(|mount| self.is_on_autofs(mount))
+    }
+
     /// Whether only the daemon may unmount the mount, with these that would go.
     fn is_daemons(&self, mount: MountId, at: &Option<Position>, gone: &[MountId]) -> bool
         requires at { at.now ≡ mountpoint_of self.now.table mount }
         requires gone { gone.now ≡ unmounted self.now.table mount }
         ensures { result ≡ is_daemons self.now mount }
     {
-        self.is_on_autofs(mount)
-            || self.is_parent_on_autofs(at)
-            || gone.iter().copied().any(|other| self.is_on_autofs(other))
+        if self.is_on_autofs(mount) || self.is_parent_on_autofs(at) {
+            return true;
+        }
+        self.is_any_on_autofs(gone)
     }
 
     /// Why an unmount of this mount would be refused for what it is mounted on, if it would.

@@ -4,15 +4,18 @@ ghost use Rattle.std.specs.Prelude.{◌≡◌, ◌+◌, ◌∷◌, ◌++◌, [],
 ghost use Rattle.am_names.specs.Errno.{RefusedAs};
 ghost use Rattle.am_names.specs.Path.{IsCanonical, names_of};
 ghost use Rattle.am_state.specs.declared.obs.Obs.TheVariants.{Mounted, Unmounted};
+ghost use Rattle.am_group.specs.declared.membership.Membership.TheVariants.{Private};
+ghost use Rattle.am_propagate.specs.Added.{mount_refusal, mounted};
 ghost use Rattle.am_propagate.specs.Removed.{umount_refusal, unmounted};
 ghost use Rattle.am_expire.specs.Uses.{is_used};
 ghost use Rattle.am_kernel.specs.Sites.{fs_refusal, attach_refusal};
-ghost use Rattle.am_kernel.specs.DaemonMounts.{new_fs_refusal, coming, with_mount, autofs_refusal, attaching, with_attached, is_there, location_of, mounted_on, mount_on_refusal, with_mount_on, umount_from_refusal, gone_from, without_mounts, is_top_at, standing_row, standing};
+ghost use Rattle.am_kernel.specs.DaemonMounts.{new_fs_refusal, coming_in, coming, with_mount, autofs_refusal, attaching, with_attached, is_there, location_of, mounted_on, mount_on_refusal, with_mount_on, umount_from_refusal, gone_from, without_mounts, is_top_at, standing_row, standing};
 
 use crate::directories::place_of;
 use crate::kernel::Kernel;
 use crate::row::Attached;
 use am_names::{AbsPath, Attach, Errno, FsId, MountId, MountRow, Mounts, NsId, Position, Trigger};
+use am_propagate::Subtree;
 use am_state::Obs;
 use std::alloc::Global;
 
@@ -23,6 +26,30 @@ pub struct NewAutofs {
     pub attach: Attach,
     /// The daemon's mount of it.
     pub mount: MountId,
+}
+
+/// Mounts a file system, which propagates. It tells the mount itself.
+fn mount_fs(
+    subtree: &mut Subtree,
+    alloc: Global,
+    at: &Position,
+    fs: FsId,
+    seen: &mut Vec<Obs>,
+) -> Result<MountId, Errno>
+    ensures refusal { RefusedAs (mount_refusal at.now.mount subtree.old) result }
+    ensures mount { IfOk result (λ mount. mount ≡ subtree.old.last_mount + 1) }
+    ensures ok { OnOk result (subtree.new ≡ mounted at.now fs Private subtree.old) }
+    ensures shown { OnOk result (seen.new.items ≡ seen.old.items ++ Mounted (coming_in subtree.old at.now.mount) ∷ []) }
+    ensures err { OnErr result (subtree.new ≡ subtree.old) }
+    ensures unseen { OnErr result (seen.new.items ≡ seen.old.items) }
+{
+    seen.reserve(1)?;
+    let mounts = subtree.mount(alloc, at, fs)?;
+    let mount = mounts[0];
+    seen.push_reserved(Obs::Mounted {
+        mounts: Mounts::of(mounts),
+    });
+    Ok(mount)
 }
 
 impl Kernel {
@@ -52,14 +79,9 @@ impl Kernel {
         if let Some(errno) = self.fs_refusal() {
             return Err(errno);
         }
-        seen.reserve(1)?;
         let fs = self.last_fs + 1;
-        let mounts = self.subtree.mount(alloc, at, FsId(fs))?;
-        let mount = mounts[0];
+        let mount = mount_fs(&mut self.subtree, alloc, at, FsId(fs), seen)?;
         self.last_fs = fs;
-        seen.push_reserved(Obs::Mounted {
-            mounts: Mounts::of(mounts),
-        });
         Ok(mount)
     }
 
@@ -88,17 +110,21 @@ impl Kernel {
         if self.last_attach == u32::MAX {
             return Err(Errno::ENOSPC);
         }
+        if let Some(errno) = self.fs_refusal() {
+            return Err(errno);
+        }
+        let fs = FsId(self.last_fs + 1);
+        let attach = Attach(self.last_attach + 1);
         self.triggers.reserve_fs()?;
         self.attached.reserve(1)?;
-        let mount = self.mount_new(alloc, &at, seen)?;
-        let fs = FsId(self.last_fs);
-        let attach = Attach(self.last_attach + 1);
+        let mount = mount_fs(&mut self.subtree, alloc, &at, fs, seen)?;
         self.triggers.add_fs_reserved(fs, direct, mount);
         self.attached.push_reserved(Attached {
             fs,
             attach,
             timeout,
         });
+        self.last_fs = fs.0;
         self.last_attach = attach.0;
         Ok(NewAutofs { fs, attach, mount })
     }
