@@ -7,6 +7,7 @@ use Rattle.std.proofs.lemmas.List.Elements.{All-push, All-weaker, All-head, All-
 use Rattle.am_names.specs.declared.errno.Errno.{Errno}
 use Rattle.am_names.specs.declared.errno.Errno.TheVariants.{EEXIST}
 use Rattle.am_state.specs.declared.kernel_row.QueuedRow.{QueuedRow}
+use Rattle.am_propagate.specs.MountTable.{MountTable}
 use Rattle.am_trigger.specs.declared.autofs.Autofs.{Autofs}
 use Rattle.am_trigger.specs.Rows.{TriggerRows, autofs_of, add_refusal}
 use Rattle.am_kernel.specs.State.{KernelState}
@@ -15,6 +16,9 @@ use Rattle.am_kernel.specs.State.{KernelState}
 
 abbrev pub with_queue : KernelState → List QueuedRow → KernelState
 with_queue k queue = record k { queue = queue }
+
+abbrev pub with_table : KernelState → MountTable → KernelState
+with_table k table = record k { table = table }
 
 -- ---- the numbers of file systems
 

@@ -9,7 +9,7 @@ ghost use Rattle.am_propagate.specs.Added.{mount_refusal, mounted};
 ghost use Rattle.am_propagate.specs.Removed.{umount_refusal, unmounted};
 ghost use Rattle.am_expire.specs.Uses.{is_used};
 ghost use Rattle.am_kernel.specs.Sites.{fs_refusal, attach_refusal};
-ghost use Rattle.am_kernel.specs.DaemonMounts.{new_fs_refusal, coming_in, coming, with_mount, autofs_refusal, attaching, with_attached, is_there, location_of, mounted_on, mount_on_refusal, with_mount_on, umount_from_refusal, gone_from, without_mounts, is_top_at, standing_row, standing};
+ghost use Rattle.am_kernel.specs.DaemonMounts.{new_fs_refusal, coming_in, coming, with_mount, autofs_refusal, attaching, with_attached, is_there, location_of, mounted_on, mount_on_refusal, with_mount_on, umount_from_refusal, gone_from, without_mounts, is_top_at, trigger_under, standing_of, standing};
 
 use crate::directories::place_of;
 use crate::kernel::Kernel;
@@ -17,7 +17,8 @@ use crate::row::Attached;
 use am_names::{AbsPath, Attach, Errno, FsId, MountId, MountRow, Mounts, NsId, Position, Trigger};
 use am_propagate::Subtree;
 use am_state::Obs;
-use std::alloc::Global;
+use am_trigger::Autofs;
+use std::alloc::{AllocError, Global};
 
 /// An autofs that was attached.
 #[derive(Clone, Copy, Debug)]
@@ -183,6 +184,15 @@ impl Kernel {
         self.mount_new(alloc, &at, seen)
     }
 
+    /// What is mounted on the trigger at the daemon's mount.
+    fn mounted_on(&self, alloc: Global, trigger: &Trigger) -> Result<Option<MountId>, AllocError>
+        ensures { IfOk result (λ mount. mount ≡ mounted_on self.now trigger.now) }
+    {
+        let place = place_of(alloc, trigger)?;
+        let location = self.location_of(trigger.fs);
+        Ok(self.subtree.tree().top(location, place.text()))
+    }
+
     /// Unmounts what is mounted on a trigger at the daemon's mount of its autofs, and what was
     /// mounted with it; all that went is told, in rising order.
     pub fn umount_from(
@@ -202,9 +212,7 @@ impl Kernel {
         if !self.is_current(trigger.fs, attach) {
             return Err(Errno::EPERM);
         }
-        let place = place_of(alloc, trigger)?;
-        let location = self.location_of(trigger.fs);
-        let Some(mount) = self.subtree.tree().top(location, place.text()) else {
+        let Some(mount) = self.mounted_on(alloc, trigger)? else {
             return Err(Errno::ENOENT);
         };
         self.umount_mount(alloc, mount, seen)
@@ -240,6 +248,50 @@ impl Kernel {
                 self.subtree.tree().top(location, at.place.text()) == Some(row.mount)
             }
             Some(_) | None => false,
+        }
+    }
+
+    /// The trigger on which the row is mounted, if it is the top there at the daemon's mount.
+    fn trigger_under(&self, autofs: &Autofs, row: &MountRow) -> Option<Trigger>
+        ensures { result ≡ trigger_under self.now autofs.now row.now }
+    {
+        if !self.is_top_at(autofs.location, row) {
+            return None;
+        }
+        match &row.mountpoint {
+            Some(at) => autofs.trigger_in(&at.place),
+            None => None,
+        }
+    }
+
+    fn standing_of(
+        &self,
+        alloc: Global,
+        autofs: &Autofs,
+    ) -> Result<Vec<(Trigger, MountId)>, AllocError>
+        ensures { IfOk result (λ v. v.items ≡ standing_of self.now autofs.now) }
+    {
+        let mut standing = Vec::new(alloc);
+        for row in self.subtree.tree().rows() {
+            if let Some(trigger) = self.trigger_under(autofs, row) {
+                standing.push((trigger, row.mount))?;
+            }
+        }
+        Ok(standing)
+    }
+
+    /// Each trigger of the autofs on which something is mounted at the daemon's mount, with that
+    /// mount, in rising order of mounts.
+    pub fn standing(
+        &self,
+        alloc: Global,
+        fs: FsId,
+    ) -> Result<Vec<(Trigger, MountId)>, AllocError>
+        ensures { IfOk result (λ v. v.items ≡ standing self.now fs) }
+    {
+        match self.triggers.autofs(fs) {
+            Some(autofs) => self.standing_of(alloc, &autofs),
+            None => Ok(Vec::new(alloc)),
         }
     }
 }
