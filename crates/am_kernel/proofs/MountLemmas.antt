@@ -1,15 +1,15 @@
 -- What an unmount and a new file system leave of the kernel.
-use Rattle.std.proofs.Common.{◌≡◌, ◌≤◌, ◌<◌, ◌+◌, ◌==◌, ◌∷◌, ◌++◌, [], ℕ, Bool, true, false, cond, List, Option, Some, None, refl, sym, ap, subst, ◌∙◌, arith}
+use Rattle.std.proofs.Common.{◌≡◌, ◌≤◌, ◌<◌, ◌+◌, ◌==◌, ◌∷◌, ◌++◌, [], ℕ, Bool, true, false, List, Option, Some, None, refl, sym, ap, ◌∙◌, arith, length, take, get_or}
 use Rattle.std.specs.Prelude.{is_some, find, if◌then◌else◌}
-use Rattle.std.specs.List.{All}
+use Rattle.std.specs.List.{All, flat_map}
+use Rattle.std.proofs.lemmas.List.{take_more, flat_map_more}
 use Rattle.std.proofs.lemmas.Bool.Decides.{Decides-eqb}
 use Rattle.std.proofs.lemmas.List.Elements.{All-push, All-weaker, All-head, All-tail}
-use Rattle.am_names.specs.declared.errno.Errno.{Errno}
 use Rattle.am_names.specs.declared.errno.Errno.TheVariants.{EEXIST}
 use Rattle.am_state.specs.declared.kernel_row.QueuedRow.{QueuedRow}
 use Rattle.am_propagate.specs.MountTable.{MountTable}
 use Rattle.am_trigger.specs.declared.autofs.Autofs.{Autofs}
-use Rattle.am_trigger.specs.Rows.{TriggerRows, autofs_of, add_refusal}
+use Rattle.am_trigger.specs.Rows.{TriggerRows, add_refusal}
 use Rattle.am_kernel.specs.State.{KernelState}
 
 -- ---- fields that are changed
@@ -49,3 +49,9 @@ next_is_sound last rows row is all =
 
     greatest : (n last : ℕ) → n ≡ last + 1 → n ≤ last + 1
     greatest n last e = omega arith
+
+-- ---- lists that are made row by row
+
+pub flat_one_more : {X A : Type 0} (f : X → List A) (xs : List X) (i : ℕ) (x : X) → i < length xs → x ≡ get_or xs i x → flat_map f (take (i + 1) xs) ≡ flat_map f (take i xs) ++ f x
+flat_one_more {X} f xs i x h e =
+    ap (flat_map f) (take_more xs i x h ∙ ap (λ (y : X). take i xs ++ y ∷ []) (sym e)) ∙ sym (flat_map_more f [] (take i xs) x)

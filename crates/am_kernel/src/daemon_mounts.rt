@@ -14,7 +14,9 @@ ghost use Rattle.am_kernel.specs.DaemonMounts.{new_fs_refusal, coming_in, coming
 use crate::directories::place_of;
 use crate::kernel::Kernel;
 use crate::row::Attached;
-use am_names::{AbsPath, Attach, Errno, FsId, MountId, MountRow, Mounts, NsId, Position, Trigger};
+use am_names::{
+    AbsPath, Attach, Errno, FsId, MountId, MountRow, Mounts, Name, NsId, Position, Trigger,
+};
 use am_propagate::Subtree;
 use am_state::Obs;
 use am_trigger::Autofs;
@@ -274,6 +276,7 @@ impl Kernel {
         let mut standing = Vec::new(alloc);
         for row in self.subtree.tree().rows() {
             if let Some(trigger) = self.trigger_under(autofs, row) {
+                let _name: Option<Name> = trigger.name;
                 standing.push((trigger, row.mount))?;
             }
         }
@@ -282,11 +285,7 @@ impl Kernel {
 
     /// Each trigger of the autofs on which something is mounted at the daemon's mount, with that
     /// mount, in rising order of mounts.
-    pub fn standing(
-        &self,
-        alloc: Global,
-        fs: FsId,
-    ) -> Result<Vec<(Trigger, MountId)>, AllocError>
+    pub fn standing(&self, alloc: Global, fs: FsId) -> Result<Vec<(Trigger, MountId)>, AllocError>
         ensures { IfOk result (λ v. v.items ≡ standing self.now fs) }
     {
         match self.triggers.autofs(fs) {
