@@ -64,18 +64,18 @@ impl Kernel {
         ensures unseen { OnErr result (seen.new.items ≡ seen.old.items) }
     {
         let source = self.position(alloc, ns, from)?;
-        let at = self.position(alloc, ns, to)?;
+        let target = self.position(alloc, ns, to)?;
         if !is_root(&source.place) {
             return Err(Errno::EINVAL);
         }
         if self.is_unbindable(source.mount) {
             return Err(Errno::EINVAL);
         }
-        if self.is_on_autofs(at.mount) {
+        if self.is_on_autofs(target.mount) {
             return Err(Errno::EPERM);
         }
         seen.reserve(1)?;
-        let mounts = self.subtree.bind(alloc, source.mount, &at)?;
+        let mounts = self.subtree.bind(alloc, source.mount, &target)?;
         let mount = mounts[0];
         seen.push_reserved(Obs::Mounted {
             mounts: Mounts::of(mounts),
@@ -168,11 +168,11 @@ impl Kernel {
         ensures ok { OnOk result (self.new ≡ with_changed change ns path.now self.old) }
         ensures err { OnErr result (self.new ≡ self.old) }
     {
-        let at = self.position(alloc, ns, path)?;
-        if !is_root(&at.place) {
+        let target = self.position(alloc, ns, path)?;
+        if !is_root(&target.place) {
             return Err(Errno::EINVAL);
         }
-        self.subtree.change(alloc, change, at.mount)
+        self.subtree.change(alloc, change, target.mount)
     }
 
     /// The state of the mount to which the path leads.
@@ -180,11 +180,11 @@ impl Kernel {
         ensures refusal { RefusedAs (kind_refusal self.now ns path.now) result }
         ensures ok { IfOk result (λ kind. kind_at self.now ns path.now ≡ Some kind) }
     {
-        let at = self.position(alloc, ns, path)?;
-        if !is_root(&at.place) {
+        let position = self.position(alloc, ns, path)?;
+        if !is_root(&position.place) {
             return Err(Errno::EINVAL);
         }
-        match self.subtree.groups().kind(at.mount) {
+        match self.subtree.groups().kind(position.mount) {
             Some(kind) => Ok(kind),
             None => Err(Errno::EINVAL),
         }
