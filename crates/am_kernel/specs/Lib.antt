@@ -4,6 +4,7 @@ pub mod Outcome
 pub mod Walks
 pub mod Resumes
 pub mod Requests
+pub mod Attachments
 pub mod Directories
 pub mod DaemonMounts
 pub mod Administration

@@ -234,7 +234,7 @@ impl Kernel {
     }
 
     /// What is seen of a file system that becomes catatonic.
-    fn closing(&self, alloc: Global, fs: FsId) -> Result<Vec<Obs>, AllocError>
+    pub fn closing(&self, alloc: Global, fs: FsId) -> Result<Vec<Obs>, AllocError>
         ensures { IfOk result (λ v. v.items ≡ closing fs self.now) }
     {
         let mut shown = Vec::new(alloc);
@@ -248,7 +248,7 @@ impl Kernel {
     }
 
     /// The file system becomes catatonic (autofs.rst, "Catatonic mode").
-    fn close(&mut self, fs: FsId)
+    pub fn close(&mut self, fs: FsId)
         ensures { self.new ≡ closed fs self.old }
     {
         make_catatonic(&mut self.triggers, fs);
