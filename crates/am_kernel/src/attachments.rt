@@ -1,7 +1,8 @@
 //! Attachments that end and begin: catatonic mode, and a daemon that attaches again.
 
-ghost use Rattle.std.specs.Prelude.{◌≡◌, ◌+◌, map, IfOk, OnOk, OnErr};
+ghost use Rattle.std.specs.Prelude.{◌≡◌, ◌+◌, false, map, IfOk, OnOk, OnErr};
 ghost use Rattle.am_names.specs.Errno.{RefusedOnlyAs};
+ghost use Rattle.am_trigger.specs.Rows.{with_catatonic};
 ghost use Rattle.am_kernel.specs.Attachments.{catatonic_refusal, autofs_refusal, closed_if_live, closing_if_live, pipe_refusal, attached_row, with_pipe};
 ghost use Rattle.am_kernel.specs.Walks.{closed};
 
@@ -9,6 +10,7 @@ use crate::kernel::Kernel;
 use crate::row::Attached;
 use am_names::{Attach, Errno, FsId};
 use am_state::Obs;
+use am_trigger::Triggers;
 use std::alloc::{AllocError, Global};
 
 fn attached_row(row: Attached, fs: FsId, attach: Attach) -> Attached
@@ -26,6 +28,15 @@ fn set_attach(rows: &mut [Attached], fs: FsId, attach: Attach)
 {
     for row in rows.iter_mut() {
         *row = attached_row(*row, fs, attach);
+    }
+}
+
+/// The file system is catatonic no longer; one that isn't known stays so.
+fn make_live(triggers: &mut Triggers, fs: FsId)
+    ensures { triggers.new.rows ≡ with_catatonic fs false triggers.old.rows }
+{
+    if triggers.autofs(fs).is_some() {
+        let _known = triggers.set_catatonic(fs, false);
     }
 }
 
@@ -98,7 +109,7 @@ impl Kernel {
             return Err(errno);
         }
         let attach = Attach(self.last_attach + 1);
-        let _known = self.triggers.set_catatonic(fs, false);
+        make_live(&mut self.triggers, fs);
         set_attach(&mut self.attached, fs, attach);
         self.last_attach = attach.0;
         Ok(attach)
