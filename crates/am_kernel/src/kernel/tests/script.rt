@@ -8,6 +8,7 @@ use crate::daemon_mounts::NewAutofs;
 use crate::kernel::Kernel;
 use am_group::Kind;
 use am_names::{Attach, Errno, FsId, Limits, MountId, NsId, PipeState, Position, Seconds, Token};
+use am_state::Obs;
 use std::alloc::Global;
 use std::process::Abort;
 
@@ -146,6 +147,48 @@ pub enum Step {
     Finds(Look),
 }
 
+impl Step {
+    /// The call that it makes, if it makes one.
+    pub fn call(self) -> Option<Call> {
+        match self {
+            Step::Makes(call, _, _) | Step::Comes(call, _, _) => Some(call),
+            Step::Says(call, _) | Step::Refused(call, _) | Step::Goes(call, _) => Some(call),
+            Step::Does(call) => Some(call),
+            Step::Leaves(walker, _) => Some(Call::Leave(walker)),
+            Step::Time(_) | Step::Pipe(_) | Step::Reads(_) | Step::Finds(_) => None,
+        }
+    }
+
+    /// How its call is to be answered.
+    fn answer(self) -> Answer {
+        match self {
+            Step::Makes(_, answer, _) | Step::Says(_, answer) => answer,
+            Step::Refused(_, errno) => Answer::Refused(errno),
+            Step::Comes(_, mount, _) => Answer::Came(mount),
+            Step::Goes(_, mounts) => Answer::Went(mounts),
+            Step::Leaves(_, mount) => Answer::Left(mount),
+            Step::Does(_) => Answer::Done,
+            Step::Time(_) | Step::Pipe(_) | Step::Reads(_) | Step::Finds(_) => Answer::Done,
+        }
+    }
+
+    /// Whether just what it says is seen.
+    fn shows(self, seen: &[Obs]) -> bool {
+        match self {
+            Step::Makes(_, _, sights) => are_seen(seen, sights),
+            Step::Comes(_, _, mounts) => are_seen(seen, &[Sight::Mounted(mounts)]),
+            Step::Goes(_, mounts) => are_seen(seen, &[Sight::Unmounted(mounts)]),
+            Step::Leaves(walker, mount) => are_seen(seen, &[Sight::Left(walker, mount)]),
+            _ => seen.is_empty(),
+        }
+    }
+
+    /// Whether its call is answered as it says, with just what it says to be seen.
+    pub fn fits(self, answer: &Result<Said, Errno>, seen: &[Obs]) -> bool {
+        self.answer().is(answer) && self.shows(seen)
+    }
+}
+
 /// A kernel, and what walks meet.
 #[derive(Drop)]
 pub struct World {
@@ -164,60 +207,38 @@ impl World {
         })
     }
 
+    /// Makes the call, and adds what is seen.
+    pub fn make(&mut self, alloc: Global, call: Call, seen: &mut Vec<Obs>) -> Result<Said, Errno> {
+        call.make(alloc, &mut self.kernel, self.setting, seen)
+    }
+
     /// Whether the call is answered so, and just this is seen.
     pub fn makes(&mut self, alloc: Global, call: Call, answer: Answer, sights: &[Sight]) -> bool {
         let mut seen = Vec::new(alloc);
-        let said = call.make(alloc, &mut self.kernel, self.setting, &mut seen);
+        let said = self.make(alloc, call, &mut seen);
         answer.is(&said) && are_seen(seen.as_slice(), sights)
     }
 
-    fn comes(&mut self, alloc: Global, call: Call, mount: u64, mounts: &'static [u64]) -> bool {
-        self.makes(alloc, call, Answer::Came(mount), &[Sight::Mounted(mounts)])
-    }
-
-    fn goes_away(&mut self, alloc: Global, call: Call, mounts: &'static [u64]) -> bool {
-        self.makes(
-            alloc,
-            call,
-            Answer::Went(mounts),
-            &[Sight::Unmounted(mounts)],
-        )
-    }
-
-    fn leaves(&mut self, alloc: Global, walker: u32, mount: u64) -> bool {
-        let call = Call::Leave(walker);
-        self.makes(
-            alloc,
-            call,
-            Answer::Left(mount),
-            &[Sight::Left(walker, mount)],
-        )
+    /// Whether a step that makes no call goes as it says.
+    pub fn sets(&mut self, alloc: Global, step: Step) -> Result<bool, Errno> {
+        match step {
+            Step::Time(moment) => self.setting.moment = Seconds(moment),
+            Step::Pipe(pipe) => self.setting.pipe = pipe,
+            Step::Reads(token) => self.kernel.take_packet(Token(token)),
+            Step::Finds(look) => return look.finds(alloc, &self.kernel),
+            _ => return Ok(false),
+        }
+        Ok(true)
     }
 
     /// Whether the step goes as it says.
-    pub fn goes(&mut self, alloc: Global, step: Step) -> Result<bool, Errno> {
-        match step {
-            Step::Makes(call, answer, sights) => Ok(self.makes(alloc, call, answer, sights)),
-            Step::Refused(call, errno) => Ok(self.makes(alloc, call, Answer::Refused(errno), &[])),
-            Step::Says(call, answer) => Ok(self.makes(alloc, call, answer, &[])),
-            Step::Does(call) => Ok(self.makes(alloc, call, Answer::Done, &[])),
-            Step::Comes(call, mount, mounts) => Ok(self.comes(alloc, call, mount, mounts)),
-            Step::Goes(call, mounts) => Ok(self.goes_away(alloc, call, mounts)),
-            Step::Leaves(walker, mount) => Ok(self.leaves(alloc, walker, mount)),
-            Step::Time(moment) => {
-                self.setting.moment = Seconds(moment);
-                Ok(true)
-            }
-            Step::Pipe(pipe) => {
-                self.setting.pipe = pipe;
-                Ok(true)
-            }
-            Step::Reads(token) => {
-                self.kernel.take_packet(Token(token));
-                Ok(true)
-            }
-            Step::Finds(look) => look.finds(alloc, &self.kernel),
-        }
+    fn goes(&mut self, alloc: Global, step: Step) -> Result<bool, Errno> {
+        let Some(call) = step.call() else {
+            return self.sets(alloc, step);
+        };
+        let mut seen = Vec::new(alloc);
+        let said = self.make(alloc, call, &mut seen);
+        Ok(step.fits(&said, seen.as_slice()))
     }
 
     /// Each step goes as it says.
