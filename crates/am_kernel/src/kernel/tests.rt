@@ -5,6 +5,7 @@ use am_names::{Limits, WalkerId};
 use std::test::Fail;
 
 mod administrator;
+mod answer;
 mod call;
 mod daemon;
 mod look;
@@ -13,6 +14,7 @@ mod mounts;
 mod pipe;
 mod script;
 mod sight;
+mod trap;
 mod walker;
 mod worked;
 

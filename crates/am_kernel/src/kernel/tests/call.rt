@@ -1,42 +1,15 @@
 //! Calls of a kernel as tables hold them, and what they answer.
 
+use super::trap::Trap;
 use crate::begun::Begun;
 use crate::daemon_mounts::NewAutofs;
 use crate::kernel::Kernel;
 use am_group::{Change, Kind};
 use am_names::{
-    AbsPath, Attach, Errno, FsId, MountId, Name, NsId, PipeState, Seconds, Status, Token, Trigger,
-    WalkerId,
+    AbsPath, Attach, Errno, FsId, MountId, Name, NsId, PipeState, Seconds, Status, Token, WalkerId,
 };
 use am_state::Obs;
 use std::alloc::Global;
-
-/// A trigger: its file system and its name, without a byte for the root of a direct autofs.
-#[derive(Clone, Copy)]
-pub struct Trap(pub u32, pub &'static [u8]);
-
-impl Trap {
-    pub fn trigger(self) -> Result<Trigger, Errno> {
-        let fs = FsId(self.0);
-        if self.1.is_empty() {
-            return Ok(Trigger { fs, name: None });
-        }
-        Ok(Trigger {
-            fs,
-            name: Some(Name::read(self.1)?),
-        })
-    }
-
-    pub fn is(self, trigger: &Trigger) -> bool {
-        if trigger.fs != FsId(self.0) {
-            return false;
-        }
-        match &trigger.name {
-            Some(name) => name.as_bytes() == self.1,
-            None => self.1.is_empty(),
-        }
-    }
-}
 
 /// A call. What a daemon asks begins with its attachment, what an administrator asks or a
 /// namespace is asked for with the namespace, and what a walker does with the walker.

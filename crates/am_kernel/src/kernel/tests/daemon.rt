@@ -1,9 +1,12 @@
-//! What a daemon asks for is tested in order: in each table a line fails one test more than the next.
+//! What a daemon asks for is tested in order: in each table a line fails one test more than the
+//! next.
 
-use super::call::{Call, Trap};
+use super::answer::Answer;
+use super::call::Call;
 use super::look::Look;
-use super::script::{Answer, Step, limits, plays, plays_both};
+use super::script::{Step, limits, plays, plays_both};
 use super::sight::Sight;
+use super::trap::Trap;
 use am_group::Change;
 use am_names::{Errno, PipeState, Status};
 use am_wire::Kind;

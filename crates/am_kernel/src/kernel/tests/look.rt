@@ -1,6 +1,6 @@
 //! What is found in a kernel.
 
-use super::call::Trap;
+use super::trap::Trap;
 use crate::kernel::Kernel;
 use am_names::{Attach, Errno, FsId, MountId, Name, NsId, Seconds, Status, Token, WalkerId};
 use am_wire::Kind;

@@ -2,9 +2,10 @@
 //! allocation is refused in turn: `rt try --test --fail-alloc N -- memory`, from 1 on, or
 //! `tools/refuse_each.sh am_kernel memory`.
 
-use super::call::{Call, Said, Trap};
+use super::call::{Call, Said};
 use super::mounts::THREE_MOUNTS;
 use super::script::{Step, World, limits};
+use super::trap::Trap;
 use super::worked::{BOTH_WAIT, ONE_MOUNT_SERVES_BOTH, TWO_NAMESPACES};
 use crate::kernel::Kernel;
 use crate::row::{Attached, WalkRow};

@@ -1,7 +1,8 @@
 //! Worked examples of propagation (sharedsubtree.rst, 5b and 5f).
 
+use super::answer::Answer;
 use super::call::Call;
-use super::script::{Answer, Step, plays};
+use super::script::{Step, plays};
 use super::sight::Sight;
 use am_group::{Change, Kind};
 use std::test::Fail;

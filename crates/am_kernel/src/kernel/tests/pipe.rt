@@ -1,8 +1,9 @@
 //! A pipe that is full, and one that nobody reads (autofs.rst, "Catatonic mode").
 
+use super::answer::Answer;
 use super::call::Call;
 use super::look::Look;
-use super::script::{Answer, Step, limits, plays_both};
+use super::script::{Step, limits, plays_both};
 use super::sight::Sight;
 use am_names::{Errno, PipeState, Status};
 use am_wire::Kind;

@@ -1,6 +1,6 @@
 //! What is to be seen of a call.
 
-use super::call::Trap;
+use super::trap::Trap;
 use am_names::{Attach, FsId, MountId, Mounts, Status, Token, WalkerId};
 use am_state::Obs;
 use am_wire::{Kind, Packet};

@@ -1,9 +1,11 @@
 //! Worked examples of an autofs in two namespaces, and of a direct one.
 
-use super::call::{Call, Trap};
+use super::answer::Answer;
+use super::call::Call;
 use super::look::Look;
-use super::script::{Answer, Step, World, limits, plays, plays_both};
+use super::script::{Step, World, limits, plays, plays_both};
 use super::sight::Sight;
+use super::trap::Trap;
 use am_group::Change;
 use am_names::{Errno, Status};
 use am_wire::Kind;
