@@ -6,6 +6,7 @@ use std::test::Fail;
 
 mod administrator;
 mod answer;
+mod attachments;
 mod call;
 mod daemon;
 mod look;

@@ -3,7 +3,7 @@
 use super::call::Said;
 use super::sight::are_mounts;
 use crate::begun::Begun;
-use crate::daemon_mounts::NewAutofs;
+use crate::NewAutofs;
 use am_group::Kind;
 use am_names::{Attach, Errno, FsId, MountId, NsId, Position, Token};
 
@@ -23,6 +23,8 @@ pub enum Answer {
     Waits(u32),
     Failed(Errno),
     Left(u64),
+    /// The attachment.
+    Again(u32),
 }
 
 impl Answer {
@@ -95,6 +97,10 @@ impl Answer {
             Said::Begun(begun) => self.is_begun(begun),
             Said::Left(mount) => match self {
                 Answer::Left(expected) => *mount == MountId(expected),
+                _ => false,
+            },
+            Said::Again(attach) => match self {
+                Answer::Again(expected) => *attach == Attach(expected),
                 _ => false,
             },
         }

@@ -2,7 +2,7 @@
 
 use super::trap::Trap;
 use crate::begun::Begun;
-use crate::daemon_mounts::NewAutofs;
+use crate::NewAutofs;
 use crate::kernel::Kernel;
 use am_group::{Change, Kind};
 use am_names::{
@@ -17,6 +17,10 @@ use std::alloc::Global;
 pub enum Call {
     Answer(u32, u32, Status),
     SetTimeout(u32, u32, u32),
+    /// The attachment and the file system.
+    Catatonic(u32, u32),
+    AdminCatatonic(u32),
+    SetPipe(u32),
     Mkdir(u32, Trap),
     Rmdir(u32, Trap),
     MountOn(u32, Trap),
@@ -47,6 +51,7 @@ pub enum Said {
     Is(Kind),
     Begun(Begun),
     Left(MountId),
+    Again(Attach),
 }
 
 /// When a walk begins, and what it meets where the daemon is to be notified.
@@ -193,6 +198,31 @@ fn resume(
     Ok(Said::Begun(begun))
 }
 
+fn catatonic(
+    alloc: Global,
+    kernel: &mut Kernel,
+    attach: u32,
+    fs: u32,
+    seen: &mut Vec<Obs>,
+) -> Result<Said, Errno> {
+    let mut shown = kernel.closing_seen(alloc, FsId(fs))?;
+    kernel.catatonic(Attach(attach), FsId(fs))?;
+    seen.append(&mut shown)?;
+    Ok(Said::Done)
+}
+
+fn admin_catatonic(
+    alloc: Global,
+    kernel: &mut Kernel,
+    fs: u32,
+    seen: &mut Vec<Obs>,
+) -> Result<Said, Errno> {
+    let mut shown = kernel.closing_seen(alloc, FsId(fs))?;
+    kernel.admin_catatonic(FsId(fs))?;
+    seen.append(&mut shown)?;
+    Ok(Said::Done)
+}
+
 impl Call {
     /// What a daemon or a walker asks for.
     fn ask(
@@ -211,6 +241,9 @@ impl Call {
                 kernel.set_timeout(Attach(attach), FsId(fs), timeout)?;
                 Ok(Said::Done)
             }
+            Call::Catatonic(attach, fs) => catatonic(alloc, kernel, attach, fs, seen),
+            Call::AdminCatatonic(fs) => admin_catatonic(alloc, kernel, fs, seen),
+            Call::SetPipe(fs) => Ok(Said::Again(kernel.set_pipe(FsId(fs))?)),
             Call::Mkdir(attach, trap) => mkdir(kernel, attach, trap),
             Call::Rmdir(attach, trap) => rmdir(alloc, kernel, attach, trap),
             Call::MountOn(attach, trap) => mount_on(alloc, kernel, attach, trap, seen),
