@@ -1,2 +1,4 @@
 pub mod WalkLemmas
 pub mod FreeLemmas
+pub mod NotifyLemmas
+pub mod AgainLemmas
