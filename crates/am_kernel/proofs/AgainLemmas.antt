@@ -13,7 +13,7 @@ use Rattle.am_names.specs.declared.row.TokenKind.TheVariants.{Missing, Expire}
 use Rattle.am_names.specs.declared.row.WaitRow.{WaitRow}
 use Rattle.am_state.specs.declared.obs.Obs.{Obs}
 use Rattle.am_wait.specs.Rows.{wait_of}
-use Rattle.am_wait.specs.Calls.{collect_refusal, wait_refusal}
+use Rattle.am_wait.specs.Calls.{status_refusal, wait_refusal}
 use Rattle.am_expire.specs.Uses.{mount_of}
 use Rattle.am_walk.specs.Walks.{walk_of}
 use Rattle.am_kernel.specs.declared.row.WalkRow.{WalkRow}
@@ -203,11 +203,20 @@ pub copied_some : {X : Type 0} (o : Option (Bor X)) → is_some o ≡ true → i
 copied_some None h = absurd cc
 copied_some (Some x) h = refl
 
-pub nowhere : (o : Option ℕ) → is_some o ≡ false → o ≡ None
+nowhere : (o : Option ℕ) → is_some o ≡ false → o ≡ None
 nowhere None h = refl
 nowhere (Some n) h = absurd cc
 
+-- the walker of the wait is inside no mount
+pub resume_outside : (k : KernelState) (walker : ℕ) (wait : WaitRow) → is_some (mount_of k.uses walker) ≡ false → wait_of k.waits.waits walker ≡ Some wait → mount_of k.uses wait.walker ≡ None
+resume_outside k walker wait outside waits =
+    ap (mount_of k.uses) (found_number (λ (row : WaitRow). row.walker) walker k.waits.waits wait waits) ∙ nowhere (mount_of k.uses walker) outside
+
+free_by : (kind : TokenKind) (k : KernelState) (walker : ℕ) (wait : WaitRow) (status : Status) → wait_of k.waits.waits walker ≡ Some wait → wait.status ≡ Some status → IsFree (waited_for kind wait.trigger) walker k.waits
+free_by Missing k walker wait status waits answered = ap (λ (o : Option WaitRow). wait_refusal o) waits ∙ ap (λ (o : Option Status). status_refusal o) answered
+free_by Expire k walker wait status waits answered = ap (λ (o : Option WaitRow). wait_refusal o) waits ∙ ap (λ (o : Option Status). status_refusal o) answered
+
 -- the wait was released, so it can be collected
-pub resume_free : (kind : TokenKind) (k : KernelState) (walker : ℕ) (wait : WaitRow) (status : Status) → wait_of k.waits.waits walker ≡ Some wait → wait.status ≡ Some status → IsFree (waited_for kind wait.trigger) walker k.waits
-resume_free Missing k walker wait status waits answered = ap (λ (o : Option WaitRow). wait_refusal o) waits ∙ rw answered refl
-resume_free Expire k walker wait status waits answered = ap (λ (o : Option WaitRow). wait_refusal o) waits ∙ rw answered refl
+pub resume_free : (k : KernelState) (walker : ℕ) (wait : WaitRow) (status : Status) → wait_of k.waits.waits walker ≡ Some wait → wait.status ≡ Some status → IsFree (waited_on wait) wait.walker k.waits
+resume_free k walker wait status waits answered =
+    subst (λ (n : ℕ). IsFree (waited_on wait) n k.waits) (sym (found_number (λ (row : WaitRow). row.walker) walker k.waits.waits wait waits)) (free_by wait.kind k walker wait status waits answered)
