@@ -1,3 +1,4 @@
+pub mod MountLemmas
 pub mod WalkLemmas
 pub mod FreeLemmas
 pub mod NotifyLemmas

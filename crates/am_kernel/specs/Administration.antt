@@ -84,11 +84,14 @@ abbrev pub is_parent_on_autofs : KernelState → Option Position → Bool
 is_parent_on_autofs k None = false
 is_parent_on_autofs k (Some at) = is_on_autofs k at.mount
 
+abbrev pub is_any_on_autofs : KernelState → List ℕ → Bool
+is_any_on_autofs k mounts = list_any (is_on_autofs k) mounts
+
 -- the mount is one of an autofs or is mounted on one, or one of an autofs would go with it
 abbrev pub is_daemons : KernelState → ℕ → Bool
 is_daemons k mount =
     is_on_autofs k mount || is_parent_on_autofs k (mountpoint_of k.table mount) ||
-    list_any (is_on_autofs k) (unmounted k.table mount)
+    is_any_on_autofs k (unmounted k.table mount)
 
 -- it isn't a namespace's root, and no autofs is concerned
 abbrev pub site_refusal : KernelState → ℕ → Option Errno

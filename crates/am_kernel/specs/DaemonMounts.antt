@@ -11,6 +11,7 @@ use Rattle.am_state.specs.declared.obs.Obs.TheVariants as seen
 use Rattle.am_group.specs.declared.membership.Membership.TheVariants.{Private}
 use Rattle.am_group.specs.Changes.{is_just}
 use Rattle.am_mount.specs.Rows.{top_of}
+use Rattle.am_propagate.specs.MountTable.{MountTable}
 use Rattle.am_propagate.specs.Added as added
 use Rattle.am_propagate.specs.Removed.{umount_refusal, unmounted, removed}
 use Rattle.am_trigger.specs.declared.autofs.Autofs.{Autofs}
@@ -28,8 +29,11 @@ abbrev pub new_fs_refusal : KernelState → ℕ → Option Errno
 new_fs_refusal k mount = or_else (fs_refusal k) (added.mount_refusal mount k.table)
 
 -- the mounts that come with one on this mount
+abbrev pub coming_in : MountTable → ℕ → List ℕ
+coming_in t mount = added.new_mounts t (added.mounts_made mount t)
+
 abbrev pub coming : KernelState → ℕ → List ℕ
-coming k mount = added.new_mounts k.table (added.mounts_made mount k.table)
+coming k mount = coming_in k.table mount
 
 -- a new file system is mounted there, and propagates
 abbrev pub with_mount : Position → KernelState → KernelState
@@ -149,20 +153,28 @@ is_top_of k location row (Some at) =
 abbrev pub is_top_at : KernelState → ℕ → MountRow → Bool
 is_top_at k location row = is_top_of k location row row.mountpoint
 
+abbrev pub trigger_at : Autofs → Option Position → Option Trigger
+trigger_at autofs None = None
+trigger_at autofs (Some at) = trigger_in autofs at.place
+
+-- the trigger on which the row is mounted, if it is the top there at the daemon's mount
+abbrev pub trigger_under : KernelState → Autofs → MountRow → Option Trigger
+trigger_under k autofs row =
+    if is_top_at k autofs.location row then trigger_at autofs row.mountpoint else None
+
 abbrev pub standing_on : Option Trigger → ℕ → List (Trigger × ℕ)
 standing_on None mount = []
 standing_on (Some trigger) mount = (trigger, mount) ∷ []
 
-abbrev pub standing_row : KernelState → Autofs → MountRow → Option Position → List (Trigger × ℕ)
-standing_row k autofs row None = []
-standing_row k autofs row (Some at) =
-    if is_top_at k autofs.location row then standing_on (trigger_in autofs at.place) row.mount
-    else []
+abbrev pub standing_row : KernelState → Autofs → MountRow → List (Trigger × ℕ)
+standing_row k autofs row = standing_on (trigger_under k autofs row) row.mount
+
+abbrev pub standing_of : KernelState → Autofs → List (Trigger × ℕ)
+standing_of k autofs = flat_map (standing_row k autofs) k.table.rows
 
 abbrev pub standing_in : KernelState → Option Autofs → List (Trigger × ℕ)
 standing_in k None = []
-standing_in k (Some autofs) =
-    flat_map (λ row. standing_row k autofs row row.mountpoint) k.table.rows
+standing_in k (Some autofs) = standing_of k autofs
 
 -- each trigger on which something is mounted there, with that mount, in rising order of mounts
 abbrev pub standing : KernelState → ℕ → List (Trigger × ℕ)

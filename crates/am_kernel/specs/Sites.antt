@@ -24,11 +24,13 @@ is_live_row (Some row) = not row.catatonic
 abbrev pub is_live : KernelState → ℕ → Bool
 is_live k fs = is_live_row (autofs_of k.triggers fs)
 
+-- the latest attachment of this file system
+abbrev pub latest_attach : List Attached → ℕ → Option ℕ
+latest_attach rows fs = option_map (λ row. row.attach) (find (λ row. row.fs == fs) rows)
+
 -- the attachment of this file system, while a daemon is attached
 abbrev pub attach_of : KernelState → ℕ → Option ℕ
-attach_of k fs =
-    if is_live k fs then option_map (λ row. row.attach) (find (λ row. row.fs == fs) k.attached)
-    else None
+attach_of k fs = if is_live k fs then latest_attach k.attached fs else None
 
 abbrev pub is_attached_by : KernelState → ℕ → Attached → Bool
 is_attached_by k attach row = row.attach == attach && is_live k row.fs

@@ -6,7 +6,7 @@ ghost use Rattle.am_group.specs.Kinds.{kind_of};
 ghost use Rattle.am_propagate.specs.MountTable.{mountpoint_of};
 ghost use Rattle.am_propagate.specs.Removed.{unmounted};
 ghost use Rattle.am_state.specs.declared.obs.Obs.TheVariants.{Unmounted};
-ghost use Rattle.am_kernel.specs.Administration.{mount_refusal, mounting, with_plain, bind_refusal, with_bind, is_unbindable, is_parent_on_autofs, is_daemons, site_refusal, plain_umount_refusal, plain_gone, without_plain, plain_change_refusal, with_changed, kind_refusal, kind_at};
+ghost use Rattle.am_kernel.specs.Administration.{mount_refusal, mounting, with_plain, bind_refusal, with_bind, is_unbindable, is_parent_on_autofs, is_any_on_autofs, is_daemons, site_refusal, plain_umount_refusal, plain_gone, without_plain, plain_change_refusal, with_changed, kind_refusal, kind_at};
 
 use crate::kernel::{Kernel, is_root};
 use am_group::{Change, Kind};
@@ -64,18 +64,18 @@ impl Kernel {
         ensures unseen { OnErr result (seen.new.items ≡ seen.old.items) }
     {
         let source = self.position(alloc, ns, from)?;
-        let at = self.position(alloc, ns, to)?;
+        let target = self.position(alloc, ns, to)?;
         if !is_root(&source.place) {
             return Err(Errno::EINVAL);
         }
         if self.is_unbindable(source.mount) {
             return Err(Errno::EINVAL);
         }
-        if self.is_on_autofs(at.mount) {
+        if self.is_on_autofs(target.mount) {
             return Err(Errno::EPERM);
         }
         seen.reserve(1)?;
-        let mounts = self.subtree.bind(alloc, source.mount, &at)?;
+        let mounts = self.subtree.bind(alloc, source.mount, &target)?;
         let mount = mounts[0];
         seen.push_reserved(Obs::Mounted {
             mounts: Mounts::of(mounts),
@@ -93,15 +93,23 @@ impl Kernel {
         }
     }
 
+    /// Whether one of the mounts is one of an autofs.
+    fn is_any_on_autofs(&self, mounts: &[MountId]) -> bool
+        ensures { result ≡ is_any_on_autofs self.now mounts.now }
+    {
+        mounts.iter().copied().any(|mount| self.is_on_autofs(mount))
+    }
+
     /// Whether only the daemon may unmount the mount, with these that would go.
     fn is_daemons(&self, mount: MountId, at: &Option<Position>, gone: &[MountId]) -> bool
         requires at { at.now ≡ mountpoint_of self.now.table mount }
         requires gone { gone.now ≡ unmounted self.now.table mount }
         ensures { result ≡ is_daemons self.now mount }
     {
-        self.is_on_autofs(mount)
-            || self.is_parent_on_autofs(at)
-            || gone.iter().copied().any(|other| self.is_on_autofs(other))
+        if self.is_on_autofs(mount) || self.is_parent_on_autofs(at) {
+            return true;
+        }
+        self.is_any_on_autofs(gone)
     }
 
     /// Why an unmount of this mount would be refused for what it is mounted on, if it would.
@@ -160,11 +168,11 @@ impl Kernel {
         ensures ok { OnOk result (self.new ≡ with_changed change ns path.now self.old) }
         ensures err { OnErr result (self.new ≡ self.old) }
     {
-        let at = self.position(alloc, ns, path)?;
-        if !is_root(&at.place) {
+        let target = self.position(alloc, ns, path)?;
+        if !is_root(&target.place) {
             return Err(Errno::EINVAL);
         }
-        self.subtree.change(alloc, change, at.mount)
+        self.subtree.change(alloc, change, target.mount)
     }
 
     /// The state of the mount to which the path leads.
@@ -172,11 +180,11 @@ impl Kernel {
         ensures refusal { RefusedAs (kind_refusal self.now ns path.now) result }
         ensures ok { IfOk result (λ kind. kind_at self.now ns path.now ≡ Some kind) }
     {
-        let at = self.position(alloc, ns, path)?;
-        if !is_root(&at.place) {
+        let position = self.position(alloc, ns, path)?;
+        if !is_root(&position.place) {
             return Err(Errno::EINVAL);
         }
-        match self.subtree.groups().kind(at.mount) {
+        match self.subtree.groups().kind(position.mount) {
             Some(kind) => Ok(kind),
             None => Err(Errno::EINVAL),
         }

@@ -1,108 +1,20 @@
-//! Autofs file systems that are attached, and what their daemons mount on triggers.
+//! What the daemons mount on the triggers of their autofs file systems.
 
-ghost use Rattle.std.specs.Prelude.{◌≡◌, ◌+◌, ◌∷◌, ◌++◌, [], None, IfOk, OnOk, OnErr};
+ghost use Rattle.std.specs.Prelude.{◌≡◌, ◌+◌, ◌∷◌, ◌++◌, [], IfOk, OnOk, OnErr};
 ghost use Rattle.am_names.specs.Errno.{RefusedAs};
-ghost use Rattle.am_names.specs.Path.{IsCanonical, names_of};
 ghost use Rattle.am_state.specs.declared.obs.Obs.TheVariants.{Mounted, Unmounted};
 ghost use Rattle.am_propagate.specs.Removed.{umount_refusal, unmounted};
 ghost use Rattle.am_expire.specs.Uses.{is_used};
-ghost use Rattle.am_kernel.specs.Sites.{fs_refusal, attach_refusal};
-ghost use Rattle.am_kernel.specs.DaemonMounts.{new_fs_refusal, coming, with_mount, autofs_refusal, attaching, with_attached, is_there, location_of, mounted_on, mount_on_refusal, with_mount_on, umount_from_refusal, gone_from, without_mounts, is_top_at, standing_row, standing};
+ghost use Rattle.am_kernel.specs.DaemonMounts.{coming, is_there, location_of, mounted_on, mount_on_refusal, with_mount_on, umount_from_refusal, gone_from, without_mounts, is_top_at, trigger_under, standing_of, standing};
 
 use crate::directories::place_of;
 use crate::kernel::Kernel;
-use crate::row::Attached;
-use am_names::{AbsPath, Attach, Errno, FsId, MountId, MountRow, Mounts, NsId, Position, Trigger};
+use am_names::{Attach, Errno, FsId, MountId, MountRow, Mounts, Name, Position, Trigger};
 use am_state::Obs;
-use std::alloc::Global;
-
-/// An autofs that was attached.
-#[derive(Clone, Copy, Debug)]
-pub struct NewAutofs {
-    pub fs: FsId,
-    pub attach: Attach,
-    /// The daemon's mount of it.
-    pub mount: MountId,
-}
+use am_trigger::Autofs;
+use std::alloc::{AllocError, Global};
 
 impl Kernel {
-    fn fs_refusal(&self) -> Option<Errno>
-        ensures { result ≡ fs_refusal self.now }
-    {
-        if self.last_fs == u32::MAX {
-            return Some(Errno::ENOSPC);
-        }
-        None
-    }
-
-    /// Mounts a new file system, which propagates. It tells the mount itself.
-    pub fn mount_new(
-        &mut self,
-        alloc: Global,
-        at: &Position,
-        seen: &mut Vec<Obs>,
-    ) -> Result<MountId, Errno>
-        ensures refusal { RefusedAs (new_fs_refusal self.old at.now.mount) result }
-        ensures mount { IfOk result (λ mount. mount ≡ self.old.table.last_mount + 1) }
-        ensures ok { OnOk result (self.new ≡ with_mount at.now self.old) }
-        ensures shown { OnOk result (seen.new.items ≡ seen.old.items ++ Mounted (coming self.old at.now.mount) ∷ []) }
-        ensures err { OnErr result (self.new ≡ self.old) }
-        ensures unseen { OnErr result (seen.new.items ≡ seen.old.items) }
-    {
-        if let Some(errno) = self.fs_refusal() {
-            return Err(errno);
-        }
-        seen.reserve(1)?;
-        let fs = self.last_fs + 1;
-        let mounts = self.subtree.mount(alloc, at, FsId(fs))?;
-        let mount = mounts[0];
-        self.last_fs = fs;
-        seen.push_reserved(Obs::Mounted {
-            mounts: Mounts::of(mounts),
-        });
-        Ok(mount)
-    }
-
-    /// Mounts a new autofs at a path of namespace 0, with an attachment for its daemon.
-    pub fn attach_autofs(
-        &mut self,
-        alloc: Global,
-        path: &AbsPath,
-        direct: bool,
-        timeout: u32,
-        seen: &mut Vec<Obs>,
-    ) -> Result<NewAutofs, Errno>
-        ensures refusal { RefusedAs (autofs_refusal self.old path.now) result }
-        ensures fs { IfOk result (λ row. row.fs ≡ self.old.last_fs + 1) }
-        ensures attach { IfOk result (λ row. row.attach ≡ self.old.last_attach + 1) }
-        ensures mount { IfOk result (λ row. row.mount ≡ self.old.table.last_mount + 1) }
-        ensures ok { OnOk result (self.new ≡ with_attached path.now direct timeout self.old) }
-        ensures shown { OnOk result (seen.new.items ≡ seen.old.items ++ attaching self.old path.now) }
-        ensures err { OnErr result (self.new ≡ self.old) }
-        ensures unseen { OnErr result (seen.new.items ≡ seen.old.items) }
-    {
-        let at = self.position(alloc, NsId(0), path)?;
-        if self.is_on_autofs(at.mount) {
-            return Err(Errno::EPERM);
-        }
-        if self.last_attach == u32::MAX {
-            return Err(Errno::ENOSPC);
-        }
-        self.triggers.reserve_fs()?;
-        self.attached.reserve(1)?;
-        let mount = self.mount_new(alloc, &at, seen)?;
-        let fs = FsId(self.last_fs);
-        let attach = Attach(self.last_attach + 1);
-        self.triggers.add_fs_reserved(fs, direct, mount);
-        self.attached.push_reserved(Attached {
-            fs,
-            attach,
-            timeout,
-        });
-        self.last_attach = attach.0;
-        Ok(NewAutofs { fs, attach, mount })
-    }
-
     /// Whether the trigger is there: an indirect one once its directory is made.
     fn is_there(&self, trigger: &Trigger) -> bool
         ensures { result ≡ is_there self.now trigger.now }
@@ -139,14 +51,15 @@ impl Kernel {
         ensures err { OnErr result (self.new ≡ self.old) }
         ensures unseen { OnErr result (seen.new.items ≡ seen.old.items) }
     {
-        if !self.is_current(trigger.fs, attach) {
+        let fs = trigger.fs;
+        if !self.is_current(fs, attach) {
             return Err(Errno::EPERM);
         }
         if !self.is_there(trigger) {
             return Err(Errno::ENOENT);
         }
         let place = place_of(alloc, trigger)?;
-        let location = self.location_of(trigger.fs);
+        let location = self.location_of(fs);
         if self.subtree.tree().top(location, place.text()).is_some() {
             return Err(Errno::EBUSY);
         }
@@ -155,6 +68,15 @@ impl Kernel {
             place,
         };
         self.mount_new(alloc, &at, seen)
+    }
+
+    /// What is mounted on the trigger at the daemon's mount.
+    fn mounted_on(&self, alloc: Global, trigger: &Trigger) -> Result<Option<MountId>, AllocError>
+        ensures { IfOk result (λ mount. mount ≡ mounted_on self.now trigger.now) }
+    {
+        let place = place_of(alloc, trigger)?;
+        let location = self.location_of(trigger.fs);
+        Ok(self.subtree.tree().top(location, place.text()))
     }
 
     /// Unmounts what is mounted on a trigger at the daemon's mount of its autofs, and what was
@@ -176,9 +98,7 @@ impl Kernel {
         if !self.is_current(trigger.fs, attach) {
             return Err(Errno::EPERM);
         }
-        let place = place_of(alloc, trigger)?;
-        let location = self.location_of(trigger.fs);
-        let Some(mount) = self.subtree.tree().top(location, place.text()) else {
+        let Some(mount) = self.mounted_on(alloc, trigger)? else {
             return Err(Errno::ENOENT);
         };
         self.umount_mount(alloc, mount, seen)
@@ -214,6 +134,47 @@ impl Kernel {
                 self.subtree.tree().top(location, at.place.text()) == Some(row.mount)
             }
             Some(_) | None => false,
+        }
+    }
+
+    /// The trigger on which the row is mounted, if it is the top there at the daemon's mount.
+    fn trigger_under(&self, autofs: &Autofs, row: &MountRow) -> Option<Trigger>
+        ensures { result ≡ trigger_under self.now autofs.now row.now }
+    {
+        if !self.is_top_at(autofs.location, row) {
+            return None;
+        }
+        match &row.mountpoint {
+            Some(at) => autofs.trigger_in(&at.place),
+            None => None,
+        }
+    }
+
+    fn standing_of(
+        &self,
+        alloc: Global,
+        autofs: &Autofs,
+    ) -> Result<Vec<(Trigger, MountId)>, AllocError>
+        ensures { IfOk result (λ v. v.items ≡ standing_of self.now autofs.now) }
+    {
+        let mut standing = Vec::new(alloc);
+        for row in self.subtree.tree().rows() {
+            if let Some(trigger) = self.trigger_under(autofs, row) {
+                let _name: Option<Name> = trigger.name;
+                standing.push((trigger, row.mount))?;
+            }
+        }
+        Ok(standing)
+    }
+
+    /// Each trigger of the autofs on which something is mounted at the daemon's mount, with that
+    /// mount, in rising order of mounts.
+    pub fn standing(&self, alloc: Global, fs: FsId) -> Result<Vec<(Trigger, MountId)>, AllocError>
+        ensures { IfOk result (λ v. v.items ≡ standing self.now fs) }
+    {
+        match self.triggers.autofs(fs) {
+            Some(autofs) => self.standing_of(alloc, &autofs),
+            None => Ok(Vec::new(alloc)),
         }
     }
 }

@@ -4,7 +4,7 @@ ghost use Rattle.std.specs.Prelude.{◌≡◌, None, Ok, IfOk};
 ghost use Rattle.am_names.specs.Errno.{RefusedAs};
 ghost use Rattle.am_walk.specs.Walks.{fault_of};
 ghost use Rattle.am_kernel.specs.State.{initial};
-ghost use Rattle.am_kernel.specs.Sites.{is_live, attach_of, fs_of_attach, is_current, is_busy, position_at, is_on_autofs, is_root};
+ghost use Rattle.am_kernel.specs.Sites.{is_live, latest_attach, attach_of, fs_of_attach, is_current, is_busy, position_at, is_on_autofs, is_root};
 
 use crate::row::{Attached, WalkRow};
 use am_expire::Uses;
@@ -107,15 +107,22 @@ impl Kernel {
         }
     }
 
+    fn latest_attach(&self, fs: FsId) -> Option<Attach>
+        ensures { result ≡ latest_attach self.now.attached fs }
+    {
+        let row = self.attached.iter().find(|row| row.fs == fs)?;
+        Some(row.attach)
+    }
+
     /// The attachment of this file system, while a daemon is attached.
     pub fn attach_of(&self, fs: FsId) -> Option<Attach>
         ensures { result ≡ attach_of self.now fs }
     {
-        if !self.is_live(fs) {
-            return None;
+        if self.is_live(fs) {
+            self.latest_attach(fs)
+        } else {
+            None
         }
-        let row = self.attached.iter().find(|row| row.fs == fs)?;
-        Some(row.attach)
     }
 
     /// The file system of which this is the current attachment.

@@ -9,12 +9,13 @@ mod daemon_mounts;
 mod directories;
 pub mod kernel;
 mod namespaces;
+mod new_fs;
 mod packet;
 mod requests;
 pub mod row;
 mod walker;
 
 pub use begun::{Begin, Begun};
-pub use daemon_mounts::NewAutofs;
 pub use kernel::Kernel;
+pub use new_fs::NewAutofs;
 pub use row::{Attached, WalkRow};
