@@ -1,3 +1,5 @@
-pub mod WalkLemmas
+pub mod AgainLemmas
 pub mod FreeLemmas
 pub mod MountLemmas
+pub mod NotifyLemmas
+pub mod WalkLemmas

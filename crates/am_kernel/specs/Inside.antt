@@ -1,7 +1,8 @@
 -- What the fields stand for, and what they keep.
 use Rattle.std.specs.Prelude.{◌≡◌, ◌≤◌, ℕ, List, Option, Some, None}
 use Rattle.std.specs.List.{All}
-use Rattle.am_names.specs.declared.errno.Errno.TheVariants.{EINVAL}
+use Rattle.am_names.specs.declared.errno.Errno.{Errno}
+use Rattle.am_names.specs.declared.errno.Errno.TheVariants.{EINVAL, NoMemory}
 use Rattle.am_names.specs.declared.trigger.Trigger.{Trigger}
 use Rattle.am_names.specs.declared.trigger.PipeState.{PipeState}
 use Rattle.am_names.specs.declared.row.WaitRow.{WaitRow}
@@ -17,7 +18,7 @@ use Rattle.am_kernel.specs.declared.begin.Waited.TheVariants.{Idle, OnMount, OnE
 use Rattle.am_kernel.specs.State.{KernelState}
 use Rattle.am_kernel.specs.Outcome.{Outcome, Fails}
 use Rattle.am_kernel.specs.Walks.{without_walk}
-use Rattle.am_kernel.specs.Resumes.{freed_from, again}
+use Rattle.am_kernel.specs.Resumes.{freed_from, failed, again}
 use Rattle.am_kernel.specs.declared.kernel.Kernel.TheInside.{Inside}
 
 abbrev pub kernel_of : Inside → KernelState
@@ -74,6 +75,11 @@ waited_for Expire trigger = OnExpiry trigger
 
 abbrev pub waited_on : WaitRow → Waited
 waited_on wait = waited_for wait.kind wait.trigger
+
+-- an error that was met on the way fails the walk, but not that of memory
+abbrev pub fallen : Errno → KernelState → Outcome
+fallen NoMemory k = Fails NoMemory
+fallen e k = failed e k
 
 abbrev pub again_for : Option WalkRow → PipeState → KernelState → WaitRow → ℕ → Outcome
 again_for None pipe k wait moment = Fails EINVAL

@@ -1,6 +1,7 @@
 //! A walk begins: it arrives, joins those that wait, or has the daemon notified.
 
 ghost use Rattle.std.specs.Prelude.{◌≡◌, ◌≤◌, ◌<◌, ◌+◌, ◌∷◌, ◌++◌, [], None, false, true, is_some, length, map, IfOk, OnOk, OnErr, vec_len, vec_capacity};
+ghost use Rattle.am_state.specs.declared.obs.Obs.TheVariants as told;
 ghost use Rattle.am_trigger.specs.Rows.{with_catatonic};
 ghost use Rattle.am_names.specs.declared.trigger.Status.TheVariants.{Fail};
 ghost use Rattle.am_names.specs.declared.errno.Errno.TheVariants.{ENOENT};
@@ -104,6 +105,23 @@ fn tell_passes(seen: &mut Vec<Obs>, walker: WalkerId, triggers: &[Trigger])
             trigger: *trigger,
         });
     }
+}
+
+/// Tells which triggers a walk passed, that a packet is queued, and that the walker waits.
+fn tell_queued(seen: &mut Vec<Obs>, walker: WalkerId, passed: &[Trigger], queued: &QueuedRow)
+    requires { vec_len seen.old + length passed.now + 2 ≤ vec_capacity seen.old }
+    ensures { seen.new.items ≡ seen.old.items ++ (passes walker passed.now ++ told.Queued queued.now.token queued.now.attach queued.now.packet ∷ told.Waits walker queued.now.token ∷ []) }
+{
+    tell_passes(seen, walker, passed);
+    seen.push_reserved(Obs::Queued {
+        token: queued.token,
+        attach: queued.attach,
+        packet: queued.packet,
+    });
+    seen.push_reserved(Obs::Waits {
+        walker,
+        token: queued.token,
+    });
 }
 
 /// Tells that these walkers are released by FAIL.
@@ -213,23 +231,17 @@ impl Kernel {
         let token = self
             .waits
             .reopen(alloc, *trigger, TokenKind::Missing, walker)?;
-        let packet = packet_for(TokenKind::Missing, token, walker, trigger);
+        let queued = QueuedRow {
+            token,
+            attach,
+            packet: packet_for(TokenKind::Missing, token, walker, trigger),
+        };
         touch_expired(&mut self.triggers, waited, moment);
         self.triggers.touch_all_reserved(passed, moment);
         self.triggers.touch_reserved(trigger, moment);
         put_walk(&mut self.walks, row);
-        self.queue.push_reserved(QueuedRow {
-            token,
-            attach,
-            packet,
-        });
-        tell_passes(seen, walker, passed);
-        seen.push_reserved(Obs::Queued {
-            token,
-            attach,
-            packet,
-        });
-        seen.push_reserved(Obs::Waits { walker, token });
+        tell_queued(seen, walker, passed, &queued);
+        self.queue.push_reserved(queued);
         Ok(Begun::Waits(token))
     }
 

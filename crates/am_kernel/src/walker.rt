@@ -5,7 +5,7 @@ ghost use Rattle.std.specs.Option.{option_copied};
 ghost use Rattle.am_kernel.specs.Outcome.{Meets};
 ghost use Rattle.am_kernel.specs.Walks.{first_begin, walk_outcome};
 ghost use Rattle.am_kernel.specs.Resumes.{failed, next_begin, walk_in, resume_outcome};
-ghost use Rattle.am_kernel.specs.Inside.{freed_as, waited_on, again_for, IsFree};
+ghost use Rattle.am_kernel.specs.Inside.{freed_as, waited_on, fallen, again_for, IsFree};
 ghost use Rattle.am_expire.specs.Uses.{mount_of};
 
 use crate::begin::{Waited, forget, forget_walk, touch_expired};
@@ -103,6 +103,24 @@ impl Kernel {
         Ok(Begun::Failed(errno))
     }
 
+    /// A walk that can't begin again fails; where memory ran out, nothing has come of it.
+    fn fall(
+        &mut self,
+        waited: &Waited,
+        walker: WalkerId,
+        moment: Seconds,
+        errno: Errno,
+        seen: &mut Vec<Obs>,
+    ) -> Result<Begun, Errno>
+        requires { IsFree waited.now walker self.old.waits }
+        ensures { Meets (fallen errno (freed_as waited.now walker moment self.old)) result self.old self.new seen.old.items seen.new.items }
+    {
+        match errno {
+            Errno::NoMemory => Err(Errno::NoMemory),
+            _ => self.fail(waited, walker, moment, errno, seen),
+        }
+    }
+
     /// A walk begins again, but not the 41st time, and fails where it can't.
     fn again(
         &mut self,
@@ -127,8 +145,7 @@ impl Kernel {
         let begin = row.next(alloc, moment)?;
         match self.begin(alloc, begin, &waited, pipe, seen) {
             Ok(begun) => Ok(begun),
-            Err(Errno::NoMemory) => Err(Errno::NoMemory),
-            Err(errno) => self.fail(&waited, walker, moment, errno, seen),
+            Err(errno) => self.fall(&waited, walker, moment, errno, seen),
         }
     }
 
@@ -160,9 +177,8 @@ impl Kernel {
             (TokenKind::Missing, Status::Fail) => {
                 self.fail(&Waited::OnMount, walker, moment, Errno::ENOENT, seen)
             }
-            (TokenKind::Missing, Status::Ready) | (TokenKind::Expire, _) => {
-                self.again(alloc, &wait, moment, pipe, seen)
-            }
+            (TokenKind::Missing, Status::Ready) => self.again(alloc, &wait, moment, pipe, seen),
+            (TokenKind::Expire, _) => self.again(alloc, &wait, moment, pipe, seen),
         }
     }
 }
