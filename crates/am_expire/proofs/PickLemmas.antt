@@ -62,7 +62,7 @@ all_of_none P rows none = subst (All P) (sym none) (λ k d lt. absurd (omega ari
 
 best_more : (rows : List (Trigger × ℕ)) (best : Option (Trigger × ℕ)) (row : Trigger × ℕ) → IsBest rows best → IsBest (rows ++ row ∷ []) (Some (earlier best row))
 best_more rows None row none =
-    (Contains-push rows row, All-push (λ other. comes_before other row ≡ false) rows row (all_of_none _ rows none) (not_before_itself row))
+    (Contains-push rows row, All-push (λ other. comes_before other row ≡ false) rows row (all_of_none (λ other. comes_before other row ≡ false) rows none) (not_before_itself row))
 best_more rows (Some best) row least = by_test (comes_before row best) refl
   where
     by_test : (b : Bool) → comes_before row best ≡ b → IsLeast (rows ++ row ∷ []) (cond b row best)
@@ -88,12 +88,12 @@ one_more e index row b at is =
     ∙ ap (λ (b : Bool). candidates_before index e ++ cond b (row ∷ []) []) is
 
 pub left_out : (e : Expiry) (index : ℕ) (row : Trigger × ℕ) (best : Option (Trigger × ℕ)) → slice_get e.triggers.uses index ≡ Some row → is_eligible e row ≡ false → IsBest (candidates_before index e) best → IsBest (candidates_before (index + 1) e) best
-left_out e index row best at no is =
-    subst (λ (rows : List (Trigger × ℕ)). IsBest rows best) (sym (one_more e index row false at no ∙ append-nil (candidates_before index e))) is
+left_out e index row best at out is =
+    subst (λ (rows : List (Trigger × ℕ)). IsBest rows best) (sym (one_more e index row false at out ∙ append-nil (candidates_before index e))) is
 
 pub taken : (e : Expiry) (index : ℕ) (row : Trigger × ℕ) (best : Option (Trigger × ℕ)) → slice_get e.triggers.uses index ≡ Some row → is_eligible e row ≡ true → IsBest (candidates_before index e) best → IsBest (candidates_before (index + 1) e) (Some (earlier best row))
-taken e index row best at yes is =
-    subst (λ (rows : List (Trigger × ℕ)). IsBest rows (Some (earlier best row))) (sym (one_more e index row true at yes)) (best_more (candidates_before index e) best row is)
+taken e index row best at eligible is =
+    subst (λ (rows : List (Trigger × ℕ)). IsBest rows (Some (earlier best row))) (sym (one_more e index row true at eligible)) (best_more (candidates_before index e) best row is)
 
 pub all_seen : (e : Expiry) (index : ℕ) (best : Option (Trigger × ℕ)) → length e.triggers.uses ≤ index → IsBest (candidates_before index e) best → IsBest (candidates e) best
 all_seen e index best le is = subst (λ (rows : List (Trigger × ℕ)). IsBest rows best) (past_end e index le) is

@@ -1,4 +1,4 @@
-use Rattle.std.proofs.Common.{◌≡◌, ◌+◌, ℕ, true, false, Some, slice_get, sym, subst}
+use Rattle.std.proofs.Common.{◌≡◌, ◌+◌, ℕ, true, false, Some, slice_get, sym, subst, ◌∙◌}
 use Rattle.am_names.specs.declared.trigger.Trigger.{Trigger}
 use Rattle.am_expire.specs.Pick.{is_eligible}
 use Rattle.am_expire.specs.Scan.{expiry_in, candidates_before, IsBest}
@@ -9,12 +9,12 @@ pub returns-then-not-branch-clause-ok : goal.returns-then-not-branch-clause-ok
 returns-then-not-branch-clause-ok c =
     let e = expiry_in c.args.self.now in
     let at : slice_get e.triggers.uses c.args.index ≡ Some c.in-Some.row = sym c.in-Some.ensures in
-    let no : is_eligible e c.in-Some.row ≡ false = cc in
-    left_out e c.args.index c.in-Some.row c.args.best.now at no c.requires
+    let out : is_eligible e c.in-Some.row ≡ false = sym c.in_ok-is_eligible.ensures.ok ∙ c.if-not-branch.true in
+    left_out e c.args.index c.in-Some.row c.args.best.now at out c.requires
 
 pub returns-clause-ok : goal.returns-clause-ok
 returns-clause-ok c =
     let e = expiry_in c.args.self.now in
     let at : slice_get e.triggers.uses c.args.index ≡ Some c.in-Some.row = sym c.in-Some.ensures in
-    let yes : is_eligible e c.in-Some.row ≡ true = cc in
-    subst (λ (r : Trigger × ℕ). IsBest (candidates_before (c.args.index + 1) e) (Some r)) (sym c.earlier.ensures) (taken e c.args.index c.in-Some.row c.args.best.now at yes c.requires)
+    let eligible : is_eligible e c.in-Some.row ≡ true = sym c.in_ok-is_eligible.ensures.ok ∙ c.if-not-branch.false in
+    subst (λ (r : Trigger × ℕ). IsBest (candidates_before (c.args.index + 1) e) (Some r)) (sym c.earlier.ensures) (taken e c.args.index c.in-Some.row c.args.best.now at eligible c.requires)
