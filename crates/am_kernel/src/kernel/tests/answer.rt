@@ -2,8 +2,8 @@
 
 use super::call::Said;
 use super::sight::are_mounts;
-use crate::begun::Begun;
 use crate::NewAutofs;
+use crate::begun::Begun;
 use am_group::Kind;
 use am_names::{Attach, Errno, FsId, MountId, NsId, Position, Token};
 

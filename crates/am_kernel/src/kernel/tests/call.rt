@@ -1,8 +1,8 @@
 //! Calls of a kernel as tables hold them, and what they answer.
 
 use super::trap::Trap;
-use crate::begun::Begun;
 use crate::NewAutofs;
+use crate::begun::Begun;
 use crate::kernel::Kernel;
 use am_group::{Change, Kind};
 use am_names::{
