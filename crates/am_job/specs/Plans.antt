@@ -1,6 +1,6 @@
 -- What a daemon does for one packet: a finite tree of acts, whose branches are what comes of them
 -- (autofs.rst, "Communicating with autofs: the event pipe").
-use Rattle.std.specs.Prelude.{ℕ, List, Option, Some, None}
+use Rattle.std.specs.Prelude.{ℕ, Bool, true, false, List, Option, Some, None}
 use Rattle.am_names.specs.declared.trigger.Trigger.{Trigger}
 use Rattle.am_names.specs.declared.trigger.Status.{Status}
 use Rattle.am_names.specs.declared.trigger.Status.TheVariants.{Ready, Fail}
@@ -126,3 +126,14 @@ claims (Next (act.Umount trigger) done made failed) = claims failed
 claims (Next (act.Rmdir trigger) done made failed) = claims done
 claims (Next (act.Record trigger entry) done made failed) = mount_in entry
 claims (Next (act.Reply status) done made failed) = None
+
+-- ---- a plan that is a reply alone: the record stays
+
+abbrev pub is_reply : Plan → Bool
+is_reply Ended = false
+is_reply (Next (act.Mkdir trigger) done made failed) = false
+is_reply (Next (act.Mount trigger entry) done made failed) = false
+is_reply (Next (act.Umount trigger) done made failed) = false
+is_reply (Next (act.Rmdir trigger) done made failed) = false
+is_reply (Next (act.Record trigger entry) done made failed) = false
+is_reply (Next (act.Reply status) done made failed) = true

@@ -1,8 +1,11 @@
 //! What a daemon does, and what comes of it.
 
+ghost use Rattle.std.specs.Prelude.{◌≡◌, IfOk};
+
 use am_map::Entry;
 use am_names::{MountId, Status, Trigger};
 use am_state::Record;
+use std::alloc::{AllocError, Global};
 
 /// One act of a daemon.
 #[derive(Debug, Drop)]
@@ -31,4 +34,27 @@ pub enum Outcome {
     /// A mount, of this number.
     Made { mount: MountId },
     Failed,
+}
+
+impl Act {
+    /// The same act once more.
+    pub fn copy(&self, alloc: Global) -> Result<Act, AllocError>
+        ensures { IfOk result (λ act. act ≡ self.now) }
+    {
+        let act = match self {
+            Act::Mkdir { trigger } => Act::Mkdir { trigger: *trigger },
+            Act::Mount { trigger, entry } => Act::Mount {
+                trigger: *trigger,
+                entry: entry.copy(alloc)?,
+            },
+            Act::Umount { trigger } => Act::Umount { trigger: *trigger },
+            Act::Rmdir { trigger } => Act::Rmdir { trigger: *trigger },
+            Act::Record { trigger, entry } => Act::Record {
+                trigger: *trigger,
+                entry: *entry,
+            },
+            Act::Reply { status } => Act::Reply { status: *status },
+        };
+        Ok(act)
+    }
 }
