@@ -1,8 +1,9 @@
 //! A job: what the daemon does for one packet.
 
-ghost use Rattle.std.specs.Prelude.{◌≡◌, option_copied, Bool};
+ghost use Rattle.std.specs.Prelude.{◌≡◌, ◌⊎◌, IsTrue, IfSome, option_copied};
 ghost use Rattle.am_job.specs.Job.{plan_of};
-ghost use Rattle.am_job.specs.Plans.{plan_for, next_of, rest_of, is_reply};
+ghost use Rattle.am_job.specs.Laws.{AcknowledgesLast, RecordsFirst, IsLawful, ClaimsFollow, claimed_first};
+ghost use Rattle.am_job.specs.Plans.{plan_for, next_of, rest_of, is_reply, claims};
 
 use crate::act::{Act, Outcome};
 use crate::left::Left;
@@ -26,9 +27,11 @@ impl Model for Job {
 
     ghost Value = { JobState };
 
-    ghost use Rattle.am_job.specs.Inside.{job_of};
+    ghost use Rattle.am_job.specs.JobInside.{job_of, IsJob};
 
     ghost view = { job_of };
+
+    ghost invariant = { IsJob };
 }
 
 impl Job {
@@ -46,6 +49,9 @@ impl Job {
         ensures attach { result.attach ≡ attach }
         ensures trigger { result.trigger ≡ trigger }
         ensures plan { plan_of result ≡ plan_for kind trigger mounted entry }
+        ensures acknowledges { AcknowledgesLast (plan_of result) }
+        ensures records { IsTrue (is_reply (plan_of result)) ⊎ RecordsFirst (plan_of result) }
+        ensures claims { claims (plan_of result) ≡ claimed_first (plan_of result) mounted }
     {
         let left = Left::plan_for(kind, &trigger, mounted, entry);
         Job {
@@ -79,7 +85,8 @@ impl Job {
 
     /// The act that comes next; none where the notification is acknowledged.
     pub fn next(&self) -> Option<&Act>
-        ensures { option_copied result ≡ next_of (plan_of self.now) }
+        ensures exact { option_copied result ≡ next_of (plan_of self.now) }
+        ensures laws { IsLawful (plan_of self.now) }
     {
         match &self.left {
             Left::Ended => None,
@@ -90,13 +97,11 @@ impl Job {
     /// The next act is done, and this came of it.
     pub fn done(&mut self, outcome: Outcome)
         ensures plan { plan_of self.new ≡ rest_of outcome (plan_of self.old) }
+        ensures claims { IfSome (next_of (plan_of self.old)) (λ a. ClaimsFollow a outcome (claims (plan_of self.old)) (plan_of self.new)) }
         ensures kept { self.new ≡ record self.old { left = self.new.left } }
     {
         let left = mem::replace(&mut self.left, Left::Ended);
-        self.left = match left {
-            Left::Ended => Left::Ended,
-            Left::Next { later, .. } => later.after(&self.trigger, outcome),
-        };
+        self.left = left.after(&self.trigger, outcome);
     }
 
     /// Whether all that is left is to acknowledge the notification.

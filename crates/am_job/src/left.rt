@@ -5,7 +5,7 @@ ghost use Rattle.am_names.specs.declared.trigger.Trigger.{Trigger as TriggerRow}
 ghost use Rattle.am_job.specs.declared.act.Act.TheVariants as acts;
 ghost use Rattle.am_job.specs.declared.left.Later.TheVariants as later;
 ghost use Rattle.am_job.specs.Left.{plan_left, after};
-ghost use Rattle.am_job.specs.Plans.{reply, book_and_reply, at_directory, mount_entry, mounting, missing_plan, expire_plan, plan_for};
+ghost use Rattle.am_job.specs.Plans.{reply, book_and_reply, at_directory, mount_entry, mounting, missing_plan, expire_plan, plan_for, rest_of};
 
 use crate::act::{Act, Outcome};
 use am_map::Entry;
@@ -118,24 +118,6 @@ fn expire(trigger: &Trigger, mounted: Option<MountId>) -> Left
     }
 }
 
-impl Left {
-    /// The plan for a packet, by the kind of its token, by what the book says to be mounted on its
-    /// trigger, and by the entry of its key.
-    pub(crate) fn plan_for(
-        kind: TokenKind,
-        trigger: &Trigger,
-        mounted: Option<MountId>,
-        entry: Option<Entry>,
-    ) -> Left
-        ensures { plan_left trigger.now result ≡ plan_for kind trigger.now mounted entry }
-    {
-        match kind {
-            TokenKind::Missing => missing(trigger, mounted, entry),
-            TokenKind::Expire => expire(trigger, mounted),
-        }
-    }
-}
-
 fn after_mount(trigger: &Trigger, outcome: Outcome) -> Left
     ensures { plan_left trigger.now result ≡ after trigger.now later.AfterMount outcome }
 {
@@ -170,6 +152,34 @@ impl Later {
             Later::Mount { entry } => mount_entry(trigger, entry),
             Later::AfterMount => after_mount(trigger, outcome),
             Later::AfterUmount { mount } => after_umount(trigger, mount, outcome),
+        }
+    }
+}
+
+impl Left {
+    /// The plan for a packet, by the kind of its token, by what the book says to be mounted on its
+    /// trigger, and by the entry of its key.
+    pub(crate) fn plan_for(
+        kind: TokenKind,
+        trigger: &Trigger,
+        mounted: Option<MountId>,
+        entry: Option<Entry>,
+    ) -> Left
+        ensures { plan_left trigger.now result ≡ plan_for kind trigger.now mounted entry }
+    {
+        match kind {
+            TokenKind::Missing => missing(trigger, mounted, entry),
+            TokenKind::Expire => expire(trigger, mounted),
+        }
+    }
+
+    /// What is left when this has come of the next act.
+    pub(crate) fn after(self, trigger: &Trigger, outcome: Outcome) -> Left
+        ensures { plan_left trigger.now result ≡ rest_of outcome (plan_left trigger.now self) }
+    {
+        match self {
+            Left::Ended => Left::Ended,
+            Left::Next { later, .. } => later.after(trigger, outcome),
         }
     }
 }

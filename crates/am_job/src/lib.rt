@@ -8,5 +8,6 @@ pub mod job;
 pub mod left;
 
 pub use act::{Act, Outcome};
+pub use book::Book;
 
 pub use job::Job;
