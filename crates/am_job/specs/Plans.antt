@@ -68,7 +68,7 @@ after_failed_mount trigger =
 abbrev pub mount_entry : Trigger → EntryText → Plan
 mount_entry trigger entry =
     Next (act.Mount trigger entry)
-        (after_failed_mount trigger) (after_mount trigger) (after_failed_mount trigger)
+    (after_failed_mount trigger) (after_mount trigger) (after_failed_mount trigger)
 
 -- the directory is made, and the entry is mounted on it
 abbrev pub mounting : Trigger → EntryText → Plan
@@ -95,7 +95,7 @@ after_failed_umount trigger mount = book_and_reply trigger (Some (Mounted mount)
 abbrev pub unmounting : Trigger → ℕ → Plan
 unmounting trigger mount =
     Next (act.Umount trigger)
-        (after_umount trigger) (λ m. after_umount trigger) (after_failed_umount trigger mount)
+    (after_umount trigger) (λ m. after_umount trigger) (after_failed_umount trigger mount)
 
 abbrev pub expire_plan : Trigger → Option ℕ → Plan
 expire_plan trigger (Some mount) = unmounting trigger mount

@@ -11,20 +11,31 @@ use std::alloc::{AllocError, Global};
 #[derive(Debug, Drop)]
 pub enum Act {
     /// Make the directory of an indirect trigger.
-    Mkdir { trigger: Trigger },
+    Mkdir {
+        trigger: Trigger,
+    },
     /// Mount what the entry says on the trigger.
-    Mount { trigger: Trigger, entry: Entry },
+    Mount {
+        trigger: Trigger,
+        entry: Entry,
+    },
     /// Unmount what is mounted on the trigger.
-    Umount { trigger: Trigger },
+    Umount {
+        trigger: Trigger,
+    },
     /// Remove the directory of an indirect trigger.
-    Rmdir { trigger: Trigger },
+    Rmdir {
+        trigger: Trigger,
+    },
     /// Write down what is mounted on the trigger, or that nothing is.
     Record {
         trigger: Trigger,
         entry: Option<Record>,
     },
     /// Acknowledge the notification (autofs.rst, "root directory ioctls").
-    Reply { status: Status },
+    Reply {
+        status: Status,
+    },
 }
 
 /// What came of an act.

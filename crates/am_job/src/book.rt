@@ -1,14 +1,17 @@
 //! The daemon's book: what is mounted on each trigger.
 
-ghost use Rattle.std.specs.Prelude.{◌≡◌, ◌≤◌, ◌+◌, length, [], Some, None, OnOk, OnErr};
+ghost use Rattle.std.specs.Prelude.{◌≡◌, ◌≤◌, ◌+◌, length, slice_get, [], Some, None, OnOk, OnErr};
 ghost use Rattle.am_names.specs.Errno.{RefusedAs};
 ghost use Rattle.am_job.specs.Book.{record_of, with_record, without_record, without_fs, IsRecorded, IsForgotten};
 
 use am_names::{Errno, FsId, Name, Trigger};
-use am_state::Record;
+use am_state::{Record, RecordRow};
 use indexmap::IndexMap;
 use std::alloc::Global;
 use std::marker::Model;
+
+#[cfg(test)]
+mod tests;
 
 /// What the daemon has written down of each trigger.
 #[derive(Drop)]
@@ -44,6 +47,17 @@ impl Book {
         ensures { result ≡ length self.now.rows }
     {
         self.records.len()
+    }
+
+    /// The record at this place, in order of making.
+    pub fn row(&self, index: usize) -> Option<RecordRow>
+        ensures { result ≡ slice_get self.now.rows index }
+    {
+        let (trigger, entry) = self.records.get_index(index)?;
+        Some(RecordRow {
+            trigger: *trigger,
+            entry: *entry,
+        })
     }
 
     /// What is written down of the trigger.

@@ -9,5 +9,4 @@ pub mod left;
 
 pub use act::{Act, Outcome};
 pub use book::Book;
-
 pub use job::Job;
