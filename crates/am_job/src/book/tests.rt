@@ -46,11 +46,12 @@ fn mounted(mount: u64) -> Record {
 }
 
 /// The same call once more where no memory was found.
-fn put(book: &mut Book, trigger: Trigger, entry: Record) -> Result<(), Errno> {
-    match book.put(trigger, entry) {
-        Err(Errno::NoMemory) => book.put(trigger, entry),
-        result => result,
+fn put(book: &mut Book, trigger: &Trigger, mount: u64) -> Result<(), Errno> {
+    let result = book.put(*trigger, mounted(mount));
+    if result == Err(Errno::NoMemory) {
+        return book.put(*trigger, mounted(mount));
     }
+    result
 }
 
 fn reserve(book: &mut Book) -> Result<(), Errno>
@@ -62,18 +63,18 @@ fn reserve(book: &mut Book) -> Result<(), Errno>
     book.reserve(1)
 }
 
-fn put_reserved(book: &mut Book, trigger: Trigger, entry: Record) -> Result<(), Errno> {
+fn put_reserved(book: &mut Book, trigger: &Trigger, mount: u64) -> Result<(), Errno> {
     reserve(book)?;
-    book.put_reserved(trigger, entry);
+    book.put_reserved(*trigger, mounted(mount));
     Ok(())
 }
 
 fn says(book: &Book, trigger: &Trigger, expected: Option<u64>) -> bool {
-    match (book.record(trigger), expected) {
-        (Some(Record::Mounted { mount }), Some(number)) => mount == MountId(number),
-        (None, None) => true,
-        _ => false,
-    }
+    let entry = match expected {
+        Some(mount) => Some(mounted(mount)),
+        None => None,
+    };
+    book.record(trigger) == entry
 }
 
 fn has_row(book: &Book, at: usize, fs: u32) -> bool {
@@ -86,10 +87,14 @@ fn has_row(book: &Book, at: usize, fs: u32) -> bool {
 fn take(book: &mut Book, step: Step) -> Result<bool, Errno> {
     match step {
         Step::Put(fs, name, mount) => {
-            put(book, trigger(fs, name)?, mounted(mount))?;
+            let at = trigger(fs, name)?;
+            let _name: Option<Name> = at.name;
+            put(book, &at, mount)?;
         }
         Step::PutReserved(fs, name, mount) => {
-            put_reserved(book, trigger(fs, name)?, mounted(mount))?;
+            let at = trigger(fs, name)?;
+            let _name: Option<Name> = at.name;
+            put_reserved(book, &at, mount)?;
         }
         Step::Remove(fs, name) => {
             let gone = trigger(fs, name)?;

@@ -1,4 +1,4 @@
-use Rattle.std.proofs.Common.{◌≡◌, ◌==◌, not, ap, ◌∙◌, rules, tests}
+use Rattle.std.proofs.Common.{◌≡◌, ◌==◌, Bool, List, not, ap, ◌∙◌, rules, tests}
 use Rattle.indexmap.proofs.CallerLemmas.{filter-RetainsPairs}
 use Rattle.am_names.specs.Trigger.{same_trigger}
 use Rattle.am_names.specs.declared.trigger.Trigger.{Trigger}
@@ -12,7 +12,7 @@ use Rattle.am_job.proofs.book.Book.remove.Goals as goal
 
 pub returns-clause-rows : goal.returns-clause-rows
 returns-clause-rows c =
-    let keep : RecordRow → _ = λ row. not (same_trigger row.trigger c.args.trigger.now) in
+    let keep : RecordRow → Bool = λ row. not (same_trigger row.trigger c.args.trigger.now) in
     ap rows_of (filter-RetainsPairs _ (λ (pair : Trigger × Record). keep (row_of pair)) _ (λ k v b w g call. search (rules, tests)) _ _ c.retain.ensures.filtered)
     ∙ rows_left keep c.self.inside.records.entries
     ∙ ap (λ (t : BookTable). without_record c.args.trigger.now t.rows) c.self.view_is
@@ -20,4 +20,4 @@ returns-clause-rows c =
 pub returns-clause-map : goal.returns-clause-map
 returns-clause-map c g =
     let new = returns-clause-rows c in
-    ap (λ (rows : _). record_of rows g) new ∙ removed c.args.trigger.now g c.args.self.now.rows
+    ap (λ (rows : List RecordRow). record_of rows g) new ∙ removed c.args.trigger.now g c.args.self.now.rows
