@@ -139,7 +139,7 @@ impl World {
 
     /// Whether a pick finds this trigger, or none.
     pub fn picks(&self, alloc: Global, ask: Ask, expected: Option<Trap>) -> Result<bool, Errno> {
-        let found = pick(
+        let Some(trigger) = pick(
             alloc,
             &self.subtree,
             &self.triggers,
@@ -149,11 +149,15 @@ impl World {
             ask.1,
             Seconds(ask.2),
             ask.3,
-        )?;
-        match (&found, expected) {
-            (Some(trigger), Some(trap)) => Ok(trap.is(trigger)),
-            (None, None) => Ok(true),
-            (Some(_), None) | (None, Some(_)) => Ok(false),
+        )?
+        else {
+            return Ok(expected.is_none());
+        };
+        // The checker wants the type of its name said too.
+        let _name: Option<Name> = trigger.name;
+        match expected {
+            Some(trap) => Ok(trap.is(&trigger)),
+            None => Ok(false),
         }
     }
 
