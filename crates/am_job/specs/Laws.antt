@@ -1,13 +1,10 @@
 -- What is true of each plan.
 use Rattle.std.specs.Prelude.{◌≡◌, ◌⊎◌, ⊤, ℕ, Option, Some, None, if◌then◌else◌}
-use Rattle.am_names.specs.declared.trigger.Trigger.{Trigger}
-use Rattle.am_names.specs.declared.row.TokenKind.{TokenKind}
-use Rattle.am_map.specs.EntryText.{EntryText}
 use Rattle.am_job.specs.declared.act.Act.{Act}
 use Rattle.am_job.specs.declared.act.Act.TheVariants as act
 use Rattle.am_job.specs.declared.act.Outcome.{Outcome}
 use Rattle.am_job.specs.declared.act.Outcome.TheVariants.{Done, Made, Failed}
-use Rattle.am_job.specs.Plans.{Plan, Ended, Next, plan_for, is_reply, claims, mount_in}
+use Rattle.am_job.specs.Plans.{Plan, Ended, Next, is_reply, claims}
 
 abbrev pub IsEnded : Plan → Type 0
 IsEnded Ended = ⊤

@@ -1,6 +1,6 @@
 -- The plan of the acts that a job has left. The plan's branch for a mount is a function of the
 -- mount's number, so a job keeps the next act and a word for what comes after it.
-use Rattle.std.specs.Prelude.{ℕ, None}
+use Rattle.std.specs.Prelude.{None}
 use Rattle.am_names.specs.declared.trigger.Trigger.{Trigger}
 use Rattle.am_job.specs.declared.act.Outcome.{Outcome}
 use Rattle.am_job.specs.declared.act.Outcome.TheVariants.{Done, Made, Failed}

@@ -1,8 +1,7 @@
-use Rattle.std.proofs.Common.{◌≡◌, Option, Some, ap, ◌∙◌, cond}
+use Rattle.std.proofs.Common.{Some, ap, ◌∙◌}
 use Rattle.std.specs.Prelude.{if◌then◌else◌}
 use Rattle.am_names.specs.Trigger.{same_trigger}
 use Rattle.am_names.specs.contracts.trigger.TriggerPartialEq.TheImpl.{eq-value}
-use Rattle.am_state.specs.declared.daemon_row.Record.{Record}
 use Rattle.am_job.specs.Book.{with_record, record_of}
 use Rattle.am_job.specs.Inside.{rows_of}
 use Rattle.am_job.specs.Table.{BookTable}

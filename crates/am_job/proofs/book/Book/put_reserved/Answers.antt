@@ -1,4 +1,4 @@
-use Rattle.std.proofs.Common.{◌≡◌, ◌≤◌, Option, Some, IsOk, sym, subst, ap, ◌∙◌}
+use Rattle.std.proofs.Common.{◌≤◌, Some, sym, subst, ap, ◌∙◌}
 use Rattle.std.specs.Prelude.{if◌then◌else◌}
 use Rattle.am_names.specs.Trigger.{same_trigger}
 use Rattle.am_names.specs.contracts.trigger.TriggerPartialEq.TheImpl.{eq-value}

@@ -1,4 +1,4 @@
-use Rattle.std.proofs.Common.{◌≡◌, ◌==◌, Bool, List, not, ap, ◌∙◌, rules, tests}
+use Rattle.std.proofs.Common.{Bool, List, not, ap, ◌∙◌, rules, tests}
 use Rattle.indexmap.proofs.CallerLemmas.{filter-RetainsPairs}
 use Rattle.am_names.specs.Trigger.{same_trigger}
 use Rattle.am_names.specs.declared.trigger.Trigger.{Trigger}
