@@ -1,2 +1,4 @@
 pub mod Uses
 pub mod Inside
+pub mod Pick
+pub mod Scan

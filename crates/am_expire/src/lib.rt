@@ -1,6 +1,9 @@
-//! Which mounts are in use, so that they may neither go nor expire.
+//! Which mounts are in use, so that they may neither go nor expire, and which trigger expires next
+//! (autofs.rst, "Mountpoint expiry").
 #![tactic(auto)]
 
+pub mod expiry;
 pub mod uses;
 
+pub use expiry::pick;
 pub use uses::Uses;

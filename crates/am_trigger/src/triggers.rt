@@ -12,6 +12,7 @@ use indexmap::{IndexMap, IndexSet};
 use std::alloc::Global;
 use std::marker::Model;
 
+mod last_uses;
 #[cfg(test)]
 mod tests;
 

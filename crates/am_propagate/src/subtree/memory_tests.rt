@@ -89,7 +89,7 @@ fn make_twice(
     Ok(())
 }
 
-static CALLS: [Call; 16] = [
+static CALLS: [Call; 17] = [
     Call::Mount(1, b"/a"),
     Call::Change(Change::MakeShared, 2),
     Call::Bind(2, 1, b"/s"),
@@ -103,6 +103,7 @@ static CALLS: [Call; 16] = [
     Call::Drop(1),
     Call::Takes(1),
     Call::Takes(8),
+    Call::Preview(8, 0),
     Call::Umount(8),
     Call::Change(Change::MakePrivate, 3),
     Call::Change(Change::MakeUnbindable, 5),

@@ -41,6 +41,25 @@ fn an_unmount_tests_in_order(rt: HostRuntime) -> Result<(), Fail> {
     Ok(())
 }
 
+/// The numbers are those of EINVAL, EBUSY and of none, as the unmount itself has them.
+#[test]
+fn a_preview_of_an_unmount_tests_in_order(rt: HostRuntime) -> Result<(), Fail> {
+    static STEPS: [Step; 10] = [
+        Step::Gives(Call::Mount(2, b"/y"), 8),
+        Step::Gives(Call::Mount(8, b"/z"), 12),
+        Step::Gives(Call::Preview(99, 0), 5),
+        Step::Gives(Call::Preview(1, 0), 3),
+        Step::Gives(Call::Preview(8, 0), 3),
+        Step::Gives(Call::Umount(12), 4),
+        Step::Gives(Call::Preview(8, 11), 3),
+        Step::Gives(Call::Preview(8, 0), 0),
+        Step::Top(7, b"/y", 11),
+        Step::Gives(Call::Umount(8), 4),
+    ];
+    plays_both(&rt, rt.alloc(), 100, &SLAVE_AND_PEERS, &STEPS)?;
+    Ok(())
+}
+
 /// At last the slaves of a group go free whose last members are those of namespace 1.
 #[test]
 fn a_drop_tests_in_order(rt: HostRuntime) -> Result<(), Fail> {

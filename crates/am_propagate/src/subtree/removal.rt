@@ -151,6 +151,51 @@ impl Subtree {
         Ok(())
     }
 
+    /// What an unmount of the mount removes, where `umount` would not refuse it.
+    fn removable<U: InUse>(
+        &self,
+        alloc: Global,
+        mount: MountId,
+        in_use: &U,
+    ) -> Result<Vec<MountId>, Errno>
+        ensures refusal { RefusedAs (umount_refusal (U.uses in_use.now) mount self.now) result }
+        ensures exact { IfOk result (λ v. v.items ≡ unmounted self.now mount) }
+        ensures rising { IfOk result (λ v. IsStrictlyIncreasing v.items) }
+        ensures bare { OnOk result (is_bare self.now mount ≡ true) }
+    {
+        let Some(row) = self.tree.row(mount) else {
+            return Err(Errno::EINVAL);
+        };
+        let Some(position) = &row.mountpoint else {
+            return Err(Errno::EBUSY);
+        };
+        if !self.is_bare(mount) {
+            return Err(Errno::EBUSY);
+        }
+        let gone = self.unmounted(alloc, mount, position)?;
+        if is_used(in_use, gone.as_slice()) {
+            return Err(Errno::EBUSY);
+        }
+        Ok(gone)
+    }
+
+    /// Why `umount` would refuse the mount, if it would.
+    pub fn umount_refusal<U: InUse>(
+        &self,
+        alloc: Global,
+        mount: MountId,
+        in_use: &U,
+    ) -> Result<Option<Errno>, Errno>
+        ensures refusal { RefusedAs None result }
+        ensures ok { IfOk result (λ first. first ≡ umount_refusal (U.uses in_use.now) mount self.now) }
+    {
+        match self.removable(alloc, mount, in_use) {
+            Ok(_) => Ok(None),
+            Err(Errno::NoMemory) => Err(Errno::NoMemory),
+            Err(first) => Ok(Some(first)),
+        }
+    }
+
     /// Unmounts the mount, and what was mounted with it on the mounts that receive from its
     /// parent (sharedsubtree.rst, 5f). The answer tells all that went, in rising order.
     pub fn umount<U: InUse>(
@@ -166,19 +211,7 @@ impl Subtree {
         ensures err { OnErr result (self.new ≡ self.old) }
         ensures law { AddsNoReceivers self.old.groups self.new.groups }
     {
-        let Some(row) = self.tree.row(mount) else {
-            return Err(Errno::EINVAL);
-        };
-        let Some(position) = &row.mountpoint else {
-            return Err(Errno::EBUSY);
-        };
-        if !self.is_bare(mount) {
-            return Err(Errno::EBUSY);
-        }
-        let gone = self.unmounted(alloc, mount, position)?;
-        if is_used(in_use, gone.as_slice()) {
-            return Err(Errno::EBUSY);
-        }
+        let gone = self.removable(alloc, mount, in_use)?;
         self.remove(alloc, gone.as_slice())?;
         Ok(gone)
     }

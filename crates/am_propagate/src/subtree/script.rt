@@ -90,6 +90,9 @@ pub enum Call {
     Umount(u64),
     /// What an unmount of the mount would remove.
     Takes(u64),
+    /// Why an unmount of the mount would be refused while the other is in use, as a number; 0 if
+    /// it would not be.
+    Preview(u64, u64),
     Copy(u32),
     Drop(u32),
 }
@@ -115,6 +118,14 @@ fn count(gone: Result<Vec<MountId>, Errno>) -> Result<u64, Errno> {
     Ok(gone?.len() as u64)
 }
 
+fn preview(alloc: Global, subtree: &Subtree, mount: u64, busy: u64) -> Result<u64, Errno> {
+    let used = used_by(alloc, &[busy])?;
+    match subtree.umount_refusal(alloc, MountId(mount), &used)? {
+        Some(first) => Ok(first.number() as u64),
+        None => Ok(0),
+    }
+}
+
 impl Call {
     /// Makes it while this mount is in use. It gives the number of what was made or how many
     /// mounts went or would go, 0 for a change.
@@ -125,6 +136,7 @@ impl Call {
             Call::Change(to, mount) => change(alloc, subtree, to, mount),
             Call::Umount(mount) => count(umount(alloc, subtree, mount, busy)),
             Call::Takes(mount) => count(subtree.umount_takes(alloc, MountId(mount))),
+            Call::Preview(mount, busy) => preview(alloc, subtree, mount, busy),
             Call::Copy(ns) => copy_namespace(alloc, subtree, ns),
             Call::Drop(ns) => count(drop_namespace(alloc, subtree, ns, busy)),
         }
@@ -139,6 +151,7 @@ impl Call {
                 change(alloc, subtree, to, mount)?;
                 Ok(Vec::new(alloc))
             }
+            Call::Preview(_, _) => Ok(Vec::new(alloc)),
             Call::Umount(mount) => umount(alloc, subtree, mount, 0),
             Call::Takes(mount) => subtree.umount_takes(alloc, MountId(mount)),
             Call::Copy(ns) => Ok(subtree.copy_namespace(alloc, NsId(ns))?.mounts),

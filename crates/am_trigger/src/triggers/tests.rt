@@ -104,6 +104,23 @@ fn last_uses_are_a_map(rt: HostRuntime) -> Result<(), Fail> {
     Ok(())
 }
 
+/// A second use keeps its place.
+#[test]
+fn last_uses_stand_in_order_of_first_use(rt: HostRuntime) -> Result<(), Fail> {
+    let home = named(b"home")?;
+    let _name: Option<Name> = home.name;
+    let mut triggers = Triggers::new(rt.alloc());
+    assert_eq!(rt; triggers.use_count(), 0);
+    touch(&mut triggers, &home, 500)?;
+    touch(&mut triggers, &DIRECT, 7)?;
+    touch(&mut triggers, &home, 5)?;
+    assert_eq!(rt; triggers.use_count(), 2);
+    assert_eq!(rt; triggers.use_at(0), Some((home, Seconds(5))));
+    assert_eq!(rt; triggers.use_at(1), Some((DIRECT, Seconds(7))));
+    assert_eq!(rt; triggers.use_at(2), None);
+    Ok(())
+}
+
 #[test]
 fn passed_triggers_are_used(rt: HostRuntime) -> Result<(), Fail> {
     let (home, work) = (named(b"home")?, named(b"work")?);

@@ -2,7 +2,6 @@ use Rattle.std.proofs.Common.{◌≡◌, List, None, sym, ap, ◌∙◌}
 use Rattle.std.specs.Prelude.{is_some}
 use Rattle.am_expire.specs.declared.uses.Use.{Use}
 use Rattle.am_expire.specs.Uses.{mount_of}
-use Rattle.am_expire.specs.Inside.{IsSingle}
 use Rattle.am_expire.proofs.UseLemmas.{nowhere, enters, enters_count, enters_single}
 use Rattle.am_expire.proofs.uses.Uses.enter.Goals as goal
 

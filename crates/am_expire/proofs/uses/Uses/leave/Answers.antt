@@ -1,8 +1,8 @@
-use Rattle.std.proofs.Common.{◌≡◌, eqb, rules, tests, List, Some, sym, ap, subst, ◌∙◌}
+use Rattle.std.proofs.Common.{◌≡◌, eqb, rules, tests, sym, ap, subst, ◌∙◌}
 use Rattle.std.specs.Prelude.{not}
 use Rattle.std.proofs.lemmas.Fn.{filter_same}
 use Rattle.am_expire.specs.declared.uses.Use.{Use}
-use Rattle.am_expire.specs.Uses.{mount_of, left}
+use Rattle.am_expire.specs.Uses.{left}
 use Rattle.am_expire.specs.Inside.{IsSingle}
 use Rattle.am_expire.proofs.UseLemmas.{leaves, leaves_count, leaves_single}
 use Rattle.am_expire.proofs.uses.Uses.leave.Goals as goal

@@ -1,0 +1,22 @@
+-- What the fields stand for.
+use Rattle.std.specs.Prelude.{List, map}
+use Rattle.indexmap.specs.IndexMap.{spare, IsUnique}
+use Rattle.am_names.specs.contracts.trigger.TriggerPartialEq.TheImpl.{eq-value}
+use Rattle.am_names.specs.declared.trigger.Trigger.{Trigger}
+use Rattle.am_state.specs.declared.daemon_row.Record.{Record}
+use Rattle.am_state.specs.declared.daemon_row.RecordRow.{RecordRow}
+use Rattle.am_job.specs.Table.{BookTable}
+use Rattle.am_job.specs.declared.book.Book.TheInside.{Inside}
+
+abbrev pub row_of : (Trigger × Record) → RecordRow
+row_of pair = record { trigger = pair.0; entry = pair.1 }
+
+abbrev pub rows_of : List (Trigger × Record) → List RecordRow
+rows_of pairs = map row_of pairs
+
+abbrev pub table_of : Inside → BookTable
+table_of b = record { rows = rows_of b.records.entries; room = spare b.records }
+
+-- no trigger has two records
+abbrev pub IsBook : Inside → Type 0
+IsBook b = IsUnique eq-value.it b.records

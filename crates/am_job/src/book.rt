@@ -1,0 +1,130 @@
+//! The daemon's book: what is mounted on each trigger.
+
+ghost use Rattle.std.specs.Prelude.{◌≡◌, ◌≤◌, ◌+◌, length, slice_get, [], Some, None, OnOk, OnErr};
+ghost use Rattle.am_names.specs.Errno.{RefusedAs};
+ghost use Rattle.am_job.specs.Book.{record_of, with_record, without_record, without_fs, IsRecorded, IsForgotten};
+
+use am_names::{Errno, FsId, Name, Trigger};
+use am_state::{Record, RecordRow};
+use indexmap::IndexMap;
+use std::alloc::Global;
+use std::marker::Model;
+
+#[cfg(test)]
+mod tests;
+
+/// What the daemon has written down of each trigger.
+#[derive(Drop)]
+pub struct Book {
+    records: IndexMap<Trigger, Record>,
+}
+
+impl Model for Book {
+    ghost use Rattle.am_job.specs.Table.{BookTable};
+
+    ghost Value = { BookTable };
+
+    ghost use Rattle.am_job.specs.Inside.{table_of, IsBook};
+
+    ghost view = { table_of };
+
+    // No trigger has two records.
+    ghost invariant = { IsBook };
+}
+
+impl Book {
+    /// No record.
+    pub fn new(alloc: Global) -> Book
+        ensures { result.rows ≡ [] }
+    {
+        Book {
+            records: IndexMap::new(alloc),
+        }
+    }
+
+    /// How many records there are.
+    pub fn len(&self) -> usize
+        ensures { result ≡ length self.now.rows }
+    {
+        self.records.len()
+    }
+
+    /// The record at this place, in order of making.
+    pub fn row(&self, index: usize) -> Option<RecordRow>
+        ensures { result ≡ slice_get self.now.rows index }
+    {
+        let (trigger, entry) = self.records.get_index(index)?;
+        Some(RecordRow {
+            trigger: *trigger,
+            entry: *entry,
+        })
+    }
+
+    /// What is written down of the trigger.
+    pub fn record(&self, trigger: &Trigger) -> Option<Record>
+        ensures { result ≡ record_of self.now.rows trigger.now }
+    {
+        self.records.get(trigger).copied()
+    }
+
+    /// Writes this record down for the trigger, in the place of what was written before.
+    pub fn put(&mut self, trigger: Trigger, entry: Record) -> Result<(), Errno>
+        ensures refusal { RefusedAs None result }
+        ensures ok { OnOk result (self.new.rows ≡ with_record trigger entry self.old.rows) }
+        ensures map { OnOk result (IsRecorded trigger (Some entry) self.old.rows self.new.rows) }
+        ensures err { OnErr result (self.new.rows ≡ self.old.rows) }
+    {
+        let _name: Option<Name> = trigger.name;
+        self.records.insert(trigger, entry)?;
+        Ok(())
+    }
+
+    /// Makes room for so many more records.
+    pub fn reserve(&mut self, count: usize) -> Result<(), Errno>
+        ensures refusal { RefusedAs None result }
+        ensures rows { self.new.rows ≡ self.old.rows }
+        ensures room { self.old.room ≤ self.new.room }
+        ensures ok { OnOk result (count ≤ self.new.room) }
+    {
+        self.records.reserve(count)?;
+        Ok(())
+    }
+
+    /// Writes a record down as `put` does, and there is room for it.
+    pub fn put_reserved(&mut self, trigger: Trigger, entry: Record)
+        requires { 1 ≤ self.old.room }
+        ensures rows { self.new.rows ≡ with_record trigger entry self.old.rows }
+        ensures map { IsRecorded trigger (Some entry) self.old.rows self.new.rows }
+        ensures room { self.old.room ≤ self.new.room + 1 }
+    {
+        let _name: Option<Name> = trigger.name;
+        // There is room for it.
+        let _old = self.records.insert(trigger, entry);
+    }
+
+    /// Writes down that nothing is mounted on the trigger. It takes no memory.
+    pub fn remove(&mut self, trigger: &Trigger)
+        ensures rows { self.new.rows ≡ without_record trigger.now self.old.rows }
+        ensures map { IsRecorded trigger.now None self.old.rows self.new.rows }
+        ensures room { self.old.room ≤ self.new.room }
+    {
+        self.records.retain(|key, _| !key.is_same(trigger));
+    }
+
+    /// Forgets a file system. It takes no memory.
+    pub fn remove_fs(&mut self, fs: FsId)
+        ensures rows { self.new.rows ≡ without_fs fs self.old.rows }
+        ensures map { IsForgotten fs self.old.rows self.new.rows }
+        ensures room { self.old.room ≤ self.new.room }
+    {
+        self.records.retain(|key, _| key.fs != fs);
+    }
+
+    /// Forgets everything. It takes no memory.
+    pub fn clear(&mut self)
+        ensures rows { self.new.rows ≡ [] }
+        ensures room { self.old.room ≤ self.new.room }
+    {
+        self.records.clear();
+    }
+}

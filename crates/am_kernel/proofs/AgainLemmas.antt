@@ -1,0 +1,222 @@
+-- A walk begins again.
+use Rattle.std.proofs.Common.{◌≡◌, ◌+◌, ℕ, Bool, true, false, cond, ◌==◌, List, [], ◌∷◌, ◌++◌, Option, Some, None, Result, Ok, Err, refl, sym, ap, subst, ◌∙◌, ◌⊎◌, inl, inr, Bor}
+use Rattle.std.specs.Prelude.{find, is_some, nat_le}
+use Rattle.std.specs.Option.{option_copied}
+use Rattle.std.proofs.lemmas.Bool.Decides.{Decides-eqb}
+use Rattle.am_names.specs.declared.errno.Errno.{Errno}
+use Rattle.am_names.specs.declared.errno.Errno.TheVariants.{ENOENT, EPERM, EBUSY, EEXIST, EINVAL, EAGAIN, ELOOP, ENAMETOOLONG, ENOSPC, NoMemory, NotReleased, Stranger}
+use Rattle.am_names.specs.declared.trigger.PipeState.{PipeState}
+use Rattle.am_names.specs.declared.trigger.Status.{Status}
+use Rattle.am_names.specs.declared.trigger.Status.TheVariants.{Ready, Fail}
+use Rattle.am_names.specs.declared.row.TokenKind.{TokenKind}
+use Rattle.am_names.specs.declared.row.TokenKind.TheVariants.{Missing, Expire}
+use Rattle.am_names.specs.declared.row.WaitRow.{WaitRow}
+use Rattle.am_state.specs.declared.obs.Obs.{Obs}
+use Rattle.am_wait.specs.Rows.{wait_of}
+use Rattle.am_wait.specs.Calls.{status_refusal, wait_refusal}
+use Rattle.am_expire.specs.Uses.{mount_of}
+use Rattle.am_walk.specs.Walks.{walk_of}
+use Rattle.am_kernel.specs.declared.row.WalkRow.{WalkRow}
+use Rattle.am_kernel.specs.declared.begin.Waited.{Waited}
+use Rattle.am_kernel.specs.declared.begin.Waited.TheVariants.{OnMount}
+use Rattle.am_kernel.specs.declared.begun.Begin.{Begin}
+use Rattle.am_kernel.specs.declared.begun.Begun.{Begun}
+use Rattle.am_kernel.specs.declared.begun.Begun.TheVariants.{Failed}
+use Rattle.am_kernel.specs.State.{KernelState}
+use Rattle.am_kernel.specs.Sites.{scene_of}
+use Rattle.am_kernel.specs.Outcome.{Outcome, Goes, Fails, Meets, IsAsBefore}
+use Rattle.am_kernel.specs.Walks.{begun_with}
+use Rattle.am_kernel.specs.Resumes.{freed_from, failed, or_failed, most_begins, next_begin, again, walk_in, resumed_as, resumed_walk, resumed_by, resumed_at, resume_outcome}
+use Rattle.am_kernel.specs.Inside.{freed_as, waited_for, waited_on, again_for, fallen, IsFree}
+
+abbrev or_first : {X : Type 0} → X → Option X → X
+or_first x (Some y) = y
+or_first x None = x
+
+-- a row that was found is of the number that was looked for
+pub found_number : {X : Type 0} (key : X → ℕ) (n : ℕ) (rows : List X) (row : X) → find (λ r. key r == n) rows ≡ Some row → key row ≡ n
+found_number key n [] row h = absurd cc
+found_number key n (r ∷ rows) row h = by_test (key r == n) refl h (found_number key n rows row)
+  where
+    by_test : (b : Bool) → (key r == n) ≡ b → cond b (Some r) (find (λ x. key x == n) rows) ≡ Some row → (find (λ x. key x == n) rows ≡ Some row → key row ≡ n) → key row ≡ n
+    by_test true e h later = ap key (sym (ap (or_first r) h)) ∙ (Decides-eqb (key r) n).0 e
+    by_test false e h later = later h
+
+-- ---- errors
+
+-- an error leaves all as before, and is that of memory or of the outcome
+pub err_is : (o : Outcome) (e : Errno) (k new : KernelState) (before after : List Obs) → Meets o (Err e) k new before after → IsAsBefore k new before after × ((e ≡ NoMemory) ⊎ (o ≡ Fails e))
+err_is (Goes answer shown made) e k new before after h = (h.1, inl h.0)
+err_is (Fails f) NoMemory k new before after h = (h, inl refl)
+err_is (Fails f) ENOENT k new before after h = (h.1, inr (ap Fails (sym h.0)))
+err_is (Fails f) EPERM k new before after h = (h.1, inr (ap Fails (sym h.0)))
+err_is (Fails f) EBUSY k new before after h = (h.1, inr (ap Fails (sym h.0)))
+err_is (Fails f) EEXIST k new before after h = (h.1, inr (ap Fails (sym h.0)))
+err_is (Fails f) EINVAL k new before after h = (h.1, inr (ap Fails (sym h.0)))
+err_is (Fails f) EAGAIN k new before after h = (h.1, inr (ap Fails (sym h.0)))
+err_is (Fails f) ELOOP k new before after h = (h.1, inr (ap Fails (sym h.0)))
+err_is (Fails f) ENAMETOOLONG k new before after h = (h.1, inr (ap Fails (sym h.0)))
+err_is (Fails f) ENOSPC k new before after h = (h.1, inr (ap Fails (sym h.0)))
+err_is (Fails f) NotReleased k new before after h = (h.1, inr (ap Fails (sym h.0)))
+err_is (Fails f) Stranger k new before after h = (h.1, inr (ap Fails (sym h.0)))
+
+-- where memory runs out, any outcome that goes is met
+memory_met : (answer : Begun) (shown : List Obs) (made : KernelState) (r : Result Begun Errno) (k new : KernelState) (before after : List Obs) → Meets (Fails NoMemory) r k new before after → Meets (Goes answer shown made) r k new before after
+memory_met answer shown made (Ok begun) k new before after h = absurd h
+memory_met answer shown made (Err NoMemory) k new before after h = (refl, h)
+memory_met answer shown made (Err ENOENT) k new before after h = h
+memory_met answer shown made (Err EPERM) k new before after h = h
+memory_met answer shown made (Err EBUSY) k new before after h = h
+memory_met answer shown made (Err EEXIST) k new before after h = h
+memory_met answer shown made (Err EINVAL) k new before after h = h
+memory_met answer shown made (Err EAGAIN) k new before after h = h
+memory_met answer shown made (Err ELOOP) k new before after h = h
+memory_met answer shown made (Err ENAMETOOLONG) k new before after h = h
+memory_met answer shown made (Err ENOSPC) k new before after h = h
+memory_met answer shown made (Err NotReleased) k new before after h = h
+memory_met answer shown made (Err Stranger) k new before after h = h
+
+memory_fails : (o : Outcome) (base : KernelState) (r : Result Begun Errno) (k new : KernelState) (before after : List Obs) → Meets (Fails NoMemory) r k new before after → Meets (or_failed o base) r k new before after
+memory_fails (Goes answer shown made) base r k new before after h = memory_met answer shown made r k new before after h
+memory_fails (Fails e) base r k new before after h = memory_met (Failed e) [] base r k new before after h
+
+fallen_fails : (e : Errno) (base : KernelState) (r : Result Begun Errno) (k new : KernelState) (before after : List Obs) → Meets (fallen e base) r k new before after → Meets (failed e base) r k new before after
+fallen_fails NoMemory base r k new before after h = memory_met (Failed NoMemory) [] base r k new before after h
+fallen_fails ENOENT base r k new before after h = h
+fallen_fails EPERM base r k new before after h = h
+fallen_fails EBUSY base r k new before after h = h
+fallen_fails EEXIST base r k new before after h = h
+fallen_fails EINVAL base r k new before after h = h
+fallen_fails EAGAIN base r k new before after h = h
+fallen_fails ELOOP base r k new before after h = h
+fallen_fails ENAMETOOLONG base r k new before after h = h
+fallen_fails ENOSPC base r k new before after h = h
+fallen_fails NotReleased base r k new before after h = h
+fallen_fails Stranger base r k new before after h = h
+
+falls_by : (o : Outcome) (e : Errno) (base : KernelState) (r : Result Begun Errno) (k new : KernelState) (before after : List Obs) → (e ≡ NoMemory) ⊎ (o ≡ Fails e) → Meets (fallen e base) r k new before after → Meets (or_failed o base) r k new before after
+falls_by o e base r k new before after (inl m) h =
+    memory_fails o base r k new before after (subst (λ (f : Errno). Meets (fallen f base) r k new before after) m h)
+falls_by o e base r k new before after (inr f) h =
+    subst (λ (p : Outcome). Meets (or_failed p base) r k new before after) (sym f) (fallen_fails e base r k new before after h)
+
+-- a walk that doesn't begin again fails
+falls : (o : Outcome) (e : Errno) (base : KernelState → KernelState) (r : Result Begun Errno) (k between new : KernelState) (before met after : List Obs) → Meets o (Err e) k between before met → Meets (fallen e (base between)) r between new met after → Meets (or_failed o (base k)) r k new before after
+falls o e base r k between new before met after h g =
+    let two = err_is o e k between before met h in
+    falls_by o e (base k) r k new before after two.1
+    (subst (λ (s : KernelState). Meets (fallen e (base s)) r s new before after) two.0.state
+    (subst (λ (xs : List Obs). Meets (fallen e (base between)) r between new xs after) two.0.seen g))
+
+-- one that does goes on
+goes : (o : Outcome) (base : KernelState) (begun : Begun) (k new : KernelState) (before after : List Obs) → Meets o (Ok begun) k new before after → Meets (or_failed o base) (Ok begun) k new before after
+goes (Goes answer shown made) base begun k new before after h = h
+goes (Fails e) base begun k new before after h = absurd h
+
+-- ---- again
+
+freed_same : (kind : TokenKind) (wait : WaitRow) (moment : ℕ) (k : KernelState) → freed_from kind wait moment k ≡ freed_as (waited_for kind wait.trigger) wait.walker moment k
+freed_same Missing wait moment k = refl
+freed_same Expire wait moment k = refl
+
+-- what a walk that begins again comes to
+again_is : (row : WalkRow) (wait : WaitRow) (pipe : PipeState) (k : KernelState) (moment : ℕ) → walk_in k.walks wait.walker ≡ Some row → nat_le most_begins row.begins ≡ false →
+    again_for (walk_in k.walks wait.walker) pipe k wait moment ≡ or_failed (begun_with (walk_of (scene_of k) row.ns row.path) pipe (freed_as (waited_on wait) wait.walker moment k) (next_begin row moment)) (freed_as (waited_on wait) wait.walker moment k)
+again_is row wait pipe k moment found few =
+    ap (λ (o : Option WalkRow). again_for o pipe k wait moment) found ∙
+    ap (λ (b : Bool). cond b (failed ELOOP (freed_from wait.kind wait moment k)) (or_failed (begun_with (walk_of (scene_of k) row.ns row.path) pipe (freed_from wait.kind wait moment k) (next_begin row moment)) (freed_from wait.kind wait moment k))) few ∙
+    ap (λ (base : KernelState). or_failed (begun_with (walk_of (scene_of k) row.ns row.path) pipe base (next_begin row moment)) base) (freed_same wait.kind wait moment k)
+
+abbrev begun_as : Begin → ℕ → Waited → PipeState → KernelState → Outcome
+begun_as begin walker waited pipe k = begun_with (walk_of (scene_of k) begin.ns begin.path) pipe (freed_as waited walker begin.moment k) begin
+
+same_outcome : (row : WalkRow) (wait : WaitRow) (begin : Begin) (waited : Waited) (pipe : PipeState) (k : KernelState) (moment : ℕ) → begin ≡ next_begin row moment → waited ≡ waited_on wait → walk_in k.walks wait.walker ≡ Some row →
+    begun_as begin begin.walker waited pipe k ≡ begun_as (next_begin row moment) wait.walker (waited_on wait) pipe k
+same_outcome row wait begin waited pipe k moment e w found =
+    ap (λ (b : Begin). begun_as b b.walker waited pipe k) e ∙
+    ap (λ (x : Waited). begun_as (next_begin row moment) row.walker x pipe k) w ∙
+    ap (λ (n : ℕ). begun_as (next_begin row moment) n (waited_on wait) pipe k) (found_number (λ (r : WalkRow). r.walker) wait.walker k.walks row found)
+
+pub again_goes : (row : WalkRow) (wait : WaitRow) (begin : Begin) (waited : Waited) (pipe : PipeState) (k new : KernelState) (moment : ℕ) (begun : Begun) (before after : List Obs) → begin ≡ next_begin row moment → waited ≡ waited_on wait → walk_in k.walks wait.walker ≡ Some row → nat_le most_begins row.begins ≡ false →
+    Meets (begun_with (walk_of (scene_of k) begin.ns begin.path) pipe (freed_as waited begin.walker begin.moment k) begin) (Ok begun) k new before after →
+    Meets (again_for (walk_in k.walks wait.walker) pipe k wait moment) (Ok begun) k new before after
+again_goes row wait begin waited pipe k new moment begun before after e w found few h =
+    subst (λ (o : Outcome). Meets o (Ok begun) k new before after) (sym (again_is row wait pipe k moment found few))
+    (goes (begun_as (next_begin row moment) wait.walker (waited_on wait) pipe k) (freed_as (waited_on wait) wait.walker moment k) begun k new before after
+    (subst (λ (o : Outcome). Meets o (Ok begun) k new before after) (same_outcome row wait begin waited pipe k moment e w found) h))
+
+pub again_falls : (row : WalkRow) (wait : WaitRow) (begin : Begin) (waited : Waited) (pipe : PipeState) (k between new : KernelState) (moment : ℕ) (errno : Errno) (r : Result Begun Errno) (before met after : List Obs) → begin ≡ next_begin row moment → waited ≡ waited_on wait → walk_in k.walks wait.walker ≡ Some row → nat_le most_begins row.begins ≡ false →
+    Meets (begun_with (walk_of (scene_of k) begin.ns begin.path) pipe (freed_as waited begin.walker begin.moment k) begin) (Err errno) k between before met →
+    Meets (fallen errno (freed_as waited wait.walker moment between)) r between new met after →
+    Meets (again_for (walk_in k.walks wait.walker) pipe k wait moment) r k new before after
+again_falls row wait begin waited pipe k between new moment errno r before met after e w found few h g =
+    subst (λ (o : Outcome). Meets o r k new before after) (sym (again_is row wait pipe k moment found few))
+    (falls (begun_as (next_begin row moment) wait.walker (waited_on wait) pipe k) errno (λ s. freed_as (waited_on wait) wait.walker moment s) r k between new before met after
+    (subst (λ (o : Outcome). Meets o (Err errno) k between before met) (same_outcome row wait begin waited pipe k moment e w found) h)
+    (subst (λ (x : Waited). Meets (fallen errno (freed_as x wait.walker moment between)) r between new met after) w g))
+
+-- ---- resuming
+
+pub resume_is : (pipe : PipeState) (k : KernelState) (walker moment : ℕ) (wait : WaitRow) (status : Status) → is_some (mount_of k.uses walker) ≡ false → wait_of k.waits.waits walker ≡ Some wait → wait.status ≡ Some status →
+    resume_outcome pipe k walker moment ≡ resumed_walk (walk_in k.walks walker) status pipe k wait moment
+resume_is pipe k walker moment wait status outside waits answered =
+    ap (λ (b : Bool). cond b (Fails EINVAL) (resumed_at (wait_of k.waits.waits walker) pipe k moment)) outside ∙
+    ap (λ (o : Option WaitRow). resumed_at o pipe k moment) waits ∙
+    ap (λ (o : Option Status). resumed_by o pipe k wait moment) answered ∙
+    ap (λ (n : ℕ). resumed_walk (walk_in k.walks n) status pipe k wait moment) (found_number (λ (row : WaitRow). row.walker) walker k.waits.waits wait waits)
+
+again_by : (o : Option WalkRow) (kind : TokenKind) (status : Status) (pipe : PipeState) (k : KernelState) (wait : WaitRow) (moment : ℕ) → ((kind ≡ Missing) × (status ≡ Ready)) ⊎ (kind ≡ Expire) → wait.kind ≡ kind → resumed_walk o status pipe k wait moment ≡ again_for o pipe k wait moment
+again_by None kind status pipe k wait moment which is = refl
+again_by (Some row) kind status pipe k wait moment (inl both) is =
+    let e : wait.kind ≡ Missing = is ∙ both.0 in
+    ap (λ (s : Status). resumed_as wait.kind s pipe k wait row moment) both.1 ∙ ap (λ (t : TokenKind). resumed_as t Ready pipe k wait row moment) e ∙ ap (λ (t : TokenKind). again pipe k (freed_from t wait moment k) row moment) (sym e)
+again_by (Some row) kind status pipe k wait moment (inr one) is =
+    let e : wait.kind ≡ Expire = is ∙ one in
+    ap (λ (t : TokenKind). resumed_as t status pipe k wait row moment) e ∙ ap (λ (t : TokenKind). again pipe k (freed_from t wait moment k) row moment) (sym e)
+
+-- after a mount that came, and after an expiry
+pub resume_again : (pipe : PipeState) (k : KernelState) (walker moment : ℕ) (wait : WaitRow) (status : Status) → is_some (mount_of k.uses walker) ≡ false → wait_of k.waits.waits walker ≡ Some wait → wait.status ≡ Some status → ((wait.kind ≡ Missing) × (status ≡ Ready)) ⊎ (wait.kind ≡ Expire) →
+    resume_outcome pipe k walker moment ≡ again_for (walk_in k.walks wait.walker) pipe k wait moment
+resume_again pipe k walker moment wait status outside waits answered which =
+    resume_is pipe k walker moment wait status outside waits answered ∙
+    again_by (walk_in k.walks walker) wait.kind status pipe k wait moment which refl ∙
+    ap (λ (n : ℕ). again_for (walk_in k.walks n) pipe k wait moment) (sym (found_number (λ (row : WaitRow). row.walker) walker k.waits.waits wait waits))
+
+-- after a mount that failed
+failed_by : (o : Option WalkRow) (status : Status) (pipe : PipeState) (k : KernelState) (wait : WaitRow) (moment : ℕ) → is_some o ≡ true → wait.kind ≡ Missing → status ≡ Fail → resumed_walk o status pipe k wait moment ≡ failed ENOENT (freed_as (waited_on wait) wait.walker moment k)
+failed_by None status pipe k wait moment there missing fail = absurd cc
+failed_by (Some row) status pipe k wait moment there missing fail =
+    ap (λ (s : Status). resumed_as wait.kind s pipe k wait row moment) fail ∙
+    ap (λ (t : TokenKind). resumed_as t Fail pipe k wait row moment) missing ∙
+    ap (λ (t : TokenKind). failed ENOENT (freed_from t wait moment k)) (sym missing) ∙
+    ap (λ (s : KernelState). failed ENOENT s) (freed_same wait.kind wait moment k)
+
+pub resume_failed : (pipe : PipeState) (k : KernelState) (walker moment : ℕ) (wait : WaitRow) (status : Status) → is_some (mount_of k.uses walker) ≡ false → wait_of k.waits.waits walker ≡ Some wait → wait.status ≡ Some status → is_some (walk_in k.walks walker) ≡ true → wait.kind ≡ Missing → status ≡ Fail →
+    resume_outcome pipe k walker moment ≡ failed ENOENT (freed_as OnMount walker moment k)
+resume_failed pipe k walker moment wait status outside waits answered there missing fail =
+    resume_is pipe k walker moment wait status outside waits answered ∙
+    failed_by (walk_in k.walks walker) status pipe k wait moment there missing fail ∙
+    ap (λ (n : ℕ). failed ENOENT (freed_as (waited_on wait) n moment k)) (found_number (λ (r : WaitRow). r.walker) walker k.waits.waits wait waits) ∙
+    ap (λ (t : TokenKind). failed ENOENT (freed_as (waited_for t wait.trigger) walker moment k)) missing
+
+pub copied_some : {X : Type 0} (o : Option (Bor X)) → is_some o ≡ true → is_some (option_copied o) ≡ true
+copied_some None h = absurd cc
+copied_some (Some x) h = refl
+
+nowhere : (o : Option ℕ) → is_some o ≡ false → o ≡ None
+nowhere None h = refl
+nowhere (Some n) h = absurd cc
+
+-- the walker of the wait is inside no mount
+pub resume_outside : (k : KernelState) (walker : ℕ) (wait : WaitRow) → is_some (mount_of k.uses walker) ≡ false → wait_of k.waits.waits walker ≡ Some wait → mount_of k.uses wait.walker ≡ None
+resume_outside k walker wait outside waits =
+    ap (mount_of k.uses) (found_number (λ (row : WaitRow). row.walker) walker k.waits.waits wait waits) ∙ nowhere (mount_of k.uses walker) outside
+
+free_by : (kind : TokenKind) (k : KernelState) (walker : ℕ) (wait : WaitRow) (status : Status) → wait_of k.waits.waits walker ≡ Some wait → wait.status ≡ Some status → IsFree (waited_for kind wait.trigger) walker k.waits
+free_by Missing k walker wait status waits answered = ap (λ (o : Option WaitRow). wait_refusal o) waits ∙ ap (λ (o : Option Status). status_refusal o) answered
+free_by Expire k walker wait status waits answered = ap (λ (o : Option WaitRow). wait_refusal o) waits ∙ ap (λ (o : Option Status). status_refusal o) answered
+
+-- the wait was released, so it can be collected
+pub resume_free : (k : KernelState) (walker : ℕ) (wait : WaitRow) (status : Status) → wait_of k.waits.waits walker ≡ Some wait → wait.status ≡ Some status → IsFree (waited_on wait) wait.walker k.waits
+resume_free k walker wait status waits answered =
+    subst (λ (n : ℕ). IsFree (waited_on wait) n k.waits) (sym (found_number (λ (row : WaitRow). row.walker) walker k.waits.waits wait waits)) (free_by wait.kind k walker wait status waits answered)

@@ -1,0 +1,97 @@
+-- A walker's wait is collected as its walk begins again.
+use Rattle.std.proofs.Common.{◌≡◌, ℕ, Bool, true, false, cond, not, ◌==◌, List, [], ◌∷◌, ◌++◌, Option, Some, None, Ok, Err, refl, sym, ap, subst, ◌∙◌}
+use Rattle.std.specs.Prelude.{filter, is_none}
+use Rattle.std.proofs.lemmas.List.{append_assoc}
+use Rattle.am_names.specs.declared.errno.Errno.{Errno}
+use Rattle.am_names.specs.declared.errno.Errno.TheVariants.{ENOSPC}
+use Rattle.am_names.specs.declared.trigger.Trigger.{Trigger}
+use Rattle.am_names.specs.declared.trigger.Status.{Status}
+use Rattle.am_names.specs.declared.row.WaitRow.{WaitRow}
+use Rattle.am_state.specs.declared.obs.Obs.{Obs}
+use Rattle.am_state.specs.declared.obs.Obs.TheVariants as seen
+use Rattle.am_wait.specs.Rows.{WaitRows, wait_of}
+use Rattle.am_wait.specs.Calls.{is_full, collected, still_waits, status_refusal, wait_refusal}
+use Rattle.am_wait.proofs.CallLemmas.{idle_collected}
+use Rattle.am_kernel.specs.declared.row.WalkRow.{WalkRow}
+use Rattle.am_kernel.specs.declared.begin.Waited.{Waited}
+use Rattle.am_kernel.specs.declared.begin.Waited.TheVariants.{Idle, OnMount, OnExpiry}
+use Rattle.am_kernel.specs.declared.begun.Begin.{Begin}
+use Rattle.am_kernel.specs.declared.begun.Begun.TheVariants.{Waits}
+use Rattle.am_kernel.specs.State.{KernelState}
+use Rattle.am_kernel.specs.Outcome.{Outcome, Meets}
+use Rattle.am_kernel.specs.Walks.{passes, walk_row, without_walk, with_walk, with_joined, joins}
+use Rattle.am_kernel.specs.Inside.{expired_uses, forgotten_waits, forgotten_walks, freed_as, IsFree}
+
+-- ---- what is collected
+
+pub free_collected : (waited : Waited) (walker : ℕ) (w : WaitRows) → IsFree waited walker w → forgotten_waits waited walker w ≡ collected walker w
+free_collected Idle walker w h = sym (idle_collected walker w h)
+free_collected OnMount walker w h = refl
+free_collected (OnExpiry trigger) walker w h = refl
+
+answered_waits : (o : Option Status) → status_refusal o ≡ None → is_none o ≡ false
+answered_waits None h = absurd cc
+answered_waits (Some status) h = refl
+
+answered : (o : Option WaitRow) → wait_refusal o ≡ None → still_waits o ≡ false
+answered None h = absurd cc
+answered (Some row) h = answered_waits row.status h
+
+-- a walker that is free waits no longer
+pub free_waits : (waited : Waited) (walker : ℕ) (w : WaitRows) → IsFree waited walker w → still_waits (wait_of w.waits walker) ≡ false
+free_waits Idle walker w h = rw h refl
+free_waits OnMount walker w h = answered (wait_of w.waits walker) h
+free_waits (OnExpiry trigger) walker w h = answered (wait_of w.waits walker) h
+
+-- who is taken out twice is taken out once
+taken_twice : (walker : ℕ) (walks : List WalkRow) → without_walk walker (without_walk walker walks) ≡ without_walk walker walks
+taken_twice walker [] = refl
+taken_twice walker (row ∷ walks) = by_test (row.walker == walker) refl (taken_twice walker walks)
+  where
+    by_test : (b : Bool) → (row.walker == walker) ≡ b → without_walk walker (without_walk walker walks) ≡ without_walk walker walks → without_walk walker (cond (not b) (row ∷ without_walk walker walks) (without_walk walker walks)) ≡ cond (not b) (row ∷ without_walk walker walks) (without_walk walker walks)
+    by_test true e later = later
+    by_test false e later = rw e (ap (λ (rows : List WalkRow). row ∷ rows) later)
+
+pub put_again : (waited : Waited) (begin : Begin) (walks : List WalkRow) → with_walk begin (forgotten_walks waited begin.walker walks) ≡ with_walk begin walks
+put_again Idle begin walks = refl
+put_again OnMount begin walks = ap (λ (rows : List WalkRow). rows ++ walk_row begin ∷ []) (taken_twice begin.walker walks)
+put_again (OnExpiry trigger) begin walks = ap (λ (rows : List WalkRow). rows ++ walk_row begin ∷ []) (taken_twice begin.walker walks)
+
+-- the kernel without the wait
+abbrev pub without_wait : Waited → ℕ → ℕ → KernelState → KernelState
+without_wait waited walker moment k = record k {
+  triggers = expired_uses waited moment k.triggers;
+  waits = collected walker k.waits;
+  walks = forgotten_walks waited walker k.walks;
+}
+
+pub free_kernel : (waited : Waited) (walker moment : ℕ) (k : KernelState) → IsFree waited walker k.waits → freed_as waited walker moment k ≡ without_wait waited walker moment k
+free_kernel waited walker moment k h =
+    ap (λ (w : WaitRows). record k { triggers = expired_uses waited moment k.triggers; waits = w; walks = forgotten_walks waited walker k.walks })
+    (free_collected waited walker k.waits h)
+
+-- ---- joining
+
+full_at : (base k : KernelState) (begin : Begin) (token : ℕ) (passed : List Trigger) (before : List Obs) → is_full base.waits ≡ true →
+    Meets (joins base begin token passed) (Err ENOSPC) k k before before
+full_at base k begin token passed before full = rw full (refl, record { state = refl; seen = refl })
+
+pub joins_full : (waited : Waited) (k : KernelState) (begin : Begin) (token : ℕ) (passed : List Trigger) (before : List Obs) → IsFree waited begin.walker k.waits → is_full (collected begin.walker k.waits) ≡ true →
+    Meets (joins (freed_as waited begin.walker begin.moment k) begin token passed) (Err ENOSPC) k k before before
+joins_full waited k begin token passed before free full =
+    full_at (freed_as waited begin.walker begin.moment k) k begin token passed before (ap is_full (free_collected waited begin.walker k.waits free) ∙ full)
+
+joins_from : (waited : Waited) (k new : KernelState) (begin : Begin) (token : ℕ) (passed : List Trigger) (before after : List Obs) → is_full (collected begin.walker k.waits) ≡ false →
+    new ≡ with_joined begin token passed (without_wait waited begin.walker begin.moment k) →
+    after ≡ (before ++ passes begin.walker passed) ++ seen.Waits begin.walker token ∷ [] →
+    Meets (joins (without_wait waited begin.walker begin.moment k) begin token passed) (Ok (Waits token)) k new before after
+joins_from waited k new begin token passed before after room state shown =
+    rw room (refl, record { state = state; seen = shown ∙ append_assoc before (passes begin.walker passed) _ })
+
+pub joins_as : (waited : Waited) (k new : KernelState) (begin : Begin) (token : ℕ) (passed : List Trigger) (before after : List Obs) → IsFree waited begin.walker k.waits → is_full (collected begin.walker k.waits) ≡ false →
+    new ≡ with_joined begin token passed (without_wait waited begin.walker begin.moment k) →
+    after ≡ (before ++ passes begin.walker passed) ++ seen.Waits begin.walker token ∷ [] →
+    Meets (joins (freed_as waited begin.walker begin.moment k) begin token passed) (Ok (Waits token)) k new before after
+joins_as waited k new begin token passed before after free room state shown =
+    subst (λ (base : KernelState). Meets (joins base begin token passed) (Ok (Waits token)) k new before after) (sym (free_kernel waited begin.walker begin.moment k free))
+    (joins_from waited k new begin token passed before after room state shown)

@@ -1,0 +1,12 @@
+pub mod State
+pub mod Sites
+pub mod Outcome
+pub mod Walks
+pub mod Resumes
+pub mod Requests
+pub mod Attachments
+pub mod Directories
+pub mod DaemonMounts
+pub mod Administration
+pub mod Namespaces
+pub mod Inside

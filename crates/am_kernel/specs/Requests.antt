@@ -1,0 +1,79 @@
+-- What the daemon asks of an attached file system (autofs.rst, "Communicating with autofs: root
+-- directory ioctls"), and how a walker leaves a mount.
+use Rattle.std.specs.Prelude.{ℕ, ◌==◌, Bool, true, false, not, List, [], ◌∷◌, map, filter, find, Option, Some, None, if◌then◌else◌}
+use Rattle.std.specs.Option.{option_map}
+use Rattle.am_names.specs.declared.errno.Errno.{Errno}
+use Rattle.am_names.specs.declared.errno.Errno.TheVariants.{EPERM, EINVAL}
+use Rattle.am_names.specs.declared.trigger.Status.{Status}
+use Rattle.am_state.specs.declared.obs.Obs.{Obs}
+use Rattle.am_state.specs.declared.obs.Obs.TheVariants as seen
+use Rattle.am_state.specs.declared.kernel_row.QueuedRow.{QueuedRow}
+use Rattle.am_wait.specs.Rows.{token_of, waiters_of}
+use Rattle.am_wait.specs.Calls.{answered}
+use Rattle.am_expire.specs.Uses.{mount_of, left}
+use Rattle.am_kernel.specs.declared.row.Attached.{Attached}
+use Rattle.am_kernel.specs.State.{KernelState}
+use Rattle.am_kernel.specs.Sites.{fs_of_attach, is_current}
+use Rattle.am_kernel.specs.Walks.{releases}
+
+-- ---- acknowledging a notification
+
+-- the file system of an open token
+abbrev pub token_fs : KernelState → ℕ → Option ℕ
+token_fs k token = option_map (λ row. row.trigger.fs) (token_of k.waits.tokens token)
+
+abbrev pub is_number : Option ℕ → ℕ → Bool
+is_number None n = false
+is_number (Some m) n = m == n
+
+abbrev pub answer_tests : Option ℕ → KernelState → ℕ → Option Errno
+answer_tests None k token = Some EPERM
+answer_tests (Some fs) k token = if is_number (token_fs k token) fs then None else Some EINVAL
+
+-- the attachment is current; the token is open, and of its file system
+abbrev pub answer_refusal : KernelState → ℕ → ℕ → Option Errno
+answer_refusal k attach token = answer_tests (fs_of_attach k attach) k token
+
+-- the token closes, and its waiters are released with the status
+abbrev pub acknowledged : ℕ → Status → KernelState → KernelState
+acknowledged token status k = record k { waits = answered token status k.waits }
+
+-- this is seen of it
+abbrev pub answering : ℕ → Status → KernelState → List Obs
+answering token status k =
+    seen.Answered token status ∷ releases token status (waiters_of k.waits.tokens token)
+
+-- ---- the timeout of an autofs
+
+-- the attachment is current for this file system
+abbrev pub timeout_refusal : KernelState → ℕ → ℕ → Option Errno
+timeout_refusal k attach fs = if is_current k fs attach then None else Some EPERM
+
+abbrev pub timeout_row : ℕ → ℕ → Attached → Attached
+timeout_row fs timeout row = if row.fs == fs then record row { timeout = timeout } else row
+
+abbrev pub with_timeout : ℕ → ℕ → KernelState → KernelState
+with_timeout fs timeout k = record k { attached = map (timeout_row fs timeout) k.attached }
+
+-- ---- the pipe
+
+abbrev pub queued_of : List QueuedRow → ℕ → Option QueuedRow
+queued_of queue token = find (λ row. row.token == token) queue
+
+-- the packet of this token has been read
+abbrev pub without_packet : ℕ → KernelState → KernelState
+without_packet token k =
+    record k { queue = filter (λ row. not (row.token == token)) k.queue }
+
+-- ---- leaving a mount
+
+abbrev pub leaving : Option ℕ → ℕ → List Obs
+leaving None walker = []
+leaving (Some mount) walker = seen.Left walker mount ∷ []
+
+-- this is seen of a walker that leaves
+abbrev pub leave_seen : KernelState → ℕ → List Obs
+leave_seen k walker = leaving (mount_of k.uses walker) walker
+
+abbrev pub without_use : ℕ → KernelState → KernelState
+without_use walker k = record k { uses = left walker k.uses }

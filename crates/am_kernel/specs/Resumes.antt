@@ -1,0 +1,98 @@
+-- A walker whose token was acknowledged goes on.
+use Rattle.std.specs.Prelude.{ℕ, ◌+◌, ◌==◌, nat_le, is_some, List, [], Option, Some, None, find, if◌then◌else◌}
+use Rattle.am_names.specs.declared.errno.Errno.{Errno}
+use Rattle.am_names.specs.declared.errno.Errno.TheVariants.{ENOENT, EINVAL, ELOOP, NotReleased}
+use Rattle.am_names.specs.declared.trigger.Status.{Status}
+use Rattle.am_names.specs.declared.trigger.Status.TheVariants.{Ready, Fail}
+use Rattle.am_names.specs.declared.trigger.PipeState.{PipeState}
+use Rattle.am_names.specs.declared.row.WaitRow.{WaitRow}
+use Rattle.am_names.specs.declared.row.TokenKind.{TokenKind}
+use Rattle.am_names.specs.declared.row.TokenKind.TheVariants.{Missing, Expire}
+use Rattle.am_trigger.specs.Rows.{used}
+use Rattle.am_wait.specs.Rows.{wait_of}
+use Rattle.am_wait.specs.Calls.{collected}
+use Rattle.am_kernel.specs.declared.row.WalkRow.{WalkRow}
+use Rattle.am_kernel.specs.declared.begun.Begin.{Begin}
+use Rattle.am_kernel.specs.declared.begun.Begun.TheVariants.{Failed}
+use Rattle.am_kernel.specs.State.{KernelState}
+use Rattle.am_kernel.specs.Outcome.{Outcome, Goes, Fails}
+use Rattle.am_expire.specs.Uses.{mount_of}
+use Rattle.am_walk.specs.Walks.{walk_of}
+use Rattle.am_kernel.specs.Sites.{scene_of}
+use Rattle.am_kernel.specs.Walks.{without_walk, begun_with}
+
+-- the walker's wait is collected, and the walker is idle
+abbrev pub freed : ℕ → KernelState → KernelState
+freed walker k = record k {
+  waits = collected walker k.waits;
+  walks = without_walk walker k.walks;
+}
+
+-- a wait on an expiry that is collected is a use of the trigger
+abbrev pub freed_from : TokenKind → WaitRow → ℕ → KernelState → KernelState
+freed_from Missing row moment k = freed row.walker k
+freed_from Expire row moment k =
+    record (freed row.walker k) { triggers = used row.trigger moment k.triggers }
+
+-- nothing is seen of it
+abbrev pub failed : Errno → KernelState → Outcome
+failed e k = Goes (Failed e) [] k
+
+abbrev pub or_failed : Outcome → KernelState → Outcome
+or_failed (Goes answer shown made) k = Goes answer shown made
+or_failed (Fails e) k = failed e k
+
+-- the most walks that one event of `walk` leads to (Linux: MAXSYMLINKS)
+abbrev pub most_begins : ℕ
+most_begins = 40
+
+-- the walk of a walker begins once more
+abbrev pub next_begin : WalkRow → ℕ → Begin
+next_begin row moment = record {
+  walker = row.walker;
+  ns = row.ns;
+  path = row.path;
+  begins = row.begins + 1;
+  moment = moment;
+}
+
+-- the walk begins again from its first name, but not the 41st time:
+-- own (docs/DECISIONS.md, "A walk begins again from its first name")
+-- What it meets is as before its wait was collected, in k; it goes on from base.
+abbrev pub again : PipeState → KernelState → KernelState → WalkRow → ℕ → Outcome
+again pipe k base row moment =
+    if nat_le most_begins row.begins then failed ELOOP base
+    else or_failed
+    (begun_with (walk_of (scene_of k) row.ns row.path) pipe base (next_begin row moment)) base
+
+-- after a mount that failed the walk fails; after one that came, and after an expiry, it begins again
+abbrev pub resumed_as : TokenKind → Status → PipeState → KernelState → WaitRow → WalkRow → ℕ → Outcome
+resumed_as Missing Fail pipe k wait row moment = failed ENOENT (freed_from Missing wait moment k)
+resumed_as Missing Ready pipe k wait row moment =
+    again pipe k (freed_from Missing wait moment k) row moment
+resumed_as Expire status pipe k wait row moment =
+    again pipe k (freed_from Expire wait moment k) row moment
+
+-- the walk that the walker began
+abbrev pub walk_in : List WalkRow → ℕ → Option WalkRow
+walk_in walks walker = find (λ row. row.walker == walker) walks
+
+abbrev pub resumed_walk : Option WalkRow → Status → PipeState → KernelState → WaitRow → ℕ → Outcome
+resumed_walk None status pipe k wait moment = Fails EINVAL
+resumed_walk (Some row) status pipe k wait moment =
+    resumed_as wait.kind status pipe k wait row moment
+
+abbrev pub resumed_by : Option Status → PipeState → KernelState → WaitRow → ℕ → Outcome
+resumed_by None pipe k wait moment = Fails NotReleased
+resumed_by (Some status) pipe k wait moment =
+    resumed_walk (walk_in k.walks wait.walker) status pipe k wait moment
+
+abbrev pub resumed_at : Option WaitRow → PipeState → KernelState → ℕ → Outcome
+resumed_at None pipe k moment = Fails EINVAL
+resumed_at (Some wait) pipe k moment = resumed_by wait.status pipe k wait moment
+
+-- the walker is inside no mount, and waits; its token was acknowledged
+abbrev pub resume_outcome : PipeState → KernelState → ℕ → ℕ → Outcome
+resume_outcome pipe k walker moment =
+    if is_some (mount_of k.uses walker) then Fails EINVAL
+    else resumed_at (wait_of k.waits.waits walker) pipe k moment

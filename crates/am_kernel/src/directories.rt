@@ -1,0 +1,88 @@
+//! The directories of indirect autofs file systems.
+
+ghost use Rattle.std.specs.Prelude.{◌≡◌, IfOk, OnOk, OnErr};
+ghost use Rattle.am_names.specs.Errno.{RefusedAs, RefusedOnlyAs};
+ghost use Rattle.am_names.specs.Path.{IsCanonical, names_of};
+ghost use Rattle.am_trigger.specs.Sites.{place_of};
+ghost use Rattle.am_kernel.specs.Directories.{is_indirect, directory_refusal, mkdir_refusal, with_directory, is_mountpoint, rmdir_refusal, without_directory};
+
+use crate::kernel::Kernel;
+use am_names::{Attach, Errno, Name, Place, Trigger};
+use std::alloc::{AllocError, Global};
+
+/// The place of a trigger in each mount of its file system.
+pub fn place_of(alloc: Global, trigger: &Trigger) -> Result<Place, AllocError>
+    ensures { IfOk result (λ place. place ≡ place_of trigger.now) }
+{
+    let mut place = Place::root(alloc);
+    if let Some(name) = &trigger.name {
+        place.push(name)?;
+    }
+    Ok(place)
+}
+
+impl Kernel {
+    /// Whether the trigger is a name in an indirect autofs.
+    pub fn is_indirect(&self, trigger: &Trigger) -> bool
+        ensures { result ≡ is_indirect self.now trigger.now }
+    {
+        match self.triggers.autofs(trigger.fs) {
+            Some(row) => !row.direct && trigger.name.is_some(),
+            None => false,
+        }
+    }
+
+    fn directory_refusal(&self, attach: Attach, trigger: &Trigger) -> Option<Errno>
+        ensures { result ≡ directory_refusal self.now attach trigger.now }
+    {
+        if !self.is_current(trigger.fs, attach) {
+            return Some(Errno::EPERM);
+        }
+        if !self.is_indirect(trigger) {
+            return Some(Errno::EINVAL);
+        }
+        None
+    }
+
+    /// Makes a directory for the daemon to mount on (autofs.rst, "Content").
+    pub fn mkdir(&mut self, attach: Attach, trigger: Trigger) -> Result<(), Errno>
+        ensures refusal { RefusedAs (mkdir_refusal self.old attach trigger) result }
+        ensures ok { OnOk result (self.new ≡ with_directory trigger self.old) }
+        ensures err { OnErr result (self.new ≡ self.old) }
+    {
+        if let Some(errno) = self.directory_refusal(attach, &trigger) {
+            return Err(errno);
+        }
+        self.triggers.mkdir(trigger)
+    }
+
+    /// Whether something is mounted on the trigger, at some mount of its file system. Its place is
+    /// told by its canonical text.
+    fn is_mountpoint(&self, trigger: &Trigger, place: &[u8]) -> bool
+        requires canonical { IsCanonical place.now }
+        requires place { names_of place.now ≡ place_of trigger.now }
+        ensures { result ≡ is_mountpoint self.now trigger.now }
+    {
+        let tree = self.subtree.tree();
+        tree.rows().iter().any(|row| row.fs == trigger.fs && tree.top(row.mount, place).is_some())
+    }
+
+    /// Removes a directory on which nothing is mounted.
+    pub fn rmdir(&mut self, alloc: Global, attach: Attach, trigger: &Trigger) -> Result<(), Errno>
+        ensures refusal { RefusedAs (rmdir_refusal self.old attach trigger.now) result }
+        ensures ok { OnOk result (self.new ≡ without_directory trigger.now self.old) }
+        ensures err { OnErr result (self.new ≡ self.old) }
+    {
+        if let Some(errno) = self.directory_refusal(attach, trigger) {
+            return Err(errno);
+        }
+        if !self.triggers.made(trigger) {
+            return Err(Errno::ENOENT);
+        }
+        let place = place_of(alloc, trigger)?;
+        if self.is_mountpoint(trigger, place.text()) {
+            return Err(Errno::EBUSY);
+        }
+        self.triggers.rmdir(trigger)
+    }
+}

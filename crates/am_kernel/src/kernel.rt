@@ -1,0 +1,170 @@
+//! The kernel's half of an automounter.
+
+ghost use Rattle.std.specs.Prelude.{◌≡◌, None, Ok, IfOk};
+ghost use Rattle.am_names.specs.Errno.{RefusedAs};
+ghost use Rattle.am_walk.specs.Walks.{fault_of};
+ghost use Rattle.am_kernel.specs.State.{initial};
+ghost use Rattle.am_kernel.specs.Sites.{is_live, latest_attach, attach_of, fs_of_attach, is_current, is_busy, position_at, is_on_autofs, is_root};
+
+use crate::row::{Attached, WalkRow};
+use am_expire::Uses;
+use am_names::{
+    AbsPath, Attach, Errno, FsId, Limits, MountId, NsId, Place, Position, WalkerId,
+    split_first_name,
+};
+use am_propagate::Subtree;
+use am_state::QueuedRow;
+use am_trigger::Triggers;
+use am_wait::Waits;
+use am_walk::position;
+use std::alloc::Global;
+use std::marker::Model;
+
+#[cfg(test)]
+mod tests;
+
+/// The mounts of all namespaces, the autofs file systems with their triggers, tokens and pipes,
+/// and the walkers.
+#[derive(Drop)]
+pub struct Kernel {
+    pub(crate) subtree: Subtree,
+    pub(crate) triggers: Triggers,
+    pub(crate) waits: Waits,
+    pub(crate) uses: Uses,
+    pub(crate) attached: Vec<Attached>,
+    pub(crate) walks: Vec<WalkRow>,
+    pub(crate) queue: Vec<QueuedRow>,
+    pub(crate) last_fs: u32,
+    pub(crate) last_attach: u32,
+}
+
+impl Model for Kernel {
+    ghost use Rattle.am_kernel.specs.State.{KernelState};
+
+    ghost Value = { KernelState };
+
+    ghost use Rattle.am_kernel.specs.Inside.{kernel_of, IsSound};
+
+    ghost view = { kernel_of };
+
+    ghost invariant = { λ k. IsSound (kernel_of k) };
+}
+
+/// Whether the place is a mount's root.
+pub fn is_root(place: &Place) -> bool
+    ensures { result ≡ is_root place.now }
+{
+    split_first_name(place.text()).is_none()
+}
+
+impl Kernel {
+    /// Namespace 0 with its root; nothing is attached, and nobody walks.
+    pub fn new(alloc: Global, limits: Limits) -> Result<Kernel, Errno>
+        ensures refusal { RefusedAs None result }
+        ensures ok { IfOk result (λ kernel. kernel ≡ initial limits) }
+    {
+        Ok(Kernel {
+            subtree: Subtree::new(alloc, limits.mounts as u64)?,
+            triggers: Triggers::new(alloc),
+            waits: Waits::new(alloc, limits.waiters, limits.tokens),
+            uses: Uses::new(alloc),
+            attached: Vec::new(alloc),
+            walks: Vec::new(alloc),
+            queue: Vec::new(alloc),
+            last_fs: 1,
+            last_attach: 0,
+        })
+    }
+
+    /// The mounts of all namespaces.
+    pub fn subtree(&self) -> &Subtree
+        ensures { result.now ≡ self.now.table }
+    {
+        &self.subtree
+    }
+
+    /// The open tokens, and who waits on them.
+    pub fn waits(&self) -> &Waits
+        ensures { result.now ≡ self.now.waits }
+    {
+        &self.waits
+    }
+
+    /// The walkers that are inside mounts.
+    pub fn uses(&self) -> &Uses
+        ensures { result.now ≡ self.now.uses }
+    {
+        &self.uses
+    }
+
+    /// Whether a daemon is attached: the autofs isn't catatonic (autofs.rst, "Catatonic mode").
+    pub fn is_live(&self, fs: FsId) -> bool
+        ensures { result ≡ is_live self.now fs }
+    {
+        match self.triggers.autofs(fs) {
+            Some(row) => !row.catatonic,
+            None => false,
+        }
+    }
+
+    fn latest_attach(&self, fs: FsId) -> Option<Attach>
+        ensures { result ≡ latest_attach self.now.attached fs }
+    {
+        let row = self.attached.iter().find(|row| row.fs == fs)?;
+        Some(row.attach)
+    }
+
+    /// The attachment of this file system, while a daemon is attached.
+    pub fn attach_of(&self, fs: FsId) -> Option<Attach>
+        ensures { result ≡ attach_of self.now fs }
+    {
+        if self.is_live(fs) {
+            self.latest_attach(fs)
+        } else {
+            None
+        }
+    }
+
+    /// The file system of which this is the current attachment.
+    pub fn fs_of_attach(&self, attach: Attach) -> Option<FsId>
+        ensures { result ≡ fs_of_attach self.now attach }
+    {
+        let row = self
+            .attached
+            .iter()
+            .find(|row| row.attach == attach && self.is_live(row.fs))?;
+        Some(row.fs)
+    }
+
+    /// Whether this is the current attachment of this file system.
+    pub fn is_current(&self, fs: FsId, attach: Attach) -> bool
+        ensures { result ≡ is_current self.now fs attach }
+    {
+        self.attached.iter().any(|row| row.fs == fs && row.attach == attach && self.is_live(row.fs))
+    }
+
+    /// Whether the walker waits, or is inside a mount.
+    pub fn is_busy(&self, walker: WalkerId) -> bool
+        ensures { result ≡ is_busy self.now walker }
+    {
+        self.waits.wait_of(walker).is_some() || self.uses.mount_of(walker).is_some()
+    }
+
+    /// Where an administrator's path leads.
+    pub fn position(&self, alloc: Global, ns: NsId, path: &AbsPath) -> Result<Position, Errno>
+        ensures refusal { RefusedAs (fault_of (position_at self.now ns path.now)) result }
+        ensures ok { IfOk result (λ at. position_at self.now ns path.now ≡ Ok at) }
+    {
+        position(alloc, &self.subtree, &self.triggers, ns, path)
+    }
+
+    /// Whether the mount is one of an autofs.
+    pub fn is_on_autofs(&self, mount: MountId) -> bool
+        ensures { result ≡ is_on_autofs self.now mount }
+    {
+        match self.subtree.tree().row(mount) {
+            Some(row) => self.triggers.autofs(row.fs).is_some(),
+            None => false,
+        }
+    }
+}

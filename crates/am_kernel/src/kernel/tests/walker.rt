@@ -1,0 +1,167 @@
+//! What a walker does is tested in order: in each table a line fails one test more than the next.
+
+use super::answer::Answer;
+use super::call::Call;
+use super::look::Look;
+use super::script::{Step, World, limits, plays_both};
+use super::sight::Sight;
+use super::trap::Trap;
+use am_names::{Errno, PipeState, Status};
+use am_wire::Kind;
+use std::alloc::Global;
+use std::process::Abort;
+use std::test::Fail;
+
+const HOME: Trap = Trap(2, b"home");
+
+/// Walker 7 waits on the first token.
+static WAITS: [Step; 3] = [
+    Step::Time(10),
+    Step::Makes(
+        Call::Indirect(b"/auto"),
+        Answer::Attached(2, 1, 2),
+        &[Sight::Mounted(&[2])],
+    ),
+    Step::Makes(
+        Call::Walk(7, 0, b"/auto/home"),
+        Answer::Waits(1),
+        &[
+            Sight::Queued(1, 1, 7, Kind::MissingIndirect, b"home"),
+            Sight::Waits(7, 1),
+        ],
+    ),
+];
+
+/// There is one token, and one may wait.
+static ALL_TAKEN: [Step; 8] = [
+    Step::Pipe(PipeState::Full),
+    Step::Refused(Call::Walk(7, 9, b"/auto/next"), Errno::EINVAL),
+    Step::Refused(Call::Walk(8, 9, b"/auto/next"), Errno::ENOENT),
+    Step::Refused(Call::Walk(8, 0, b"/auto/next"), Errno::ENOSPC),
+    Step::Refused(Call::Walk(8, 0, b"/auto/home"), Errno::ENOSPC),
+    Step::Finds(Look::Idle(8)),
+    Step::Does(Call::Answer(1, 1, Status::Fail)),
+    Step::Refused(Call::Walk(8, 0, b"/auto/next"), Errno::ENOSPC),
+];
+
+#[test]
+fn walk_tests_for_busy_walkers_first_and_then_for_tokens(rt: HostRuntime) -> Result<(), Fail> {
+    plays_both(&rt, rt.alloc(), limits(9, 1, 1), &WAITS, &ALL_TAKEN)?;
+    Ok(())
+}
+
+/// One may wait; there are tokens. What was answered counts until it is collected.
+static ONE_MAY_WAIT: [Step; 12] = [
+    Step::Pipe(PipeState::Full),
+    Step::Refused(Call::Walk(8, 0, b"/auto/next"), Errno::ENOSPC),
+    Step::Refused(Call::Walk(8, 0, b"/auto/home"), Errno::ENOSPC),
+    Step::Does(Call::Answer(1, 1, Status::Fail)),
+    Step::Refused(Call::Walk(8, 0, b"/auto/next"), Errno::ENOSPC),
+    Step::Says(Call::Resume(7), Answer::Failed(Errno::ENOENT)),
+    Step::Refused(Call::Walk(8, 0, b"/auto/next"), Errno::EAGAIN),
+    Step::Finds(Look::Idle(8)),
+    Step::Pipe(PipeState::Room),
+    Step::Makes(
+        Call::Walk(8, 0, b"/auto/next"),
+        Answer::Waits(2),
+        &[
+            Sight::Queued(2, 1, 8, Kind::MissingIndirect, b"next"),
+            Sight::Waits(8, 2),
+        ],
+    ),
+    Step::Finds(Look::LastUse(HOME, 10)),
+    Step::Finds(Look::LastUse(Trap(2, b"next"), 10)),
+];
+
+#[test]
+fn walk_tests_for_waits_and_then_for_the_pipe(rt: HostRuntime) -> Result<(), Fail> {
+    plays_both(&rt, rt.alloc(), limits(9, 1, 9), &WAITS, &ONE_MAY_WAIT)?;
+    Ok(())
+}
+
+static RESUMES: [Step; 24] = [
+    Step::Refused(Call::Resume(8), Errno::EINVAL),
+    Step::Refused(Call::Leave(8), Errno::EINVAL),
+    Step::Makes(
+        Call::Walk(8, 0, b"/x"),
+        Answer::Arrived(1, b"/x"),
+        &[Sight::Entered(8, 1)],
+    ),
+    Step::Refused(Call::Resume(8), Errno::EINVAL),
+    Step::Refused(Call::Walk(8, 0, b"/x"), Errno::EINVAL),
+    Step::Leaves(8, 1),
+    Step::Refused(Call::Leave(8), Errno::EINVAL),
+    Step::Finds(Look::Idle(8)),
+    Step::Refused(Call::Leave(7), Errno::EINVAL),
+    Step::Refused(Call::Resume(7), Errno::NotReleased),
+    Step::Finds(Look::Waits(7, 1)),
+    Step::Does(Call::Answer(1, 1, Status::Fail)),
+    Step::Says(Call::Resume(7), Answer::Failed(Errno::ENOENT)),
+    Step::Refused(Call::Resume(7), Errno::EINVAL),
+    Step::Makes(
+        Call::Walk(7, 0, b"/auto/home"),
+        Answer::Waits(2),
+        &[
+            Sight::Queued(2, 1, 7, Kind::MissingIndirect, b"home"),
+            Sight::Waits(7, 2),
+        ],
+    ),
+    Step::Does(Call::Answer(1, 2, Status::Ready)),
+    Step::Makes(
+        Call::Resume(7),
+        Answer::Waits(3),
+        &[
+            Sight::Queued(3, 1, 7, Kind::MissingIndirect, b"home"),
+            Sight::Waits(7, 3),
+        ],
+    ),
+    Step::Does(Call::Mkdir(1, HOME)),
+    Step::Comes(Call::MountOn(1, HOME), 3, &[3]),
+    Step::Does(Call::Answer(1, 3, Status::Ready)),
+    Step::Time(20),
+    Step::Makes(
+        Call::Resume(7),
+        Answer::Arrived(3, b""),
+        &[Sight::Passed(7, HOME), Sight::Entered(7, 3)],
+    ),
+    Step::Finds(Look::LastUse(HOME, 20)),
+    Step::Leaves(7, 3),
+];
+
+#[test]
+fn resume_and_leave_test_in_order(rt: HostRuntime) -> Result<(), Fail> {
+    plays_both(&rt, rt.alloc(), limits(9, 9, 9), &WAITS, &RESUMES)?;
+    Ok(())
+}
+
+/// The token is acknowledged though nothing was mounted, and the walk begins again.
+fn begins_again(world: &mut World, alloc: Global, token: u32) -> bool {
+    let next = token.saturating_add(1);
+    let queued = Sight::Queued(next, 1, 7, Kind::MissingIndirect, b"home");
+    let sights = [queued, Sight::Waits(7, next)];
+    let ready = Call::Answer(1, token, Status::Ready);
+    world.makes(alloc, ready, Answer::Done, &[])
+        && world.makes(alloc, Call::Resume(7), Answer::Waits(next), &sights)
+}
+
+static FAILS_AT_LAST: [Step; 4] = [
+    Step::Does(Call::Answer(1, 40, Status::Ready)),
+    Step::Says(Call::Resume(7), Answer::Failed(Errno::ELOOP)),
+    Step::Finds(Look::Idle(7)),
+    Step::Finds(Look::Closed(40)),
+];
+
+fn walks_so_often(rt: &impl Abort, alloc: Global) -> Result<(), Errno> {
+    let mut world = World::new(alloc, limits(9, 9, 100))?;
+    world.plays(rt, alloc, &WAITS)?;
+    for token in 1..40 {
+        assert!(rt; begins_again(&mut world, alloc, token), "token {token}");
+    }
+    world.plays(rt, alloc, &FAILS_AT_LAST)
+}
+
+#[test]
+fn a_walk_begins_forty_times(rt: HostRuntime) -> Result<(), Fail> {
+    walks_so_often(&rt, rt.alloc())?;
+    Ok(())
+}

@@ -1,0 +1,22 @@
+//! The kernel's half of an automounter: walks, requests and mounts over many namespaces
+//! (autofs.rst, sharedsubtree.rst).
+#![tactic(auto)]
+
+mod administration;
+mod attachments;
+mod begin;
+pub mod begun;
+mod daemon_mounts;
+mod directories;
+pub mod kernel;
+mod namespaces;
+mod new_fs;
+mod packet;
+mod requests;
+pub mod row;
+mod walker;
+
+pub use begun::{Begin, Begun};
+pub use kernel::Kernel;
+pub use new_fs::NewAutofs;
+pub use row::{Attached, WalkRow};

@@ -1,0 +1,96 @@
+//! What the daemon asks of an attached file system, packets that are read, and walkers that leave.
+
+ghost use Rattle.std.specs.Prelude.{◌≡◌, ◌++◌, Some, map, IfOk, OnOk, OnErr};
+ghost use Rattle.am_names.specs.Errno.{RefusedAs, RefusedOnlyAs};
+ghost use Rattle.am_expire.specs.Uses.{leave_refusal, mount_of};
+ghost use Rattle.am_kernel.specs.Requests.{token_fs, answer_refusal, acknowledged, timeout_refusal, timeout_row, with_timeout, queued_of, without_packet, leave_seen, without_use};
+
+use crate::kernel::Kernel;
+use crate::row::Attached;
+use am_names::{Attach, Errno, FsId, MountId, Name, Status, Token, WalkerId};
+use am_state::{Obs, QueuedRow};
+
+fn timeout_row(row: Attached, fs: FsId, timeout: u32) -> Attached
+    ensures { result ≡ timeout_row fs timeout row }
+{
+    if row.fs == fs {
+        Attached { timeout, ..row }
+    } else {
+        row
+    }
+}
+
+fn set_timeout(rows: &mut [Attached], fs: FsId, timeout: u32)
+    ensures { rows.new ≡ map (timeout_row fs timeout) rows.old }
+{
+    for row in rows.iter_mut() {
+        *row = timeout_row(*row, fs, timeout);
+    }
+}
+
+impl Kernel {
+    fn token_fs(&self, token: Token) -> Option<FsId>
+        ensures { result ≡ token_fs self.now token }
+    {
+        let trigger = self.waits.trigger_of(token)?;
+        let _name: Option<Name> = trigger.name;
+        Some(trigger.fs)
+    }
+
+    /// The daemon acknowledges a notification: its token closes, and its waiters are released.
+    pub fn answer(&mut self, attach: Attach, token: Token, status: Status) -> Result<(), Errno>
+        ensures refusal { RefusedOnlyAs (answer_refusal self.old attach token) result }
+        ensures ok { OnOk result (self.new ≡ acknowledged token status self.old) }
+        ensures err { OnErr result (self.new ≡ self.old) }
+    {
+        let Some(fs) = self.fs_of_attach(attach) else {
+            return Err(Errno::EPERM);
+        };
+        if self.token_fs(token) != Some(fs) {
+            return Err(Errno::EINVAL);
+        }
+        self.waits.answer(token, status)
+    }
+
+    /// Sets the timeout of an autofs, in seconds (autofs.rst, "Mountpoint expiry").
+    pub fn set_timeout(&mut self, attach: Attach, fs: FsId, timeout: u32) -> Result<(), Errno>
+        ensures refusal { RefusedOnlyAs (timeout_refusal self.old attach fs) result }
+        ensures ok { OnOk result (self.new ≡ with_timeout fs timeout self.old) }
+        ensures err { OnErr result (self.new ≡ self.old) }
+    {
+        if !self.is_current(fs, attach) {
+            return Err(Errno::EPERM);
+        }
+        set_timeout(&mut self.attached, fs, timeout);
+        Ok(())
+    }
+
+    /// The packet of this token that is in a pipe.
+    pub fn queued(&self, token: Token) -> Option<QueuedRow>
+        ensures { result ≡ queued_of self.now.queue token }
+    {
+        self.queue.iter().copied().find(|row| row.token == token)
+    }
+
+    /// The packet of this token has been read, and is in no pipe any more.
+    pub fn take_packet(&mut self, token: Token)
+        ensures { self.new ≡ without_packet token self.old }
+    {
+        self.queue.retain(|row| row.token != token);
+    }
+
+    /// The walker leaves the mount that it is inside of.
+    pub fn leave(&mut self, walker: WalkerId, seen: &mut Vec<Obs>) -> Result<MountId, Errno>
+        ensures refusal { RefusedAs (leave_refusal walker self.old.uses) result }
+        ensures mount { IfOk result (λ mount. mount_of self.old.uses walker ≡ Some mount) }
+        ensures ok { OnOk result (self.new ≡ without_use walker self.old) }
+        ensures shown { OnOk result (seen.new.items ≡ seen.old.items ++ leave_seen self.old walker) }
+        ensures err { OnErr result (self.new ≡ self.old) }
+        ensures unseen { OnErr result (seen.new.items ≡ seen.old.items) }
+    {
+        seen.reserve(1)?;
+        let mount = self.uses.leave(walker)?;
+        seen.push_reserved(Obs::Left { walker, mount });
+        Ok(mount)
+    }
+}

@@ -1,0 +1,184 @@
+//! Walkers that walk, and that are taken up again.
+
+ghost use Rattle.std.specs.Prelude.{◌≡◌, ◌+◌, ◌<◌, IfOk, Some};
+ghost use Rattle.std.specs.Option.{option_copied};
+ghost use Rattle.am_kernel.specs.Outcome.{Meets};
+ghost use Rattle.am_kernel.specs.Walks.{first_begin, walk_outcome};
+ghost use Rattle.am_kernel.specs.Resumes.{failed, next_begin, walk_in, resume_outcome};
+ghost use Rattle.am_kernel.specs.Inside.{freed_as, waited_on, fallen, again_for, IsFree};
+ghost use Rattle.am_expire.specs.Uses.{mount_of};
+
+use crate::begin::{Waited, forget, forget_walk, touch_expired};
+use crate::begun::{Begin, Begun};
+use crate::kernel::Kernel;
+use crate::row::WalkRow;
+use am_names::{
+    AbsPath, Errno, NsId, PipeState, Place, Seconds, Status, TokenKind, WaitRow, WalkerId,
+};
+use am_state::Obs;
+use std::alloc::{AllocError, Global};
+
+/// The most walks that one call of `walk` leads to (Linux: MAXSYMLINKS).
+const MOST_BEGINS: u32 = 40;
+
+/// What a walker waited on.
+fn waited_on(wait: &WaitRow) -> Waited
+    ensures { result ≡ waited_on wait.now }
+{
+    match wait.kind {
+        TokenKind::Missing => Waited::OnMount,
+        TokenKind::Expire => Waited::OnExpiry {
+            trigger: wait.trigger,
+        },
+    }
+}
+
+impl WalkRow {
+    /// The walk begins once more.
+    fn next(&self, alloc: Global, moment: Seconds) -> Result<Begin, AllocError>
+        requires { self.now.begins < 4294967295 }
+        ensures { IfOk result (λ begin. begin ≡ next_begin self.now moment) }
+    {
+        Ok(Begin {
+            walker: self.walker,
+            ns: self.ns,
+            path: self.path.copy(alloc)?,
+            begins: self.begins + 1,
+            moment,
+        })
+    }
+}
+
+impl Kernel {
+    /// An idle walker walks from the root of a namespace along a path. The moment is the time in
+    /// seconds; the pipe is that of any autofs whose daemon is to be notified.
+    pub fn walk(
+        &mut self,
+        alloc: Global,
+        walker: WalkerId,
+        ns: NsId,
+        path: &AbsPath,
+        moment: Seconds,
+        pipe: PipeState,
+        seen: &mut Vec<Obs>,
+    ) -> Result<Begun, Errno>
+        ensures { Meets (walk_outcome pipe self.old (first_begin walker ns path.now moment)) result self.old self.new seen.old.items seen.new.items }
+    {
+        if self.is_busy(walker) {
+            return Err(Errno::EINVAL);
+        }
+        let begin = Begin {
+            walker,
+            ns,
+            path: Place::of(alloc, path.text())?,
+            begins: 1,
+            moment,
+        };
+        self.begin(alloc, begin, &Waited::Idle, pipe, seen)
+    }
+
+    fn walk_row(&self, walker: WalkerId) -> Option<&WalkRow>
+        ensures { option_copied result ≡ walk_in self.now.walks walker }
+    {
+        self.walks.iter().find(|row| row.walker == walker)
+    }
+
+    /// The walker's wait is collected, and its walk fails.
+    fn fail(
+        &mut self,
+        waited: &Waited,
+        walker: WalkerId,
+        moment: Seconds,
+        errno: Errno,
+        seen: &mut Vec<Obs>,
+    ) -> Result<Begun, Errno>
+        requires { IsFree waited.now walker self.old.waits }
+        ensures { Meets (failed errno (freed_as waited.now walker moment self.old)) result self.old self.new seen.old.items seen.new.items }
+    {
+        self.triggers.reserve_uses(1)?;
+        touch_expired(&mut self.triggers, waited, moment);
+        forget(&mut self.waits, waited, walker);
+        forget_walk(&mut self.walks, waited, walker);
+        let _seen = seen;
+        Ok(Begun::Failed(errno))
+    }
+
+    /// A walk that can't begin again fails; where memory ran out, nothing has come of it.
+    fn fall(
+        &mut self,
+        waited: &Waited,
+        walker: WalkerId,
+        moment: Seconds,
+        errno: Errno,
+        seen: &mut Vec<Obs>,
+    ) -> Result<Begun, Errno>
+        requires { IsFree waited.now walker self.old.waits }
+        ensures { Meets (fallen errno (freed_as waited.now walker moment self.old)) result self.old self.new seen.old.items seen.new.items }
+    {
+        match errno {
+            Errno::NoMemory => Err(Errno::NoMemory),
+            _ => self.fail(waited, walker, moment, errno, seen),
+        }
+    }
+
+    /// A walk begins again, but not the 41st time, and fails where it can't.
+    fn again(
+        &mut self,
+        alloc: Global,
+        wait: &WaitRow,
+        moment: Seconds,
+        pipe: PipeState,
+        seen: &mut Vec<Obs>,
+    ) -> Result<Begun, Errno>
+        requires outside { mount_of self.old.uses wait.now.walker ≡ None }
+        requires free { IsFree (waited_on wait.now) wait.now.walker self.old.waits }
+        ensures { Meets (again_for (walk_in self.old.walks wait.now.walker) pipe self.old wait.now moment) result self.old self.new seen.old.items seen.new.items }
+    {
+        let walker = wait.walker;
+        let waited = waited_on(wait);
+        let Some(row) = self.walk_row(walker) else {
+            return Err(Errno::EINVAL);
+        };
+        if MOST_BEGINS <= row.begins {
+            return self.fail(&waited, walker, moment, Errno::ELOOP, seen);
+        }
+        let begin = row.next(alloc, moment)?;
+        match self.begin(alloc, begin, &waited, pipe, seen) {
+            Ok(begun) => Ok(begun),
+            Err(errno) => self.fall(&waited, walker, moment, errno, seen),
+        }
+    }
+
+    /// A walker that was released goes on. After a mount that failed its walk fails; after one that
+    /// came, and after an expiry, it begins again.
+    pub fn resume(
+        &mut self,
+        alloc: Global,
+        walker: WalkerId,
+        moment: Seconds,
+        pipe: PipeState,
+        seen: &mut Vec<Obs>,
+    ) -> Result<Begun, Errno>
+        ensures { Meets (resume_outcome pipe self.old walker moment) result self.old self.new seen.old.items seen.new.items }
+    {
+        if self.uses.mount_of(walker).is_some() {
+            return Err(Errno::EINVAL);
+        }
+        let Some(wait) = self.waits.wait_of(walker) else {
+            return Err(Errno::EINVAL);
+        };
+        let Some(status) = wait.status else {
+            return Err(Errno::NotReleased);
+        };
+        if self.walk_row(walker).is_none() {
+            return Err(Errno::EINVAL);
+        }
+        match (wait.kind, status) {
+            (TokenKind::Missing, Status::Fail) => {
+                self.fail(&Waited::OnMount, walker, moment, Errno::ENOENT, seen)
+            }
+            (TokenKind::Missing, Status::Ready) => self.again(alloc, &wait, moment, pipe, seen),
+            (TokenKind::Expire, _) => self.again(alloc, &wait, moment, pipe, seen),
+        }
+    }
+}
