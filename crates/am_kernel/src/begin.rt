@@ -246,7 +246,7 @@ impl Kernel {
     }
 
     /// What is seen of a file system that becomes catatonic.
-    pub fn closing(&self, alloc: Global, fs: FsId) -> Result<Vec<Obs>, AllocError>
+    pub(crate) fn closing(&self, alloc: Global, fs: FsId) -> Result<Vec<Obs>, AllocError>
         ensures { IfOk result (λ v. v.items ≡ closing fs self.now) }
     {
         let mut shown = Vec::new(alloc);
@@ -260,7 +260,7 @@ impl Kernel {
     }
 
     /// The file system becomes catatonic (autofs.rst, "Catatonic mode").
-    pub fn close(&mut self, fs: FsId)
+    pub(crate) fn close(&mut self, fs: FsId)
         ensures { self.new ≡ closed fs self.old }
     {
         make_catatonic(&mut self.triggers, fs);
@@ -320,7 +320,7 @@ impl Kernel {
     }
 
     /// A walk begins.
-    pub fn begin(
+    pub(crate) fn begin(
         &mut self,
         alloc: Global,
         begin: Begin,

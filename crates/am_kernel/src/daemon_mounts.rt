@@ -105,7 +105,7 @@ impl Kernel {
     }
 
     /// Unmounts a mount with what was mounted with it, and tells all that went.
-    pub fn umount_mount(
+    pub(crate) fn umount_mount(
         &mut self,
         alloc: Global,
         mount: MountId,

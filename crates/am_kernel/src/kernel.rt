@@ -51,7 +51,7 @@ impl Model for Kernel {
 }
 
 /// Whether the place is a mount's root.
-pub fn is_root(place: &Place) -> bool
+pub(crate) fn is_root(place: &Place) -> bool
     ensures { result ≡ is_root place.now }
 {
     split_first_name(place.text()).is_none()

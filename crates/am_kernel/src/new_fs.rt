@@ -59,7 +59,7 @@ impl Kernel {
     }
 
     /// Mounts a new file system, which propagates. It tells the mount itself.
-    pub fn mount_new(
+    pub(crate) fn mount_new(
         &mut self,
         alloc: Global,
         at: &Position,
