@@ -1,25 +1,37 @@
 #!/usr/bin/env python3
-"""Writes a script of so many keys or lines, or the answers that it must get.
+"""Writes a script of so many keys, lines or copies, or the answers that it must get.
 
 usage: generate.py one-by-one|all-first KEYS script|answers
        generate.py map|master LINES script|answers
+       generate.py namespaces|peers N script|answers
 
 Key I is walked to by walker I, which waits on token I. Of a long map, or of a long master map with
 a map for each of its lines, the last line is attached, walked to and begun to be served, so that
-the answers tell whether it was read. The same arguments give the same bytes.
+the answers tell whether it was read. With N namespaces beside the first, or with N peers of a
+mount, TIMES mounts are made, each with N copies. The same arguments give the same bytes.
 """
 
 import sys
 
 SHAPES = ("one-by-one", "all-first")
 HEADS = ("map", "master")
+COPIES = ("namespaces", "peers")
+# So many mounts come with copies, whatever N is.
+TIMES = 10
+# By default no mount has a greater number.
+MOST_MOUNTS = 1000000
 
 
 def head(shape, keys):
+    if shape in COPIES and copied(shape, keys, TIMES) + keys > MOST_MOUNTS:
+        yield f"limits {copied(shape, keys, TIMES) + keys} 1024 4294967295"
     # By default 1024 walkers may wait at once.
     if shape == "all-first" and keys > 1024:
-        yield f"limits 1000000 {keys} 4294967295"
-    yield from one_map(keys, "")
+        yield f"limits {MOST_MOUNTS} {keys} 4294967295"
+    if shape == "peers":
+        yield "events"
+    else:
+        yield from one_map(TIMES if shape == "namespaces" else keys, "")
 
 
 def one_map(lines, options):
@@ -42,34 +54,65 @@ def attach():
     yield "attach /auto", "fs 2 attach 1 mount 2"
 
 
-def walk(i):
-    yield f"walk {i} 0 /auto/{name(i)} 100 room", f"wait {i}"
+def walk(i, ns=0):
+    yield f"walk {i} {ns} /auto/{name(i)} 100 room", f"wait {i}"
 
 
-def serve(i):
-    """The daemon serves token I by job I, which mounts mount I + 2, and walker I arrives."""
-    mount = i + 2
+def serve(i, mount, arrives):
+    """The daemon serves token I by job I, which makes this mount, and walker I arrives in that one."""
     yield f"deliver {i}", f"job {i}"
     yield f"act {i} ok", "did mkdir"
     yield f"act {i} ok", f"did mount {mount}"
     yield f"act {i} ok", "did record"
     yield f"act {i} ok", "did reply"
     yield f"record 2 {name(i)}", f"record mounted {mount}"
-    yield f"resume {i} 101 room", f"at {mount} /"
+    yield f"resume {i} 101 room", f"at {arrives} /"
+
+
+def copied(shape, n, i):
+    """The number of the mount that is the Ith with N copies, which have the numbers behind it."""
+    # Each namespace has two mounts before; or there are the root, a mount, and N binds of it.
+    before = 2 * (n + 1) if shape == "namespaces" else n + 2
+    return before + (i - 1) * (n + 1) + 1
+
+
+def first_events(shape, n):
+    """Each event that comes before those that are measured, with its answer."""
+    if shape == "namespaces":
+        yield "change 0 / shared", "ok"
+        yield from attach()
+        for ns in range(1, n + 1):
+            yield "nscopy 0", f"ns {ns}"
+    elif shape == "peers":
+        yield "mount 0 /a", "mount 2"
+        yield "change 0 /a shared", "ok"
+        for i in range(1, n + 1):
+            yield f"bind 0 /a /b{i}", f"mount {i + 2}"
+    else:
+        yield from attach()
 
 
 def events(shape, keys):
-    """Each event with its answer."""
-    yield from attach()
-    if shape == "one-by-one":
+    """Each event that is measured, with its answer."""
+    if shape == "namespaces":
+        # The mount at the daemon's is in namespace 0, and its Jth copy in namespace J.
+        for i in range(1, TIMES + 1):
+            ns = i % (keys + 1)
+            mount = copied(shape, keys, i)
+            yield from walk(i, ns)
+            yield from serve(i, mount, mount + ns)
+    elif shape == "peers":
+        for i in range(1, TIMES + 1):
+            yield f"mount 0 /a/x{i}", f"mount {copied(shape, keys, i)}"
+    elif shape == "one-by-one":
         for i in range(1, keys + 1):
             yield from walk(i)
-            yield from serve(i)
+            yield from serve(i, i + 2, i + 2)
     else:
         for i in range(1, keys + 1):
             yield from walk(i)
         for i in range(1, keys + 1):
-            yield from serve(i)
+            yield from serve(i, i + 2, i + 2)
 
 
 def long_master(lines):
@@ -94,20 +137,36 @@ def last_line(shape, lines):
     yield "act 1 ok", "did mkdir"
 
 
-def script(shape, keys):
+def played(shape, keys):
+    """Each event with its answer."""
+    if shape in HEADS:
+        yield from last_line(shape, keys)
+    else:
+        yield from first_events(shape, keys)
+        yield from events(shape, keys)
+
+
+def script_of(shape, keys, pairs):
+    """The script that plays these events."""
     if shape in HEADS:
         yield from one_map(keys, "-fstype=nfs ") if shape == "map" else long_master(keys)
-        for event, _ in last_line(shape, keys):
-            yield event
-        return
-    yield from head(shape, keys)
-    for event, _ in events(shape, keys):
+    else:
+        yield from head(shape, keys)
+    for event, _ in pairs:
         yield event
 
 
-def answers(shape, keys):
-    for _, answer in last_line(shape, keys) if shape in HEADS else events(shape, keys):
+def answers_of(pairs):
+    for _, answer in pairs:
         yield answer
+
+
+def script(shape, keys):
+    yield from script_of(shape, keys, played(shape, keys))
+
+
+def answers(shape, keys):
+    yield from answers_of(played(shape, keys))
 
 
 def text(lines):
@@ -115,7 +174,7 @@ def text(lines):
 
 
 def main(words):
-    if len(words) != 3 or words[0] not in SHAPES + HEADS or not words[1].isdigit() \
+    if len(words) != 3 or words[0] not in SHAPES + HEADS + COPIES or not words[1].isdigit() \
             or words[2] not in ("script", "answers"):
         sys.exit(__doc__)
     tell = script if words[2] == "script" else answers

@@ -1,9 +1,9 @@
 #!/usr/bin/env python3
-"""Measures a built program and prints two tables.
+"""Measures a built program and prints three tables.
 
 usage: measure.py PROGRAM [RUNS [KEYS..]]
 
-The second table, of long heads, has the same sizes each time.
+The second table, of long heads, and the third, of mounts with copies, have the same sizes each time.
 
 Each run's answers are compared with those that the script must get. Where one line differs,
 nothing is printed for it, and the exit status is 1.
@@ -21,9 +21,11 @@ import generate
 RUNS = 15
 KEYS = (10, 100, 1000)
 LINES = {"map": (500, 5000, 50000), "master": (10, 100, 1000)}
+COPIES = (10, 100, 300)
 # Short runs are repeated so many times more often.
 SHORT = 10
-ATTACH = b"\nattach /auto\n"
+# Of more copies than that there is a single run, with none before it.
+MANY = 100
 
 
 def run(program, script, wrote):
@@ -53,16 +55,16 @@ def check(wrote, wanted):
     sys.exit(f"bench: wrong run: {len(got)} answers, and there must be {len(wanted)}")
 
 
-def medians(program, room, script, wanted, runs):
+def medians(program, room, script, wanted, runs, uncounted=1):
     source, wrote = os.path.join(room, "script"), os.path.join(room, "wrote")
     with open(source, "wb") as sink:
         sink.write(script)
     times = []
-    # Each run is checked; the first is not counted.
-    for at in range(runs + 1):
+    # Each run is checked; the first ones are not counted.
+    for at in range(uncounted + runs):
         took = run(program, source, wrote)
         check(wrote, wanted)
-        if at > 0:
+        if at >= uncounted:
             times.append(took)
     processor, clock = zip(*times)
     return statistics.median(processor), statistics.median(clock)
@@ -82,32 +84,45 @@ def main(words):
     program = words[0]
     runs = int(words[1]) if len(words) > 1 else RUNS
     sizes = [int(word) for word in words[2:]] or KEYS
-    row("shape", "keys", "events", "runs", "clock ms", "cpu ms", "head ms", "µs/event", "events/s", "growth")
-    row("---", *["---:"] * 9)
     with tempfile.TemporaryDirectory() as room:
+        top("shape", "keys")
         cpu, clock = medians(program, room, b"", b"", runs * SHORT)
-        cpu_of_empty = cpu
         row("empty", "0", "0", str(runs * SHORT), ms(clock), ms(cpu), "", "", "", "")
-        for shape in generate.SHAPES:
-            before = None
-            for keys in sizes:
-                again = runs * SHORT if keys <= 100 else runs
-                script = generate.text(generate.script(shape, keys))
-                wanted = generate.text(generate.answers(shape, keys))
-                begun = script[:script.index(ATTACH) + len(ATTACH)]
-                answer = wanted[:wanted.index(b"\n") + 1]
-                head, _ = medians(program, room, begun, answer, again)
-                cpu, clock = medians(program, room, script, wanted, again)
-                count = wanted.count(b"\n") - 1
-                each = (cpu - head) / count
-                # A run that isn't told from its head has no time of its own.
-                known = each > 0
-                row(shape, str(keys), str(count), str(again), ms(clock), ms(cpu), ms(head),
-                    f"{each * 1e6:.2f}" if known else "?",
-                    f"{1 / each:.0f}" if known else "?",
-                    f"{each / before:.1f}" if known and before else "")
-                before = each if known else None
-        heads(program, room, runs, cpu_of_empty)
+        shapes(program, room, runs, generate.SHAPES, sizes)
+        heads(program, room, runs, cpu)
+        print()
+        top("copies", "N")
+        shapes(program, room, runs, generate.COPIES, COPIES)
+
+
+def top(shape, size):
+    row(shape, size, "events", "runs", "clock ms", "cpu ms", "head ms", "µs/event", "events/s", "growth")
+    row("---", *["---:"] * 9)
+
+
+def shapes(program, room, runs, names, sizes):
+    for shape in names:
+        before = None
+        for size in sizes:
+            again, uncounted = runs * SHORT if size <= 100 else runs, 1
+            if shape in generate.COPIES:
+                again, uncounted = (runs, 1) if size <= MANY else (1, 0)
+            script = generate.text(generate.script(shape, size))
+            wanted = generate.text(generate.answers(shape, size))
+            first = list(generate.first_events(shape, size))
+            begun = generate.text(generate.script_of(shape, size, first))
+            answers = generate.text(generate.answers_of(first))
+            head, _ = medians(program, room, begun, answers, again)
+            cpu, clock = medians(program, room, script, wanted, again, uncounted)
+            count = wanted.count(b"\n") - len(first)
+            each = (cpu - head) / count
+            # A run that isn't told from its head has no time of its own.
+            known = each > 0
+            row(shape, str(size), str(count), str(again), ms(clock), ms(cpu), ms(head),
+                f"{each * 1e6:.2f}" if known else "?",
+                f"{1 / each:.0f}" if known else "?",
+                f"{each / before:.1f}" if known and before else "")
+            before = each if known else None
 
 
 def heads(program, room, runs, start_up):

@@ -1,17 +1,22 @@
 -- The least of some rows, and of those and one more.
-use Rattle.std.proofs.Common.{◌≡◌, ℕ, ◌+◌, ◌<◌, ◌≤◌, ◌&&◌, ◌||◌, ◌==◌, Bool, true, false, cond, nat_lt, List, [], ◌∷◌, ◌++◌, Option, Some, None, All, filter, length, get_or, refl, sym, ap, subst, ◌∙◌, arith, take_all, append-nil}
+use Rattle.std.proofs.Common.{◌≡◌, ℕ, ◌+◌, ◌<◌, ◌≤◌, ◌&&◌, ◌||◌, ◌==◌, Bool, true, false, cond, nat_lt, List, [], ◌∷◌, ◌++◌, Option, Some, None, All, filter, length, get_or, suc, zero, refl, sym, ap, subst, ◌∙◌, arith, take_all, append-nil}
 use Rattle.std.specs.declared.cmp.Ordering.{Ordering}
 use Rattle.std.specs.declared.cmp.Ordering.TheVariants.{Less, Equal, Greater}
 use Rattle.std.specs.Ordering.{is_lt, nat_cmp}
+use Rattle.std.specs.Prelude.{Contains, find, not}
+use Rattle.std.specs.Ordering.{ordering_reverse}
+use Rattle.std.specs.Option.{option_map}
 use Rattle.std.specs.Cmp.{IsTotalOrder, tied_itself}
 use Rattle.std.specs.Cmp.Lexicographic.{slice_cmp, nat_list_cmp_total, options_total}
 use Rattle.std.specs.Option.{option_cmp}
 use Rattle.std.specs.List.{slice_get}
 use Rattle.std.proofs.lemmas.Bool.Decides.{nat_tests}
-use Rattle.std.proofs.lemmas.List.Elements.{All-push, Contains-append_left, Contains-push, filter_more}
+use Rattle.std.proofs.lemmas.List.Sums.{AllPass-from_list_all, list_all-from_AllPass}
+use Rattle.std.proofs.lemmas.List.Elements.{All-push, All-contains, All-weaker, All-head, All-tail, Contains-get_or, Contains-append_left, Contains-push, filter_more, filter_passes}
+use Rattle.std.proofs.lemmas.Map.Lookups.{exact_bytes}
 use Rattle.std.proofs.lemmas.Option.{slice_get_within, get_or_from_slice_get, slice_get_cases}
 use Rattle.am_names.specs.declared.trigger.Trigger.{Trigger}
-use Rattle.am_expire.specs.Pick.{Expiry, is_eligible, is_lesser_name, comes_before, candidates, IsLeast}
+use Rattle.am_expire.specs.Pick.{Expiry, is_due, is_open, may_go, mount_on, is_eligible, is_lesser_name, comes_before, candidates, IsLeast, is_first, pick_of}
 use Rattle.am_expire.specs.Scan.{earlier, candidates_before, IsBest}
 
 names_total : IsTotalOrder (option_cmp (slice_cmp nat_cmp))
@@ -97,3 +102,94 @@ taken e index row best at eligible is =
 
 pub all_seen : (e : Expiry) (index : ℕ) (best : Option (Trigger × ℕ)) → length e.triggers.uses ≤ index → IsBest (candidates_before index e) best → IsBest (candidates e) best
 all_seen e index best le is = subst (λ (rows : List (Trigger × ℕ)). IsBest rows best) (past_end e index le) is
+
+-- ---- there is one least row
+
+by_equal : (x y : List ℕ) (r : Ordering) → slice_cmp nat_cmp x y ≡ r → is_lt r ≡ false → is_lt (slice_cmp nat_cmp y x) ≡ false → x ≡ y
+by_equal x y Less e f g = absurd cc
+by_equal x y Equal e f g = exact_bytes x y e
+by_equal x y Greater e f g = absurd (let h : slice_cmp nat_cmp y x ≡ Less = nat_list_cmp_total.antisymm y x ∙ ap ordering_reverse e in let i : is_lt (slice_cmp nat_cmp y x) ≡ true = ap is_lt h in cc)
+
+same_name : (a b : Option (List ℕ)) → is_lesser_name a b ≡ false → is_lesser_name b a ≡ false → a ≡ b
+same_name None None e f = refl
+same_name None (Some y) e f = absurd cc
+same_name (Some x) None e f = absurd cc
+same_name (Some x) (Some y) e f = ap Some (by_equal x y (slice_cmp nat_cmp x y) refl e f)
+
+same_moment : (s t : ℕ) (p q : Bool) → is_before s t p ≡ false → is_before t s q ≡ false → s ≡ t
+same_moment s t p q e f = grind (arith, nat_tests)
+
+lesser_no_more : (s t : ℕ) (p : Bool) → s ≡ t → is_before s t p ≡ false → p ≡ false
+lesser_no_more s t false same e = refl
+lesser_no_more s t true same e = absurd (grind (arith, nat_tests))
+
+-- of two rows of one file system that don't come before one another, both are the same
+same_row : (a b : Trigger × ℕ) → a.0.fs ≡ b.0.fs → comes_before a b ≡ false → comes_before b a ≡ false → a ≡ b
+same_row a b fs e f =
+    let last : a.1 ≡ b.1 = same_moment a.1 b.1 (is_lesser_name a.0.name b.0.name) (is_lesser_name b.0.name a.0.name) e f in
+    let name : a.0.name ≡ b.0.name = same_name a.0.name b.0.name (lesser_no_more a.1 b.1 (is_lesser_name a.0.name b.0.name) last e) (lesser_no_more b.1 a.1 (is_lesser_name b.0.name a.0.name) (sym last) f) in
+    let row : ℕ → Option (List ℕ) → ℕ → Trigger × ℕ = λ (n : ℕ) (o : Option (List ℕ)) (m : ℕ). (record { fs = n; name = o }, m) in
+    ap (λ (n : ℕ). row n a.0.name a.1) fs ∙ ap (λ (o : Option (List ℕ)). row b.0.fs o a.1) name ∙ ap (λ (m : ℕ). row b.0.fs b.0.name m) last
+
+not_true : (b : Bool) → b ≡ false → not b ≡ true
+not_true true e = absurd cc
+not_true false e = refl
+
+not_false : (b : Bool) → not b ≡ true → b ≡ false
+not_false true e = absurd cc
+not_false false e = refl
+
+first_of_least : (rows : List (Trigger × ℕ)) (row : Trigger × ℕ) → All (λ other. comes_before other row ≡ false) rows → is_first rows row ≡ true
+first_of_least rows row least =
+    list_all-from_AllPass (λ (other : Trigger × ℕ). not (comes_before other row)) rows
+    (All-weaker (λ (other : Trigger × ℕ). comes_before other row ≡ false) (λ (other : Trigger × ℕ). not (comes_before other row) ≡ true) (λ other h. not_true (comes_before other row) h) rows least)
+
+least_of_first : (rows : List (Trigger × ℕ)) (row : Trigger × ℕ) → is_first rows row ≡ true → All (λ other. comes_before other row ≡ false) rows
+least_of_first rows row first =
+    All-weaker (λ (other : Trigger × ℕ). not (comes_before other row) ≡ true) (λ (other : Trigger × ℕ). comes_before other row ≡ false) (λ other h. not_false (comes_before other row) h) rows
+    (AllPass-from_list_all (λ (other : Trigger × ℕ). not (comes_before other row)) rows first)
+
+-- the one row that passes the test is found
+find_only : {X : Type 0} (test : X → Bool) (rows : List X) (x : X) → Contains rows x → test x ≡ true → All (λ y. test y ≡ true → y ≡ x) rows → find test rows ≡ Some x
+find_only test [] x there passes only = absurd (let h : there.0 < 0 = there.1 in omega arith)
+find_only {X} test (row ∷ rows) x there passes only =
+    by_test (test row) refl (λ c. find_only test rows x c passes (All-tail (λ (y : X). test y ≡ true → y ≡ x) row rows only))
+  where
+    later : (k : ℕ) → k < length (row ∷ rows) → get_or (row ∷ rows) k x ≡ x → test row ≡ false → Contains rows x
+    later zero lt is e = absurd (let h : test row ≡ true = ap test is ∙ passes in cc)
+    later (suc k) lt is e = (k, (let h : suc k < suc (length rows) = lt in omega arith), is)
+
+    by_test : (b : Bool) → test row ≡ b → (Contains rows x → find test rows ≡ Some x) → cond b (Some row) (find test rows) ≡ Some x
+    by_test true e rest = ap Some (All-head (λ (y : X). test y ≡ true → y ≡ x) row rows only e)
+    by_test false e rest = rest (later there.0 there.1 there.2 e)
+
+same_number : (a b : ℕ) → (a == b) ≡ true → a ≡ b
+same_number a b e = grind (arith, nat_tests)
+
+first_true : (a b : Bool) → (a && b) ≡ true → a ≡ true
+first_true true b e = refl
+first_true false b e = absurd cc
+
+-- all candidates are of the file system
+of_fs : (e : Expiry) (row : Trigger × ℕ) → Contains (candidates e) row → row.0.fs ≡ e.fs
+of_fs e row there =
+    let one = row.0.fs == e.fs in
+    let due = is_due e.timeout e.moment e.immediate row.1 in
+    let shut = not (is_open e.waits row.0) in
+    let may = may_go e.table e.uses (mount_on e row.0) in
+    let all : is_eligible e row ≡ true = All-contains (λ (r : Trigger × ℕ). is_eligible e r ≡ true) (candidates e) row (filter_passes (is_eligible e) e.triggers.uses) there in
+    same_number row.0.fs e.fs (first_true one due (first_true (one && due) shut (first_true (one && due && shut) may all)))
+
+least_found : (e : Expiry) (best : Trigger × ℕ) → IsLeast (candidates e) best → find (is_first (candidates e)) (candidates e) ≡ Some best
+least_found e best least =
+    find_only (is_first (candidates e)) (candidates e) best least.0 (first_of_least (candidates e) best least.1) (λ k d lt first.
+    let row = get_or (candidates e) k d in
+    let there : Contains (candidates e) row = Contains-get_or (candidates e) k d lt in
+    same_row row best (of_fs e row there ∙ sym (of_fs e best least.0)) (least.1 k d lt)
+    (All-contains (λ (other : Trigger × ℕ). comes_before other row ≡ false) (candidates e) best (least_of_first (candidates e) row first) least.0))
+
+-- the least of the candidates is that of which the trigger is picked
+pub pick_exact : (e : Expiry) (best : Option (Trigger × ℕ)) → IsBest (candidates e) best → option_map (λ row. row.0) best ≡ pick_of e
+pick_exact e None none =
+    sym (ap (λ (rows : List (Trigger × ℕ)). option_map (λ (row : Trigger × ℕ). row.0) (find (is_first (candidates e)) rows)) none)
+pick_exact e (Some best) least = sym (ap (option_map (λ (row : Trigger × ℕ). row.0)) (least_found e best least))

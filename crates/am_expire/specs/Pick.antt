@@ -1,8 +1,9 @@
 -- Which trigger of an autofs expires next (autofs.rst, "Mountpoint expiry"; Linux:
 -- fs/autofs/expire.c).
-use Rattle.std.specs.Prelude.{◌≡◌, ℕ, ◌+◌, ◌==◌, ◌||◌, ◌&&◌, nat_lt, nat_le, Bool, false, not, is_some, is_none, List, [], filter, All, Contains, Option, Some, None}
+use Rattle.std.specs.Prelude.{◌≡◌, ℕ, ◌+◌, ◌==◌, ◌||◌, ◌&&◌, nat_lt, nat_le, Bool, false, not, is_some, is_none, List, [], filter, find, All, Contains, Option, Some, None}
+use Rattle.std.specs.List.{list_all}
 use Rattle.std.specs.Cmp.Lexicographic.{slice_cmp}
-use Rattle.std.specs.Option.{option_cmp}
+use Rattle.std.specs.Option.{option_cmp, option_map}
 use Rattle.std.specs.Ordering.{is_lt, nat_cmp}
 use Rattle.am_names.specs.declared.trigger.Trigger.{Trigger}
 use Rattle.am_names.specs.declared.row.TokenKind.TheVariants.{Missing, Expire}
@@ -85,3 +86,11 @@ IsLeast rows row = Contains rows row × All (λ other. comes_before other row �
 abbrev pub IsPick : Expiry → Option Trigger → Type 0
 IsPick e None = candidates e ≡ []
 IsPick e (Some trigger) = (last : ℕ) × IsLeast (candidates e) (trigger, last)
+
+-- none of these comes before it
+abbrev pub is_first : List (Trigger × ℕ) → Trigger × ℕ → Bool
+is_first rows row = list_all (λ other. not (comes_before other row)) rows
+
+-- the trigger of the candidate before which no other comes
+abbrev pub pick_of : Expiry → Option Trigger
+pick_of e = option_map (λ row. row.0) (find (is_first (candidates e)) (candidates e))

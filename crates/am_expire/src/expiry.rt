@@ -3,7 +3,7 @@
 ghost use Rattle.std.specs.Prelude.{◌≡◌, ◌+◌, None, IfOk};
 ghost use Rattle.am_names.specs.Errno.{RefusedAs};
 ghost use Rattle.am_trigger.specs.Sites.{place_of};
-ghost use Rattle.am_expire.specs.Pick.{Expiry, is_due, may_go, mount_on, is_open, is_eligible, candidates, is_lesser_name, comes_before, IsPick};
+ghost use Rattle.am_expire.specs.Pick.{Expiry, is_due, may_go, mount_on, is_open, is_eligible, candidates, is_lesser_name, comes_before, IsPick, pick_of};
 ghost use Rattle.am_expire.specs.Scan.{expiry_in, earlier, candidates_before, IsBest};
 
 use crate::uses::Uses;
@@ -184,6 +184,7 @@ pub fn pick(
 ) -> Result<Option<Trigger>, Errno>
     ensures refusal { RefusedAs None result }
     ensures ok { IfOk result (λ found. IsPick (record { table = subtree.now; triggers = triggers.now.rows; waits = waits.now; uses = uses.now; fs = fs; timeout = timeout; moment = moment; immediate = immediate }) found) }
+    ensures exact { IfOk result (λ found. found ≡ pick_of (record { table = subtree.now; triggers = triggers.now.rows; waits = waits.now; uses = uses.now; fs = fs; timeout = timeout; moment = moment; immediate = immediate })) }
 {
     let view = View {
         subtree,

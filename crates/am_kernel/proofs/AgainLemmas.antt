@@ -1,5 +1,5 @@
 -- A walk begins again.
-use Rattle.std.proofs.Common.{◌≡◌, ◌+◌, ℕ, Bool, true, false, cond, ◌==◌, List, [], ◌∷◌, ◌++◌, Option, Some, None, Result, Ok, Err, refl, sym, ap, subst, ◌∙◌, ◌⊎◌, inl, inr, Bor}
+use Rattle.std.proofs.Common.{◌≡◌, ℕ, Bool, true, false, cond, ◌==◌, List, [], ◌∷◌, Option, Some, None, Result, Ok, Err, refl, sym, ap, subst, ◌∙◌, ◌⊎◌, inl, inr, Bor}
 use Rattle.std.specs.Prelude.{find, is_some, nat_le}
 use Rattle.std.specs.Option.{option_copied}
 use Rattle.std.proofs.lemmas.Bool.Decides.{Decides-eqb}
@@ -21,12 +21,12 @@ use Rattle.am_kernel.specs.declared.begin.Waited.{Waited}
 use Rattle.am_kernel.specs.declared.begin.Waited.TheVariants.{OnMount}
 use Rattle.am_kernel.specs.declared.begun.Begin.{Begin}
 use Rattle.am_kernel.specs.declared.begun.Begun.{Begun}
-use Rattle.am_kernel.specs.declared.begun.Begun.TheVariants.{Failed}
+use Rattle.am_kernel.specs.declared.begun.Begun.TheVariants.{Failed, Expired}
 use Rattle.am_kernel.specs.State.{KernelState}
 use Rattle.am_kernel.specs.Sites.{scene_of}
 use Rattle.am_kernel.specs.Outcome.{Outcome, Goes, Fails, Meets, IsAsBefore}
 use Rattle.am_kernel.specs.Walks.{begun_with}
-use Rattle.am_kernel.specs.Resumes.{freed_from, failed, or_failed, most_begins, next_begin, again, walk_in, resumed_as, resumed_walk, resumed_by, resumed_at, resume_outcome}
+use Rattle.am_kernel.specs.Resumes.{freed_from, failed, or_failed, most_begins, next_begin, again, expired_as, told_as, walk_in, resumed_as, resumed_walk, resumed_by, resumed_at, resume_outcome}
 use Rattle.am_kernel.specs.Inside.{freed_as, waited_for, waited_on, again_for, fallen, IsFree}
 
 abbrev or_first : {X : Type 0} → X → Option X → X
@@ -165,22 +165,41 @@ resume_is pipe k walker moment wait status outside waits answered =
     ap (λ (o : Option Status). resumed_by o pipe k wait moment) answered ∙
     ap (λ (n : ℕ). resumed_walk (walk_in k.walks n) status pipe k wait moment) (found_number (λ (row : WaitRow). row.walker) walker k.waits.waits wait waits)
 
-again_by : (o : Option WalkRow) (kind : TokenKind) (status : Status) (pipe : PipeState) (k : KernelState) (wait : WaitRow) (moment : ℕ) → ((kind ≡ Missing) × (status ≡ Ready)) ⊎ (kind ≡ Expire) → wait.kind ≡ kind → resumed_walk o status pipe k wait moment ≡ again_for o pipe k wait moment
-again_by None kind status pipe k wait moment which is = refl
-again_by (Some row) kind status pipe k wait moment (inl both) is =
+again_by : (o : Option WalkRow) (kind : TokenKind) (status : Status) (pipe : PipeState) (k : KernelState) (wait : WaitRow) (moment : ℕ) → is_some o ≡ true → ((kind ≡ Missing) × (status ≡ Ready)) ⊎ (kind ≡ Expire) → wait.kind ≡ kind → resumed_walk o status pipe k wait moment ≡ again_for o pipe k wait moment
+again_by None kind status pipe k wait moment there which is = absurd cc
+again_by (Some row) kind status pipe k wait moment there (inl both) is =
     let e : wait.kind ≡ Missing = is ∙ both.0 in
     ap (λ (s : Status). resumed_as wait.kind s pipe k wait row moment) both.1 ∙ ap (λ (t : TokenKind). resumed_as t Ready pipe k wait row moment) e ∙ ap (λ (t : TokenKind). again pipe k (freed_from t wait moment k) row moment) (sym e)
-again_by (Some row) kind status pipe k wait moment (inr one) is =
+again_by (Some row) kind status pipe k wait moment there (inr one) is =
     let e : wait.kind ≡ Expire = is ∙ one in
     ap (λ (t : TokenKind). resumed_as t status pipe k wait row moment) e ∙ ap (λ (t : TokenKind). again pipe k (freed_from t wait moment k) row moment) (sym e)
 
 -- after a mount that came, and after an expiry
-pub resume_again : (pipe : PipeState) (k : KernelState) (walker moment : ℕ) (wait : WaitRow) (status : Status) → is_some (mount_of k.uses walker) ≡ false → wait_of k.waits.waits walker ≡ Some wait → wait.status ≡ Some status → ((wait.kind ≡ Missing) × (status ≡ Ready)) ⊎ (wait.kind ≡ Expire) →
+pub resume_again : (pipe : PipeState) (k : KernelState) (walker moment : ℕ) (wait : WaitRow) (status : Status) → is_some (mount_of k.uses walker) ≡ false → wait_of k.waits.waits walker ≡ Some wait → wait.status ≡ Some status → is_some (walk_in k.walks walker) ≡ true → ((wait.kind ≡ Missing) × (status ≡ Ready)) ⊎ (wait.kind ≡ Expire) →
     resume_outcome pipe k walker moment ≡ again_for (walk_in k.walks wait.walker) pipe k wait moment
-resume_again pipe k walker moment wait status outside waits answered which =
+resume_again pipe k walker moment wait status outside waits answered there which =
     resume_is pipe k walker moment wait status outside waits answered ∙
-    again_by (walk_in k.walks walker) wait.kind status pipe k wait moment which refl ∙
+    again_by (walk_in k.walks walker) wait.kind status pipe k wait moment there which refl ∙
     ap (λ (n : ℕ). again_for (walk_in k.walks n) pipe k wait moment) (sym (found_number (λ (row : WaitRow). row.walker) walker k.waits.waits wait waits))
+
+-- whoever has no walk asked for an expiry
+expiry_freed : (wait : WaitRow) (waited : Waited) (moment : ℕ) (k : KernelState) → wait.kind ≡ Expire → waited ≡ waited_on wait → freed_from Expire wait moment k ≡ freed_as waited wait.walker moment k
+expiry_freed wait waited moment k expire is =
+    freed_same Expire wait moment k ∙
+    ap (λ (t : TokenKind). freed_as (waited_for t wait.trigger) wait.walker moment k) (sym expire) ∙
+    ap (λ (w : Waited). freed_as w wait.walker moment k) (sym is)
+
+pub told_ready : (wait : WaitRow) (waited : Waited) (status : Status) (moment : ℕ) (k : KernelState) → wait.kind ≡ Expire → status ≡ Ready → waited ≡ waited_on wait → told_as wait.kind status k wait moment ≡ Goes Expired [] (freed_as waited wait.walker moment k)
+told_ready wait waited status moment k expire ready is =
+    ap (λ (t : TokenKind). told_as t status k wait moment) expire ∙
+    ap (λ (s : Status). expired_as s (freed_from Expire wait moment k)) ready ∙
+    ap (λ (s : KernelState). Goes Expired [] s) (expiry_freed wait waited moment k expire is)
+
+pub told_failed : (wait : WaitRow) (waited : Waited) (status : Status) (moment : ℕ) (k : KernelState) → wait.kind ≡ Expire → status ≡ Fail → waited ≡ waited_on wait → told_as wait.kind status k wait moment ≡ failed ENOENT (freed_as waited wait.walker moment k)
+told_failed wait waited status moment k expire fail is =
+    ap (λ (t : TokenKind). told_as t status k wait moment) expire ∙
+    ap (λ (s : Status). expired_as s (freed_from Expire wait moment k)) fail ∙
+    ap (λ (s : KernelState). failed ENOENT s) (expiry_freed wait waited moment k expire is)
 
 -- after a mount that failed
 failed_by : (o : Option WalkRow) (status : Status) (pipe : PipeState) (k : KernelState) (wait : WaitRow) (moment : ℕ) → is_some o ≡ true → wait.kind ≡ Missing → status ≡ Fail → resumed_walk o status pipe k wait moment ≡ failed ENOENT (freed_as (waited_on wait) wait.walker moment k)

@@ -1,8 +1,7 @@
 -- A walker's wait is collected as its walk begins again.
 use Rattle.std.proofs.Common.{◌≡◌, ℕ, Bool, true, false, cond, not, ◌==◌, List, [], ◌∷◌, ◌++◌, Option, Some, None, Ok, Err, refl, sym, ap, subst, ◌∙◌}
-use Rattle.std.specs.Prelude.{filter, is_none}
+use Rattle.std.specs.Prelude.{is_none}
 use Rattle.std.proofs.lemmas.List.{append_assoc}
-use Rattle.am_names.specs.declared.errno.Errno.{Errno}
 use Rattle.am_names.specs.declared.errno.Errno.TheVariants.{ENOSPC}
 use Rattle.am_names.specs.declared.trigger.Trigger.{Trigger}
 use Rattle.am_names.specs.declared.trigger.Status.{Status}
@@ -18,7 +17,7 @@ use Rattle.am_kernel.specs.declared.begin.Waited.TheVariants.{Idle, OnMount, OnE
 use Rattle.am_kernel.specs.declared.begun.Begin.{Begin}
 use Rattle.am_kernel.specs.declared.begun.Begun.TheVariants.{Waits}
 use Rattle.am_kernel.specs.State.{KernelState}
-use Rattle.am_kernel.specs.Outcome.{Outcome, Meets}
+use Rattle.am_kernel.specs.Outcome.{Meets}
 use Rattle.am_kernel.specs.Walks.{passes, walk_row, without_walk, with_walk, with_joined, joins}
 use Rattle.am_kernel.specs.Inside.{expired_uses, forgotten_waits, forgotten_walks, freed_as, IsFree}
 

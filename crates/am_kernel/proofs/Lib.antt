@@ -1,4 +1,5 @@
 pub mod AgainLemmas
+pub mod ExpireLemmas
 pub mod FreeLemmas
 pub mod MountLemmas
 pub mod NotifyLemmas

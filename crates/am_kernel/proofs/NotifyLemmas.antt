@@ -18,7 +18,7 @@ use Rattle.am_kernel.specs.State.{KernelState}
 use Rattle.am_kernel.specs.Sites.{attach_of}
 use Rattle.am_kernel.specs.Outcome.{Outcome, Fails, Meets}
 use Rattle.am_kernel.specs.Walks.{passes, packet_for, with_notified, notified, notifies, notifies_by}
-use Rattle.am_kernel.specs.Inside.{freed_as, forgotten_waits, IsFree}
+use Rattle.am_kernel.specs.Inside.{freed_as, IsFree}
 use Rattle.am_kernel.proofs.FreeLemmas.{free_collected, free_waits, free_kernel, without_wait}
 
 -- ---- a packet is queued
@@ -54,17 +54,17 @@ or_that e None = e
 refused : (k : KernelState) (before : List Obs) (e : Errno) → Some ENOSPC ≡ Some e → Meets (Fails ENOSPC) (Err e) k k before before
 refused k before e h = subst (λ (f : Errno). Meets (Fails ENOSPC) (Err f) k k before before) (ap (or_that e) h) (refl, record { state = refl; seen = refl })
 
-refused_by : (exhausted full : Bool) (rest : Outcome) (k : KernelState) (before : List Obs) (e : Errno) → cond exhausted (Some ENOSPC) (cond full (Some ENOSPC) None) ≡ Some e →
+pub refused_by : (exhausted full : Bool) (rest : Outcome) (k : KernelState) (before : List Obs) (e : Errno) → cond exhausted (Some ENOSPC) (cond full (Some ENOSPC) None) ≡ Some e →
     Meets (cond exhausted (Fails ENOSPC) (cond full (Fails ENOSPC) rest)) (Err e) k k before before
 refused_by true full rest k before e h = refused k before e h
 refused_by false true rest k before e h = refused k before e h
 refused_by false false rest k before e h = absurd cc
 
-after_wait : (still exhausted full : Bool) (o : Option Errno) → still ≡ false → cond still (Some EINVAL) (cond exhausted (Some ENOSPC) (cond full (Some ENOSPC) None)) ≡ o → cond exhausted (Some ENOSPC) (cond full (Some ENOSPC) None) ≡ o
+pub after_wait : (still exhausted full : Bool) (o : Option Errno) → still ≡ false → cond still (Some EINVAL) (cond exhausted (Some ENOSPC) (cond full (Some ENOSPC) None)) ≡ o → cond exhausted (Some ENOSPC) (cond full (Some ENOSPC) None) ≡ o
 after_wait true exhausted full o s h = absurd cc
 after_wait false exhausted full o s h = h
 
-none_used : (exhausted full : Bool) → cond exhausted (Some ENOSPC) (cond full (Some ENOSPC) None) ≡ None → (exhausted ≡ false) × (full ≡ false)
+pub none_used : (exhausted full : Bool) → cond exhausted (Some ENOSPC) (cond full (Some ENOSPC) None) ≡ None → (exhausted ≡ false) × (full ≡ false)
 none_used true full h = absurd cc
 none_used false true h = absurd cc
 none_used false false h = (refl, refl)

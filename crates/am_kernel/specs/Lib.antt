@@ -3,10 +3,13 @@ pub mod Sites
 pub mod Outcome
 pub mod Walks
 pub mod Resumes
+pub mod Expires
+pub mod Previews
 pub mod Requests
 pub mod Attachments
 pub mod Directories
 pub mod DaemonMounts
+pub mod Granted
 pub mod Administration
 pub mod Namespaces
 pub mod Inside

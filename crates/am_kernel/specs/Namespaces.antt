@@ -1,6 +1,6 @@
 -- Copies and drops of namespaces (sharedsubtree.rst, 7). What walkers, daemons and tokens do belongs
 -- to file systems, and isn't copied.
-use Rattle.std.specs.Prelude.{ℕ, List}
+use Rattle.std.specs.Prelude.{ℕ}
 use Rattle.am_propagate.specs.Namespaces.{with_copy}
 use Rattle.am_propagate.specs.Removed.{mounts_in}
 use Rattle.am_kernel.specs.State.{KernelState}

@@ -13,7 +13,7 @@ use Rattle.am_wait.specs.Rows.{wait_of}
 use Rattle.am_wait.specs.Calls.{collected}
 use Rattle.am_kernel.specs.declared.row.WalkRow.{WalkRow}
 use Rattle.am_kernel.specs.declared.begun.Begin.{Begin}
-use Rattle.am_kernel.specs.declared.begun.Begun.TheVariants.{Failed}
+use Rattle.am_kernel.specs.declared.begun.Begun.TheVariants.{Failed, Expired}
 use Rattle.am_kernel.specs.State.{KernelState}
 use Rattle.am_kernel.specs.Outcome.{Outcome, Goes, Fails}
 use Rattle.am_expire.specs.Uses.{mount_of}
@@ -73,12 +73,22 @@ resumed_as Missing Ready pipe k wait row moment =
 resumed_as Expire status pipe k wait row moment =
     again pipe k (freed_from Expire wait moment k) row moment
 
+-- whoever asked for an expiry is told how it went, and walks nowhere
+abbrev pub expired_as : Status → KernelState → Outcome
+expired_as Ready k = Goes Expired [] k
+expired_as Fail k = failed ENOENT k
+
+-- a walker that has no walk asked for an expiry: nobody waits on a mount without a walk
+abbrev pub told_as : TokenKind → Status → KernelState → WaitRow → ℕ → Outcome
+told_as Missing status k wait moment = Fails EINVAL
+told_as Expire status k wait moment = expired_as status (freed_from Expire wait moment k)
+
 -- the walk that the walker began
 abbrev pub walk_in : List WalkRow → ℕ → Option WalkRow
 walk_in walks walker = find (λ row. row.walker == walker) walks
 
 abbrev pub resumed_walk : Option WalkRow → Status → PipeState → KernelState → WaitRow → ℕ → Outcome
-resumed_walk None status pipe k wait moment = Fails EINVAL
+resumed_walk None status pipe k wait moment = told_as wait.kind status k wait moment
 resumed_walk (Some row) status pipe k wait moment =
     resumed_as wait.kind status pipe k wait row moment
 

@@ -2,7 +2,6 @@
 -- (autofs.rst, "Mount Traps" and "Communicating with autofs: the event pipe").
 use Rattle.std.specs.Prelude.{ℕ, ◌+◌, ◌==◌, Bool, true, not, is_none, List, [], ◌∷◌, ◌++◌, map, filter, Option, Some, None, if◌then◌else◌}
 use Rattle.std.specs.List.{flat_map}
-use Rattle.am_names.specs.declared.errno.Errno.{Errno}
 use Rattle.am_names.specs.declared.errno.Errno.TheVariants.{ENOENT, EINVAL, EAGAIN, ENOSPC}
 use Rattle.am_names.specs.declared.trigger.Trigger.{Trigger}
 use Rattle.am_names.specs.declared.trigger.Status.{Status}
@@ -26,7 +25,6 @@ use Rattle.am_walk.specs.declared.stop.Stop.TheVariants as stops
 use Rattle.am_walk.specs.Walks.{Walked, walk_of}
 use Rattle.am_kernel.specs.declared.row.WalkRow.{WalkRow}
 use Rattle.am_kernel.specs.declared.begun.Begin.{Begin}
-use Rattle.am_kernel.specs.declared.begun.Begun.{Begun}
 use Rattle.am_kernel.specs.declared.begun.Begun.TheVariants.{Arrived, Waits, Failed}
 use Rattle.am_kernel.specs.State.{KernelState}
 use Rattle.am_kernel.specs.Sites.{scene_of, attach_of, is_busy}

@@ -1,13 +1,14 @@
 //! Attachments that end and begin: catatonic mode, and a daemon that attaches again.
 
-ghost use Rattle.std.specs.Prelude.{◌≡◌, ◌+◌, false, map, IfOk, OnOk, OnErr};
+ghost use Rattle.std.specs.Prelude.{◌≡◌, ◌+◌, false, is_some, map, IfOk, OnOk, OnErr};
 ghost use Rattle.am_names.specs.Errno.{RefusedOnlyAs};
-ghost use Rattle.am_trigger.specs.Rows.{with_catatonic};
+ghost use Rattle.am_trigger.specs.Rows.{autofs_of, with_catatonic};
 ghost use Rattle.am_kernel.specs.Attachments.{catatonic_refusal, autofs_refusal, closed_if_live, closing_if_live, pipe_refusal, attached_row, with_pipe};
 ghost use Rattle.am_kernel.specs.Walks.{closed};
 
 use crate::kernel::Kernel;
 use crate::row::Attached;
+use crate::table::{refuse, table, tell};
 use am_names::{Attach, Errno, FsId};
 use am_state::Obs;
 use am_trigger::Triggers;
@@ -41,6 +42,13 @@ fn make_live(triggers: &mut Triggers, fs: FsId)
 }
 
 impl Kernel {
+    /// Whether the file system is an autofs, live or not.
+    pub(crate) fn is_autofs(&self, fs: FsId) -> bool
+        ensures { result ≡ is_some (autofs_of self.now.triggers fs) }
+    {
+        self.triggers.autofs(fs).is_some()
+    }
+
     /// What will be seen of `admin_catatonic`, and of `catatonic` where it isn't refused: they take no
     /// memory for that.
     pub fn closing_seen(&self, alloc: Global, fs: FsId) -> Result<Vec<Obs>, AllocError>
@@ -60,9 +68,7 @@ impl Kernel {
         ensures ok { OnOk result (self.new ≡ closed fs self.old) }
         ensures err { OnErr result (self.new ≡ self.old) }
     {
-        if !self.is_current(fs, attach) {
-            return Err(Errno::EPERM);
-        }
+        table!(refuse; catatonic(self, attach, fs));
         self.close(fs);
         Ok(())
     }
@@ -73,9 +79,7 @@ impl Kernel {
         ensures ok { OnOk result (self.new ≡ closed_if_live fs self.old) }
         ensures err { OnErr result (self.new ≡ self.old) }
     {
-        if self.triggers.autofs(fs).is_none() {
-            return Err(Errno::EINVAL);
-        }
+        table!(refuse; admin_catatonic(self, fs));
         if self.is_live(fs) {
             self.close(fs);
         }
@@ -86,15 +90,7 @@ impl Kernel {
     pub fn pipe_refusal(&self, fs: FsId) -> Option<Errno>
         ensures { result ≡ pipe_refusal self.now fs }
     {
-        if self.triggers.autofs(fs).is_none() {
-            return Some(Errno::EINVAL);
-        }
-        if self.is_live(fs) {
-            return Some(Errno::EBUSY);
-        }
-        if self.last_attach == u32::MAX {
-            return Some(Errno::ENOSPC);
-        }
+        table!(tell; set_pipe(self, fs));
         None
     }
 
@@ -105,9 +101,7 @@ impl Kernel {
         ensures ok { OnOk result (self.new ≡ with_pipe fs self.old) }
         ensures err { OnErr result (self.new ≡ self.old) }
     {
-        if let Some(errno) = self.pipe_refusal(fs) {
-            return Err(errno);
-        }
+        table!(refuse; set_pipe(self, fs));
         let attach = Attach(self.last_attach + 1);
         make_live(&mut self.triggers, fs);
         set_attach(&mut self.attached, fs, attach);

@@ -108,7 +108,7 @@ fn tell_passes(seen: &mut Vec<Obs>, walker: WalkerId, triggers: &[Trigger])
 }
 
 /// Tells which triggers a walk passed, that a packet is queued, and that the walker waits.
-fn tell_queued(seen: &mut Vec<Obs>, walker: WalkerId, passed: &[Trigger], queued: &QueuedRow)
+pub fn tell_queued(seen: &mut Vec<Obs>, walker: WalkerId, passed: &[Trigger], queued: &QueuedRow)
     requires { vec_len seen.old + length passed.now + 2 ≤ vec_capacity seen.old }
     ensures { seen.new.items ≡ seen.old.items ++ (passes walker passed.now ++ told.Queued queued.now.token queued.now.attach queued.now.packet ∷ told.Waits walker queued.now.token ∷ []) }
 {

@@ -31,7 +31,7 @@ impl Begin {
     }
 }
 
-/// How a walk goes on that began, or is taken up again.
+/// How a walk goes on that began, or is taken up again, and how an expiry goes on.
 #[derive(Debug, Drop)]
 pub enum Begun {
     /// It has arrived; the walker is inside the mount.
@@ -40,4 +40,6 @@ pub enum Begun {
     Waits(Token),
     /// It has failed; the walker is idle.
     Failed(Errno),
+    /// What was asked to expire has expired; the walker is idle.
+    Expired,
 }

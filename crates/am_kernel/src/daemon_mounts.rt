@@ -9,6 +9,7 @@ ghost use Rattle.am_kernel.specs.DaemonMounts.{coming, is_there, location_of, mo
 
 use crate::directories::place_of;
 use crate::kernel::Kernel;
+use crate::table::{refuse, table};
 use am_names::{Attach, Errno, FsId, MountId, MountRow, Mounts, Name, Position, Trigger};
 use am_state::Obs;
 use am_trigger::Autofs;
@@ -51,15 +52,9 @@ impl Kernel {
         ensures err { OnErr result (self.new ≡ self.old) }
         ensures unseen { OnErr result (seen.new.items ≡ seen.old.items) }
     {
-        let fs = trigger.fs;
-        if !self.is_current(fs, attach) {
-            return Err(Errno::EPERM);
-        }
-        if !self.is_there(trigger) {
-            return Err(Errno::ENOENT);
-        }
+        table!(refuse; mount_on(self, attach, trigger));
         let place = place_of(alloc, trigger)?;
-        let location = self.location_of(fs);
+        let location = self.location_of(trigger.fs);
         if self.subtree.tree().top(location, place.text()).is_some() {
             return Err(Errno::EBUSY);
         }
@@ -95,9 +90,7 @@ impl Kernel {
         ensures err { OnErr result (self.new ≡ self.old) }
         ensures unseen { OnErr result (seen.new.items ≡ seen.old.items) }
     {
-        if !self.is_current(trigger.fs, attach) {
-            return Err(Errno::EPERM);
-        }
+        table!(refuse; umount_from(self, attach, trigger));
         let Some(mount) = self.mounted_on(alloc, trigger)? else {
             return Err(Errno::ENOENT);
         };

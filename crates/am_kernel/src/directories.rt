@@ -4,9 +4,10 @@ ghost use Rattle.std.specs.Prelude.{◌≡◌, IfOk, OnOk, OnErr};
 ghost use Rattle.am_names.specs.Errno.{RefusedAs, RefusedOnlyAs};
 ghost use Rattle.am_names.specs.Path.{IsCanonical, names_of};
 ghost use Rattle.am_trigger.specs.Sites.{place_of};
-ghost use Rattle.am_kernel.specs.Directories.{is_indirect, directory_refusal, mkdir_refusal, with_directory, is_mountpoint, rmdir_refusal, without_directory};
+ghost use Rattle.am_kernel.specs.Directories.{is_indirect, mkdir_refusal, with_directory, is_mountpoint, rmdir_refusal, without_directory};
 
 use crate::kernel::Kernel;
+use crate::table::{refuse, table};
 use am_names::{Attach, Errno, Name, Place, Trigger};
 use std::alloc::{AllocError, Global};
 
@@ -32,27 +33,13 @@ impl Kernel {
         }
     }
 
-    fn directory_refusal(&self, attach: Attach, trigger: &Trigger) -> Option<Errno>
-        ensures { result ≡ directory_refusal self.now attach trigger.now }
-    {
-        if !self.is_current(trigger.fs, attach) {
-            return Some(Errno::EPERM);
-        }
-        if !self.is_indirect(trigger) {
-            return Some(Errno::EINVAL);
-        }
-        None
-    }
-
     /// Makes a directory for the daemon to mount on (autofs.rst, "Content").
     pub fn mkdir(&mut self, attach: Attach, trigger: Trigger) -> Result<(), Errno>
         ensures refusal { RefusedAs (mkdir_refusal self.old attach trigger) result }
         ensures ok { OnOk result (self.new ≡ with_directory trigger self.old) }
         ensures err { OnErr result (self.new ≡ self.old) }
     {
-        if let Some(errno) = self.directory_refusal(attach, &trigger) {
-            return Err(errno);
-        }
+        table!(refuse; mkdir(self, attach, &trigger));
         self.triggers.mkdir(trigger)
     }
 
@@ -73,12 +60,7 @@ impl Kernel {
         ensures ok { OnOk result (self.new ≡ without_directory trigger.now self.old) }
         ensures err { OnErr result (self.new ≡ self.old) }
     {
-        if let Some(errno) = self.directory_refusal(attach, trigger) {
-            return Err(errno);
-        }
-        if !self.triggers.made(trigger) {
-            return Err(Errno::ENOENT);
-        }
+        table!(refuse; rmdir(self, attach, trigger));
         let place = place_of(alloc, trigger)?;
         if self.is_mountpoint(trigger, place.text()) {
             return Err(Errno::EBUSY);

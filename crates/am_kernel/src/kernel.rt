@@ -20,9 +20,6 @@ use am_walk::position;
 use std::alloc::Global;
 use std::marker::Model;
 
-#[cfg(test)]
-mod tests;
-
 /// The mounts of all namespaces, the autofs file systems with their triggers, tokens and pipes,
 /// and the walkers.
 #[derive(Drop)]
@@ -95,6 +92,34 @@ impl Kernel {
         ensures { result.now ≡ self.now.uses }
     {
         &self.uses
+    }
+
+    /// The autofs file systems, the directories that daemons made, and the last uses.
+    pub fn triggers(&self) -> &Triggers
+        ensures { result.now.rows ≡ self.now.triggers }
+    {
+        &self.triggers
+    }
+
+    /// The timeout and the latest attachment of each autofs, in order of attaching.
+    pub fn attached(&self) -> &[Attached]
+        ensures { result.now ≡ self.now.attached }
+    {
+        self.attached.as_slice()
+    }
+
+    /// The walk that each waiting walker began, in order of waiting.
+    pub fn walks(&self) -> &[WalkRow]
+        ensures { result.now ≡ self.now.walks }
+    {
+        self.walks.as_slice()
+    }
+
+    /// The packets in the pipes, in order.
+    pub fn packets(&self) -> &[QueuedRow]
+        ensures { result.now ≡ self.now.queue }
+    {
+        self.queue.as_slice()
     }
 
     /// Whether a daemon is attached: the autofs isn't catatonic (autofs.rst, "Catatonic mode").

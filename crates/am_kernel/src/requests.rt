@@ -7,6 +7,7 @@ ghost use Rattle.am_kernel.specs.Requests.{token_fs, answer_refusal, acknowledge
 
 use crate::kernel::Kernel;
 use crate::row::Attached;
+use crate::table::{refuse, table};
 use am_names::{Attach, Errno, FsId, MountId, Name, Status, Token, WalkerId};
 use am_state::{Obs, QueuedRow};
 
@@ -43,12 +44,7 @@ impl Kernel {
         ensures ok { OnOk result (self.new ≡ acknowledged token status self.old) }
         ensures err { OnErr result (self.new ≡ self.old) }
     {
-        let Some(fs) = self.fs_of_attach(attach) else {
-            return Err(Errno::EPERM);
-        };
-        if self.token_fs(token) != Some(fs) {
-            return Err(Errno::EINVAL);
-        }
+        table!(refuse; answer(self, attach, token));
         self.waits.answer(token, status)
     }
 
@@ -58,9 +54,7 @@ impl Kernel {
         ensures ok { OnOk result (self.new ≡ with_timeout fs timeout self.old) }
         ensures err { OnErr result (self.new ≡ self.old) }
     {
-        if !self.is_current(fs, attach) {
-            return Err(Errno::EPERM);
-        }
+        table!(refuse; set_timeout(self, attach, fs));
         set_timeout(&mut self.attached, fs, timeout);
         Ok(())
     }

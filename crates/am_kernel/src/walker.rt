@@ -1,10 +1,10 @@
 //! Walkers that walk, and that are taken up again.
 
-ghost use Rattle.std.specs.Prelude.{◌≡◌, ◌+◌, ◌<◌, IfOk, Some};
+ghost use Rattle.std.specs.Prelude.{◌≡◌, ◌+◌, ◌<◌, [], IfOk, Some};
 ghost use Rattle.std.specs.Option.{option_copied};
-ghost use Rattle.am_kernel.specs.Outcome.{Meets};
+ghost use Rattle.am_kernel.specs.Outcome.{Meets, Goes};
 ghost use Rattle.am_kernel.specs.Walks.{first_begin, walk_outcome};
-ghost use Rattle.am_kernel.specs.Resumes.{failed, next_begin, walk_in, resume_outcome};
+ghost use Rattle.am_kernel.specs.Resumes.{failed, next_begin, told_as, walk_in, resume_outcome};
 ghost use Rattle.am_kernel.specs.Inside.{freed_as, waited_on, fallen, again_for, IsFree};
 ghost use Rattle.am_expire.specs.Uses.{mount_of};
 
@@ -77,10 +77,30 @@ impl Kernel {
         self.begin(alloc, begin, &Waited::Idle, pipe, seen)
     }
 
-    fn walk_row(&self, walker: WalkerId) -> Option<&WalkRow>
+    pub(crate) fn walk_row(&self, walker: WalkerId) -> Option<&WalkRow>
         ensures { option_copied result ≡ walk_in self.now.walks walker }
     {
         self.walks.iter().find(|row| row.walker == walker)
+    }
+
+    /// The walker's wait is collected, and it is idle.
+    fn end(
+        &mut self,
+        waited: &Waited,
+        walker: WalkerId,
+        moment: Seconds,
+        told: Begun,
+        seen: &mut Vec<Obs>,
+    ) -> Result<Begun, Errno>
+        requires { IsFree waited.now walker self.old.waits }
+        ensures { Meets (Goes told [] (freed_as waited.now walker moment self.old)) result self.old self.new seen.old.items seen.new.items }
+    {
+        self.triggers.reserve_uses(1)?;
+        touch_expired(&mut self.triggers, waited, moment);
+        forget(&mut self.waits, waited, walker);
+        forget_walk(&mut self.walks, waited, walker);
+        let _seen = seen;
+        Ok(told)
     }
 
     /// The walker's wait is collected, and its walk fails.
@@ -95,12 +115,31 @@ impl Kernel {
         requires { IsFree waited.now walker self.old.waits }
         ensures { Meets (failed errno (freed_as waited.now walker moment self.old)) result self.old self.new seen.old.items seen.new.items }
     {
-        self.triggers.reserve_uses(1)?;
-        touch_expired(&mut self.triggers, waited, moment);
-        forget(&mut self.waits, waited, walker);
-        forget_walk(&mut self.walks, waited, walker);
-        let _seen = seen;
-        Ok(Begun::Failed(errno))
+        self.end(waited, walker, moment, Begun::Failed(errno), seen)
+    }
+
+    /// A walker that has no walk asked for an expiry, and is told how it went.
+    fn tell(
+        &mut self,
+        wait: &WaitRow,
+        status: Status,
+        moment: Seconds,
+        seen: &mut Vec<Obs>,
+    ) -> Result<Begun, Errno>
+        requires { IsFree (waited_on wait.now) wait.now.walker self.old.waits }
+        ensures { Meets (told_as wait.now.kind status self.old wait.now moment) result self.old self.new seen.old.items seen.new.items }
+    {
+        let walker = wait.walker;
+        let expiry = waited_on(wait);
+        match (wait.kind, status) {
+            (TokenKind::Missing, _) => Err(Errno::EINVAL),
+            (TokenKind::Expire, Status::Ready) => {
+                self.end(&expiry, walker, moment, Begun::Expired, seen)
+            }
+            (TokenKind::Expire, Status::Fail) => {
+                self.fail(&expiry, walker, moment, Errno::ENOENT, seen)
+            }
+        }
     }
 
     /// A walk that can't begin again fails; where memory ran out, nothing has come of it.
@@ -150,7 +189,7 @@ impl Kernel {
     }
 
     /// A walker that was released goes on. After a mount that failed its walk fails; after one that
-    /// came, and after an expiry, it begins again.
+    /// came, and after an expiry, it begins again. Who asked for an expiry is told how it went.
     pub fn resume(
         &mut self,
         alloc: Global,
@@ -171,7 +210,7 @@ impl Kernel {
             return Err(Errno::NotReleased);
         };
         if self.walk_row(walker).is_none() {
-            return Err(Errno::EINVAL);
+            return self.tell(&wait, status, moment, seen);
         }
         match (wait.kind, status) {
             (TokenKind::Missing, Status::Fail) => {

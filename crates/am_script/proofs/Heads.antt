@@ -2,7 +2,7 @@
 use Rattle.std.proofs.Common.{◌≡◌, ◌⊎◌, ◌+◌, ℕ, List, [], ◌∷◌, length, drop, Option, Some, None, Result, Ok, Err, IfOk, IfErr, refl, sym, ap, subst, ◌∙◌, inl, inr, arith}
 use Rattle.std.specs.Io.KnownBytes.{Appends}
 use Rattle.std.proofs.lemmas.List.{drop-drop}
-use Rattle.am_world.specs.State.{State, Opening, opening_of}
+use Rattle.am_machine.specs.State.{State, Opening, opening_in, opening_of}
 use Rattle.am_script.specs.declared.fault.ScriptFault.{ScriptFault}
 use Rattle.am_script.specs.declared.fault.ScriptFaultKind.{ScriptFaultKind}
 use Rattle.am_script.specs.declared.fault.ScriptFaultKind.TheVariants.{NoMemory}
@@ -80,19 +80,19 @@ pub begins : (broke : Option ScriptFaultKind) (all : List (List ℕ)) (head next
 begins broke all head next number rest line lines opening left e t o =
     begun broke all head next number rest line lines left e t ∙ ap (λ (r : Result Opening ScriptFault). begun_by r (events_from broke (number + 1) lines)) o
 
-pub begun_played : (script : Script) (told : Told) (world : State) (old mid new : Option (List ℕ)) (r : Result Summary ScriptFault) → script ≡ record { opening = Some world.opening; told = told } → world ≡ opening_of world.opening → mid ≡ old →
+pub begun_played : (script : Script) (told : Told) (world : State) (old mid new : Option (List ℕ)) (r : Result Summary ScriptFault) → script ≡ record { opening = Some (opening_in world); told = told } → world ≡ opening_of (opening_in world) → mid ≡ old →
     IfOk r (AllAnswered world told mid new) → IfOk r (IsPlayed script old new)
 begun_played script told world old mid new (Ok summary) e w kept h =
     subst (λ (s : Script). IsPlayed s old new summary) (sym e) (subst (λ (s : State). AllAnswered s told old new summary) w (subst (λ (o : Option (List ℕ)). AllAnswered world told o new summary) kept h))
 begun_played script told world old mid new (Err fault) e w kept h = tt
 
-stopped_from : (script : Script) (told : Told) (world : State) (old new : Option (List ℕ)) (fault : ScriptFault) → script ≡ record { opening = Some world.opening; told = told } → world ≡ opening_of world.opening →
+stopped_from : (script : Script) (told : Told) (world : State) (old new : Option (List ℕ)) (fault : ScriptFault) → script ≡ record { opening = Some (opening_in world); told = told } → world ≡ opening_of (opening_in world) →
     played.RanOut old new fault ⊎ played.Stops world told old new fault → IsStopped script old new fault
 stopped_from script told world old new fault e w (inl none) = inl none
 stopped_from script told world old new fault e w (inr stops) =
     subst (λ (s : Script). IsStopped s old new fault) (sym e) (inr (subst (λ (s : State). played.Stops s told old new fault) w stops))
 
-pub begun_stopped : (script : Script) (told : Told) (world : State) (old mid new : Option (List ℕ)) (r : Result Summary ScriptFault) → script ≡ record { opening = Some world.opening; told = told } → world ≡ opening_of world.opening → mid ≡ old →
+pub begun_stopped : (script : Script) (told : Told) (world : State) (old mid new : Option (List ℕ)) (r : Result Summary ScriptFault) → script ≡ record { opening = Some (opening_in world); told = told } → world ≡ opening_of (opening_in world) → mid ≡ old →
     IfErr r (λ fault. played.RanOut mid new fault ⊎ played.Stops world told mid new fault) → IfErr r (IsStopped script old new)
 begun_stopped script told world old mid new (Ok summary) e w kept h = tt
 begun_stopped script told world old mid new (Err fault) e w kept h =

@@ -1,4 +1,7 @@
+pub mod AdministratorLines
 pub mod Answers
+pub mod DaemonLines
+pub mod EventWords
 pub mod Events
 pub mod Fault
 pub mod Head
@@ -13,4 +16,5 @@ pub mod Read
 pub mod Script
 pub mod Sections
 pub mod Turns
+pub mod WalkerLines
 pub mod Written

@@ -8,7 +8,7 @@ use Rattle.am_map.specs.declared.kind.MapKind.TheVariants as kinds
 use Rattle.am_master.specs.MasterRow.{MasterRow}
 use Rattle.am_master.specs.declared.point.Point.{Point}
 use Rattle.am_master.specs.declared.point.Point.TheVariants.{Direct, Indirect}
-use Rattle.am_world.specs.State.{Opening}
+use Rattle.am_machine.specs.State.{Opening}
 use Rattle.am_script.specs.declared.fault.ScriptFault.{ScriptFault}
 use Rattle.am_script.specs.declared.fault.ScriptFaultKind.TheVariants.{BadMap, NoSuchMap}
 use Rattle.am_script.specs.Sections.{Section}

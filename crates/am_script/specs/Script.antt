@@ -1,8 +1,8 @@
 -- What the whole text of a script says: the opening of its world, its events with their lines,
 -- and its first fault.
 use Rattle.std.specs.Prelude.{ℕ, ◌+◌, List, [], ◌∷◌, map, length, drop, Option, None, Some, Result, Ok, Err, if◌then◌else◌}
-use Rattle.am_world.specs.declared.event.Event.{Event}
-use Rattle.am_world.specs.State.{Opening}
+use Rattle.am_machine.specs.declared.event.Event.{Event}
+use Rattle.am_machine.specs.State.{Opening}
 use Rattle.am_script.specs.declared.fault.ScriptFault.{ScriptFault}
 use Rattle.am_script.specs.declared.fault.ScriptFaultKind.{ScriptFaultKind}
 use Rattle.am_script.specs.declared.fault.ScriptFaultKind.TheVariants.{BadSection, BadEvent, LongLine}

@@ -1,11 +1,11 @@
 -- One line of events is played.
 use Rattle.std.specs.Prelude.{◌≡◌, ℕ, ◌+◌, Bool, cond, List, [], take, Option, None, Some, Result, Ok, Err}
 use Rattle.std.specs.Io.KnownBytes.{Appends}
-use Rattle.am_world.specs.declared.event.Event.{Event}
-use Rattle.am_world.specs.declared.answer.Answer.{Answer}
+use Rattle.am_machine.specs.declared.event.Event.{Event}
+use Rattle.am_machine.specs.declared.answer.Answer.{Answer}
 use Rattle.am_state.specs.declared.obs.Obs.{Obs}
-use Rattle.am_world.specs.State.{State}
-use Rattle.am_world.specs.Machine.{Step}
+use Rattle.am_machine.specs.State.{State}
+use Rattle.am_machine.specs.Machine.{Step}
 use Rattle.am_script.specs.declared.fault.ScriptFaultKind.{ScriptFaultKind}
 use Rattle.am_script.specs.declared.play.Summary.{Summary}
 use Rattle.am_script.specs.Answers.{answer_line, is_refused}

@@ -2,10 +2,12 @@
 
 ghost use Rattle.std.specs.Prelude.{◌≡◌, ◌++◌, decimal, OnOk};
 ghost use Rattle.am_names.specs.Errno.{errno_number};
-ghost use Rattle.am_script.specs.Answers.{answer_text, answer_line, entry_text, record_text, place_text, is_refused};
+ghost use Rattle.am_script.specs.Answers.{answer_text, answer_line, kind_text, mounts_text, entry_text, record_text, place_text, is_refused};
 
-use am_names::{Errno, Place};
-use am_world::{Answer, Record};
+use am_group::Kind;
+use am_machine::Answer;
+use am_names::{Errno, Mounts, Place};
+use am_state::Record;
 use itoa::Buffer;
 use std::alloc::AllocError;
 
@@ -37,19 +39,34 @@ fn push_text(line: &mut Vec<u8>, answer: &Answer) -> Result<(), AllocError>
             push_number(line, b" attach ", u64::from(attach.0))?;
             push_number(line, b" mount ", mount.0)
         }
+        Answer::Mount { mount } => push_number(line, b"mount ", mount.0),
+        Answer::Gone { mounts } => {
+            line.extend_from_slice(b"gone")?;
+            push_mounts(line, mounts)
+        }
+        Answer::Done => line.extend_from_slice(b"ok"),
+        Answer::Kind { kind } => {
+            line.extend_from_slice(b"kind ")?;
+            push_kind(line, *kind)
+        }
+        Answer::Namespace { ns } => push_number(line, b"ns ", u64::from(ns.0)),
         Answer::At { position } => {
             push_number(line, b"at ", position.mount.0)?;
             line.extend_from_slice(b" ")?;
             push_place(line, &position.place)
         }
         Answer::Wait { token } => push_number(line, b"wait ", u64::from(token.0)),
+        Answer::Expired => line.extend_from_slice(b"expired"),
         Answer::Job { job } => push_number(line, b"job ", u64::from(job.0)),
         Answer::DidMkdir => line.extend_from_slice(b"did mkdir"),
         Answer::DidMount { mount } => push_number(line, b"did mount ", mount.0),
+        Answer::DidUmount => line.extend_from_slice(b"did umount"),
         Answer::DidRmdir => line.extend_from_slice(b"did rmdir"),
         Answer::DidRecord => line.extend_from_slice(b"did record"),
         Answer::DidReply => line.extend_from_slice(b"did reply"),
         Answer::FailedMount => line.extend_from_slice(b"failed mount"),
+        Answer::FailedUmount => line.extend_from_slice(b"failed umount"),
+        Answer::Reattached { attach } => push_number(line, b"attach ", u64::from(attach.0)),
         Answer::Record { entry } => {
             line.extend_from_slice(b"record ")?;
             push_entry(line, entry)
@@ -71,6 +88,27 @@ fn push_errno(line: &mut Vec<u8>, word: &[u8], errno: Errno) -> Result<(), Alloc
     ensures { OnOk result (line.new.items ≡ line.old.items ++ (word.now ++ decimal (errno_number errno))) }
 {
     push_number(line, word, u64::from(errno.number()))
+}
+
+fn push_mounts(line: &mut Vec<u8>, mounts: &Mounts) -> Result<(), AllocError>
+    ensures { OnOk result (line.new.items ≡ line.old.items ++ mounts_text mounts.now) }
+{
+    for mount in mounts.as_slice() {
+        push_number(line, b" ", mount.0)?;
+    }
+    Ok(())
+}
+
+fn push_kind(line: &mut Vec<u8>, kind: Kind) -> Result<(), AllocError>
+    ensures { OnOk result (line.new.items ≡ line.old.items ++ kind_text kind) }
+{
+    match kind {
+        Kind::Shared => line.extend_from_slice(b"shared"),
+        Kind::Slave => line.extend_from_slice(b"slave"),
+        Kind::SharedSlave => line.extend_from_slice(b"shared-slave"),
+        Kind::Private => line.extend_from_slice(b"private"),
+        Kind::Unbindable => line.extend_from_slice(b"unbindable"),
+    }
 }
 
 fn push_place(line: &mut Vec<u8>, place: &Place) -> Result<(), AllocError>

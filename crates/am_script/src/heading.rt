@@ -8,7 +8,7 @@ ghost use Rattle.am_script.specs.Head.{is_limits, master_in};
 ghost use Rattle.am_script.specs.Heading.{may_open, is_start};
 ghost use Rattle.am_script.specs.Lines.{words_of};
 
-use crate::event_line::is_word;
+use crate::event_word::is_word;
 use crate::fault::{ScriptFault, ScriptFaultKind, fault_at};
 use crate::limits::{default_limits, read_limits};
 use crate::line::{is_long, is_skipped, split_word};
@@ -61,7 +61,8 @@ impl Heading {
     ghost use Rattle.am_script.specs.Heading.{no_lines, line_taken, within_taken, outside_taken, alone_taken, opened, closed, limits_taken, taken_as, first_open, StopsAt};
     ghost use Rattle.am_script.specs.Limits.{limits_read};
     ghost use Rattle.am_script.specs.Maps.{opening_read};
-    ghost use Rattle.am_world.specs.State.{opening_of};
+    ghost use Rattle.am_machine.specs.State.{opening_in, opening_of};
+    ghost use Rattle.am_world.specs.Table.{state_of};
 
     /// Nothing is read yet.
     pub fn new(alloc: Global) -> Heading
@@ -206,8 +207,8 @@ impl Heading {
 
     /// The world that begins behind the line with this number.
     pub fn begin(self, alloc: Global, number: u64) -> Result<World, ScriptFault>
-        ensures opening { IfOk result (λ world. opening_read self.said ≡ Ok world.opening) }
-        ensures world { IfOk result (λ world. world ≡ opening_of world.opening) }
+        ensures opening { IfOk result (λ world. opening_read self.said ≡ Ok (opening_in (state_of world))) }
+        ensures world { IfOk result (λ world. state_of world ≡ opening_of (opening_in (state_of world))) }
         ensures err { IfErr result (λ fault. IsFaultOr fault (opening_read self.said)) }
     {
         let Heading {

@@ -2,19 +2,23 @@
 //! written for each answer.
 #![tactic(auto)]
 
+mod administrator_line;
 pub mod answer_line;
+mod daemon_line;
 pub mod event_line;
+mod event_word;
 pub mod fault;
-pub mod heading;
-pub mod input;
-pub mod limits;
-pub mod line;
-pub mod maps;
-pub mod number;
-pub mod output;
+mod heading;
+mod input;
+mod limits;
+mod line;
+mod maps;
+mod number;
+mod output;
 pub mod play;
-pub mod section;
-pub mod turn;
+mod section;
+mod turn;
+mod walker_line;
 
 pub use fault::{ScriptFault, ScriptFaultKind};
 pub use play::{Summary, run_script};

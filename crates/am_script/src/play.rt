@@ -5,6 +5,7 @@ ghost use Rattle.am_script.specs.Lines.{lines_of, lines_in, size_in};
 ghost use Rattle.am_script.specs.Read.{cut_kind};
 ghost use Rattle.am_script.specs.Script.{script_from, events_from};
 ghost use Rattle.am_script.specs.Played.{AllAnswered, Stops, RanOut, IsPlayed, IsStopped, PlaysInput, StopsInput, end_of_head};
+ghost use Rattle.am_world.specs.Table.{state_of};
 
 use crate::fault::{ScriptFault, ScriptFaultKind};
 use crate::heading::Heading;
@@ -102,8 +103,8 @@ fn play_events<W: Write>(
 ) -> Result<Summary, ScriptFault>
     requires { before + size_in (option_copied text) ≤ 2 ^ 63 }
     ensures whole { OnOk result (broke ≡ None) }
-    ensures ok { IfOk result (AllAnswered world (events_from broke before (lines_in (option_copied text.entry))) (W.contents writer.old) (W.contents writer.new)) }
-    ensures err { IfErr result (λ fault. RanOut (W.contents writer.old) (W.contents writer.new) fault ⊎ Stops world (events_from broke before (lines_in (option_copied text.entry))) (W.contents writer.old) (W.contents writer.new) fault) }
+    ensures ok { IfOk result (AllAnswered (state_of world) (events_from broke before (lines_in (option_copied text.entry))) (W.contents writer.old) (W.contents writer.new)) }
+    ensures err { IfErr result (λ fault. RanOut (W.contents writer.old) (W.contents writer.new) fault ⊎ Stops (state_of world) (events_from broke before (lines_in (option_copied text.entry))) (W.contents writer.old) (W.contents writer.new) fault) }
 {
     let Ok(mut buffer) = Vec::with_capacity(alloc, 8192) else {
         return Err(ScriptFault {

@@ -7,7 +7,7 @@ ghost use Rattle.am_script.specs.Head.{is_map};
 ghost use Rattle.am_script.specs.Lines.{words_of};
 ghost use Rattle.am_script.specs.Sections.{is_end, are_only, map_name, section_opened, with_line};
 
-use crate::event_line::is_word;
+use crate::event_word::is_word;
 use crate::fault::{ScriptFault, ScriptFaultKind, fault_at};
 use crate::line::split_word;
 use std::alloc::{AllocError, Global};

@@ -3,6 +3,7 @@
 ghost use Rattle.std.specs.Prelude.{◌≡◌, ◌+◌, ◌<◌, ◌≤◌, ◌^◌, IfOk, IfErr};
 ghost use Rattle.am_script.specs.Script.{line_read, event_or_fault};
 ghost use Rattle.am_script.specs.Turns.{IsAnswered, IsLost, TurnDone, TurnStopped, counted};
+ghost use Rattle.am_world.specs.Table.{state_of};
 
 use crate::answer_line::{is_refused, push_answer};
 use crate::event_line::read_event;
@@ -23,8 +24,8 @@ pub(crate) fn play_line<W: Write>(
     buffer: &mut Vec<u8>,
     writer: &mut W,
 ) -> Result<Option<bool>, ScriptFaultKind>
-    ensures ok { IfOk result (TurnDone world.old (line_read line.now) world.new (W.contents writer.old) (W.contents writer.new)) }
-    ensures err { IfErr result (TurnStopped world.old (line_read line.now) world.new (W.contents writer.old) (W.contents writer.new)) }
+    ensures ok { IfOk result (TurnDone (state_of world.old) (line_read line.now) (state_of world.new) (W.contents writer.old) (W.contents writer.new)) }
+    ensures err { IfErr result (TurnStopped (state_of world.old) (line_read line.now) (state_of world.new) (W.contents writer.old) (W.contents writer.new)) }
 {
     match read_line(line) {
         Ok(None) => Ok(None),
@@ -61,8 +62,8 @@ fn answer_event<W: Write>(
     buffer: &mut Vec<u8>,
     writer: &mut W,
 ) -> Result<bool, ScriptFaultKind>
-    ensures ok { IfOk result (IsAnswered world.old event.now world.new (W.contents writer.old) (W.contents writer.new)) }
-    ensures err { IfErr result (IsLost world.old event.now world.new (W.contents writer.old) (W.contents writer.new)) }
+    ensures ok { IfOk result (IsAnswered (state_of world.old) event.now (state_of world.new) (W.contents writer.old) (W.contents writer.new)) }
+    ensures err { IfErr result (IsLost (state_of world.old) event.now (state_of world.new) (W.contents writer.old) (W.contents writer.new)) }
 {
     let answer = world.step(alloc, event);
     buffer.clear();

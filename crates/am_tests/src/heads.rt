@@ -208,7 +208,7 @@ fn lines_of_sections(rt: HostRuntime) -> Result<(), Fail> {
     )
 }
 
-/// `/-/` is an indirect point whose path is `/-`; a key of a direct map isn't attached.
+/// `/-/` is an indirect point whose path is `/-`, beside a direct map.
 #[test]
 fn points_that_look_direct(rt: HostRuntime) -> Result<(), Fail> {
     let script = b"master\n/- d\n/-/ m\nend\nmap d\n/srv/x :/y\nend\nmap m\nend\nevents\n\
@@ -217,7 +217,7 @@ fn points_that_look_direct(rt: HostRuntime) -> Result<(), Fail> {
     assert_eq!(rt; got, None);
     assert_eq!(rt;
         output.as_slice(),
-        b"err 9\nfs 2 attach 1 mount 2\nerr 4\n".as_slice()
+        b"fs 2 attach 1 mount 2\nfs 3 attach 2 mount 3\nerr 4\n".as_slice()
     );
     Ok(())
 }

@@ -7,6 +7,12 @@ mod head_faults;
 #[cfg(test)]
 mod heads;
 #[cfg(test)]
+mod lines;
+#[cfg(test)]
+mod positions;
+#[cfg(test)]
+mod shared_worlds;
+#[cfg(test)]
 mod tests;
 #[cfg(test)]
 mod traces;

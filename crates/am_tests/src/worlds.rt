@@ -3,17 +3,15 @@
 
 use am_map::{Map, MapKind};
 use am_master::Master;
-use am_names::{
-    AbsPath, Errno, FsId, JobId, Limits, MountId, Name, NsId, Seconds, Token, Trigger, WalkerId,
-};
-use am_wire::read;
+use am_names::{Errno, Limits, Token};
+use am_script::event_line::read_event;
 use am_world::laws::trace_holds;
-use am_world::{Answer, Event, Obs, Record, World, run};
+use am_world::{Answer, Event, Ran, World, run};
 use std::alloc::Global;
 use std::process::Abort;
 use std::test::Fail;
 
-const LIMITS: Limits = Limits {
+pub const LIMITS: Limits = Limits {
     mounts: 1_000_000,
     waiters: 1_024,
     tokens: u32::MAX,
@@ -54,114 +52,19 @@ fn world_within(alloc: Global, limits: Limits) -> Result<World, Errno> {
 }
 
 /// The same, tried again where it found no memory.
-fn world_in_the_end(alloc: Global, limits: Limits) -> Result<World, Errno> {
+pub fn world_in_the_end(alloc: Global, limits: Limits) -> Result<World, Errno> {
     match world_within(alloc, limits) {
         Err(Errno::NoMemory) => world_within(alloc, limits),
         other => other,
     }
 }
 
-fn attach(path: &[u8]) -> Result<Event, Fail> {
-    Ok(Event::Attach {
-        path: AbsPath::read(path)?,
-    })
-}
-
-fn walk(walker: u32, path: &[u8], now: u64) -> Result<Event, Fail> {
-    Ok(Event::Walk {
-        walker: WalkerId(walker),
-        ns: NsId(0),
-        path: AbsPath::read(path)?,
-        now: Seconds(now),
-    })
-}
-
-fn resume(walker: u32, now: u64) -> Event {
-    Event::Resume {
-        walker: WalkerId(walker),
-        now: Seconds(now),
+/// The event of a line.
+pub fn event(rt: &impl Abort, line: &[u8]) -> Event {
+    match read_event(line) {
+        Some(event) => event,
+        None => panic!(rt; "no event: {line:?}"),
     }
-}
-
-fn deliver(token: u32) -> Event {
-    Event::Deliver {
-        token: Token(token),
-        bytes: None,
-    }
-}
-
-fn act(job: u32, ok: bool) -> Event {
-    Event::Act {
-        job: JobId(job),
-        ok,
-    }
-}
-
-fn record(fs: u32, name: &[u8]) -> Result<Event, Fail> {
-    let name = Some(Name::read(name)?);
-    Ok(Event::Record {
-        trigger: Trigger { fs: FsId(fs), name },
-    })
-}
-
-/// An answer in a few words.
-fn told(alloc: Global, answer: &Answer) -> Result<String, Fail> {
-    Ok(match answer {
-        Answer::Attached { fs, attach, mount } => {
-            format!(in alloc; "attached {} {} {}", fs.0, attach.0, mount.0)?
-        }
-        Answer::At { position } => {
-            let below = position.place.text().len();
-            format!(in alloc; "at {} {below}", position.mount.0)?
-        }
-        Answer::Wait { token } => format!(in alloc; "wait {}", token.0)?,
-        Answer::Job { job } => format!(in alloc; "job {}", job.0)?,
-        Answer::DidMkdir => String::from_str(alloc, "mkdir")?,
-        Answer::DidMount { mount } => format!(in alloc; "mount {}", mount.0)?,
-        Answer::DidRmdir => String::from_str(alloc, "rmdir")?,
-        Answer::DidRecord => String::from_str(alloc, "record")?,
-        Answer::DidReply => String::from_str(alloc, "reply")?,
-        Answer::FailedMount => String::from_str(alloc, "no mount")?,
-        Answer::Record { entry: None } => String::from_str(alloc, "none")?,
-        Answer::Record {
-            entry: Some(Record::Mounted { mount }),
-        } => format!(in alloc; "mounted {}", mount.0)?,
-        Answer::Record { entry: Some(_) } => String::from_str(alloc, "busy")?,
-        Answer::Refused { errno } => format!(in alloc; "refused {}", errno.number())?,
-        Answer::Failed { errno } => format!(in alloc; "failed {}", errno.number())?,
-    })
-}
-
-/// An observation in a few words.
-fn seen(alloc: Global, obs: &Obs) -> Result<String, Fail> {
-    Ok(match obs {
-        Obs::Queued { token, attach, .. } => {
-            format!(in alloc; "queued {} {}", token.0, attach.0)?
-        }
-        Obs::Waits { walker, token } => format!(in alloc; "waits {} {}", walker.0, token.0)?,
-        Obs::Answered { token, .. } => format!(in alloc; "answered {}", token.0)?,
-        Obs::Released { walker, token, .. } => {
-            format!(in alloc; "released {} {}", walker.0, token.0)?
-        }
-        Obs::Passed { walker, trigger } => {
-            format!(in alloc; "passed {} {}", walker.0, trigger.fs.0)?
-        }
-        Obs::Entered { walker, mount } => format!(in alloc; "entered {} {}", walker.0, mount.0)?,
-        Obs::Mounted { mounts } => match mounts.as_slice().first() {
-            Some(mount) => format!(in alloc; "mounted {}", mount.0)?,
-            None => String::from_str(alloc, "mounted")?,
-        },
-        Obs::Delivered { token, attach, .. } => {
-            format!(in alloc; "delivered {} {}", token.0, attach.0)?
-        }
-        Obs::Recorded {
-            entry: Some(Record::Mounted { mount }),
-            ..
-        } => format!(in alloc; "recorded {}", mount.0)?,
-        Obs::Recorded { entry: Some(_), .. } => String::from_str(alloc, "recorded busy")?,
-        Obs::Recorded { entry: None, .. } => String::from_str(alloc, "recorded none")?,
-        _ => String::from_str(alloc, "other")?,
-    })
 }
 
 fn is_out_of_memory(answer: &Answer) -> bool {
@@ -174,7 +77,7 @@ fn is_out_of_memory(answer: &Answer) -> bool {
 }
 
 /// Makes a step, and makes it again where it found no memory.
-fn step(world: &mut World, alloc: Global, event: &Event) -> Answer {
+pub fn step(world: &mut World, alloc: Global, event: &Event) -> Answer {
     let before = world.trace().len();
     let answer = world.step(alloc, event);
     if is_out_of_memory(&answer) && world.trace().len() == before {
@@ -183,437 +86,7 @@ fn step(world: &mut World, alloc: Global, event: &Event) -> Answer {
     answer
 }
 
-/// Makes each step, and has the answer that stands beside it.
-fn plays(
-    rt: &impl Abort,
-    alloc: Global,
-    world: &mut World,
-    events: &[(Event, &str)],
-) -> Result<(), Fail> {
-    for (event, wanted) in events {
-        let answer = step(world, alloc, event);
-        let told = told(alloc, &answer)?;
-        assert_eq!(rt; told.as_str(), *wanted, "at {event:?}");
-    }
-    Ok(())
-}
-
-fn is_trace(rt: &impl Abort, alloc: Global, world: &World, wanted: &[&str]) -> Result<(), Fail> {
-    assert_eq!(rt; world.trace().len(), wanted.len());
-    for (obs, wanted) in world.trace().iter().zip(wanted) {
-        let seen = seen(alloc, obs)?;
-        assert_eq!(rt; seen.as_str(), *wanted);
-    }
-    assert!(rt; trace_holds(world.trace()));
-    Ok(())
-}
-
-#[test]
-fn a_walk_waits_is_released_and_arrives(rt: HostRuntime) -> Result<(), Fail> {
-    let mut world = world_within(rt.alloc(), LIMITS)?;
-    plays(
-        &rt,
-        rt.alloc(),
-        &mut world,
-        &[
-            (attach(b"/auto")?, "attached 2 1 2"),
-            (walk(7, b"/auto/home", 100)?, "wait 1"),
-            (resume(7, 100), "refused 11"),
-            (record(2, b"home")?, "none"),
-            (deliver(1), "job 1"),
-            (record(2, b"home")?, "busy"),
-            (act(1, true), "mkdir"),
-            (act(1, true), "mount 3"),
-            (act(1, true), "record"),
-            (resume(7, 100), "refused 11"),
-            (act(1, true), "reply"),
-            (act(1, true), "refused 5"),
-            (record(2, b"home")?, "mounted 3"),
-            (resume(7, 101), "at 3 0"),
-            (resume(7, 101), "refused 5"),
-            (walk(8, b"/auto/home/a/b", 102)?, "at 3 4"),
-        ],
-    )?;
-    is_trace(
-        &rt,
-        rt.alloc(),
-        &world,
-        &[
-            "mounted 2",
-            "queued 1 1",
-            "waits 7 1",
-            "delivered 1 1",
-            "recorded busy",
-            "mounted 3",
-            "recorded 3",
-            "answered 1",
-            "released 7 1",
-            "passed 7 2",
-            "entered 7 3",
-            "passed 8 2",
-            "entered 8 3",
-        ],
-    )
-}
-
-#[test]
-fn a_key_without_an_entry_fails(rt: HostRuntime) -> Result<(), Fail> {
-    let mut world = world_within(rt.alloc(), LIMITS)?;
-    plays(
-        &rt,
-        rt.alloc(),
-        &mut world,
-        &[
-            (attach(b"/auto")?, "attached 2 1 2"),
-            (walk(1, b"/auto/other", 5)?, "wait 1"),
-            (walk(2, b"/auto/other/below", 5)?, "wait 1"),
-            (deliver(1), "job 1"),
-            (act(1, true), "record"),
-            (act(1, true), "reply"),
-            (resume(2, 6), "failed 1"),
-            (walk(2, b"/auto/other", 7)?, "wait 2"),
-            (resume(1, 8), "failed 1"),
-        ],
-    )?;
-    is_trace(
-        &rt,
-        rt.alloc(),
-        &world,
-        &[
-            "mounted 2",
-            "queued 1 1",
-            "waits 1 1",
-            "waits 2 1",
-            "delivered 1 1",
-            "recorded busy",
-            "recorded none",
-            "answered 1",
-            "released 1 1",
-            "released 2 1",
-            "queued 2 1",
-            "waits 2 2",
-        ],
-    )
-}
-
-#[test]
-fn a_mount_that_fails_is_taken_back(rt: HostRuntime) -> Result<(), Fail> {
-    let mut world = world_within(rt.alloc(), LIMITS)?;
-    plays(
-        &rt,
-        rt.alloc(),
-        &mut world,
-        &[
-            (attach(b"/auto")?, "attached 2 1 2"),
-            (walk(1, b"/auto/work", 5)?, "wait 1"),
-            (deliver(1), "job 1"),
-            (act(1, true), "mkdir"),
-            (act(1, false), "no mount"),
-            (act(1, true), "rmdir"),
-            (act(1, true), "record"),
-            (act(1, true), "reply"),
-            (resume(1, 6), "failed 1"),
-            (record(2, b"work")?, "none"),
-        ],
-    )
-}
-
-#[test]
-fn an_autofs_is_attached_once_at_its_point(rt: HostRuntime) -> Result<(), Fail> {
-    let mut world = world_within(rt.alloc(), LIMITS)?;
-    plays(
-        &rt,
-        rt.alloc(),
-        &mut world,
-        &[
-            (walk(1, b"/auto/home", 1)?, "at 1 10"),
-            (attach(b"/")?, "refused 1"),
-            (attach(b"/aut")?, "refused 1"),
-            (attach(b"/auto/home")?, "refused 1"),
-            (attach(b"/auto")?, "attached 2 1 2"),
-            (attach(b"/auto")?, "refused 4"),
-            (record(1, b"home")?, "refused 5"),
-            (walk(1, b"/auto/home", 1)?, "refused 5"),
-        ],
-    )
-}
-
-/// The tests of an attachment, in their order.
-#[test]
-fn an_attachment_is_tested_in_order(rt: HostRuntime) -> Result<(), Fail> {
-    let alloc = rt.alloc();
-    let mut world = world_of(
-        alloc,
-        LIMITS,
-        b"/auto a\n/auto/in b\n/other c --timeout=7\n/- d\n/- e",
-        &[
-            (b"", MapKind::Indirect),
-            (b"", MapKind::Indirect),
-            (b"* srv:/&", MapKind::Indirect),
-            (b"/srv/data nas:/d", MapKind::Direct),
-            (
-                b"/srv/more nas:/m\n/auto x:/y\n/auto/key x:/k",
-                MapKind::Direct,
-            ),
-        ],
-    )?;
-    plays(
-        &rt,
-        alloc,
-        &mut world,
-        &[
-            (attach(b"/")?, "refused 1"),
-            (attach(b"/-")?, "refused 1"),
-            (attach(b"/srv")?, "refused 1"),
-            (attach(b"/srv/data/x")?, "refused 1"),
-            (attach(b"/srv/data")?, "refused 9"),
-            (attach(b"/srv/more")?, "refused 9"),
-            (attach(b"/auto")?, "attached 2 1 2"),
-            (attach(b"/auto")?, "refused 4"),
-            (attach(b"/auto/in")?, "refused 1"),
-            (attach(b"/auto/key")?, "refused 1"),
-            (attach(b"/srv/more")?, "refused 9"),
-            (attach(b"/other")?, "refused 9"),
-            (walk(1, b"/auto/any", 1)?, "wait 1"),
-            (deliver(1), "job 1"),
-            (act(1, true), "record"),
-        ],
-    )
-}
-
-/// On an autofs only its daemon mounts.
-#[test]
-fn an_autofs_takes_no_autofs(rt: HostRuntime) -> Result<(), Fail> {
-    let alloc = rt.alloc();
-    let mut world = world_of(
-        alloc,
-        LIMITS,
-        b"/auto a\n/auto/in b\n/- c",
-        &[
-            (b"in srv:/in", MapKind::Indirect),
-            (b"", MapKind::Indirect),
-            (b"/auto/in/deep x:/d", MapKind::Direct),
-        ],
-    )?;
-    plays(
-        &rt,
-        alloc,
-        &mut world,
-        &[
-            (attach(b"/auto")?, "attached 2 1 2"),
-            (walk(1, b"/auto/in", 1)?, "wait 1"),
-            (deliver(1), "job 1"),
-            (act(1, true), "mkdir"),
-            (attach(b"/auto/in")?, "refused 2"),
-            (act(1, true), "mount 3"),
-            (attach(b"/auto/in")?, "refused 9"),
-            (attach(b"/auto/in/deep")?, "refused 9"),
-        ],
-    )
-}
-
-/// The map is that of the line whose point is attached, and a `*` line serves any name.
-#[test]
-fn a_plan_looks_into_the_map_of_its_line(rt: HostRuntime) -> Result<(), Fail> {
-    let alloc = rt.alloc();
-    for (point, any) in [
-        (b"/one".as_slice(), "record"),
-        (b"/two".as_slice(), "mkdir"),
-    ] {
-        let mut world = world_of(
-            alloc,
-            LIMITS,
-            b"/- d\n/one a\n/two b",
-            &[
-                (b"/srv/data nas:/d", MapKind::Direct),
-                (b"home srv:/home", MapKind::Indirect),
-                (b"home srv:/home\n* srv:/&", MapKind::Indirect),
-            ],
-        )?;
-        let mut below = Vec::from_slice(alloc, point)?;
-        below.extend_from_slice(b"/home")?;
-        let mut other = Vec::from_slice(alloc, point)?;
-        other.extend_from_slice(b"/other")?;
-        plays(
-            &rt,
-            alloc,
-            &mut world,
-            &[
-                (attach(point)?, "attached 2 1 2"),
-                (walk(1, below.as_slice(), 1)?, "wait 1"),
-                (walk(2, other.as_slice(), 1)?, "wait 2"),
-                (deliver(1), "job 1"),
-                (deliver(2), "job 2"),
-                (act(1, true), "mkdir"),
-                (act(2, true), any),
-            ],
-        )?;
-    }
-    Ok(())
-}
-
-#[test]
-fn limits_refuse_and_change_nothing(rt: HostRuntime) -> Result<(), Fail> {
-    let small = Limits {
-        mounts: 2,
-        waiters: 2,
-        tokens: 1,
-    };
-    let mut world = world_within(rt.alloc(), small)?;
-    plays(
-        &rt,
-        rt.alloc(),
-        &mut world,
-        &[
-            (attach(b"/auto")?, "attached 2 1 2"),
-            (walk(1, b"/auto/home", 1)?, "wait 1"),
-            (walk(2, b"/auto/work", 1)?, "refused 9"),
-            (walk(2, b"/auto/home", 1)?, "wait 1"),
-            (walk(3, b"/auto/home", 1)?, "refused 9"),
-            (deliver(1), "job 1"),
-            (act(1, true), "mkdir"),
-            (act(1, true), "no mount"),
-        ],
-    )?;
-    let one = Limits {
-        mounts: 1,
-        waiters: 1,
-        tokens: 1,
-    };
-    let mut world = world_within(rt.alloc(), one)?;
-    plays(
-        &rt,
-        rt.alloc(),
-        &mut world,
-        &[(attach(b"/auto")?, "refused 9")],
-    )?;
-    is_trace(&rt, rt.alloc(), &world, &[])
-}
-
-#[test]
-fn a_packet_is_taken_once_by_its_own_bytes(rt: HostRuntime) -> Result<(), Fail> {
-    let alloc = rt.alloc();
-    let mut world = world_within(alloc, LIMITS)?;
-    plays(
-        &rt,
-        rt.alloc(),
-        &mut world,
-        &[
-            (attach(b"/auto")?, "attached 2 1 2"),
-            (walk(7, b"/auto/home", 100)?, "wait 1"),
-        ],
-    )?;
-    assert!(rt; world.queued(Token(2)).is_none());
-    let Some(bytes) = world.queued(Token(1)) else {
-        return Err(Fail::new("no packet"));
-    };
-    let packet = match read(&bytes) {
-        Ok(packet) => packet.to_packet(),
-        Err(_) => return Err(Fail::new("no packet")),
-    };
-    assert_eq!(rt; packet.token, Token(1));
-    assert_eq!(rt; packet.dev, FsId(2));
-    assert_eq!(rt; packet.pid, 7);
-    assert_eq!(rt; packet.name.as_bytes(), b"home".as_slice());
-    let mut other = bytes;
-    other[303] = 1;
-    let by = |bytes| Event::Deliver {
-        token: Token(1),
-        bytes: Some(bytes),
-    };
-    plays(
-        &rt,
-        rt.alloc(),
-        &mut world,
-        &[
-            (deliver(2), "refused 12"),
-            (by(other), "refused 12"),
-            (by(bytes), "job 1"),
-            (by(bytes), "refused 12"),
-            (deliver(1), "refused 12"),
-        ],
-    )?;
-    assert!(rt; world.queued(Token(1)).is_none());
-    Ok(())
-}
-
-#[test]
-fn moments_never_go_back(rt: HostRuntime) -> Result<(), Fail> {
-    let mut world = world_within(rt.alloc(), LIMITS)?;
-    plays(
-        &rt,
-        rt.alloc(),
-        &mut world,
-        &[
-            (walk(1, b"/a", u64::MAX)?, "at 1 2"),
-            (walk(2, b"/a", 0)?, "at 1 2"),
-            (walk(1, b"/a", 0)?, "refused 5"),
-        ],
-    )
-}
-
-#[test]
-fn a_step_tells_its_answer_twice(rt: HostRuntime) -> Result<(), Fail> {
-    let alloc = rt.alloc();
-    let mut world = world_within(alloc, LIMITS)?;
-    for event in [
-        attach(b"/auto")?,
-        walk(7, b"/auto/home", 100)?,
-        walk(8, b"/usr", 100)?,
-        deliver(1),
-        act(9, true),
-    ] {
-        let (one, other) = world.step_pair(alloc, &event);
-        let (one, other) = (told(alloc, &one)?, told(alloc, &other)?);
-        assert_eq!(rt; one.as_str(), other.as_str());
-    }
-    Ok(())
-}
-
-/// A run is one step for each event; where its answers find no room, nothing has run.
-#[test]
-fn a_run_is_a_step_for_each_event(rt: HostRuntime) -> Result<(), Fail> {
-    let alloc = rt.alloc();
-    let events = [
-        attach(b"/auto")?,
-        walk(7, b"/auto/home", 100)?,
-        deliver(1),
-        act(1, true),
-    ];
-    let ran = match run(alloc, world_within(alloc, LIMITS)?, &events) {
-        Ok(ran) => ran,
-        Err(world) => {
-            assert_eq!(rt; world.trace().len(), 0);
-            return Ok(());
-        }
-    };
-    assert_eq!(rt; ran.answers.len(), 4);
-    if ran.answers.iter().any(is_out_of_memory) {
-        return Ok(());
-    }
-    for (answer, wanted) in ran
-        .answers
-        .iter()
-        .zip(["attached 2 1 2", "wait 1", "job 1", "mkdir"])
-    {
-        let told = told(alloc, answer)?;
-        assert_eq!(rt; told.as_str(), wanted);
-    }
-    is_trace(
-        &rt,
-        rt.alloc(),
-        &ran.world,
-        &[
-            "mounted 2",
-            "queued 1 1",
-            "waits 7 1",
-            "delivered 1 1",
-            "recorded busy",
-        ],
-    )
-}
-
-/// What an answer must be in a test that may take no memory to tell it.
+/// What an answer must be.
 #[derive(Clone, Copy)]
 enum Wanted {
     Attached,
@@ -637,28 +110,119 @@ fn is_wanted(answer: &Answer, wanted: Wanted) -> bool {
     }
 }
 
+/// A line of events, and what its answer must be.
+type Step = (&'static [u8], Wanted);
+
+fn are_wanted(rt: &impl Abort, alloc: Global, world: &mut World, steps: &[Step]) {
+    for (line, wanted) in steps {
+        let answer = step(world, alloc, &event(rt, line));
+        assert!(rt; is_wanted(&answer, *wanted), "at {line:?}");
+    }
+}
+
+static SERVED: [Step; 10] = [
+    (b"attach /auto", Wanted::Attached),
+    (b"walk 7 0 /auto/home 100 room", Wanted::Wait(1)),
+    (b"walk 8 0 /auto/home/a 100 room", Wanted::Wait(1)),
+    (b"deliver 1", Wanted::Job),
+    (b"act 1 ok", Wanted::Did),
+    (b"act 1 ok", Wanted::Did),
+    (b"act 1 ok", Wanted::Did),
+    (b"act 1 ok", Wanted::Did),
+    (b"resume 8 101 room", Wanted::At(3)),
+    (b"resume 7 101 room", Wanted::At(3)),
+];
+
 /// Any allocation may be refused: the event is then refused, nothing has changed, and it goes on
 /// as if nothing had been when it is made again.
 #[test]
 fn memory_may_run_out_anywhere(rt: HostRuntime) -> Result<(), Fail> {
     let alloc = rt.alloc();
     let mut world = world_in_the_end(alloc, LIMITS)?;
-    let wanted = [
-        (attach(b"/auto")?, Wanted::Attached),
-        (walk(7, b"/auto/home", 100)?, Wanted::Wait(1)),
-        (walk(8, b"/auto/home/a", 100)?, Wanted::Wait(1)),
-        (deliver(1), Wanted::Job),
-        (act(1, true), Wanted::Did),
-        (act(1, true), Wanted::Did),
-        (act(1, true), Wanted::Did),
-        (act(1, true), Wanted::Did),
-        (resume(8, 101), Wanted::At(3)),
-        (resume(7, 101), Wanted::At(3)),
-    ];
-    for (event, wanted) in &wanted {
-        let answer = step(&mut world, alloc, event);
-        assert!(rt; is_wanted(&answer, *wanted), "at {event:?}");
-    }
+    are_wanted(&rt, alloc, &mut world, &SERVED);
     assert_eq!(rt; world.trace().len(), 15);
+    Ok(())
+}
+
+static QUEUED: [Step; 2] = [
+    (b"attach /auto", Wanted::Attached),
+    (b"walk 7 0 /auto/home 100 room", Wanted::Wait(1)),
+];
+
+static TAKEN: [Step; 1] = [(b"deliver 1", Wanted::Job)];
+
+fn is_queued(world: &World, token: u32) -> bool {
+    world.queued(Token(token)).is_some()
+}
+
+#[test]
+fn a_packet_is_queued_until_it_is_taken(rt: HostRuntime) -> Result<(), Fail> {
+    let alloc = rt.alloc();
+    let mut world = world_in_the_end(alloc, LIMITS)?;
+    are_wanted(&rt, alloc, &mut world, &QUEUED);
+    assert!(rt; is_queued(&world, 1) && !is_queued(&world, 2));
+    are_wanted(&rt, alloc, &mut world, &TAKEN);
+    assert!(rt; !is_queued(&world, 1));
+    Ok(())
+}
+
+static TOLD_TWICE: [Step; 4] = [
+    (b"attach /auto", Wanted::Attached),
+    (b"walk 7 0 /auto/home 100 room", Wanted::Wait(1)),
+    (b"walk 8 0 /usr 100 room", Wanted::At(1)),
+    (b"deliver 1", Wanted::Job),
+];
+
+fn are_told_twice(rt: &impl Abort, alloc: Global, world: &mut World, steps: &[Step]) {
+    for (line, wanted) in steps {
+        let (one, other) = world.step_pair(alloc, &event(rt, line));
+        assert!(rt;
+            is_wanted(&one, *wanted) && is_wanted(&other, *wanted),
+            "at {line:?}"
+        );
+    }
+}
+
+#[test]
+fn a_step_tells_its_answer_twice(rt: HostRuntime) -> Result<(), Fail> {
+    let mut world = world_in_the_end(rt.alloc(), LIMITS)?;
+    are_told_twice(&rt, rt.alloc(), &mut world, &TOLD_TWICE);
+    Ok(())
+}
+
+static RUNS: [Step; 4] = [
+    (b"attach /auto", Wanted::Attached),
+    (b"walk 7 0 /auto/home 100 room", Wanted::Wait(1)),
+    (b"deliver 1", Wanted::Job),
+    (b"act 1 ok", Wanted::Did),
+];
+
+fn events_of(rt: &impl Abort, alloc: Global, steps: &[Step]) -> Result<Vec<Event>, Fail> {
+    let mut events = Vec::new(alloc);
+    for (line, _) in steps {
+        events.push(event(rt, line))?;
+    }
+    Ok(events)
+}
+
+fn answers(ran: &Ran, steps: &[Step]) -> bool {
+    ran.answers.len() == steps.len()
+        && ran
+            .answers
+            .iter()
+            .zip(steps)
+            .all(|(answer, (_, wanted))| is_wanted(answer, *wanted))
+}
+
+/// A run is one step for each event.
+#[test]
+fn a_run_is_a_step_for_each_event(rt: HostRuntime) -> Result<(), Fail> {
+    let alloc = rt.alloc();
+    let events = events_of(&rt, alloc, &RUNS)?;
+    let world = world_in_the_end(alloc, LIMITS)?;
+    let Ok(ran) = run(alloc, world, events.as_slice()) else {
+        return Err(Fail::new("no room for the answers"));
+    };
+    assert!(rt; answers(&ran, &RUNS) && trace_holds(ran.world.trace()));
     Ok(())
 }

@@ -1,11 +1,11 @@
--- What the fields of a world stand for, and what they keep.
-use Rattle.am_world.specs.State.{State}
-use Rattle.am_world.specs.Tables.{state_of}
-use Rattle.am_world.specs.Invariant.Consistent.{IsConsistent}
+-- What a world stands for, and what it keeps.
+use Rattle.am_machine.specs.Invariant.Consistent.{IsConsistent}
+use Rattle.am_world.specs.Table.{WorldTable}
+use Rattle.am_world.specs.Halves.{table_of, state_of}
 use Rattle.am_world.specs.declared.world.World.TheInside.{Inside}
 
-abbrev pub view_of : Inside → State
-view_of w = state_of w.tables
+abbrev pub view_of : Inside → WorldTable
+view_of w = table_of w.halves
 
 abbrev pub IsSound : Inside → Type 0
-IsSound w = IsConsistent (state_of w.tables)
+IsSound w = IsConsistent (state_of w.halves)

@@ -1,25 +1,17 @@
-//! Kernel and daemon as one machine: events in, answers out, and a trace of what was observed.
+//! A world: kernel and daemon as one machine. Events in, answers out, and a trace of what was
+//! observed.
 #![tactic(auto)]
 
-pub mod answer;
-mod begin;
-mod calls;
-mod daemon;
-pub mod event;
-mod handle;
-mod kernel;
-pub mod laws;
-mod points;
-mod reach;
-mod resolve;
-mod rows;
-mod sites;
-mod tables;
-mod twice;
-pub mod walk;
+mod acts;
+mod administration;
+mod copies;
+mod deliveries;
+mod halves;
+mod requests;
+mod walkers;
 pub mod world;
 
+pub use am_laws as laws;
+pub use am_machine::{Answer, Event};
 pub use am_state::{Obs, Record};
-pub use answer::Answer;
-pub use event::Event;
 pub use world::{Ran, World, run};

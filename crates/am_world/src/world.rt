@@ -1,48 +1,61 @@
 //! The world: what happens to it, event by event.
 
-ghost use Rattle.std.specs.Prelude.{◌≡◌, List, length, IfOk, IfErr};
-ghost use Rattle.std.specs.Option.{option_map};
+ghost use Rattle.std.specs.Prelude.{◌≡◌, List, length, None, IfOk, IfErr};
+ghost use Rattle.std.specs.Option.{option_map, option_copied};
+ghost use Rattle.am_names.specs.Errno.{RefusedAs};
 ghost use Rattle.am_names.specs.Limits.{IsInRange};
 ghost use Rattle.am_state.specs.declared.obs.Obs.{Obs};
-ghost use Rattle.am_world.specs.State.{State, opening_of};
-ghost use Rattle.am_world.specs.Kernel.Waits.{queued_of};
-ghost use Rattle.am_world.specs.Laws.TraceLaws.{Lawful};
-ghost use Rattle.am_world.specs.Laws.Agreement.{Agrees};
-ghost use Rattle.am_world.specs.Machine.{Step, Run, packet_bytes};
-ghost use Rattle.am_world.specs.State.{initial_kernel};
-ghost use Rattle.am_world.specs.Tables.{kernel_of};
+ghost use Rattle.am_laws.specs.TraceLaws.{Lawful};
+ghost use Rattle.am_kernel.specs.Requests.{queued_of};
+ghost use Rattle.am_daemon.specs.Acts.{next_act_of};
+ghost use Rattle.am_daemon.specs.State.{rows_of};
+ghost use Rattle.am_machine.specs.Agreement.{Agree};
+ghost use Rattle.am_machine.specs.State.{opening_of};
+ghost use Rattle.am_machine.specs.Machine.{Step, Run};
+ghost use Rattle.am_machine.specs.Events.Deliveries.{packet_bytes};
+ghost use Rattle.am_world.specs.Table.{state_of};
+ghost use Rattle.am_world.specs.Halves.{told};
 
-use crate::answer::Answer;
-use crate::daemon::Daemon;
-use crate::event::Event;
-use crate::handle::queued_of;
-use crate::kernel::Kernel;
-use crate::tables::Tables;
-use crate::twice::refuse;
+use crate::copies::again;
+use crate::deliveries::bytes_of;
+use crate::halves::Halves;
+use am_daemon::Daemon;
+use am_job::Act;
+use am_kernel::Kernel;
+use am_machine::{Answer, Event};
 use am_map::Map;
 use am_master::Master;
-use am_names::{Errno, FsId, Limits, MemberRow, MountId, MountRow, NsId, Seconds, Token};
+use am_names::{Errno, JobId, Limits, Seconds, Token};
 use am_state::Obs;
-use am_wire::write;
-use std::alloc::{AllocError, Global};
+use std::alloc::Global;
 use std::marker::Model;
 
 /// A world: the kernel's half and the daemon's, and the trace of what was observed.
 #[derive(Drop)]
 pub struct World {
-    tables: Tables,
+    halves: Halves,
 }
 
 impl Model for World {
-    ghost use Rattle.am_world.specs.State.{State};
+    ghost use Rattle.am_world.specs.Table.{WorldTable};
 
-    ghost Value = { State };
+    ghost Value = { WorldTable };
 
     ghost use Rattle.am_world.specs.Inside.{view_of, IsSound};
 
     ghost view = { view_of };
 
     ghost invariant = { IsSound };
+}
+
+/// The answer to an event of which this came.
+fn told(came: Result<Answer, Errno>) -> Answer
+    ensures { result ≡ told came }
+{
+    match came {
+        Ok(answer) => answer,
+        Err(errno) => Answer::Refused { errno },
+    }
 }
 
 impl World {
@@ -52,27 +65,20 @@ impl World {
         limits: Limits,
         master: Master,
         maps: Vec<Map>,
-    ) -> Result<World, AllocError>
+    ) -> Result<World, Errno>
         requires limits { IsInRange limits }
         requires maps { length maps.items ≡ length master }
-        ensures { IfOk result (λ world. world ≡ opening_of (record {
+        ensures refusal { RefusedAs None result }
+        ensures ok { IfOk result (λ world. state_of world ≡ opening_of (record {
           limits = limits;
           master = master;
           maps = maps.items;
         })) }
     {
         Ok(World {
-            tables: Tables {
-                limits,
-                master,
-                maps,
-                kernel: initial_kernel(alloc)?,
-                daemon: Daemon {
-                    known: Vec::new(alloc),
-                    held: Vec::new(alloc),
-                    book: Vec::new(alloc),
-                    jobs: Vec::new(alloc),
-                },
+            halves: Halves {
+                kernel: Kernel::new(alloc, limits)?,
+                daemon: Daemon::new(alloc, master, maps),
                 latest: Seconds(0),
                 trace: Vec::new(alloc),
             },
@@ -84,79 +90,44 @@ impl World {
         ensures trace { result.now ≡ self.now.trace }
         ensures lawful { Lawful result.now }
     {
-        self.tables.trace.as_slice()
+        self.halves.trace.as_slice()
     }
 
     /// The bytes of the queued packet of a token, if there is one.
     pub fn queued(&self, token: Token) -> Option<[u8; 304]>
         ensures { result ≡ option_map packet_bytes (queued_of self.now.kernel.queue token) }
     {
-        let row = queued_of(&self.tables.kernel.queue, token)?;
-        let mut bytes = [0; 304];
-        write(&row.packet, &mut bytes);
-        Some(bytes)
+        let row = self.halves.kernel.queued(token)?;
+        Some(bytes_of(&row))
+    }
+
+    /// The act of a job that comes next; none where there is no such job.
+    pub fn next_act(&self, job: JobId) -> Option<&Act>
+        ensures { option_copied result ≡ next_act_of job (rows_of self.now.daemon) }
+    {
+        self.halves.daemon.next_act(job)
     }
 
     /// One step of the machine.
     pub fn step(&mut self, alloc: Global, event: &Event) -> Answer
-        ensures { (seen : List Obs) × Step self.old event.now result seen self.new }
+        ensures { (seen : List Obs) × Step (state_of self.old) event.now result seen (state_of self.new) }
     {
-        let (answer, _other) = self.step_pair(alloc, event);
-        answer
+        told(self.halves.handle(alloc, event))
     }
 
     /// One step of the machine, with its answer twice.
     pub fn step_pair(&mut self, alloc: Global, event: &Event) -> (Answer, Answer)
-        ensures step { (seen : List Obs) × Step self.old event.now result.0 seen self.new }
+        ensures step { (seen : List Obs) × Step (state_of self.old) event.now result.0 seen (state_of self.new) }
         ensures same { result.1 ≡ result.0 }
     {
-        let Ok(told) = self.tables.handle(alloc, event) else {
-            let refused = refuse(Errno::NoMemory);
-            return (refused.one, refused.other);
+        let Ok(spare) = self.halves.spare(alloc, event) else {
+            let errno = Errno::NoMemory;
+            return (Answer::Refused { errno }, Answer::Refused { errno });
         };
-        (told.one, told.other)
+        let answer = self.step(alloc, event);
+        let other = again(&answer, spare);
+        (answer, other)
     }
-}
-
-/// The kernel of the initial world: the root mount of namespace 0.
-fn initial_kernel(alloc: Global) -> Result<Kernel, AllocError>
-    ensures { IfOk result (λ kernel. kernel_of kernel ≡ initial_kernel) }
-{
-    let mut mounts = Vec::with_capacity(alloc, 1)?;
-    mounts.push_reserved(MountRow {
-        mount: MountId(1),
-        ns: NsId(0),
-        mountpoint: None,
-        fs: FsId(1),
-        origin: MountId(1),
-    });
-    let members = Vec::from_slice(
-        alloc,
-        &[MemberRow {
-            mount: MountId(1),
-            group: None,
-            master: None,
-            unbindable: false,
-        }],
-    )?;
-    Ok(Kernel {
-        mounts,
-        members,
-        groups: Vec::new(alloc),
-        last_group: 0,
-        autofs: Vec::new(alloc),
-        made: Vec::new(alloc),
-        uses: Vec::new(alloc),
-        tokens: Vec::new(alloc),
-        waits: Vec::new(alloc),
-        queue: Vec::new(alloc),
-        walkers: Vec::new(alloc),
-        last_mount: 1,
-        last_ns: 0,
-        last_fs: 1,
-        last_attach: 0,
-        last_token: 0,
-    })
 }
 
 /// What a run leaves.
@@ -168,9 +139,9 @@ pub struct Ran {
 
 /// Makes a step for each event. Where the list of answers finds no memory, nothing runs.
 pub fn run(alloc: Global, mut world: World, events: &[Event]) -> Result<Ran, World>
-    ensures run { IfOk result (λ ran. Run world events.now ran.answers.items ran.world) }
+    ensures run { IfOk result (λ ran. Run (state_of world) events.now ran.answers.items (state_of ran.world)) }
     ensures lawful { IfOk result (λ ran. Lawful ran.world.trace) }
-    ensures agrees { IfOk result (λ ran. Agrees ran.world) }
+    ensures agree { IfOk result (λ ran. Agree (state_of ran.world)) }
     ensures err { IfErr result (λ same. same ≡ world) }
 {
     let Ok(mut answers) = Vec::with_capacity(alloc, events.len()) else {
@@ -181,6 +152,6 @@ pub fn run(alloc: Global, mut world: World, events: &[Event]) -> Result<Ran, Wor
         answers.push_reserved(answer);
     }
     // What every world keeps is known where its fields are read.
-    let _ = &world.tables;
+    let _ = &world.halves;
     Ok(Ran { world, answers })
 }

@@ -1,13 +1,12 @@
-use Rattle.std.proofs.Common.{◌≡◌, ◌++◌, ◌∷◌, [], true, false, List, sym, ap, subst, ◌∙◌, refl}
+use Rattle.std.proofs.Common.{◌≡◌, ◌++◌, ◌∷◌, [], false, List, sym, ap, ◌∙◌, refl}
 use Rattle.am_state.specs.declared.obs.Obs.{Obs}
 use Rattle.am_state.specs.declared.obs.Obs.TheVariants as seen
-use Rattle.am_trigger.specs.Rows.{TriggerRows, all_used}
-use Rattle.am_wait.specs.Rows.{WaitRows}
+use Rattle.am_trigger.specs.Rows.{all_used}
 use Rattle.am_wait.specs.Calls.{is_full, collected, rejoined}
 use Rattle.am_kernel.specs.declared.row.WalkRow.{WalkRow}
 use Rattle.am_kernel.specs.State.{KernelState}
 use Rattle.am_kernel.specs.Walks.{passes, without_walk, with_walk, with_joined}
-use Rattle.am_kernel.specs.Inside.{kernel_of, expired_uses, forgotten_walks, IsFree}
+use Rattle.am_kernel.specs.Inside.{kernel_of, expired_uses, forgotten_walks}
 use Rattle.am_kernel.proofs.FreeLemmas.{joins_full, joins_as, put_again, without_wait}
 use Rattle.am_kernel.proofs.kernel.Kernel.join.Goals as goal
 

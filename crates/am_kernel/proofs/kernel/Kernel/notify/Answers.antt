@@ -1,8 +1,7 @@
-use Rattle.std.proofs.Common.{◌≡◌, Some, None, sym, ap, subst, ◌∙◌, refl}
+use Rattle.std.proofs.Common.{sym, ap, subst, ◌∙◌, refl}
 use Rattle.am_names.specs.declared.trigger.PipeState.{PipeState}
 use Rattle.am_wait.specs.Calls.{reopen_refusal}
 use Rattle.am_kernel.specs.State.{KernelState}
-use Rattle.am_kernel.specs.Sites.{attach_of}
 use Rattle.am_kernel.specs.Outcome.{Outcome, Meets}
 use Rattle.am_kernel.specs.Walks.{notifies_by}
 use Rattle.am_kernel.specs.Inside.{freed_as}

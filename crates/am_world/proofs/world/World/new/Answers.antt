@@ -1,6 +1,10 @@
-use Rattle.am_world.proofs.SafetyLemmas.{initial_consistent}
+use Rattle.std.proofs.Common.{refl, ◌∙◌}
+use Rattle.am_machine.proofs.SafetyLemmas.{initial_consistent}
+use Rattle.am_world.proofs.TableLemmas.{state_is}
 use Rattle.am_world.proofs.world.World.new.Goals as goal
 
 pub invariant_of-result : goal.invariant_of-result
-invariant_of-result c =
-    rw (c.in_ok-initial_kernel.ensures, c.new.ensures.items, c.new-2.ensures.items, c.new-3.ensures.items, c.new-4.ensures.items, c.new-5.ensures.items) (initial_consistent _)
+invariant_of-result c = rw (c.in_ok-new.ensures.ok, c.new-2.ensures, c.new-3.ensures.items) (initial_consistent (record { limits = c.args.limits; master = c.args.master; maps = c.args.maps.items }))
+
+pub returns-clause-ok : goal.returns-clause-ok
+returns-clause-ok c = state_is _ ∙ (rw (c.in_ok-new.ensures.ok, c.new-2.ensures, c.new-3.ensures.items) refl)

@@ -1,0 +1,20 @@
+use Rattle.std.proofs.Common.{◌≡◌, List, map, ap, ◌∙◌}
+use Rattle.am_job.specs.Job.{JobState}
+use Rattle.am_daemon.specs.declared.daemon.Daemon.TheInside.{Inside}
+use Rattle.am_daemon.specs.State.{JobPlan, DaemonTable, job_plan}
+use Rattle.am_daemon.specs.Deliveries.{job_of}
+use Rattle.am_daemon.specs.Acts.{finished_in}
+use Rattle.am_daemon.proofs.JobLemmas.{others_stay}
+use Rattle.am_daemon.proofs.daemon.Daemon.finish_act.Goals as goal
+use Rattle.am_daemon.proofs.daemon.Daemon.finish_act.Goals.{in-Some-writing+in_ok-write_down, in_default-writing}
+
+pub returns-clause-others : goal.returns-clause-others
+returns-clause-others c j other =
+    let kept : c.match-writing.self-inside.jobs.items ≡ c.self.inside.jobs.items =
+    elim c.match-writing.branch [
+      | in-Some-writing+in_ok-write_down w ↦ ap (λ (i : Inside). i.jobs.items) w.self-inside-is
+      | in_default-writing w ↦ ap (λ (i : Inside). i.jobs.items) w.self-inside-is
+    ] in
+    let old : c.match-writing.self-inside.jobs.items ≡ c.args.self.now.jobs = kept ∙ ap (λ (t : DaemonTable). t.jobs) c.self.view_is in
+    ap (λ (jobs : List JobPlan). job_of jobs j) (c.go_on.ensures ∙ ap (λ (jobs : List JobState). finished_in c.args.job c.args.outcome (map job_plan jobs)) old)
+    ∙ others_stay (map job_plan c.args.self.now.jobs) c.args.job c.args.outcome j other

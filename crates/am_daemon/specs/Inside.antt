@@ -1,0 +1,16 @@
+-- What the fields stand for, and the room in them.
+use Rattle.std.specs.Prelude.{◌-◌, min, vec_len, vec_capacity}
+use Rattle.am_daemon.specs.declared.daemon.Daemon.TheInside.{Inside}
+use Rattle.am_daemon.specs.State.{DaemonTable}
+
+-- an attachment takes a row of each list
+abbrev pub table_of : Inside → DaemonTable
+table_of d = record {
+  master = d.master;
+  maps = d.maps.items;
+  known = d.known.items;
+  held = d.held.items;
+  book = d.book.rows;
+  jobs = d.jobs.items;
+  attach_room = min (vec_capacity d.known - vec_len d.known) (vec_capacity d.held - vec_len d.held);
+}

@@ -1,0 +1,10 @@
+pub mod State
+pub mod Points
+pub mod Lent
+pub mod Attachments
+pub mod Packets
+pub mod Deliveries
+pub mod Recordings
+pub mod Acts
+pub mod Faults
+pub mod Inside

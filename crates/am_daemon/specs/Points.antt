@@ -1,0 +1,71 @@
+-- The points of the master map, at which an autofs may be attached, and the maps that serve them
+-- (auto.master(5), "FORMAT").
+use Rattle.std.specs.Prelude.{ℕ, ◌==◌, Bool, true, false, is_some, List, [], Option, Some, None, find, zip}
+use Rattle.std.specs.List.{enumerate_from}
+use Rattle.std.specs.Option.{option_map, option_map_or, option_or}
+use Rattle.am_names.specs.Path.{same_names, text_of}
+use Rattle.am_names.specs.declared.trigger.Trigger.{Trigger}
+use Rattle.am_map.specs.EntryText.{EntryText, Row}
+use Rattle.am_map.specs.LookUp.{row_for, entry_for}
+use Rattle.am_master.specs.declared.point.Point.{Point}
+use Rattle.am_master.specs.declared.point.Point.TheVariants.{Direct, Indirect}
+use Rattle.am_master.specs.MasterRow.{MasterRow}
+use Rattle.am_state.specs.declared.daemon_row.KnownRow.{KnownRow}
+use Rattle.am_daemon.specs.declared.served.Served.{Served}
+use Rattle.am_daemon.specs.State.{DaemonState}
+
+-- a line of the master map by its place, from 0, and the rows of its map
+abbrev pub Line : Type 0
+Line = ℕ × (MasterRow × List Row)
+
+abbrev pub is_direct : Point → Bool
+is_direct Direct = true
+is_direct (Indirect names) = false
+
+-- the point of the line is this path
+abbrev pub has_point : List (List ℕ) → Point → Bool
+has_point path Direct = false
+has_point path (Indirect names) = same_names names path
+
+-- the line is of a direct map that has this path as a key
+abbrev pub has_key : List (List ℕ) → Point → List Row → Bool
+has_key path Direct rows = is_some (row_for rows (text_of path))
+has_key path (Indirect names) rows = false
+
+-- the lines of the master, each beside its map
+abbrev pub lines_of : DaemonState → List Line
+lines_of d = enumerate_from 0 (zip d.master d.maps)
+
+-- what serves a path: the line whose point it is, else the first `/-` line whose map has it as a key
+abbrev pub line_for : DaemonState → List (List ℕ) → Option Line
+line_for d path =
+    option_or (find (λ line. has_point path line.1.0.point) (lines_of d))
+    (find (λ line. has_key path line.1.0.point line.1.1) (lines_of d))
+
+abbrev pub served_by : Line → Served
+served_by line = record { entry = line.0; direct = is_direct line.1.0.point; timeout = line.1.0.timeout }
+
+-- at this path an autofs may be attached, as this line has it
+abbrev pub point_of : DaemonState → List (List ℕ) → Option Served
+point_of d path = option_map served_by (line_for d path)
+
+-- the rows of the map that serves a path
+abbrev pub rows_at : DaemonState → List (List ℕ) → List Row
+rows_at d path = option_map_or (λ line. line.1.1) (line_for d path) []
+
+-- the path at which a file system was attached
+abbrev pub path_of : List KnownRow → ℕ → Option (List (List ℕ))
+path_of known fs = option_map (λ row. row.path) (find (λ row. row.fs == fs) known)
+
+-- what is looked up: the name, or for a direct trigger the text of the path
+abbrev pub key_of : Option (List ℕ) → List (List ℕ) → List ℕ
+key_of (Some name) path = name
+key_of None path = text_of path
+
+abbrev pub entry_at : DaemonState → Option (List (List ℕ)) → Option (List ℕ) → Option EntryText
+entry_at d None name = None
+entry_at d (Some path) name = entry_for (rows_at d path) (key_of name path)
+
+-- the entry of a trigger, in the map that serves the path at which its file system was attached
+abbrev pub entry_of : DaemonState → Trigger → Option EntryText
+entry_of d trigger = entry_at d (path_of d.known trigger.fs) trigger.name

@@ -1,0 +1,16 @@
+//! The automount daemon's half: what it is attached to, its book, and a job for each packet.
+#![tactic(auto)]
+
+pub mod acts;
+pub mod attachments;
+pub mod daemon;
+pub mod deliveries;
+pub mod fault;
+pub mod packets;
+pub mod points;
+pub mod recordings;
+pub mod served;
+
+pub use daemon::Daemon;
+pub use fault::DaemonFault;
+pub use served::Served;

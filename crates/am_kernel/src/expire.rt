@@ -1,0 +1,156 @@
+//! A walker asks for the expiry of what was not used for long (autofs.rst, "Mountpoint expiry").
+
+ghost use Rattle.std.specs.Prelude.{◌≡◌, None, IfOk};
+ghost use Rattle.am_names.specs.Errno.{RefusedAs};
+ghost use Rattle.am_names.specs.declared.errno.Errno.TheVariants.{ENOENT};
+ghost use Rattle.am_wait.specs.Rows.{wait_of};
+ghost use Rattle.am_wait.specs.Calls.{open_refusal};
+ghost use Rattle.am_kernel.specs.declared.begun.Begun.TheVariants.{Failed};
+ghost use Rattle.am_kernel.specs.Outcome.{Meets, Goes};
+ghost use Rattle.am_kernel.specs.Walks.{closing, closed};
+ghost use Rattle.am_kernel.specs.Expires.{attached_of, timeout_of, next_of, expires, expires_next, expire_outcome};
+
+use crate::begin::tell_queued;
+use crate::begun::Begun;
+use crate::kernel::Kernel;
+use crate::packet::packet_for;
+use crate::row::Attached;
+use crate::table::{refuse, table};
+use am_expire::pick;
+use am_names::{Attach, Errno, FsId, Name, PipeState, Seconds, TokenKind, Trigger, WalkerId};
+use am_state::{Obs, QueuedRow};
+use std::alloc::Global;
+
+impl Kernel {
+    /// The attachment of the file system, also one that has ended.
+    fn attached_of(&self, fs: FsId) -> Option<Attached>
+        ensures { result ≡ attached_of self.now fs }
+    {
+        self.attached.iter().copied().find(|row| row.fs == fs)
+    }
+
+    /// The timeout of the file system, in seconds.
+    fn timeout_of(&self, fs: FsId) -> u32
+        ensures { result ≡ timeout_of self.now fs }
+    {
+        match self.attached_of(fs) {
+            Some(row) => row.timeout,
+            None => 0,
+        }
+    }
+
+    /// The trigger of the file system that expires next, if one may.
+    fn next_of(
+        &self,
+        alloc: Global,
+        fs: FsId,
+        moment: Seconds,
+        immediate: bool,
+    ) -> Result<Option<Trigger>, Errno>
+        ensures refusal { RefusedAs None result }
+        ensures ok { IfOk result (λ next. next ≡ next_of self.now fs moment immediate) }
+    {
+        let timeout = self.timeout_of(fs);
+        pick(
+            alloc,
+            &self.subtree,
+            &self.triggers,
+            &self.waits,
+            &self.uses,
+            fs,
+            timeout,
+            moment,
+            immediate,
+        )
+    }
+
+    /// A token is opened for the trigger, its packet is queued, and the caller waits on it.
+    fn queue_expiry(
+        &mut self,
+        alloc: Global,
+        walker: WalkerId,
+        trigger: &Trigger,
+        attach: Attach,
+        seen: &mut Vec<Obs>,
+    ) -> Result<Begun, Errno>
+        requires { open_refusal walker self.old.waits ≡ None }
+        ensures { Meets (expires self.old walker trigger.now attach) result self.old self.new seen.old.items seen.new.items }
+    {
+        seen.reserve(2)?;
+        self.queue.reserve(1)?;
+        let token = self.waits.open(alloc, *trigger, TokenKind::Expire, walker)?;
+        let queued = QueuedRow {
+            token,
+            attach,
+            packet: packet_for(TokenKind::Expire, token, walker, trigger),
+        };
+        tell_queued(seen, walker, &[], &queued);
+        self.queue.push_reserved(queued);
+        Ok(Begun::Waits(token))
+    }
+
+    /// Nobody reads the pipe any more.
+    fn hang_up_expiry(
+        &mut self,
+        alloc: Global,
+        fs: FsId,
+        seen: &mut Vec<Obs>,
+    ) -> Result<Begun, Errno>
+        ensures { Meets (Goes (Failed ENOENT) (closing fs self.old) (closed fs self.old)) result self.old self.new seen.old.items seen.new.items }
+    {
+        let mut shown = self.closing(alloc, fs)?;
+        seen.append(&mut shown)?;
+        self.close(fs);
+        Ok(Begun::Failed(Errno::ENOENT))
+    }
+
+    /// The daemon is to be notified: tokens are left, then waits, and then there is the pipe.
+    fn notify_expiry(
+        &mut self,
+        alloc: Global,
+        walker: WalkerId,
+        trigger: Trigger,
+        attach: Attach,
+        pipe: PipeState,
+        seen: &mut Vec<Obs>,
+    ) -> Result<Begun, Errno>
+        requires { wait_of self.old.waits.waits walker ≡ None }
+        ensures { Meets (expires_next (Some trigger) pipe self.old walker attach) result self.old self.new seen.old.items seen.new.items }
+    {
+        if let Some(errno) = self.waits.open_refusal(walker) {
+            return Err(errno);
+        }
+        match pipe {
+            PipeState::Room => self.queue_expiry(alloc, walker, &trigger, attach, seen),
+            PipeState::Full => Err(Errno::EAGAIN),
+            PipeState::Gone => self.hang_up_expiry(alloc, trigger.fs, seen),
+        }
+    }
+
+    /// An idle walker asks for the expiry of the trigger of an autofs that was not used for the
+    /// longest time, at least for the timeout or else at once (AUTOFS_IOC_EXPIRE_MULTI). The moment
+    /// is the time in seconds. The walker waits until the daemon acknowledges it.
+    pub fn expire(
+        &mut self,
+        alloc: Global,
+        walker: WalkerId,
+        fs: FsId,
+        moment: Seconds,
+        immediate: bool,
+        pipe: PipeState,
+        seen: &mut Vec<Obs>,
+    ) -> Result<Begun, Errno>
+        ensures { Meets (expire_outcome pipe self.old walker fs moment immediate) result self.old self.new seen.old.items seen.new.items }
+    {
+        table!(refuse; expire(self, walker, fs));
+        let Some(attach) = self.attach_of(fs) else {
+            return Err(Errno::ENOENT);
+        };
+        let Some(trigger) = self.next_of(alloc, fs, moment, immediate)? else {
+            return Err(Errno::EAGAIN);
+        };
+        // The checker wants the type of its name said too.
+        let _name: Option<Name> = trigger.name;
+        self.notify_expiry(alloc, walker, trigger, attach, pipe, seen)
+    }
+}

@@ -1,0 +1,122 @@
+//! What calls would answer: for whoever keeps a copy of the answer, and has to make it first.
+
+ghost use Rattle.std.specs.Prelude.{◌≡◌, None, IfOk};
+ghost use Rattle.am_names.specs.Errno.{RefusedAs};
+ghost use Rattle.am_names.specs.Path.{IsCanonical, names_of};
+ghost use Rattle.am_propagate.specs.Removed.{mounts_in};
+ghost use Rattle.am_walk.specs.Walks.{fault_of};
+ghost use Rattle.am_kernel.specs.Sites.{position_at};
+ghost use Rattle.am_kernel.specs.Administration.{plain_gone};
+ghost use Rattle.am_kernel.specs.Previews.{arrived_at, arrival_of, arrival_again_of, is_trigger};
+
+use crate::kernel::Kernel;
+use am_names::{AbsPath, Attach, Errno, FsId, MountId, NsId, Position, Trigger, WalkerId};
+use am_walk::{Stop, resolve_text};
+use std::alloc::{AllocError, Global};
+
+/// Where a walk arrives that stops so.
+fn arrived_at(stop: Stop) -> Option<Position>
+    ensures { result ≡ arrived_at stop }
+{
+    match stop {
+        Stop::Arrive(at) => Some(at),
+        Stop::Block(_) | Stop::Missing(_) | Stop::Refuse(_) => None,
+    }
+}
+
+impl Kernel {
+    /// Where a walk along a canonical text arrives.
+    fn arrival_along(
+        &self,
+        alloc: Global,
+        ns: NsId,
+        path: &[u8],
+    ) -> Result<Option<Position>, AllocError>
+        requires { IsCanonical path.now }
+        ensures { IfOk result (λ at. at ≡ arrival_of self.now ns (names_of path.now)) }
+    {
+        let walk = resolve_text(alloc, &self.subtree, &self.triggers, &self.waits, ns, path)?;
+        Ok(arrived_at(walk.stop))
+    }
+
+    /// The position at which a walk that begins now would arrive. Nothing changes.
+    pub fn arrival(
+        &self,
+        alloc: Global,
+        ns: NsId,
+        path: &AbsPath,
+    ) -> Result<Option<Position>, AllocError>
+        ensures { IfOk result (λ at. at ≡ arrival_of self.now ns path.now) }
+    {
+        self.arrival_along(alloc, ns, path.text())
+    }
+
+    /// The same of the walk of a walker that waits, as if it began again now.
+    pub fn arrival_again(
+        &self,
+        alloc: Global,
+        walker: WalkerId,
+    ) -> Result<Option<Position>, AllocError>
+        ensures { IfOk result (λ at. at ≡ arrival_again_of self.now walker) }
+    {
+        match self.walk_row(walker) {
+            Some(row) => self.arrival_along(alloc, row.ns, row.path.text()),
+            None => Ok(None),
+        }
+    }
+
+    /// What `umount_plain` would remove, in rising order, also where it would refuse to.
+    pub fn umount_takes(
+        &self,
+        alloc: Global,
+        ns: NsId,
+        path: &AbsPath,
+    ) -> Result<Vec<MountId>, Errno>
+        ensures refusal { RefusedAs (fault_of (position_at self.now ns path.now)) result }
+        ensures ok { IfOk result (λ v. v.items ≡ plain_gone self.now ns path.now) }
+    {
+        let at = self.position(alloc, ns, path)?;
+        self.subtree.umount_takes(alloc, at.mount)
+    }
+
+    /// What `ns_drop` would remove, in rising order, also where it would refuse to.
+    pub fn drop_takes(&self, alloc: Global, ns: NsId) -> Result<Vec<MountId>, Errno>
+        ensures refusal { RefusedAs None result }
+        ensures ok { IfOk result (λ v. v.items ≡ mounts_in self.now.table ns) }
+    {
+        Ok(self.subtree.tree().mounts_of(alloc, ns)?)
+    }
+
+    /// The greatest number that was given to a file system.
+    pub fn last_fs(&self) -> FsId
+        ensures { result ≡ self.now.last_fs }
+    {
+        FsId(self.last_fs)
+    }
+
+    /// The greatest number that was given to an attachment; 0 for none.
+    pub fn last_attach(&self) -> Attach
+        ensures { result ≡ self.now.last_attach }
+    {
+        Attach(self.last_attach)
+    }
+
+    /// The greatest number that was given to a mount.
+    pub fn last_mount(&self) -> MountId
+        ensures { result ≡ self.now.table.last_mount }
+    {
+        self.subtree.last_mount()
+    }
+
+    /// Whether the trigger is one of an autofs: a name of an indirect one, or the root of a direct
+    /// one. It may be catatonic.
+    pub fn is_trigger(&self, trigger: &Trigger) -> bool
+        ensures { result ≡ is_trigger self.now trigger.now }
+    {
+        match self.triggers.autofs(trigger.fs) {
+            Some(row) if row.direct => trigger.name.is_none(),
+            Some(_) => trigger.name.is_some(),
+            None => false,
+        }
+    }
+}

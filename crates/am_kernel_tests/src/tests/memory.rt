@@ -1,0 +1,262 @@
+//! A call that finds no memory has changed nothing, and is done when it is made again. Each
+//! allocation is refused in turn: `rt try --test --fail-alloc N -- memory`, from 1 on, or
+//! `tools/refuse_each.sh am_kernel memory`.
+
+use super::call::{Call, Said};
+use super::expiring::{FAILS, HOME_EXPIRES, READY};
+use super::expiry::{GONE, TWO_MOUNTED};
+use super::mounts::THREE_MOUNTS;
+use super::previews::{GOES, WALKS};
+use super::script::{Step, World, limits};
+use super::trap::Trap;
+use super::worked::{BOTH_WAIT, ONE_MOUNT_SERVES_BOTH, TWO_NAMESPACES};
+use am_kernel::{Attached, Kernel, WalkRow};
+use am_names::{Errno, FsId, MountRow, Name, Position, Token, WalkerId};
+use am_propagate::Subtree;
+use am_state::{Obs, QueuedRow};
+use am_wire::Packet;
+use std::alloc::Global;
+use std::process::Abort;
+use std::test::Fail;
+
+fn is_same_point(one: &Option<Position>, other: &Option<Position>) -> bool {
+    match (one, other) {
+        (Some(one), Some(other)) => one.is_same(other),
+        (None, None) => true,
+        (Some(_), None) | (None, Some(_)) => false,
+    }
+}
+
+fn is_same_row(one: &MountRow, other: &MountRow) -> bool {
+    one.mount == other.mount
+        && one.ns == other.ns
+        && is_same_point(&one.mountpoint, &other.mountpoint)
+        && one.fs == other.fs
+        && one.origin == other.origin
+}
+
+fn are_same_rows(rows: &[MountRow], others: &[MountRow]) -> bool {
+    rows.len() == others.len()
+        && rows
+            .iter()
+            .zip(others.iter())
+            .all(|(one, other)| is_same_row(one, other))
+}
+
+fn are_same_mounts(one: &Subtree, other: &Subtree) -> bool {
+    are_same_rows(one.tree().rows(), other.tree().rows())
+        && one.groups().members() == other.groups().members()
+        && one.groups().groups() == other.groups().groups()
+        && one.groups().last_group() == other.groups().last_group()
+        && one.last_mount() == other.last_mount()
+}
+
+fn is_same_walk(one: &WalkRow, other: &WalkRow) -> bool {
+    one.walker == other.walker
+        && one.ns == other.ns
+        && one.path.is_same(&other.path)
+        && one.begins == other.begins
+}
+
+fn are_same_walks(rows: &[WalkRow], others: &[WalkRow]) -> bool {
+    rows.len() == others.len()
+        && rows
+            .iter()
+            .zip(others.iter())
+            .all(|(one, other)| is_same_walk(one, other))
+}
+
+fn are_same_attached(rows: &[Attached], others: &[Attached]) -> bool {
+    rows.len() == others.len()
+        && rows.iter().zip(others.iter()).all(|(one, other)| {
+            one.fs == other.fs && one.attach == other.attach && one.timeout == other.timeout
+        })
+}
+
+fn is_same_packet(one: &Packet, other: &Packet) -> bool {
+    one == other
+}
+
+fn is_same_queued(one: &QueuedRow, other: &QueuedRow) -> bool {
+    one.token == other.token
+        && one.attach == other.attach
+        && is_same_packet(&one.packet, &other.packet)
+}
+
+fn are_same_packets(rows: &[QueuedRow], others: &[QueuedRow]) -> bool {
+    rows.len() == others.len()
+        && rows
+            .iter()
+            .zip(others.iter())
+            .all(|(one, other)| is_same_queued(one, other))
+}
+
+/// Whether the walker does the same in both.
+fn is_same_walker(one: &Kernel, other: &Kernel, walker: u32) -> bool {
+    let walker = WalkerId(walker);
+    one.waits().wait_of(walker) == other.waits().wait_of(walker)
+        && one.uses().mount_of(walker) == other.uses().mount_of(walker)
+}
+
+/// Whether the trigger of the examples is the same in both.
+fn is_same_trigger(one: &Kernel, other: &Kernel) -> Result<bool, Errno> {
+    let trigger = Trap(2, b"home").trigger()?;
+    // The checker wants the type of its name said too.
+    let _name: Option<Name> = trigger.name;
+    Ok(
+        one.triggers().made(&trigger) == other.triggers().made(&trigger)
+            && one.triggers().last_use(&trigger) == other.triggers().last_use(&trigger)
+            && one.triggers().autofs(FsId(2)) == other.triggers().autofs(FsId(2)),
+    )
+}
+
+/// Whether both have the same rows and numbers.
+fn is_same(one: &Kernel, other: &Kernel) -> Result<bool, Errno> {
+    Ok(
+        are_same_mounts(one.subtree(), other.subtree())
+            && are_same_walks(one.walks(), other.walks())
+            && are_same_attached(one.attached(), other.attached())
+            && are_same_packets(one.packets(), other.packets())
+            && is_same_walker(one, other, 7)
+            && is_same_walker(one, other, 8)
+            && one.waits().trigger_of(Token(1)) == other.waits().trigger_of(Token(1))
+            && is_same_trigger(one, other)?
+            && one.last_fs() == other.last_fs()
+            && one.last_attach() == other.last_attach(),
+    )
+}
+
+/// Nobody walks, with numbers enough.
+fn opened(alloc: Global) -> Result<World, Errno> {
+    match World::new(alloc, limits(99, 9, 9)) {
+        Err(Errno::NoMemory) => World::new(alloc, limits(99, 9, 9)),
+        result => result,
+    }
+}
+
+/// Makes the call, again where it found no memory. The other kernel has had the calls before it.
+fn make(
+    rt: &impl Abort,
+    alloc: Global,
+    one: &mut World,
+    other: &World,
+    call: Call,
+    seen: &mut Vec<Obs>,
+) -> Result<Said, Errno> {
+    match one.make(alloc, call, seen) {
+        Err(Errno::NoMemory) => {
+            assert!(rt; seen.is_empty() && is_same(&one.kernel, &other.kernel)?);
+            one.make(alloc, call, seen)
+        }
+        result => result,
+    }
+}
+
+fn make_again(alloc: Global, other: &mut World, call: Call) -> Result<(), Errno> {
+    let mut seen = Vec::new(alloc);
+    match other.make(alloc, call, &mut seen) {
+        Err(Errno::NoMemory) => {
+            let _said = other.make(alloc, call, &mut seen);
+            Ok(())
+        }
+        _ => Ok(()),
+    }
+}
+
+fn sets(alloc: Global, world: &mut World, step: Step) -> Result<bool, Errno> {
+    match world.sets(alloc, step) {
+        Err(Errno::NoMemory) => world.sets(alloc, step),
+        result => result,
+    }
+}
+
+/// Both kernels are the same before and behind the step, which goes as it says.
+fn go(
+    rt: &impl Abort,
+    alloc: Global,
+    one: &mut World,
+    other: &mut World,
+    step: Step,
+) -> Result<bool, Errno> {
+    let Some(call) = step.call() else {
+        return Ok(sets(alloc, one, step)? && sets(alloc, other, step)?);
+    };
+    let mut seen = Vec::new(alloc);
+    let said = make(rt, alloc, one, other, call, &mut seen);
+    make_again(alloc, other, call)?;
+    Ok(step.fits(&said, seen.as_slice()) && is_same(&one.kernel, &other.kernel)?)
+}
+
+fn play(
+    rt: &impl Abort,
+    alloc: Global,
+    one: &mut World,
+    other: &mut World,
+    steps: &[Step],
+) -> Result<(), Errno> {
+    let mut number = 0_usize;
+    for step in steps {
+        number = number.saturating_add(1);
+        let goes = go(rt, alloc, one, other, *step)?;
+        assert!(rt; goes, "step {number}");
+    }
+    Ok(())
+}
+
+fn two_namespaces(rt: &impl Abort, alloc: Global) -> Result<(), Errno> {
+    let mut one = opened(alloc)?;
+    let mut other = opened(alloc)?;
+    play(rt, alloc, &mut one, &mut other, &TWO_NAMESPACES)?;
+    play(rt, alloc, &mut one, &mut other, &BOTH_WAIT)?;
+    play(rt, alloc, &mut one, &mut other, &ONE_MOUNT_SERVES_BOTH)
+}
+
+fn three_mounts(rt: &impl Abort, alloc: Global) -> Result<(), Errno> {
+    let mut one = opened(alloc)?;
+    let mut other = opened(alloc)?;
+    play(rt, alloc, &mut one, &mut other, &THREE_MOUNTS)
+}
+
+fn expiries(rt: &impl Abort, alloc: Global, then: &[Step]) -> Result<(), Errno> {
+    let mut one = opened(alloc)?;
+    let mut other = opened(alloc)?;
+    play(rt, alloc, &mut one, &mut other, &TWO_MOUNTED)?;
+    play(rt, alloc, &mut one, &mut other, &HOME_EXPIRES)?;
+    play(rt, alloc, &mut one, &mut other, then)
+}
+
+fn pipe_gone(rt: &impl Abort, alloc: Global) -> Result<(), Errno> {
+    let mut one = opened(alloc)?;
+    let mut other = opened(alloc)?;
+    play(rt, alloc, &mut one, &mut other, &TWO_MOUNTED)?;
+    play(rt, alloc, &mut one, &mut other, &GONE)
+}
+
+fn previews(rt: &impl Abort, alloc: Global) -> Result<(), Errno> {
+    let mut one = opened(alloc)?;
+    let mut other = opened(alloc)?;
+    play(rt, alloc, &mut one, &mut other, &TWO_NAMESPACES)?;
+    play(rt, alloc, &mut one, &mut other, &WALKS)?;
+    play(rt, alloc, &mut one, &mut other, &GOES)
+}
+
+#[test]
+fn memory_may_run_out_in_an_expiry(rt: HostRuntime) -> Result<(), Fail> {
+    expiries(&rt, rt.alloc(), &READY)?;
+    expiries(&rt, rt.alloc(), &FAILS)?;
+    pipe_gone(&rt, rt.alloc())?;
+    Ok(())
+}
+
+#[test]
+fn memory_may_run_out_in_a_preview(rt: HostRuntime) -> Result<(), Fail> {
+    previews(&rt, rt.alloc())?;
+    Ok(())
+}
+
+#[test]
+fn memory_may_run_out_anywhere(rt: HostRuntime) -> Result<(), Fail> {
+    two_namespaces(&rt, rt.alloc())?;
+    three_mounts(&rt, rt.alloc())?;
+    Ok(())
+}

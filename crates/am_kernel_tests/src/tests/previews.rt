@@ -1,0 +1,98 @@
+//! What calls would answer, and what they answer then.
+
+use super::answer::Answer;
+use super::call::Call;
+use super::look::Look;
+use super::preview::Preview;
+use super::script::{Step, World, limits};
+use super::sight::Sight;
+use super::trap::Trap;
+use super::worked::TWO_NAMESPACES;
+use am_names::{Errno, Status};
+use am_wire::Kind;
+use std::test::Fail;
+
+const HOME: Trap = Trap(2, b"home");
+
+/// The autofs is mount 2, and 4 in namespace 1; walker 7 waits for home there.
+pub static WALKS: [Step; 19] = [
+    Step::Finds(Look::Foresees(Preview::Arrives(0, b"/x", 1, b"/x"))),
+    Step::Finds(Look::Foresees(Preview::Arrives(1, b"/auto", 4, b""))),
+    Step::Finds(Look::Foresees(Preview::Stops(2, b"/x"))),
+    Step::Finds(Look::Foresees(Preview::Stops(1, b"/auto/home"))),
+    Step::Finds(Look::Foresees(Preview::StopsAgain(7))),
+    Step::Makes(
+        Call::Walk(7, 1, b"/auto/home/x"),
+        Answer::Waits(1),
+        &[
+            Sight::Queued(1, 1, 7, Kind::MissingIndirect, b"home"),
+            Sight::Waits(7, 1),
+        ],
+    ),
+    Step::Does(Call::Mkdir(1, HOME)),
+    Step::Comes(Call::MountOn(1, HOME), 5, &[5, 6]),
+    Step::Finds(Look::Foresees(Preview::Stops(1, b"/auto/home/x"))),
+    Step::Finds(Look::Foresees(Preview::StopsAgain(7))),
+    Step::Does(Call::Answer(1, 1, Status::Ready)),
+    Step::Finds(Look::Foresees(Preview::Arrives(1, b"/auto/home", 6, b""))),
+    Step::Finds(Look::Foresees(Preview::Arrives(0, b"/auto/home", 5, b""))),
+    Step::Finds(Look::Foresees(Preview::ArrivesAgain(7, 6, b"/x"))),
+    Step::Finds(Look::Foresees(Preview::StopsAgain(8))),
+    Step::Makes(
+        Call::Resume(7),
+        Answer::Arrived(6, b"/x"),
+        &[Sight::Passed(7, HOME), Sight::Entered(7, 6)],
+    ),
+    Step::Finds(Look::Foresees(Preview::StopsAgain(7))),
+    Step::Finds(Look::Foresees(Preview::Last(3, 1, 6))),
+    Step::Leaves(7, 6),
+];
+
+/// What would go is told also where nothing may go.
+pub static GOES: [Step; 13] = [
+    Step::Comes(Call::Mount(0, b"/x"), 7, &[7, 8]),
+    Step::Finds(Look::Foresees(Preview::Takes(0, b"/x", &[7, 8]))),
+    Step::Finds(Look::Foresees(Preview::Takes(1, b"/x", &[7, 8]))),
+    Step::Finds(Look::Foresees(Preview::Takes(0, b"/auto/home", &[5, 6]))),
+    Step::Finds(Look::Foresees(Preview::TakesNone(2, b"/x", Errno::ENOENT))),
+    Step::Finds(Look::Foresees(Preview::Drops(1, &[3, 4, 6, 8]))),
+    Step::Finds(Look::Foresees(Preview::Drops(2, &[]))),
+    Step::Finds(Look::Foresees(Preview::Drops(0, &[1, 2, 5, 7]))),
+    Step::Goes(Call::Umount(1, b"/x"), &[7, 8]),
+    Step::Goes(Call::Drop(1), &[3, 4, 6]),
+    Step::Finds(Look::Foresees(Preview::Drops(1, &[]))),
+    Step::Finds(Look::Foresees(Preview::Takes(0, b"/auto/home", &[5]))),
+    Step::Finds(Look::Foresees(Preview::Last(4, 1, 8))),
+];
+
+/// File system 5 is a direct autofs, and catatonic.
+static TRIGGERS: [Step; 9] = [
+    Step::Makes(
+        Call::Direct(b"/data"),
+        Answer::Attached(5, 2, 9),
+        &[Sight::Mounted(&[9])],
+    ),
+    Step::Makes(
+        Call::AdminCatatonic(5),
+        Answer::Done,
+        &[Sight::Catatonic(5)],
+    ),
+    Step::Finds(Look::Foresees(Preview::IsTrigger(HOME))),
+    Step::Finds(Look::Foresees(Preview::IsTrigger(Trap(2, b"never")))),
+    Step::Finds(Look::Foresees(Preview::IsNone(Trap(2, b"")))),
+    Step::Finds(Look::Foresees(Preview::IsTrigger(Trap(5, b"")))),
+    Step::Finds(Look::Foresees(Preview::IsNone(Trap(5, b"home")))),
+    Step::Finds(Look::Foresees(Preview::IsNone(Trap(1, b"home")))),
+    Step::Finds(Look::Foresees(Preview::IsNone(Trap(6, b"")))),
+];
+
+#[test]
+fn what_calls_would_answer(rt: HostRuntime) -> Result<(), Fail> {
+    let alloc = rt.alloc();
+    let mut world = World::new(alloc, limits(99, 9, 9))?;
+    world.plays(&rt, alloc, &TWO_NAMESPACES)?;
+    world.plays(&rt, alloc, &WALKS)?;
+    world.plays(&rt, alloc, &GOES)?;
+    world.plays(&rt, alloc, &TRIGGERS)?;
+    Ok(())
+}

@@ -1,0 +1,98 @@
+-- Packets and triggers, and the tests that tell them apart.
+use Rattle.std.proofs.Common.{◌≡◌, ℕ, true, List, Option, Some, None, refl, ap, subst, ◌∙◌, arith}
+use Rattle.std.specs.Prelude.{◌==◌, ◌&&◌}
+use Rattle.std.specs.Str.{bytes_eq}
+use Rattle.std.proofs.lemmas.Slice.Eq.{bytes_eq-Decides}
+use Rattle.std.proofs.lemmas.Bool.Decides.{nat_tests}
+use Rattle.am_names.specs.Trigger.{same_name, same_trigger}
+use Rattle.am_names.specs.declared.trigger.Trigger.{Trigger}
+use Rattle.am_names.specs.declared.row.TokenKind.{TokenKind}
+use Rattle.am_names.specs.declared.row.TokenKind.TheVariants.{Missing, Expire}
+use Rattle.am_wire.specs.Kind.{kind_number, token_kind}
+use Rattle.am_wire.specs.declared.kind.Kind.{Kind}
+use Rattle.am_wire.specs.declared.packet.Packet.{Packet}
+use Rattle.am_wire.proofs.KindLemmas.{kind_number_one}
+use Rattle.am_laws.specs.OneObservation.{trigger_of, is_expire, expires, is_same_packet}
+use Rattle.am_laws.specs.Counts.{AsksToExpire}
+use Rattle.am_laws.proofs.Bools.{and_both, and_of}
+
+pub nat_same : (n : ℕ) → (n == n) ≡ true
+nat_same n = grind (arith, nat_tests)
+
+pub nat_is : (m n : ℕ) → (m == n) ≡ true → m ≡ n
+nat_is m n h = grind (arith, nat_tests, h)
+
+-- ---- triggers
+
+same_name_is : (a b : Option (List ℕ)) → same_name a b ≡ true → a ≡ b
+same_name_is None None h = refl
+same_name_is (Some x) (Some y) h = ap (λ (n : List ℕ). Some n) ((bytes_eq-Decides x y).0 h)
+same_name_is _ _ h = absurd cc
+
+same_name_same : (a : Option (List ℕ)) → same_name a a ≡ true
+same_name_same None = refl
+same_name_same (Some x) = (bytes_eq-Decides x x).1 refl
+
+abbrev trigger_with : ℕ → Option (List ℕ) → Trigger
+trigger_with fs name = record { fs = fs; name = name }
+
+pub same_trigger_is : (a b : Trigger) → same_trigger a b ≡ true → a ≡ b
+same_trigger_is a b h =
+    let both = and_both (a.fs == b.fs) (same_name a.name b.name) h in
+    ap (λ (x : ℕ). trigger_with x a.name) (nat_is a.fs b.fs both.0) ∙ ap (λ (x : Option (List ℕ)). trigger_with b.fs x) (same_name_is a.name b.name both.1)
+
+pub same_trigger_same : (a : Trigger) → same_trigger a a ≡ true
+same_trigger_same a = and_of _ _ (nat_same a.fs) (same_name_same a.name)
+
+-- ---- what a packet asks for
+
+expire_is : (k : TokenKind) → is_expire k ≡ true → k ≡ Expire
+expire_is Missing h = absurd cc
+expire_is Expire h = refl
+
+pub expires_true : (trigger : Trigger) (packet : Packet) → AsksToExpire packet trigger → expires trigger packet ≡ true
+expires_true trigger packet h =
+    and_of _ _ (ap is_expire h.asks) (subst (λ (t : Trigger). same_trigger (trigger_of packet) t ≡ true) h.is_its (same_trigger_same (trigger_of packet)))
+
+pub expires_from_test : (trigger : Trigger) (packet : Packet) → expires trigger packet ≡ true → AsksToExpire packet trigger
+expires_from_test trigger packet h =
+    let both = and_both (is_expire (token_kind packet.kind)) (same_trigger (trigger_of packet) trigger) h in
+    record { asks = expire_is (token_kind packet.kind) both.0; is_its = same_trigger_is (trigger_of packet) trigger both.1 }
+
+-- ---- packets
+
+abbrev made : Kind → ℕ → ℕ → ℕ → ℕ → ℕ → ℕ → ℕ → List ℕ → Packet
+made kind token dev ino uid gid pid tgid name =
+    record { kind = kind; token = token; dev = dev; ino = ino; uid = uid; gid = gid; pid = pid; tgid = tgid; name = name }
+
+pub packet_is : (p q : Packet) → is_same_packet p q ≡ true → p ≡ q
+packet_is p q h =
+    let k = kind_number p.kind == kind_number q.kind in
+    let t = p.token == q.token in
+    let d = p.dev == q.dev in
+    let i = p.ino == q.ino in
+    let u = p.uid == q.uid in
+    let g = p.gid == q.gid in
+    let n = p.pid == q.pid in
+    let m = p.tgid == q.tgid in
+    let by_name = and_both (k && t && d && i && u && g && n && m) (bytes_eq p.name q.name) h in
+    let by_tgid = and_both (k && t && d && i && u && g && n) m by_name.0 in
+    let by_pid = and_both (k && t && d && i && u && g) n by_tgid.0 in
+    let by_gid = and_both (k && t && d && i && u) g by_pid.0 in
+    let by_uid = and_both (k && t && d && i) u by_gid.0 in
+    let by_ino = and_both (k && t && d) i by_uid.0 in
+    let by_dev = and_both (k && t) d by_ino.0 in
+    let by_token = and_both k t by_dev.0 in
+    let kind : p.kind ≡ q.kind = kind_number_one p.kind q.kind (nat_is (kind_number p.kind) (kind_number q.kind) by_token.0) in
+    ap (λ (x : Kind). made x p.token p.dev p.ino p.uid p.gid p.pid p.tgid p.name) kind
+    ∙ ap (λ (x : ℕ). made q.kind x p.dev p.ino p.uid p.gid p.pid p.tgid p.name) (nat_is p.token q.token by_token.1)
+    ∙ ap (λ (x : ℕ). made q.kind q.token x p.ino p.uid p.gid p.pid p.tgid p.name) (nat_is p.dev q.dev by_dev.1)
+    ∙ ap (λ (x : ℕ). made q.kind q.token q.dev x p.uid p.gid p.pid p.tgid p.name) (nat_is p.ino q.ino by_ino.1)
+    ∙ ap (λ (x : ℕ). made q.kind q.token q.dev q.ino x p.gid p.pid p.tgid p.name) (nat_is p.uid q.uid by_uid.1)
+    ∙ ap (λ (x : ℕ). made q.kind q.token q.dev q.ino q.uid x p.pid p.tgid p.name) (nat_is p.gid q.gid by_gid.1)
+    ∙ ap (λ (x : ℕ). made q.kind q.token q.dev q.ino q.uid q.gid x p.tgid p.name) (nat_is p.pid q.pid by_pid.1)
+    ∙ ap (λ (x : ℕ). made q.kind q.token q.dev q.ino q.uid q.gid q.pid x p.name) (nat_is p.tgid q.tgid by_tgid.1)
+    ∙ ap (λ (x : List ℕ). made q.kind q.token q.dev q.ino q.uid q.gid q.pid q.tgid x) ((bytes_eq-Decides p.name q.name).0 by_name.1)
+
+pub packet_same : (p : Packet) → is_same_packet p p ≡ true
+packet_same p = grind (arith, nat_tests, bytes_eq-Decides)

@@ -1,0 +1,6 @@
+use Rattle.std.proofs.Common.{◌≡◌, [], take, drop}
+use Rattle.am_laws.specs.Tests.{are_lawful}
+use Rattle.am_laws.proofs.are_lawful.Given as goal
+
+abbrev pub invariant-loop-i : goal.invariant-loop-i
+invariant-loop-i l = are_lawful (take l.i l.trace) (drop l.i l.trace) ≡ are_lawful [] l.fn.trace

@@ -1,0 +1,5 @@
+pub mod OneObservation
+pub mod Counts
+pub mod TraceLaws
+pub mod Fold
+pub mod Tests

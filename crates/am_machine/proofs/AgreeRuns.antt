@@ -1,0 +1,33 @@
+-- Kernel and daemon agree on each file system that the daemon serves.
+use Rattle.std.proofs.Common.{ℕ}
+use Rattle.am_kernel.specs.State.{KernelState}
+use Rattle.am_daemon.specs.State.{DaemonState}
+use Rattle.am_machine.specs.State.{State, opening_of}
+use Rattle.am_machine.specs.Invariant.Tokens.{TokensAgree}
+use Rattle.am_machine.specs.Invariant.Places.{PlacesAgree}
+use Rattle.am_machine.specs.Invariant.Books.{IsServed, BookAgrees}
+use Rattle.am_machine.specs.Invariant.Stands.{AreWritten}
+use Rattle.am_machine.specs.Invariant.Consistent.{IsConsistent}
+use Rattle.am_machine.specs.Agreement.{AgreeOn, Agree, RunsAgree}
+use Rattle.am_machine.proofs.AgreeMounts.{mounted_here, nothing_here}
+use Rattle.am_machine.proofs.AgreeTokens.{pending_here, tokens_here}
+use Rattle.am_machine.proofs.SafetyLemmas.{initial_consistent, run_consistent}
+
+-- what the parts of the invariant come to, of a file system that the daemon serves
+pub agree_on : (k : KernelState) (d : DaemonState) → TokensAgree k d.jobs → PlacesAgree k → BookAgrees k d → AreWritten k d → (fs attach : ℕ) → IsServed k d fs attach → AgreeOn k d fs attach
+agree_on k d tokens places book settled fs attach served = record {
+  mounted = mounted_here k d settled fs attach served places;
+  pending = pending_here k d tokens fs attach served book;
+  unrecorded = nothing_here k d settled fs attach served;
+  tokens = tokens_here k d tokens fs attach served;
+}
+
+-- of every such file system
+pub agrees : (s : State) → IsConsistent s → Agree s
+agrees s h fs attach served =
+    let halves = h.agreed in
+    agree_on s.kernel s.daemon halves.tokens halves.places halves.book halves.stands.settled fs attach served
+
+-- after every run
+pub runs_agree : RunsAgree
+runs_agree opening events answers s run = agrees s (run_consistent (opening_of opening) events answers s run (initial_consistent opening))

@@ -1,0 +1,158 @@
+-- Every world is consistent, and so its trace is lawful.
+use Rattle.std.proofs.Common.{List, [], ◌∷◌, refl, sym, subst, inl, inr, arith}
+use Rattle.std.proofs.lemmas.List.{append-nil}
+use Rattle.std.proofs.lemmas.List.Elements.{All-nil}
+use Rattle.am_state.specs.declared.obs.Obs.{Obs}
+use Rattle.am_wait.proofs.AgreeLemmas.{new_sound}
+use Rattle.am_laws.proofs.Append.{lawful_append}
+use Rattle.am_laws.proofs.Decided.{lawful_from_test}
+use Rattle.am_machine.specs.declared.event.Event.{Event}
+use Rattle.am_machine.specs.declared.event.Event.TheVariants as events
+use Rattle.am_machine.specs.declared.answer.Answer.{Answer}
+use Rattle.am_machine.specs.State.{Opening, State, opening_of}
+use Rattle.am_machine.specs.Outcome.{moment_of}
+use Rattle.am_machine.specs.Machine.{Step, Run, after, outcome_of}
+use Rattle.am_machine.specs.Invariant.Traces.{rows_in, FitsTrace, PacketFits}
+use Rattle.am_machine.specs.Invariant.Consistent.{IsTraced, HalvesAgree, IsConsistent}
+use Rattle.am_machine.specs.StepLaws.{IsLawful}
+use Rattle.am_machine.specs.Safety.{RunsAreLawful}
+use Rattle.am_kernel.specs.Walks.{first_begin}
+use Rattle.am_machine.proofs.TraceBegins as begins
+use Rattle.am_machine.proofs.TraceResumes as resumes
+use Rattle.am_machine.proofs.TraceFollows.{Follows, goes_on}
+use Rattle.am_machine.proofs.TraceEvents as from
+use Rattle.am_machine.proofs.TraceActs as acts
+use Rattle.am_machine.proofs.TokenAgree.{Agreed}
+use Rattle.am_machine.proofs.TokenTheorems.{initial_given, initial_tokens, initial_planned, outcome_agreed}
+use Rattle.am_machine.proofs.PlaceLemmas.{initial_places, outcome_places}
+use Rattle.am_machine.proofs.BookLemmas.{initial_book, outcome_book}
+use Rattle.am_machine.proofs.StandLemmas.{initial_stands, outcome_stands}
+
+-- ---- every event
+
+pub outcome_follows : (s : State) (event : Event) → Follows s (outcome_of s event)
+outcome_follows s (events.Attach path) = from.attach s path
+outcome_follows s (events.Mount ns path) = from.mount s ns path
+outcome_follows s (events.Bind ns source target) = from.bind s ns source target
+outcome_follows s (events.Umount ns path) = from.umount s ns path
+outcome_follows s (events.Change ns path change) = from.change_mount s ns path change
+outcome_follows s (events.Kind ns path) = from.kind s ns path
+outcome_follows s (events.CopyNamespace ns) = from.copy_namespace s ns
+outcome_follows s (events.DropNamespace ns) = from.drop_namespace s ns
+outcome_follows s (events.Walk walker ns path now pipe) = goes_on _ s (moment_of s now) (begins.walk pipe s.kernel (first_begin walker ns path (moment_of s now)))
+outcome_follows s (events.Resume walker now pipe) = goes_on _ s (moment_of s now) (resumes.resume pipe s.kernel walker (moment_of s now))
+outcome_follows s (events.Leave walker) = from.leave s walker
+outcome_follows s (events.Expire walker fs now immediate pipe) = goes_on _ s (moment_of s now) (begins.expire pipe s.kernel walker fs (moment_of s now) immediate)
+outcome_follows s (events.Deliver token bytes) = acts.deliver s token bytes
+outcome_follows s (events.Act job ok) = acts.act_job s job ok
+outcome_follows s (events.Repeat attach token status) = from.repeat s attach token
+outcome_follows s (events.Catatonic attach fs) = from.catatonic s attach fs
+outcome_follows s (events.AdminCatatonic fs) = from.admin_catatonic s fs
+outcome_follows s (events.Timeout attach fs timeout) = from.set_timeout s attach fs timeout
+outcome_follows s events.Die = from.die s
+outcome_follows s (events.Reattach fs) = from.reattach s fs
+outcome_follows s (events.Record trigger) = from.read_record s trigger
+
+-- ---- steps
+
+-- an outcome keeps the opening, and what it adds to the trace has one packet at most
+pub outcome_lawful : (s : State) (event : Event) → IsLawful s (outcome_of s event).seen (after s (outcome_of s event))
+outcome_lawful s event =
+    let follows = outcome_follows s event in
+    record { opening = follows.opening; trace = refl; once = follows.once }
+
+pub step_lawful : (old : State) (event : Event) (answer : Answer) (shown : List Obs) (new : State) → Step old event answer shown new → IsLawful old shown new
+step_lawful old event answer shown new (inl out) =
+    subst (λ (s : State). IsLawful old shown s) (sym out.same) (subst (λ (more : List Obs). IsLawful old more old) (sym out.nothing) (record { opening = refl; trace = sym (append-nil old.trace); once = omega arith }))
+step_lawful old event answer shown new (inr comes) =
+    subst (λ (s : State). IsLawful old shown s) (sym comes.left) (subst (λ (more : List Obs). IsLawful old more (after old (outcome_of old event))) (sym comes.shown) (outcome_lawful old event))
+
+-- ---- every world is traced
+
+initial_fits : (opening : Opening) → FitsTrace (rows_in (opening_of opening)) []
+initial_fits opening = record {
+  sound = new_sound opening.limits.waiters opening.limits.tokens;
+  single = tt;
+  known = λ token above. refl;
+  opens = λ token. refl;
+  waiters = λ token row e. absurd cc;
+  inside = λ mount. refl;
+  queued = All-nil (PacketFits []);
+  delivered = λ job is. absurd cc;
+}
+
+pub initial_traced : (opening : Opening) → IsTraced (opening_of opening)
+initial_traced opening = record { fits = initial_fits opening; lawful = lawful_from_test [] refl }
+
+-- an outcome keeps what ties the trace to the rows, and the laws
+pub outcome_traced : (s : State) (event : Event) → IsTraced s → IsTraced (after s (outcome_of s event))
+outcome_traced s event h =
+    let o = outcome_of s event in
+    let adds = (outcome_follows s event).adds h.fits in
+    record { fits = adds.fits; lawful = (lawful_append s.trace o.seen adds.start).1 (h.lawful, adds.lawful) }
+
+-- and so does a step
+pub step_traced : (old : State) (event : Event) (answer : Answer) (shown : List Obs) (new : State) → Step old event answer shown new → IsTraced old → IsTraced new
+step_traced old event answer shown new (inl out) h = subst IsTraced (sym out.same) h
+step_traced old event answer shown new (inr comes) h = subst IsTraced (sym comes.left) (outcome_traced old event h)
+
+-- and a run
+pub run_traced : (old : State) (events : List Event) (answers : List Answer) (new : State) → Run old events answers new → IsTraced old → IsTraced new
+run_traced old [] [] new run h = subst IsTraced (sym run) h
+run_traced old (event ∷ events) (answer ∷ answers) new run h = run_traced run.0 events answers new run.3 (step_traced old event answer run.1 run.0 run.2 h)
+run_traced old [] (answer ∷ answers) new run h = absurd run
+run_traced old (event ∷ events) [] new run h = absurd run
+
+pub runs_lawful : RunsAreLawful
+runs_lawful opening events answers s run = (run_traced (opening_of opening) events answers s run (initial_traced opening)).lawful
+
+-- ---- kernel and daemon agree
+
+pub initial_agree : (opening : Opening) → HalvesAgree (opening_of opening)
+initial_agree opening = record {
+  given = initial_given opening;
+  tokens = initial_tokens opening;
+  planned = initial_planned opening;
+  places = initial_places opening;
+  book = initial_book opening;
+  stands = initial_stands opening;
+}
+
+agreed_of : (s : State) → HalvesAgree s → Agreed s.kernel s.daemon
+agreed_of s h = record { given = h.given; tokens = h.tokens; planned = h.planned }
+
+-- an outcome leaves it so
+pub outcome_agree : (s : State) (event : Event) → IsTraced s → HalvesAgree s → HalvesAgree (after s (outcome_of s event))
+outcome_agree s event traced h =
+    let next = outcome_agreed s event traced (agreed_of s h) in
+    record {
+      given = next.given;
+      tokens = next.tokens;
+      planned = next.planned;
+      places = outcome_places s event h.places;
+      book = outcome_book s event h.given h.tokens h.book;
+      stands = outcome_stands s event h.given h.tokens h.places h.book h.stands;
+    }
+
+-- ---- and every world is consistent
+
+pub initial_consistent : (opening : Opening) → IsConsistent (opening_of opening)
+initial_consistent opening = record { traced = initial_traced opening; agreed = initial_agree opening }
+
+-- an outcome leaves a consistent state
+pub outcome_consistent : (s : State) (event : Event) → IsConsistent s → IsConsistent (after s (outcome_of s event))
+outcome_consistent s event h = record {
+  traced = outcome_traced s event h.traced;
+  agreed = outcome_agree s event h.traced h.agreed;
+}
+
+-- and so do a step and a run
+pub step_consistent : (old : State) (event : Event) (answer : Answer) (shown : List Obs) (new : State) → Step old event answer shown new → IsConsistent old → IsConsistent new
+step_consistent old event answer shown new (inl out) h = subst IsConsistent (sym out.same) h
+step_consistent old event answer shown new (inr comes) h = subst IsConsistent (sym comes.left) (outcome_consistent old event h)
+
+pub run_consistent : (old : State) (events : List Event) (answers : List Answer) (new : State) → Run old events answers new → IsConsistent old → IsConsistent new
+run_consistent old [] [] new run h = subst IsConsistent (sym run) h
+run_consistent old (event ∷ events) (answer ∷ answers) new run h = run_consistent run.0 events answers new run.3 (step_consistent old event answer run.1 run.0 run.2 h)
+run_consistent old [] (answer ∷ answers) new run h = absurd run
+run_consistent old (event ∷ events) [] new run h = absurd run

@@ -1,0 +1,190 @@
+-- What the acts that a job has left claim, as it goes on.
+use Rattle.std.proofs.Common.{◌≡◌, ℕ, Bool, true, false, cond, List, [], ◌∷◌, map, Option, Some, None, refl, sym, subst, ◌∙◌}
+use Rattle.std.specs.Prelude.{◌==◌, ⊤, if◌then◌else◌}
+use Rattle.std.specs.List.{All}
+use Rattle.std.proofs.lemmas.List.Elements.{All-cons, All-head, All-tail}
+use Rattle.am_names.specs.declared.trigger.Trigger.{Trigger}
+use Rattle.am_names.specs.declared.row.TokenKind.{TokenKind}
+use Rattle.am_names.specs.declared.row.TokenKind.TheVariants.{Missing, Expire}
+use Rattle.am_names.specs.declared.trigger.Status.{Status}
+use Rattle.am_names.specs.declared.trigger.Status.TheVariants.{Ready, Fail}
+use Rattle.am_map.specs.EntryText.{EntryText}
+use Rattle.am_state.specs.declared.daemon_row.Record.{Record}
+use Rattle.am_state.specs.declared.daemon_row.Record.TheVariants.{Mounted}
+use Rattle.am_job.specs.declared.act.Act.{Act}
+use Rattle.am_job.specs.declared.act.Act.TheVariants as act
+use Rattle.am_job.specs.declared.act.Outcome.{Outcome}
+use Rattle.am_job.specs.declared.act.Outcome.TheVariants.{Done, Made, Failed}
+use Rattle.am_job.specs.Plans.{Plan, Ended, Next, plan_for, rest_of, next_of, claims, mount_in, at_directory, without_mount, book_and_reply, reply, mount_entry}
+use Rattle.am_job.specs.Laws.{IsEnded, ClaimsRight, ClaimsFollow}
+use Rattle.am_daemon.specs.State.{JobPlan}
+use Rattle.am_daemon.specs.Deliveries.{job_of}
+use Rattle.am_daemon.specs.Acts.{walked, is_ended, going, finished_in}
+use Rattle.am_laws.proofs.Packets.{nat_is}
+use Rattle.am_machine.specs.Invariant.Traces.{has, AreDifferent}
+use Rattle.am_machine.specs.Invariant.Books.{has_record_left, IsRest}
+use Rattle.am_machine.specs.Invariant.Stands.{IsPlanOn}
+use Rattle.am_machine.proofs.BookFound.{absent}
+
+-- ---- all jobs keep what a job keeps that goes on
+
+module _ (P : JobPlan → Type 0) where
+  going_all : (row : JobPlan) (jobs : List JobPlan) (ended : Bool) → P row → All P jobs → All P (if ended then jobs else row ∷ jobs)
+  going_all row jobs true h rests = rests
+  going_all row jobs false h rests = All-cons P row jobs h rests
+
+  finished_by : (job : ℕ) (outcome : Outcome) (row : JobPlan) (jobs : List JobPlan) (b : Bool) → P row → P (walked outcome row) → All P jobs → All P (finished_in job outcome jobs) →
+      All P (if b then going (walked outcome row) jobs else row ∷ finished_in job outcome jobs)
+  finished_by job outcome row jobs true h g rests later = going_all (walked outcome row) jobs (is_ended (walked outcome row)) g rests
+  finished_by job outcome row jobs false h g rests later = All-cons P row (finished_in job outcome jobs) h later
+
+  pub finished_all : (job : ℕ) (outcome : Outcome) (jobs : List JobPlan) → ((row : JobPlan) → P row → P (walked outcome row)) → All P jobs → All P (finished_in job outcome jobs)
+  finished_all job outcome [] goes h = h
+  finished_all job outcome (row ∷ jobs) goes h =
+      let first = All-head P row jobs h in
+      let rests = All-tail P row jobs h in
+      finished_by job outcome row jobs (row.token == job) first (goes row first) rests (finished_all job outcome jobs goes rests)
+
+-- ---- the job that goes on has the rest of its plan left
+
+going_found : (outcome : Outcome) (job : ℕ) (first new : JobPlan) (jobs : List JobPlan) (ended : Bool) → (first.token == job) ≡ true → job_of jobs job ≡ None → job_of (if ended then jobs else walked outcome first ∷ jobs) job ≡ Some new → new ≡ walked outcome first
+going_found outcome job first new jobs true is none f = absurd (let no : None ≡ Some new = sym none ∙ f in cc)
+going_found outcome job first new jobs false is none f =
+    let its : Some (walked outcome first) ≡ Some new = subst (λ (b : Bool). cond b (Some (walked outcome first)) (job_of jobs job) ≡ Some new) is f in
+    let same : walked outcome first ≡ new = cc in
+    sym same
+
+pub finished_found : (outcome : Outcome) (job : ℕ) (row new : JobPlan) (jobs : List JobPlan) → AreDifferent (map (λ (r : JobPlan). r.token) jobs) → job_of jobs job ≡ Some row → job_of (finished_in job outcome jobs) job ≡ Some new → new ≡ walked outcome row
+finished_found outcome job row new [] differ e f = absurd cc
+finished_found outcome job row new (first ∷ jobs) differ e f = by (first.token == job) refl differ.0 (finished_found outcome job row new jobs differ.1) e f
+  where
+    by : (b : Bool) → (first.token == job) ≡ b → has first.token (map (λ (r : JobPlan). r.token) jobs) ≡ false → (job_of jobs job ≡ Some row → job_of (finished_in job outcome jobs) job ≡ Some new → new ≡ walked outcome row) →
+        cond b (Some first) (job_of jobs job) ≡ Some row → job_of (if b then going (walked outcome first) jobs else first ∷ finished_in job outcome jobs) job ≡ Some new → new ≡ walked outcome row
+    by true is apart later e f =
+        let same : first ≡ row = cc in
+        let none : job_of jobs job ≡ None = subst (λ (n : ℕ). job_of jobs n ≡ None) (nat_is first.token job is) (absent (λ (r : JobPlan). r.token) first.token jobs apart) in
+        subst (λ (r : JobPlan). new ≡ walked outcome r) same (going_found outcome job first new jobs (is_ended (walked outcome first)) is none f)
+    by false is apart later e f = later e (subst (λ (b : Bool). cond b (Some first) (job_of (finished_in job outcome jobs) job) ≡ Some new) is f)
+
+-- ---- what is left claims right, and is on the job's trigger
+
+pub rest_right : (plan : Plan) (outcome : Outcome) → ClaimsRight plan → ClaimsRight (rest_of outcome plan)
+rest_right Ended outcome h = h
+rest_right (Next a done made failed) Done h = h.0.1
+rest_right (Next a done made failed) (Made mount) h = (h.1 mount).1
+rest_right (Next a done made failed) Failed h = h.2.1
+
+pub rest_on : (g : Trigger) (plan : Plan) (outcome : Outcome) → IsPlanOn g plan → IsPlanOn g (rest_of outcome plan)
+rest_on g Ended outcome h = h
+rest_on g (Next a done made failed) Done h = h.1
+rest_on g (Next a done made failed) (Made mount) h = h.2 mount
+rest_on g (Next a done made failed) Failed h = h.3
+
+follows : (a : Act) (done : Plan) (made : ℕ → Plan) (failed : Plan) (outcome : Outcome) → ClaimsRight (Next a done made failed) → ClaimsFollow a outcome (claims (Next a done made failed)) (rest_of outcome (Next a done made failed))
+follows a done made failed Done h = h.0.0
+follows a done made failed (Made mount) h = (h.1 mount).0
+follows a done made failed Failed h = h.2.0
+
+-- ---- the act mounts and unmounts nothing, and writes nothing
+
+abbrev pub MovesNothing : Option Act → Outcome → Type 0
+MovesNothing None outcome = ⊥
+MovesNothing (Some (act.Mkdir trigger)) outcome = ⊤
+MovesNothing (Some (act.Mount trigger entry)) outcome = outcome ≡ Failed
+MovesNothing (Some (act.Umount trigger)) outcome = outcome ≡ Failed
+MovesNothing (Some (act.Rmdir trigger)) outcome = ⊤
+MovesNothing (Some (act.Record trigger entry)) outcome = ⊥
+MovesNothing (Some (act.Reply status)) outcome = outcome ≡ Done
+
+ended_none : (rest : Plan) → IsEnded rest → has_record_left rest ≡ true → ⊥
+ended_none Ended h left = absurd cc
+ended_none (Next a done made failed) h left = h
+
+kept_by : (g : Trigger) (a : Act) (done : Plan) (made : ℕ → Plan) (failed : Plan) (outcome : Outcome) → MovesNothing (Some a) outcome → IsRest g (Next a done made failed) → ClaimsRight (Next a done made failed) →
+    has_record_left (rest_of outcome (Next a done made failed)) ≡ true → claims (rest_of outcome (Next a done made failed)) ≡ claims (Next a done made failed)
+kept_by g (act.Mkdir trigger) done made failed outcome still rest h left = follows (act.Mkdir trigger) done made failed outcome h
+kept_by g (act.Mount trigger entry) done made failed Failed still rest h left = h.2.0
+kept_by g (act.Mount trigger entry) done made failed Done still rest h left = absurd cc
+kept_by g (act.Mount trigger entry) done made failed (Made mount) still rest h left = absurd cc
+kept_by g (act.Umount trigger) done made failed Failed still rest h left = h.2.0
+kept_by g (act.Umount trigger) done made failed Done still rest h left = absurd cc
+kept_by g (act.Umount trigger) done made failed (Made mount) still rest h left = absurd cc
+kept_by g (act.Rmdir trigger) done made failed outcome still rest h left = follows (act.Rmdir trigger) done made failed outcome h
+kept_by g (act.Record trigger entry) done made failed outcome still rest h left = absurd still
+kept_by g (act.Reply status) done made failed Done still rest h left = absurd (ended_none done rest.0.0 left)
+kept_by g (act.Reply status) done made failed (Made mount) still rest h left = absurd cc
+kept_by g (act.Reply status) done made failed Failed still rest h left = absurd cc
+
+-- what is left claims what was claimed
+pub claims_kept : (g : Trigger) (plan : Plan) (outcome : Outcome) → MovesNothing (next_of plan) outcome → IsRest g plan → ClaimsRight plan → has_record_left (rest_of outcome plan) ≡ true → claims (rest_of outcome plan) ≡ claims plan
+claims_kept g Ended outcome still rest h left = absurd still
+claims_kept g (Next a done made failed) outcome still rest h left = kept_by g a done made failed outcome still rest h left
+
+-- ---- the act mounts, or unmounts
+
+-- a mount: its number is claimed, it was on the job's trigger, and the record is left
+pub record Mounts (g : Trigger) (plan : Plan) (trigger : Trigger) (mount : ℕ) : Type 0 where
+  pub on : trigger ≡ g
+  pub left : has_record_left plan ≡ true
+  pub claimed : claims (rest_of (Made mount) plan) ≡ Some mount
+
+mounts_by : (g trigger : Trigger) (entry : EntryText) (mount : ℕ) (a : Act) (done : Plan) (made : ℕ → Plan) (failed : Plan) → a ≡ act.Mount trigger entry → IsRest g (Next a done made failed) → ClaimsRight (Next a done made failed) → IsPlanOn g (Next a done made failed) → Mounts g (Next a done made failed) trigger mount
+mounts_by g trigger entry mount (act.Mount to what) done made failed e rest h own =
+    let same : to ≡ trigger = cc in
+    record { on = sym same ∙ own.0; left = rest.2.0; claimed = (h.1 mount).0 }
+mounts_by g trigger entry mount a done made failed e rest h own = absurd cc
+
+pub mounts : (g trigger : Trigger) (entry : EntryText) (mount : ℕ) (plan : Plan) → next_of plan ≡ Some (act.Mount trigger entry) → IsRest g plan → ClaimsRight plan → IsPlanOn g plan → Mounts g plan trigger mount
+mounts g trigger entry mount Ended e rest h own = absurd cc
+mounts g trigger entry mount (Next a done made failed) e rest h own = mounts_by g trigger entry mount a done made failed (let same : a ≡ act.Mount trigger entry = cc in same) rest h own
+
+-- an unmount: nothing is claimed any more
+pub record Unmounts (g : Trigger) (plan : Plan) (trigger : Trigger) : Type 0 where
+  pub on : trigger ≡ g
+  pub left : has_record_left plan ≡ true
+  pub claimed : claims (rest_of Done plan) ≡ None
+
+unmounts_by : (g trigger : Trigger) (a : Act) (done : Plan) (made : ℕ → Plan) (failed : Plan) → a ≡ act.Umount trigger → IsRest g (Next a done made failed) → ClaimsRight (Next a done made failed) → IsPlanOn g (Next a done made failed) → Unmounts g (Next a done made failed) trigger
+unmounts_by g trigger (act.Umount to) done made failed e rest h own =
+    let same : to ≡ trigger = cc in
+    record { on = sym same ∙ own.0; left = rest.2.0; claimed = h.0.0 }
+unmounts_by g trigger a done made failed e rest h own = absurd cc
+
+pub unmounts : (g trigger : Trigger) (plan : Plan) → next_of plan ≡ Some (act.Umount trigger) → IsRest g plan → ClaimsRight plan → IsPlanOn g plan → Unmounts g plan trigger
+unmounts g trigger Ended e rest h own = absurd cc
+unmounts g trigger (Next a done made failed) e rest h own = unmounts_by g trigger a done made failed (let same : a ≡ act.Umount trigger = cc in same) rest h own
+
+-- ---- the act writes the record
+
+pub claims_record : (plan : Plan) (trigger : Trigger) (entry : Option Record) → next_of plan ≡ Some (act.Record trigger entry) → claims plan ≡ mount_in entry
+claims_record Ended trigger entry e = absurd cc
+claims_record (Next a done made failed) trigger entry e =
+    let same : a ≡ act.Record trigger entry = cc in
+    subst (λ (b : Act). claims (Next b done made failed) ≡ mount_in entry) (sym same) refl
+
+-- ---- a plan begins on its trigger
+
+reply_on : (g : Trigger) (status : Status) → IsPlanOn g (reply status)
+reply_on g status = (tt, tt, (λ mount. tt), tt)
+
+book_on : (g : Trigger) (entry : Option Record) (status : Status) → IsPlanOn g (book_and_reply g entry status)
+book_on g entry status = let rest = reply_on g status in (tt, rest, (λ mount. rest), rest)
+
+rmdir_on : (g : Trigger) (name : Option (List ℕ)) (rest : Plan) → IsPlanOn g rest → IsPlanOn g (at_directory name (act.Rmdir g) rest)
+rmdir_on g None rest h = h
+rmdir_on g (Some name) rest h = (tt, h, (λ mount. h), h)
+
+mkdir_on : (g : Trigger) (name : Option (List ℕ)) (rest : Plan) → IsPlanOn g rest → IsPlanOn g (at_directory name (act.Mkdir g) rest)
+mkdir_on g None rest h = h
+mkdir_on g (Some name) rest h = (tt, h, (λ mount. h), h)
+
+pub plan_on : (kind : TokenKind) (g : Trigger) (mounted : Option ℕ) (entry : Option EntryText) → IsPlanOn g (plan_for kind g mounted entry)
+plan_on Missing g (Some mount) entry = (tt, tt, (λ m. tt), tt)
+plan_on Missing g None (Some entry) =
+    let failed = rmdir_on g g.name (without_mount g) (book_on g None Fail) in
+    mkdir_on g g.name (mount_entry g entry) (refl, failed, (λ mount. book_on g (Some (Mounted mount)) Ready), failed)
+plan_on Missing g None None = book_on g None Fail
+plan_on Expire g (Some mount) entry =
+    let done = rmdir_on g g.name (book_and_reply g None Ready) (book_on g None Ready) in
+    (refl, done, (λ m. done), book_on g (Some (Mounted mount)) Fail)
+plan_on Expire g None entry = (tt, tt, (λ m. tt), tt)

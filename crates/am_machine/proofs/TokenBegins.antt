@@ -1,0 +1,222 @@
+-- A walk that begins, and an expiry, keep what kernel and daemon agree on.
+use Rattle.std.proofs.Common.{◌≡◌, ℕ, ◌+◌, Bool, true, false, not, ◌&&◌, ◌==◌, List, [], ◌∷◌, Option, Some, None, refl, ap, subst, ◌∙◌, inl, arith}
+use Rattle.std.specs.Prelude.{is_some, is_none, find}
+use Rattle.std.specs.Option.{option_map}
+use Rattle.std.proofs.lemmas.List.Elements.{filter_passes}
+use Rattle.am_names.specs.Trigger.{same_trigger}
+use Rattle.am_names.specs.declared.trigger.Trigger.{Trigger}
+use Rattle.am_names.specs.declared.trigger.PipeState.{PipeState}
+use Rattle.am_names.specs.declared.trigger.PipeState.TheVariants.{Room, Full, Gone}
+use Rattle.am_names.specs.declared.row.Position.{Position}
+use Rattle.am_names.specs.declared.row.OpenToken.{OpenToken}
+use Rattle.am_names.specs.declared.row.TokenKind.{TokenKind}
+use Rattle.am_names.specs.declared.row.TokenKind.TheVariants.{Missing, Expire}
+use Rattle.am_state.specs.declared.kernel_row.QueuedRow.{QueuedRow}
+use Rattle.am_trigger.specs.Rows.{autofs_of}
+use Rattle.am_wait.specs.Rows.{WaitRows, token_of, is_open_on, same_kind, open_on}
+use Rattle.am_wait.specs.Calls.{is_exhausted, is_full, joined_on}
+use Rattle.am_wait.proofs.CallLemmas.{is_none_of}
+use Rattle.am_wait.proofs.FindLemmas.{joined_if, token_joined}
+use Rattle.am_expire.specs.Pick.{Expiry, is_due, is_open, may_go, mount_on, is_eligible, candidates, is_first, pick_of}
+use Rattle.am_walk.specs.declared.stop.Stop.{Stop}
+use Rattle.am_walk.specs.declared.stop.Stop.TheVariants as stops
+use Rattle.am_walk.specs.Walks.{Walked, walk_of}
+use Rattle.am_walk.specs.Laws.{IsIdle, StopsWell, IsOrderly}
+use Rattle.am_walk.proofs.LawLemmas.{orderly}
+use Rattle.am_kernel.specs.declared.begun.Begin.{Begin}
+use Rattle.am_kernel.specs.State.{KernelState}
+use Rattle.am_kernel.specs.Sites.{scene_of, attach_of, is_busy}
+use Rattle.am_kernel.specs.Walks as walks
+use Rattle.am_kernel.specs.Walks.{packet_for}
+use Rattle.am_kernel.specs.Expires as expires
+use Rattle.am_laws.proofs.Bools.{and_both, or_no}
+use Rattle.am_laws.proofs.Packets.{nat_is}
+use Rattle.am_machine.proofs.GivenRows.{given_more}
+use Rattle.am_machine.proofs.TokenLists.{all_found, found_none}
+use Rattle.am_machine.proofs.TokenStays.{bare, stays_agree}
+use Rattle.am_machine.proofs.TokenNotify.{notices_agree}
+use Rattle.am_machine.proofs.TokenAgree.{Holds, Begins, fails, either_begins, old_jobs, quiet_holds, closes}
+
+-- ---- no token is open on an idle trigger
+
+mapped_none : (o : Option OpenToken) → option_map (λ (row : OpenToken). row.token) o ≡ None → o ≡ None
+mapped_none None e = refl
+mapped_none (Some row) e = absurd cc
+
+first_false : (a b : Bool) → b ≡ true → (a && b) ≡ false → a ≡ false
+first_false true b h e = absurd cc
+first_false false b h e = refl
+
+kind_itself : (kind : TokenKind) → same_kind kind kind ≡ true
+kind_itself Missing = refl
+kind_itself Expire = refl
+
+other_trigger : (tokens : List OpenToken) (trigger : Trigger) (t : ℕ) (row : OpenToken) → open_on tokens row.kind trigger ≡ None → token_of tokens t ≡ Some row → same_trigger row.trigger trigger ≡ false
+other_trigger tokens trigger t row none e =
+    first_false (same_trigger row.trigger trigger) (same_kind row.kind row.kind) (kind_itself row.kind)
+    (found_none (λ (r : OpenToken). is_open_on row.kind trigger r) (λ (r : OpenToken). r.token == t) tokens row (mapped_none _ none) e)
+
+either_kind : (tokens : List OpenToken) (trigger : Trigger) (kind : TokenKind) → IsIdle tokens trigger → open_on tokens kind trigger ≡ None
+either_kind tokens trigger Missing idle = idle.1
+either_kind tokens trigger Expire idle = idle.0
+
+pub idle_differs : (tokens : List OpenToken) (trigger : Trigger) (t : ℕ) (row : OpenToken) → IsIdle tokens trigger → token_of tokens t ≡ Some row → same_trigger row.trigger trigger ≡ false
+idle_differs tokens trigger t row idle e = other_trigger tokens trigger t row (either_kind tokens trigger row.kind idle) e
+
+-- ---- a walker joins
+
+bare_joined : (b : Bool) (walker : ℕ) (o : Option OpenToken) → option_map bare (joined_if b walker o) ≡ option_map bare o
+bare_joined true walker None = refl
+bare_joined true walker (Some row) = refl
+bare_joined false walker o = refl
+
+tokens_joined : (o : Option OpenToken) (token walker t : ℕ) (w : WaitRows) → option_map bare (token_of (joined_on o token walker w).tokens t) ≡ option_map bare (token_of w.tokens t)
+tokens_joined None token walker t w = refl
+tokens_joined (Some row) token walker t w = ap (option_map bare) (token_joined token walker t w.tokens (token == t) refl) ∙ bare_joined (token == t) walker (token_of w.tokens t)
+
+joined_holds : (k : KernelState) (begin : Begin) (token : ℕ) (passed : List Trigger) → Holds k (walks.with_joined begin token passed k)
+joined_holds k begin token passed = record {
+  holds = λ d n h.
+      let made = walks.with_joined begin token passed k in
+      record {
+        given = given_more k made d refl refl refl (omega arith) h.given;
+        tokens = stays_agree k made d.jobs (record { tokens = λ t. tokens_joined (token_of k.waits.tokens token) token begin.walker t k.waits; queue = refl; grows = λ fs. inl refl }) (old_jobs k d h.given) h.tokens;
+        planned = h.planned;
+      };
+}
+
+-- ---- the daemon is notified
+
+abbrev pub notice_token : KernelState → ℕ → Trigger → TokenKind → OpenToken
+notice_token k walker trigger kind = record { token = k.waits.last_token + 1; trigger = trigger; kind = kind; waiters = walker ∷ [] }
+
+abbrev pub notice_packet : KernelState → ℕ → ℕ → Trigger → TokenKind → QueuedRow
+notice_packet k walker attach trigger kind = record { token = k.waits.last_token + 1; attach = attach; packet = packet_for kind (k.waits.last_token + 1) walker trigger }
+
+notified_holds : (k : KernelState) (begin : Begin) (trigger : Trigger) (attach : ℕ) (passed : List Trigger) → attach_of k trigger.fs ≡ Some attach → IsIdle k.waits.tokens trigger → Holds k (walks.with_notified begin trigger attach passed k)
+notified_holds k begin trigger attach passed is idle = record {
+  holds = λ d n h.
+      let made = walks.with_notified begin trigger attach passed k in
+      record {
+        given = given_more k made d refl refl refl (omega arith) h.given;
+        tokens = notices_agree k made d.jobs (notice_token k begin.walker trigger Missing) (notice_packet k begin.walker attach trigger Missing)
+            (record {
+              tokens = refl;
+              queue = refl;
+              attach = λ fs. refl;
+              token = refl;
+              its = refl;
+              its_number = refl;
+              dev = refl;
+              current = is;
+              idle = λ t row e. idle_differs k.waits.tokens trigger t row idle e;
+            }) n h.tokens;
+        planned = h.planned;
+      };
+}
+
+expiring_holds : (k : KernelState) (walker : ℕ) (trigger : Trigger) (attach : ℕ) → attach_of k trigger.fs ≡ Some attach → IsIdle k.waits.tokens trigger → Holds k (expires.with_expiring walker trigger attach k)
+expiring_holds k walker trigger attach is idle = record {
+  holds = λ d n h.
+      let made = expires.with_expiring walker trigger attach k in
+      record {
+        given = given_more k made d refl refl refl (omega arith) h.given;
+        tokens = notices_agree k made d.jobs (notice_token k walker trigger Expire) (notice_packet k walker attach trigger Expire)
+            (record {
+              tokens = refl;
+              queue = refl;
+              attach = λ fs. refl;
+              token = refl;
+              its = refl;
+              its_number = refl;
+              dev = refl;
+              current = is;
+              idle = λ t row e. idle_differs k.waits.tokens trigger t row idle e;
+            }) n h.tokens;
+        planned = h.planned;
+      };
+}
+
+notifies_by : (pipe : PipeState) (k : KernelState) (begin : Begin) (trigger : Trigger) (attach : ℕ) (passed : List Trigger) → attach_of k trigger.fs ≡ Some attach → IsIdle k.waits.tokens trigger → Begins k (walks.notifies_by pipe k begin trigger attach passed)
+notifies_by Room k begin trigger attach passed is idle = record { well = notified_holds k begin trigger attach passed is idle }
+notifies_by Full k begin trigger attach passed is idle = fails k _
+notifies_by Gone k begin trigger attach passed is idle = record { well = closes k trigger.fs }
+
+notifies : (attach : Option ℕ) (pipe : PipeState) (k : KernelState) (begin : Begin) (trigger : Trigger) (passed : List Trigger) → attach_of k trigger.fs ≡ attach → IsIdle k.waits.tokens trigger → Begins k (walks.notifies attach pipe k begin trigger passed)
+notifies None pipe k begin trigger passed is idle = fails k _
+notifies (Some attach) pipe k begin trigger passed is idle =
+    either_begins k (is_exhausted k.waits) _ _ (fails k _)
+    (either_begins k (is_full k.waits) _ _ (fails k _) (notifies_by pipe k begin trigger attach passed is idle))
+
+-- ---- a walk begins
+
+arrives : (k : KernelState) (begin : Begin) (at : Position) (passed : List Trigger) → Begins k (walks.arrives k begin at passed)
+arrives k begin at passed = record {
+  well = quiet_holds k (walks.arrived begin at.mount passed k) (record { tokens = refl; last_token = refl; queue = refl; attached = refl; autofs = refl; last_attach = refl; more_fs = omega arith });
+}
+
+begun_by : (stop : Stop) (pipe : PipeState) (k : KernelState) (begin : Begin) (passed : List Trigger) → StopsWell k.waits.tokens stop → Begins k (walks.begun_by stop pipe k begin passed)
+begun_by (stops.Arrive at) pipe k begin passed h = arrives k begin at passed
+begun_by (stops.Block token) pipe k begin passed h = either_begins k (is_full k.waits) _ _ (fails k _) (record { well = joined_holds k begin token passed })
+begun_by (stops.Missing trigger) pipe k begin passed h = notifies (attach_of k trigger.fs) pipe k begin trigger passed refl h
+begun_by (stops.Refuse e) pipe k begin passed h = fails k e
+
+pub begun_with : (walked : Walked) (pipe : PipeState) (k : KernelState) (begin : Begin) → IsOrderly k.waits.tokens walked → Begins k (walks.begun_with walked pipe k begin)
+begun_with walked pipe k begin h = begun_by walked.stop pipe k begin walked.passed h.stops
+
+pub walk : (pipe : PipeState) (k : KernelState) (begin : Begin) → Begins k (walks.walk_outcome pipe k begin)
+walk pipe k begin =
+    either_begins k (is_busy k begin.walker) _ _ (fails k _) (begun_with (walk_of (scene_of k) begin.ns begin.path) pipe k begin (orderly k.waits.tokens (scene_of k) refl begin.ns begin.path))
+
+-- ---- an expiry
+
+not_false : (b : Bool) → not b ≡ true → b ≡ false
+not_false true e = absurd cc
+not_false false e = refl
+
+-- what is picked is a trigger of the file system on which no token is open
+abbrev IsPicked : Expiry → Trigger → Type 0
+IsPicked e trigger = (trigger.fs ≡ e.fs) × IsIdle e.waits.tokens trigger
+
+eligible : (e : Expiry) (row : Trigger × ℕ) → is_eligible e row ≡ true → IsPicked e row.0
+eligible e row h =
+    let one = row.0.fs == e.fs in
+    let due = is_due e.timeout e.moment e.immediate row.1 in
+    let shut = not (is_open e.waits row.0) in
+    let first = and_both (one && due && shut) (may_go e.table e.uses (mount_on e row.0)) h in
+    let second = and_both (one && due) shut first.0 in
+    let third = and_both one due second.0 in
+    let closed = or_no (is_some (open_on e.waits.tokens Missing row.0)) (is_some (open_on e.waits.tokens Expire row.0)) (not_false (is_open e.waits row.0) second.1) in
+    (nat_is row.0.fs e.fs third.0, (is_none_of (open_on e.waits.tokens Expire row.0) closed.1, is_none_of (open_on e.waits.tokens Missing row.0) closed.0))
+
+picked_by : (e : Expiry) (trigger : Trigger) (o : Option (Trigger × ℕ)) → find (is_first (candidates e)) (candidates e) ≡ o → option_map (λ (row : Trigger × ℕ). row.0) o ≡ Some trigger → IsPicked e trigger
+picked_by e trigger None is h = absurd cc
+picked_by e trigger (Some row) is h =
+    let may = all_found (λ (r : Trigger × ℕ). is_eligible e r ≡ true) (is_first (candidates e)) (candidates e) row (filter_passes (is_eligible e) e.triggers.uses) is in
+    let same : row.0 ≡ trigger = cc in
+    subst (IsPicked e) same (eligible e row may)
+
+pub picked : (e : Expiry) (trigger : Trigger) → pick_of e ≡ Some trigger → IsPicked e trigger
+picked e trigger h = picked_by e trigger (find (is_first (candidates e)) (candidates e)) refl h
+
+expires_by : (pipe : PipeState) (k : KernelState) (walker : ℕ) (trigger : Trigger) (attach : ℕ) → attach_of k trigger.fs ≡ Some attach → IsIdle k.waits.tokens trigger → Begins k (expires.expires_by pipe k walker trigger attach)
+expires_by Room k walker trigger attach is idle = record { well = expiring_holds k walker trigger attach is idle }
+expires_by Full k walker trigger attach is idle = fails k _
+expires_by Gone k walker trigger attach is idle = record { well = closes k trigger.fs }
+
+expires_next : (next : Option Trigger) (pipe : PipeState) (k : KernelState) (walker attach fs : ℕ) → attach_of k fs ≡ Some attach → ((trigger : Trigger) → next ≡ Some trigger → (trigger.fs ≡ fs) × IsIdle k.waits.tokens trigger) → Begins k (expires.expires_next next pipe k walker attach)
+expires_next None pipe k walker attach fs is h = fails k _
+expires_next (Some trigger) pipe k walker attach fs is h =
+    let pick = h trigger refl in
+    either_begins k (is_exhausted k.waits) _ _ (fails k _)
+    (either_begins k (is_full k.waits) _ _ (fails k _) (expires_by pipe k walker trigger attach (ap (attach_of k) pick.0 ∙ is) pick.1))
+
+expires_under : (attach : Option ℕ) (pipe : PipeState) (k : KernelState) (walker fs : ℕ) (next : Option Trigger) → attach_of k fs ≡ attach → ((trigger : Trigger) → next ≡ Some trigger → (trigger.fs ≡ fs) × IsIdle k.waits.tokens trigger) → Begins k (expires.expires_under attach pipe k walker next)
+expires_under None pipe k walker fs next is h = fails k _
+expires_under (Some attach) pipe k walker fs next is h = expires_next next pipe k walker attach fs is h
+
+pub expire : (pipe : PipeState) (k : KernelState) (walker fs moment : ℕ) (immediate : Bool) → Begins k (expires.expire_outcome pipe k walker fs moment immediate)
+expire pipe k walker fs moment immediate =
+    either_begins k (is_none (autofs_of k.triggers fs)) _ _ (fails k _)
+    (either_begins k (is_busy k walker) _ _ (fails k _)
+    (expires_under (attach_of k fs) pipe k walker fs (expires.next_of k fs moment immediate) refl (λ trigger e. picked (expires.expiry_of k fs moment immediate) trigger e)))

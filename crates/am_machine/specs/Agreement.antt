@@ -1,0 +1,78 @@
+-- What kernel and daemon agree on, of each file system that the daemon serves.
+use Rattle.std.specs.Prelude.{◌≡◌, ◌⊎◌, ◌<◌, ℕ, true, List, Some, None}
+use Rattle.am_names.specs.Trigger.{same_trigger}
+use Rattle.am_names.specs.declared.trigger.Trigger.{Trigger}
+use Rattle.am_names.specs.declared.row.OpenToken.{OpenToken}
+use Rattle.am_group.specs.Propagation.{Receives}
+use Rattle.am_wait.specs.Rows.{token_of}
+use Rattle.am_trigger.specs.Sites.{place_of}
+use Rattle.am_state.specs.declared.daemon_row.Record.TheVariants.{Mounted}
+use Rattle.am_state.specs.declared.kernel_row.QueuedRow.{QueuedRow}
+use Rattle.am_kernel.specs.State.{KernelState}
+use Rattle.am_kernel.specs.DaemonMounts.{location_of, mounted_on}
+use Rattle.am_kernel.specs.Requests.{queued_of}
+use Rattle.am_job.specs.Book.{record_of}
+use Rattle.am_daemon.specs.State.{DaemonState, JobPlan}
+use Rattle.am_daemon.specs.Deliveries.{job_of}
+use Rattle.am_machine.specs.declared.event.Event.{Event}
+use Rattle.am_machine.specs.declared.answer.Answer.{Answer}
+use Rattle.am_machine.specs.State.{Opening, State, opening_of}
+use Rattle.am_machine.specs.Machine.{Run}
+use Rattle.am_machine.specs.Invariant.Books.{IsServed, is_pending_for}
+use Rattle.am_machine.specs.Invariant.Places.{HasCopy}
+
+-- The mount stands on the trigger at the daemon's mount, and a copy of it on each older mount that
+-- receives from that one.
+pub record IsMounted (k : KernelState) (g : Trigger) (m : ℕ) : Type 0 where
+  pub here : mounted_on k g ≡ Some m
+  pub copied : (y : ℕ) → Receives k.table.groups (location_of k g.fs) y → y < m →
+      HasCopy k.table.rows y (place_of g) m
+
+-- A job of this attachment is at work on the trigger, and its token is open, of the same file system.
+pub record IsPending (k : KernelState) (d : DaemonState) (current : ℕ) (g : Trigger) (token : ℕ) : Type 0 where
+  pub job : JobPlan
+  pub is_job : job_of d.jobs token ≡ Some job
+  pub attach : job.attach ≡ current
+  pub trigger : same_trigger job.trigger g ≡ true
+  pub row : OpenToken
+  pub is_open : token_of k.waits.tokens token ≡ Some row
+  pub fs : row.trigger.fs ≡ g.fs
+
+-- The token's packet is in the pipe of this attachment, and no job has taken it up.
+pub record IsToDeliver (k : KernelState) (d : DaemonState) (current token : ℕ) : Type 0 where
+  pub row : QueuedRow
+  pub is_queued : queued_of k.queue token ≡ Some row
+  pub attach : row.attach ≡ current
+  pub untaken : job_of d.jobs token ≡ None
+
+-- A job of this attachment has the token, whose packet is in no pipe.
+pub record IsToAnswer (k : KernelState) (d : DaemonState) (current token : ℕ) : Type 0 where
+  pub job : JobPlan
+  pub is_job : job_of d.jobs token ≡ Some job
+  pub attach : job.attach ≡ current
+  pub unqueued : queued_of k.queue token ≡ None
+
+-- A file system that the daemon serves under this attachment.
+pub record AgreeOn (k : KernelState) (d : DaemonState) (fs attach : ℕ) : Type 0 where
+  -- what the book says to be mounted is mounted, and has its copies
+  pub mounted : (g : Trigger) (m : ℕ) → g.fs ≡ fs →
+      record_of d.book g ≡ Some (Mounted m) → IsMounted k g m
+  -- where it says that a mount or an unmount goes on, a job is at work
+  pub pending : (g : Trigger) (token : ℕ) → g.fs ≡ fs →
+      is_pending_for token (record_of d.book g) ≡ true → IsPending k d attach g token
+  -- where it says nothing, nothing is mounted
+  pub unrecorded : (g : Trigger) → g.fs ≡ fs → record_of d.book g ≡ None → mounted_on k g ≡ None
+  -- each open token is to be delivered, or to be answered, and not both
+  pub tokens : (token : ℕ) (row : OpenToken) →
+      token_of k.waits.tokens token ≡ Some row → row.trigger.fs ≡ fs →
+      IsToDeliver k d attach token ⊎ IsToAnswer k d attach token
+
+-- of every file system that the daemon serves
+abbrev pub Agree : State → Type 0
+Agree s = (fs attach : ℕ) → IsServed s.kernel s.daemon fs attach →
+    AgreeOn s.kernel s.daemon fs attach
+
+-- every run from an initial world leaves kernel and daemon agreed
+abbrev pub RunsAgree : Type 0
+RunsAgree = (opening : Opening) (events : List Event) (answers : List Answer) (s : State) →
+    Run (opening_of opening) events answers s → Agree s

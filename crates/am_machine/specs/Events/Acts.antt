@@ -1,0 +1,121 @@
+-- The daemon's jobs go on, act by act (autofs.rst, "Communicating with autofs: root directory
+-- ioctls").
+use Rattle.std.specs.Prelude.{ℕ, ◌+◌, Bool, not, List, [], ◌∷◌, Option, Some, None, if◌then◌else◌}
+use Rattle.am_names.specs.declared.errno.Errno.{Errno}
+use Rattle.am_names.specs.declared.errno.Errno.TheVariants.{ENOENT, EPERM, EBUSY, EEXIST, EINVAL}
+use Rattle.am_names.specs.declared.trigger.Trigger.{Trigger}
+use Rattle.am_names.specs.declared.trigger.Status.{Status}
+use Rattle.am_state.specs.declared.daemon_row.Record.{Record}
+use Rattle.am_state.specs.declared.obs.Obs.{Obs}
+use Rattle.am_state.specs.declared.obs.Obs.TheVariants as seen
+use Rattle.am_kernel.specs.State.{KernelState}
+use Rattle.am_kernel.specs.Sites.{is_current}
+use Rattle.am_kernel.specs.Directories.{mkdir_refusal, with_directory, rmdir_refusal, without_directory}
+use Rattle.am_kernel.specs.DaemonMounts.{location_of, coming, mount_on_refusal, with_mount_on, umount_from_refusal, gone_from, without_mounts}
+use Rattle.am_kernel.specs.Requests.{answer_refusal, acknowledged, answering}
+use Rattle.am_job.specs.declared.act.Act.{Act}
+use Rattle.am_job.specs.declared.act.Act.TheVariants as act
+use Rattle.am_job.specs.declared.act.Outcome.TheVariants as came
+use Rattle.am_job.specs.declared.act.Outcome as job
+use Rattle.am_job.specs.Plans.{next_of}
+use Rattle.am_daemon.specs.State.{JobPlan}
+use Rattle.am_daemon.specs.Attachments.{holds}
+use Rattle.am_daemon.specs.Deliveries.{job_of}
+use Rattle.am_daemon.specs.Acts.{finished}
+use Rattle.am_machine.specs.declared.answer.Answer.{Answer}
+use Rattle.am_machine.specs.declared.answer.Answer.TheVariants as answers
+use Rattle.am_machine.specs.State.{State}
+use Rattle.am_machine.specs.Outcome.{Outcome, refused}
+
+-- this has come of the job's next act, and the job goes on
+abbrev pub goes_on : State → JobPlan → job.Outcome → Answer → List Obs → KernelState → Outcome
+goes_on s row came answer shown k = record {
+  answer = answer;
+  seen = shown;
+  state = record s { kernel = k; daemon = finished row.token came s.daemon };
+}
+
+-- a directory that is there already counts as made
+abbrev pub mkdir_by : Option Errno → State → JobPlan → Trigger → Outcome
+mkdir_by None s row trigger = goes_on s row came.Done answers.DidMkdir [] (with_directory trigger s.kernel)
+mkdir_by (Some EEXIST) s row trigger = goes_on s row came.Done answers.DidMkdir [] s.kernel
+mkdir_by (Some e) s row trigger = refused s e
+
+abbrev pub mount_fails : State → JobPlan → Outcome
+mount_fails s row = goes_on s row came.Failed answers.FailedMount [] s.kernel
+
+abbrev pub mounts : State → JobPlan → Trigger → Outcome
+mounts s row trigger =
+    let mount = s.kernel.table.last_mount + 1 in
+    goes_on s row (came.Made mount) (answers.DidMount mount)
+    (seen.Mounted (coming s.kernel (location_of s.kernel trigger.fs)) ∷ [])
+    (with_mount_on trigger s.kernel)
+
+-- a mount that the kernel refuses has failed
+abbrev pub mount_by : Option Errno → State → JobPlan → Trigger → Outcome
+mount_by None s row trigger = mounts s row trigger
+mount_by (Some e) s row trigger = mount_fails s row
+
+-- a mount of an old attachment is refused before it can fail
+abbrev pub mount_act : State → JobPlan → Trigger → Bool → Outcome
+mount_act s row trigger ok =
+    if not (is_current s.kernel trigger.fs row.attach) then refused s EPERM
+    else if not ok then mount_fails s row
+    else mount_by (mount_on_refusal s.kernel row.attach trigger) s row trigger
+
+abbrev pub umount_fails : State → JobPlan → Outcome
+umount_fails s row = goes_on s row came.Failed answers.FailedUmount [] s.kernel
+
+abbrev pub umounts : State → JobPlan → Trigger → Outcome
+umounts s row trigger =
+    let gone = gone_from s.kernel trigger in
+    goes_on s row came.Done answers.DidUmount (seen.Unmounted gone ∷ [])
+    (without_mounts gone s.kernel)
+
+-- so has an unmount
+abbrev pub umount_by : Option Errno → State → JobPlan → Trigger → Outcome
+umount_by None s row trigger = umounts s row trigger
+umount_by (Some e) s row trigger = umount_fails s row
+
+abbrev pub umount_act : State → JobPlan → Trigger → Bool → Outcome
+umount_act s row trigger ok =
+    if not (is_current s.kernel trigger.fs row.attach) then refused s EPERM
+    else if not ok then umount_fails s row
+    else umount_by (umount_from_refusal s.kernel row.attach trigger) s row trigger
+
+-- a directory that has gone, or on which something is mounted, counts as removed
+abbrev pub rmdir_by : Option Errno → State → JobPlan → Trigger → Outcome
+rmdir_by None s row trigger = goes_on s row came.Done answers.DidRmdir [] (without_directory trigger s.kernel)
+rmdir_by (Some ENOENT) s row trigger = goes_on s row came.Done answers.DidRmdir [] s.kernel
+rmdir_by (Some EBUSY) s row trigger = goes_on s row came.Done answers.DidRmdir [] s.kernel
+rmdir_by (Some e) s row trigger = refused s e
+
+-- the daemon holds the job's attachment
+abbrev pub record_act : State → JobPlan → Trigger → Option Record → Outcome
+record_act s row trigger entry =
+    if not (holds s.daemon row.trigger.fs row.attach) then refused s EPERM
+    else goes_on s row came.Done answers.DidRecord (seen.Recorded trigger entry ∷ []) s.kernel
+
+-- the token closes, its waiters are released, and the job ends
+abbrev pub reply_by : Option Errno → State → JobPlan → Status → Outcome
+reply_by (Some e) s row status = refused s e
+reply_by None s row status =
+    goes_on s row came.Done answers.DidReply (answering row.token status s.kernel)
+    (acknowledged row.token status s.kernel)
+
+abbrev pub acted : Option Act → State → JobPlan → Bool → Outcome
+acted None s row ok = refused s EINVAL
+acted (Some (act.Mkdir trigger)) s row ok = mkdir_by (mkdir_refusal s.kernel row.attach trigger) s row trigger
+acted (Some (act.Mount trigger entry)) s row ok = mount_act s row trigger ok
+acted (Some (act.Umount trigger)) s row ok = umount_act s row trigger ok
+acted (Some (act.Rmdir trigger)) s row ok = rmdir_by (rmdir_refusal s.kernel row.attach trigger) s row trigger
+acted (Some (act.Record trigger entry)) s row ok = record_act s row trigger entry
+acted (Some (act.Reply status)) s row ok = reply_by (answer_refusal s.kernel row.attach row.token) s row status
+
+abbrev pub acted_at : Option JobPlan → State → Bool → Outcome
+acted_at None s ok = refused s EINVAL
+acted_at (Some row) s ok = acted (next_of row.plan) s row ok
+
+-- the job goes on by its next act
+abbrev pub act_outcome : State → ℕ → Bool → Outcome
+act_outcome s job ok = acted_at (job_of s.daemon.jobs job) s ok

@@ -1,0 +1,95 @@
+-- What the administrator does: autofs are attached, mounts come and go, and namespaces.
+use Rattle.std.specs.Prelude.{ℕ, ◌+◌, List, [], ◌∷◌, length, Option, Some, None, if◌then◌else◌}
+use Rattle.am_names.specs.declared.errno.Errno.{Errno}
+use Rattle.am_names.specs.declared.errno.Errno.TheVariants.{ENOENT, EEXIST}
+use Rattle.am_state.specs.declared.obs.Obs.TheVariants as seen
+use Rattle.am_group.specs.declared.kind.Change.{Change}
+use Rattle.am_group.specs.declared.kind.Kind.{Kind}
+use Rattle.am_propagate.specs.Added.{new_mounts}
+use Rattle.am_propagate.specs.Namespaces.{copy_refusal}
+use Rattle.am_propagate.specs.Removed.{drop_refusal, mounts_in}
+use Rattle.am_expire.specs.Uses.{is_used}
+use Rattle.am_kernel.specs.Administration.{mount_refusal, with_plain, mounting, bind_refusal, with_bind, plain_umount_refusal, plain_gone, without_plain, plain_change_refusal, with_changed, kind_refusal, kind_at}
+use Rattle.am_kernel.specs.DaemonMounts.{autofs_refusal, with_attached, attaching}
+use Rattle.am_kernel.specs.Namespaces.{with_namespace, without_namespace}
+use Rattle.am_daemon.specs.declared.served.Served.{Served}
+use Rattle.am_daemon.specs.Points.{point_of}
+use Rattle.am_daemon.specs.Attachments.{is_attached, with_attachment}
+use Rattle.am_machine.specs.declared.answer.Answer.TheVariants as answers
+use Rattle.am_machine.specs.State.{State}
+use Rattle.am_machine.specs.Outcome.{Outcome, refused, unless, with_kernel, told}
+
+-- ---- attach: an autofs is mounted at a point of the master, and the daemon attaches to it
+
+-- not attached yet, and then the kernel's tests
+abbrev pub attach_refusal : State → List (List ℕ) → Option Errno
+attach_refusal s path =
+    if is_attached s.daemon path then Some EEXIST else autofs_refusal s.kernel path
+
+abbrev pub attaches : State → List (List ℕ) → Served → Outcome
+attaches s path point =
+    let fs = s.kernel.last_fs + 1 in
+    let attach = s.kernel.last_attach + 1 in
+    record {
+      answer = answers.Attached fs attach (s.kernel.table.last_mount + 1);
+      seen = attaching s.kernel path;
+      state = record s {
+        kernel = with_attached path point.direct point.timeout s.kernel;
+        daemon = with_attachment fs attach path s.daemon;
+      };
+    }
+
+-- a line of the master serves the path
+abbrev pub attached_as : Option Served → State → List (List ℕ) → Outcome
+attached_as None s path = refused s ENOENT
+attached_as (Some point) s path = unless (attach_refusal s path) s (attaches s path point)
+
+abbrev pub attach_outcome : State → List (List ℕ) → Outcome
+attach_outcome s path = attached_as (point_of s.daemon path) s path
+
+-- ---- mounts
+
+abbrev pub mount_outcome : State → ℕ → List (List ℕ) → Outcome
+mount_outcome s ns path =
+    unless (mount_refusal s.kernel ns path) s
+    (with_kernel (answers.Mount (s.kernel.table.last_mount + 1)) (mounting s.kernel ns path)
+    (with_plain ns path s.kernel) s)
+
+abbrev pub bind_outcome : State → ℕ → List (List ℕ) → List (List ℕ) → Outcome
+bind_outcome s ns from to =
+    unless (bind_refusal s.kernel ns from to) s
+    (with_kernel (answers.Mount (s.kernel.table.last_mount + 1)) (mounting s.kernel ns to)
+    (with_bind ns from to s.kernel) s)
+
+abbrev pub umount_outcome : State → ℕ → List (List ℕ) → Outcome
+umount_outcome s ns path =
+    let gone = plain_gone s.kernel ns path in
+    unless (plain_umount_refusal s.kernel ns path) s
+    (with_kernel (answers.Gone gone) (seen.Unmounted gone ∷ []) (without_plain ns path s.kernel) s)
+
+abbrev pub change_outcome : State → ℕ → List (List ℕ) → Change → Outcome
+change_outcome s ns path change =
+    unless (plain_change_refusal change s.kernel ns path) s
+    (with_kernel answers.Done [] (with_changed change ns path s.kernel) s)
+
+abbrev pub kind_told : Option Kind → State → Outcome
+kind_told None s = told answers.Done s
+kind_told (Some kind) s = told (answers.Kind kind) s
+
+abbrev pub kind_outcome : State → ℕ → List (List ℕ) → Outcome
+kind_outcome s ns path = unless (kind_refusal s.kernel ns path) s (kind_told (kind_at s.kernel ns path) s)
+
+-- ---- namespaces
+
+abbrev pub copy_outcome : State → ℕ → Outcome
+copy_outcome s ns =
+    let made = new_mounts s.kernel.table (length (mounts_in s.kernel.table ns)) in
+    unless (copy_refusal ns s.kernel.table) s
+    (with_kernel (answers.Namespace (s.kernel.table.last_ns + 1)) (seen.Mounted made ∷ [])
+    (with_namespace ns s.kernel) s)
+
+abbrev pub drop_outcome : State → ℕ → Outcome
+drop_outcome s ns =
+    let gone = mounts_in s.kernel.table ns in
+    unless (drop_refusal (is_used s.kernel.uses) ns s.kernel.table) s
+    (with_kernel (answers.Gone gone) (seen.Unmounted gone ∷ []) (without_namespace ns s.kernel) s)

@@ -1,0 +1,55 @@
+-- The daemon takes packets from the pipe (autofs.rst, "Communicating with autofs: the event pipe").
+use Rattle.std.specs.Prelude.{ℕ, Bool, true, ◌&&◌, not, is_some, List, [], ◌∷◌, Option, Some, None, if◌then◌else◌}
+use Rattle.std.specs.Str.{bytes_eq}
+use Rattle.am_names.specs.declared.errno.Errno.TheVariants.{Stranger}
+use Rattle.am_wire.specs.Said.{said}
+use Rattle.am_wire.specs.Format.{canonical}
+use Rattle.am_state.specs.declared.kernel_row.QueuedRow.{QueuedRow}
+use Rattle.am_state.specs.declared.obs.Obs.{Obs}
+use Rattle.am_state.specs.declared.obs.Obs.TheVariants as seen
+use Rattle.am_kernel.specs.Requests.{queued_of, without_packet}
+use Rattle.am_job.specs.Plans.{is_reply}
+use Rattle.am_daemon.specs.State.{DaemonState}
+use Rattle.am_daemon.specs.Packets.{trigger_of, plan_of_packet, pending_of}
+use Rattle.am_daemon.specs.Deliveries.{delivery_fault, taken_up}
+use Rattle.am_machine.specs.declared.answer.Answer.TheVariants as answers
+use Rattle.am_machine.specs.State.{State}
+use Rattle.am_machine.specs.Outcome.{Outcome, refused}
+
+-- the bytes of a queued packet
+abbrev pub packet_bytes : QueuedRow → List ℕ
+packet_bytes row = canonical (said row.packet)
+
+abbrev pub has_bytes : Option (List ℕ) → QueuedRow → Bool
+has_bytes None row = true
+has_bytes (Some bytes) row = bytes_eq bytes (packet_bytes row)
+
+-- what is handed in is the queued packet, and the daemon takes it up: it holds the attachment, and
+-- it isn't at work on the trigger
+abbrev pub may_take : State → QueuedRow → Option (List ℕ) → Bool
+may_take s row bytes =
+    has_bytes bytes row && not (is_some (delivery_fault row.attach row.packet s.daemon))
+
+-- the book changes but where the job is a reply alone
+abbrev pub recording : DaemonState → QueuedRow → List Obs
+recording d row =
+    if is_reply (plan_of_packet d row.packet) then []
+    else seen.Recorded (trigger_of row.packet) (pending_of d row.packet) ∷ []
+
+-- the packet leaves the pipe, and its job begins
+abbrev pub takes : State → QueuedRow → Outcome
+takes s row = record {
+  answer = answers.Job row.packet.token;
+  seen = seen.Delivered row.token row.attach row.packet ∷ recording s.daemon row;
+  state = record s {
+    kernel = without_packet row.token s.kernel;
+    daemon = taken_up row.attach row.packet s.daemon;
+  };
+}
+
+abbrev pub delivered_at : Option QueuedRow → State → Option (List ℕ) → Outcome
+delivered_at None s bytes = refused s Stranger
+delivered_at (Some row) s bytes = if may_take s row bytes then takes s row else refused s Stranger
+
+abbrev pub deliver_outcome : State → ℕ → Option (List ℕ) → Outcome
+deliver_outcome s token bytes = delivered_at (queued_of s.kernel.queue token) s bytes

@@ -1,0 +1,9 @@
+-- What every world keeps: its trace is lawful, and kernel and daemon agree.
+pub mod Traces
+pub mod Attachments
+pub mod Tokens
+pub mod Planned
+pub mod Books
+pub mod Places
+pub mod Stands
+pub mod Consistent

@@ -1,0 +1,23 @@
+-- The numbers of attachments, of file systems and of jobs: what makes a new one new.
+use Rattle.std.specs.Prelude.{◌≤◌, ℕ, ◌+◌, List, [], ◌∷◌}
+use Rattle.std.specs.List.{All}
+use Rattle.am_state.specs.declared.daemon_row.KnownRow.{KnownRow}
+use Rattle.am_state.specs.declared.daemon_row.RecordRow.{RecordRow}
+use Rattle.am_trigger.specs.declared.autofs.Autofs.{Autofs}
+use Rattle.am_kernel.specs.declared.row.Attached.{Attached}
+use Rattle.am_kernel.specs.State.{KernelState}
+use Rattle.am_daemon.specs.State.{DaemonState, JobPlan}
+
+-- the file systems rise from this number on, each has one row, and all were given
+abbrev pub RiseTo : ℕ → ℕ → List Attached → Type 0
+RiseTo last low [] = Unit {0}
+RiseTo last low (row ∷ rows) = (low ≤ row.fs) × (row.fs ≤ last) × RiseTo last (row.fs + 1) rows
+
+pub record AreGiven (k : KernelState) (d : DaemonState) : Type 0 where
+  -- each autofs has one attachment, the latest
+  pub rise : RiseTo k.last_fs 0 k.attached
+  pub attached : All (λ (row : Attached). row.attach ≤ k.last_attach) k.attached
+  pub autofs : All (λ (row : Autofs). row.fs ≤ k.last_fs) k.triggers.autofs
+  pub known : All (λ (row : KnownRow). row.fs ≤ k.last_fs) d.known
+  pub jobs : All (λ (row : JobPlan). (row.attach ≤ k.last_attach) × (row.trigger.fs ≤ k.last_fs)) d.jobs
+  pub book : All (λ (row : RecordRow). row.trigger.fs ≤ k.last_fs) d.book

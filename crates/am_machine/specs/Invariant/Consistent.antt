@@ -1,0 +1,28 @@
+-- What every world keeps.
+use Rattle.am_laws.specs.TraceLaws.{Lawful}
+use Rattle.am_machine.specs.State.{State}
+use Rattle.am_machine.specs.Invariant.Traces.{FitsTrace, rows_in}
+use Rattle.am_machine.specs.Invariant.Attachments.{AreGiven}
+use Rattle.am_machine.specs.Invariant.Tokens.{TokensAgree}
+use Rattle.am_machine.specs.Invariant.Planned.{ArePlanned}
+use Rattle.am_machine.specs.Invariant.Books.{BookAgrees}
+use Rattle.am_machine.specs.Invariant.Places.{PlacesAgree}
+use Rattle.am_machine.specs.Invariant.Stands.{StandsAgree}
+
+-- The rows are what the trace tells of them, and the trace is lawful.
+pub record IsTraced (s : State) : Type 0 where
+  pub fits : FitsTrace (rows_in s) s.trace
+  pub lawful : Lawful s.trace
+
+-- Kernel and daemon agree.
+pub record HalvesAgree (s : State) : Type 0 where
+  pub given : AreGiven s.kernel s.daemon
+  pub tokens : TokensAgree s.kernel s.daemon.jobs
+  pub planned : ArePlanned s.daemon.jobs
+  pub places : PlacesAgree s.kernel
+  pub book : BookAgrees s.kernel s.daemon
+  pub stands : StandsAgree s.kernel s.daemon
+
+pub record IsConsistent (s : State) : Type 0 where
+  pub traced : IsTraced s
+  pub agreed : HalvesAgree s

@@ -1,0 +1,51 @@
+-- Who has an open token: its packet is in the pipe, or a job of the daemon has taken it up.
+use Rattle.std.specs.Prelude.{◌≡◌, ◌⊎◌, ℕ, true, is_some, List, map, Some, None}
+use Rattle.std.specs.List.{All}
+use Rattle.am_names.specs.Trigger.{same_trigger}
+use Rattle.am_names.specs.declared.row.OpenToken.{OpenToken}
+use Rattle.am_wait.specs.Rows.{token_of}
+use Rattle.am_state.specs.declared.kernel_row.QueuedRow.{QueuedRow}
+use Rattle.am_kernel.specs.State.{KernelState}
+use Rattle.am_kernel.specs.Sites.{attach_of}
+use Rattle.am_kernel.specs.Requests.{queued_of}
+use Rattle.am_daemon.specs.State.{JobPlan}
+use Rattle.am_daemon.specs.Deliveries.{job_of}
+use Rattle.am_machine.specs.Invariant.Traces.{AreDifferent}
+
+-- A packet in the pipe: its token is open and no job's, and the file system's daemon is attached as
+-- it was when the packet was queued.
+pub record IsInPipe (k : KernelState) (jobs : List JobPlan) (row : QueuedRow) : Type 0 where
+  pub token : OpenToken
+  pub is_open : token_of k.waits.tokens row.token ≡ Some token
+  pub numbered : row.packet.token ≡ row.token
+  pub dev : row.packet.dev ≡ token.trigger.fs
+  pub current : attach_of k token.trigger.fs ≡ Some row.attach
+  pub untaken : job_of jobs row.token ≡ None
+
+-- A job has taken the token up, under the attachment that the file system still has.
+pub record IsAtWork (k : KernelState) (jobs : List JobPlan) (row : OpenToken) : Type 0 where
+  pub job : JobPlan
+  pub is_job : job_of jobs row.token ≡ Some job
+  pub fs : job.trigger.fs ≡ row.trigger.fs
+  pub current : attach_of k row.trigger.fs ≡ Some job.attach
+
+-- A job whose attachment the file system still has: its token is open.
+pub record HasToken (k : KernelState) (job : JobPlan) : Type 0 where
+  pub token : OpenToken
+  pub is_open : token_of k.waits.tokens job.token ≡ Some token
+  pub fs : job.trigger.fs ≡ token.trigger.fs
+
+pub record TokensAgree (k : KernelState) (jobs : List JobPlan) : Type 0 where
+  -- a trigger has one open token at most
+  pub once : (a b : ℕ) (x y : OpenToken) →
+      token_of k.waits.tokens a ≡ Some x → token_of k.waits.tokens b ≡ Some y →
+      same_trigger x.trigger y.trigger ≡ true → a ≡ b
+  -- a token has one packet in the pipes at most, and one job
+  pub packets : AreDifferent (map (λ (row : QueuedRow). row.token) k.queue)
+  pub numbers : AreDifferent (map (λ (row : JobPlan). row.token) jobs)
+  -- an open token is in the pipe or at work; what is in the pipe, or at work under an attachment that
+  -- still lasts, is an open token
+  pub open_tokens : (token : ℕ) (row : OpenToken) → token_of k.waits.tokens token ≡ Some row →
+      (is_some (queued_of k.queue token) ≡ true) ⊎ IsAtWork k jobs row
+  pub in_pipe : All (IsInPipe k jobs) k.queue
+  pub at_work : All (λ (job : JobPlan). attach_of k job.trigger.fs ≡ Some job.attach → HasToken k job) jobs

@@ -1,0 +1,9 @@
+//! Kernel and daemon as one machine: what each event comes to, and what is true of every run.
+#![tactic(auto)]
+
+pub mod answer;
+pub mod event;
+pub mod laws;
+
+pub use answer::Answer;
+pub use event::Event;

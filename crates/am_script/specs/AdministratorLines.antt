@@ -1,0 +1,84 @@
+-- The lines of what an administrator does.
+use Rattle.std.specs.Prelude.{ℕ, List, [], ◌∷◌, codes, bytes_eq, Option, None, Some, option_map, if◌then◌else◌}
+use Rattle.std.specs.Result.{result_ok}
+use Rattle.am_names.specs.Path.{path_read}
+use Rattle.am_group.specs.declared.kind.Change.{Change}
+use Rattle.am_machine.specs.declared.event.Event.{Event}
+use Rattle.am_machine.specs.declared.event.Event.TheVariants as events
+use Rattle.am_script.specs.Numbers.{u32_read}
+use Rattle.am_script.specs.EventWords.{change_read}
+
+abbrev pub mount_of : Option ℕ → Option (List (List ℕ)) → Option Event
+mount_of (Some ns) (Some path) = Some (events.Mount ns path)
+mount_of ns path = None
+
+-- `mount NS PATH`
+abbrev pub mount_read : List (List ℕ) → Option Event
+mount_read (ns ∷ path ∷ []) = mount_of (u32_read ns) (result_ok (path_read path))
+mount_read words = None
+
+abbrev pub bind_of : Option ℕ → Option (List (List ℕ)) → Option (List (List ℕ)) → Option Event
+bind_of (Some ns) (Some from) (Some to) = Some (events.Bind ns from to)
+bind_of ns from to = None
+
+-- `bind NS FROM TO`
+abbrev pub bind_read : List (List ℕ) → Option Event
+bind_read (ns ∷ from ∷ to ∷ []) =
+    bind_of (u32_read ns) (result_ok (path_read from)) (result_ok (path_read to))
+bind_read words = None
+
+abbrev pub umount_of : Option ℕ → Option (List (List ℕ)) → Option Event
+umount_of (Some ns) (Some path) = Some (events.Umount ns path)
+umount_of ns path = None
+
+-- `umount NS PATH`
+abbrev pub umount_read : List (List ℕ) → Option Event
+umount_read (ns ∷ path ∷ []) = umount_of (u32_read ns) (result_ok (path_read path))
+umount_read words = None
+
+abbrev pub change_of : Option ℕ → Option (List (List ℕ)) → Option Change → Option Event
+change_of (Some ns) (Some path) (Some change) = Some (events.Change ns path change)
+change_of ns path change = None
+
+-- `change NS PATH KIND`
+abbrev pub change_line_read : List (List ℕ) → Option Event
+change_line_read (ns ∷ path ∷ kind ∷ []) =
+    change_of (u32_read ns) (result_ok (path_read path)) (change_read kind)
+change_line_read words = None
+
+abbrev pub kind_of : Option ℕ → Option (List (List ℕ)) → Option Event
+kind_of (Some ns) (Some path) = Some (events.Kind ns path)
+kind_of ns path = None
+
+-- `kind NS PATH`
+abbrev pub kind_read : List (List ℕ) → Option Event
+kind_read (ns ∷ path ∷ []) = kind_of (u32_read ns) (result_ok (path_read path))
+kind_read words = None
+
+-- `nscopy NS`
+abbrev pub nscopy_read : List (List ℕ) → Option Event
+nscopy_read (ns ∷ []) = option_map events.CopyNamespace (u32_read ns)
+nscopy_read words = None
+
+-- `nsdrop NS`
+abbrev pub nsdrop_read : List (List ℕ) → Option Event
+nsdrop_read (ns ∷ []) = option_map events.DropNamespace (u32_read ns)
+nsdrop_read words = None
+
+-- `admincat FS`
+abbrev pub admincat_read : List (List ℕ) → Option Event
+admincat_read (fs ∷ []) = option_map events.AdminCatatonic (u32_read fs)
+admincat_read words = None
+
+-- a line of an administrator, by its first word and the others
+abbrev pub administrator_read : List ℕ → List (List ℕ) → Option Event
+administrator_read word words =
+    if bytes_eq word (codes "mount") then mount_read words
+    else if bytes_eq word (codes "bind") then bind_read words
+    else if bytes_eq word (codes "umount") then umount_read words
+    else if bytes_eq word (codes "change") then change_line_read words
+    else if bytes_eq word (codes "kind") then kind_read words
+    else if bytes_eq word (codes "nscopy") then nscopy_read words
+    else if bytes_eq word (codes "nsdrop") then nsdrop_read words
+    else if bytes_eq word (codes "admincat") then admincat_read words
+    else None

@@ -1,0 +1,100 @@
+-- The lines of what the daemon does.
+use Rattle.std.specs.Prelude.{ℕ, Bool, List, [], ◌∷◌, codes, bytes_eq, Option, None, Some, option_map, if◌then◌else◌}
+use Rattle.std.specs.Result.{result_ok}
+use Rattle.am_names.specs.Path.{path_read}
+use Rattle.am_names.specs.declared.trigger.Status.{Status}
+use Rattle.am_machine.specs.declared.event.Event.{Event}
+use Rattle.am_machine.specs.declared.event.Event.TheVariants as events
+use Rattle.am_script.specs.Numbers.{u32_read}
+use Rattle.am_script.specs.EventWords.{outcome_read, status_read, trigger_name_read, packet_read}
+
+-- `attach PATH`
+abbrev pub attach_read : List (List ℕ) → Option Event
+attach_read (path ∷ []) = option_map events.Attach (result_ok (path_read path))
+attach_read words = None
+
+abbrev pub deliver_of : Option ℕ → Option (List ℕ) → Option Event
+deliver_of (Some token) (Some bytes) = Some (events.Deliver token (Some bytes))
+deliver_of token bytes = None
+
+-- `deliver T`, `deliver T HEX`
+abbrev pub deliver_read : List (List ℕ) → Option Event
+deliver_read (token ∷ []) = option_map (λ t. events.Deliver t None) (u32_read token)
+deliver_read (token ∷ digits ∷ []) = deliver_of (u32_read token) (packet_read digits)
+deliver_read words = None
+
+abbrev pub act_of : Option ℕ → Option Bool → Option Event
+act_of (Some job) (Some ok) = Some (events.Act job ok)
+act_of job ok = None
+
+-- `act JOB ok`, `act JOB fail`
+abbrev pub act_read : List (List ℕ) → Option Event
+act_read (job ∷ outcome ∷ []) = act_of (u32_read job) (outcome_read outcome)
+act_read words = None
+
+abbrev pub repeat_of : Option ℕ → Option ℕ → Option Status → Option Event
+repeat_of (Some attach) (Some token) (Some status) = Some (events.Repeat attach token status)
+repeat_of attach token status = None
+
+-- `repeat A T ready`, `repeat A T fail`
+abbrev pub repeat_read : List (List ℕ) → Option Event
+repeat_read (attach ∷ token ∷ status ∷ []) =
+    repeat_of (u32_read attach) (u32_read token) (status_read status)
+repeat_read words = None
+
+abbrev pub catatonic_of : Option ℕ → Option ℕ → Option Event
+catatonic_of (Some attach) (Some fs) = Some (events.Catatonic attach fs)
+catatonic_of attach fs = None
+
+-- `catatonic A FS`
+abbrev pub catatonic_read : List (List ℕ) → Option Event
+catatonic_read (attach ∷ fs ∷ []) = catatonic_of (u32_read attach) (u32_read fs)
+catatonic_read words = None
+
+abbrev pub timeout_of : Option ℕ → Option ℕ → Option ℕ → Option Event
+timeout_of (Some attach) (Some fs) (Some seconds) = Some (events.Timeout attach fs seconds)
+timeout_of attach fs seconds = None
+
+-- `timeout A FS N`
+abbrev pub timeout_read : List (List ℕ) → Option Event
+timeout_read (attach ∷ fs ∷ seconds ∷ []) =
+    timeout_of (u32_read attach) (u32_read fs) (u32_read seconds)
+timeout_read words = None
+
+-- `die`
+abbrev pub die_read : List (List ℕ) → Option Event
+die_read [] = Some events.Die
+die_read words = None
+
+-- `reattach FS`
+abbrev pub reattach_read : List (List ℕ) → Option Event
+reattach_read (fs ∷ []) = option_map events.Reattach (u32_read fs)
+reattach_read words = None
+
+abbrev pub record_of : Option ℕ → Option (Option (List ℕ)) → Option Event
+record_of (Some fs) (Some name) = Some (events.Record (record { fs = fs; name = name }))
+record_of fs name = None
+
+-- `record FS NAME`
+abbrev pub record_read : List (List ℕ) → Option Event
+record_read (fs ∷ name ∷ []) = record_of (u32_read fs) (trigger_name_read name)
+record_read words = None
+
+-- a line of the daemon's work, by its first word and the others
+abbrev pub work_read : List ℕ → List (List ℕ) → Option Event
+work_read word words =
+    if bytes_eq word (codes "deliver") then deliver_read words
+    else if bytes_eq word (codes "act") then act_read words
+    else if bytes_eq word (codes "repeat") then repeat_read words
+    else if bytes_eq word (codes "record") then record_read words
+    else None
+
+-- a line of the daemon's attachments
+abbrev pub attachment_read : List ℕ → List (List ℕ) → Option Event
+attachment_read word words =
+    if bytes_eq word (codes "attach") then attach_read words
+    else if bytes_eq word (codes "catatonic") then catatonic_read words
+    else if bytes_eq word (codes "timeout") then timeout_read words
+    else if bytes_eq word (codes "die") then die_read words
+    else if bytes_eq word (codes "reattach") then reattach_read words
+    else None

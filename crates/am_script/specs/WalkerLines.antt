@@ -1,0 +1,55 @@
+-- The lines of what walkers do.
+use Rattle.std.specs.Prelude.{ℕ, Bool, List, [], ◌∷◌, codes, bytes_eq, Option, None, Some, option_map, if◌then◌else◌}
+use Rattle.std.specs.Result.{result_ok}
+use Rattle.am_names.specs.Path.{path_read}
+use Rattle.am_names.specs.declared.trigger.PipeState.{PipeState}
+use Rattle.am_machine.specs.declared.event.Event.{Event}
+use Rattle.am_machine.specs.declared.event.Event.TheVariants as events
+use Rattle.am_script.specs.Numbers.{u32_read, u64_read}
+use Rattle.am_script.specs.EventWords.{pipe_read, immediate_read}
+
+abbrev pub walk_of : Option ℕ → Option ℕ → Option (List (List ℕ)) → Option ℕ → Option PipeState → Option Event
+walk_of (Some walker) (Some ns) (Some path) (Some now) (Some pipe) =
+    Some (events.Walk walker ns path now pipe)
+walk_of walker ns path now pipe = None
+
+-- `walk W NS PATH NOW PIPE`
+abbrev pub walk_read : List (List ℕ) → Option Event
+walk_read (walker ∷ ns ∷ path ∷ now ∷ pipe ∷ []) =
+    walk_of (u32_read walker) (u32_read ns) (result_ok (path_read path)) (u64_read now) (pipe_read pipe)
+walk_read words = None
+
+abbrev pub resume_of : Option ℕ → Option ℕ → Option PipeState → Option Event
+resume_of (Some walker) (Some now) (Some pipe) = Some (events.Resume walker now pipe)
+resume_of walker now pipe = None
+
+-- `resume W NOW PIPE`
+abbrev pub resume_read : List (List ℕ) → Option Event
+resume_read (walker ∷ now ∷ pipe ∷ []) =
+    resume_of (u32_read walker) (u64_read now) (pipe_read pipe)
+resume_read words = None
+
+-- `leave W`
+abbrev pub leave_read : List (List ℕ) → Option Event
+leave_read (walker ∷ []) = option_map events.Leave (u32_read walker)
+leave_read words = None
+
+abbrev pub expire_of : Option ℕ → Option ℕ → Option ℕ → Option Bool → Option PipeState → Option Event
+expire_of (Some walker) (Some fs) (Some now) (Some immediate) (Some pipe) =
+    Some (events.Expire walker fs now immediate pipe)
+expire_of walker fs now immediate pipe = None
+
+-- `expire W FS NOW HOW PIPE`
+abbrev pub expire_read : List (List ℕ) → Option Event
+expire_read (walker ∷ fs ∷ now ∷ how ∷ pipe ∷ []) =
+    expire_of (u32_read walker) (u32_read fs) (u64_read now) (immediate_read how) (pipe_read pipe)
+expire_read words = None
+
+-- a line of a walker, by its first word and the others
+abbrev pub walker_read : List ℕ → List (List ℕ) → Option Event
+walker_read word words =
+    if bytes_eq word (codes "walk") then walk_read words
+    else if bytes_eq word (codes "resume") then resume_read words
+    else if bytes_eq word (codes "leave") then leave_read words
+    else if bytes_eq word (codes "expire") then expire_read words
+    else None

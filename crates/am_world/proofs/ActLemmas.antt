@@ -1,0 +1,205 @@
+-- What comes next of a job is the act that the machine makes.
+use Rattle.std.proofs.Common.{◌≡◌, ℕ, Bool, true, false, Option, Some, None, refl, sym, ap, ◌∙◌, subst}
+use Rattle.std.specs.Prelude.{not, ◌∷◌, [], Result, if◌then◌else◌}
+use Rattle.am_names.specs.declared.errno.Errno.{Errno}
+use Rattle.am_names.specs.declared.errno.Errno.TheVariants.{EPERM, EINVAL}
+use Rattle.am_names.specs.declared.trigger.Trigger.{Trigger}
+use Rattle.am_names.specs.declared.trigger.Status.{Status}
+use Rattle.am_state.specs.declared.daemon_row.Record.{Record}
+use Rattle.am_job.specs.declared.act.Act.{Act}
+use Rattle.am_job.specs.declared.act.Act.TheVariants as act
+use Rattle.am_job.specs.Plans.{next_of}
+use Rattle.am_kernel.specs.Directories.{mkdir_refusal, rmdir_refusal}
+use Rattle.am_kernel.specs.Requests.{answer_refusal}
+use Rattle.am_kernel.proofs.AgainLemmas.{found_number}
+use Rattle.am_daemon.specs.State.{DaemonState, JobPlan}
+use Rattle.am_daemon.specs.Deliveries.{job_of}
+use Rattle.am_job.specs.declared.act.Outcome.TheVariants.{Done}
+use Rattle.am_state.specs.declared.obs.Obs.TheVariants as seen
+use Rattle.am_daemon.specs.Attachments.{holds}
+use Rattle.am_daemon.specs.Acts.{next_in, writes, writing_refusal, refusal_in, finish_refusal}
+use Rattle.am_machine.specs.declared.answer.Answer.{Answer}
+use Rattle.am_machine.specs.declared.answer.Answer.TheVariants as answers
+use Rattle.am_machine.specs.State.{State}
+use Rattle.am_machine.specs.Outcome.{Outcome, refused}
+use Rattle.am_machine.specs.Events.Acts.{goes_on, mkdir_by, mount_act, umount_act, rmdir_by, record_act, reply_by, acted, acted_at, act_outcome}
+use Rattle.am_world.specs.declared.acts.Deed.{Deed}
+use Rattle.am_world.specs.declared.acts.Deed.TheVariants as deed
+use Rattle.am_world.specs.declared.acts.Turn.{Turn}
+use Rattle.am_world.specs.Halves.{Goes}
+use Rattle.am_world.specs.Acts.{deed_of, turn_by, turn_in, turn_of, row_in, row_for, IsNext, IsLean}
+
+-- the job and its next act
+pub record Found (turn : Turn) (d : DaemonState) : Type 0 where
+  pub row : JobPlan
+  pub act : Act
+  pub found : job_of d.jobs turn.job ≡ Some row
+  pub next : next_of row.plan ≡ Some act
+  pub attach : turn.attach ≡ row.attach
+  pub deed : turn.deed ≡ deed_of act
+
+by_next : (turn : Turn) (d : DaemonState) (row : JobPlan) (o : Option Act) → job_of d.jobs turn.job ≡ Some row → next_of row.plan ≡ o → turn_by turn.job row o ≡ Some turn → Found turn d
+by_next turn d row None e n h = absurd cc
+by_next turn d row (Some a) e n h =
+    let same : record { job = turn.job; attach = row.attach; deed = deed_of a } ≡ turn = cc in
+    record { row = row; act = a; found = e; next = n; attach = sym (ap (λ (t : Turn). t.attach) same); deed = sym (ap (λ (t : Turn). t.deed) same) }
+
+by_row : (turn : Turn) (d : DaemonState) (o : Option JobPlan) → job_of d.jobs turn.job ≡ o → turn_in turn.job o ≡ Some turn → Found turn d
+by_row turn d None e h = absurd cc
+by_row turn d (Some row) e h = by_next turn d row (next_of row.plan) e refl h
+
+pub turn_found : (turn : Turn) (d : DaemonState) → turn_of turn.job d ≡ Some turn → Found turn d
+turn_found turn d h = by_row turn d (job_of d.jobs turn.job) refl h
+
+pub row_found : (turn : Turn) (d : DaemonState) (f : Found turn d) → row_for d turn.job ≡ f.row
+row_found turn d f = ap row_in f.found
+
+-- the job's number is the one that was looked for
+pub row_token : (turn : Turn) (d : DaemonState) → turn_of turn.job d ≡ Some turn → (row_for d turn.job).token ≡ turn.job
+row_token turn d h =
+    let f = turn_found turn d h in
+    ap (λ (r : JobPlan). r.token) (row_found turn d f) ∙ found_number (λ (r : JobPlan). r.token) turn.job d.jobs f.row f.found
+
+pub row_attach : (turn : Turn) (d : DaemonState) → turn_of turn.job d ≡ Some turn → (row_for d turn.job).attach ≡ turn.attach
+row_attach turn d h =
+    let f = turn_found turn d h in
+    ap (λ (r : JobPlan). r.attach) (row_found turn d f) ∙ sym f.attach
+
+-- ---- acts that write nothing
+
+abbrev pub is_writing : Deed → Bool
+is_writing (deed.Record trigger entry) = true
+is_writing _ = false
+
+lean_act : (a : Act) (d : Deed) → d ≡ deed_of a → is_writing d ≡ false → writes (Some a) ≡ None
+lean_act (act.Record trigger entry) d e h = absurd cc
+lean_act _ d e h = refl
+
+pub lean_next : (turn : Turn) (deed : Deed) (d : DaemonState) → IsNext turn deed d → is_writing deed ≡ false → IsLean turn.job d
+lean_next turn deed d n h =
+    let f = turn_found turn d n.comes in
+    let lean : writes (next_of f.row.plan) ≡ None = ap writes f.next ∙ lean_act f.act turn.deed f.deed (ap is_writing n.does ∙ h) in
+    record {
+      writes = ap (λ (o : Option JobPlan). writes (next_in o)) f.found ∙ lean;
+      stands = ap (λ (o : Option JobPlan). refusal_in o d) f.found ∙ ap (λ w. writing_refusal w f.row d) lean;
+    }
+
+-- ---- the machine's act
+
+acts_by : (s : State) (turn : Turn) (ok : Bool) (f : Found turn s.daemon) → act_outcome s turn.job ok ≡ acted (Some f.act) s f.row ok
+acts_by s turn ok f = ap (λ (o : Option JobPlan). acted_at o s ok) f.found ∙ ap (λ (a : Option Act). acted a s f.row ok) f.next
+
+mkdir_is : (a : Act) (s : State) (row : JobPlan) (ok : Bool) (g : Trigger) → deed_of a ≡ deed.Mkdir g → acted (Some a) s row ok ≡ mkdir_by (mkdir_refusal s.kernel row.attach g) s row g
+mkdir_is (act.Mkdir t) s row ok g e = let same : t ≡ g = cc in ap (λ (x : Trigger). mkdir_by (mkdir_refusal s.kernel row.attach x) s row x) same
+mkdir_is _ s row ok g e = absurd cc
+
+mount_is : (a : Act) (s : State) (row : JobPlan) (ok : Bool) (g : Trigger) → deed_of a ≡ deed.Mount g → acted (Some a) s row ok ≡ mount_act s row g ok
+mount_is (act.Mount t entry) s row ok g e = let same : t ≡ g = cc in ap (λ (x : Trigger). mount_act s row x ok) same
+mount_is _ s row ok g e = absurd cc
+
+umount_is : (a : Act) (s : State) (row : JobPlan) (ok : Bool) (g : Trigger) → deed_of a ≡ deed.Umount g → acted (Some a) s row ok ≡ umount_act s row g ok
+umount_is (act.Umount t) s row ok g e = let same : t ≡ g = cc in ap (λ (x : Trigger). umount_act s row x ok) same
+umount_is _ s row ok g e = absurd cc
+
+rmdir_is : (a : Act) (s : State) (row : JobPlan) (ok : Bool) (g : Trigger) → deed_of a ≡ deed.Rmdir g → acted (Some a) s row ok ≡ rmdir_by (rmdir_refusal s.kernel row.attach g) s row g
+rmdir_is (act.Rmdir t) s row ok g e = let same : t ≡ g = cc in ap (λ (x : Trigger). rmdir_by (rmdir_refusal s.kernel row.attach x) s row x) same
+rmdir_is _ s row ok g e = absurd cc
+
+record_is : (a : Act) (s : State) (row : JobPlan) (ok : Bool) (g : Trigger) (entry : Option Record) → deed_of a ≡ deed.Record g entry → acted (Some a) s row ok ≡ record_act s row g entry
+record_is (act.Record t written) s row ok g entry e =
+    let same : t ≡ g = cc in
+    let wrote : written ≡ entry = cc in
+    ap (λ (x : Trigger). record_act s row x written) same ∙ ap (λ (x : Option Record). record_act s row g x) wrote
+record_is _ s row ok g entry e = absurd cc
+
+reply_is : (a : Act) (s : State) (row : JobPlan) (ok : Bool) (status : Status) → deed_of a ≡ deed.Reply status → acted (Some a) s row ok ≡ reply_by (answer_refusal s.kernel row.attach row.token) s row status
+reply_is (act.Reply given) s row ok status e = let same : given ≡ status = cc in ap (λ (x : Status). reply_by (answer_refusal s.kernel row.attach row.token) s row x) same
+reply_is _ s row ok status e = absurd cc
+
+pub acts_mkdir : (s : State) (turn : Turn) (ok : Bool) (g : Trigger) → IsNext turn (deed.Mkdir g) s.daemon → act_outcome s turn.job ok ≡ mkdir_by (mkdir_refusal s.kernel (row_for s.daemon turn.job).attach g) s (row_for s.daemon turn.job) g
+acts_mkdir s turn ok g n =
+    let f = turn_found turn s.daemon n.comes in
+    acts_by s turn ok f ∙ mkdir_is f.act s f.row ok g (sym f.deed ∙ n.does) ∙ ap (λ (r : JobPlan). mkdir_by (mkdir_refusal s.kernel r.attach g) s r g) (sym (row_found turn s.daemon f))
+
+pub acts_mount : (s : State) (turn : Turn) (ok : Bool) (g : Trigger) → IsNext turn (deed.Mount g) s.daemon → act_outcome s turn.job ok ≡ mount_act s (row_for s.daemon turn.job) g ok
+acts_mount s turn ok g n =
+    let f = turn_found turn s.daemon n.comes in
+    acts_by s turn ok f ∙ mount_is f.act s f.row ok g (sym f.deed ∙ n.does) ∙ ap (λ (r : JobPlan). mount_act s r g ok) (sym (row_found turn s.daemon f))
+
+pub acts_umount : (s : State) (turn : Turn) (ok : Bool) (g : Trigger) → IsNext turn (deed.Umount g) s.daemon → act_outcome s turn.job ok ≡ umount_act s (row_for s.daemon turn.job) g ok
+acts_umount s turn ok g n =
+    let f = turn_found turn s.daemon n.comes in
+    acts_by s turn ok f ∙ umount_is f.act s f.row ok g (sym f.deed ∙ n.does) ∙ ap (λ (r : JobPlan). umount_act s r g ok) (sym (row_found turn s.daemon f))
+
+pub acts_rmdir : (s : State) (turn : Turn) (ok : Bool) (g : Trigger) → IsNext turn (deed.Rmdir g) s.daemon → act_outcome s turn.job ok ≡ rmdir_by (rmdir_refusal s.kernel (row_for s.daemon turn.job).attach g) s (row_for s.daemon turn.job) g
+acts_rmdir s turn ok g n =
+    let f = turn_found turn s.daemon n.comes in
+    acts_by s turn ok f ∙ rmdir_is f.act s f.row ok g (sym f.deed ∙ n.does) ∙ ap (λ (r : JobPlan). rmdir_by (rmdir_refusal s.kernel r.attach g) s r g) (sym (row_found turn s.daemon f))
+
+pub acts_record : (s : State) (turn : Turn) (ok : Bool) (g : Trigger) (entry : Option Record) → IsNext turn (deed.Record g entry) s.daemon → act_outcome s turn.job ok ≡ record_act s (row_for s.daemon turn.job) g entry
+acts_record s turn ok g entry n =
+    let f = turn_found turn s.daemon n.comes in
+    acts_by s turn ok f ∙ record_is f.act s f.row ok g entry (sym f.deed ∙ n.does) ∙ ap (λ (r : JobPlan). record_act s r g entry) (sym (row_found turn s.daemon f))
+
+pub acts_reply : (s : State) (turn : Turn) (ok : Bool) (status : Status) → IsNext turn (deed.Reply status) s.daemon → act_outcome s turn.job ok ≡ reply_by (answer_refusal s.kernel (row_for s.daemon turn.job).attach (row_for s.daemon turn.job).token) s (row_for s.daemon turn.job) status
+acts_reply s turn ok status n =
+    let f = turn_found turn s.daemon n.comes in
+    acts_by s turn ok f ∙ reply_is f.act s f.row ok status (sym f.deed ∙ n.does) ∙ ap (λ (r : JobPlan). reply_by (answer_refusal s.kernel r.attach r.token) s r status) (sym (row_found turn s.daemon f))
+
+-- no job, or one without an act, is refused
+none_act : (job : ℕ) (row : JobPlan) (o : Option Act) (s : State) (ok : Bool) → turn_by job row o ≡ None → acted o s row ok ≡ refused s EINVAL
+none_act job row None s ok h = refl
+none_act job row (Some a) s ok h = absurd cc
+
+none_row : (job : ℕ) (o : Option JobPlan) (s : State) (ok : Bool) → turn_in job o ≡ None → acted_at o s ok ≡ refused s EINVAL
+none_row job None s ok h = refl
+none_row job (Some row) s ok h = none_act job row (next_of row.plan) s ok h
+
+pub acts_none : (s : State) (job : ℕ) (ok : Bool) → turn_of job s.daemon ≡ None → act_outcome s job ok ≡ refused s EINVAL
+acts_none s job ok h = none_row job (job_of s.daemon.jobs job) s ok h
+
+-- ---- from a look-up
+
+pub turn_job : (turn : Turn) (job : ℕ) (d : DaemonState) → turn_of job d ≡ Some turn → turn.job ≡ job
+turn_job turn job d h = by_row (job_of d.jobs job) h
+  where
+    by_act : (row : JobPlan) (o : Option Act) → turn_by job row o ≡ Some turn → turn.job ≡ job
+    by_act row None h = absurd cc
+    by_act row (Some a) h =
+        let same : record { job = job; attach = row.attach; deed = deed_of a } ≡ turn = cc in
+        sym (ap (λ (t : Turn). t.job) same)
+
+    by_row : (o : Option JobPlan) → turn_in job o ≡ Some turn → turn.job ≡ job
+    by_row None h = absurd cc
+    by_row (Some row) h = by_act row (next_of row.plan) h
+
+pub next_from : (turn : Turn) (job : ℕ) (deed : Deed) (d : DaemonState) → turn_of job d ≡ Some turn → turn.deed ≡ deed → IsNext turn deed d
+next_from turn job deed d h is = record { comes = subst (λ (j : ℕ). turn_of j d ≡ Some turn) (sym (turn_job turn job d h)) h; does = is }
+
+-- the act of the job that was looked up
+pub acts_as : (s : State) (job : ℕ) (turn : Turn) (ok : Bool) (o : Outcome) (came : Result Answer Errno) (new : State) → turn_of job s.daemon ≡ Some turn → act_outcome s turn.job ok ≡ o → Goes o s came new → Goes (act_outcome s job ok) s came new
+acts_as s job turn ok o came new found same h =
+    subst (λ (x : Outcome). Goes x s came new) (sym same ∙ ap (λ (j : ℕ). act_outcome s j ok) (turn_job turn job s.daemon found)) h
+
+-- ---- what the daemon may write down
+
+written_act : (a : Act) (g : Trigger) (entry : Option Record) → deed.Record g entry ≡ deed_of a → writes (Some a) ≡ Some (record { trigger = g; entry = entry })
+written_act (act.Record t e) g entry h =
+    let one : t ≡ g = cc in
+    let other : e ≡ entry = cc in
+    ap (λ (x : Trigger). Some (record { trigger = x; entry = e })) one ∙ ap (λ (x : Option Record). Some (record { trigger = g; entry = x })) other
+written_act _ g entry h = absurd cc
+
+held_by : (b : Bool) → (if b then None else Some EPERM) ≡ None → b ≡ true
+held_by true h = refl
+held_by false h = absurd cc
+
+pub record_held : (turn : Turn) (g : Trigger) (entry : Option Record) (d : DaemonState) → IsNext turn (deed.Record g entry) d → finish_refusal turn.job d ≡ None → holds d (row_for d turn.job).trigger.fs (row_for d turn.job).attach ≡ true
+record_held turn g entry d n h =
+    let f = turn_found turn d n.comes in
+    let what : writes (next_of f.row.plan) ≡ Some (record { trigger = g; entry = entry }) = ap writes f.next ∙ written_act f.act g entry (sym n.does ∙ f.deed) in
+    let may : writing_refusal (Some (record { trigger = g; entry = entry })) f.row d ≡ None = sym (ap (λ w. writing_refusal w f.row d) what) ∙ sym (ap (λ (o : Option JobPlan). refusal_in o d) f.found) ∙ h in
+    ap (λ (r : JobPlan). holds d r.trigger.fs r.attach) (row_found turn d f) ∙ held_by (holds d f.row.trigger.fs f.row.attach) may
+
+pub record_goes : (s : State) (row : JobPlan) (g : Trigger) (entry : Option Record) → holds s.daemon row.trigger.fs row.attach ≡ true → record_act s row g entry ≡ goes_on s row Done answers.DidRecord (seen.Recorded g entry ∷ []) s.kernel
+record_goes s row g entry h = ap (λ (b : Bool). if not b then refused s EPERM else goes_on s row Done answers.DidRecord (seen.Recorded g entry ∷ []) s.kernel) h

@@ -1,0 +1,73 @@
+-- What becomes of an event, by what its calls came to.
+use Rattle.std.proofs.Common.{◌≡◌, ℕ, List, [], ◌++◌, Option, Some, None, refl, sym, ap, ◌∙◌, subst, inl, inr}
+use Rattle.std.specs.Prelude.{Result, Ok, Err}
+use Rattle.std.proofs.lemmas.List.{append-nil}
+use Rattle.am_names.specs.declared.errno.Errno.{Errno}
+use Rattle.am_names.specs.declared.errno.Errno.TheVariants.{NoMemory}
+use Rattle.am_names.specs.Errno.{RefusedAs, RefusedOnlyAs}
+use Rattle.am_state.specs.declared.obs.Obs.{Obs}
+use Rattle.am_kernel.specs.State.{KernelState}
+use Rattle.am_kernel.specs.declared.begun.Begun.{Begun}
+use Rattle.am_kernel.specs.Outcome as kernel
+use Rattle.am_machine.specs.declared.answer.Answer.{Answer}
+use Rattle.am_machine.specs.State.{State}
+use Rattle.am_machine.specs.Outcome.{Outcome, refused, unless}
+use Rattle.am_machine.specs.declared.answer.Answer.TheVariants as answers
+use Rattle.am_machine.specs.declared.event.Event.{Event}
+use Rattle.am_machine.specs.Machine.{after, outcome_of, Step}
+use Rattle.am_machine.specs.Invariant.Consistent.{IsConsistent}
+use Rattle.am_machine.proofs.SafetyLemmas.{outcome_consistent}
+use Rattle.am_machine.specs.Events.Walkers.{answer_of, goes}
+use Rattle.am_world.specs.Halves.{Goes, told}
+
+-- a refusal leaves the world as it was
+pub refused_same : (s : State) (e : Errno) → after s (refused s e) ≡ s
+refused_same s e = ap (λ (t : List Obs). record s { trace = t }) (append-nil s.trace)
+
+pub refused_goes : (T : Type 0) (first : Option Errno) (s new : State) (done : Outcome) (e : Errno) → RefusedAs {T = T} first (Err e) → new ≡ s → Goes (unless first s done) s (Err e) new
+refused_goes T first s new done NoMemory h same = (same, inl refl)
+refused_goes T first s new done _ h same = (same, inr (ap (λ (f : Option Errno). unless f s done) h))
+
+pub only_refused_goes : (T : Type 0) (first : Option Errno) (s new : State) (done : Outcome) (e : Errno) → RefusedOnlyAs {T = T} first (Err e) → new ≡ s → Goes (unless first s done) s (Err e) new
+only_refused_goes T first s new done e h same = (same, inr (ap (λ (f : Option Errno). unless f s done) h))
+
+pub done_goes : (first : Option Errno) (s new : State) (done : Outcome) (answer : Answer) → first ≡ None → answer ≡ done.answer → new ≡ after s done → Goes (unless first s done) s (Ok answer) new
+done_goes first s new done answer h told left = subst (λ (f : Option Errno). Goes (unless f s done) s (Ok answer) new) (sym h) (told, left)
+
+-- memory ran out
+pub ran_out : (o : Outcome) (s new : State) → new ≡ s → Goes o s (Err NoMemory) new
+ran_out o s new same = (same, inl refl)
+
+abbrev pub with_both : KernelState → List Obs → State → State
+with_both k trace s = record s { kernel = k; trace = trace }
+
+both_same : (k : KernelState) (trace : List Obs) (s : State) → k ≡ s.kernel → trace ≡ s.trace → with_both k trace s ≡ s
+both_same k trace s e t = ap (λ (x : KernelState). with_both x trace s) e ∙ ap (λ (x : List Obs). record s { trace = x }) t
+
+-- a walk that goes on
+pub walk_goes : (o : kernel.Outcome) (s : State) (moment : ℕ) (begun : Begun) (k : KernelState) (trace : List Obs) → kernel.Meets o (Ok begun) s.kernel k s.trace trace →
+    Goes (goes o s moment) s (Ok (answer_of begun)) (record s { kernel = k; latest = moment; trace = trace })
+walk_goes (kernel.Goes answer shown made) s moment begun k trace h =
+    (ap answer_of h.0, ap (λ (x : KernelState). record s { kernel = x; latest = moment; trace = trace }) h.1.state ∙ ap (λ (x : List Obs). record s { kernel = made; latest = moment; trace = x }) h.1.seen)
+walk_goes (kernel.Fails e) s moment begun k trace h = absurd h
+
+-- one that doesn't
+pub walk_fails : (o : kernel.Outcome) (s : State) (moment : ℕ) (e : Errno) (k : KernelState) (trace : List Obs) → kernel.Meets o (Err e) s.kernel k s.trace trace →
+    Goes (goes o s moment) s (Err e) (with_both k trace s)
+walk_fails (kernel.Goes answer shown made) s moment e k trace h = (both_same k trace s h.1.state h.1.seen, inl h.0)
+walk_fails (kernel.Fails f) s moment NoMemory k trace h = (both_same k trace s h.state h.seen, inl refl)
+walk_fails (kernel.Fails f) s moment _ k trace h = (both_same k trace s h.1.state h.1.seen, inr (ap (refused s) (sym h.0)))
+
+-- ---- steps
+
+pub goes_step : (s : State) (event : Event) (came : Result Answer Errno) (new : State) → Goes (outcome_of s event) s came new → (seen : List Obs) × Step s event (told came) seen new
+goes_step s event (Ok answer) new h = ((outcome_of s event).seen, inr (record { told = h.0; shown = refl; left = h.1 }))
+goes_step s event (Err e) new h =
+    elim h.1 [
+      | inl none ↦ ([], inl (record { told = ap (λ (x : Errno). answers.Refused x) none; nothing = refl; same = h.0 }))
+      | inr is ↦ ([], inr (record { told = sym (ap (λ (o : Outcome). o.answer) is); shown = sym (ap (λ (o : Outcome). o.seen) is); left = h.0 ∙ sym (ap (after s) is ∙ refused_same s e) }))
+    ]
+
+pub goes_consistent : (s : State) (event : Event) (came : Result Answer Errno) (new : State) → IsConsistent s → Goes (outcome_of s event) s came new → IsConsistent new
+goes_consistent s event (Ok answer) new k h = subst IsConsistent (sym h.1) (outcome_consistent s event k)
+goes_consistent s event (Err e) new k h = subst IsConsistent (sym h.0) k

@@ -1,0 +1,184 @@
+-- The answers to most events own no memory.
+use Rattle.std.proofs.Common.{◌≡◌, ℕ, Bool, true, false, not, List, Option, Some, None, refl}
+use Rattle.std.specs.Prelude.{is_some, is_none, if◌then◌else◌}
+use Rattle.am_names.specs.declared.errno.Errno.{Errno}
+use Rattle.am_names.specs.declared.errno.Errno.TheVariants.{ENOENT, EBUSY, EEXIST}
+use Rattle.am_names.specs.declared.trigger.Trigger.{Trigger}
+use Rattle.am_names.specs.declared.trigger.Status.{Status}
+use Rattle.am_names.specs.declared.trigger.PipeState.{PipeState}
+use Rattle.am_names.specs.declared.trigger.PipeState.TheVariants.{Room, Full, Gone}
+use Rattle.am_group.specs.declared.kind.Kind.{Kind}
+use Rattle.am_state.specs.declared.kernel_row.QueuedRow.{QueuedRow}
+use Rattle.am_wait.specs.Rows.{token_of}
+use Rattle.am_wait.specs.Calls.{is_exhausted, is_full}
+use Rattle.am_trigger.specs.Rows.{autofs_of}
+use Rattle.am_propagate.specs.Namespaces.{copy_refusal}
+use Rattle.am_expire.specs.Uses.{leave_refusal}
+use Rattle.am_job.specs.declared.act.Act.{Act}
+use Rattle.am_job.specs.declared.act.Act.TheVariants as act
+use Rattle.am_job.specs.Plans.{next_of}
+use Rattle.am_kernel.specs.State.{KernelState}
+use Rattle.am_kernel.specs.Sites.{is_current, is_busy, attach_of, fs_of_attach}
+use Rattle.am_kernel.specs.Previews.{is_trigger}
+use Rattle.am_kernel.specs.Outcome as kernel
+use Rattle.am_kernel.specs.Expires as expires
+use Rattle.am_kernel.specs.Administration.{mount_refusal, bind_refusal, plain_change_refusal, kind_refusal, kind_at}
+use Rattle.am_kernel.specs.Attachments.{catatonic_refusal, autofs_refusal}
+use Rattle.am_kernel.specs.Directories.{mkdir_refusal, rmdir_refusal}
+use Rattle.am_kernel.specs.DaemonMounts.{mount_on_refusal, umount_from_refusal}
+use Rattle.am_kernel.specs.Requests.{timeout_refusal, answer_refusal, queued_of}
+use Rattle.am_daemon.specs.declared.served.Served.{Served}
+use Rattle.am_daemon.specs.Points.{point_of}
+use Rattle.am_daemon.specs.State.{JobPlan}
+use Rattle.am_daemon.specs.Attachments.{holds}
+use Rattle.am_daemon.specs.Deliveries.{job_of}
+use Rattle.am_machine.specs.declared.event.Event.{Event}
+use Rattle.am_machine.specs.declared.event.Event.TheVariants as events
+use Rattle.am_machine.specs.State.{State}
+use Rattle.am_machine.specs.Outcome.{Outcome, refused, unless, moment_of}
+use Rattle.am_machine.specs.Machine.{outcome_of}
+use Rattle.am_machine.specs.Events.Walkers.{goes}
+use Rattle.am_machine.specs.Events.Administration.{attach_refusal, attached_as, attaches, kind_told}
+use Rattle.am_machine.specs.Events.Deliveries.{delivered_at, may_take, takes}
+use Rattle.am_machine.specs.Events.Acts.{mkdir_by, mount_by, mount_act, umount_by, umount_act, rmdir_by, record_act, reply_by, acted, acted_at}
+use Rattle.am_machine.specs.Events.Requests.{reattach_refused}
+use Rattle.am_world.specs.Copies.{owns}
+
+pub record Free (o : Outcome) : Type 0 where
+  pub free : owns o.answer ≡ false
+
+is : (o : Outcome) → owns o.answer ≡ false → Free o
+is o h = record { free = h }
+
+unless_free : (first : Option Errno) (s : State) (done : Outcome) → owns done.answer ≡ false → Free (unless first s done)
+unless_free None s done h = record { free = h }
+unless_free (Some e) s done h = record { free = refl }
+
+either : (b : Bool) (first second : Outcome) → Free first → Free second → Free (if b then first else second)
+either true first second h g = h
+either false first second h g = g
+
+attached_free : (point : Option Served) (s : State) (path : List (List ℕ)) → Free (attached_as point s path)
+attached_free None s path = record { free = refl }
+attached_free (Some point) s path = unless_free (attach_refusal s path) s _ refl
+
+kind_free : (kind : Option Kind) (s : State) → owns (kind_told kind s).answer ≡ false
+kind_free None s = refl
+kind_free (Some kind) s = refl
+
+-- ---- expiries
+
+record Goes_free (s : State) (moment : ℕ) (o : kernel.Outcome) : Type 0 where
+  goes_free : owns (goes o s moment).answer ≡ false
+
+either_goes : (s : State) (moment : ℕ) (b : Bool) (first second : kernel.Outcome) → Goes_free s moment first → Goes_free s moment second → Goes_free s moment (if b then first else second)
+either_goes s moment true first second h g = h
+either_goes s moment false first second h g = g
+
+fails : (s : State) (moment : ℕ) (e : Errno) → Goes_free s moment (kernel.Fails e)
+fails s moment e = record { goes_free = refl }
+
+expires_by : (pipe : PipeState) (s : State) (moment : ℕ) (k : KernelState) (walker : ℕ) (trigger : Trigger) (attach : ℕ) → Goes_free s moment (expires.expires_by pipe k walker trigger attach)
+expires_by Room s moment k walker trigger attach = record { goes_free = refl }
+expires_by Full s moment k walker trigger attach = record { goes_free = refl }
+expires_by Gone s moment k walker trigger attach = record { goes_free = refl }
+
+expires_next : (next : Option Trigger) (pipe : PipeState) (s : State) (moment : ℕ) (k : KernelState) (walker attach : ℕ) → Goes_free s moment (expires.expires_next next pipe k walker attach)
+expires_next None pipe s moment k walker attach = fails s moment _
+expires_next (Some trigger) pipe s moment k walker attach =
+    either_goes s moment (is_exhausted k.waits) _ _ (fails s moment _) (either_goes s moment (is_full k.waits) _ _ (fails s moment _) (expires_by pipe s moment k walker trigger attach))
+
+expires_under : (attach : Option ℕ) (pipe : PipeState) (s : State) (moment : ℕ) (k : KernelState) (walker : ℕ) (next : Option Trigger) → Goes_free s moment (expires.expires_under attach pipe k walker next)
+expires_under None pipe s moment k walker next = fails s moment _
+expires_under (Some attach) pipe s moment k walker next = expires_next next pipe s moment k walker attach
+
+expire_free : (pipe : PipeState) (s : State) (walker fs moment : ℕ) (immediate : Bool) → Goes_free s moment (expires.expire_outcome pipe s.kernel walker fs moment immediate)
+expire_free pipe s walker fs moment immediate =
+    either_goes s moment (is_none (autofs_of s.kernel.triggers fs)) _ _ (fails s moment _)
+    (either_goes s moment (is_busy s.kernel walker) _ _ (fails s moment _)
+    (expires_under (attach_of s.kernel fs) pipe s moment s.kernel walker (expires.next_of s.kernel fs moment immediate)))
+
+-- ---- deliveries and acts
+
+delivered_free : (row : Option QueuedRow) (s : State) (bytes : Option (List ℕ)) → Free (delivered_at row s bytes)
+delivered_free None s bytes = record { free = refl }
+delivered_free (Some row) s bytes = either (may_take s row bytes) _ _ (record { free = refl }) (record { free = refl })
+
+mkdir_free : (first : Option Errno) (s : State) (row : JobPlan) (g : Trigger) → Free (mkdir_by first s row g)
+mkdir_free None s row g = record { free = refl }
+mkdir_free (Some EEXIST) s row g = record { free = refl }
+mkdir_free (Some _) s row g = record { free = refl }
+
+rmdir_free : (first : Option Errno) (s : State) (row : JobPlan) (g : Trigger) → Free (rmdir_by first s row g)
+rmdir_free None s row g = record { free = refl }
+rmdir_free (Some ENOENT) s row g = record { free = refl }
+rmdir_free (Some EBUSY) s row g = record { free = refl }
+rmdir_free (Some _) s row g = record { free = refl }
+
+mount_free : (first : Option Errno) (s : State) (row : JobPlan) (g : Trigger) → Free (mount_by first s row g)
+mount_free None s row g = record { free = refl }
+mount_free (Some e) s row g = record { free = refl }
+
+umount_free : (first : Option Errno) (s : State) (row : JobPlan) (g : Trigger) → Free (umount_by first s row g)
+umount_free None s row g = record { free = refl }
+umount_free (Some e) s row g = record { free = refl }
+
+reply_free : (first : Option Errno) (s : State) (row : JobPlan) (g : Status) → Free (reply_by first s row g)
+reply_free None s row g = record { free = refl }
+reply_free (Some e) s row g = record { free = refl }
+
+acted_free : (a : Option Act) (s : State) (row : JobPlan) (ok : Bool) → Free (acted a s row ok)
+acted_free None s row ok = record { free = refl }
+acted_free (Some (act.Mkdir g)) s row ok = mkdir_free (mkdir_refusal s.kernel row.attach g) s row g
+acted_free (Some (act.Mount g entry)) s row ok =
+    either (not (is_current s.kernel g.fs row.attach)) _ _ (record { free = refl }) (either (not ok) _ _ (record { free = refl }) (mount_free (mount_on_refusal s.kernel row.attach g) s row g))
+acted_free (Some (act.Umount g)) s row ok =
+    either (not (is_current s.kernel g.fs row.attach)) _ _ (record { free = refl }) (either (not ok) _ _ (record { free = refl }) (umount_free (umount_from_refusal s.kernel row.attach g) s row g))
+acted_free (Some (act.Rmdir g)) s row ok = rmdir_free (rmdir_refusal s.kernel row.attach g) s row g
+acted_free (Some (act.Record g entry)) s row ok = either (not (holds s.daemon row.trigger.fs row.attach)) _ _ (record { free = refl }) (record { free = refl })
+acted_free (Some (act.Reply status)) s row ok = reply_free (answer_refusal s.kernel row.attach row.token) s row status
+
+act_free : (row : Option JobPlan) (s : State) (ok : Bool) → Free (acted_at row s ok)
+act_free None s ok = record { free = refl }
+act_free (Some row) s ok = acted_free (next_of row.plan) s row ok
+
+-- ---- every event but those that tell where a walk arrives, or what has gone
+
+abbrev pub IsOther : Event → Type 0
+IsOther (events.Umount ns path) = ⊥
+IsOther (events.DropNamespace ns) = ⊥
+IsOther (events.Walk walker ns path now pipe) = ⊥
+IsOther (events.Resume walker now pipe) = ⊥
+IsOther _ = Unit {0}
+
+pub others_free : (s : State) (event : Event) → IsOther event → Free (outcome_of s event)
+others_free s (events.Attach path) h = attached_free (point_of s.daemon path) s path
+others_free s (events.Mount ns path) h = unless_free (mount_refusal s.kernel ns path) s _ refl
+others_free s (events.Bind ns from to) h = unless_free (bind_refusal s.kernel ns from to) s _ refl
+others_free s (events.Umount ns path) h = absurd h
+others_free s (events.Change ns path change) h = unless_free (plain_change_refusal change s.kernel ns path) s _ refl
+others_free s (events.Kind ns path) h = unless_free (kind_refusal s.kernel ns path) s _ (kind_free (kind_at s.kernel ns path) s)
+others_free s (events.CopyNamespace ns) h = unless_free (copy_refusal ns s.kernel.table) s _ refl
+others_free s (events.DropNamespace ns) h = absurd h
+others_free s (events.Walk walker ns path now pipe) h = absurd h
+others_free s (events.Resume walker now pipe) h = absurd h
+others_free s (events.Leave walker) h = unless_free (leave_refusal walker s.kernel.uses) s _ refl
+others_free s (events.Expire walker fs now immediate pipe) h = record { free = (expire_free pipe s walker fs (moment_of s now) immediate).goes_free }
+others_free s (events.Deliver token bytes) h = delivered_free (queued_of s.kernel.queue token) s bytes
+others_free s (events.Act job ok) h = act_free (job_of s.daemon.jobs job) s ok
+others_free s (events.Repeat attach token status) h =
+    either (not (is_some (fs_of_attach s.kernel attach))) _ _ (record { free = refl }) (either (is_some (token_of s.kernel.waits.tokens token)) _ _ (record { free = refl }) (record { free = refl }))
+others_free s (events.Catatonic attach fs) h = unless_free (catatonic_refusal s.kernel attach fs) s _ refl
+others_free s (events.AdminCatatonic fs) h = unless_free (autofs_refusal s.kernel fs) s _ refl
+others_free s (events.Timeout attach fs timeout) h = unless_free (timeout_refusal s.kernel attach fs) s _ refl
+others_free s events.Die h = record { free = refl }
+others_free s (events.Reattach fs) h = unless_free (reattach_refused s fs) s _ refl
+others_free s (events.Record trigger) h = either (not (is_trigger s.kernel trigger)) _ _ (record { free = refl }) (record { free = refl })
+
+pub other_is : (event : Event) → ((ns : ℕ) (path : List (List ℕ)) → event ≡ events.Umount ns path → ⊥) → ((ns : ℕ) → event ≡ events.DropNamespace ns → ⊥) →
+    ((walker ns : ℕ) (path : List (List ℕ)) (now : ℕ) (pipe : PipeState) → event ≡ events.Walk walker ns path now pipe → ⊥) → ((walker now : ℕ) (pipe : PipeState) → event ≡ events.Resume walker now pipe → ⊥) → IsOther event
+other_is (events.Umount ns path) u d w r = u ns path refl
+other_is (events.DropNamespace ns) u d w r = d ns refl
+other_is (events.Walk walker ns path now pipe) u d w r = w walker ns path now pipe refl
+other_is (events.Resume walker now pipe) u d w r = r walker now pipe refl
+other_is _ u d w r = tt

@@ -1,0 +1,128 @@
+-- Answers that own memory are known before the event.
+use Rattle.std.proofs.Common.{◌≡◌, ℕ, Bool, true, false, List, [], ◌∷◌, ◌++◌, Option, Some, None, refl, sym, ap, ◌∙◌, subst, inl, inr}
+use Rattle.std.specs.Prelude.{is_some, nat_le, if◌then◌else◌}
+use Rattle.am_names.specs.declared.errno.Errno.{Errno}
+use Rattle.am_names.specs.declared.trigger.PipeState.{PipeState}
+use Rattle.am_names.specs.declared.trigger.PipeState.TheVariants.{Room, Full, Gone}
+use Rattle.am_names.specs.declared.trigger.Trigger.{Trigger}
+use Rattle.am_names.specs.declared.trigger.Status.{Status}
+use Rattle.am_names.specs.declared.trigger.Status.TheVariants.{Ready, Fail}
+use Rattle.am_names.specs.declared.row.Position.{Position}
+use Rattle.am_names.specs.declared.row.WaitRow.{WaitRow}
+use Rattle.am_names.specs.declared.row.TokenKind.{TokenKind}
+use Rattle.am_names.specs.declared.row.TokenKind.TheVariants.{Missing, Expire}
+use Rattle.am_wait.specs.Rows.{wait_of}
+use Rattle.am_wait.specs.Calls.{is_exhausted, is_full}
+use Rattle.am_kernel.proofs.AgainLemmas.{found_number}
+use Rattle.am_expire.specs.Uses.{mount_of}
+use Rattle.am_walk.specs.declared.stop.Stop.{Stop}
+use Rattle.am_walk.specs.declared.stop.Stop.TheVariants as stops
+use Rattle.am_walk.specs.Walks.{Walked, walk_of}
+use Rattle.am_kernel.specs.declared.row.WalkRow.{WalkRow}
+use Rattle.am_kernel.specs.declared.begun.Begin.{Begin}
+use Rattle.am_kernel.specs.State.{KernelState}
+use Rattle.am_kernel.specs.Sites.{scene_of, attach_of, is_busy}
+use Rattle.am_kernel.specs.Outcome as kernel
+use Rattle.am_kernel.specs.Walks as walks
+use Rattle.am_kernel.specs.Resumes as resumes
+use Rattle.am_kernel.specs.Previews.{arrived_at, arrival_of, arrival_in, arrival_again_of}
+use Rattle.am_machine.specs.declared.answer.Answer.{Answer}
+use Rattle.am_machine.specs.declared.answer.Answer.TheVariants as answers
+use Rattle.am_state.specs.declared.obs.Obs.{Obs}
+use Rattle.am_machine.specs.declared.event.Event.{Event}
+use Rattle.am_machine.specs.Machine.{outcome_of, Step}
+use Rattle.am_machine.specs.State.{State}
+use Rattle.am_machine.specs.Outcome.{Outcome, refused, unless}
+use Rattle.am_machine.specs.Events.Walkers.{answer_of, goes}
+use Rattle.am_world.specs.Copies.{owns, IsSpare, arrival_told}
+
+-- an answer that owns no memory needs nothing
+pub spare_free : (spare : Option Answer) (answer : Answer) → owns answer ≡ false → IsSpare spare answer
+spare_free None answer free = free
+spare_free (Some spare) answer free = λ owns. absurd cc
+
+record Spares (at : Option Position) (s : State) (moment : ℕ) (o : kernel.Outcome) : Type 0 where
+  spares : IsSpare (arrival_told at) (goes o s moment).answer
+
+free : (at : Option Position) (s : State) (moment : ℕ) (o : kernel.Outcome) → owns (goes o s moment).answer ≡ false → Spares at s moment o
+free at s moment o h = record { spares = spare_free (arrival_told at) (goes o s moment).answer h }
+
+either : (at : Option Position) (s : State) (moment : ℕ) (b : Bool) (first second : kernel.Outcome) → Spares at s moment first → Spares at s moment second → Spares at s moment (if b then first else second)
+either at s moment true first second h g = h
+either at s moment false first second h g = g
+
+notifies_by : (pipe : PipeState) (at : Option Position) (s : State) (moment : ℕ) (k : KernelState) (begin : Begin) (trigger : Trigger) (attach : ℕ) (passed : List Trigger) → Spares at s moment (walks.notifies_by pipe k begin trigger attach passed)
+notifies_by Room at s moment k begin trigger attach passed = free at s moment _ refl
+notifies_by Full at s moment k begin trigger attach passed = free at s moment _ refl
+notifies_by Gone at s moment k begin trigger attach passed = free at s moment _ refl
+
+notifies : (attach : Option ℕ) (pipe : PipeState) (at : Option Position) (s : State) (moment : ℕ) (k : KernelState) (begin : Begin) (trigger : Trigger) (passed : List Trigger) → Spares at s moment (walks.notifies attach pipe k begin trigger passed)
+notifies None pipe at s moment k begin trigger passed = free at s moment _ refl
+notifies (Some attach) pipe at s moment k begin trigger passed =
+    either at s moment (is_exhausted k.waits) _ _ (free at s moment _ refl)
+    (either at s moment (is_full k.waits) _ _ (free at s moment _ refl) (notifies_by pipe at s moment k begin trigger attach passed))
+
+begun_by : (stop : Stop) (pipe : PipeState) (s : State) (moment : ℕ) (k : KernelState) (begin : Begin) (passed : List Trigger) → Spares (arrived_at stop) s moment (walks.begun_by stop pipe k begin passed)
+begun_by (stops.Arrive at) pipe s moment k begin passed = record { spares = λ owns. refl }
+begun_by (stops.Block token) pipe s moment k begin passed = either None s moment (is_full k.waits) _ _ (free None s moment _ refl) (free None s moment _ refl)
+begun_by (stops.Missing trigger) pipe s moment k begin passed = notifies (attach_of k trigger.fs) pipe None s moment k begin trigger passed
+begun_by (stops.Refuse e) pipe s moment k begin passed = free None s moment _ refl
+
+-- a walk arrives where it would have
+pub walk_spares : (pipe : PipeState) (s : State) (begin : Begin) (moment : ℕ) → IsSpare (arrival_told (arrival_of s.kernel begin.ns begin.path)) (goes (walks.walk_outcome pipe s.kernel begin) s moment).answer
+walk_spares pipe s begin moment =
+    let walked = walk_of (scene_of s.kernel) begin.ns begin.path in
+    (either (arrived_at walked.stop) s moment (is_busy s.kernel begin.walker) _ _ (free (arrived_at walked.stop) s moment _ refl) (begun_by walked.stop pipe s moment s.kernel begin walked.passed)).spares
+
+or_failed : (o : kernel.Outcome) (at : Option Position) (s : State) (moment : ℕ) (base : KernelState) → Spares at s moment o → Spares at s moment (resumes.or_failed o base)
+or_failed (kernel.Goes answer shown made) at s moment base h = h
+or_failed (kernel.Fails e) at s moment base h = free at s moment _ refl
+
+again : (pipe : PipeState) (s : State) (base : KernelState) (row : WalkRow) (moment : ℕ) → Spares (arrival_of s.kernel row.ns row.path) s moment (resumes.again pipe s.kernel base row moment)
+again pipe s base row moment =
+    let walked = walk_of (scene_of s.kernel) row.ns row.path in
+    either (arrived_at walked.stop) s moment (nat_le resumes.most_begins row.begins) _ _ (free (arrived_at walked.stop) s moment _ refl)
+    (or_failed (walks.begun_with walked pipe base (resumes.next_begin row moment)) (arrived_at walked.stop) s moment base (begun_by walked.stop pipe s moment base (resumes.next_begin row moment) walked.passed))
+
+resumed_as : (kind : TokenKind) (status : Status) (pipe : PipeState) (s : State) (wait : WaitRow) (row : WalkRow) (moment : ℕ) → Spares (arrival_of s.kernel row.ns row.path) s moment (resumes.resumed_as kind status pipe s.kernel wait row moment)
+resumed_as Missing Fail pipe s wait row moment = free (arrival_of s.kernel row.ns row.path) s moment _ refl
+resumed_as Missing Ready pipe s wait row moment = again pipe s _ row moment
+resumed_as Expire status pipe s wait row moment = again pipe s _ row moment
+
+told_as : (kind : TokenKind) (status : Status) (at : Option Position) (s : State) (wait : WaitRow) (moment : ℕ) → Spares at s moment (resumes.told_as kind status s.kernel wait moment)
+told_as Missing status at s wait moment = free at s moment _ refl
+told_as Expire Ready at s wait moment = free at s moment _ refl
+told_as Expire Fail at s wait moment = free at s moment _ refl
+
+resumed_walk : (row : Option WalkRow) (status : Status) (pipe : PipeState) (s : State) (wait : WaitRow) (moment : ℕ) → Spares (arrival_in s.kernel row) s moment (resumes.resumed_walk row status pipe s.kernel wait moment)
+resumed_walk None status pipe s wait moment = told_as wait.kind status None s wait moment
+resumed_walk (Some row) status pipe s wait moment = resumed_as wait.kind status pipe s wait row moment
+
+resumed_by : (status : Option Status) (pipe : PipeState) (s : State) (wait : WaitRow) (moment : ℕ) → Spares (arrival_again_of s.kernel wait.walker) s moment (resumes.resumed_by status pipe s.kernel wait moment)
+resumed_by None pipe s wait moment = free (arrival_again_of s.kernel wait.walker) s moment _ refl
+resumed_by (Some status) pipe s wait moment = resumed_walk (resumes.walk_in s.kernel.walks wait.walker) status pipe s wait moment
+
+resumed_at : (found : Option WaitRow) (pipe : PipeState) (s : State) (walker moment : ℕ) → wait_of s.kernel.waits.waits walker ≡ found → Spares (arrival_again_of s.kernel walker) s moment (resumes.resumed_at found pipe s.kernel moment)
+resumed_at None pipe s walker moment e = free (arrival_again_of s.kernel walker) s moment _ refl
+resumed_at (Some wait) pipe s walker moment e =
+    subst (λ (n : ℕ). Spares (arrival_again_of s.kernel n) s moment (resumes.resumed_at (Some wait) pipe s.kernel moment)) (found_number (λ (row : WaitRow). row.walker) walker s.kernel.waits.waits wait e) (resumed_by wait.status pipe s wait moment)
+
+-- a walk that begins again arrives where it would have
+pub resume_spares : (pipe : PipeState) (s : State) (walker moment : ℕ) → IsSpare (arrival_told (arrival_again_of s.kernel walker)) (goes (resumes.resume_outcome pipe s.kernel walker moment) s moment).answer
+resume_spares pipe s walker moment =
+    (either (arrival_again_of s.kernel walker) s moment (is_some (mount_of s.kernel.uses walker)) _ _ (free (arrival_again_of s.kernel walker) s moment _ refl) (resumed_at (wait_of s.kernel.waits.waits walker) pipe s walker moment refl)).spares
+
+-- an unmount and a drop tell what goes
+pub gone_spares : (first : Option Errno) (s : State) (done : Outcome) (gone : List ℕ) → done.answer ≡ answers.Gone gone → IsSpare (Some (answers.Gone gone)) (unless first s done).answer
+gone_spares (Some e) s done gone h = λ owns. absurd cc
+gone_spares None s done gone h = λ owns. sym h
+
+-- of a refusal nothing is needed
+pub refused_spares : (first : Option Errno) (e : Errno) (s : State) (done : Outcome) → first ≡ Some e → IsSpare None (unless first s done).answer
+refused_spares None e s done h = absurd cc
+refused_spares (Some f) e s done h = refl
+
+-- the answer to a step is the outcome's, or memory ran out
+pub step_spares : (s : State) (event : Event) (answer : Answer) (shown : List Obs) (new : State) (spare : Option Answer) → IsSpare spare (outcome_of s event).answer → Step s event answer shown new → IsSpare spare answer
+step_spares s event answer shown new spare h (inl out) = spare_free spare answer (ap owns out.told)
+step_spares s event answer shown new spare h (inr comes) = subst (IsSpare spare) (sym comes.told) h

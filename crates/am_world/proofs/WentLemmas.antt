@@ -1,0 +1,183 @@
+-- What becomes of an act, by what its calls came to.
+use Rattle.std.proofs.Common.{◌≡◌, ℕ, Bool, true, false, not, List, [], ◌∷◌, ◌++◌, Option, Some, None, refl, sym, ap, ◌∙◌, subst, inl, inr}
+use Rattle.std.specs.Prelude.{Result, Ok, Err, OnOk, OnErr, if◌then◌else◌}
+use Rattle.std.proofs.lemmas.List.{append-nil}
+use Rattle.am_names.specs.declared.errno.Errno.{Errno}
+use Rattle.am_names.specs.declared.errno.Errno.TheVariants.{ENOENT, EPERM, EBUSY, EEXIST, NoMemory, Stranger}
+use Rattle.am_names.specs.Errno.{RefusedAs}
+use Rattle.am_names.specs.declared.trigger.Trigger.{Trigger}
+use Rattle.am_state.specs.declared.obs.Obs.{Obs}
+use Rattle.am_job.specs.declared.act.Outcome as job
+use Rattle.am_job.specs.declared.act.Outcome.TheVariants as came
+use Rattle.std.specs.Prelude.{is_some, ◌&&◌, ◌||◌, ◌==◌}
+use Rattle.std.specs.List.{list_any}
+use Rattle.std.proofs.Common.{arith}
+use Rattle.std.proofs.lemmas.Bool.Decides.{nat_tests}
+use Rattle.am_state.specs.declared.obs.Obs.TheVariants.{Recorded}
+use Rattle.am_state.specs.declared.kernel_row.QueuedRow.{QueuedRow}
+use Rattle.am_kernel.specs.declared.row.Attached.{Attached}
+use Rattle.am_kernel.specs.Walks.{closing}
+use Rattle.am_kernel.specs.Attachments.{closing_if_live}
+use Rattle.am_daemon.specs.declared.acts.Writing.{Writing}
+use Rattle.am_daemon.specs.declared.fault.DaemonFault.{DaemonFault}
+use Rattle.am_daemon.specs.Deliveries.{delivery_fault}
+use Rattle.am_machine.specs.Events.Deliveries.{takes, delivered_at}
+use Rattle.am_kernel.specs.State.{KernelState}
+use Rattle.am_kernel.specs.Sites.{is_current, is_live, is_attached_by}
+use Rattle.am_kernel.specs.Directories.{with_directory, without_directory}
+use Rattle.am_kernel.specs.DaemonMounts.{mount_on_refusal, umount_from_refusal}
+use Rattle.am_daemon.specs.State.{DaemonState, JobPlan}
+use Rattle.am_daemon.specs.Acts.{finished}
+use Rattle.am_machine.specs.declared.answer.Answer.{Answer}
+use Rattle.am_machine.specs.declared.answer.Answer.TheVariants as answers
+use Rattle.am_machine.specs.State.{State}
+use Rattle.am_machine.specs.Outcome.{Outcome, refused}
+use Rattle.am_machine.specs.Machine.{after}
+use Rattle.am_machine.specs.Events.Acts.{goes_on, mkdir_by, mount_fails, mount_by, mount_act, umount_fails, umount_by, umount_act, rmdir_by}
+use Rattle.am_world.specs.Halves.{written, Goes}
+use Rattle.am_world.specs.Acts.{as_made, as_removed, is_no_memory}
+
+abbrev pub halves : KernelState → DaemonState → List Obs → State → State
+halves k d trace s = record { kernel = k; daemon = d; latest = s.latest; trace = trace }
+
+pub went : (s : State) (row : JobPlan) (number : ℕ) (outcome : job.Outcome) (answer : Answer) (shown : List Obs) (k new : KernelState) (d : DaemonState) (trace : List Obs) →
+    row.token ≡ number → d ≡ finished number outcome s.daemon → new ≡ k → trace ≡ s.trace ++ shown → halves new d trace s ≡ after s (goes_on s row outcome answer shown k)
+went s row number outcome answer shown k new d trace token its kernel seen =
+    ap (λ (x : KernelState). halves x d trace s) kernel
+    ∙ ap (λ (x : DaemonState). halves k x trace s) (its ∙ ap (λ (n : ℕ). finished n outcome s.daemon) (sym token))
+    ∙ ap (λ (x : List Obs). halves k (finished row.token outcome s.daemon) x s) seen
+
+-- nothing was seen
+pub went_unseen : (s : State) (row : JobPlan) (number : ℕ) (outcome : job.Outcome) (answer : Answer) (k new : KernelState) (d : DaemonState) →
+    row.token ≡ number → d ≡ finished number outcome s.daemon → new ≡ k → halves new d s.trace s ≡ after s (goes_on s row outcome answer [] k)
+went_unseen s row number outcome answer k new d token its kernel = went s row number outcome answer [] k new d s.trace token its kernel (sym (append-nil s.trace))
+
+-- ---- directories
+
+pub mkdir_goes : (r : Result (Unit {0}) Errno) (first : Option Errno) (s : State) (row : JobPlan) (g : Trigger) (number : ℕ) (new : KernelState) (d : DaemonState) →
+    RefusedAs first r → OnOk r (new ≡ with_directory g s.kernel) → OnErr r (new ≡ s.kernel) → as_made r ≡ Ok tt → row.token ≡ number → d ≡ finished number came.Done s.daemon →
+    Goes (mkdir_by first s row g) s (Ok answers.DidMkdir) (halves new d s.trace s)
+mkdir_goes (Ok u) first s row g number new d refusal ok err is token its =
+    subst (λ (f : Option Errno). Goes (mkdir_by f s row g) s (Ok answers.DidMkdir) (halves new d s.trace s)) (sym refusal)
+    (refl, went_unseen s row number came.Done answers.DidMkdir (with_directory g s.kernel) new d token its ok)
+mkdir_goes (Err EEXIST) first s row g number new d refusal ok err is token its =
+    subst (λ (f : Option Errno). Goes (mkdir_by f s row g) s (Ok answers.DidMkdir) (halves new d s.trace s)) (sym refusal)
+    (refl, went_unseen s row number came.Done answers.DidMkdir s.kernel new d token its err)
+mkdir_goes (Err _) first s row g number new d refusal ok err is token its = absurd cc
+
+pub mkdir_fails : (r : Result (Unit {0}) Errno) (first : Option Errno) (s : State) (row : JobPlan) (g : Trigger) (e : Errno) (new : KernelState) →
+    RefusedAs first r → OnErr r (new ≡ s.kernel) → as_made r ≡ Err e → Goes (mkdir_by first s row g) s (Err e) (halves new s.daemon s.trace s)
+mkdir_fails (Ok u) first s row g e new refusal err is = absurd cc
+mkdir_fails (Err EEXIST) first s row g e new refusal err is = absurd cc
+mkdir_fails (Err NoMemory) first s row g e new refusal err is = (ap (λ (x : KernelState). halves x s.daemon s.trace s) err, inl (cc))
+mkdir_fails (Err f) first s row g e new refusal err is =
+    let same : f ≡ e = cc in
+    (ap (λ (x : KernelState). halves x s.daemon s.trace s) err, inr (ap (λ (o : Option Errno). mkdir_by o s row g) refusal ∙ ap (refused s) same))
+
+pub rmdir_goes : (r : Result (Unit {0}) Errno) (first : Option Errno) (s : State) (row : JobPlan) (g : Trigger) (number : ℕ) (new : KernelState) (d : DaemonState) →
+    RefusedAs first r → OnOk r (new ≡ without_directory g s.kernel) → OnErr r (new ≡ s.kernel) → as_removed r ≡ Ok tt → row.token ≡ number → d ≡ finished number came.Done s.daemon →
+    Goes (rmdir_by first s row g) s (Ok answers.DidRmdir) (halves new d s.trace s)
+rmdir_goes (Ok u) first s row g number new d refusal ok err is token its =
+    subst (λ (f : Option Errno). Goes (rmdir_by f s row g) s (Ok answers.DidRmdir) (halves new d s.trace s)) (sym refusal)
+    (refl, went_unseen s row number came.Done answers.DidRmdir (without_directory g s.kernel) new d token its ok)
+rmdir_goes (Err ENOENT) first s row g number new d refusal ok err is token its =
+    subst (λ (f : Option Errno). Goes (rmdir_by f s row g) s (Ok answers.DidRmdir) (halves new d s.trace s)) (sym refusal)
+    (refl, went_unseen s row number came.Done answers.DidRmdir s.kernel new d token its err)
+rmdir_goes (Err EBUSY) first s row g number new d refusal ok err is token its =
+    subst (λ (f : Option Errno). Goes (rmdir_by f s row g) s (Ok answers.DidRmdir) (halves new d s.trace s)) (sym refusal)
+    (refl, went_unseen s row number came.Done answers.DidRmdir s.kernel new d token its err)
+rmdir_goes (Err _) first s row g number new d refusal ok err is token its = absurd cc
+
+pub rmdir_fails : (r : Result (Unit {0}) Errno) (first : Option Errno) (s : State) (row : JobPlan) (g : Trigger) (e : Errno) (new : KernelState) →
+    RefusedAs first r → OnErr r (new ≡ s.kernel) → as_removed r ≡ Err e → Goes (rmdir_by first s row g) s (Err e) (halves new s.daemon s.trace s)
+rmdir_fails (Ok u) first s row g e new refusal err is = absurd cc
+rmdir_fails (Err ENOENT) first s row g e new refusal err is = absurd cc
+rmdir_fails (Err EBUSY) first s row g e new refusal err is = absurd cc
+rmdir_fails (Err NoMemory) first s row g e new refusal err is = (ap (λ (x : KernelState). halves x s.daemon s.trace s) err, inl (cc))
+rmdir_fails (Err f) first s row g e new refusal err is =
+    let same : f ≡ e = cc in
+    (ap (λ (x : KernelState). halves x s.daemon s.trace s) err, inr (ap (λ (o : Option Errno). rmdir_by o s row g) refusal ∙ ap (refused s) same))
+
+-- ---- mounts
+
+first_by : (T : Type 0) (first : Option Errno) (e : Errno) → RefusedAs {T = T} first (Err e) → is_no_memory e ≡ false → first ≡ Some e
+first_by T first NoMemory h other = absurd cc
+first_by T first _ h other = h
+
+-- an error that isn't that of memory is the first of the tests
+pub first_is : (T : Type 0) (first : Option Errno) (e : Errno) (r : Result T Errno) → r ≡ Err e → RefusedAs first r → is_no_memory e ≡ false → first ≡ Some e
+first_is T first e r is h other = first_by T first e (subst (λ (x : Result T Errno). RefusedAs first x) is h) other
+
+-- the attachment is current
+mount_well : (s : State) (row : JobPlan) (g : Trigger) (ok : Bool) (attach : ℕ) → row.attach ≡ attach → true ≡ is_current s.kernel g.fs attach →
+    mount_act s row g ok ≡ (if not ok then mount_fails s row else mount_by (mount_on_refusal s.kernel row.attach g) s row g)
+mount_well s row g ok attach its current =
+    ap (λ (b : Bool). if not b then refused s EPERM else if not ok then mount_fails s row else mount_by (mount_on_refusal s.kernel row.attach g) s row g) (ap (is_current s.kernel g.fs) its ∙ sym current)
+
+-- told as a failure
+pub mount_unwell : (s : State) (row : JobPlan) (g : Trigger) (ok : Bool) (attach : ℕ) → row.attach ≡ attach → true ≡ is_current s.kernel g.fs attach → ok ≡ false → mount_act s row g ok ≡ mount_fails s row
+mount_unwell s row g ok attach its current unwell =
+    mount_well s row g ok attach its current ∙ ap (λ (b : Bool). if not b then mount_fails s row else mount_by (mount_on_refusal s.kernel row.attach g) s row g) unwell
+
+pub mount_tried : (s : State) (row : JobPlan) (g : Trigger) (ok : Bool) (attach : ℕ) (first : Option Errno) → row.attach ≡ attach → true ≡ is_current s.kernel g.fs attach → ok ≡ true → mount_on_refusal s.kernel attach g ≡ first →
+    mount_act s row g ok ≡ mount_by first s row g
+mount_tried s row g ok attach first its current well refusal =
+    mount_well s row g ok attach its current ∙ ap (λ (b : Bool). if not b then mount_fails s row else mount_by (mount_on_refusal s.kernel row.attach g) s row g) well
+    ∙ ap (λ (o : Option Errno). mount_by o s row g) (ap (λ (a : ℕ). mount_on_refusal s.kernel a g) its ∙ refusal)
+
+umount_well : (s : State) (row : JobPlan) (g : Trigger) (ok : Bool) (attach : ℕ) → row.attach ≡ attach → true ≡ is_current s.kernel g.fs attach →
+    umount_act s row g ok ≡ (if not ok then umount_fails s row else umount_by (umount_from_refusal s.kernel row.attach g) s row g)
+umount_well s row g ok attach its current =
+    ap (λ (b : Bool). if not b then refused s EPERM else if not ok then umount_fails s row else umount_by (umount_from_refusal s.kernel row.attach g) s row g) (ap (is_current s.kernel g.fs) its ∙ sym current)
+
+pub umount_unwell : (s : State) (row : JobPlan) (g : Trigger) (ok : Bool) (attach : ℕ) → row.attach ≡ attach → true ≡ is_current s.kernel g.fs attach → ok ≡ false → umount_act s row g ok ≡ umount_fails s row
+umount_unwell s row g ok attach its current unwell =
+    umount_well s row g ok attach its current ∙ ap (λ (b : Bool). if not b then umount_fails s row else umount_by (umount_from_refusal s.kernel row.attach g) s row g) unwell
+
+pub umount_tried : (s : State) (row : JobPlan) (g : Trigger) (ok : Bool) (attach : ℕ) (first : Option Errno) → row.attach ≡ attach → true ≡ is_current s.kernel g.fs attach → ok ≡ true → umount_from_refusal s.kernel attach g ≡ first →
+    umount_act s row g ok ≡ umount_by first s row g
+umount_tried s row g ok attach first its current well refusal =
+    umount_well s row g ok attach its current ∙ ap (λ (b : Bool). if not b then umount_fails s row else umount_by (umount_from_refusal s.kernel row.attach g) s row g) well
+    ∙ ap (λ (o : Option Errno). umount_by o s row g) (ap (λ (a : ℕ). umount_from_refusal s.kernel a g) its ∙ refusal)
+
+-- the outcome is another name of one that has come
+pub goes_as : (o p : Outcome) (s : State) (answer : Answer) (new : State) → o ≡ p → answer ≡ p.answer → new ≡ after s p → Goes o s (Ok answer) new
+goes_as o p s answer new same told left = subst (λ (x : Outcome). Goes x s (Ok answer) new) (sym same) (told, left)
+
+-- ---- a packet that is taken up
+
+pub written_is : (b : Bool) (w : Writing) → written (if b then None else Some w) ≡ (if b then [] else Recorded w.trigger w.entry ∷ [])
+written_is true w = refl
+written_is false w = refl
+
+pub taken : (s : State) (row : QueuedRow) → delivery_fault row.attach row.packet s.daemon ≡ None → delivered_at (Some row) s None ≡ takes s row
+taken s row h = ap (λ (f : Option DaemonFault). if not (is_some f) then takes s row else refused s Stranger) h
+
+pub all_is : (s : State) (k new : KernelState) (d e : DaemonState) (trace more : List Obs) → new ≡ k → e ≡ d → more ≡ trace → halves new e more s ≡ halves k d trace s
+all_is s k new d e trace more a b c =
+    ap (λ (x : KernelState). halves x e more s) a ∙ ap (λ (x : DaemonState). halves k x more s) b ∙ ap (λ (x : List Obs). halves k d x s) c
+
+-- ---- catatonic mode
+
+live_by : (a b c : Bool) → (a && (b && c)) ≡ true → (a ≡ true) × (c ≡ true)
+live_by true true true h = (refl, refl)
+live_by true true false h = absurd cc
+live_by true false c h = absurd cc
+live_by false b c h = absurd cc
+
+live_step : (first later live : Bool) → (first || later) ≡ true → (first ≡ true → live ≡ true) → (later ≡ true → live ≡ true) → live ≡ true
+live_step true later live h here rest = here refl
+live_step false later live h here rest = rest h
+
+any_live : (k : KernelState) (fs attach : ℕ) (rows : List Attached) → list_any (λ row. row.fs == fs && is_attached_by k attach row) rows ≡ true → is_live k fs ≡ true
+any_live k fs attach [] h = absurd cc
+any_live k fs attach (row ∷ rows) h =
+    live_step (row.fs == fs && is_attached_by k attach row) (list_any (λ row. row.fs == fs && is_attached_by k attach row) rows) (is_live k fs) h
+    (λ here.
+    let both = live_by (row.fs == fs) (row.attach == attach) (is_live k row.fs) here in
+    subst (λ (n : ℕ). is_live k n ≡ true) (grind (arith, nat_tests, both.0)) both.1)
+    (any_live k fs attach rows)
+
+-- a file system of a current attachment is live
+pub current_closes : (k : KernelState) (fs attach : ℕ) → true ≡ is_current k fs attach → closing_if_live fs k ≡ closing fs k
+current_closes k fs attach h = ap (λ (b : Bool). if b then closing fs k else []) (any_live k fs attach k.attached (sym h))

@@ -1,0 +1,24 @@
+use Rattle.std.proofs.Common.{◌≡◌, ℕ, [], ◌∷◌, ◌++◌, List, Option, Some, None, refl, sym, ap, ◌∙◌}
+use Rattle.am_state.specs.declared.obs.Obs.{Obs}
+use Rattle.am_state.specs.declared.obs.Obs.TheVariants as seen
+use Rattle.am_job.specs.Plans.{is_reply}
+use Rattle.am_kernel.specs.Requests.{without_packet}
+use Rattle.am_daemon.specs.declared.acts.Writing.{Writing}
+use Rattle.am_daemon.specs.Packets.{trigger_of, plan_of_packet, pending_of}
+use Rattle.am_daemon.specs.Deliveries.{taken_up}
+use Rattle.am_machine.specs.declared.answer.Answer.TheVariants as answers
+use Rattle.am_machine.specs.Events.Deliveries.{takes, delivered_at, recording}
+use Rattle.am_world.specs.Halves.{state_of, written}
+use Rattle.am_world.proofs.WentLemmas.{written_is, taken, all_is, goes_as}
+use Rattle.am_world.proofs.halves.Halves.take.Goals as goal
+
+pub returns-in-Ok : goal.returns-in-Ok
+returns-in-Ok c =
+    let s = state_of c.args.self.now in
+    let row = c.args.row.now in
+    let told = seen.Delivered row.token row.attach row.packet in
+    goes_as (delivered_at (Some row) s None) (takes s row) s (answers.Job c.in-Ok.job) _ (taken s row c.in-Ok.ensures.fault) (ap (λ (j : ℕ). answers.Job j) c.in-Ok.ensures.job)
+    (all_is s (without_packet row.token s.kernel) c.take_packet.new.self (taken_up row.attach row.packet s.daemon) _ (s.trace ++ told ∷ recording s.daemon row) _ c.take_packet.ensures c.in-Ok.ensures.ok
+    (c.tell_delivered.ensures ∙ ap (λ (t : List Obs). t ++ told ∷ written c.recording-writing.result) c.reserve.ensures.items
+    ∙ ap (λ (w : Option Writing). s.trace ++ told ∷ written w) c.recording-writing.ensures
+    ∙ ap (λ (more : List Obs). s.trace ++ told ∷ more) (written_is (is_reply (plan_of_packet s.daemon row.packet)) (record { trigger = trigger_of row.packet; entry = pending_of s.daemon row.packet }))))

@@ -1,8 +1,0 @@
-use Rattle.std.proofs.Common.{eqb, rules, tests}
-use Rattle.std.specs.Prelude.{not}
-use Rattle.std.proofs.lemmas.Fn.{filter_same}
-use Rattle.am_state.specs.declared.kernel_row.QueuedRow.{QueuedRow}
-use Rattle.am_world.proofs.rows.take_queued.Goals as goal
-
-pub returns : goal.returns
-returns c = filter_same _ (λ (row : QueuedRow). not (eqb row.token c.args.token)) _ (λ x b q k. search (rules, tests)) _ _ c.retain.ensures.filtered

@@ -1,0 +1,20 @@
+-- Answers that own memory are made before the event.
+use Rattle.std.specs.Prelude.{◌≡◌, Bool, true, false, Option, Some, None}
+use Rattle.am_names.specs.declared.row.Position.{Position}
+use Rattle.am_machine.specs.declared.answer.Answer.{Answer}
+use Rattle.am_machine.specs.declared.answer.Answer.TheVariants as answers
+
+-- the answer owns memory
+abbrev pub owns : Answer → Bool
+owns (answers.At position) = true
+owns (answers.Gone mounts) = true
+owns _ = false
+
+-- this was made for the answer, if it owns memory
+abbrev pub IsSpare : Option Answer → Answer → Type 0
+IsSpare None answer = owns answer ≡ false
+IsSpare (Some spare) answer = owns answer ≡ true → spare ≡ answer
+
+abbrev pub arrival_told : Option Position → Option Answer
+arrival_told None = None
+arrival_told (Some at) = Some (answers.At at)

@@ -1,0 +1,40 @@
+-- What the two halves stand for, and what becomes of an event.
+use Rattle.std.specs.Prelude.{◌≡◌, ◌⊎◌, List, [], ◌∷◌, Option, Some, None, Result, Ok, Err}
+use Rattle.am_names.specs.declared.errno.Errno.{Errno}
+use Rattle.am_names.specs.declared.errno.Errno.TheVariants.{NoMemory}
+use Rattle.am_state.specs.declared.obs.Obs.{Obs}
+use Rattle.am_state.specs.declared.obs.Obs.TheVariants.{Recorded}
+use Rattle.am_daemon.specs.State.{DaemonState, DaemonTable, rows_of}
+use Rattle.am_daemon.specs.declared.acts.Writing.{Writing}
+use Rattle.am_machine.specs.declared.answer.Answer.{Answer}
+use Rattle.am_machine.specs.declared.answer.Answer.TheVariants as answers
+use Rattle.am_machine.specs.State.{State}
+use Rattle.am_machine.specs.Outcome.{Outcome, refused}
+use Rattle.am_machine.specs.Machine.{after}
+use Rattle.am_world.specs.Table.{WorldTable}
+use Rattle.am_world.specs.declared.halves.Halves.{Halves}
+
+abbrev pub daemon_of : DaemonTable → DaemonState
+daemon_of d = rows_of d
+
+abbrev pub table_of : Halves → WorldTable
+table_of h = record { kernel = h.kernel; daemon = h.daemon; latest = h.latest; trace = h.trace.items }
+
+-- the machine's state
+abbrev pub state_of : Halves → State
+state_of h = record { kernel = h.kernel; daemon = rows_of h.daemon; latest = h.latest; trace = h.trace.items }
+
+-- The outcome has come; or it is a refusal, or memory ran out, and nothing has changed.
+abbrev pub Goes : Outcome → State → Result Answer Errno → State → Type 0
+Goes o old (Ok answer) new = (answer ≡ o.answer) × (new ≡ after old o)
+Goes o old (Err e) new = (new ≡ old) × ((e ≡ NoMemory) ⊎ (o ≡ refused old e))
+
+-- what is seen of a change of the book
+abbrev pub written : Option Writing → List Obs
+written None = []
+written (Some writing) = Recorded writing.trigger writing.entry ∷ []
+
+-- the answer to an event of which this came
+abbrev pub told : Result Answer Errno → Answer
+told (Ok answer) = answer
+told (Err e) = answers.Refused e

@@ -1,0 +1,285 @@
+//! The daemon's jobs go on, act by act.
+
+ghost use Rattle.std.specs.Prelude.{◌≡◌, ◌≤◌, ◌+◌, ◌∷◌, ◌++◌, length, vec_len, vec_capacity};
+ghost use Rattle.am_state.specs.declared.obs.Obs.TheVariants.{Answered};
+ghost use Rattle.am_kernel.specs.Walks.{releases};
+ghost use Rattle.am_kernel.specs.Directories.{mkdir_refusal, rmdir_refusal};
+ghost use Rattle.am_kernel.specs.Requests.{answer_refusal};
+ghost use Rattle.am_daemon.specs.Acts.{finished};
+ghost use Rattle.am_machine.specs.Events.Acts.{mkdir_by, mount_act, umount_act, rmdir_by, record_act, reply_by, act_outcome};
+ghost use Rattle.am_world.specs.Halves.{state_of, daemon_of, Goes};
+ghost use Rattle.am_world.specs.declared.acts.Deed.TheVariants as deed;
+ghost use Rattle.am_world.specs.Acts.{deed_of, turn_of, row_for, as_made, as_removed, is_no_memory, IsNext, IsLean};
+
+use crate::halves::Halves;
+use am_daemon::Daemon;
+use am_job::{Act, Outcome};
+use am_machine::Answer;
+use am_names::{Attach, Errno, JobId, Status, Token, Trigger, WalkerId};
+use am_state::{Obs, Record};
+use std::alloc::Global;
+
+/// An act without what it mounts.
+#[derive(Clone, Copy, Debug)]
+pub enum Deed {
+    Mkdir {
+        trigger: Trigger,
+    },
+    Mount {
+        trigger: Trigger,
+    },
+    Umount {
+        trigger: Trigger,
+    },
+    Rmdir {
+        trigger: Trigger,
+    },
+    Record {
+        trigger: Trigger,
+        entry: Option<Record>,
+    },
+    Reply {
+        status: Status,
+    },
+}
+
+/// The next act of a job, and the attachment that it carries.
+#[derive(Clone, Copy, Debug)]
+pub struct Turn {
+    pub job: JobId,
+    pub attach: Attach,
+    pub deed: Deed,
+}
+
+fn deed_of(act: &Act) -> Deed
+    ensures { result ≡ deed_of act.now }
+{
+    match act {
+        Act::Mkdir { trigger } => Deed::Mkdir { trigger: *trigger },
+        Act::Mount { trigger, .. } => Deed::Mount { trigger: *trigger },
+        Act::Umount { trigger } => Deed::Umount { trigger: *trigger },
+        Act::Rmdir { trigger } => Deed::Rmdir { trigger: *trigger },
+        Act::Record { trigger, entry } => Deed::Record {
+            trigger: *trigger,
+            entry: *entry,
+        },
+        Act::Reply { status } => Deed::Reply { status: *status },
+    }
+}
+
+/// What comes next of a job.
+fn turn_of(daemon: &Daemon, job: JobId) -> Option<Turn>
+    ensures { result ≡ turn_of job (daemon_of daemon.now) }
+{
+    let row = daemon.job(job)?;
+    let act = row.next()?;
+    Some(Turn {
+        job,
+        attach: row.attach(),
+        deed: deed_of(act),
+    })
+}
+
+/// Tells an answer, and that these walkers are released by it. There is room for it.
+fn tell_answer(trace: &mut Vec<Obs>, token: Token, status: Status, walkers: &[WalkerId])
+    requires { vec_len trace.old + length walkers.now + 1 ≤ vec_capacity trace.old }
+    ensures { trace.new.items ≡ trace.old.items ++ Answered token status ∷ releases token status walkers.now }
+{
+    trace.push_reserved(Obs::Answered { token, status });
+    for walker in walkers {
+        trace.push_reserved(Obs::Released {
+            walker: *walker,
+            token,
+            status,
+        });
+    }
+}
+
+/// This has come of the next act of a job, which writes nothing into the book.
+fn finish(daemon: &mut Daemon, job: JobId, outcome: Outcome)
+    requires { IsLean job (daemon_of daemon.old) }
+    ensures { daemon_of daemon.new ≡ finished job outcome (daemon_of daemon.old) }
+{
+    // There is the job, and the act takes no memory.
+    let _done = daemon.finish_act(job, outcome);
+}
+
+/// A directory that is there already counts as made.
+fn as_made(came: Result<(), Errno>) -> Result<(), Errno>
+    ensures { result ≡ as_made came }
+{
+    match came {
+        Ok(()) | Err(Errno::EEXIST) => Ok(()),
+        Err(errno) => Err(errno),
+    }
+}
+
+/// A directory that has gone, or on which something is mounted, counts as removed.
+fn as_removed(came: Result<(), Errno>) -> Result<(), Errno>
+    ensures { result ≡ as_removed came }
+{
+    match came {
+        Ok(()) | Err(Errno::ENOENT | Errno::EBUSY) => Ok(()),
+        Err(errno) => Err(errno),
+    }
+}
+
+fn is_no_memory(errno: Errno) -> bool
+    ensures { result ≡ is_no_memory errno }
+{
+    matches!(errno, Errno::NoMemory)
+}
+
+impl Halves {
+    fn make_directory(&mut self, turn: &Turn, trigger: &Trigger) -> Result<Answer, Errno>
+        requires { IsNext turn.now (deed.Mkdir trigger.now) (daemon_of self.old.daemon) }
+        ensures { Goes (mkdir_by (mkdir_refusal self.old.kernel turn.now.attach trigger.now) (state_of self.old) (row_for (daemon_of self.old.daemon) turn.now.job) trigger.now) (state_of self.old) result (state_of self.new) }
+    {
+        let came = as_made(self.kernel.mkdir(turn.attach, *trigger));
+        match came {
+            Ok(()) => {
+                finish(&mut self.daemon, turn.job, Outcome::Done);
+                Ok(Answer::DidMkdir)
+            }
+            Err(errno) => Err(errno),
+        }
+    }
+
+    fn mount_on(
+        &mut self,
+        alloc: Global,
+        turn: &Turn,
+        trigger: &Trigger,
+        ok: bool,
+    ) -> Result<Answer, Errno>
+        requires { IsNext turn.now (deed.Mount trigger.now) (daemon_of self.old.daemon) }
+        ensures { Goes (mount_act (state_of self.old) (row_for (daemon_of self.old.daemon) turn.now.job) trigger.now ok) (state_of self.old) result (state_of self.new) }
+    {
+        if !self.kernel.is_current(trigger.fs, turn.attach) {
+            return Err(Errno::EPERM);
+        }
+        if !ok {
+            finish(&mut self.daemon, turn.job, Outcome::Failed);
+            return Ok(Answer::FailedMount);
+        }
+        match self
+            .kernel
+            .mount_on(alloc, turn.attach, trigger, &mut self.trace)
+        {
+            Ok(mount) => {
+                finish(&mut self.daemon, turn.job, Outcome::Made { mount });
+                Ok(Answer::DidMount { mount })
+            }
+            Err(errno) => {
+                if is_no_memory(errno) {
+                    return Err(errno);
+                }
+                finish(&mut self.daemon, turn.job, Outcome::Failed);
+                Ok(Answer::FailedMount)
+            }
+        }
+    }
+
+    fn umount_from(
+        &mut self,
+        alloc: Global,
+        turn: &Turn,
+        trigger: &Trigger,
+        ok: bool,
+    ) -> Result<Answer, Errno>
+        requires { IsNext turn.now (deed.Umount trigger.now) (daemon_of self.old.daemon) }
+        ensures { Goes (umount_act (state_of self.old) (row_for (daemon_of self.old.daemon) turn.now.job) trigger.now ok) (state_of self.old) result (state_of self.new) }
+    {
+        if !self.kernel.is_current(trigger.fs, turn.attach) {
+            return Err(Errno::EPERM);
+        }
+        if !ok {
+            finish(&mut self.daemon, turn.job, Outcome::Failed);
+            return Ok(Answer::FailedUmount);
+        }
+        match self
+            .kernel
+            .umount_from(alloc, turn.attach, trigger, &mut self.trace)
+        {
+            Ok(_gone) => {
+                finish(&mut self.daemon, turn.job, Outcome::Done);
+                Ok(Answer::DidUmount)
+            }
+            Err(errno) => {
+                if is_no_memory(errno) {
+                    return Err(errno);
+                }
+                finish(&mut self.daemon, turn.job, Outcome::Failed);
+                Ok(Answer::FailedUmount)
+            }
+        }
+    }
+
+    fn remove_directory(
+        &mut self,
+        alloc: Global,
+        turn: &Turn,
+        trigger: &Trigger,
+    ) -> Result<Answer, Errno>
+        requires { IsNext turn.now (deed.Rmdir trigger.now) (daemon_of self.old.daemon) }
+        ensures { Goes (rmdir_by (rmdir_refusal self.old.kernel turn.now.attach trigger.now) (state_of self.old) (row_for (daemon_of self.old.daemon) turn.now.job) trigger.now) (state_of self.old) result (state_of self.new) }
+    {
+        let came = as_removed(self.kernel.rmdir(alloc, turn.attach, trigger));
+        match came {
+            Ok(()) => {
+                finish(&mut self.daemon, turn.job, Outcome::Done);
+                Ok(Answer::DidRmdir)
+            }
+            Err(errno) => Err(errno),
+        }
+    }
+
+    fn write_down(
+        &mut self,
+        turn: &Turn,
+        trigger: &Trigger,
+        entry: Option<Record>,
+    ) -> Result<Answer, Errno>
+        requires { IsNext turn.now (deed.Record trigger.now entry) (daemon_of self.old.daemon) }
+        ensures { Goes (record_act (state_of self.old) (row_for (daemon_of self.old.daemon) turn.now.job) trigger.now entry) (state_of self.old) result (state_of self.new) }
+    {
+        self.trace.reserve(1)?;
+        self.daemon.finish_act(turn.job, Outcome::Done)?;
+        self.trace.push_reserved(Obs::Recorded {
+            trigger: *trigger,
+            entry,
+        });
+        Ok(Answer::DidRecord)
+    }
+
+    fn reply(&mut self, alloc: Global, turn: &Turn, status: Status) -> Result<Answer, Errno>
+        requires { IsNext turn.now (deed.Reply status) (daemon_of self.old.daemon) }
+        ensures { Goes (reply_by (answer_refusal self.old.kernel turn.now.attach turn.now.job) (state_of self.old) (row_for (daemon_of self.old.daemon) turn.now.job) status) (state_of self.old) result (state_of self.new) }
+    {
+        let job = turn.job;
+        let token = Token(job.0);
+        let walkers = self.kernel.waits().waiters_of(alloc, token)?;
+        self.trace.reserve(walkers.len() + 1)?;
+        self.kernel.answer(turn.attach, token, status)?;
+        tell_answer(&mut self.trace, token, status, walkers.as_slice());
+        finish(&mut self.daemon, turn.job, Outcome::Done);
+        Ok(Answer::DidReply)
+    }
+
+    /// The daemon makes the next act of a job.
+    pub fn act(&mut self, alloc: Global, job: JobId, ok: bool) -> Result<Answer, Errno>
+        ensures { Goes (act_outcome (state_of self.old) job ok) (state_of self.old) result (state_of self.new) }
+    {
+        let Some(turn) = turn_of(&self.daemon, job) else {
+            return Err(Errno::EINVAL);
+        };
+        match &turn.deed {
+            Deed::Mkdir { trigger } => self.make_directory(&turn, trigger),
+            Deed::Mount { trigger } => self.mount_on(alloc, &turn, trigger, ok),
+            Deed::Umount { trigger } => self.umount_from(alloc, &turn, trigger, ok),
+            Deed::Rmdir { trigger } => self.remove_directory(alloc, &turn, trigger),
+            Deed::Record { trigger, entry } => self.write_down(&turn, trigger, *entry),
+            Deed::Reply { status } => self.reply(alloc, &turn, *status),
+        }
+    }
+}

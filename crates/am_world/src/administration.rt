@@ -1,0 +1,107 @@
+//! What the administrator does.
+
+ghost use Rattle.am_machine.specs.Events.Administration.{attach_outcome, mount_outcome, bind_outcome, umount_outcome, change_outcome, kind_outcome, copy_outcome, drop_outcome};
+ghost use Rattle.am_world.specs.Halves.{state_of, Goes};
+
+use crate::halves::Halves;
+use am_group::Change;
+use am_machine::Answer;
+use am_names::{AbsPath, Errno, Mounts, NsId, Place};
+use std::alloc::Global;
+
+impl Halves {
+    /// An autofs is mounted at a point of the master, and the daemon attaches to it.
+    pub fn attach(&mut self, alloc: Global, path: &AbsPath) -> Result<Answer, Errno>
+        ensures { Goes (attach_outcome (state_of self.old) path.now) (state_of self.old) result (state_of self.new) }
+    {
+        let Some(point) = self.daemon.point(path) else {
+            return Err(Errno::ENOENT);
+        };
+        if self.daemon.is_attached(path) {
+            return Err(Errno::EEXIST);
+        }
+        let place = Place::of(alloc, path.text())?;
+        self.daemon.reserve_attach()?;
+        let made = self
+            .kernel
+            .attach_autofs(alloc, path, point.direct, point.timeout, &mut self.trace)?;
+        self.daemon.attached_reserved(made.fs, made.attach, place);
+        Ok(Answer::Attached {
+            fs: made.fs,
+            attach: made.attach,
+            mount: made.mount,
+        })
+    }
+
+    /// A new plain file system is mounted.
+    pub fn mount(&mut self, alloc: Global, ns: NsId, path: &AbsPath) -> Result<Answer, Errno>
+        ensures { Goes (mount_outcome (state_of self.old) ns path.now) (state_of self.old) result (state_of self.new) }
+    {
+        let mount = self.kernel.mount_plain(alloc, ns, path, &mut self.trace)?;
+        Ok(Answer::Mount { mount })
+    }
+
+    /// What another has mounted is mounted at one path more.
+    pub fn bind(
+        &mut self,
+        alloc: Global,
+        ns: NsId,
+        from: &AbsPath,
+        to: &AbsPath,
+    ) -> Result<Answer, Errno>
+        ensures { Goes (bind_outcome (state_of self.old) ns from.now to.now) (state_of self.old) result (state_of self.new) }
+    {
+        let mount = self.kernel.bind(alloc, ns, from, to, &mut self.trace)?;
+        Ok(Answer::Mount { mount })
+    }
+
+    /// A mount goes, and what was mounted with it.
+    pub fn umount(&mut self, alloc: Global, ns: NsId, path: &AbsPath) -> Result<Answer, Errno>
+        ensures { Goes (umount_outcome (state_of self.old) ns path.now) (state_of self.old) result (state_of self.new) }
+    {
+        let gone = self.kernel.umount_plain(alloc, ns, path, &mut self.trace)?;
+        Ok(Answer::Gone {
+            mounts: Mounts::of(gone),
+        })
+    }
+
+    /// A mount takes part in propagation in another way.
+    pub fn change(
+        &mut self,
+        alloc: Global,
+        ns: NsId,
+        path: &AbsPath,
+        change: Change,
+    ) -> Result<Answer, Errno>
+        ensures { Goes (change_outcome (state_of self.old) ns path.now change) (state_of self.old) result (state_of self.new) }
+    {
+        self.kernel.change(alloc, ns, path, change)?;
+        Ok(Answer::Done)
+    }
+
+    /// How a mount takes part in propagation.
+    pub fn kind(&self, alloc: Global, ns: NsId, path: &AbsPath) -> Result<Answer, Errno>
+        ensures { Goes (kind_outcome (state_of self.now) ns path.now) (state_of self.now) result (state_of self.now) }
+    {
+        let kind = self.kernel.kind(alloc, ns, path)?;
+        Ok(Answer::Kind { kind })
+    }
+
+    /// A namespace is copied.
+    pub fn copy_namespace(&mut self, alloc: Global, ns: NsId) -> Result<Answer, Errno>
+        ensures { Goes (copy_outcome (state_of self.old) ns) (state_of self.old) result (state_of self.new) }
+    {
+        let ns = self.kernel.ns_copy(alloc, ns, &mut self.trace)?;
+        Ok(Answer::Namespace { ns })
+    }
+
+    /// A namespace is dropped.
+    pub fn drop_namespace(&mut self, alloc: Global, ns: NsId) -> Result<Answer, Errno>
+        ensures { Goes (drop_outcome (state_of self.old) ns) (state_of self.old) result (state_of self.new) }
+    {
+        let gone = self.kernel.ns_drop(alloc, ns, &mut self.trace)?;
+        Ok(Answer::Gone {
+            mounts: Mounts::of(gone),
+        })
+    }
+}

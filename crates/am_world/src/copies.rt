@@ -1,0 +1,98 @@
+//! An answer twice: what owns memory is made before the event.
+
+ghost use Rattle.std.specs.Prelude.{◌≡◌, IfOk};
+ghost use Rattle.am_machine.specs.Machine.{outcome_of};
+ghost use Rattle.am_machine.specs.Events.Administration.{umount_outcome, drop_outcome};
+ghost use Rattle.am_world.specs.Halves.{state_of};
+ghost use Rattle.am_world.specs.Copies.{IsSpare, arrival_told};
+
+use crate::halves::Halves;
+use am_machine::{Answer, Event};
+use am_names::{AbsPath, Errno, Mounts, NsId, Position};
+use std::alloc::Global;
+
+/// The answer of a walk that arrives there.
+fn arrival_told(at: Option<Position>) -> Option<Answer>
+    ensures { result ≡ arrival_told at }
+{
+    Some(Answer::At { position: at? })
+}
+
+/// The same answer once more. One that owns memory was made before.
+pub fn again(answer: &Answer, spare: Option<Answer>) -> Answer
+    requires { IsSpare spare answer.now }
+    ensures { result ≡ answer.now }
+{
+    match answer {
+        Answer::Attached { fs, attach, mount } => Answer::Attached {
+            fs: *fs,
+            attach: *attach,
+            mount: *mount,
+        },
+        Answer::Mount { mount } => Answer::Mount { mount: *mount },
+        Answer::Done => Answer::Done,
+        Answer::Kind { kind } => Answer::Kind { kind: *kind },
+        Answer::Namespace { ns } => Answer::Namespace { ns: *ns },
+        Answer::Wait { token } => Answer::Wait { token: *token },
+        Answer::Expired => Answer::Expired,
+        Answer::Job { job } => Answer::Job { job: *job },
+        Answer::DidMkdir => Answer::DidMkdir,
+        Answer::DidMount { mount } => Answer::DidMount { mount: *mount },
+        Answer::DidUmount => Answer::DidUmount,
+        Answer::DidRmdir => Answer::DidRmdir,
+        Answer::DidRecord => Answer::DidRecord,
+        Answer::DidReply => Answer::DidReply,
+        Answer::FailedMount => Answer::FailedMount,
+        Answer::FailedUmount => Answer::FailedUmount,
+        Answer::Reattached { attach } => Answer::Reattached { attach: *attach },
+        Answer::Record { entry } => Answer::Record { entry: *entry },
+        Answer::Refused { errno } => Answer::Refused { errno: *errno },
+        Answer::Failed { errno } => Answer::Failed { errno: *errno },
+        Answer::At { .. } | Answer::Gone { .. } => match spare {
+            Some(spare) => spare,
+            // It was made.
+            None => Answer::Done,
+        },
+    }
+}
+
+impl Halves {
+    /// The answer to an unmount, if the path leads somewhere.
+    fn umount_told(&self, alloc: Global, ns: NsId, path: &AbsPath) -> Result<Option<Answer>, Errno>
+        ensures { IfOk result (λ spare. IsSpare spare (umount_outcome (state_of self.now) ns path.now).answer) }
+    {
+        match self.kernel.umount_takes(alloc, ns, path) {
+            Ok(gone) => Ok(Some(Answer::Gone {
+                mounts: Mounts::of(gone),
+            })),
+            Err(Errno::NoMemory) => Err(Errno::NoMemory),
+            Err(_) => Ok(None),
+        }
+    }
+
+    /// The answer to the drop of a namespace.
+    fn drop_told(&self, alloc: Global, ns: NsId) -> Result<Option<Answer>, Errno>
+        ensures { IfOk result (λ spare. IsSpare spare (drop_outcome (state_of self.now) ns).answer) }
+    {
+        Ok(Some(Answer::Gone {
+            mounts: Mounts::of(self.kernel.drop_takes(alloc, ns)?),
+        }))
+    }
+
+    /// The answer to an event, where it owns memory.
+    pub fn spare(&self, alloc: Global, event: &Event) -> Result<Option<Answer>, Errno>
+        ensures { IfOk result (λ spare. IsSpare spare (outcome_of (state_of self.now) event.now).answer) }
+    {
+        match event {
+            Event::Umount { ns, path } => self.umount_told(alloc, *ns, path),
+            Event::DropNamespace { ns } => self.drop_told(alloc, *ns),
+            Event::Walk { ns, path, .. } => {
+                Ok(arrival_told(self.kernel.arrival(alloc, *ns, path)?))
+            }
+            Event::Resume { walker, .. } => {
+                Ok(arrival_told(self.kernel.arrival_again(alloc, *walker)?))
+            }
+            _ => Ok(None),
+        }
+    }
+}

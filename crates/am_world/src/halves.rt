@@ -1,0 +1,87 @@
+//! The two halves of a world, and what they make of each event.
+
+ghost use Rattle.std.specs.Prelude.{◌≡◌, max};
+ghost use Rattle.am_machine.specs.Outcome.{moment_of};
+ghost use Rattle.am_machine.specs.Machine.{outcome_of};
+ghost use Rattle.am_world.specs.Halves.{state_of, Goes};
+
+use am_daemon::Daemon;
+use am_kernel::Kernel;
+use am_machine::{Answer, Event};
+use am_names::{Errno, Seconds};
+use am_state::Obs;
+use std::alloc::Global;
+
+/// The kernel's half and the daemon's, the latest moment, and what was observed.
+#[derive(Drop)]
+pub struct Halves {
+    pub kernel: Kernel,
+    pub daemon: Daemon,
+    pub latest: Seconds,
+    pub trace: Vec<Obs>,
+}
+
+/// The later of two moments.
+fn later(one: Seconds, other: Seconds) -> Seconds
+    ensures { result ≡ max one other }
+{
+    if one < other { other } else { one }
+}
+
+impl Halves {
+    /// The moment of an event: its own, or the latest so far.
+    pub fn moment(&self, now: Seconds) -> Seconds
+        ensures { result ≡ moment_of (state_of self.now) now }
+    {
+        later(self.latest, now)
+    }
+
+    /// What becomes of an event.
+    pub fn handle(&mut self, alloc: Global, event: &Event) -> Result<Answer, Errno>
+        ensures { Goes (outcome_of (state_of self.old) event.now) (state_of self.old) result (state_of self.new) }
+    {
+        match event {
+            Event::Attach { path } => self.attach(alloc, path),
+            Event::Mount { ns, path } => self.mount(alloc, *ns, path),
+            Event::Bind { ns, from, to } => self.bind(alloc, *ns, from, to),
+            Event::Umount { ns, path } => self.umount(alloc, *ns, path),
+            Event::Change { ns, path, change } => self.change(alloc, *ns, path, *change),
+            Event::Kind { ns, path } => self.kind(alloc, *ns, path),
+            Event::CopyNamespace { ns } => self.copy_namespace(alloc, *ns),
+            Event::DropNamespace { ns } => self.drop_namespace(alloc, *ns),
+            Event::Walk {
+                walker,
+                ns,
+                path,
+                now,
+                pipe,
+            } => self.walk(alloc, *walker, *ns, path, *now, *pipe),
+            Event::Resume { walker, now, pipe } => self.resume(alloc, *walker, *now, *pipe),
+            Event::Leave { walker } => self.leave(*walker),
+            Event::Expire {
+                walker,
+                fs,
+                now,
+                immediate,
+                pipe,
+            } => self.expire(alloc, *walker, *fs, *now, *immediate, *pipe),
+            Event::Deliver { token, bytes } => self.deliver(alloc, *token, bytes),
+            Event::Act { job, ok } => self.act(alloc, *job, *ok),
+            Event::Repeat {
+                attach,
+                token,
+                status: _,
+            } => Err(self.repeat(*attach, *token)),
+            Event::Catatonic { attach, fs } => self.catatonic(alloc, *attach, *fs),
+            Event::AdminCatatonic { fs } => self.admin_catatonic(alloc, *fs),
+            Event::Timeout {
+                attach,
+                fs,
+                timeout,
+            } => self.set_timeout(*attach, *fs, *timeout),
+            Event::Die => self.die(),
+            Event::Reattach { fs } => self.reattach(alloc, *fs),
+            Event::Record { trigger } => self.read_book(trigger),
+        }
+    }
+}

@@ -1,0 +1,98 @@
+//! What the daemon asks of the kernel beside its jobs, its death, and attachments that end and begin.
+
+ghost use Rattle.std.specs.Prelude.{◌≡◌, Some};
+ghost use Rattle.am_machine.specs.Outcome.{refused};
+ghost use Rattle.am_machine.specs.Events.Requests.{repeat_outcome, catatonic_outcome, admin_catatonic_outcome, timeout_outcome, die_outcome, reattach_outcome, record_outcome};
+ghost use Rattle.am_world.specs.Halves.{state_of, Goes};
+
+use crate::halves::Halves;
+use am_machine::Answer;
+use am_names::{Attach, Errno, FsId, Token, Trigger};
+use am_state::Obs;
+use std::alloc::Global;
+
+impl Halves {
+    /// Why a reply that no job makes isn't taken.
+    pub fn repeat(&self, attach: Attach, token: Token) -> Errno
+        ensures { repeat_outcome (state_of self.now) attach token ≡ refused (state_of self.now) result }
+    {
+        if self.kernel.fs_of_attach(attach).is_none() {
+            return Errno::EPERM;
+        }
+        if self.kernel.waits().trigger_of(token).is_some() {
+            return Errno::Stranger;
+        }
+        Errno::EINVAL
+    }
+
+    /// The daemon ends an attachment.
+    pub fn catatonic(&mut self, alloc: Global, attach: Attach, fs: FsId) -> Result<Answer, Errno>
+        ensures { Goes (catatonic_outcome (state_of self.old) attach fs) (state_of self.old) result (state_of self.new) }
+    {
+        if !self.kernel.is_current(fs, attach) {
+            return Err(Errno::EPERM);
+        }
+        let mut shown = self.kernel.closing_seen(alloc, fs)?;
+        self.trace.append(&mut shown)?;
+        self.kernel.catatonic(attach, fs)?;
+        Ok(Answer::Done)
+    }
+
+    /// The administrator ends the attachment of an autofs.
+    pub fn admin_catatonic(&mut self, alloc: Global, fs: FsId) -> Result<Answer, Errno>
+        ensures { Goes (admin_catatonic_outcome (state_of self.old) fs) (state_of self.old) result (state_of self.new) }
+    {
+        // Nothing is to be seen of what is no autofs.
+        let mut shown = self.kernel.closing_seen(alloc, fs)?;
+        self.trace.append(&mut shown)?;
+        self.kernel.admin_catatonic(fs)?;
+        Ok(Answer::Done)
+    }
+
+    /// The daemon sets the timeout of an autofs.
+    pub fn set_timeout(&mut self, attach: Attach, fs: FsId, timeout: u32) -> Result<Answer, Errno>
+        ensures { Goes (timeout_outcome (state_of self.old) attach fs timeout) (state_of self.old) result (state_of self.new) }
+    {
+        self.kernel.set_timeout(attach, fs, timeout)?;
+        Ok(Answer::Done)
+    }
+
+    /// The daemon dies.
+    pub fn die(&mut self) -> Result<Answer, Errno>
+        ensures { Goes (die_outcome (state_of self.old)) (state_of self.old) result (state_of self.new) }
+    {
+        self.trace.reserve(1)?;
+        self.daemon.die();
+        self.trace.push_reserved(Obs::Died);
+        Ok(Answer::Done)
+    }
+
+    /// The daemon attaches again to a catatonic autofs.
+    pub fn reattach(&mut self, alloc: Global, fs: FsId) -> Result<Answer, Errno>
+        ensures { Goes (reattach_outcome (state_of self.old) fs) (state_of self.old) result (state_of self.new) }
+    {
+        if let Some(errno) = self.kernel.pipe_refusal(fs) {
+            return Err(errno);
+        }
+        let standing = self.kernel.standing(alloc, fs)?;
+        self.trace.reserve(1)?;
+        // A number is left for it.
+        let attach = Attach(self.kernel.last_attach().0 + 1);
+        self.daemon.reattach(fs, attach, standing.as_slice())?;
+        let _attach = self.kernel.set_pipe(fs);
+        self.trace.push_reserved(Obs::Reattached { fs, attach });
+        Ok(Answer::Reattached { attach })
+    }
+
+    /// The daemon's book is read.
+    pub fn read_book(&self, trigger: &Trigger) -> Result<Answer, Errno>
+        ensures { Goes (record_outcome (state_of self.now) trigger.now) (state_of self.now) result (state_of self.now) }
+    {
+        if !self.kernel.is_trigger(trigger) {
+            return Err(Errno::EINVAL);
+        }
+        Ok(Answer::Record {
+            entry: self.daemon.record(trigger),
+        })
+    }
+}

@@ -1,0 +1,99 @@
+//! What walkers do.
+
+ghost use Rattle.std.specs.Prelude.{◌≡◌};
+ghost use Rattle.am_machine.specs.Events.Walkers.{answer_of, walk_outcome, resume_outcome, expire_outcome, leave_outcome};
+ghost use Rattle.am_world.specs.Halves.{state_of, Goes};
+
+use crate::halves::Halves;
+use am_kernel::Begun;
+use am_machine::Answer;
+use am_names::{AbsPath, Errno, FsId, NsId, PipeState, Seconds, WalkerId};
+use std::alloc::Global;
+
+/// The answer to a walk that goes on so.
+fn answer_of(begun: Begun) -> Answer
+    ensures { result ≡ answer_of begun }
+{
+    match begun {
+        Begun::Arrived(position) => Answer::At { position },
+        Begun::Waits(token) => Answer::Wait { token },
+        Begun::Failed(errno) => Answer::Failed { errno },
+        Begun::Expired => Answer::Expired,
+    }
+}
+
+impl Halves {
+    /// A walker begins a walk.
+    pub fn walk(
+        &mut self,
+        alloc: Global,
+        walker: WalkerId,
+        ns: NsId,
+        path: &AbsPath,
+        now: Seconds,
+        pipe: PipeState,
+    ) -> Result<Answer, Errno>
+        ensures { Goes (walk_outcome (state_of self.old) walker ns path.now now pipe) (state_of self.old) result (state_of self.new) }
+    {
+        let moment = self.moment(now);
+        let came = self
+            .kernel
+            .walk(alloc, walker, ns, path, moment, pipe, &mut self.trace);
+        match came {
+            Ok(begun) => {
+                self.latest = moment;
+                Ok(answer_of(begun))
+            }
+            Err(errno) => Err(errno),
+        }
+    }
+
+    /// A walker that waits goes on.
+    pub fn resume(
+        &mut self,
+        alloc: Global,
+        walker: WalkerId,
+        now: Seconds,
+        pipe: PipeState,
+    ) -> Result<Answer, Errno>
+        ensures { Goes (resume_outcome (state_of self.old) walker now pipe) (state_of self.old) result (state_of self.new) }
+    {
+        let moment = self.moment(now);
+        let begun = self
+            .kernel
+            .resume(alloc, walker, moment, pipe, &mut self.trace)?;
+        self.latest = moment;
+        Ok(answer_of(begun))
+    }
+
+    /// A walker asks for an expiry.
+    pub fn expire(
+        &mut self,
+        alloc: Global,
+        walker: WalkerId,
+        fs: FsId,
+        now: Seconds,
+        immediate: bool,
+        pipe: PipeState,
+    ) -> Result<Answer, Errno>
+        ensures { Goes (expire_outcome (state_of self.old) walker fs now immediate pipe) (state_of self.old) result (state_of self.new) }
+    {
+        let moment = self.moment(now);
+        let came = self.kernel.expire(alloc, walker, fs, moment, immediate, pipe, &mut self.trace);
+        match came {
+            Ok(begun) => {
+                self.latest = moment;
+                Ok(answer_of(begun))
+            }
+            Err(errno) => Err(errno),
+        }
+    }
+
+    /// A walker leaves the mount that it is inside of.
+    pub fn leave(&mut self, walker: WalkerId) -> Result<Answer, Errno>
+        ensures { Goes (leave_outcome (state_of self.old) walker) (state_of self.old) result (state_of self.new) }
+    {
+        let _mount = self.kernel.leave(walker, &mut self.trace)?;
+        Ok(Answer::Done)
+    }
+}
