@@ -6,6 +6,7 @@ use Rattle.am_machine.specs.State.{State, opening_of}
 use Rattle.am_machine.specs.Invariant.Tokens.{TokensAgree}
 use Rattle.am_machine.specs.Invariant.Places.{PlacesAgree}
 use Rattle.am_machine.specs.Invariant.Books.{IsServed, BookAgrees}
+use Rattle.am_machine.specs.Invariant.Records.{AreOfTheirTokens}
 use Rattle.am_machine.specs.Invariant.Stands.{AreWritten}
 use Rattle.am_machine.specs.Invariant.Consistent.{IsConsistent}
 use Rattle.am_machine.specs.Agreement.{AgreeOn, Agree, RunsAgree}
@@ -14,10 +15,10 @@ use Rattle.am_machine.proofs.AgreeTokens.{pending_here, tokens_here}
 use Rattle.am_machine.proofs.SafetyLemmas.{initial_consistent, run_consistent}
 
 -- what the parts of the invariant come to, of a file system that the daemon serves
-pub agree_on : (k : KernelState) (d : DaemonState) → TokensAgree k d.jobs → PlacesAgree k → BookAgrees k d → AreWritten k d → (fs attach : ℕ) → IsServed k d fs attach → AgreeOn k d fs attach
-agree_on k d tokens places book settled fs attach served = record {
+pub agree_on : (k : KernelState) (d : DaemonState) → TokensAgree k d.jobs → PlacesAgree k → BookAgrees k d → AreOfTheirTokens k.waits d.book → AreWritten k d → (fs attach : ℕ) → IsServed k d fs attach → AgreeOn k d fs attach
+agree_on k d tokens places book records settled fs attach served = record {
   mounted = mounted_here k d settled fs attach served places;
-  pending = pending_here k d tokens fs attach served book;
+  pending = pending_here k d tokens fs attach served book records;
   unrecorded = nothing_here k d settled fs attach served;
   tokens = tokens_here k d tokens fs attach served;
 }
@@ -26,7 +27,7 @@ agree_on k d tokens places book settled fs attach served = record {
 pub agrees : (s : State) → IsConsistent s → Agree s
 agrees s h fs attach served =
     let halves = h.agreed in
-    agree_on s.kernel s.daemon halves.tokens halves.places halves.book halves.stands.settled fs attach served
+    agree_on s.kernel s.daemon halves.tokens halves.places halves.book halves.records halves.stands.settled fs attach served
 
 -- after every run
 pub runs_agree : RunsAgree

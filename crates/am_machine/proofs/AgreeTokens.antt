@@ -1,11 +1,14 @@
 -- Where the book says that a mount or an unmount goes on, a job is at work, and each open token is
 -- to be delivered, or to be answered, and not both.
-use Rattle.std.proofs.Common.{◌≡◌, ◌⊎◌, ℕ, Bool, true, false, Option, Some, None, refl, sym, ap, inl, inr, ⊎_elim, ◌∙◌}
-use Rattle.std.specs.Prelude.{◌==◌, ◌&&◌, is_some}
+use Rattle.std.proofs.Common.{◌≡◌, ◌⊎◌, ℕ, Bool, true, false, Option, Some, None, refl, sym, ap, subst, inl, inr, ⊎_elim, ◌∙◌}
+use Rattle.std.specs.Prelude.{◌==◌, ◌&&◌, is_some, find, List}
+use Rattle.std.specs.Option.{option_map}
 use Rattle.am_names.specs.Trigger.{same_trigger}
 use Rattle.am_names.specs.declared.trigger.Trigger.{Trigger}
 use Rattle.am_names.specs.declared.row.OpenToken.{OpenToken}
-use Rattle.am_wait.specs.Rows.{token_of}
+use Rattle.am_wait.specs.Rows.{WaitRows, token_of}
+use Rattle.am_state.specs.declared.daemon_row.Record.{Record}
+use Rattle.am_state.specs.declared.daemon_row.RecordRow.{RecordRow}
 use Rattle.am_state.specs.declared.kernel_row.QueuedRow.{QueuedRow}
 use Rattle.am_kernel.specs.State.{KernelState}
 use Rattle.am_kernel.specs.Sites.{attach_of}
@@ -16,6 +19,7 @@ use Rattle.am_daemon.specs.Deliveries.{job_of}
 use Rattle.am_laws.proofs.Packets.{nat_is, same_trigger_is}
 use Rattle.am_machine.specs.Invariant.Tokens.{IsInPipe, IsAtWork, HasToken, TokensAgree}
 use Rattle.am_machine.specs.Invariant.Books.{IsServed, is_pending_for, has_record_left, is_to_record, BookAgrees}
+use Rattle.am_machine.specs.Invariant.Records.{IsOfItsToken, AreOfTheirTokens}
 use Rattle.am_machine.specs.Agreement.{IsPending, IsToDeliver, IsToAnswer}
 use Rattle.am_machine.proofs.TraceRows.{some_is, found_passes}
 use Rattle.am_machine.proofs.BookFound.{found_all}
@@ -50,9 +54,19 @@ job_on attach g (Some job) e =
 token_at_work : (k : KernelState) (d : DaemonState) → TokensAgree k d.jobs → (token : ℕ) (job : JobPlan) → job_of d.jobs token ≡ Some job → attach_of k job.trigger.fs ≡ Some job.attach → HasToken k job
 token_at_work k d h token job is current = found_all (λ (row : JobPlan). attach_of k row.trigger.fs ≡ Some row.attach → HasToken k row) (λ (row : JobPlan). row.token == token) d.jobs job h.at_work is current
 
+-- ---- the record
+
+entry_in : (w : WaitRows) (entry : Record) (o : Option RecordRow) → ((row : RecordRow) → o ≡ Some row → IsOfItsToken w row.entry) → option_map (λ row. row.entry) o ≡ Some entry → IsOfItsToken w entry
+entry_in w entry None h e = absurd cc
+entry_in w entry (Some row) h e = subst (IsOfItsToken w) (let same : row.entry ≡ entry = cc in same) (h row refl)
+
+its_token : (w : WaitRows) (book : List RecordRow) (g : Trigger) (entry : Record) → AreOfTheirTokens w book → record_of book g ≡ Some entry → IsOfItsToken w entry
+its_token w book g entry h found =
+    entry_in w entry (find (λ row. same_trigger row.trigger g) book) (λ row is. found_all (λ (r : RecordRow). IsOfItsToken w r.entry) (λ (r : RecordRow). same_trigger r.trigger g) book row h is) found
+
 -- ---- a packet in the pipe
 
-in_pipe : (k : KernelState) (d : DaemonState) → TokensAgree k d.jobs → (token : ℕ) (row : QueuedRow) → queued_of k.queue token ≡ Some row → IsInPipe k d.jobs row
+pub in_pipe : (k : KernelState) (d : DaemonState) → TokensAgree k d.jobs → (token : ℕ) (row : QueuedRow) → queued_of k.queue token ≡ Some row → IsInPipe k d.jobs row
 in_pipe k d h token row is = found_all (IsInPipe k d.jobs) (λ (r : QueuedRow). r.token == token) k.queue row h.in_pipe is
 
 queued_number : (k : KernelState) (token : ℕ) (row : QueuedRow) → queued_of k.queue token ≡ Some row → row.token ≡ token
@@ -74,21 +88,24 @@ unqueued k d h token job is = by (queued_of k.queue token) refl
 
 module _ (k : KernelState) (d : DaemonState) (tokens : TokensAgree k d.jobs) (fs attach : ℕ) (served : IsServed k d fs attach) where
   -- where the book says that a mount or an unmount goes on, a job is at work
-  pub pending_here : BookAgrees k d → (g : Trigger) (token : ℕ) → g.fs ≡ fs → is_pending_for token (record_of d.book g) ≡ true → IsPending k d attach g token
-  pending_here book g token same e =
-      let j = job_on attach g (job_of d.jobs token) (sym (book.pending fs attach served g same token) ∙ e) in
+  pub pending_here : BookAgrees k d → AreOfTheirTokens k.waits d.book → (g : Trigger) (entry : Record) (token : ℕ) → g.fs ≡ fs → record_of d.book g ≡ Some entry → is_pending_for token (Some entry) ≡ true → IsPending k d attach g entry token
+  pending_here book records g entry token same found e =
+      let j = job_on attach g (job_of d.jobs token) (sym (book.pending fs attach served g same token) ∙ ap (is_pending_for token) found ∙ e) in
       let system : j.job.trigger.fs ≡ g.fs = ap (λ (t : Trigger). t.fs) (same_trigger_is j.job.trigger g j.trigger) in
       let lasts : attach_of k j.job.trigger.fs ≡ Some j.job.attach = ap (attach_of k) (system ∙ same) ∙ served.current ∙ ap (λ (n : ℕ). Some n) (sym j.current) in
       let has = token_at_work k d tokens token j.job j.is_job lasts in
       let number : j.job.token ≡ token = nat_is j.job.token token (found_passes (λ (row : JobPlan). row.token == token) d.jobs j.job j.is_job) in
+      let is_open : token_of k.waits.tokens token ≡ Some has.token = ap (token_of k.waits.tokens) (sym number) ∙ has.is_open in
       record {
         job = j.job;
         is_job = j.is_job;
         attach = j.current;
         trigger = j.trigger;
         row = has.token;
-        is_open = ap (token_of k.waits.tokens) (sym number) ∙ has.is_open;
+        is_open = is_open;
         fs = sym has.fs ∙ system;
+        kind = (its_token k.waits d.book g entry records found).kind token has.token is_open e;
+        asked = λ named. sym (has.trigger named) ∙ same_trigger_is j.job.trigger g j.trigger;
       }
 
   -- an open token whose packet is in the pipe is to be delivered

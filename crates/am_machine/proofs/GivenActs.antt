@@ -28,6 +28,7 @@ use Rattle.am_machine.specs.Invariant.Planned.{IsPlanned}
 use Rattle.am_machine.specs.Invariant.Tokens.{IsInPipe}
 use Rattle.am_machine.proofs.TraceRows.{found_passes}
 use Rattle.am_machine.proofs.TokenLists.{all_found}
+use Rattle.am_machine.proofs.TokenClose.{dev_of}
 use Rattle.am_machine.proofs.TokenJobs.{finished_all}
 use Rattle.am_machine.proofs.GivenPlans.{writes_own}
 use Rattle.am_machine.proofs.GivenSites.{rise_all}
@@ -61,7 +62,7 @@ told_by last false g entry book le h = book_recorded last g entry book le h
 pub given_taken : (k : KernelState) (d : DaemonState) (row : QueuedRow) → IsInPipe k d.jobs row → AreGiven k d → AreGiven (without_packet row.token k) (taken_up row.attach row.packet d)
 given_taken k d row p h =
     let both = attach_given k d p.token.trigger.fs row.attach p.current h in
-    let fs : row.packet.dev ≤ k.last_fs = subst (λ (n : ℕ). n ≤ k.last_fs) (sym p.dev) both.1 in
+    let fs : row.packet.dev ≤ k.last_fs = subst (λ (n : ℕ). n ≤ k.last_fs) (sym (dev_of row.packet p.token p.asks)) both.1 in
     record {
       rise = h.rise;
       attached = h.attached;

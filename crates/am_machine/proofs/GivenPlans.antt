@@ -1,5 +1,5 @@
 -- What jobs have left to do stays the rest of a plan for their trigger.
-use Rattle.std.proofs.Common.{◌≡◌, ◌⊎◌, ◌∙◌, ◌==◌, ℕ, Bool, true, false, List, [], ◌∷◌, Option, Some, None, refl, ap, inl, inr}
+use Rattle.std.proofs.Common.{◌≡◌, ◌⊎◌, ◌∙◌, ◌==◌, ℕ, Bool, true, false, List, [], ◌∷◌, Option, Some, None, refl, sym, ap, inl, inr}
 use Rattle.std.specs.Prelude.{is_some, not, if◌then◌else◌}
 use Rattle.std.proofs.lemmas.List.Elements.{All-nil, All-cons, All-head, All-tail}
 use Rattle.am_map.specs.EntryText.{EntryText}
@@ -18,13 +18,14 @@ use Rattle.am_job.specs.Plans.{Plan, Ended, Next, next_of, rest_of, reply, book_
 use Rattle.am_job.specs.Laws.{IsEnded, AcknowledgesLast, IsLawful}
 use Rattle.am_job.proofs.PlanLemmas.{rest_lawful}
 use Rattle.am_daemon.specs.State.{JobPlan}
+use Rattle.am_daemon.specs.Packets.{is_pending}
 use Rattle.am_daemon.specs.Acts.{walked, is_ended, going, finished_in}
 use Rattle.am_machine.specs.Invariant.Planned.{RecordsOwn, IsPlanned, ArePlanned}
 
 -- ---- a plan writes its trigger's record
 
-book_own : (g : Trigger) (entry : Option Record) (status : Status) → RecordsOwn g (book_and_reply g entry status)
-book_own g entry status = (refl, (tt, λ m. tt, tt), λ m. (tt, λ n. tt, tt), (tt, λ m. tt, tt))
+book_own : (g : Trigger) (entry : Option Record) (status : Status) → is_pending entry ≡ false → RecordsOwn g (book_and_reply g entry status)
+book_own g entry status settled = (refl, settled, (tt, λ m. tt, tt), λ m. (tt, λ n. tt, tt), (tt, λ m. tt, tt))
 
 rmdir_own : (g trigger : Trigger) (name : Option (List ℕ)) (rest : Plan) → RecordsOwn g rest → RecordsOwn g (at_directory name (act.Rmdir trigger) rest)
 rmdir_own g trigger None rest h = h
@@ -40,12 +41,12 @@ reply_own g status = (tt, λ m. tt, tt)
 pub plan_own : (kind : TokenKind) (g : Trigger) (mounted : Option ℕ) (entry : Option EntryText) → RecordsOwn g (plan_for kind g mounted entry)
 plan_own Missing g (Some mount) entry = reply_own g Ready
 plan_own Missing g None (Some entry) =
-    let fails = rmdir_own g g g.name (without_mount g) (book_own g None Fail) in
-    mkdir_own g g g.name (mount_entry g entry) (fails, λ m. book_own g (Some (Mounted m)) Ready, fails)
-plan_own Missing g None None = book_own g None Fail
+    let fails = rmdir_own g g g.name (without_mount g) (book_own g None Fail refl) in
+    mkdir_own g g g.name (mount_entry g entry) (fails, λ m. book_own g (Some (Mounted m)) Ready refl, fails)
+plan_own Missing g None None = book_own g None Fail refl
 plan_own Expire g (Some mount) entry =
-    let done = rmdir_own g g g.name (book_and_reply g None Ready) (book_own g None Ready) in
-    (done, λ m. done, book_own g (Some (Mounted mount)) Fail)
+    let done = rmdir_own g g g.name (book_and_reply g None Ready) (book_own g None Ready refl) in
+    (done, λ m. done, book_own g (Some (Mounted mount)) Fail refl)
 plan_own Expire g None entry = reply_own g Fail
 
 -- ---- and so does what is left of it
@@ -61,7 +62,7 @@ rest_own g (Next (act.Mkdir t) done made failed) outcome h = rest_by g done made
 rest_own g (Next (act.Mount t entry) done made failed) outcome h = rest_by g done made failed (act.Mount t entry) outcome h.0 h.1 h.2
 rest_own g (Next (act.Umount t) done made failed) outcome h = rest_by g done made failed (act.Umount t) outcome h.0 h.1 h.2
 rest_own g (Next (act.Rmdir t) done made failed) outcome h = rest_by g done made failed (act.Rmdir t) outcome h.0 h.1 h.2
-rest_own g (Next (act.Record t entry) done made failed) outcome h = rest_by g done made failed (act.Record t entry) outcome h.1 h.2 h.3
+rest_own g (Next (act.Record t entry) done made failed) outcome h = rest_by g done made failed (act.Record t entry) outcome h.2 h.3 h.4
 rest_own g (Next (act.Reply status) done made failed) outcome h = rest_by g done made failed (act.Reply status) outcome h.0 h.1 h.2
 
 -- what comes next is the trigger's record
@@ -73,6 +74,16 @@ writes_own g (Next (act.Umount t) done made failed) trigger entry h e = absurd c
 writes_own g (Next (act.Rmdir t) done made failed) trigger entry h e = absurd cc
 writes_own g (Next (act.Record t other) done made failed) trigger entry h e = let own = h.0 in cc
 writes_own g (Next (act.Reply status) done made failed) trigger entry h e = absurd cc
+
+-- and it is settled
+pub writes_settled : (g : Trigger) (plan : Plan) (trigger : Trigger) (entry : Option Record) → RecordsOwn g plan → next_of plan ≡ Some (act.Record trigger entry) → is_pending entry ≡ false
+writes_settled g Ended trigger entry h e = absurd cc
+writes_settled g (Next (act.Mkdir t) done made failed) trigger entry h e = absurd cc
+writes_settled g (Next (act.Mount t other) done made failed) trigger entry h e = absurd cc
+writes_settled g (Next (act.Umount t) done made failed) trigger entry h e = absurd cc
+writes_settled g (Next (act.Rmdir t) done made failed) trigger entry h e = absurd cc
+writes_settled g (Next (act.Record t other) done made failed) trigger entry h e = let same : other ≡ entry = cc in ap is_pending (sym same) ∙ h.1
+writes_settled g (Next (act.Reply status) done made failed) trigger entry h e = absurd cc
 
 -- ---- when a job ends
 

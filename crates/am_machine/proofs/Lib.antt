@@ -22,11 +22,13 @@ pub mod TokenStays
 pub mod TokenClose
 pub mod TokenNotify
 pub mod TokenJobs
+pub mod TokenNames
 pub mod TokenDeliver
 pub mod TokenActs
 pub mod GivenPlans
 pub mod GivenRows
 pub mod GivenActs
+pub mod RecordTokens
 pub mod TokenAgree
 pub mod TokenBegins
 pub mod TokenResumes
@@ -80,4 +82,5 @@ pub mod Runs
 pub mod SafetyLemmas
 pub mod AgreeMounts
 pub mod AgreeTokens
+pub mod InStep
 pub mod AgreeRuns

@@ -115,11 +115,12 @@ initial_agree opening = record {
   planned = initial_planned opening;
   places = initial_places opening;
   book = initial_book opening;
+  records = All-nil _;
   stands = initial_stands opening;
 }
 
 agreed_of : (s : State) → HalvesAgree s → Agreed s.kernel s.daemon
-agreed_of s h = record { given = h.given; tokens = h.tokens; planned = h.planned }
+agreed_of s h = record { given = h.given; tokens = h.tokens; planned = h.planned; records = h.records }
 
 -- an outcome leaves it so
 pub outcome_agree : (s : State) (event : Event) → IsTraced s → HalvesAgree s → HalvesAgree (after s (outcome_of s event))
@@ -131,6 +132,7 @@ outcome_agree s event traced h =
       planned = next.planned;
       places = outcome_places s event h.places;
       book = outcome_book s event h.given h.tokens h.book;
+      records = next.records;
       stands = outcome_stands s event h.given h.tokens h.places h.book h.stands;
     }
 

@@ -46,7 +46,7 @@ module _ (k : KernelState) (jobs : List JobPlan) (job : ℕ) (outcome : Outcome)
     token = p.token;
     is_open = p.is_open;
     numbered = p.numbered;
-    dev = p.dev;
+    asks = p.asks;
     current = p.current;
     untaken = mapped_none bare_job (job_of jobs row.token) (job_of left row.token) (goes_found jobs job outcome found is goes row.token) p.untaken;
   }
@@ -59,7 +59,7 @@ module _ (k : KernelState) (jobs : List JobPlan) (job : ℕ) (outcome : Outcome)
     open_tokens = λ t row e. has_one t row (h.open_tokens t row e);
     in_pipe = All-weaker (IsInPipe k jobs) (IsInPipe k left) packet_goes k.queue h.in_pipe;
     at_work = finished_all (λ (row : JobPlan). attach_of k row.trigger.fs ≡ Some row.attach → HasToken k row) (λ (row : JobPlan). attach_of k row.trigger.fs ≡ Some row.attach → HasToken k row) job outcome found
-        (λ row other p. p) (λ p ended current. let t = p current in record { token = t.token; is_open = t.is_open; fs = t.fs }) jobs is h.numbers h.at_work;
+        (λ row other p. p) (λ p ended current. let t = p current in record { token = t.token; is_open = t.is_open; fs = t.fs; trigger = t.trigger }) jobs is h.numbers h.at_work;
   }
 
 -- ---- a job acknowledges, and ends
@@ -101,7 +101,7 @@ module _ (k : KernelState) (jobs : List JobPlan) (job : ℕ) (status : Status) (
         token = p.token;
         is_open = still_open row.token p.token other p.is_open;
         numbered = p.numbered;
-        dev = p.dev;
+        asks = p.asks;
         current = p.current;
         untaken = stays row.token other ∙ p.untaken;
       }
@@ -109,7 +109,7 @@ module _ (k : KernelState) (jobs : List JobPlan) (job : ℕ) (status : Status) (
   work_stays : (row : JobPlan) → (row.token == job) ≡ false → (attach_of k row.trigger.fs ≡ Some row.attach → HasToken k row) → attach_of made row.trigger.fs ≡ Some row.attach → HasToken made row
   work_stays row other token_of_it current =
       let t = token_of_it current in
-      record { token = t.token; is_open = still_open row.token t.token (other_way row.token job false other) t.is_open; fs = t.fs }
+      record { token = t.token; is_open = still_open row.token t.token (other_way row.token job false other) t.is_open; fs = t.fs; trigger = t.trigger }
 
   pub ends_agree : TokensAgree made ended
   ends_agree = record {

@@ -20,15 +20,18 @@ use Rattle.am_machine.specs.Events.Walkers.{goes}
 use Rattle.am_machine.specs.Invariant.Attachments.{AreGiven}
 use Rattle.am_machine.specs.Invariant.Tokens.{TokensAgree}
 use Rattle.am_machine.specs.Invariant.Planned.{ArePlanned}
+use Rattle.am_machine.specs.Invariant.Records.{AreOfTheirTokens}
 use Rattle.am_machine.proofs.GivenRows.{given_more, given_closed}
 use Rattle.am_machine.proofs.TokenStays.{bare, Stays, stays_agree}
 use Rattle.am_machine.proofs.TokenClose.{closed_agree}
 use Rattle.am_machine.proofs.TokenNotify.{AreNumbered}
+use Rattle.am_machine.proofs.RecordTokens.{later_records, stays_later, closed_later}
 
 pub record Agreed (k : KernelState) (d : DaemonState) : Type 0 where
   pub given : AreGiven k d
   pub tokens : TokensAgree k d.jobs
   pub planned : ArePlanned d.jobs
+  pub records : AreOfTheirTokens k.waits d.book
 
 -- the outcome keeps it
 pub record Keeps (s : State) (o : Outcome) : Type 0 where
@@ -106,6 +109,7 @@ quiet_holds k made q = record {
     given = given_more k made d q.attached q.autofs q.last_attach q.more_fs h.given;
     tokens = stays_agree k made d.jobs (quiet_stays k made q) (old_jobs k d h.given) h.tokens;
     planned = h.planned;
+    records = later_records k.waits made.waits d.book (stays_later k.waits made.waits (quiet_stays k made q).tokens q.last_token) h.records;
   };
 }
 
@@ -113,5 +117,10 @@ quiet_holds k made q = record {
 
 pub closes : (k : KernelState) (fs : ℕ) → Holds k (closed fs k)
 closes k fs = record {
-  holds = λ d n h. record { given = given_closed k d fs h.given; tokens = closed_agree k d.jobs fs n.rise h.tokens; planned = h.planned };
+  holds = λ d n h. record {
+    given = given_closed k d fs h.given;
+    tokens = closed_agree k d.jobs fs n.rise h.tokens;
+    planned = h.planned;
+    records = later_records k.waits (closed fs k).waits d.book (closed_later fs k.waits n.rise) h.records;
+  };
 }

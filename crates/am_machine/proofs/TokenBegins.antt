@@ -32,9 +32,11 @@ use Rattle.am_kernel.specs.Expires as expires
 use Rattle.am_laws.proofs.Bools.{and_both, or_no}
 use Rattle.am_laws.proofs.Packets.{nat_is}
 use Rattle.am_machine.proofs.GivenRows.{given_more}
+use Rattle.am_machine.proofs.TraceBegins.{packet_asks}
 use Rattle.am_machine.proofs.TokenLists.{all_found, found_none}
 use Rattle.am_machine.proofs.TokenStays.{bare, stays_agree}
 use Rattle.am_machine.proofs.TokenNotify.{notices_agree}
+use Rattle.am_machine.proofs.RecordTokens.{later_records, stays_later, opened_later}
 use Rattle.am_machine.proofs.TokenAgree.{Holds, Begins, fails, either_begins, old_jobs, quiet_holds, closes}
 
 -- ---- no token is open on an idle trigger
@@ -74,6 +76,10 @@ tokens_joined : (o : Option OpenToken) (token walker t : ℕ) (w : WaitRows) →
 tokens_joined None token walker t w = refl
 tokens_joined (Some row) token walker t w = ap (option_map bare) (token_joined token walker t w.tokens (token == t) refl) ∙ bare_joined (token == t) walker (token_of w.tokens t)
 
+last_joined : (o : Option OpenToken) (token walker : ℕ) (w : WaitRows) → (joined_on o token walker w).last_token ≡ w.last_token
+last_joined None token walker w = refl
+last_joined (Some row) token walker w = refl
+
 joined_holds : (k : KernelState) (begin : Begin) (token : ℕ) (passed : List Trigger) → Holds k (walks.with_joined begin token passed k)
 joined_holds k begin token passed = record {
   holds = λ d n h.
@@ -82,6 +88,7 @@ joined_holds k begin token passed = record {
         given = given_more k made d refl refl refl (omega arith) h.given;
         tokens = stays_agree k made d.jobs (record { tokens = λ t. tokens_joined (token_of k.waits.tokens token) token begin.walker t k.waits; queue = refl; grows = λ fs. inl refl }) (old_jobs k d h.given) h.tokens;
         planned = h.planned;
+        records = later_records k.waits made.waits d.book (stays_later k.waits made.waits (λ t. tokens_joined (token_of k.waits.tokens token) token begin.walker t k.waits) (last_joined (token_of k.waits.tokens token) token begin.walker k.waits)) h.records;
       };
 }
 
@@ -107,11 +114,12 @@ notified_holds k begin trigger attach passed is idle = record {
               token = refl;
               its = refl;
               its_number = refl;
-              dev = refl;
+              asks = packet_asks Missing (k.waits.last_token + 1) begin.walker trigger.fs trigger.name;
               current = is;
               idle = λ t row e. idle_differs k.waits.tokens trigger t row idle e;
             }) n h.tokens;
         planned = h.planned;
+        records = later_records k.waits made.waits d.book (opened_later k.waits made.waits (notice_token k begin.walker trigger Missing) refl refl refl) h.records;
       };
 }
 
@@ -129,11 +137,12 @@ expiring_holds k walker trigger attach is idle = record {
               token = refl;
               its = refl;
               its_number = refl;
-              dev = refl;
+              asks = packet_asks Expire (k.waits.last_token + 1) walker trigger.fs trigger.name;
               current = is;
               idle = λ t row e. idle_differs k.waits.tokens trigger t row idle e;
             }) n h.tokens;
         planned = h.planned;
+        records = later_records k.waits made.waits d.book (opened_later k.waits made.waits (notice_token k walker trigger Expire) refl refl refl) h.records;
       };
 }
 

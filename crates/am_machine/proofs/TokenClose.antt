@@ -5,6 +5,7 @@ use Rattle.am_names.specs.declared.row.OpenToken.{OpenToken}
 use Rattle.am_wait.specs.Rows.{token_of}
 use Rattle.am_wait.specs.Invariant.{RiseBy}
 use Rattle.am_wait.proofs.FindLemmas.{unless_of, tokens_off}
+use Rattle.am_wire.specs.declared.packet.Packet.{Packet}
 use Rattle.am_state.specs.declared.kernel_row.QueuedRow.{QueuedRow}
 use Rattle.am_kernel.specs.State.{KernelState}
 use Rattle.am_kernel.specs.Sites.{attach_of}
@@ -12,6 +13,7 @@ use Rattle.am_kernel.specs.Requests.{queued_of}
 use Rattle.am_kernel.specs.Walks.{is_packet_of, closed}
 use Rattle.am_daemon.specs.State.{JobPlan}
 use Rattle.am_laws.proofs.Packets.{nat_is}
+use Rattle.am_machine.specs.Invariant.Traces.{Asked, asked_in, asked_by}
 use Rattle.am_machine.specs.Invariant.Tokens.{IsInPipe, IsAtWork, HasToken, TokensAgree}
 use Rattle.am_machine.proofs.TraceRows.{some_is, found_passes}
 use Rattle.am_machine.proofs.GivenSites.{attach_closed, attach_other}
@@ -21,6 +23,10 @@ use Rattle.am_machine.proofs.TokenLists.{all_found, each_kept, found_stays, diff
 pub token_number : (tokens : List OpenToken) (t : ℕ) (row : OpenToken) → token_of tokens t ≡ Some row → row.token ≡ t
 token_number tokens t row e = nat_is row.token t (found_passes (λ (r : OpenToken). r.token == t) tokens row e)
 
+-- a packet is of the file system of what it asks for
+pub dev_of : (packet : Packet) (row : OpenToken) → asked_in packet ≡ asked_by row → packet.dev ≡ row.trigger.fs
+dev_of packet row e = ap (λ (a : Asked). a.trigger.fs) e
+
 -- a packet in the pipe is for the trigger of its token
 pub queued_row : (k : KernelState) (jobs : List JobPlan) (t : ℕ) (token : OpenToken) (row : QueuedRow) → TokensAgree k jobs → token_of k.waits.tokens t ≡ Some token → queued_of k.queue t ≡ Some row → row.packet.dev ≡ token.trigger.fs
 queued_row k jobs t token row h is e =
@@ -28,7 +34,7 @@ queued_row k jobs t token row h is e =
     let number : row.token ≡ t = nat_is row.token t (found_passes (λ (r : QueuedRow). r.token == t) k.queue row e) in
     let here : token_of k.waits.tokens t ≡ Some p.token = subst (λ (n : ℕ). token_of k.waits.tokens n ≡ Some p.token) number p.is_open in
     let same : p.token ≡ token = cc in
-    p.dev ∙ ap (λ (r : OpenToken). r.trigger.fs) same
+    dev_of row.packet p.token p.asks ∙ ap (λ (r : OpenToken). r.trigger.fs) same
 
 unless_some : (fs : ℕ) (row : OpenToken) (b : Bool) → (row.trigger.fs == fs) ≡ b → b ≡ false → unless_of fs (Some row) ≡ Some row
 unless_some fs row true e h = absurd cc
@@ -38,7 +44,7 @@ kept_by : (b : Bool) (old row : OpenToken) → cond b None (Some old) ≡ Some r
 kept_by true old row e = absurd cc
 kept_by false old row e = (refl, cc)
 
-kept_row : (fs : ℕ) (o : Option OpenToken) (row : OpenToken) → unless_of fs o ≡ Some row → (o ≡ Some row) × ((row.trigger.fs == fs) ≡ false)
+pub kept_row : (fs : ℕ) (o : Option OpenToken) (row : OpenToken) → unless_of fs o ≡ Some row → (o ≡ Some row) × ((row.trigger.fs == fs) ≡ false)
 kept_row fs None row e = absurd cc
 kept_row fs (Some old) row e =
     let both = kept_by (old.trigger.fs == fs) old row e in
@@ -68,12 +74,12 @@ module _ (k : KernelState) (jobs : List JobPlan) (fs : ℕ) (rise : RiseBy (λ (
 
   pipe_left : (row : QueuedRow) → not (is_packet_of fs row) ≡ true → IsInPipe k jobs row → IsInPipe (closed fs k) jobs row
   pipe_left row keep p =
-      let other : (p.token.trigger.fs == fs) ≡ false = ap (λ (n : ℕ). n == fs) (sym p.dev) ∙ not_its fs row (row.packet.dev == fs) refl keep in
+      let other : (p.token.trigger.fs == fs) ≡ false = ap (λ (n : ℕ). n == fs) (sym (dev_of row.packet p.token p.asks)) ∙ not_its fs row (row.packet.dev == fs) refl keep in
       record {
         token = p.token;
         is_open = still_open row.token p.token p.is_open other;
         numbered = p.numbered;
-        dev = p.dev;
+        asks = p.asks;
         current = attach_other k fs p.token.trigger.fs other ∙ p.current;
         untaken = p.untaken;
       }
@@ -83,7 +89,7 @@ module _ (k : KernelState) (jobs : List JobPlan) (fs : ℕ) (rise : RiseBy (λ (
       absurd (let none : attach_of (closed fs k) job.trigger.fs ≡ None = ap (attach_of (closed fs k)) (nat_is job.trigger.fs fs e) ∙ attach_closed k fs in cc)
   work_left job false e had current =
       let t = had (sym (attach_other k fs job.trigger.fs e) ∙ current) in
-      record { token = t.token; is_open = still_open job.token t.token t.is_open (ap (λ (n : ℕ). n == fs) (sym t.fs) ∙ e); fs = t.fs }
+      record { token = t.token; is_open = still_open job.token t.token t.is_open (ap (λ (n : ℕ). n == fs) (sym t.fs) ∙ e); fs = t.fs; trigger = t.trigger }
 
   pub closed_agree : TokensAgree (closed fs k) jobs
   closed_agree = record {

@@ -3,6 +3,7 @@ use Rattle.std.proofs.Common.{◌≡◌, ◌⊎◌, ℕ, Bool, true, false, cond
 use Rattle.std.specs.Prelude.{is_some}
 use Rattle.std.proofs.lemmas.Bool.Decides.{nat_tests}
 use Rattle.std.proofs.lemmas.List.Elements.{All-weaker, All-push}
+use Rattle.am_names.specs.declared.trigger.Trigger.{Trigger}
 use Rattle.am_names.specs.declared.row.OpenToken.{OpenToken}
 use Rattle.am_wait.specs.Rows.{token_of}
 use Rattle.am_wait.proofs.FindLemmas.{or_first, find_append, find_kept}
@@ -12,10 +13,12 @@ use Rattle.am_kernel.specs.Sites.{attach_of}
 use Rattle.am_kernel.specs.Requests.{queued_of, without_packet}
 use Rattle.am_daemon.specs.State.{JobPlan}
 use Rattle.am_daemon.specs.Deliveries.{job_of}
+use Rattle.am_daemon.specs.Packets.{trigger_of}
 use Rattle.am_laws.proofs.Packets.{nat_is, nat_same}
 use Rattle.am_machine.specs.Invariant.Tokens.{IsInPipe, IsAtWork, HasToken, TokensAgree}
 use Rattle.am_machine.proofs.TokenLists.{each_kept, differ_push, differ_filter}
-use Rattle.am_machine.proofs.TokenClose.{token_number}
+use Rattle.am_machine.proofs.TokenClose.{token_number, dev_of}
+use Rattle.am_machine.proofs.TokenNames.{reads}
 
 both_ways : (a n t : ℕ) → (a == t) ≡ true → (n == t) ≡ false → not (a == n) ≡ true
 both_ways a n t e d = grind (arith, nat_tests, e, d)
@@ -27,7 +30,7 @@ other_one a n e = grind (arith, nat_tests, e)
 pub record Begins (row : QueuedRow) (job : JobPlan) : Type 0 where
   pub token : job.token ≡ row.token
   pub attach : job.attach ≡ row.attach
-  pub fs : job.trigger.fs ≡ row.packet.dev
+  pub trigger : job.trigger ≡ trigger_of row.packet
 
 module _ (k : KernelState) (jobs : List JobPlan) (row : QueuedRow) (job : JobPlan) (b : Begins row job) (p : IsInPipe k jobs row) (h : TokensAgree k jobs) where
   now : (j : ℕ) → job_of (jobs ++ job ∷ []) j ≡ or_first (job_of jobs j) (cond (job.token == j) (Some job) None)
@@ -51,7 +54,7 @@ module _ (k : KernelState) (jobs : List JobPlan) (row : QueuedRow) (job : JobPla
   current_of = p.current ∙ ap (λ (n : ℕ). Some n) (sym b.attach)
 
   fs_of : job.trigger.fs ≡ p.token.trigger.fs
-  fs_of = b.fs ∙ p.dev
+  fs_of = ap (λ (g : Trigger). g.fs) b.trigger ∙ dev_of row.packet p.token p.asks
 
   taken : IsAtWork (without_packet row.token k) (jobs ++ job ∷ []) p.token
   taken = record {
@@ -79,16 +82,21 @@ module _ (k : KernelState) (jobs : List JobPlan) (row : QueuedRow) (job : JobPla
     token = q.token;
     is_open = q.is_open;
     numbered = q.numbered;
-    dev = q.dev;
+    asks = q.asks;
     current = q.current;
     untaken = still_none other.token (other_one other.token row.token keep) q.untaken;
   }
 
   old_work : (other : JobPlan) → (attach_of k other.trigger.fs ≡ Some other.attach → HasToken k other) → attach_of (without_packet row.token k) other.trigger.fs ≡ Some other.attach → HasToken (without_packet row.token k) other
-  old_work other token_of_it current = let t = token_of_it current in record { token = t.token; is_open = t.is_open; fs = t.fs }
+  old_work other token_of_it current = let t = token_of_it current in record { token = t.token; is_open = t.is_open; fs = t.fs; trigger = t.trigger }
 
   new_work : HasToken (without_packet row.token k) job
-  new_work = record { token = p.token; is_open = subst (λ (n : ℕ). token_of k.waits.tokens n ≡ Some p.token) (sym b.token) p.is_open; fs = fs_of }
+  new_work = record {
+    token = p.token;
+    is_open = subst (λ (n : ℕ). token_of k.waits.tokens n ≡ Some p.token) (sym b.token) p.is_open;
+    fs = fs_of;
+    trigger = λ named. b.trigger ∙ reads row.packet p.token p.asks named;
+  }
 
   pub taken_agree : TokensAgree (without_packet row.token k) (jobs ++ job ∷ [])
   taken_agree = record {

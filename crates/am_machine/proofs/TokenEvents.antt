@@ -1,7 +1,7 @@
 -- Each event keeps what kernel and daemon agree on.
 use Rattle.std.proofs.Common.{◌≡◌, ℕ, ◌+◌, Bool, true, false, List, [], Option, Some, None, refl, arith}
-use Rattle.std.specs.Prelude.{not, is_some, Result, Ok, Err, if◌then◌else◌}
-use Rattle.std.proofs.lemmas.List.Elements.{All-nil}
+use Rattle.std.specs.Prelude.{◌==◌, not, is_some, Result, Ok, Err, if◌then◌else◌}
+use Rattle.std.proofs.lemmas.List.Elements.{All-nil, All-filter}
 use Rattle.am_names.specs.declared.errno.Errno.{Errno}
 use Rattle.am_names.specs.declared.errno.Errno.TheVariants.{EINVAL, EBUSY, EEXIST}
 use Rattle.am_names.specs.declared.row.Position.{Position}
@@ -25,6 +25,8 @@ use Rattle.am_kernel.specs.Attachments.{catatonic_refusal, autofs_refusal, pipe_
 use Rattle.am_kernel.specs.Walks.{closing, closed}
 use Rattle.am_kernel.specs.Previews.{is_trigger}
 use Rattle.am_daemon.specs.declared.served.Served.{Served}
+use Rattle.am_state.specs.declared.daemon_row.RecordRow.{RecordRow}
+use Rattle.am_job.specs.Book.{without_fs}
 use Rattle.am_daemon.specs.State.{DaemonState}
 use Rattle.am_daemon.specs.Points.{point_of}
 use Rattle.am_daemon.specs.Attachments.{is_attached, with_attachment, reattach_refusal}
@@ -35,10 +37,12 @@ use Rattle.am_machine.specs.Outcome.{with_kernel}
 use Rattle.am_machine.specs.Events.Administration as administration
 use Rattle.am_machine.specs.Events.Requests as requests
 use Rattle.am_machine.specs.Events.Walkers as walkers
+use Rattle.am_machine.specs.Invariant.Records.{IsOfItsToken}
 use Rattle.am_machine.proofs.TraceEvents.{then_none}
 use Rattle.am_machine.proofs.GivenSites.{attached_grows, pipe_grows, timeout_grows}
 use Rattle.am_machine.proofs.GivenRows.{given_attached, given_reattached, given_timeout}
 use Rattle.am_machine.proofs.TokenStays.{stays_agree}
+use Rattle.am_machine.proofs.RecordTokens.{mounted_fits}
 use Rattle.am_machine.proofs.TokenAgree.{Agreed, Keeps, Holds, refuses, either, unless_refused, IsQuiet, from_quiet, quiet_holds, old_jobs, closes}
 
 told : (s : State) (answer : Answer) → Keeps s (record { answer = answer; seen = []; state = s })
@@ -61,6 +65,7 @@ attached_keeps direct timeout k (Ok at) path d may h = record {
   given = given_attached direct timeout k at path d h.given;
   tokens = stays_agree k (attached_at direct timeout k at) d.jobs (record { tokens = λ t. refl; queue = refl; grows = λ fs. attached_grows direct timeout k at fs h.given.autofs h.given.rise }) (old_jobs k d h.given) h.tokens;
   planned = h.planned;
+  records = h.records;
 }
 
 attached_as : (point : Option Served) (s : State) (path : List (List ℕ)) → Keeps s (administration.attached_as point s path)
@@ -150,6 +155,7 @@ timeout_holds k fs timeout = record {
     given = given_timeout k d fs timeout h.given;
     tokens = stays_agree k (with_timeout fs timeout k) d.jobs (record { tokens = λ t. refl; queue = refl; grows = λ other. timeout_grows k fs timeout other }) (old_jobs k d h.given) h.tokens;
     planned = h.planned;
+    records = h.records;
   };
 }
 
@@ -175,6 +181,7 @@ die s = record {
     };
     tokens = h.tokens;
     planned = h.planned;
+    records = All-nil _;
   };
 }
 
@@ -197,5 +204,6 @@ reattach s fs =
         given = given_reattached k s.daemon fs h.given;
         tokens = stays_agree k (with_pipe fs k) s.daemon.jobs (record { tokens = λ t. refl; queue = refl; grows = λ other. pipe_grows k fs other dead }) (old_jobs k s.daemon h.given) h.tokens;
         planned = h.planned;
+        records = mounted_fits k.waits (standing k fs) (without_fs fs s.daemon.book) (All-filter (λ (row : RecordRow). not (row.trigger.fs == fs)) (λ (row : RecordRow). IsOfItsToken k.waits row.entry) s.daemon.book h.records);
       };
     })

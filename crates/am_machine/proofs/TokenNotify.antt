@@ -19,7 +19,7 @@ use Rattle.am_daemon.specs.State.{JobPlan}
 use Rattle.am_daemon.specs.Deliveries.{job_of}
 use Rattle.am_laws.specs.OneObservation.{delivers}
 use Rattle.am_laws.proofs.Packets.{nat_is, nat_same}
-use Rattle.am_machine.specs.Invariant.Traces.{AreDifferent, names, FitsTrace, rows_of}
+use Rattle.am_machine.specs.Invariant.Traces.{AreDifferent, names, FitsTrace, rows_of, asked_in, asked_by}
 use Rattle.am_machine.specs.Invariant.Tokens.{IsInPipe, IsAtWork, TokensAgree}
 use Rattle.am_machine.proofs.TraceRows.{found_passes}
 use Rattle.am_machine.proofs.TraceGrows.{any_none_of, delivers_names}
@@ -68,7 +68,7 @@ pub record Notices (k made : KernelState) (new : OpenToken) (packet : QueuedRow)
   pub token : new.token ≡ k.waits.last_token + 1
   pub its : packet.token ≡ new.token
   pub its_number : packet.packet.token ≡ packet.token
-  pub dev : packet.packet.dev ≡ new.trigger.fs
+  pub asks : asked_in packet.packet ≡ asked_by new
   pub current : attach_of k new.trigger.fs ≡ Some packet.attach
   pub idle : (t : ℕ) (row : OpenToken) → token_of k.waits.tokens t ≡ Some row → same_trigger row.trigger new.trigger ≡ false
 
@@ -138,7 +138,7 @@ module _ (k made : KernelState) (jobs : List JobPlan) (new : OpenToken) (packet 
     token = p.token;
     is_open = still_open row.token p.token p.is_open;
     numbered = p.numbered;
-    dev = p.dev;
+    asks = p.asks;
     current = n.attach p.token.trigger.fs ∙ p.current;
     untaken = p.untaken;
   }
@@ -148,7 +148,7 @@ module _ (k made : KernelState) (jobs : List JobPlan) (new : OpenToken) (packet 
     token = new;
     is_open = subst (λ (t : ℕ). token_of made.waits.tokens t ≡ Some new) (sym n.its) new_open;
     numbered = n.its_number;
-    dev = n.dev;
+    asks = n.asks;
     current = n.attach new.trigger.fs ∙ n.current;
     untaken = no_job;
   }
@@ -163,5 +163,5 @@ module _ (k made : KernelState) (jobs : List JobPlan) (new : OpenToken) (packet 
     at_work = λ i d lt current.
         let job = get_or jobs i d in
         let t = h.at_work i d lt (sym (n.attach job.trigger.fs) ∙ current) in
-        record { token = t.token; is_open = still_open job.token t.token t.is_open; fs = t.fs };
+        record { token = t.token; is_open = still_open job.token t.token t.is_open; fs = t.fs; trigger = t.trigger };
   }

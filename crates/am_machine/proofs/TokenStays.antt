@@ -14,7 +14,8 @@ use Rattle.am_kernel.specs.Sites.{attach_of}
 use Rattle.am_kernel.specs.Requests.{queued_of}
 use Rattle.am_daemon.specs.State.{JobPlan}
 use Rattle.am_daemon.specs.Deliveries.{job_of}
-use Rattle.am_machine.specs.Invariant.Traces.{AreDifferent}
+use Rattle.am_machine.specs.Invariant.Traces.{AreDifferent, asked_by}
+use Rattle.am_machine.specs.Invariant.Names.{is_named}
 use Rattle.am_machine.specs.Invariant.Tokens.{IsInPipe, IsAtWork, HasToken, TokensAgree}
 use Rattle.am_machine.proofs.GivenSites.{Grows}
 use Rattle.am_machine.proofs.TokenLists.{mapped_some}
@@ -49,6 +50,12 @@ later k made t row s e = mapped_some bare (token_of k.waits.tokens t) (token_of 
 fs_of : (a b : OpenToken) → bare a ≡ bare b → a.trigger.fs ≡ b.trigger.fs
 fs_of a b e = ap (λ (r : OpenToken). r.trigger.fs) e
 
+trigger_same : (a b : OpenToken) → bare a ≡ bare b → a.trigger ≡ b.trigger
+trigger_same a b e = ap (λ (r : OpenToken). r.trigger) e
+
+asks_same : (a b : OpenToken) → bare a ≡ bare b → asked_by a ≡ asked_by b
+asks_same a b e = ap asked_by e
+
 same_by : (a b x y : Trigger) → a ≡ x → b ≡ y → same_trigger x y ≡ true → same_trigger a b ≡ true
 same_by a b x y p q h = subst (λ (g : Trigger). same_trigger g b ≡ true) (sym p) (subst (λ (g : Trigger). same_trigger x g ≡ true) (sym q) h)
 
@@ -70,7 +77,7 @@ pipe_stays k made jobs row s p =
       token = new.0;
       is_open = new.1;
       numbered = p.numbered;
-      dev = p.dev ∙ sym fs;
+      asks = p.asks ∙ sym (asks_same new.0 p.token new.2);
       current = subst (λ (n : ℕ). attach_of made n ≡ Some row.attach) (sym fs) (still k made p.token.trigger.fs row.attach (s.grows p.token.trigger.fs) p.current);
       untaken = p.untaken;
     }
@@ -78,7 +85,13 @@ pipe_stays k made jobs row s p =
 token_stays : (k made : KernelState) (job : JobPlan) → Stays k made → HasToken k job → HasToken made job
 token_stays k made job s h =
     let new = later k made job.token h.token s h.is_open in
-    record { token = new.0; is_open = new.1; fs = h.fs ∙ sym (fs_of new.0 h.token new.2) }
+    let trigger = trigger_same new.0 h.token new.2 in
+    record {
+      token = new.0;
+      is_open = new.1;
+      fs = h.fs ∙ sym (fs_of new.0 h.token new.2);
+      trigger = λ named. h.trigger (ap is_named (sym trigger) ∙ named) ∙ sym trigger;
+    }
 
 pub stays_agree : (k made : KernelState) (jobs : List JobPlan) → Stays k made → All (λ (row : JobPlan). row.attach ≤ k.last_attach) jobs → TokensAgree k jobs → TokensAgree made jobs
 stays_agree k made jobs s most h = record {

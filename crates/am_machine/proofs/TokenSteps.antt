@@ -39,6 +39,7 @@ use Rattle.am_machine.proofs.GivenPlans.{plan_own, acknowledges, goes_after, end
 use Rattle.am_machine.proofs.TokenLists.{all_found}
 use Rattle.am_machine.proofs.TokenDeliver.{taken_agree}
 use Rattle.am_machine.proofs.TokenActs.{goes_agree, ends_agree}
+use Rattle.am_machine.proofs.RecordTokens.{later_records, answered_later, taken_fits, finished_fits}
 use Rattle.am_machine.proofs.TokenAgree.{Keeps, refuses, either, IsQuiet, quiet_itself, quiet_holds}
 
 -- ---- deliver
@@ -58,8 +59,9 @@ takes s row token is = record {
       let p = all_found (IsInPipe s.kernel s.daemon.jobs) (λ (r : QueuedRow). r.token == token) s.kernel.queue row h.tokens.in_pipe is in
       record {
         given = given_taken s.kernel s.daemon row p h.given;
-        tokens = taken_agree s.kernel s.daemon.jobs row new (record { token = p.numbered; attach = refl; fs = refl }) p h.tokens;
+        tokens = taken_agree s.kernel s.daemon.jobs row new (record { token = p.numbered; attach = refl; trigger = refl }) p h.tokens;
         planned = All-push IsPlanned s.daemon.jobs new h.planned (job_planned row.attach row s.daemon);
+        records = taken_fits s.kernel s.daemon row p n h.records;
       };
 }
 
@@ -87,6 +89,7 @@ goes_keeps s row a outcome answer shown k i other q = record {
         given = given_finished k s.daemon row outcome i.is its h.tokens.numbers now.given;
         tokens = goes_agree k jobs row.token outcome row i.is (goes_after row.plan outcome a its.lawful i.next other) now.tokens;
         planned = finished_planned row.token outcome jobs h.planned;
+        records = finished_fits k.waits s.daemon row outcome i.is its now.records;
       };
 }
 
@@ -145,6 +148,7 @@ reply None s row status i = record {
         given = given_finished k s.daemon row came.Done i.is its h.tokens.numbers (given_more s.kernel k s.daemon refl refl refl (omega arith) h.given);
         tokens = ends_agree s.kernel jobs row.token status came.Done row i.is (ends_after row.plan status its.lawful i.next) h.tokens;
         planned = finished_planned row.token came.Done jobs h.planned;
+        records = finished_fits k.waits s.daemon row came.Done i.is its (later_records s.kernel.waits k.waits s.daemon.book (answered_later row.token status s.kernel.waits) h.records);
       };
 }
 

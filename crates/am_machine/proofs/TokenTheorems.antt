@@ -63,14 +63,3 @@ outcome_keeps s (events.Record trigger) = from.read_record s trigger
 -- an outcome keeps the numbers, the tokens and the plans together
 pub outcome_agreed : (s : State) (event : Event) → IsTraced s → Agreed s.kernel s.daemon → Agreed (after s (outcome_of s event)).kernel (after s (outcome_of s event)).daemon
 outcome_agreed s event traced h = (outcome_keeps s event).keeps (numbered s.kernel s.daemon.jobs s.trace traced.fits) h
-
-pub outcome_given : (s : State) (event : Event) → IsTraced s → TokensAgree s.kernel s.daemon.jobs → ArePlanned s.daemon.jobs → AreGiven s.kernel s.daemon →
-    AreGiven (after s (outcome_of s event)).kernel (after s (outcome_of s event)).daemon
-outcome_given s event traced tokens planned given = (outcome_agreed s event traced (record { given = given; tokens = tokens; planned = planned })).given
-
-pub outcome_tokens : (s : State) (event : Event) → IsTraced s → AreGiven s.kernel s.daemon → ArePlanned s.daemon.jobs → TokensAgree s.kernel s.daemon.jobs →
-    TokensAgree (after s (outcome_of s event)).kernel (after s (outcome_of s event)).daemon.jobs
-outcome_tokens s event traced given planned tokens = (outcome_agreed s event traced (record { given = given; tokens = tokens; planned = planned })).tokens
-
-pub outcome_planned : (s : State) (event : Event) → IsTraced s → AreGiven s.kernel s.daemon → TokensAgree s.kernel s.daemon.jobs → ArePlanned s.daemon.jobs → ArePlanned (after s (outcome_of s event)).daemon.jobs
-outcome_planned s event traced given tokens planned = (outcome_agreed s event traced (record { given = given; tokens = tokens; planned = planned })).planned

@@ -120,7 +120,7 @@ joins k begin token passed there free idle =
 
 -- ---- the daemon is notified
 
-packet_asks : (kind : TokenKind) (token walker fs : ℕ) (name : Option (List ℕ)) → asked_in (packet_for kind token walker (record { fs = fs; name = name })) ≡ record { trigger = record { fs = fs; name = name }; kind = kind }
+pub packet_asks : (kind : TokenKind) (token walker fs : ℕ) (name : Option (List ℕ)) → asked_in (packet_for kind token walker (record { fs = fs; name = name })) ≡ record { trigger = record { fs = fs; name = name }; kind = kind }
 packet_asks Missing token walker fs None = refl
 packet_asks Missing token walker fs (Some name) = refl
 packet_asks Expire token walker fs None = refl

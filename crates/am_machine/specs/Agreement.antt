@@ -6,6 +6,7 @@ use Rattle.am_names.specs.declared.row.OpenToken.{OpenToken}
 use Rattle.am_group.specs.Propagation.{Receives}
 use Rattle.am_wait.specs.Rows.{token_of}
 use Rattle.am_trigger.specs.Sites.{place_of}
+use Rattle.am_state.specs.declared.daemon_row.Record.{Record}
 use Rattle.am_state.specs.declared.daemon_row.Record.TheVariants.{Mounted}
 use Rattle.am_state.specs.declared.kernel_row.QueuedRow.{QueuedRow}
 use Rattle.am_kernel.specs.State.{KernelState}
@@ -20,6 +21,8 @@ use Rattle.am_machine.specs.State.{Opening, State, opening_of}
 use Rattle.am_machine.specs.Machine.{Run}
 use Rattle.am_machine.specs.Invariant.Books.{IsServed, is_pending_for}
 use Rattle.am_machine.specs.Invariant.Places.{HasCopy}
+use Rattle.am_machine.specs.Invariant.Names.{is_named}
+use Rattle.am_machine.specs.Invariant.Records.{is_of_kind}
 
 -- The mount stands on the trigger at the daemon's mount, and a copy of it on each older mount that
 -- receives from that one.
@@ -28,8 +31,9 @@ pub record IsMounted (k : KernelState) (g : Trigger) (m : ℕ) : Type 0 where
   pub copied : (y : ℕ) → Receives k.table.groups (location_of k g.fs) y → y < m →
       HasCopy k.table.rows y (place_of g) m
 
--- A job of this attachment is at work on the trigger, and its token is open, of the same file system.
-pub record IsPending (k : KernelState) (d : DaemonState) (current : ℕ) (g : Trigger) (token : ℕ) : Type 0 where
+-- A job of this attachment is at work on the trigger. Its token is open, of the kind that the record
+-- tells, and asks for the trigger, where the daemon can read its name.
+pub record IsPending (k : KernelState) (d : DaemonState) (current : ℕ) (g : Trigger) (entry : Record) (token : ℕ) : Type 0 where
   pub job : JobPlan
   pub is_job : job_of d.jobs token ≡ Some job
   pub attach : job.attach ≡ current
@@ -37,6 +41,8 @@ pub record IsPending (k : KernelState) (d : DaemonState) (current : ℕ) (g : Tr
   pub row : OpenToken
   pub is_open : token_of k.waits.tokens token ≡ Some row
   pub fs : row.trigger.fs ≡ g.fs
+  pub kind : is_of_kind row.kind entry ≡ true
+  pub asked : is_named row.trigger ≡ true → row.trigger ≡ g
 
 -- The token's packet is in the pipe of this attachment, and no job has taken it up.
 pub record IsToDeliver (k : KernelState) (d : DaemonState) (current token : ℕ) : Type 0 where
@@ -58,8 +64,8 @@ pub record AgreeOn (k : KernelState) (d : DaemonState) (fs attach : ℕ) : Type 
   pub mounted : (g : Trigger) (m : ℕ) → g.fs ≡ fs →
       record_of d.book g ≡ Some (Mounted m) → IsMounted k g m
   -- where it says that a mount or an unmount goes on, a job is at work
-  pub pending : (g : Trigger) (token : ℕ) → g.fs ≡ fs →
-      is_pending_for token (record_of d.book g) ≡ true → IsPending k d attach g token
+  pub pending : (g : Trigger) (entry : Record) (token : ℕ) → g.fs ≡ fs → record_of d.book g ≡ Some entry →
+      is_pending_for token (Some entry) ≡ true → IsPending k d attach g entry token
   -- where it says nothing, nothing is mounted
   pub unrecorded : (g : Trigger) → g.fs ≡ fs → record_of d.book g ≡ None → mounted_on k g ≡ None
   -- each open token is to be delivered, or to be answered, and not both

@@ -1,9 +1,11 @@
 -- What every world keeps: its trace is lawful, and kernel and daemon agree.
 pub mod Traces
+pub mod Names
 pub mod Attachments
 pub mod Tokens
 pub mod Planned
 pub mod Books
+pub mod Records
 pub mod Places
 pub mod Stands
 pub mod Consistent

@@ -4,5 +4,6 @@ pub mod Events
 pub mod Machine
 pub mod Invariant
 pub mod Agreement
+pub mod InStep
 pub mod StepLaws
 pub mod Safety

@@ -6,6 +6,7 @@ use Rattle.am_machine.specs.Invariant.Attachments.{AreGiven}
 use Rattle.am_machine.specs.Invariant.Tokens.{TokensAgree}
 use Rattle.am_machine.specs.Invariant.Planned.{ArePlanned}
 use Rattle.am_machine.specs.Invariant.Books.{BookAgrees}
+use Rattle.am_machine.specs.Invariant.Records.{AreOfTheirTokens}
 use Rattle.am_machine.specs.Invariant.Places.{PlacesAgree}
 use Rattle.am_machine.specs.Invariant.Stands.{StandsAgree}
 
@@ -21,6 +22,7 @@ pub record HalvesAgree (s : State) : Type 0 where
   pub planned : ArePlanned s.daemon.jobs
   pub places : PlacesAgree s.kernel
   pub book : BookAgrees s.kernel s.daemon
+  pub records : AreOfTheirTokens s.kernel.waits s.daemon.book
   pub stands : StandsAgree s.kernel s.daemon
 
 pub record IsConsistent (s : State) : Type 0 where

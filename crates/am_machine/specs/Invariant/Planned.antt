@@ -1,17 +1,18 @@
 -- What a job has left to do.
-use Rattle.std.specs.Prelude.{◌≡◌, ⊤, ℕ, List}
+use Rattle.std.specs.Prelude.{◌≡◌, ⊤, ℕ, false, List}
 use Rattle.std.specs.List.{All}
 use Rattle.am_names.specs.declared.trigger.Trigger.{Trigger}
 use Rattle.am_job.specs.declared.act.Act.TheVariants as act
 use Rattle.am_job.specs.Plans.{Plan, Ended, Next}
 use Rattle.am_job.specs.Laws.{IsLawful}
 use Rattle.am_daemon.specs.State.{JobPlan}
+use Rattle.am_daemon.specs.Packets.{is_pending}
 
--- whatever comes of the acts, what is written into the book is this trigger's record
+-- whatever comes of the acts, what is written into the book is this trigger's record, and is settled
 abbrev pub RecordsOwn : Trigger → Plan → Type 0
 RecordsOwn g Ended = ⊤
 RecordsOwn g (Next (act.Record trigger entry) done made failed) =
-    (trigger ≡ g) × RecordsOwn g done × ((mount : ℕ) → RecordsOwn g (made mount)) × RecordsOwn g failed
+    (trigger ≡ g) × (is_pending entry ≡ false) × RecordsOwn g done × ((mount : ℕ) → RecordsOwn g (made mount)) × RecordsOwn g failed
 RecordsOwn g (Next a done made failed) =
     RecordsOwn g done × ((mount : ℕ) → RecordsOwn g (made mount)) × RecordsOwn g failed
 

@@ -10,15 +10,16 @@ use Rattle.am_kernel.specs.Sites.{attach_of}
 use Rattle.am_kernel.specs.Requests.{queued_of}
 use Rattle.am_daemon.specs.State.{JobPlan}
 use Rattle.am_daemon.specs.Deliveries.{job_of}
-use Rattle.am_machine.specs.Invariant.Traces.{AreDifferent}
+use Rattle.am_machine.specs.Invariant.Traces.{AreDifferent, asked_in, asked_by}
+use Rattle.am_machine.specs.Invariant.Names.{is_named}
 
--- A packet in the pipe: its token is open and no job's, and the file system's daemon is attached as
--- it was when the packet was queued.
+-- A packet in the pipe: it asks for what its token does, which is open and no job's, and the file
+-- system's daemon is attached as it was when the packet was queued.
 pub record IsInPipe (k : KernelState) (jobs : List JobPlan) (row : QueuedRow) : Type 0 where
   pub token : OpenToken
   pub is_open : token_of k.waits.tokens row.token ≡ Some token
   pub numbered : row.packet.token ≡ row.token
-  pub dev : row.packet.dev ≡ token.trigger.fs
+  pub asks : asked_in row.packet ≡ asked_by token
   pub current : attach_of k token.trigger.fs ≡ Some row.attach
   pub untaken : job_of jobs row.token ≡ None
 
@@ -29,11 +30,13 @@ pub record IsAtWork (k : KernelState) (jobs : List JobPlan) (row : OpenToken) : 
   pub fs : job.trigger.fs ≡ row.trigger.fs
   pub current : attach_of k row.trigger.fs ≡ Some job.attach
 
--- A job whose attachment the file system still has: its token is open.
+-- A job whose attachment the file system still has: its token is open, and asks for the job's
+-- trigger, where the daemon can read its name.
 pub record HasToken (k : KernelState) (job : JobPlan) : Type 0 where
   pub token : OpenToken
   pub is_open : token_of k.waits.tokens job.token ≡ Some token
   pub fs : job.trigger.fs ≡ token.trigger.fs
+  pub trigger : is_named token.trigger ≡ true → job.trigger ≡ token.trigger
 
 pub record TokensAgree (k : KernelState) (jobs : List JobPlan) : Type 0 where
   -- a trigger has one open token at most
