@@ -79,8 +79,14 @@ pub mod StandRequests
 pub mod StandGoes
 pub mod StandLemmas
 pub mod Runs
+pub mod NameWalks
+pub mod NameRows
+pub mod NameBegins
+pub mod NameEvents
+pub mod NameTheorems
 pub mod SafetyLemmas
 pub mod AgreeMounts
 pub mod AgreeTokens
 pub mod InStep
+pub mod InStepRuns
 pub mod AgreeRuns

@@ -108,13 +108,24 @@ fn play_with(
     Ok(())
 }
 
+/// The lines with others before each of them, and behind the last.
+fn play_everywhere(
+    rt: &impl Abort,
+    alloc: Global,
+    lines: &[&[u8]],
+    between: &[&[u8]],
+) -> Result<(), Fail> {
+    for position in 0..lines.len() {
+        play_with(rt, alloc, lines, position, between)?;
+    }
+    play_with(rt, alloc, lines, lines.len(), between)
+}
+
 #[test]
 fn something_else_at_every_position(rt: HostRuntime) -> Result<(), Fail> {
     for lines in examples() {
         for between in [DEATH, CATATONIC_MODE, REATTACHMENT] {
-            for position in 0..=lines.len() {
-                play_with(&rt, rt.alloc(), lines, position, between)?;
-            }
+            play_everywhere(&rt, rt.alloc(), lines, between)?;
         }
     }
     Ok(())

@@ -10,6 +10,8 @@ ghost use Rattle.am_kernel.specs.Requests.{queued_of};
 ghost use Rattle.am_daemon.specs.Acts.{next_act_of};
 ghost use Rattle.am_daemon.specs.State.{rows_of};
 ghost use Rattle.am_machine.specs.Agreement.{Agree};
+ghost use Rattle.am_machine.specs.InStep.{AreInStep};
+ghost use Rattle.am_machine.specs.Invariant.Names.{GoesAlongNames};
 ghost use Rattle.am_machine.specs.State.{opening_of};
 ghost use Rattle.am_machine.specs.Machine.{Step, Run};
 ghost use Rattle.am_machine.specs.Events.Deliveries.{packet_bytes};
@@ -55,6 +57,15 @@ fn told(came: Result<Answer, Errno>) -> Answer
     match came {
         Ok(answer) => answer,
         Err(errno) => Answer::Refused { errno },
+    }
+}
+
+/// Makes known that a walk goes along names, which is so of each path.
+fn know_names(event: &Event)
+    ensures { GoesAlongNames event.now }
+{
+    if let Event::Walk { path, .. } = event {
+        path.text();
     }
 }
 
@@ -112,6 +123,7 @@ impl World {
     pub fn step(&mut self, alloc: Global, event: &Event) -> Answer
         ensures { (seen : List Obs) × Step (state_of self.old) event.now result seen (state_of self.new) }
     {
+        know_names(event);
         told(self.halves.handle(alloc, event))
     }
 
@@ -142,6 +154,7 @@ pub fn run(alloc: Global, mut world: World, events: &[Event]) -> Result<Ran, Wor
     ensures run { IfOk result (λ ran. Run (state_of world) events.now ran.answers.items (state_of ran.world)) }
     ensures lawful { IfOk result (λ ran. Lawful ran.world.trace) }
     ensures agree { IfOk result (λ ran. Agree (state_of ran.world)) }
+    ensures in_step { IfOk result (λ ran. AreInStep (state_of ran.world)) }
     ensures err { IfErr result (λ same. same ≡ world) }
 {
     let Ok(mut answers) = Vec::with_capacity(alloc, events.len()) else {

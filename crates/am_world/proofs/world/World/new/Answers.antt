@@ -1,10 +1,17 @@
 use Rattle.std.proofs.Common.{refl, ◌∙◌}
+use Rattle.am_machine.specs.State.{Opening}
+use Rattle.am_machine.proofs.NameTheorems.{initial_named}
 use Rattle.am_machine.proofs.SafetyLemmas.{initial_consistent}
 use Rattle.am_world.proofs.TableLemmas.{state_is}
 use Rattle.am_world.proofs.world.World.new.Goals as goal
 
 pub invariant_of-result : goal.invariant_of-result
-invariant_of-result c = rw (c.in_ok-new.ensures.ok, c.new-2.ensures, c.new-3.ensures.items) (initial_consistent (record { limits = c.args.limits; master = c.args.master; maps = c.args.maps.items }))
+invariant_of-result c =
+    let opening : Opening = record { limits = c.args.limits; master = c.args.master; maps = c.args.maps.items } in
+    record {
+      consistent = rw (c.in_ok-new.ensures.ok, c.new-2.ensures, c.new-3.ensures.items) (initial_consistent opening);
+      named = rw (c.in_ok-new.ensures.ok) (initial_named opening);
+    }
 
 pub returns-clause-ok : goal.returns-clause-ok
 returns-clause-ok c = state_is _ ∙ (rw (c.in_ok-new.ensures.ok, c.new-2.ensures, c.new-3.ensures.items) refl)

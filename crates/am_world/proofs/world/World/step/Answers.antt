@@ -6,11 +6,17 @@ use Rattle.am_world.specs.Halves.{table_of, state_of, told}
 use Rattle.am_world.specs.Table as table
 use Rattle.am_world.specs.Table.{WorldTable}
 use Rattle.am_world.proofs.TableLemmas.{state_is}
-use Rattle.am_world.proofs.GoesLemmas.{goes_step, goes_consistent}
+use Rattle.am_world.proofs.GoesLemmas.{goes_step, goes_consistent, goes_named}
 use Rattle.am_world.proofs.world.World.step.Goals as goal
 
 pub invariant_of-self : goal.invariant_of-self
-invariant_of-self c = goes_consistent (state_of c.self.inside.halves) c.args.event.now c.handle.result (state_of c.handle.new.self) c.self.invariant c.handle.ensures
+invariant_of-self c =
+    let old = state_of c.self.inside.halves in
+    let event = c.args.event.now in
+    record {
+      consistent = goes_consistent old event c.handle.result (state_of c.handle.new.self) c.self.invariant.consistent c.handle.ensures;
+      named = goes_named old event c.handle.result (state_of c.handle.new.self) c.know_names.ensures c.self.invariant.named c.handle.ensures;
+    }
 
 pub returns : goal.returns
 returns c =
