@@ -11,6 +11,8 @@ mod lines;
 #[cfg(test)]
 mod positions;
 #[cfg(test)]
+mod refused;
+#[cfg(test)]
 mod shared_worlds;
 #[cfg(test)]
 mod tests;

@@ -9,7 +9,7 @@ use std::alloc::Global;
 use std::process::Abort;
 use std::test::Fail;
 
-static ONE_MOUNT_FOR_TWO_NAMESPACES: &[&[u8]] = &[
+pub static ONE_MOUNT_FOR_TWO_NAMESPACES: &[&[u8]] = &[
     b"change 0 / shared",
     b"attach /auto",
     b"nscopy 0",
@@ -24,7 +24,7 @@ static ONE_MOUNT_FOR_TWO_NAMESPACES: &[&[u8]] = &[
     b"resume 8 101 room",
 ];
 
-static AN_EXPIRY_BESIDE_A_WALK: &[&[u8]] = &[
+pub static AN_EXPIRY_BESIDE_A_WALK: &[&[u8]] = &[
     b"change 0 / shared",
     b"attach /auto",
     b"nscopy 0",
@@ -51,7 +51,7 @@ static AN_EXPIRY_BESIDE_A_WALK: &[&[u8]] = &[
     b"resume 9 201 room",
 ];
 
-static A_DEATH_AND_REATTACHMENT: &[&[u8]] = &[
+pub static A_DEATH_AND_REATTACHMENT: &[&[u8]] = &[
     b"attach /auto",
     b"walk 7 0 /auto/home 100 room",
     b"deliver 1",
