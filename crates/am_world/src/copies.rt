@@ -9,7 +9,7 @@ ghost use Rattle.am_world.specs.Copies.{IsSpare, arrival_told};
 use crate::halves::Halves;
 use am_machine::{Answer, Event};
 use am_names::{AbsPath, Errno, Mounts, NsId, Position};
-use std::alloc::Global;
+use std::alloc::{AllocError, Global};
 
 /// The answer of a walk that arrives there.
 fn arrival_told(at: Option<Position>) -> Option<Answer>
@@ -58,29 +58,37 @@ pub fn again(answer: &Answer, spare: Option<Answer>) -> Answer
 
 impl Halves {
     /// The answer to an unmount, if the path leads somewhere.
-    fn umount_told(&self, alloc: Global, ns: NsId, path: &AbsPath) -> Result<Option<Answer>, Errno>
+    fn umount_told(
+        &self,
+        alloc: Global,
+        ns: NsId,
+        path: &AbsPath,
+    ) -> Result<Option<Answer>, AllocError>
         ensures { IfOk result (λ spare. IsSpare spare (umount_outcome (state_of self.now) ns path.now).answer) }
     {
         match self.kernel.umount_takes(alloc, ns, path) {
             Ok(gone) => Ok(Some(Answer::Gone {
                 mounts: Mounts::of(gone),
             })),
-            Err(Errno::NoMemory) => Err(Errno::NoMemory),
+            Err(Errno::NoMemory) => Err(AllocError),
             Err(_) => Ok(None),
         }
     }
 
     /// The answer to the drop of a namespace.
-    fn drop_told(&self, alloc: Global, ns: NsId) -> Result<Option<Answer>, Errno>
+    fn drop_told(&self, alloc: Global, ns: NsId) -> Result<Option<Answer>, AllocError>
         ensures { IfOk result (λ spare. IsSpare spare (drop_outcome (state_of self.now) ns).answer) }
     {
-        Ok(Some(Answer::Gone {
-            mounts: Mounts::of(self.kernel.drop_takes(alloc, ns)?),
-        }))
+        match self.kernel.drop_takes(alloc, ns) {
+            Ok(gone) => Ok(Some(Answer::Gone {
+                mounts: Mounts::of(gone),
+            })),
+            Err(_) => Err(AllocError),
+        }
     }
 
     /// The answer to an event, where it owns memory.
-    pub fn spare(&self, alloc: Global, event: &Event) -> Result<Option<Answer>, Errno>
+    pub fn spare(&self, alloc: Global, event: &Event) -> Result<Option<Answer>, AllocError>
         ensures { IfOk result (λ spare. IsSpare spare (outcome_of (state_of self.now) event.now).answer) }
     {
         match event {
