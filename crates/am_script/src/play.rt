@@ -83,7 +83,7 @@ fn play_text<W: Write>(
             Ok(false) => rest = after,
             Ok(true) => {
                 return match heading.begin(alloc, number) {
-                    Ok(world) => play_events(alloc, world, after, number, broke, writer),
+                    Ok(mut world) => play_events(alloc, &mut world, after, number, broke, writer),
                     Err(fault) => Err(fault),
                 };
             }
@@ -95,7 +95,7 @@ fn play_text<W: Write>(
 
 fn play_events<W: Write>(
     alloc: Global,
-    mut world: World,
+    world: &mut World,
     text: Option<&[u8]>,
     before: u64,
     broke: Option<ScriptFaultKind>,
@@ -103,8 +103,8 @@ fn play_events<W: Write>(
 ) -> Result<Summary, ScriptFault>
     requires { before + size_in (option_copied text) ≤ 2 ^ 63 }
     ensures whole { OnOk result (broke ≡ None) }
-    ensures ok { IfOk result (AllAnswered (state_of world) (events_from broke before (lines_in (option_copied text.entry))) (W.contents writer.old) (W.contents writer.new)) }
-    ensures err { IfErr result (λ fault. RanOut (W.contents writer.old) (W.contents writer.new) fault ⊎ Stops (state_of world) (events_from broke before (lines_in (option_copied text.entry))) (W.contents writer.old) (W.contents writer.new) fault) }
+    ensures ok { IfOk result (AllAnswered (state_of world.old) (events_from broke before (lines_in (option_copied text.entry))) (W.contents writer.old) (W.contents writer.new)) }
+    ensures err { IfErr result (λ fault. RanOut (W.contents writer.old) (W.contents writer.new) fault ⊎ Stops (state_of world.old) (events_from broke before (lines_in (option_copied text.entry))) (W.contents writer.old) (W.contents writer.new) fault) }
 {
     let Ok(mut buffer) = Vec::with_capacity(alloc, 8192) else {
         return Err(ScriptFault {
@@ -121,7 +121,7 @@ fn play_events<W: Write>(
     while let Some(here) = rest {
         let (line, after) = split_line(here);
         number += 1;
-        match play_line(alloc, &mut world, line, &mut buffer, writer) {
+        match play_line(alloc, world, line, &mut buffer, writer) {
             Ok(played) => summary = counted(summary, played),
             Err(kind) => return Err(ScriptFault { line: number, kind }),
         }

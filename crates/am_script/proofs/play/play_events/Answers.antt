@@ -21,7 +21,7 @@ returns-in-Err-clause-err g c =
     let all : Told = events_from c.args.broke c.args.before (lines_in (option_copied c.args.text)) in
     let left : Told = events_from c.args.broke (c.loop-rest.number + 1) (lines_in (option_copied c.split_line.result.1)) in
     let step = events_step c.args.broke c.loop-rest.number (option_copied c.loop-rest.rest) c.in-Some.here.now c.split_line.result.0.now (lines_in (option_copied c.split_line.result.1)) (ap option_copied c.in-Some.is) c.split_line.ensures.lines in
-    inr (going_stops (state_of c.args.world) all left (contents c.args.writer.now) (contents c.loop-rest.writer) (contents c.play_line.new.writer) (state_of c.loop-rest.world) (state_of c.play_line.new.world) c.loop-rest.summary (line_read c.split_line.result.0.now) (c.loop-rest.number + 1) c.in-Err.kind (subst (λ (t : Told). Going (state_of c.args.world) all t (contents c.args.writer.now) (contents c.loop-rest.writer) (state_of c.loop-rest.world) c.loop-rest.summary) step c.loop-rest.invariant.going) c.in-Err.ensures.err)
+    inr (going_stops (state_of c.args.world.now) all left (contents c.args.writer.now) (contents c.loop-rest.writer) (contents c.play_line.new.writer) (state_of c.loop-rest.world) (state_of c.play_line.new.world) c.loop-rest.summary (line_read c.split_line.result.0.now) (c.loop-rest.number + 1) c.in-Err.kind (subst (λ (t : Told). Going (state_of c.args.world.now) all t (contents c.args.writer.now) (contents c.loop-rest.writer) (state_of c.loop-rest.world) c.loop-rest.summary) step c.loop-rest.invariant.going) c.in-Err.ensures.err)
 
 pub loop-rest-preserved : goal.loop-rest-preserved
 loop-rest-preserved g c =
@@ -29,7 +29,7 @@ loop-rest-preserved g c =
     let all : Told = events_from c.args.broke c.args.before (lines_in (option_copied c.args.text)) in
     let left : Told = events_from c.args.broke (c.loop-rest.number + 1) (lines_in (option_copied c.split_line.result.1)) in
     let step = events_step c.args.broke c.loop-rest.number (option_copied c.loop-rest.rest) c.in-Some.here.now c.split_line.result.0.now (lines_in (option_copied c.split_line.result.1)) (ap option_copied c.in-Some.is) c.split_line.ensures.lines in
-    let more = going_more (state_of c.args.world) all left (contents c.args.writer.now) (contents c.loop-rest.writer) (contents c.play_line.new.writer) (state_of c.loop-rest.world) (state_of c.play_line.new.world) c.loop-rest.summary (line_read c.split_line.result.0.now) (c.loop-rest.number + 1) c.in-Ok-play_line.played (subst (λ (t : Told). Going (state_of c.args.world) all t (contents c.args.writer.now) (contents c.loop-rest.writer) (state_of c.loop-rest.world) c.loop-rest.summary) step c.loop-rest.invariant.going) c.in-Ok-play_line.ensures.ok in
+    let more = going_more (state_of c.args.world.now) all left (contents c.args.writer.now) (contents c.loop-rest.writer) (contents c.play_line.new.writer) (state_of c.loop-rest.world) (state_of c.play_line.new.world) c.loop-rest.summary (line_read c.split_line.result.0.now) (c.loop-rest.number + 1) c.in-Ok-play_line.played (subst (λ (t : Told). Going (state_of c.args.world.now) all t (contents c.args.writer.now) (contents c.loop-rest.writer) (state_of c.loop-rest.world) c.loop-rest.summary) step c.loop-rest.invariant.going) c.in-Ok-play_line.ensures.ok in
     record {
       going = rw c.counted-summary.ensures more;
       fits = omega (arith, ap size_in (ap option_copied c.in-Some.is), c.split_line.ensures.shorter, c.loop-rest.invariant.fits);
@@ -43,7 +43,7 @@ returns-in-None-clause-ok g c =
     let all : Told = events_from c.args.broke c.args.before (lines_in (option_copied c.args.text)) in
     let left : Told = events_from c.args.broke c.loop-rest.number (lines_in (option_copied c.loop-rest.rest)) in
     let ended : left ≡ only_fault None = rw (c.in_default-rest.is, c.in-None.is) refl in
-    going_ends (state_of c.args.world) all (contents c.args.writer.now) (contents c.loop-rest.writer) (state_of c.loop-rest.world) c.loop-rest.summary (subst (λ (t : Told). Going (state_of c.args.world) all t (contents c.args.writer.now) (contents c.loop-rest.writer) (state_of c.loop-rest.world) c.loop-rest.summary) ended c.loop-rest.invariant.going)
+    going_ends (state_of c.args.world.now) all (contents c.args.writer.now) (contents c.loop-rest.writer) (state_of c.loop-rest.world) c.loop-rest.summary (subst (λ (t : Told). Going (state_of c.args.world.now) all t (contents c.args.writer.now) (contents c.loop-rest.writer) (state_of c.loop-rest.world) c.loop-rest.summary) ended c.loop-rest.invariant.going)
 
 pub returns-in_default-clause-err : goal.returns-in_default-clause-err
 returns-in_default-clause-err g c = inl (record { kind = refl; written = appends_none (g.W.Write.contents c.args.writer.now) })
@@ -55,4 +55,4 @@ returns-clause-err g c =
     let left : Told = events_from c.args.broke c.loop-rest.number (lines_in (option_copied c.loop-rest.rest)) in
     let fault = fault_at c.loop-rest.number c.in-Some-broke.kind in
     let ended : left ≡ only_fault (Some fault) = rw (c.in_default-rest.is, c.in-Some-broke.is) refl in
-    inr (inl (going_fails (state_of c.args.world) all (contents c.args.writer.now) (contents c.loop-rest.writer) (state_of c.loop-rest.world) c.loop-rest.summary fault (subst (λ (t : Told). Going (state_of c.args.world) all t (contents c.args.writer.now) (contents c.loop-rest.writer) (state_of c.loop-rest.world) c.loop-rest.summary) ended c.loop-rest.invariant.going)))
+    inr (inl (going_fails (state_of c.args.world.now) all (contents c.args.writer.now) (contents c.loop-rest.writer) (state_of c.loop-rest.world) c.loop-rest.summary fault (subst (λ (t : Told). Going (state_of c.args.world.now) all t (contents c.args.writer.now) (contents c.loop-rest.writer) (state_of c.loop-rest.world) c.loop-rest.summary) ended c.loop-rest.invariant.going)))
