@@ -62,41 +62,46 @@ head_stops broke all head number rest line lines fault old new left e (inr none)
 
 -- ---- the events begin
 
+-- the script is what the lines that are left say of the world that the head opens
 begun : (broke : Option ScriptFaultKind) (all : List (List ℕ)) (head next : HeadSoFar) (number : ℕ) (rest : List (List ℕ)) (line : List ℕ) (lines : List (List ℕ)) →
     IsLeft all head number rest → rest ≡ line ∷ lines → line_taken head (number + 1) line ≡ EventsBegin next → script_from broke all ≡ begun_by (opening_read next.said) (events_from broke (number + 1) lines)
 begun broke all head next number rest line lines left e t =
     let starts = went all head number rest line lines (EventsBegin next) left e t in
     ap (script_by broke all) starts ∙ ap (λ (ls : List (List ℕ)). begun_by (opening_read next.said) (events_from broke (number + 1) ls)) (behind_more all head number rest line lines left e)
 
-pub begin_fails : (broke : Option ScriptFaultKind) (all : List (List ℕ)) (head next : HeadSoFar) (number : ℕ) (rest : List (List ℕ)) (line : List ℕ) (lines : List (List ℕ)) (fault : ScriptFault) (old new : Option (List ℕ)) →
-    IsLeft all head number rest → rest ≡ line ∷ lines → line_taken head (number + 1) line ≡ EventsBegin next → IsFaultOr fault (opening_read next.said) → new ≡ old → IsStopped (script_from broke all) old new fault
-begin_fails broke all head next number rest line lines fault old new left e t (inl f) kept =
-    faulty fault (script_from broke all) old new (begun broke all head next number rest line lines left e t ∙ ap (λ (r : Result Opening ScriptFault). begun_by r (events_from broke (number + 1) lines)) f) kept
-begin_fails broke all head next number rest line lines fault old new left e t (inr none) kept = ran_out fault (script_from broke all) old new none kept
+pub begin_fails : (read : Result Opening ScriptFault) (told : Told) (fault : ScriptFault) (old : Option (List ℕ)) → IsFaultOr fault read → IsStopped (begun_by read told) old old fault
+begin_fails read told fault old (inl f) = faulty fault (begun_by read told) old old (ap (λ (r : Result Opening ScriptFault). begun_by r told) f) refl
+begin_fails read told fault old (inr none) = ran_out fault (begun_by read told) old old none refl
 
--- the script is that of this world and of the lines that are left
-pub begins : (broke : Option ScriptFaultKind) (all : List (List ℕ)) (head next : HeadSoFar) (number : ℕ) (rest : List (List ℕ)) (line : List ℕ) (lines : List (List ℕ)) (opening : Opening) →
-    IsLeft all head number rest → rest ≡ line ∷ lines → line_taken head (number + 1) line ≡ EventsBegin next → opening_read next.said ≡ Ok opening → script_from broke all ≡ record { opening = Some opening; told = events_from broke (number + 1) lines }
-begins broke all head next number rest line lines opening left e t o =
-    begun broke all head next number rest line lines left e t ∙ ap (λ (r : Result Opening ScriptFault). begun_by r (events_from broke (number + 1) lines)) o
+pub begun_played : (read : Result Opening ScriptFault) (told : Told) (world : State) (old new : Option (List ℕ)) (r : Result Summary ScriptFault) → read ≡ Ok (opening_in world) → world ≡ opening_of (opening_in world) →
+    IfOk r (AllAnswered world told old new) → IfOk r (IsPlayed (begun_by read told) old new)
+begun_played read told world old new (Ok summary) e w h =
+    subst (λ (r : Result Opening ScriptFault). IsPlayed (begun_by r told) old new summary) (sym e) (subst (λ (s : State). AllAnswered s told old new summary) w h)
+begun_played read told world old new (Err fault) e w h = tt
 
-pub begun_played : (script : Script) (told : Told) (world : State) (old mid new : Option (List ℕ)) (r : Result Summary ScriptFault) → script ≡ record { opening = Some (opening_in world); told = told } → world ≡ opening_of (opening_in world) → mid ≡ old →
-    IfOk r (AllAnswered world told mid new) → IfOk r (IsPlayed script old new)
-begun_played script told world old mid new (Ok summary) e w kept h =
-    subst (λ (s : Script). IsPlayed s old new summary) (sym e) (subst (λ (s : State). AllAnswered s told old new summary) w (subst (λ (o : Option (List ℕ)). AllAnswered world told o new summary) kept h))
-begun_played script told world old mid new (Err fault) e w kept h = tt
+stopped_from : (read : Result Opening ScriptFault) (told : Told) (world : State) (old new : Option (List ℕ)) (fault : ScriptFault) → read ≡ Ok (opening_in world) → world ≡ opening_of (opening_in world) →
+    played.RanOut old new fault ⊎ played.Stops world told old new fault → IsStopped (begun_by read told) old new fault
+stopped_from read told world old new fault e w (inl none) = inl none
+stopped_from read told world old new fault e w (inr stops) =
+    subst (λ (r : Result Opening ScriptFault). IsStopped (begun_by r told) old new fault) (sym e) (inr (subst (λ (s : State). played.Stops s told old new fault) w stops))
 
-stopped_from : (script : Script) (told : Told) (world : State) (old new : Option (List ℕ)) (fault : ScriptFault) → script ≡ record { opening = Some (opening_in world); told = told } → world ≡ opening_of (opening_in world) →
-    played.RanOut old new fault ⊎ played.Stops world told old new fault → IsStopped script old new fault
-stopped_from script told world old new fault e w (inl none) = inl none
-stopped_from script told world old new fault e w (inr stops) =
-    subst (λ (s : Script). IsStopped s old new fault) (sym e) (inr (subst (λ (s : State). played.Stops s told old new fault) w stops))
+pub begun_stopped : (read : Result Opening ScriptFault) (told : Told) (world : State) (old new : Option (List ℕ)) (r : Result Summary ScriptFault) → read ≡ Ok (opening_in world) → world ≡ opening_of (opening_in world) →
+    IfErr r (λ fault. played.RanOut old new fault ⊎ played.Stops world told old new fault) → IfErr r (IsStopped (begun_by read told) old new)
+begun_stopped read told world old new (Ok summary) e w h = tt
+begun_stopped read told world old new (Err fault) e w h = stopped_from read told world old new fault e w h
 
-pub begun_stopped : (script : Script) (told : Told) (world : State) (old mid new : Option (List ℕ)) (r : Result Summary ScriptFault) → script ≡ record { opening = Some (opening_in world); told = told } → world ≡ opening_of (opening_in world) → mid ≡ old →
-    IfErr r (λ fault. played.RanOut mid new fault ⊎ played.Stops world told mid new fault) → IfErr r (IsStopped script old new)
-begun_stopped script told world old mid new (Ok summary) e w kept h = tt
-begun_stopped script told world old mid new (Err fault) e w kept h =
-    stopped_from script told world old new fault e w (subst (λ (o : Option (List ℕ)). played.RanOut o new fault ⊎ played.Stops world told o new fault) kept h)
+-- what is played behind the head is the whole script
+pub begins_played : (broke : Option ScriptFaultKind) (all : List (List ℕ)) (head next : HeadSoFar) (number : ℕ) (rest : List (List ℕ)) (line : List ℕ) (lines : List (List ℕ)) (old mid new : Option (List ℕ)) (r : Result Summary ScriptFault) →
+    IsLeft all head number rest → rest ≡ line ∷ lines → line_taken head (number + 1) line ≡ EventsBegin next → mid ≡ old →
+    IfOk r (IsPlayed (begun_by (opening_read next.said) (events_from broke (number + 1) lines)) mid new) → IfOk r (IsPlayed (script_from broke all) old new)
+begins_played broke all head next number rest line lines old mid new r left e t kept h =
+    subst (λ (s : Script). IfOk r (IsPlayed s old new)) (sym (begun broke all head next number rest line lines left e t)) (subst (λ (o : Option (List ℕ)). IfOk r (IsPlayed (begun_by (opening_read next.said) (events_from broke (number + 1) lines)) o new)) kept h)
+
+pub begins_stopped : (broke : Option ScriptFaultKind) (all : List (List ℕ)) (head next : HeadSoFar) (number : ℕ) (rest : List (List ℕ)) (line : List ℕ) (lines : List (List ℕ)) (old mid new : Option (List ℕ)) (r : Result Summary ScriptFault) →
+    IsLeft all head number rest → rest ≡ line ∷ lines → line_taken head (number + 1) line ≡ EventsBegin next → mid ≡ old →
+    IfErr r (IsStopped (begun_by (opening_read next.said) (events_from broke (number + 1) lines)) mid new) → IfErr r (IsStopped (script_from broke all) old new)
+begins_stopped broke all head next number rest line lines old mid new r left e t kept h =
+    subst (λ (s : Script). IfErr r (IsStopped s old new)) (sym (begun broke all head next number rest line lines left e t)) (subst (λ (o : Option (List ℕ)). IfErr r (IsStopped (begun_by (opening_read next.said) (events_from broke (number + 1) lines)) o new)) kept h)
 
 -- ---- the head ends
 

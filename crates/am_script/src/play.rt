@@ -2,8 +2,9 @@
 
 ghost use Rattle.std.specs.Prelude.{◌≡◌, ◌⊎◌, ◌+◌, ◌<◌, ◌≤◌, ◌^◌, length, option_copied, None, IfOk, IfErr, OnOk};
 ghost use Rattle.am_script.specs.Lines.{lines_of, lines_in, size_in};
+ghost use Rattle.am_script.specs.Maps.{opening_read};
 ghost use Rattle.am_script.specs.Read.{cut_kind};
-ghost use Rattle.am_script.specs.Script.{script_from, events_from};
+ghost use Rattle.am_script.specs.Script.{script_from, events_from, begun_by};
 ghost use Rattle.am_script.specs.Played.{AllAnswered, Stops, RanOut, IsPlayed, IsStopped, PlaysInput, StopsInput, end_of_head};
 ghost use Rattle.am_world.specs.Table.{state_of};
 
@@ -81,18 +82,34 @@ fn play_text<W: Write>(
         number += 1;
         match heading.take_line(alloc, number, line) {
             Ok(false) => rest = after,
-            Ok(true) => {
-                return match heading.begin(alloc, number) {
-                    Ok(mut world) => play_events(alloc, &mut world, after, number, broke, writer),
-                    Err(fault) => Err(fault),
-                };
-            }
+            Ok(true) => return play_behind(alloc, heading, after, number, broke, writer),
             Err(fault) => return Err(fault),
         }
     }
     end_head(broke, heading.section(), number)
 }
 
+/// Plays the events behind a head, on the world that it opens.
+fn play_behind<W: Write>(
+    alloc: Global,
+    heading: Heading,
+    text: Option<&[u8]>,
+    before: u64,
+    broke: Option<ScriptFaultKind>,
+    writer: &mut W,
+) -> Result<Summary, ScriptFault>
+    requires { before + size_in (option_copied text) ≤ 2 ^ 63 }
+    ensures whole { OnOk result (broke ≡ None) }
+    ensures ok { IfOk result (IsPlayed (begun_by (opening_read heading.said) (events_from broke before (lines_in (option_copied text.entry)))) (W.contents writer.old) (W.contents writer.new)) }
+    ensures err { IfErr result (IsStopped (begun_by (opening_read heading.said) (events_from broke before (lines_in (option_copied text.entry)))) (W.contents writer.old) (W.contents writer.new)) }
+{
+    match heading.begin(alloc, before) {
+        Ok(mut world) => play_events(alloc, &mut world, text, before, broke, writer),
+        Err(fault) => Err(fault),
+    }
+}
+
+/// Plays the events of these lines.
 fn play_events<W: Write>(
     alloc: Global,
     world: &mut World,

@@ -1,10 +1,7 @@
-use Rattle.std.proofs.Common.{◌≡◌, ◌+◌, ◌∷◌, option_copied, ap, ◌∙◌, arith}
-use Rattle.am_machine.specs.State.{opening_in}
+use Rattle.std.proofs.Common.{◌≡◌, ◌∷◌, option_copied, ap, ◌∙◌, arith}
 use Rattle.am_script.specs.Heading.{taken_as}
 use Rattle.am_script.specs.Lines.{lines_in, lines_of, size_in}
-use Rattle.am_script.specs.Script.{script_from, events_from}
-use Rattle.am_script.proofs.Heads.{one_taken, head_stops, begins, begin_fails, begun_played, begun_stopped}
-use Rattle.am_world.specs.Table.{state_of}
+use Rattle.am_script.proofs.Heads.{one_taken, head_stops, begins_played, begins_stopped}
 use Rattle.am_script.proofs.play.play_text.Goals as goal
 
 pub loop-rest-preserved : goal.loop-rest-preserved
@@ -29,34 +26,22 @@ returns-in-Err-clause-err g c =
     let here : rest ≡ line ∷ lines = ap lines_in (ap option_copied c.in-Some.is) ∙ c.split_line.ensures.lines in
     head_stops c.args.broke (lines_of c.args.text.now) c.loop-rest.heading c.loop-rest.number rest line lines c.in-Err.fault (contents c.args.writer.now) (contents c.loop-rest.writer) c.loop-rest.invariant.left here c.in-Err.ensures.err c.loop-rest.invariant.kept
 
-pub returns-in-Err-begin-clause-err : goal.returns-in-Err-begin-clause-err
-returns-in-Err-begin-clause-err g c =
+pub returns-in-Ok-true-clause-ok : goal.returns-in-Ok-true-clause-ok
+returns-in-Ok-true-clause-ok g c =
     let contents = g.W.Write.contents in
     let rest = lines_in (option_copied c.loop-rest.rest) in
     let line = c.split_line.result.0.now in
     let lines = lines_in (option_copied c.split_line.result.1) in
     let here : rest ≡ line ∷ lines = ap lines_in (ap option_copied c.in-Some.is) ∙ c.split_line.ensures.lines in
     let taken = c.in-Ok-true.ensures.ok ∙ ap (λ b. taken_as b c.take_line.new.self) c.in-Ok-true.field-0-test in
-    begin_fails c.args.broke (lines_of c.args.text.now) c.loop-rest.heading c.take_line.new.self c.loop-rest.number rest line lines c.in-Err-begin.fault (contents c.args.writer.now) (contents c.loop-rest.writer) c.loop-rest.invariant.left here taken c.in-Err-begin.ensures.err c.loop-rest.invariant.kept
+    begins_played c.args.broke (lines_of c.args.text.now) c.loop-rest.heading c.take_line.new.self c.loop-rest.number rest line lines (contents c.args.writer.now) (contents c.loop-rest.writer) (contents c.play_behind.new.writer) c.play_behind.result c.loop-rest.invariant.left here taken c.loop-rest.invariant.kept c.play_behind.ensures.ok
 
-pub returns-in-Ok-clause-ok : goal.returns-in-Ok-clause-ok
-returns-in-Ok-clause-ok g c =
+pub returns-in-Ok-true-clause-err : goal.returns-in-Ok-true-clause-err
+returns-in-Ok-true-clause-err g c =
     let contents = g.W.Write.contents in
     let rest = lines_in (option_copied c.loop-rest.rest) in
     let line = c.split_line.result.0.now in
     let lines = lines_in (option_copied c.split_line.result.1) in
     let here : rest ≡ line ∷ lines = ap lines_in (ap option_copied c.in-Some.is) ∙ c.split_line.ensures.lines in
     let taken = c.in-Ok-true.ensures.ok ∙ ap (λ b. taken_as b c.take_line.new.self) c.in-Ok-true.field-0-test in
-    let whole = begins c.args.broke (lines_of c.args.text.now) c.loop-rest.heading c.take_line.new.self c.loop-rest.number rest line lines (opening_in (state_of c.in-Ok.world)) c.loop-rest.invariant.left here taken c.in-Ok.ensures.opening in
-    begun_played (script_from c.args.broke (lines_of c.args.text.now)) (events_from c.args.broke (c.loop-rest.number + 1) lines) (state_of c.in-Ok.world) (contents c.args.writer.now) (contents c.loop-rest.writer) (contents c.play_events.new.writer) c.play_events.result whole c.in-Ok.ensures.world c.loop-rest.invariant.kept c.play_events.ensures.ok
-
-pub returns-in-Ok-clause-err : goal.returns-in-Ok-clause-err
-returns-in-Ok-clause-err g c =
-    let contents = g.W.Write.contents in
-    let rest = lines_in (option_copied c.loop-rest.rest) in
-    let line = c.split_line.result.0.now in
-    let lines = lines_in (option_copied c.split_line.result.1) in
-    let here : rest ≡ line ∷ lines = ap lines_in (ap option_copied c.in-Some.is) ∙ c.split_line.ensures.lines in
-    let taken = c.in-Ok-true.ensures.ok ∙ ap (λ b. taken_as b c.take_line.new.self) c.in-Ok-true.field-0-test in
-    let whole = begins c.args.broke (lines_of c.args.text.now) c.loop-rest.heading c.take_line.new.self c.loop-rest.number rest line lines (opening_in (state_of c.in-Ok.world)) c.loop-rest.invariant.left here taken c.in-Ok.ensures.opening in
-    begun_stopped (script_from c.args.broke (lines_of c.args.text.now)) (events_from c.args.broke (c.loop-rest.number + 1) lines) (state_of c.in-Ok.world) (contents c.args.writer.now) (contents c.loop-rest.writer) (contents c.play_events.new.writer) c.play_events.result whole c.in-Ok.ensures.world c.loop-rest.invariant.kept c.play_events.ensures.err
+    begins_stopped c.args.broke (lines_of c.args.text.now) c.loop-rest.heading c.take_line.new.self c.loop-rest.number rest line lines (contents c.args.writer.now) (contents c.loop-rest.writer) (contents c.play_behind.new.writer) c.play_behind.result c.loop-rest.invariant.left here taken c.loop-rest.invariant.kept c.play_behind.ensures.err
