@@ -1,5 +1,5 @@
 -- The daemon is free for each packet that is in a pipe.
-use Rattle.std.proofs.Common.{◌≡◌, ℕ, Bool, true, false, List, Option, Some, None, refl, sym, ap, subst, ◌∙◌}
+use Rattle.std.proofs.Common.{◌≡◌, ℕ, Bool, true, false, Option, Some, None, refl, sym, ap, subst, ◌∙◌}
 use Rattle.std.specs.Prelude.{◌==◌, ◌||◌, not, is_some, if◌then◌else◌}
 use Rattle.am_names.specs.Trigger.{same_trigger}
 use Rattle.am_names.specs.declared.trigger.Trigger.{Trigger}
@@ -13,7 +13,6 @@ use Rattle.am_job.proofs.KeyLemmas.{is_itself}
 use Rattle.am_kernel.specs.State.{KernelState}
 use Rattle.am_kernel.specs.Sites.{attach_of}
 use Rattle.am_kernel.specs.Requests.{queued_of}
-use Rattle.am_daemon.specs.declared.fault.DaemonFault.{DaemonFault}
 use Rattle.am_daemon.specs.declared.fault.DaemonFault.TheVariants.{UnknownFs, OldAttach, Busy}
 use Rattle.am_daemon.specs.State.{DaemonState}
 use Rattle.am_daemon.specs.Attachments.{knows, holds}
@@ -26,7 +25,7 @@ use Rattle.am_machine.specs.Invariant.Tokens.{IsInPipe, TokensAgree}
 use Rattle.am_machine.specs.Invariant.Books.{IsServed, is_pending_for, BookAgrees}
 use Rattle.am_machine.specs.Invariant.Records.{AreOfTheirTokens}
 use Rattle.am_machine.specs.Invariant.Consistent.{IsConsistent}
-use Rattle.am_machine.specs.InStep.{IsNeverBusy, AreInStep}
+use Rattle.am_machine.specs.InStep.{AreInStep}
 use Rattle.am_machine.proofs.TokenLists.{all_found, yes_no}
 use Rattle.am_machine.proofs.TokenClose.{dev_of}
 use Rattle.am_machine.proofs.TokenNames.{reads}

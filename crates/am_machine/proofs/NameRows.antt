@@ -1,5 +1,5 @@
 -- What the kernel writes down is named, where what it writes is.
-use Rattle.std.proofs.Common.{◌≡◌, ℕ, Bool, true, false, List, [], ◌∷◌, ◌++◌, map, Option, Some, None, refl, sym, subst}
+use Rattle.std.proofs.Common.{◌≡◌, ℕ, Bool, true, false, List, [], ◌∷◌, map, Option, Some, None, refl, sym, subst}
 use Rattle.std.specs.Prelude.{◌==◌, ◌&&◌, nat_lt, not, is_none, filter, if◌then◌else◌}
 use Rattle.std.specs.List.{list_all, All}
 use Rattle.std.proofs.lemmas.List.Elements.{All-cons, All-head, All-tail, All-nil, All-append, All-push, All-filter, All-map, All-weaker}
@@ -13,7 +13,7 @@ use Rattle.am_names.specs.declared.row.TokenKind.TheVariants.{Missing, Expire}
 use Rattle.am_names.specs.declared.row.WaitRow.{WaitRow}
 use Rattle.am_trigger.specs.Rows.{used_in, all_used_in}
 use Rattle.am_wait.specs.Rows.{WaitRows, token_of, with_wait, with_waiter, joined_row}
-use Rattle.am_wait.specs.Calls.{waiting_on, opened, joined_on, released_row, failed_row, answered, fs_released, collected}
+use Rattle.am_wait.specs.Calls.{waiting_on, opened, joined_on, released_row, failed_row}
 use Rattle.am_kernel.specs.declared.begun.Begin.{Begin}
 use Rattle.am_kernel.specs.declared.row.WalkRow.{WalkRow}
 use Rattle.am_kernel.specs.State.{KernelState}

@@ -1,10 +1,10 @@
 -- A pending record stays one of its token, as long as that is open.
 use Rattle.std.proofs.Common.{◌≡◌, ℕ, ◌+◌, ◌≤◌, Bool, true, false, cond, List, [], ◌∷◌, ◌++◌, map, Option, Some, None, refl, sym, ap, subst, ◌∙◌, arith}
-use Rattle.std.specs.Prelude.{◌==◌, not, filter, if◌then◌else◌}
+use Rattle.std.specs.Prelude.{◌==◌, not, if◌then◌else◌}
 use Rattle.std.specs.Option.{option_map}
-use Rattle.std.specs.List.{list_any, All}
+use Rattle.std.specs.List.{list_any}
 use Rattle.std.proofs.lemmas.Bool.Decides.{nat_tests}
-use Rattle.std.proofs.lemmas.List.Elements.{All-head, All-tail, All-filter, All-map, All-push, All-weaker}
+use Rattle.std.proofs.lemmas.List.Elements.{All-filter, All-map, All-push, All-weaker}
 use Rattle.am_names.specs.Trigger.{same_trigger}
 use Rattle.am_names.specs.declared.trigger.Trigger.{Trigger}
 use Rattle.am_names.specs.declared.trigger.Status.{Status}
@@ -19,7 +19,6 @@ use Rattle.am_state.specs.declared.daemon_row.Record.{Record}
 use Rattle.am_state.specs.declared.daemon_row.Record.TheVariants.{Mounting, Mounted, Unmounting}
 use Rattle.am_state.specs.declared.daemon_row.RecordRow.{RecordRow}
 use Rattle.am_state.specs.declared.kernel_row.QueuedRow.{QueuedRow}
-use Rattle.am_wire.specs.declared.packet.Packet.{Packet}
 use Rattle.am_wire.specs.Kind.{token_kind}
 use Rattle.am_job.specs.declared.act.Act.{Act}
 use Rattle.am_job.specs.declared.act.Act.TheVariants as act
@@ -35,7 +34,6 @@ use Rattle.am_daemon.specs.Packets.{trigger_of, mounted_for, pending, pending_of
 use Rattle.am_laws.proofs.Packets.{nat_is}
 use Rattle.am_machine.specs.Invariant.Traces.{Asked}
 use Rattle.am_machine.specs.Invariant.Tokens.{IsInPipe}
-use Rattle.am_machine.specs.Invariant.Books.{is_pending_for}
 use Rattle.am_machine.specs.Invariant.Records.{is_of_kind, IsOfItsToken, AreOfTheirTokens}
 use Rattle.am_machine.specs.Invariant.Planned.{IsPlanned}
 use Rattle.am_machine.proofs.GivenPlans.{writes_settled}

@@ -1,5 +1,5 @@
 -- The event that a line spells by its words, if it spells one.
-use Rattle.std.specs.Prelude.{ℕ, List, [], ◌∷◌, Option, None, Some}
+use Rattle.std.specs.Prelude.{ℕ, List, [], ◌∷◌, Option, None}
 use Rattle.std.specs.Option.{option_or}
 use Rattle.am_machine.specs.declared.event.Event.{Event}
 use Rattle.am_script.specs.AdministratorLines.{administrator_read}

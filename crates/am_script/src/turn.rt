@@ -1,6 +1,7 @@
 //! One line of events is played.
 
-ghost use Rattle.std.specs.Prelude.{◌≡◌, ◌+◌, ◌<◌, ◌≤◌, ◌^◌, IfOk, IfErr};
+ghost use Rattle.std.specs.Prelude.{◌≡◌, ◌+◌, ◌<◌, ◌≤◌, ◌^◌, IfOk, IfErr, OnOk};
+ghost use Rattle.am_script.specs.Answers.{answer_line};
 ghost use Rattle.am_script.specs.Script.{line_read, event_or_fault};
 ghost use Rattle.am_script.specs.Turns.{IsAnswered, IsLost, TurnDone, TurnStopped, counted};
 ghost use Rattle.am_world.specs.Table.{state_of};
@@ -11,8 +12,8 @@ use crate::fault::ScriptFaultKind;
 use crate::line::{is_long, is_skipped};
 use crate::output::write_bytes;
 use crate::play::Summary;
-use am_world::{Event, World};
-use std::alloc::Global;
+use am_world::{Answer, Event, World};
+use std::alloc::{AllocError, Global};
 use std::io::Write;
 
 /// Plays a line of events. It answers whether the event was refused, or none where the line is
@@ -53,6 +54,14 @@ pub fn read_line(line: &[u8]) -> Result<Option<Event>, ScriptFaultKind>
     }
 }
 
+/// The line of an answer, in place of what the buffer has.
+fn write_line(buffer: &mut Vec<u8>, answer: &Answer) -> Result<(), AllocError>
+    ensures { OnOk result (buffer.new.items ≡ answer_line answer.now) }
+{
+    buffer.clear();
+    push_answer(buffer, answer)
+}
+
 /// Makes a step and writes the line of its answer, in one call of the writer where that takes it
 /// whole.
 fn answer_event<W: Write>(
@@ -66,8 +75,7 @@ fn answer_event<W: Write>(
     ensures err { IfErr result (IsLost (state_of world.old) event.now (state_of world.new) (W.contents writer.old) (W.contents writer.new)) }
 {
     let answer = world.step(alloc, event);
-    buffer.clear();
-    if let Err(_) = push_answer(buffer, &answer) {
+    if let Err(_) = write_line(buffer, &answer) {
         return Err(ScriptFaultKind::NoMemory);
     }
     if let Err(_) = write_bytes(writer, buffer.as_slice()) {

@@ -35,12 +35,12 @@ use Rattle.am_daemon.specs.Deliveries.{job_of}
 use Rattle.am_machine.specs.declared.event.Event.{Event}
 use Rattle.am_machine.specs.declared.event.Event.TheVariants as events
 use Rattle.am_machine.specs.State.{State}
-use Rattle.am_machine.specs.Outcome.{Outcome, refused, unless, moment_of}
+use Rattle.am_machine.specs.Outcome.{Outcome, unless, moment_of}
 use Rattle.am_machine.specs.Machine.{outcome_of}
 use Rattle.am_machine.specs.Events.Walkers.{goes}
-use Rattle.am_machine.specs.Events.Administration.{attach_refusal, attached_as, attaches, kind_told}
-use Rattle.am_machine.specs.Events.Deliveries.{delivered_at, may_take, takes}
-use Rattle.am_machine.specs.Events.Acts.{mkdir_by, mount_by, mount_act, umount_by, umount_act, rmdir_by, record_act, reply_by, acted, acted_at}
+use Rattle.am_machine.specs.Events.Administration.{attach_refusal, attached_as, kind_told}
+use Rattle.am_machine.specs.Events.Deliveries.{delivered_at, may_take}
+use Rattle.am_machine.specs.Events.Acts.{mkdir_by, mount_by, umount_by, rmdir_by, reply_by, acted, acted_at}
 use Rattle.am_machine.specs.Events.Requests.{reattach_refused}
 use Rattle.am_world.specs.Copies.{owns}
 

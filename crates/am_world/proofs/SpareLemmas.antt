@@ -1,5 +1,5 @@
 -- Answers that own memory are known before the event.
-use Rattle.std.proofs.Common.{◌≡◌, ℕ, Bool, true, false, List, [], ◌∷◌, ◌++◌, Option, Some, None, refl, sym, ap, ◌∙◌, subst, inl, inr}
+use Rattle.std.proofs.Common.{◌≡◌, ℕ, Bool, true, false, List, Option, Some, None, refl, sym, ap, subst, inl, inr}
 use Rattle.std.specs.Prelude.{is_some, nat_le, if◌then◌else◌}
 use Rattle.am_names.specs.declared.errno.Errno.{Errno}
 use Rattle.am_names.specs.declared.trigger.PipeState.{PipeState}
@@ -17,7 +17,7 @@ use Rattle.am_kernel.proofs.AgainLemmas.{found_number}
 use Rattle.am_expire.specs.Uses.{mount_of}
 use Rattle.am_walk.specs.declared.stop.Stop.{Stop}
 use Rattle.am_walk.specs.declared.stop.Stop.TheVariants as stops
-use Rattle.am_walk.specs.Walks.{Walked, walk_of}
+use Rattle.am_walk.specs.Walks.{walk_of}
 use Rattle.am_kernel.specs.declared.row.WalkRow.{WalkRow}
 use Rattle.am_kernel.specs.declared.begun.Begin.{Begin}
 use Rattle.am_kernel.specs.State.{KernelState}
@@ -32,8 +32,8 @@ use Rattle.am_state.specs.declared.obs.Obs.{Obs}
 use Rattle.am_machine.specs.declared.event.Event.{Event}
 use Rattle.am_machine.specs.Machine.{outcome_of, Step}
 use Rattle.am_machine.specs.State.{State}
-use Rattle.am_machine.specs.Outcome.{Outcome, refused, unless}
-use Rattle.am_machine.specs.Events.Walkers.{answer_of, goes}
+use Rattle.am_machine.specs.Outcome.{Outcome, unless}
+use Rattle.am_machine.specs.Events.Walkers.{goes}
 use Rattle.am_world.specs.Copies.{owns, IsSpare, arrival_told}
 
 -- an answer that owns no memory needs nothing

@@ -1,6 +1,6 @@
-use Rattle.std.proofs.Common.{◌≡◌, ℕ, sym, ap, ◌∙◌}
+use Rattle.std.proofs.Common.{ℕ, sym, ap, ◌∙◌}
 use Rattle.am_kernel.specs.Requests.{answer_refusal}
-use Rattle.am_machine.specs.Events.Acts.{mount_act, umount_act, record_act, reply_by}
+use Rattle.am_machine.specs.Events.Acts.{reply_by}
 use Rattle.am_world.specs.Halves.{state_of}
 use Rattle.am_world.specs.declared.acts.Deed.TheVariants as deed
 use Rattle.am_world.specs.Acts.{row_for}

@@ -1,4 +1,4 @@
-use Rattle.std.proofs.Common.{◌≡◌, ◌++◌, List, refl, sym, ap, ◌∙◌}
+use Rattle.std.proofs.Common.{◌++◌, List, refl, ap, ◌∙◌}
 use Rattle.am_state.specs.declared.obs.Obs.{Obs}
 use Rattle.am_kernel.specs.Walks.{closing, closed}
 use Rattle.am_kernel.specs.Attachments.{catatonic_refusal}

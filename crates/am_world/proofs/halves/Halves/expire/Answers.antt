@@ -1,4 +1,4 @@
-use Rattle.std.proofs.Common.{◌≡◌, ℕ, Ok, Err, subst}
+use Rattle.std.proofs.Common.{ℕ, Ok, Err, subst}
 use Rattle.am_kernel.specs.Outcome.{Meets}
 use Rattle.am_kernel.specs.Expires.{expire_outcome}
 use Rattle.am_machine.specs.Outcome.{moment_of}

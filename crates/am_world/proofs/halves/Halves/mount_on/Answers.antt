@@ -1,11 +1,11 @@
-use Rattle.std.proofs.Common.{◌≡◌, ℕ, ◌+◌, [], ◌∷◌, Some, None, refl, sym, ap, ◌∙◌}
+use Rattle.std.proofs.Common.{ℕ, ◌+◌, [], ◌∷◌, Some, None, refl, sym, ap, ◌∙◌}
 use Rattle.std.proofs.lemmas.List.{append-nil}
 use Rattle.am_job.specs.declared.act.Outcome.TheVariants as came
 use Rattle.am_kernel.specs.DaemonMounts.{location_of, coming, mount_on_refusal, with_mount_on}
 use Rattle.am_state.specs.declared.obs.Obs.TheVariants as seen
 use Rattle.am_daemon.specs.Acts.{finished}
 use Rattle.am_machine.specs.declared.answer.Answer.TheVariants as answers
-use Rattle.am_machine.specs.Events.Acts.{mount_fails, mount_by, mount_act, mounts}
+use Rattle.am_machine.specs.Events.Acts.{mount_fails, mount_act, mounts}
 use Rattle.am_world.specs.Halves.{state_of}
 use Rattle.am_world.specs.Acts.{row_for}
 use Rattle.am_world.proofs.ActLemmas.{row_token, row_attach}

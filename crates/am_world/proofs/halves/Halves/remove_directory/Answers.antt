@@ -1,4 +1,4 @@
-use Rattle.std.proofs.Common.{◌≡◌, sym, ◌∙◌}
+use Rattle.std.proofs.Common.{sym, ◌∙◌}
 use Rattle.am_kernel.specs.Directories.{rmdir_refusal}
 use Rattle.am_world.specs.Halves.{state_of}
 use Rattle.am_world.specs.Acts.{row_for}

@@ -1,4 +1,4 @@
-use Rattle.std.proofs.Common.{◌≡◌, ℕ, [], ◌∷◌, ◌++◌, List, Option, None, refl, sym, ap, ◌∙◌}
+use Rattle.std.proofs.Common.{◌≡◌, ℕ, ◌∷◌, ◌++◌, List, Option, None, refl, sym, ap, ◌∙◌}
 use Rattle.am_names.specs.declared.errno.Errno.{Errno}
 use Rattle.am_job.specs.declared.act.Outcome.TheVariants as came
 use Rattle.am_state.specs.declared.obs.Obs.{Obs}

@@ -1,10 +1,5 @@
-use Rattle.std.proofs.Common.{◌≡◌, false, sym, subst, ap, ◌∙◌}
-use Rattle.am_machine.specs.declared.event.Event.{Event}
-use Rattle.am_machine.specs.declared.event.Event.TheVariants as events
-use Rattle.am_machine.specs.Machine.{outcome_of}
 use Rattle.am_machine.specs.Outcome.{moment_of}
 use Rattle.am_world.specs.Halves.{state_of}
-use Rattle.am_world.specs.Copies.{owns, IsSpare, arrival_told}
 use Rattle.am_world.proofs.SpareLemmas.{resume_spares}
 use Rattle.am_world.proofs.OtherLemmas.{other_is, others_free}
 use Rattle.am_world.proofs.halves.Halves.spare.Goals as goal

@@ -1,4 +1,4 @@
-use Rattle.std.proofs.Common.{◌≡◌, ℕ, [], ◌∷◌, ◌++◌, List, Option, Some, None, refl, sym, ap, ◌∙◌}
+use Rattle.std.proofs.Common.{ℕ, ◌∷◌, ◌++◌, List, Option, Some, None, ap, ◌∙◌}
 use Rattle.am_state.specs.declared.obs.Obs.{Obs}
 use Rattle.am_state.specs.declared.obs.Obs.TheVariants as seen
 use Rattle.am_job.specs.Plans.{is_reply}

@@ -1,11 +1,10 @@
-use Rattle.std.proofs.Common.{◌≡◌, ℕ, ◌+◌, [], ◌∷◌, Some, None, refl, sym, ap, ◌∙◌}
+use Rattle.std.proofs.Common.{[], ◌∷◌, Some, None, refl, sym, ◌∙◌}
 use Rattle.std.proofs.lemmas.List.{append-nil}
 use Rattle.am_job.specs.declared.act.Outcome.TheVariants as came
 use Rattle.am_kernel.specs.DaemonMounts.{gone_from, umount_from_refusal, without_mounts}
 use Rattle.am_state.specs.declared.obs.Obs.TheVariants as seen
-use Rattle.am_daemon.specs.Acts.{finished}
 use Rattle.am_machine.specs.declared.answer.Answer.TheVariants as answers
-use Rattle.am_machine.specs.Events.Acts.{umount_fails, umount_by, umount_act, umounts}
+use Rattle.am_machine.specs.Events.Acts.{umount_fails, umount_act, umounts}
 use Rattle.am_world.specs.Halves.{state_of}
 use Rattle.am_world.specs.Acts.{row_for}
 use Rattle.am_world.proofs.ActLemmas.{row_token, row_attach}
