@@ -86,6 +86,27 @@ fn play(rt: &impl Abort, alloc: Global, world: &mut World, lines: &[&[u8]]) {
     }
 }
 
+/// The lines with others between them, on this world.
+fn play_on(
+    rt: &impl Abort,
+    alloc: Global,
+    world: &mut World,
+    lines: &[&[u8]],
+    position: usize,
+    between: &[&[u8]],
+) {
+    for (at, line) in lines.iter().enumerate() {
+        if at == position {
+            play(rt, alloc, world, between);
+        }
+        step(world, alloc, &event(rt, line));
+    }
+    if position == lines.len() {
+        play(rt, alloc, world, between);
+    }
+    assert!(rt; trace_holds(world.trace()), "{between:?} at {position}");
+}
+
 /// The lines with others between them.
 fn play_with(
     rt: &impl Abort,
@@ -95,16 +116,7 @@ fn play_with(
     between: &[&[u8]],
 ) -> Result<(), Fail> {
     let mut world = world_in_the_end(alloc, LIMITS)?;
-    for (at, line) in lines.iter().enumerate() {
-        if at == position {
-            play(rt, alloc, &mut world, between);
-        }
-        step(&mut world, alloc, &event(rt, line));
-    }
-    if position == lines.len() {
-        play(rt, alloc, &mut world, between);
-    }
-    assert!(rt; trace_holds(world.trace()), "{between:?} at {position}");
+    play_on(rt, alloc, &mut world, lines, position, between);
     Ok(())
 }
 
@@ -167,6 +179,31 @@ fn with_pipe(event: Event, pipe: PipeState) -> Event {
     }
 }
 
+/// The event of a line, with another pipe where there is one and the event has it.
+fn piped(rt: &impl Abort, line: &[u8], pipe: Option<PipeState>) -> Event {
+    let event = event(rt, line);
+    match pipe {
+        Some(pipe) => with_pipe(event, pipe),
+        None => event,
+    }
+}
+
+/// The lines, one of them with another pipe, on this world.
+fn play_piped_on(
+    rt: &impl Abort,
+    alloc: Global,
+    world: &mut World,
+    lines: &[&[u8]],
+    position: usize,
+    pipe: PipeState,
+) {
+    for (at, line) in lines.iter().enumerate() {
+        let other = if at == position { Some(pipe) } else { None };
+        step(world, alloc, &piped(rt, line, other));
+    }
+    assert!(rt; trace_holds(world.trace()), "{pipe:?} at {position}");
+}
+
 /// The lines, one of them with another pipe.
 fn play_piped(
     rt: &impl Abort,
@@ -176,16 +213,7 @@ fn play_piped(
     pipe: PipeState,
 ) -> Result<(), Fail> {
     let mut world = world_in_the_end(alloc, LIMITS)?;
-    for (at, line) in lines.iter().enumerate() {
-        let event = event(rt, line);
-        let event = if at == position {
-            with_pipe(event, pipe)
-        } else {
-            event
-        };
-        step(&mut world, alloc, &event);
-    }
-    assert!(rt; trace_holds(world.trace()), "{pipe:?} at {position}");
+    play_piped_on(rt, alloc, &mut world, lines, position, pipe);
     Ok(())
 }
 

@@ -101,13 +101,16 @@ static ENDING: [Step; 8] = [
     (b"nsdrop 1", Wanted::Gone(3)),
 ];
 
+fn is_shared(rt: &impl Abort, alloc: Global, world: &mut World) {
+    are_wanted(rt, alloc, world, &SHARING);
+    are_wanted(rt, alloc, world, &EXPIRING);
+    are_wanted(rt, alloc, world, &ENDING);
+    assert!(rt; trace_holds(world.trace()));
+}
+
 #[test]
 fn memory_may_run_out_among_shared_mounts(rt: HostRuntime) -> Result<(), Fail> {
-    let alloc = rt.alloc();
-    let mut world = world_in_the_end(alloc, LIMITS)?;
-    are_wanted(&rt, alloc, &mut world, &SHARING);
-    are_wanted(&rt, alloc, &mut world, &EXPIRING);
-    are_wanted(&rt, alloc, &mut world, &ENDING);
-    assert!(rt; trace_holds(world.trace()));
+    let mut world = world_in_the_end(rt.alloc(), LIMITS)?;
+    is_shared(&rt, rt.alloc(), &mut world);
     Ok(())
 }

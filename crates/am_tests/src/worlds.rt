@@ -133,14 +133,17 @@ static SERVED: [Step; 10] = [
     (b"resume 7 101 room", Wanted::At(3)),
 ];
 
+fn is_served(rt: &impl Abort, alloc: Global, world: &mut World) {
+    are_wanted(rt, alloc, world, &SERVED);
+    assert_eq!(rt; world.trace().len(), 15);
+}
+
 /// Any allocation may be refused: the event is then refused, nothing has changed, and it goes on
 /// as if nothing had been when it is made again.
 #[test]
 fn memory_may_run_out_anywhere(rt: HostRuntime) -> Result<(), Fail> {
-    let alloc = rt.alloc();
-    let mut world = world_in_the_end(alloc, LIMITS)?;
-    are_wanted(&rt, alloc, &mut world, &SERVED);
-    assert_eq!(rt; world.trace().len(), 15);
+    let mut world = world_in_the_end(rt.alloc(), LIMITS)?;
+    is_served(&rt, rt.alloc(), &mut world);
     Ok(())
 }
 
@@ -155,14 +158,17 @@ fn is_queued(world: &World, token: u32) -> bool {
     world.queued(Token(token)).is_some()
 }
 
+fn is_queued_until_taken(rt: &impl Abort, alloc: Global, world: &mut World) {
+    are_wanted(rt, alloc, world, &QUEUED);
+    assert!(rt; is_queued(world, 1) && !is_queued(world, 2));
+    are_wanted(rt, alloc, world, &TAKEN);
+    assert!(rt; !is_queued(world, 1));
+}
+
 #[test]
 fn a_packet_is_queued_until_it_is_taken(rt: HostRuntime) -> Result<(), Fail> {
-    let alloc = rt.alloc();
-    let mut world = world_in_the_end(alloc, LIMITS)?;
-    are_wanted(&rt, alloc, &mut world, &QUEUED);
-    assert!(rt; is_queued(&world, 1) && !is_queued(&world, 2));
-    are_wanted(&rt, alloc, &mut world, &TAKEN);
-    assert!(rt; !is_queued(&world, 1));
+    let mut world = world_in_the_end(rt.alloc(), LIMITS)?;
+    is_queued_until_taken(&rt, rt.alloc(), &mut world);
     Ok(())
 }
 
@@ -214,15 +220,30 @@ fn answers(ran: &Ran, steps: &[Step]) -> bool {
             .all(|(answer, (_, wanted))| is_wanted(answer, *wanted))
 }
 
+/// A run of these events on a new world.
+fn run_of(alloc: Global, events: &[Event]) -> Result<Ran, Fail> {
+    let world = world_in_the_end(alloc, LIMITS)?;
+    match run(alloc, world, events) {
+        Ok(ran) => Ok(ran),
+        Err(_) => Err(Fail::new("no room for the answers")),
+    }
+}
+
+/// A run of these events answers each step.
+fn is_answered(
+    rt: &impl Abort,
+    alloc: Global,
+    events: &[Event],
+    steps: &[Step],
+) -> Result<(), Fail> {
+    let ran = run_of(alloc, events)?;
+    assert!(rt; answers(&ran, steps) && trace_holds(ran.world.trace()));
+    Ok(())
+}
+
 /// A run is one step for each event.
 #[test]
 fn a_run_is_a_step_for_each_event(rt: HostRuntime) -> Result<(), Fail> {
-    let alloc = rt.alloc();
-    let events = events_of(&rt, alloc, &RUNS)?;
-    let world = world_in_the_end(alloc, LIMITS)?;
-    let Ok(ran) = run(alloc, world, events.as_slice()) else {
-        return Err(Fail::new("no room for the answers"));
-    };
-    assert!(rt; answers(&ran, &RUNS) && trace_holds(ran.world.trace()));
-    Ok(())
+    let events = events_of(&rt, rt.alloc(), &RUNS)?;
+    is_answered(&rt, rt.alloc(), events.as_slice(), &RUNS)
 }
