@@ -34,6 +34,19 @@ fn play(
     Ok(())
 }
 
+fn are_said(
+    rt: &impl Abort,
+    alloc: Global,
+    world: &mut World,
+    lines: &[&[u8]],
+    answers: &[u8],
+) -> Result<(), AllocError> {
+    let mut said = room_in_the_end(alloc)?;
+    play(rt, alloc, world, lines, &mut said)?;
+    assert!(rt; said.as_slice() == answers, "{said:?}");
+    Ok(())
+}
+
 fn are_answered(
     rt: &impl Abort,
     alloc: Global,
@@ -41,9 +54,7 @@ fn are_answered(
     answers: &[u8],
 ) -> Result<(), Fail> {
     let mut world = world_in_the_end(alloc, LIMITS)?;
-    let mut said = room_in_the_end(alloc)?;
-    play(rt, alloc, &mut world, lines, &mut said)?;
-    assert!(rt; said.as_slice() == answers, "{said:?}");
+    are_said(rt, alloc, &mut world, lines, answers)?;
     Ok(())
 }
 
