@@ -18,7 +18,8 @@ use Rattle.am_daemon.specs.State.{DaemonState, JobPlan}
 use Rattle.am_daemon.specs.Deliveries.{job_of}
 use Rattle.am_laws.proofs.Packets.{nat_is, same_trigger_is}
 use Rattle.am_machine.specs.Invariant.Tokens.{IsInPipe, IsAtWork, HasToken, TokensAgree}
-use Rattle.am_machine.specs.Invariant.Books.{IsServed, is_pending_for, has_record_left, is_to_record, BookAgrees}
+use Rattle.am_machine.specs.Invariant.Planned.{has_record_left}
+use Rattle.am_machine.specs.Invariant.Books.{IsServed, is_pending_for, is_to_record, BookAgrees}
 use Rattle.am_machine.specs.Invariant.Records.{IsOfItsToken, AreOfTheirTokens}
 use Rattle.am_machine.specs.Agreement.{IsPending, IsToDeliver, IsToAnswer}
 use Rattle.am_machine.proofs.TraceRows.{some_is, found_passes}

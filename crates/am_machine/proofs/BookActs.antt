@@ -19,19 +19,17 @@ use Rattle.am_daemon.specs.Acts.{next_in, writes, writing_of, book_after, finish
 use Rattle.am_daemon.proofs.JobLemmas.{others_stay}
 use Rattle.am_laws.proofs.Packets.{nat_is, nat_same}
 use Rattle.am_machine.specs.Invariant.Traces.{AreDifferent}
-use Rattle.am_machine.specs.Invariant.Books.{IsServed, is_pending_for, has_record_left, is_to_record, IsRest, BookAgrees}
+use Rattle.am_machine.specs.Invariant.Planned.{has_record_left, IsPlanned}
+use Rattle.am_machine.specs.Invariant.Books.{IsServed, is_pending_for, is_to_record, BookAgrees}
 use Rattle.am_machine.proofs.PlanRests.{left_kept, Writes, left_written}
 use Rattle.am_machine.proofs.BookRecords.{recorded_is, settled_for, pending_once}
-use Rattle.am_machine.proofs.BookFound.{found_all}
-use Rattle.am_machine.proofs.BookJobs.{finished_rests, is_left, never_left, finished_here, holds_one}
+use Rattle.am_machine.proofs.BookJobs.{is_left, never_left, finished_here, holds_one}
 
 -- A job of the daemon, by its number, which no other has.
 pub record IsJob (d : DaemonState) (row : JobPlan) : Type 0 where
   pub differ : AreDifferent (map (λ (r : JobPlan). r.token) d.jobs)
   pub found : job_of d.jobs row.token ≡ Some row
-
-its_rest : (k : KernelState) (d : DaemonState) (row : JobPlan) → IsJob d row → BookAgrees k d → IsRest row.trigger row.plan
-its_rest k d row j h = found_all (λ (r : JobPlan). IsRest r.trigger r.plan) (λ (r : JobPlan). r.token == row.token) d.jobs row h.plans j.found
+  pub planned : IsPlanned row
 
 -- what its next act writes
 its_writing : (d : DaemonState) (row : JobPlan) (w : Option Writing) → IsJob d row → writes (next_of row.plan) ≡ w → writing_of row.token d ≡ w
@@ -48,7 +46,7 @@ kept_here : (k : KernelState) (d : DaemonState) (row : JobPlan) (outcome : Outco
 kept_here k d row outcome fs attach g j none h s same =
     h.pending fs attach s g same row.token
     ∙ ap (is_to_record attach g) j.found
-    ∙ sym (finished_here attach g outcome row.token row d.jobs j.differ j.found ∙ ap (is_left attach g row) (left_kept row.trigger row.plan outcome none (its_rest k d row j h)))
+    ∙ sym (finished_here attach g outcome row.token row d.jobs j.differ j.found ∙ ap (is_left attach g row) (left_kept row.trigger row.plan outcome none j.planned.rest))
 
 kept_by : (k : KernelState) (d : DaemonState) (row : JobPlan) (outcome : Outcome) (fs attach : ℕ) (g : Trigger) (token : ℕ) (b : Bool) → (token == row.token) ≡ b → IsJob d row → writes (next_of row.plan) ≡ None → BookAgrees k d → IsServed k d fs attach → g.fs ≡ fs →
     is_pending_for token (record_of d.book g) ≡ is_to_record attach g (job_of (finished_in row.token outcome d.jobs) token)
@@ -63,7 +61,6 @@ goes_on_kept k d row outcome j none h = record {
   pending = λ fs attach s g same token.
       ap (λ (w : Option Writing). is_pending_for token (record_of (book_after w d.book) g)) (its_writing d row None j none)
       ∙ kept_by k d row outcome fs attach g token (token == row.token) refl j none h (before k d row outcome fs attach s) same;
-  plans = finished_rests row.token outcome d.jobs h.plans;
   held = h.held;
   given = h.given;
 }
@@ -131,7 +128,7 @@ written_by k d row outcome trigger entry fs attach g token false false differs o
 -- the record is pending no more, and the job has it no longer to write
 pub goes_on_written : (k : KernelState) (d : DaemonState) (row : JobPlan) (outcome : Outcome) (trigger : Trigger) (entry : Option Record) → IsJob d row → IsWriting d row trigger entry → BookAgrees k d → BookAgrees k (finished row.token outcome d)
 goes_on_written k d row outcome trigger entry j w h =
-    let p = left_written row.trigger row.plan outcome trigger entry w.next (its_rest k d row j h) in
+    let p = left_written row.trigger row.plan outcome trigger entry w.next j.planned.rest in
     let writing : Writing = record { trigger = trigger; entry = entry } in
     record {
       pending = λ fs attach s g same token.
@@ -139,7 +136,6 @@ goes_on_written k d row outcome trigger entry j w h =
           ∙ ap (is_pending_for token) (recorded_is trigger entry d.book g)
           ∙ ap (λ (t : Trigger). is_pending_for token (if same_trigger t g then entry else record_of d.book g)) p.trigger_is
           ∙ written_by k d row outcome trigger entry fs attach g token (token == row.token) (same_trigger row.trigger g) refl refl j p w.holds h (before k d row outcome fs attach s) same;
-      plans = finished_rests row.token outcome d.jobs h.plans;
       held = h.held;
       given = h.given;
     }

@@ -100,7 +100,6 @@ pub attached_kept : (k : KernelState) (d : DaemonState) (direct : Bool) (timeout
     BookAgrees (attached_at direct timeout k at) (with_attachment (k.last_fs + 1) (k.last_attach + 1) path d)
 attached_kept k d direct timeout at path given h = record {
   pending = λ fs attach s g same token. attached_by k d direct timeout at path fs attach g token (k.last_fs + 1 == fs) refl given h s same;
-  plans = h.plans;
   held = different_more (λ (row : HeldRow). row.fs) d.held (record { fs = k.last_fs + 1; attach = k.last_attach + 1 }) h.held (not_held k d h);
   given = All-push (λ (row : HeldRow). row.fs ≤ k.last_fs + 1) d.held (record { fs = k.last_fs + 1; attach = k.last_attach + 1 })
       (All-weaker (λ (row : HeldRow). row.fs ≤ k.last_fs) (λ (row : HeldRow). row.fs ≤ k.last_fs + 1) (λ row least. omega (arith, least)) d.held h.given) (omega arith);
@@ -111,7 +110,6 @@ attached_kept k d direct timeout at path given h = record {
 pub dead_kept : (k : KernelState) (d : DaemonState) → BookAgrees k d → BookAgrees k (dead d)
 dead_kept k d h = record {
   pending = λ fs attach s g same token. let held : None ≡ Some attach = s.held in absurd cc;
-  plans = h.plans;
   held = tt;
   given = All-nil (λ (row : HeldRow). row.fs ≤ k.last_fs);
 }
@@ -158,7 +156,6 @@ reattached_kept k d fs row e given h =
     let new : HeldRow = record { fs = fs; attach = k.last_attach + 1 } in
     record {
       pending = λ f attach s g same token. again_by k d fs f attach g token (fs == f) refl given h s same;
-      plans = h.plans;
       held = different_more (λ (r : HeldRow). r.fs) (filter keep d.held) new (different_kept (λ (r : HeldRow). r.fs) keep d.held h.held) (gone (λ (r : HeldRow). r.fs) fs d.held);
       given = All-push (λ (r : HeldRow). r.fs ≤ k.last_fs) (filter keep d.held) new (All-filter keep (λ (r : HeldRow). r.fs ≤ k.last_fs) d.held h.given) (known_fs k d fs row given e);
     }

@@ -1,7 +1,6 @@
 -- A job that begins leaves the daemon's book right: its record is pending, unless it only acknowledges.
 use Rattle.std.proofs.Common.{◌≡◌, ℕ, Bool, true, false, [], ◌∷◌, ◌++◌, Option, Some, None, refl, sym, ap, subst, ◌∙◌}
 use Rattle.std.specs.Prelude.{◌==◌, not, is_some, if◌then◌else◌}
-use Rattle.std.proofs.lemmas.List.Elements.{All-push}
 use Rattle.am_names.specs.Trigger.{same_trigger}
 use Rattle.am_names.specs.declared.trigger.Trigger.{Trigger}
 use Rattle.am_names.specs.declared.row.TokenKind.{TokenKind}
@@ -22,8 +21,9 @@ use Rattle.am_daemon.specs.Packets.{trigger_of, plan_of_packet, pending, pending
 use Rattle.am_daemon.specs.Deliveries.{job_of, job_for, is_busy, taken_up}
 use Rattle.am_laws.proofs.Bools.{or_no}
 use Rattle.am_laws.proofs.Packets.{nat_is, nat_same}
-use Rattle.am_machine.specs.Invariant.Books.{IsServed, is_pending_for, has_record_left, is_to_record, IsRest, BookAgrees}
-use Rattle.am_machine.proofs.PlanRests.{plan_rest, plan_left}
+use Rattle.am_machine.specs.Invariant.Planned.{has_record_left}
+use Rattle.am_machine.specs.Invariant.Books.{IsServed, is_pending_for, is_to_record, BookAgrees}
+use Rattle.am_machine.proofs.PlanRests.{plan_left}
 use Rattle.am_machine.proofs.BookRecords.{recorded_is, settled_for}
 use Rattle.am_machine.proofs.BookFound.{find_others, find_new}
 use Rattle.am_machine.proofs.BookJobs.{is_left, never_left}
@@ -124,7 +124,6 @@ taken_kept k d own packet m h = record {
   pending = λ fs attach s g same token.
       ap (is_pending_for token) (told_is (is_reply (plan_of_packet d packet)) d packet (pending_of d packet) g)
       ∙ taken_by k d own packet fs attach g token (packet.token == token) refl m h (before k d own packet fs attach s) same;
-  plans = All-push (λ (r : JobPlan). IsRest r.trigger r.plan) d.jobs (job_for own packet d) h.plans (plan_rest (token_kind packet.kind) (trigger_of packet) (mounted_for d packet) (entry_of d (trigger_of packet)));
   held = h.held;
   given = h.given;
 }

@@ -1,9 +1,8 @@
 -- What is left of a job that goes on, and which attachment the daemon holds.
 use Rattle.std.proofs.Common.{◌≡◌, ℕ, Bool, true, false, cond, List, [], ◌∷◌, map, Some, None, refl, sym, ap, subst, ◌∙◌}
 use Rattle.std.specs.Prelude.{◌==◌, ◌||◌, ◌&&◌, not, is_some, find, if◌then◌else◌}
-use Rattle.std.specs.List.{list_any, All}
+use Rattle.std.specs.List.{list_any}
 use Rattle.std.specs.Option.{option_map}
-use Rattle.std.proofs.lemmas.List.Elements.{All-cons, All-head, All-tail}
 use Rattle.am_names.specs.Trigger.{same_trigger}
 use Rattle.am_names.specs.declared.trigger.Trigger.{Trigger}
 use Rattle.am_state.specs.declared.daemon_row.HeldRow.{HeldRow}
@@ -14,26 +13,9 @@ use Rattle.am_daemon.specs.Deliveries.{job_of}
 use Rattle.am_daemon.specs.Acts.{walked, is_ended, going, finished_in}
 use Rattle.am_laws.proofs.Packets.{nat_is}
 use Rattle.am_machine.specs.Invariant.Traces.{has, AreDifferent}
-use Rattle.am_machine.specs.Invariant.Books.{has_record_left, is_to_record, IsRest}
+use Rattle.am_machine.specs.Invariant.Planned.{has_record_left}
+use Rattle.am_machine.specs.Invariant.Books.{is_to_record}
 use Rattle.am_machine.proofs.BookFound.{absent, absent_and}
-use Rattle.am_machine.proofs.PlanRests.{goes_on_rest}
-
--- ---- each job that goes on has a rest of its plan left
-
-going_rests : (row : JobPlan) (jobs : List JobPlan) (ended : Bool) → IsRest row.trigger row.plan → All (λ (r : JobPlan). IsRest r.trigger r.plan) jobs → All (λ (r : JobPlan). IsRest r.trigger r.plan) (if ended then jobs else row ∷ jobs)
-going_rests row jobs true h rests = rests
-going_rests row jobs false h rests = All-cons (λ (r : JobPlan). IsRest r.trigger r.plan) row jobs h rests
-
-finished_by : (job : ℕ) (outcome : Outcome) (row : JobPlan) (jobs : List JobPlan) (b : Bool) → IsRest row.trigger row.plan → All (λ (r : JobPlan). IsRest r.trigger r.plan) jobs → All (λ (r : JobPlan). IsRest r.trigger r.plan) (finished_in job outcome jobs) →
-    All (λ (r : JobPlan). IsRest r.trigger r.plan) (if b then going (walked outcome row) jobs else row ∷ finished_in job outcome jobs)
-finished_by job outcome row jobs true h rests later = going_rests (walked outcome row) jobs (is_ended (walked outcome row)) (goes_on_rest row.trigger row.plan outcome h) rests
-finished_by job outcome row jobs false h rests later = All-cons (λ (r : JobPlan). IsRest r.trigger r.plan) row (finished_in job outcome jobs) h later
-
-pub finished_rests : (job : ℕ) (outcome : Outcome) (jobs : List JobPlan) → All (λ (r : JobPlan). IsRest r.trigger r.plan) jobs → All (λ (r : JobPlan). IsRest r.trigger r.plan) (finished_in job outcome jobs)
-finished_rests job outcome [] h = h
-finished_rests job outcome (row ∷ jobs) h =
-    let rests = All-tail (λ (r : JobPlan). IsRest r.trigger r.plan) row jobs h in
-    finished_by job outcome row jobs (row.token == job) (All-head (λ (r : JobPlan). IsRest r.trigger r.plan) row jobs h) rests (finished_rests job outcome jobs rests)
 
 -- ---- what the job itself has still to write
 

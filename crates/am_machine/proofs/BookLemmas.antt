@@ -39,8 +39,10 @@ use Rattle.am_machine.specs.Events.Acts as acts
 use Rattle.am_machine.specs.Invariant.Traces.{AreDifferent}
 use Rattle.am_machine.specs.Invariant.Attachments.{AreGiven}
 use Rattle.am_machine.specs.Invariant.Tokens.{TokensAgree}
-use Rattle.am_machine.specs.Invariant.Books.{IsRest, BookAgrees}
+use Rattle.am_machine.specs.Invariant.Planned.{IsPlanned, ArePlanned}
+use Rattle.am_machine.specs.Invariant.Books.{BookAgrees}
 use Rattle.am_machine.proofs.TraceRows.{found_passes}
+use Rattle.am_machine.proofs.TokenLists.{all_found}
 use Rattle.am_machine.proofs.BookNarrows.{Narrows, narrowed, same_attachments, stays}
 use Rattle.am_machine.proofs.BookWalks as walks
 use Rattle.am_machine.proofs.BookActs.{IsJob, goes_on_kept, goes_on_written}
@@ -51,7 +53,7 @@ use Rattle.am_machine.proofs.BookEvents.{Keeps, either, where_true, where_false,
 -- ---- deliver
 
 -- a packet without a fault
-no_fault : (known held busy : Bool) → not (is_some (if not known then Some UnknownFs else if not held then Some OldAttach else if busy then Some Busy else None)) ≡ true → (held ≡ true) × (busy ≡ false)
+pub no_fault : (known held busy : Bool) → not (is_some (if not known then Some UnknownFs else if not held then Some OldAttach else if busy then Some Busy else None)) ≡ true → (held ≡ true) × (busy ≡ false)
 no_fault true true false h = (refl, refl)
 no_fault true true true h = absurd cc
 no_fault true false busy h = absurd cc
@@ -143,52 +145,55 @@ acted (Some (act.Record trigger entry)) s row ok e j = record_act s row trigger 
 acted (Some (act.Reply status)) s row ok e j = reply (answer_refusal s.kernel row.attach row.token) s row status j (ap writes e)
 
 -- the job that is found has the number
-its_job : (d : DaemonState) (number : ℕ) (row : JobPlan) → AreDifferent (map (λ (r : JobPlan). r.token) d.jobs) → job_of d.jobs number ≡ Some row → IsJob d row
-its_job d number row differ e =
+pub its_job : (d : DaemonState) (number : ℕ) (row : JobPlan) → ArePlanned d.jobs → AreDifferent (map (λ (r : JobPlan). r.token) d.jobs) → job_of d.jobs number ≡ Some row → IsJob d row
+its_job d number row planned differ e =
     let same = nat_is row.token number (found_passes (λ (r : JobPlan). r.token == number) d.jobs row e) in
-    record { differ = differ; found = subst (λ (k : ℕ). job_of d.jobs k ≡ Some row) (sym same) e }
+    record {
+      differ = differ;
+      found = subst (λ (k : ℕ). job_of d.jobs k ≡ Some row) (sym same) e;
+      planned = all_found IsPlanned (λ (r : JobPlan). r.token == number) d.jobs row planned e;
+    }
 
-acted_at : (row : Option JobPlan) (s : State) (number : ℕ) (ok : Bool) → job_of s.daemon.jobs number ≡ row → AreDifferent (map (λ (r : JobPlan). r.token) s.daemon.jobs) → Keeps s (acts.acted_at row s ok)
-acted_at None s number ok e differ = refuses s _
-acted_at (Some row) s number ok e differ = acted (next_of row.plan) s row ok refl (its_job s.daemon number row differ e)
+acted_at : (row : Option JobPlan) (s : State) (number : ℕ) (ok : Bool) → job_of s.daemon.jobs number ≡ row → ArePlanned s.daemon.jobs → AreDifferent (map (λ (r : JobPlan). r.token) s.daemon.jobs) → Keeps s (acts.acted_at row s ok)
+acted_at None s number ok e planned differ = refuses s _
+acted_at (Some row) s number ok e planned differ = acted (next_of row.plan) s row ok refl (its_job s.daemon number row planned differ e)
 
-act_job : (s : State) (number : ℕ) (ok : Bool) → AreDifferent (map (λ (r : JobPlan). r.token) s.daemon.jobs) → Keeps s (acts.act_outcome s number ok)
-act_job s number ok differ = acted_at (job_of s.daemon.jobs number) s number ok refl differ
+act_job : (s : State) (number : ℕ) (ok : Bool) → ArePlanned s.daemon.jobs → AreDifferent (map (λ (r : JobPlan). r.token) s.daemon.jobs) → Keeps s (acts.act_outcome s number ok)
+act_job s number ok planned differ = acted_at (job_of s.daemon.jobs number) s number ok refl planned differ
 
 -- ---- every event
 
-outcome_keeps : (s : State) (event : Event) → AreGiven s.kernel s.daemon → AreDifferent (map (λ (r : JobPlan). r.token) s.daemon.jobs) → Keeps s (outcome_of s event)
-outcome_keeps s (events.Attach path) given differ = from.attach s path given
-outcome_keeps s (events.Mount ns path) given differ = from.mount s ns path
-outcome_keeps s (events.Bind ns source target) given differ = from.bind s ns source target
-outcome_keeps s (events.Umount ns path) given differ = from.umount s ns path
-outcome_keeps s (events.Change ns path change) given differ = from.change_mount s ns path change
-outcome_keeps s (events.Kind ns path) given differ = from.kind s ns path
-outcome_keeps s (events.CopyNamespace ns) given differ = from.copy_namespace s ns
-outcome_keeps s (events.DropNamespace ns) given differ = from.drop_namespace s ns
-outcome_keeps s (events.Walk walker ns path now pipe) given differ = from.goes_on _ s (moment_of s now) (walks.walk pipe s.kernel (first_begin walker ns path (moment_of s now)))
-outcome_keeps s (events.Resume walker now pipe) given differ = from.goes_on _ s (moment_of s now) (walks.resume pipe s.kernel walker (moment_of s now))
-outcome_keeps s (events.Leave walker) given differ = from.leave s walker
-outcome_keeps s (events.Expire walker fs now immediate pipe) given differ = from.goes_on _ s (moment_of s now) (walks.expire pipe s.kernel walker fs (moment_of s now) immediate)
-outcome_keeps s (events.Deliver token bytes) given differ = deliver s token bytes
-outcome_keeps s (events.Act job ok) given differ = act_job s job ok differ
-outcome_keeps s (events.Repeat attach token status) given differ = from.repeat s attach token
-outcome_keeps s (events.Catatonic attach fs) given differ = from.catatonic s attach fs
-outcome_keeps s (events.AdminCatatonic fs) given differ = from.admin_catatonic s fs
-outcome_keeps s (events.Timeout attach fs timeout) given differ = from.set_timeout s attach fs timeout
-outcome_keeps s events.Die given differ = from.die s
-outcome_keeps s (events.Reattach fs) given differ = from.reattach s fs given
-outcome_keeps s (events.Record trigger) given differ = from.read_record s trigger
+outcome_keeps : (s : State) (event : Event) → AreGiven s.kernel s.daemon → ArePlanned s.daemon.jobs → AreDifferent (map (λ (r : JobPlan). r.token) s.daemon.jobs) → Keeps s (outcome_of s event)
+outcome_keeps s (events.Attach path) given planned differ = from.attach s path given
+outcome_keeps s (events.Mount ns path) given planned differ = from.mount s ns path
+outcome_keeps s (events.Bind ns source target) given planned differ = from.bind s ns source target
+outcome_keeps s (events.Umount ns path) given planned differ = from.umount s ns path
+outcome_keeps s (events.Change ns path change) given planned differ = from.change_mount s ns path change
+outcome_keeps s (events.Kind ns path) given planned differ = from.kind s ns path
+outcome_keeps s (events.CopyNamespace ns) given planned differ = from.copy_namespace s ns
+outcome_keeps s (events.DropNamespace ns) given planned differ = from.drop_namespace s ns
+outcome_keeps s (events.Walk walker ns path now pipe) given planned differ = from.goes_on _ s (moment_of s now) (walks.walk pipe s.kernel (first_begin walker ns path (moment_of s now)))
+outcome_keeps s (events.Resume walker now pipe) given planned differ = from.goes_on _ s (moment_of s now) (walks.resume pipe s.kernel walker (moment_of s now))
+outcome_keeps s (events.Leave walker) given planned differ = from.leave s walker
+outcome_keeps s (events.Expire walker fs now immediate pipe) given planned differ = from.goes_on _ s (moment_of s now) (walks.expire pipe s.kernel walker fs (moment_of s now) immediate)
+outcome_keeps s (events.Deliver token bytes) given planned differ = deliver s token bytes
+outcome_keeps s (events.Act job ok) given planned differ = act_job s job ok planned differ
+outcome_keeps s (events.Repeat attach token status) given planned differ = from.repeat s attach token
+outcome_keeps s (events.Catatonic attach fs) given planned differ = from.catatonic s attach fs
+outcome_keeps s (events.AdminCatatonic fs) given planned differ = from.admin_catatonic s fs
+outcome_keeps s (events.Timeout attach fs timeout) given planned differ = from.set_timeout s attach fs timeout
+outcome_keeps s events.Die given planned differ = from.die s
+outcome_keeps s (events.Reattach fs) given planned differ = from.reattach s fs given
+outcome_keeps s (events.Record trigger) given planned differ = from.read_record s trigger
 
 -- an outcome leaves the book right
-pub outcome_book : (s : State) (event : Event) → AreGiven s.kernel s.daemon → TokensAgree s.kernel s.daemon.jobs → BookAgrees s.kernel s.daemon → BookAgrees (after s (outcome_of s event)).kernel (after s (outcome_of s event)).daemon
-outcome_book s event given tokens h = (outcome_keeps s event given tokens.numbers).book h
+pub outcome_book : (s : State) (event : Event) → AreGiven s.kernel s.daemon → TokensAgree s.kernel s.daemon.jobs → ArePlanned s.daemon.jobs → BookAgrees s.kernel s.daemon → BookAgrees (after s (outcome_of s event)).kernel (after s (outcome_of s event)).daemon
+outcome_book s event given tokens planned h = (outcome_keeps s event given planned tokens.numbers).book h
 
 -- in the initial world nothing is served, and nothing is written down
 pub initial_book : (opening : Opening) → BookAgrees (opening_of opening).kernel (opening_of opening).daemon
 initial_book opening = record {
   pending = λ fs attach s g same token. let held : None ≡ Some attach = s.held in absurd cc;
-  plans = All-nil (λ (row : JobPlan). IsRest row.trigger row.plan);
   held = tt;
   given = All-nil (λ (row : HeldRow). row.fs ≤ (opening_of opening).kernel.last_fs);
 }

@@ -32,7 +32,6 @@ served_before k made d fs attach n s = record { current = n.current fs attach s.
 pub narrowed : (k made : KernelState) (d : DaemonState) → Narrows k made → BookAgrees k d → BookAgrees made d
 narrowed k made d n h = record {
   pending = λ fs attach s g same token. h.pending fs attach (served_before k made d fs attach n s) g same token;
-  plans = h.plans;
   held = h.held;
   given = All-weaker (λ (row : HeldRow). row.fs ≤ k.last_fs) (λ (row : HeldRow). row.fs ≤ made.last_fs) (λ row least. omega (arith, least, n.given)) d.held h.given;
 }

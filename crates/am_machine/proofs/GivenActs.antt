@@ -30,7 +30,7 @@ use Rattle.am_machine.proofs.TraceRows.{found_passes}
 use Rattle.am_machine.proofs.TokenLists.{all_found}
 use Rattle.am_machine.proofs.TokenClose.{dev_of}
 use Rattle.am_machine.proofs.TokenJobs.{finished_all}
-use Rattle.am_machine.proofs.GivenPlans.{writes_own}
+use Rattle.am_machine.proofs.PlanRests.{left_written}
 use Rattle.am_machine.proofs.GivenSites.{rise_all}
 use Rattle.am_machine.proofs.GivenRows.{book_recorded}
 
@@ -93,5 +93,5 @@ given_finished k d row outcome is planned differ h =
       known = h.known;
       jobs = finished_all (IsOld k) (IsOld k) row.token outcome row (λ r other old. old) (λ old ended. old) d.jobs is differ h.jobs;
       book = subst (λ (o : Option JobPlan). All (Below k.last_fs) (book_after (writes (next_in o)) d.book)) (sym is)
-          (after_by k.last_fs (next_of row.plan) d.book (λ g entry e. subst (λ (t : Trigger). t.fs ≤ k.last_fs) (sym (writes_own row.trigger row.plan g entry planned.own e)) its.1) h.book);
+          (after_by k.last_fs (next_of row.plan) d.book (λ g entry e. subst (λ (t : Trigger). t.fs ≤ k.last_fs) (sym (left_written row.trigger row.plan outcome g entry e planned.rest).trigger_is) its.1) h.book);
     }

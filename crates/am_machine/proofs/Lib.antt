@@ -25,6 +25,7 @@ pub mod TokenJobs
 pub mod TokenNames
 pub mod TokenDeliver
 pub mod TokenActs
+pub mod PlanRests
 pub mod GivenPlans
 pub mod GivenRows
 pub mod GivenActs
@@ -49,7 +50,6 @@ pub mod PlaceAttached
 pub mod PlaceEvents
 pub mod PlaceActs
 pub mod PlaceLemmas
-pub mod PlanRests
 pub mod BookRecords
 pub mod BookFound
 pub mod BookNarrows

@@ -18,7 +18,7 @@ use Rattle.am_job.specs.Laws.{IsEnded, AcknowledgesLast}
 use Rattle.am_job.proofs.PlanLemmas.{plan_acknowledges}
 use Rattle.am_daemon.specs.Acts.{writes}
 use Rattle.am_daemon.specs.Packets.{is_pending}
-use Rattle.am_machine.specs.Invariant.Books.{has_record_left, Precedes, IsRest}
+use Rattle.am_machine.specs.Invariant.Planned.{has_record_left, Precedes, IsRest}
 
 -- ---- a plan begins as a rest of itself
 
@@ -45,7 +45,7 @@ rmdir_rest g (Some name) rest h = (h.0, ((h.0, h.1), (λ mount. (h.0, h.1)), (h.
 mount_rest : (g : Trigger) (entry : EntryText) → IsUnwritten g (mount_entry g entry)
 mount_rest g entry =
     let failed = rmdir_rest g g.name (without_mount g) (refl, book_rest g None Fail refl) in
-    (failed.0, ((failed.0, failed.1), (λ mount. (refl, book_rest g (Some (Mounted mount)) Ready refl)), (failed.0, failed.1)))
+    (failed.0, (((refl, failed.0), failed.1), (λ mount. ((refl, refl), book_rest g (Some (Mounted mount)) Ready refl)), ((refl, failed.0), failed.1)))
 
 pub plan_rest : (kind : TokenKind) (g : Trigger) (mounted : Option ℕ) (entry : Option EntryText) → IsRest g (plan_for kind g mounted entry)
 plan_rest Missing g (Some mount) entry = reply_rest g Ready
@@ -53,15 +53,15 @@ plan_rest Missing g None (Some entry) = (mkdir_rest g g.name (mount_entry g entr
 plan_rest Missing g None None = book_rest g None Fail refl
 plan_rest Expire g (Some mount) entry =
     let done = rmdir_rest g g.name (book_and_reply g None Ready) (refl, book_rest g None Ready refl) in
-    ((done.0, done.1), (λ m. (done.0, done.1)), (refl, book_rest g (Some (Mounted mount)) Fail refl))
+    (((refl, done.0), done.1), (λ m. ((refl, done.0), done.1)), ((refl, refl), book_rest g (Some (Mounted mount)) Fail refl))
 plan_rest Expire g None entry = reply_rest g Fail
 
 -- ---- the record is still to be written where a plan is more than a reply
 
 left_by : (g : Trigger) (a : Act) (done : Plan) (made : ℕ → Plan) (failed : Plan) → IsRest g (Next a done made failed) → has_record_left (Next a done made failed) ≡ not (is_reply (Next a done made failed))
 left_by g (act.Mkdir trigger) done made failed h = h.0.0
-left_by g (act.Mount trigger entry) done made failed h = h.2.0
-left_by g (act.Umount trigger) done made failed h = h.2.0
+left_by g (act.Mount trigger entry) done made failed h = h.2.0.1
+left_by g (act.Umount trigger) done made failed h = h.2.0.1
 left_by g (act.Rmdir trigger) done made failed h = h.0.0
 left_by g (act.Record trigger entry) done made failed h = refl
 left_by g (act.Reply status) done made failed h = refl
@@ -93,8 +93,8 @@ ended_none (Next a done made failed) h = absurd h
 
 kept_by : (g : Trigger) (a : Act) (done : Plan) (made : ℕ → Plan) (failed : Plan) (rest : Plan) → writes (Some a) ≡ None → IsRest g (Next a done made failed) → Precedes g a rest → has_record_left rest ≡ has_record_left (Next a done made failed)
 kept_by g (act.Mkdir trigger) done made failed rest none h p = p ∙ sym h.0.0
-kept_by g (act.Mount trigger entry) done made failed rest none h p = p ∙ sym h.2.0
-kept_by g (act.Umount trigger) done made failed rest none h p = p ∙ sym h.2.0
+kept_by g (act.Mount trigger entry) done made failed rest none h p = p.1 ∙ sym h.2.0.1
+kept_by g (act.Umount trigger) done made failed rest none h p = p.1 ∙ sym h.2.0.1
 kept_by g (act.Rmdir trigger) done made failed rest none h p = p ∙ sym h.0.0
 kept_by g (act.Record trigger entry) done made failed rest none h p = absurd cc
 kept_by g (act.Reply status) done made failed rest none h p = ended_none rest p

@@ -36,7 +36,7 @@ use Rattle.am_machine.specs.Invariant.Traces.{Asked}
 use Rattle.am_machine.specs.Invariant.Tokens.{IsInPipe}
 use Rattle.am_machine.specs.Invariant.Records.{is_of_kind, IsOfItsToken, AreOfTheirTokens}
 use Rattle.am_machine.specs.Invariant.Planned.{IsPlanned}
-use Rattle.am_machine.proofs.GivenPlans.{writes_settled}
+use Rattle.am_machine.proofs.PlanRests.{left_written}
 use Rattle.am_machine.proofs.TokenLists.{mapped_some}
 use Rattle.am_machine.proofs.TokenStays.{bare}
 use Rattle.am_machine.proofs.TokenClose.{kept_row}
@@ -177,4 +177,4 @@ after_by w (Some (act.Reply status)) book settled h = h
 pub finished_fits : (w : WaitRows) (d : DaemonState) (row : JobPlan) (outcome : Outcome) → job_of d.jobs row.token ≡ Some row → IsPlanned row → AreOfTheirTokens w d.book → AreOfTheirTokens w (finished row.token outcome d).book
 finished_fits w d row outcome is planned h =
     subst (λ (o : Option JobPlan). AreOfTheirTokens w (book_after (writes (next_in o)) d.book)) (sym is)
-    (after_by w (next_of row.plan) d.book (λ g entry e. writes_settled row.trigger row.plan g entry planned.own e) h)
+    (after_by w (next_of row.plan) d.book (λ g entry e. (left_written row.trigger row.plan outcome g entry e planned.rest).settled) h)

@@ -131,9 +131,9 @@ outcome_agree s event traced h =
       tokens = next.tokens;
       planned = next.planned;
       places = outcome_places s event h.places;
-      book = outcome_book s event h.given h.tokens h.book;
+      book = outcome_book s event h.given h.tokens h.planned h.book;
       records = next.records;
-      stands = outcome_stands s event h.given h.tokens h.places h.book h.stands;
+      stands = outcome_stands s event h.given h.tokens h.planned h.places h.book h.stands;
     }
 
 -- ---- and every world is consistent

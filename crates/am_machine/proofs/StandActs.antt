@@ -1,7 +1,6 @@
 -- A job that goes on leaves right what the daemon knows of the mounts.
 use Rattle.std.proofs.Common.{◌≡◌, ℕ, Bool, true, false, List, Option, Some, None, refl, sym, ap, subst, ◌∙◌}
 use Rattle.std.specs.Prelude.{◌==◌, ◌&&◌, if◌then◌else◌}
-use Rattle.std.specs.List.{All}
 use Rattle.am_names.specs.Trigger.{same_trigger}
 use Rattle.am_names.specs.declared.trigger.Trigger.{Trigger}
 use Rattle.am_state.specs.declared.daemon_row.Record.{Record}
@@ -9,7 +8,6 @@ use Rattle.am_state.specs.declared.daemon_row.Record.TheVariants.{Mounting, Moun
 use Rattle.am_state.specs.declared.daemon_row.RecordRow.{RecordRow}
 use Rattle.am_job.specs.declared.act.Outcome.{Outcome}
 use Rattle.am_job.specs.Plans.{rest_of, next_of, claims, mount_in}
-use Rattle.am_job.specs.Laws.{ClaimsRight}
 use Rattle.am_job.specs.Book.{record_of}
 use Rattle.am_job.proofs.KeyLemmas.{is_one, is_itself, both_are}
 use Rattle.am_trigger.specs.declared.autofs.Autofs.{Autofs}
@@ -25,32 +23,16 @@ use Rattle.am_daemon.specs.Packets.{is_pending, mounted_in}
 use Rattle.am_daemon.specs.Acts.{next_in, writes, writing_of, book_after, walked, finished_in, finished}
 use Rattle.am_daemon.proofs.JobLemmas.{others_stay}
 use Rattle.am_laws.proofs.Packets.{nat_is, nat_same}
-use Rattle.am_machine.specs.Invariant.Books.{IsServed, is_pending_for, has_record_left, is_to_record, IsRest, BookAgrees}
-use Rattle.am_machine.specs.Invariant.Stands.{IsPlanOn}
+use Rattle.am_machine.specs.Invariant.Planned.{has_record_left}
+use Rattle.am_machine.specs.Invariant.Books.{IsServed, is_pending_for, is_to_record, BookAgrees}
 use Rattle.am_machine.proofs.PlanRests.{left_kept, Writes, left_written}
 use Rattle.am_machine.proofs.BookRecords.{recorded_is, settled_for, pending_once}
-use Rattle.am_machine.proofs.BookFound.{found_all}
 use Rattle.am_machine.proofs.BookNarrows.{Narrows}
 use Rattle.am_machine.proofs.BookActs.{IsJob, IsWriting, held_is}
 use Rattle.am_machine.proofs.StandKeeps.{Knows, Still, its_autofs, stands_still}
-use Rattle.am_machine.proofs.StandJobs.{finished_all, finished_found, rest_right, rest_on, MovesNothing, claims_kept}
+use Rattle.am_machine.proofs.StandJobs.{finished_found, MovesNothing, claims_kept}
 
 -- ---- the job
-
-pub its_rest : (k : KernelState) (d : DaemonState) (row : JobPlan) → IsJob d row → BookAgrees k d → IsRest row.trigger row.plan
-its_rest k d row j h = found_all (λ (r : JobPlan). IsRest r.trigger r.plan) (λ (r : JobPlan). r.token == row.token) d.jobs row h.plans j.found
-
-pub its_claims : (k : KernelState) (d : DaemonState) (row : JobPlan) → IsJob d row → Knows k d → ClaimsRight row.plan
-its_claims k d row j h = found_all (λ (r : JobPlan). ClaimsRight r.plan) (λ (r : JobPlan). r.token == row.token) d.jobs row h.claims_right j.found
-
-pub its_own : (k : KernelState) (d : DaemonState) (row : JobPlan) → IsJob d row → Knows k d → IsPlanOn row.trigger row.plan
-its_own k d row j h = found_all (λ (r : JobPlan). IsPlanOn r.trigger r.plan) (λ (r : JobPlan). r.token == row.token) d.jobs row h.own j.found
-
-all_right : (k : KernelState) (d : DaemonState) (row : JobPlan) (outcome : Outcome) → Knows k d → All (λ (r : JobPlan). ClaimsRight r.plan) (finished row.token outcome d).jobs
-all_right k d row outcome h = finished_all (λ (r : JobPlan). ClaimsRight r.plan) row.token outcome d.jobs (λ r right. rest_right r.plan outcome right) h.claims_right
-
-all_own : (k : KernelState) (d : DaemonState) (row : JobPlan) (outcome : Outcome) → Knows k d → All (λ (r : JobPlan). IsPlanOn r.trigger r.plan) (finished row.token outcome d).jobs
-all_own k d row outcome h = finished_all (λ (r : JobPlan). IsPlanOn r.trigger r.plan) row.token outcome d.jobs (λ r own. rest_on r.trigger r.plan outcome own) h.own
 
 -- what its next act writes
 book_is : (d : DaemonState) (row : JobPlan) (w : Option Writing) → IsJob d row → writes (next_of row.plan) ≡ w → book_after (writing_of row.token d) d.book ≡ book_after w d.book
@@ -79,18 +61,16 @@ goes_kept k d row outcome j none still book h = record {
       at_work_by k d row outcome job new (job == row.token) refl j found
       (λ is left.
       let rest : has_record_left (rest_of outcome row.plan) ≡ true = subst (λ (r : JobPlan). has_record_left r.plan ≡ true) is left in
-      let rests = its_rest k d row j book in
+      let rests = j.planned.rest in
       let first : has_record_left row.plan ≡ true = sym (left_kept row.trigger row.plan outcome none rests) ∙ rest in
       let system : row.trigger.fs ≡ fs = ap (λ (r : JobPlan). r.trigger.fs) (sym is) ∙ same in
       let attached : row.attach ≡ attach = ap (λ (r : JobPlan). r.attach) (sym is) ∙ under in
       subst (λ (r : JobPlan). mounted_on k r.trigger ≡ claims r.plan) (sym is)
-      (h.at_work fs attach was row.token row j.found system attached first ∙ sym (claims_kept row.trigger row.plan outcome still rests (its_claims k d row j h) rest)))
+      (h.at_work fs attach was row.token row j.found system attached first ∙ sym (claims_kept row.trigger row.plan outcome still rests j.planned.lawful.claims_right rest)))
       (λ other there left. h.at_work fs attach was job new there same under left);
   settled = λ fs attach s g same.
       subst (λ (rows : List RecordRow). is_pending (record_of rows g) ≡ false → mounted_on k g ≡ mounted_in (record_of rows g)) (sym (book_is d row None j none))
       (h.settled fs attach (before k d row outcome fs attach s) g same);
-  claims_right = all_right k d row outcome h;
-  own = all_own k d row outcome h;
 }
 
 pub goes_plainly : (k made : KernelState) (d : DaemonState) (row : JobPlan) (outcome : Outcome) → Narrows k made → Still k made → IsJob d row → writes (next_of row.plan) ≡ None → MovesNothing (next_of row.plan) outcome → BookAgrees k d → Knows k d →
@@ -133,8 +113,6 @@ goes_moved k made d row outcome j none m book h = record {
   settled = λ fs attach s g same.
       subst (λ (rows : List RecordRow). is_pending (record_of rows g) ≡ false → mounted_on made g ≡ mounted_in (record_of rows g)) (sym (book_is d row None j none))
       (λ written. settled_by fs attach (served fs attach s) g same written (same_trigger row.trigger g) refl);
-  claims_right = all_right k d row outcome h;
-  own = all_own k d row outcome h;
 }
   where
     served : (fs attach : ℕ) → IsServed made (finished row.token outcome d) fs attach → IsServed k d fs attach
@@ -186,12 +164,10 @@ goes_written k d row outcome trigger entry j w claimed book h = record {
   settled = λ fs attach s g same.
       subst (λ (o : Option Record). is_pending o ≡ false → mounted_on k g ≡ mounted_in o) (sym (record_is g))
       (settled_by fs attach (before k d row outcome fs attach s) g same (same_trigger row.trigger g) refl);
-  claims_right = all_right k d row outcome h;
-  own = all_own k d row outcome h;
 }
   where
     p : Writes row.trigger row.plan outcome trigger entry
-    p = left_written row.trigger row.plan outcome trigger entry w.next (its_rest k d row j book)
+    p = left_written row.trigger row.plan outcome trigger entry w.next j.planned.rest
 
     record_is : (g : Trigger) → record_of (finished row.token outcome d).book g ≡ (if same_trigger row.trigger g then entry else record_of d.book g)
     record_is g =

@@ -50,8 +50,6 @@ pub dead_stands : (k : KernelState) (d : DaemonState) → Knows k d → Knows k 
 dead_stands k d h = record {
   at_work = λ fs attach s job row found same under left. let held : None ≡ Some attach = s.held in absurd cc;
   settled = λ fs attach s g same written. let held : None ≡ Some attach = s.held in absurd cc;
-  claims_right = h.claims_right;
-  own = h.own;
 }
 
 -- ---- an autofs is attached
@@ -165,6 +163,4 @@ module _ (k : KernelState) (h : PlacesAgree k) (direct : Bool) (timeout : ℕ) (
       at_work = λ fs attach s job row found same under left.
           at_work_by fs attach (k.last_fs + 1 == fs) refl s job row found same (λ was. stands.at_work fs attach was job row found same under left);
       settled = λ fs attach s g same written. settled_by fs attach g (k.last_fs + 1 == fs) refl s same written;
-      claims_right = stands.claims_right;
-      own = stands.own;
     }

@@ -1,7 +1,6 @@
 -- A job that begins leaves right what the daemon knows of the mounts: it claims what the book said.
 use Rattle.std.proofs.Common.{◌≡◌, ℕ, Bool, true, false, [], ◌∷◌, ◌++◌, Option, Some, None, refl, sym, ap, subst, ◌∙◌}
 use Rattle.std.specs.Prelude.{◌==◌, not, if◌then◌else◌}
-use Rattle.std.proofs.lemmas.List.Elements.{All-push}
 use Rattle.am_names.specs.Trigger.{same_trigger}
 use Rattle.am_names.specs.declared.trigger.Trigger.{Trigger}
 use Rattle.am_names.specs.declared.row.TokenKind.{TokenKind}
@@ -11,9 +10,8 @@ use Rattle.am_wire.specs.declared.packet.Packet.{Packet}
 use Rattle.am_map.specs.EntryText.{EntryText}
 use Rattle.am_state.specs.declared.daemon_row.Record.{Record}
 use Rattle.am_job.specs.Book.{record_of, recorded}
-use Rattle.am_job.specs.Laws.{ClaimsRight}
 use Rattle.am_job.specs.Plans.{is_reply, plan_for, claims}
-use Rattle.am_job.proofs.PlanLemmas.{plan_right, plan_claims}
+use Rattle.am_job.proofs.PlanLemmas.{plan_claims}
 use Rattle.am_kernel.specs.State.{KernelState}
 use Rattle.am_kernel.specs.DaemonMounts.{mounted_on}
 use Rattle.am_daemon.specs.State.{DaemonState, JobPlan}
@@ -21,13 +19,12 @@ use Rattle.am_daemon.specs.Points.{entry_of}
 use Rattle.am_daemon.specs.Packets.{trigger_of, plan_of_packet, pending, pending_of, mounted_for, mounted_in, is_pending}
 use Rattle.am_daemon.specs.Deliveries.{job_of, job_for, taken_up}
 use Rattle.am_laws.proofs.Packets.{nat_is, nat_same}
-use Rattle.am_machine.specs.Invariant.Books.{IsServed, has_record_left}
-use Rattle.am_machine.specs.Invariant.Stands.{IsPlanOn}
+use Rattle.am_machine.specs.Invariant.Planned.{has_record_left}
+use Rattle.am_machine.specs.Invariant.Books.{IsServed}
 use Rattle.am_machine.proofs.PlanRests.{plan_left}
 use Rattle.am_machine.proofs.BookRecords.{recorded_is}
 use Rattle.am_machine.proofs.BookFound.{find_others, find_new}
 use Rattle.am_machine.proofs.BookDeliver.{MayTake}
-use Rattle.am_machine.proofs.StandJobs.{plan_on}
 use Rattle.am_machine.proofs.StandKeeps.{Knows}
 
 not_not : (b : Bool) → not b ≡ true → b ≡ false
@@ -88,6 +85,4 @@ module _ (k : KernelState) (d : DaemonState) (own : ℕ) (packet : Packet) (m : 
   taken_stands = record {
     at_work = λ fs attach s job row found same under left. at_work_by fs attach (before fs attach s) job row (packet.token == job) refl found same under left;
     settled = λ fs attach s g same written. settled_by fs attach (before fs attach s) g same (is_reply (plan_of_packet d packet)) refl written;
-    claims_right = All-push (λ (r : JobPlan). ClaimsRight r.plan) d.jobs (job_for own packet d) h.claims_right (plan_right (token_kind packet.kind) (trigger_of packet) (mounted_for d packet) (entry_of d (trigger_of packet)));
-    own = All-push (λ (r : JobPlan). IsPlanOn r.trigger r.plan) d.jobs (job_for own packet d) h.own (plan_on (token_kind packet.kind) (trigger_of packet) (mounted_for d packet) (entry_of d (trigger_of packet)));
   }

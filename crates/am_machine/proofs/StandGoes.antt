@@ -1,6 +1,6 @@
 -- Deliveries, and jobs that go on, leave right what the daemon knows of the mounts.
 use Rattle.std.proofs.Common.{◌≡◌, ℕ, ◌+◌, Bool, true, false, List, [], map, Option, Some, None, refl, sym, ap, subst, ◌∙◌, arith}
-use Rattle.std.specs.Prelude.{◌==◌, not, is_some, if◌then◌else◌}
+use Rattle.std.specs.Prelude.{not, is_some}
 use Rattle.am_names.specs.declared.errno.Errno.{Errno}
 use Rattle.am_names.specs.declared.errno.Errno.TheVariants as errnos
 use Rattle.am_names.specs.Trigger.{same_trigger}
@@ -22,13 +22,11 @@ use Rattle.am_job.specs.declared.act.Act.TheVariants as act
 use Rattle.am_job.specs.declared.act.Outcome as job
 use Rattle.am_job.specs.declared.act.Outcome.TheVariants as came
 use Rattle.am_job.specs.Plans.{next_of}
-use Rattle.am_daemon.specs.declared.fault.DaemonFault.TheVariants.{UnknownFs, OldAttach, Busy}
-use Rattle.am_daemon.specs.State.{DaemonState, JobPlan}
+use Rattle.am_daemon.specs.State.{JobPlan}
 use Rattle.am_daemon.specs.Attachments.{knows, holds}
 use Rattle.am_daemon.specs.Acts.{writes, finished}
 use Rattle.am_daemon.specs.Deliveries.{job_of, is_busy, delivery_fault, taken_up}
 use Rattle.am_laws.proofs.Bools.{and_both}
-use Rattle.am_laws.proofs.Packets.{nat_is}
 use Rattle.am_machine.specs.declared.answer.Answer.{Answer}
 use Rattle.am_machine.specs.State.{State}
 use Rattle.am_machine.specs.Events.Deliveries as deliveries
@@ -36,9 +34,9 @@ use Rattle.am_machine.specs.Events.Acts as acts
 use Rattle.am_machine.specs.Invariant.Traces.{AreDifferent}
 use Rattle.am_machine.specs.Invariant.Attachments.{RiseTo}
 use Rattle.am_machine.specs.Invariant.Places.{PlacesAgree}
+use Rattle.am_machine.specs.Invariant.Planned.{ArePlanned}
 use Rattle.am_machine.specs.Invariant.Books.{BookAgrees}
 use Rattle.am_machine.specs.Invariant.Stands.{OnTriggers}
-use Rattle.am_machine.proofs.TraceRows.{found_passes}
 use Rattle.am_machine.proofs.PlaceLeft.{removed_shrinks}
 use Rattle.am_machine.proofs.PlaceEvents.{else_none, not_false}
 use Rattle.am_machine.proofs.GivenCurrent.{attach_from_current}
@@ -47,21 +45,15 @@ use Rattle.am_machine.proofs.BookActs.{IsJob}
 use Rattle.am_machine.proofs.BookDeliver.{may_take}
 use Rattle.am_machine.proofs.StandTops.{none_there}
 use Rattle.am_machine.proofs.StandKeeps.{Knows, KeepsSites, keeps_all, kept_still, attached_autofs, stands_still, on_still}
+use Rattle.am_machine.proofs.BookLemmas.{no_fault, its_job}
 use Rattle.am_machine.proofs.StandJobs.{MovesNothing, mounts, unmounts, claims_record}
-use Rattle.am_machine.proofs.StandActs.{its_rest, its_claims, its_own, goes_plainly, goes_moved, goes_written}
+use Rattle.am_machine.proofs.StandActs.{goes_plainly, goes_moved, goes_written}
 use Rattle.am_machine.proofs.StandMounts.{mounted_others, mounted_here, mounted_on_triggers}
 use Rattle.am_machine.proofs.StandUmounts.{unmounted_others, unmounted_here, unmounted_on_triggers}
 use Rattle.am_machine.proofs.StandDeliver.{taken_stands}
 use Rattle.am_machine.proofs.StandOutcomes.{Stands, either, where_true, where_false, refuses}
 
 -- ---- deliver
-
--- a packet without a fault
-no_fault : (known held busy : Bool) → not (is_some (if not known then Some UnknownFs else if not held then Some OldAttach else if busy then Some Busy else None)) ≡ true → (held ≡ true) × (busy ≡ false)
-no_fault true true false h = (refl, refl)
-no_fault true true true h = absurd cc
-no_fault true false busy h = absurd cc
-no_fault false held busy h = absurd cc
 
 takes : (s : State) (row : QueuedRow) → not (is_some (delivery_fault row.attach row.packet s.daemon)) ≡ true → Stands s (deliveries.takes s row)
 takes s row fine =
@@ -133,7 +125,7 @@ mounts_on s row trigger entry w e may = record {
       let free : IsFree k.table.rows (location_of k trigger.fs) (place_of trigger) = none_there k.table.rows (location_of k trigger.fs) (place_of trigger) w.places.whole.rising (none_of (mounted_on k trigger) third.0) in
       let current : attach_of k trigger.fs ≡ Some row.attach = attach_from_current k trigger.fs row.attach w.rise (not_false (is_current k trigger.fs row.attach) first.0) in
       let b = attached_autofs k trigger.fs row.attach current in
-      let p = mounts row.trigger trigger entry (k.table.last_mount + 1) row.plan e (its_rest k s.daemon row w.its_job w.book) (its_claims k s.daemon row w.its_job h) (its_own k s.daemon row w.its_job h) in
+      let p = mounts row.trigger trigger entry (k.table.last_mount + 1) row.plan e w.its_job.planned.rest w.its_job.planned.lawful.claims_right in
       goes_moved k made s.daemon row (came.Made (k.table.last_mount + 1)) w.its_job (ap writes e) (record {
         narrows = same_attachments k made (λ fs. refl) (omega arith);
         others = λ g a is other. mounted_others k w.places trigger b.0 b.1 g a is (subst (λ (t : Trigger). same_trigger t g ≡ false) (sym p.on) other);
@@ -165,7 +157,7 @@ unmounts_from (Some m) s row trigger is may live w e h =
     let made = without_mounts (gone_with k (Some m)) k in
     let current : attach_of k trigger.fs ≡ Some row.attach = attach_from_current k trigger.fs row.attach w.rise live in
     let b = attached_autofs k trigger.fs row.attach current in
-    let p = unmounts row.trigger trigger row.plan e (its_rest k s.daemon row w.its_job w.book) (its_claims k s.daemon row w.its_job h) (its_own k s.daemon row w.its_job h) in
+    let p = unmounts row.trigger trigger row.plan e w.its_job.planned.rest w.its_job.planned.lawful.claims_right in
     goes_moved k made s.daemon row came.Done w.its_job (ap writes e) (record {
       narrows = same_attachments k made (λ fs. refl) (omega arith);
       others = λ g a is_a other. unmounted_others k w.places trigger b.0 b.1 m is g a is_a (subst (λ (t : Trigger). same_trigger t g ≡ false) (sym p.on) other);
@@ -221,16 +213,10 @@ acted (Some (act.Rmdir trigger)) s row ok e w = rmdir (rmdir_refusal s.kernel ro
 acted (Some (act.Record trigger entry)) s row ok e w = record_act s row trigger entry w e
 acted (Some (act.Reply status)) s row ok e w = reply (answer_refusal s.kernel row.attach row.token) s row status w e
 
--- the job that is found has the number
-its_job : (d : DaemonState) (number : ℕ) (row : JobPlan) → AreDifferent (map (λ (r : JobPlan). r.token) d.jobs) → job_of d.jobs number ≡ Some row → IsJob d row
-its_job d number row differ e =
-    let same = nat_is row.token number (found_passes (λ (r : JobPlan). r.token == number) d.jobs row e) in
-    record { differ = differ; found = subst (λ (k : ℕ). job_of d.jobs k ≡ Some row) (sym same) e }
+acted_at : (row : Option JobPlan) (s : State) (number : ℕ) (ok : Bool) → job_of s.daemon.jobs number ≡ row → ArePlanned s.daemon.jobs → AreDifferent (map (λ (r : JobPlan). r.token) s.daemon.jobs) → RiseTo s.kernel.last_fs 0 s.kernel.attached → PlacesAgree s.kernel → BookAgrees s.kernel s.daemon → Stands s (acts.acted_at row s ok)
+acted_at None s number ok e planned differ rise places book = refuses s _
+acted_at (Some row) s number ok e planned differ rise places book =
+    acted (next_of row.plan) s row ok refl (record { its_job = its_job s.daemon number row planned differ e; rise = rise; places = places; book = book })
 
-acted_at : (row : Option JobPlan) (s : State) (number : ℕ) (ok : Bool) → job_of s.daemon.jobs number ≡ row → AreDifferent (map (λ (r : JobPlan). r.token) s.daemon.jobs) → RiseTo s.kernel.last_fs 0 s.kernel.attached → PlacesAgree s.kernel → BookAgrees s.kernel s.daemon → Stands s (acts.acted_at row s ok)
-acted_at None s number ok e differ rise places book = refuses s _
-acted_at (Some row) s number ok e differ rise places book =
-    acted (next_of row.plan) s row ok refl (record { its_job = its_job s.daemon number row differ e; rise = rise; places = places; book = book })
-
-pub act_job : (s : State) (number : ℕ) (ok : Bool) → AreDifferent (map (λ (r : JobPlan). r.token) s.daemon.jobs) → RiseTo s.kernel.last_fs 0 s.kernel.attached → PlacesAgree s.kernel → BookAgrees s.kernel s.daemon → Stands s (acts.act_outcome s number ok)
-act_job s number ok differ rise places book = acted_at (job_of s.daemon.jobs number) s number ok refl differ rise places book
+pub act_job : (s : State) (number : ℕ) (ok : Bool) → ArePlanned s.daemon.jobs → AreDifferent (map (λ (r : JobPlan). r.token) s.daemon.jobs) → RiseTo s.kernel.last_fs 0 s.kernel.attached → PlacesAgree s.kernel → BookAgrees s.kernel s.daemon → Stands s (acts.act_outcome s number ok)
+act_job s number ok planned differ rise places book = acted_at (job_of s.daemon.jobs number) s number ok refl planned differ rise places book

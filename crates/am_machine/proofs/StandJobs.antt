@@ -1,49 +1,22 @@
 -- What the acts that a job has left claim, as it goes on.
 use Rattle.std.proofs.Common.{◌≡◌, ℕ, Bool, true, false, cond, List, [], ◌∷◌, map, Option, Some, None, refl, sym, subst, ◌∙◌}
 use Rattle.std.specs.Prelude.{◌==◌, ⊤, if◌then◌else◌}
-use Rattle.std.specs.List.{All}
-use Rattle.std.proofs.lemmas.List.Elements.{All-cons, All-head, All-tail}
 use Rattle.am_names.specs.declared.trigger.Trigger.{Trigger}
-use Rattle.am_names.specs.declared.row.TokenKind.{TokenKind}
-use Rattle.am_names.specs.declared.row.TokenKind.TheVariants.{Missing, Expire}
-use Rattle.am_names.specs.declared.trigger.Status.{Status}
-use Rattle.am_names.specs.declared.trigger.Status.TheVariants.{Ready, Fail}
 use Rattle.am_map.specs.EntryText.{EntryText}
 use Rattle.am_state.specs.declared.daemon_row.Record.{Record}
-use Rattle.am_state.specs.declared.daemon_row.Record.TheVariants.{Mounted}
 use Rattle.am_job.specs.declared.act.Act.{Act}
 use Rattle.am_job.specs.declared.act.Act.TheVariants as act
 use Rattle.am_job.specs.declared.act.Outcome.{Outcome}
 use Rattle.am_job.specs.declared.act.Outcome.TheVariants.{Done, Made, Failed}
-use Rattle.am_job.specs.Plans.{Plan, Ended, Next, plan_for, rest_of, next_of, claims, mount_in, at_directory, without_mount, book_and_reply, reply, mount_entry}
+use Rattle.am_job.specs.Plans.{Plan, Ended, Next, rest_of, next_of, claims, mount_in}
 use Rattle.am_job.specs.Laws.{IsEnded, ClaimsRight, ClaimsFollow}
 use Rattle.am_daemon.specs.State.{JobPlan}
 use Rattle.am_daemon.specs.Deliveries.{job_of}
 use Rattle.am_daemon.specs.Acts.{walked, is_ended, going, finished_in}
 use Rattle.am_laws.proofs.Packets.{nat_is}
 use Rattle.am_machine.specs.Invariant.Traces.{has, AreDifferent}
-use Rattle.am_machine.specs.Invariant.Books.{has_record_left, IsRest}
-use Rattle.am_machine.specs.Invariant.Stands.{IsPlanOn}
+use Rattle.am_machine.specs.Invariant.Planned.{has_record_left, IsRest}
 use Rattle.am_machine.proofs.BookFound.{absent}
-
--- ---- all jobs keep what a job keeps that goes on
-
-module _ (P : JobPlan → Type 0) where
-  going_all : (row : JobPlan) (jobs : List JobPlan) (ended : Bool) → P row → All P jobs → All P (if ended then jobs else row ∷ jobs)
-  going_all row jobs true h rests = rests
-  going_all row jobs false h rests = All-cons P row jobs h rests
-
-  finished_by : (job : ℕ) (outcome : Outcome) (row : JobPlan) (jobs : List JobPlan) (b : Bool) → P row → P (walked outcome row) → All P jobs → All P (finished_in job outcome jobs) →
-      All P (if b then going (walked outcome row) jobs else row ∷ finished_in job outcome jobs)
-  finished_by job outcome row jobs true h g rests later = going_all (walked outcome row) jobs (is_ended (walked outcome row)) g rests
-  finished_by job outcome row jobs false h g rests later = All-cons P row (finished_in job outcome jobs) h later
-
-  pub finished_all : (job : ℕ) (outcome : Outcome) (jobs : List JobPlan) → ((row : JobPlan) → P row → P (walked outcome row)) → All P jobs → All P (finished_in job outcome jobs)
-  finished_all job outcome [] goes h = h
-  finished_all job outcome (row ∷ jobs) goes h =
-      let first = All-head P row jobs h in
-      let rests = All-tail P row jobs h in
-      finished_by job outcome row jobs (row.token == job) first (goes row first) rests (finished_all job outcome jobs goes rests)
 
 -- ---- the job that goes on has the rest of its plan left
 
@@ -66,19 +39,7 @@ finished_found outcome job row new (first ∷ jobs) differ e f = by (first.token
         subst (λ (r : JobPlan). new ≡ walked outcome r) same (going_found outcome job first new jobs (is_ended (walked outcome first)) is none f)
     by false is apart later e f = later e (subst (λ (b : Bool). cond b (Some first) (job_of (finished_in job outcome jobs) job) ≡ Some new) is f)
 
--- ---- what is left claims right, and is on the job's trigger
-
-pub rest_right : (plan : Plan) (outcome : Outcome) → ClaimsRight plan → ClaimsRight (rest_of outcome plan)
-rest_right Ended outcome h = h
-rest_right (Next a done made failed) Done h = h.0.1
-rest_right (Next a done made failed) (Made mount) h = (h.1 mount).1
-rest_right (Next a done made failed) Failed h = h.2.1
-
-pub rest_on : (g : Trigger) (plan : Plan) (outcome : Outcome) → IsPlanOn g plan → IsPlanOn g (rest_of outcome plan)
-rest_on g Ended outcome h = h
-rest_on g (Next a done made failed) Done h = h.1
-rest_on g (Next a done made failed) (Made mount) h = h.2 mount
-rest_on g (Next a done made failed) Failed h = h.3
+-- ---- what is left claims right
 
 follows : (a : Act) (done : Plan) (made : ℕ → Plan) (failed : Plan) (outcome : Outcome) → ClaimsRight (Next a done made failed) → ClaimsFollow a outcome (claims (Next a done made failed)) (rest_of outcome (Next a done made failed))
 follows a done made failed Done h = h.0.0
@@ -128,15 +89,15 @@ pub record Mounts (g : Trigger) (plan : Plan) (trigger : Trigger) (mount : ℕ) 
   pub left : has_record_left plan ≡ true
   pub claimed : claims (rest_of (Made mount) plan) ≡ Some mount
 
-mounts_by : (g trigger : Trigger) (entry : EntryText) (mount : ℕ) (a : Act) (done : Plan) (made : ℕ → Plan) (failed : Plan) → a ≡ act.Mount trigger entry → IsRest g (Next a done made failed) → ClaimsRight (Next a done made failed) → IsPlanOn g (Next a done made failed) → Mounts g (Next a done made failed) trigger mount
-mounts_by g trigger entry mount (act.Mount to what) done made failed e rest h own =
+mounts_by : (g trigger : Trigger) (entry : EntryText) (mount : ℕ) (a : Act) (done : Plan) (made : ℕ → Plan) (failed : Plan) → a ≡ act.Mount trigger entry → IsRest g (Next a done made failed) → ClaimsRight (Next a done made failed) → Mounts g (Next a done made failed) trigger mount
+mounts_by g trigger entry mount (act.Mount to what) done made failed e rest h =
     let same : to ≡ trigger = cc in
-    record { on = sym same ∙ own.0; left = rest.2.0; claimed = (h.1 mount).0 }
-mounts_by g trigger entry mount a done made failed e rest h own = absurd cc
+    record { on = sym same ∙ rest.2.0.0; left = rest.2.0.1; claimed = (h.1 mount).0 }
+mounts_by g trigger entry mount a done made failed e rest h = absurd cc
 
-pub mounts : (g trigger : Trigger) (entry : EntryText) (mount : ℕ) (plan : Plan) → next_of plan ≡ Some (act.Mount trigger entry) → IsRest g plan → ClaimsRight plan → IsPlanOn g plan → Mounts g plan trigger mount
-mounts g trigger entry mount Ended e rest h own = absurd cc
-mounts g trigger entry mount (Next a done made failed) e rest h own = mounts_by g trigger entry mount a done made failed (let same : a ≡ act.Mount trigger entry = cc in same) rest h own
+pub mounts : (g trigger : Trigger) (entry : EntryText) (mount : ℕ) (plan : Plan) → next_of plan ≡ Some (act.Mount trigger entry) → IsRest g plan → ClaimsRight plan → Mounts g plan trigger mount
+mounts g trigger entry mount Ended e rest h = absurd cc
+mounts g trigger entry mount (Next a done made failed) e rest h = mounts_by g trigger entry mount a done made failed (let same : a ≡ act.Mount trigger entry = cc in same) rest h
 
 -- an unmount: nothing is claimed any more
 pub record Unmounts (g : Trigger) (plan : Plan) (trigger : Trigger) : Type 0 where
@@ -144,15 +105,15 @@ pub record Unmounts (g : Trigger) (plan : Plan) (trigger : Trigger) : Type 0 whe
   pub left : has_record_left plan ≡ true
   pub claimed : claims (rest_of Done plan) ≡ None
 
-unmounts_by : (g trigger : Trigger) (a : Act) (done : Plan) (made : ℕ → Plan) (failed : Plan) → a ≡ act.Umount trigger → IsRest g (Next a done made failed) → ClaimsRight (Next a done made failed) → IsPlanOn g (Next a done made failed) → Unmounts g (Next a done made failed) trigger
-unmounts_by g trigger (act.Umount to) done made failed e rest h own =
+unmounts_by : (g trigger : Trigger) (a : Act) (done : Plan) (made : ℕ → Plan) (failed : Plan) → a ≡ act.Umount trigger → IsRest g (Next a done made failed) → ClaimsRight (Next a done made failed) → Unmounts g (Next a done made failed) trigger
+unmounts_by g trigger (act.Umount to) done made failed e rest h =
     let same : to ≡ trigger = cc in
-    record { on = sym same ∙ own.0; left = rest.2.0; claimed = h.0.0 }
-unmounts_by g trigger a done made failed e rest h own = absurd cc
+    record { on = sym same ∙ rest.2.0.0; left = rest.2.0.1; claimed = h.0.0 }
+unmounts_by g trigger a done made failed e rest h = absurd cc
 
-pub unmounts : (g trigger : Trigger) (plan : Plan) → next_of plan ≡ Some (act.Umount trigger) → IsRest g plan → ClaimsRight plan → IsPlanOn g plan → Unmounts g plan trigger
-unmounts g trigger Ended e rest h own = absurd cc
-unmounts g trigger (Next a done made failed) e rest h own = unmounts_by g trigger a done made failed (let same : a ≡ act.Umount trigger = cc in same) rest h own
+pub unmounts : (g trigger : Trigger) (plan : Plan) → next_of plan ≡ Some (act.Umount trigger) → IsRest g plan → ClaimsRight plan → Unmounts g plan trigger
+unmounts g trigger Ended e rest h = absurd cc
+unmounts g trigger (Next a done made failed) e rest h = unmounts_by g trigger a done made failed (let same : a ≡ act.Umount trigger = cc in same) rest h
 
 -- ---- the act writes the record
 
@@ -161,30 +122,3 @@ claims_record Ended trigger entry e = absurd cc
 claims_record (Next a done made failed) trigger entry e =
     let same : a ≡ act.Record trigger entry = cc in
     subst (λ (b : Act). claims (Next b done made failed) ≡ mount_in entry) (sym same) refl
-
--- ---- a plan begins on its trigger
-
-reply_on : (g : Trigger) (status : Status) → IsPlanOn g (reply status)
-reply_on g status = (tt, tt, (λ mount. tt), tt)
-
-book_on : (g : Trigger) (entry : Option Record) (status : Status) → IsPlanOn g (book_and_reply g entry status)
-book_on g entry status = let rest = reply_on g status in (tt, rest, (λ mount. rest), rest)
-
-rmdir_on : (g : Trigger) (name : Option (List ℕ)) (rest : Plan) → IsPlanOn g rest → IsPlanOn g (at_directory name (act.Rmdir g) rest)
-rmdir_on g None rest h = h
-rmdir_on g (Some name) rest h = (tt, h, (λ mount. h), h)
-
-mkdir_on : (g : Trigger) (name : Option (List ℕ)) (rest : Plan) → IsPlanOn g rest → IsPlanOn g (at_directory name (act.Mkdir g) rest)
-mkdir_on g None rest h = h
-mkdir_on g (Some name) rest h = (tt, h, (λ mount. h), h)
-
-pub plan_on : (kind : TokenKind) (g : Trigger) (mounted : Option ℕ) (entry : Option EntryText) → IsPlanOn g (plan_for kind g mounted entry)
-plan_on Missing g (Some mount) entry = (tt, tt, (λ m. tt), tt)
-plan_on Missing g None (Some entry) =
-    let failed = rmdir_on g g.name (without_mount g) (book_on g None Fail) in
-    mkdir_on g g.name (mount_entry g entry) (refl, failed, (λ mount. book_on g (Some (Mounted mount)) Ready), failed)
-plan_on Missing g None None = book_on g None Fail
-plan_on Expire g (Some mount) entry =
-    let done = rmdir_on g g.name (book_and_reply g None Ready) (book_on g None Ready) in
-    (refl, done, (λ m. done), book_on g (Some (Mounted mount)) Fail)
-plan_on Expire g None entry = (tt, tt, (λ m. tt), tt)

@@ -2,7 +2,6 @@
 use Rattle.std.proofs.Common.{◌≡◌, ℕ, Bool, true, false, List, [], ◌∷◌, Option, Some, None, refl, sym, ap, subst, ◌∙◌}
 use Rattle.std.specs.Prelude.{◌==◌, is_some, if◌then◌else◌}
 use Rattle.std.specs.Option.{option_map}
-use Rattle.std.specs.List.{All}
 use Rattle.am_names.specs.declared.trigger.Trigger.{Trigger}
 use Rattle.am_names.specs.declared.row.MountRow.{MountRow}
 use Rattle.am_mount.specs.Rows.{IsRising, mount_row, top_of, IsAt}
@@ -13,10 +12,9 @@ use Rattle.am_trigger.specs.Sites.{trigger_in, place_of}
 use Rattle.am_kernel.specs.State.{KernelState}
 use Rattle.am_kernel.specs.Sites.{is_live_row, latest_attach, attach_of}
 use Rattle.am_kernel.specs.DaemonMounts.{location_in, location_of, mounted_on}
-use Rattle.am_job.specs.Laws.{ClaimsRight}
-use Rattle.am_daemon.specs.State.{DaemonState, JobPlan}
+use Rattle.am_daemon.specs.State.{DaemonState}
 use Rattle.am_machine.specs.Invariant.Books.{IsServed}
-use Rattle.am_machine.specs.Invariant.Stands.{AreClaimed, AreWritten, IsPlanOn, OnTriggers}
+use Rattle.am_machine.specs.Invariant.Stands.{AreClaimed, AreWritten, OnTriggers}
 use Rattle.am_machine.proofs.BookFound.{read_unchanged}
 use Rattle.am_machine.proofs.BookNarrows.{Narrows}
 use Rattle.am_machine.proofs.StandTops.{top_same}
@@ -108,8 +106,6 @@ its_autofs k fs attach g e same = attached_autofs k g.fs attach (subst (λ (n : 
 pub record Knows (k : KernelState) (d : DaemonState) : Type 0 where
   pub at_work : AreClaimed k d
   pub settled : AreWritten k d
-  pub claims_right : All (λ (row : JobPlan). ClaimsRight row.plan) d.jobs
-  pub own : All (λ (row : JobPlan). IsPlanOn row.trigger row.plan) d.jobs
 
 pub stands_still : (k made : KernelState) (d : DaemonState) → Narrows k made → Still k made → Knows k d → Knows made d
 stands_still k made d n still h = record {
@@ -121,8 +117,6 @@ stands_still k made d n still h = record {
       let was : IsServed k d fs attach = record { current = n.current fs attach s.current; held = s.held } in
       let its = its_autofs k fs attach g was.current same in
       still.still g its.0 its.1 ∙ h.settled fs attach was g same written;
-  claims_right = h.claims_right;
-  own = h.own;
 }
 
 -- ---- what is mounted on a location is on a trigger

@@ -110,6 +110,4 @@ module _ (k : KernelState) (d : DaemonState) (fs : ℕ) (a : Autofs) (is : autof
   reattached_stands = record {
     at_work = λ f attach s job row found same under rest. at_work_by f attach (fs == f) refl s job row found same under (λ was. h.at_work f attach was job row found same under rest);
     settled = λ f attach s g same written. settled_by f attach g (fs == f) refl s same written;
-    claims_right = h.claims_right;
-    own = h.own;
   }

@@ -35,7 +35,8 @@ use Rattle.am_machine.specs.Invariant.Planned.{IsPlanned}
 use Rattle.am_machine.proofs.TraceRows.{found_passes}
 use Rattle.am_machine.proofs.GivenRows.{given_more}
 use Rattle.am_machine.proofs.GivenActs.{given_taken, given_finished}
-use Rattle.am_machine.proofs.GivenPlans.{plan_own, acknowledges, goes_after, ends_after, finished_planned}
+use Rattle.am_machine.proofs.PlanRests.{plan_rest}
+use Rattle.am_machine.proofs.GivenPlans.{acknowledges, goes_after, ends_after, finished_planned}
 use Rattle.am_machine.proofs.TokenLists.{all_found}
 use Rattle.am_machine.proofs.TokenDeliver.{taken_agree}
 use Rattle.am_machine.proofs.TokenActs.{goes_agree, ends_agree}
@@ -49,7 +50,7 @@ job_planned attach row d =
     let g = trigger_of row.packet in
     record {
       lawful = plan_lawful (token_kind row.packet.kind) g (mounted_for d row.packet) (entry_of d g);
-      own = plan_own (token_kind row.packet.kind) g (mounted_for d row.packet) (entry_of d g);
+      rest = plan_rest (token_kind row.packet.kind) g (mounted_for d row.packet) (entry_of d g);
     }
 
 takes : (s : State) (row : QueuedRow) (token : ℕ) → queued_of s.kernel.queue token ≡ Some row → Keeps s (deliveries.takes s row)

@@ -1,25 +1,49 @@
 -- What a job has left to do.
-use Rattle.std.specs.Prelude.{◌≡◌, ⊤, ℕ, false, List}
+use Rattle.std.specs.Prelude.{◌≡◌, ⊤, ℕ, Bool, true, false, List}
 use Rattle.std.specs.List.{All}
 use Rattle.am_names.specs.declared.trigger.Trigger.{Trigger}
+use Rattle.am_job.specs.declared.act.Act.{Act}
 use Rattle.am_job.specs.declared.act.Act.TheVariants as act
 use Rattle.am_job.specs.Plans.{Plan, Ended, Next}
-use Rattle.am_job.specs.Laws.{IsLawful}
+use Rattle.am_job.specs.Laws.{IsEnded, IsLawful}
 use Rattle.am_daemon.specs.State.{JobPlan}
 use Rattle.am_daemon.specs.Packets.{is_pending}
 
--- whatever comes of the acts, what is written into the book is this trigger's record, and is settled
-abbrev pub RecordsOwn : Trigger → Plan → Type 0
-RecordsOwn g Ended = ⊤
-RecordsOwn g (Next (act.Record trigger entry) done made failed) =
-    (trigger ≡ g) × (is_pending entry ≡ false) × RecordsOwn g done × ((mount : ℕ) → RecordsOwn g (made mount)) × RecordsOwn g failed
-RecordsOwn g (Next a done made failed) =
-    RecordsOwn g done × ((mount : ℕ) → RecordsOwn g (made mount)) × RecordsOwn g failed
+-- the acts that are left write the book, whatever comes of those before
+abbrev pub has_record_left : Plan → Bool
+has_record_left Ended = false
+has_record_left (Next (act.Mkdir trigger) done made failed) = has_record_left done
+has_record_left (Next (act.Mount trigger entry) done made failed) = has_record_left failed
+has_record_left (Next (act.Umount trigger) done made failed) = has_record_left failed
+has_record_left (Next (act.Rmdir trigger) done made failed) = has_record_left done
+has_record_left (Next (act.Record trigger entry) done made failed) = true
+has_record_left (Next (act.Reply status) done made failed) = false
 
--- The notification is acknowledged once, last of all, and the book is written for the job's trigger.
+-- What may come after an act. What a job mounts, unmounts and writes is on its own trigger. The
+-- record is written once, as one that isn't pending; before that it is still to be written, and after
+-- it no more. A reply is the last act.
+abbrev pub Precedes : Trigger → Act → Plan → Type 0
+Precedes g (act.Mkdir trigger) rest = has_record_left rest ≡ true
+Precedes g (act.Mount trigger entry) rest = (trigger ≡ g) × (has_record_left rest ≡ true)
+Precedes g (act.Umount trigger) rest = (trigger ≡ g) × (has_record_left rest ≡ true)
+Precedes g (act.Rmdir trigger) rest = has_record_left rest ≡ true
+Precedes g (act.Record trigger entry) rest =
+    (trigger ≡ g) × (is_pending entry ≡ false) × (has_record_left rest ≡ false)
+Precedes g (act.Reply status) rest = IsEnded rest
+
+-- the acts are the rest of a plan for this trigger: so it is after each act, whatever comes of it
+abbrev pub IsRest : Trigger → Plan → Type 0
+IsRest g Ended = ⊤
+IsRest g (Next a done made failed) =
+    (Precedes g a done × IsRest g done)
+    × ((mount : ℕ) → Precedes g a (made mount) × IsRest g (made mount))
+    × (Precedes g a failed × IsRest g failed)
+
+-- The notification is acknowledged once, last of all; what is left claims what is mounted, and is the
+-- rest of a plan for the job's trigger.
 pub record IsPlanned (row : JobPlan) : Type 0 where
   pub lawful : IsLawful row.plan
-  pub own : RecordsOwn row.trigger row.plan
+  pub rest : IsRest row.trigger row.plan
 
 abbrev pub ArePlanned : List JobPlan → Type 0
 ArePlanned jobs = All IsPlanned jobs

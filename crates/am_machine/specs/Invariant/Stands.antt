@@ -1,38 +1,20 @@
 -- What is mounted on the triggers, at the daemon's mounts, and what the daemon knows of it.
-use Rattle.std.specs.Prelude.{◌≡◌, ⊤, ℕ, true, false, is_some, List, Some}
-use Rattle.std.specs.List.{All}
+use Rattle.std.specs.Prelude.{◌≡◌, ℕ, true, false, is_some, List, Some}
 use Rattle.am_names.specs.declared.trigger.Trigger.{Trigger}
 use Rattle.am_names.specs.declared.row.MountRow.{MountRow}
 use Rattle.am_mount.specs.Rows.{mount_row, IsAt}
 use Rattle.am_trigger.specs.declared.autofs.Autofs.{Autofs}
 use Rattle.am_trigger.specs.Rows.{autofs_of}
 use Rattle.am_trigger.specs.Sites.{trigger_in}
-use Rattle.am_job.specs.declared.act.Act.{Act}
-use Rattle.am_job.specs.declared.act.Act.TheVariants as act
-use Rattle.am_job.specs.Plans.{Plan, Ended, Next, claims}
-use Rattle.am_job.specs.Laws.{ClaimsRight}
+use Rattle.am_job.specs.Plans.{claims}
 use Rattle.am_job.specs.Book.{record_of}
 use Rattle.am_kernel.specs.State.{KernelState}
 use Rattle.am_kernel.specs.DaemonMounts.{mounted_on}
 use Rattle.am_daemon.specs.State.{DaemonState, JobPlan}
 use Rattle.am_daemon.specs.Deliveries.{job_of}
 use Rattle.am_daemon.specs.Packets.{is_pending, mounted_in}
-use Rattle.am_machine.specs.Invariant.Books.{IsServed, has_record_left}
-
--- an act that mounts or unmounts does so on this trigger
-abbrev pub IsActOn : Trigger → Act → Type 0
-IsActOn g (act.Mkdir trigger) = ⊤
-IsActOn g (act.Mount trigger entry) = trigger ≡ g
-IsActOn g (act.Umount trigger) = trigger ≡ g
-IsActOn g (act.Rmdir trigger) = ⊤
-IsActOn g (act.Record trigger entry) = ⊤
-IsActOn g (act.Reply status) = ⊤
-
--- so do all acts that are left, whatever comes of them
-abbrev pub IsPlanOn : Trigger → Plan → Type 0
-IsPlanOn g Ended = ⊤
-IsPlanOn g (Next a done made failed) =
-    IsActOn g a × IsPlanOn g done × ((mount : ℕ) → IsPlanOn g (made mount)) × IsPlanOn g failed
+use Rattle.am_machine.specs.Invariant.Planned.{has_record_left}
+use Rattle.am_machine.specs.Invariant.Books.{IsServed}
 
 -- ---- what is mounted on a trigger at the daemon's mount, while the daemon serves its file system
 
@@ -57,8 +39,5 @@ pub record OnTriggers (k : KernelState) : Type 0 where
 pub record StandsAgree (k : KernelState) (d : DaemonState) : Type 0 where
   pub at_work : AreClaimed k d
   pub settled : AreWritten k d
-  -- what is left of each job claims what is mounted, and mounts and unmounts on the job's trigger
-  pub claims_right : All (λ (row : JobPlan). ClaimsRight row.plan) d.jobs
-  pub own : All (λ (row : JobPlan). IsPlanOn row.trigger row.plan) d.jobs
   -- a daemon that attaches again finds what is mounted by the triggers
   pub on_triggers : OnTriggers k
