@@ -23,7 +23,7 @@ use Rattle.am_machine.specs.Invariant.Books.{IsServed, is_pending_for, is_to_rec
 use Rattle.am_machine.specs.Invariant.Records.{IsOfItsToken, AreOfTheirTokens}
 use Rattle.am_machine.specs.Agreement.{IsPending, IsToDeliver, IsToAnswer}
 use Rattle.am_machine.proofs.TraceRows.{some_is, found_passes}
-use Rattle.am_machine.proofs.BookFound.{found_all}
+use Rattle.am_machine.proofs.TokenLists.{all_found}
 
 same_number : {a b : ℕ} → Some a ≡ Some b → a ≡ b
 same_number e = cc
@@ -53,7 +53,7 @@ job_on attach g (Some job) e =
 
 -- a job whose attachment the file system still has, has its open token
 token_at_work : (k : KernelState) (d : DaemonState) → TokensAgree k d.jobs → (token : ℕ) (job : JobPlan) → job_of d.jobs token ≡ Some job → attach_of k job.trigger.fs ≡ Some job.attach → HasToken k job
-token_at_work k d h token job is current = found_all (λ (row : JobPlan). attach_of k row.trigger.fs ≡ Some row.attach → HasToken k row) (λ (row : JobPlan). row.token == token) d.jobs job h.at_work is current
+token_at_work k d h token job is current = all_found (λ (row : JobPlan). attach_of k row.trigger.fs ≡ Some row.attach → HasToken k row) (λ (row : JobPlan). row.token == token) d.jobs job h.at_work is current
 
 -- ---- the record
 
@@ -63,12 +63,12 @@ entry_in w entry (Some row) h e = subst (IsOfItsToken w) (let same : row.entry �
 
 its_token : (w : WaitRows) (book : List RecordRow) (g : Trigger) (entry : Record) → AreOfTheirTokens w book → record_of book g ≡ Some entry → IsOfItsToken w entry
 its_token w book g entry h found =
-    entry_in w entry (find (λ row. same_trigger row.trigger g) book) (λ row is. found_all (λ (r : RecordRow). IsOfItsToken w r.entry) (λ (r : RecordRow). same_trigger r.trigger g) book row h is) found
+    entry_in w entry (find (λ row. same_trigger row.trigger g) book) (λ row is. all_found (λ (r : RecordRow). IsOfItsToken w r.entry) (λ (r : RecordRow). same_trigger r.trigger g) book row h is) found
 
 -- ---- a packet in the pipe
 
 pub in_pipe : (k : KernelState) (d : DaemonState) → TokensAgree k d.jobs → (token : ℕ) (row : QueuedRow) → queued_of k.queue token ≡ Some row → IsInPipe k d.jobs row
-in_pipe k d h token row is = found_all (IsInPipe k d.jobs) (λ (r : QueuedRow). r.token == token) k.queue row h.in_pipe is
+in_pipe k d h token row is = all_found (IsInPipe k d.jobs) (λ (r : QueuedRow). r.token == token) k.queue row h.in_pipe is
 
 queued_number : (k : KernelState) (token : ℕ) (row : QueuedRow) → queued_of k.queue token ≡ Some row → row.token ≡ token
 queued_number k token row is = nat_is row.token token (found_passes (λ (r : QueuedRow). r.token == token) k.queue row is)

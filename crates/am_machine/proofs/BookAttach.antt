@@ -26,7 +26,8 @@ use Rattle.am_machine.specs.Invariant.Attachments.{AreGiven}
 use Rattle.am_machine.specs.Invariant.Books.{IsServed, is_pending_for, is_to_record, BookAgrees}
 use Rattle.am_machine.proofs.TraceRows.{found_passes}
 use Rattle.am_machine.proofs.BookRecords.{no_record, settled_for}
-use Rattle.am_machine.proofs.BookFound.{found_all, find_others, find_new, absent, none_has, different_more, different_kept, gone, found_left}
+use Rattle.am_machine.proofs.TokenLists.{all_found}
+use Rattle.am_machine.proofs.BookFound.{find_others, find_new, absent, none_has, different_more, different_kept, gone, found_left}
 use Rattle.am_machine.proofs.BookNarrows.{found_same, pipe_others}
 use Rattle.am_machine.proofs.BookStanding.{mounted_others, mounted_settled, standing_fs}
 
@@ -38,7 +39,7 @@ above n last least = grind (arith, nat_tests, least)
 too_new_by : (k : KernelState) (d : DaemonState) (g : Trigger) (token : ℕ) (o : Option JobPlan) → job_of d.jobs token ≡ o → AreGiven k d → is_to_record (k.last_attach + 1) g o ≡ false
 too_new_by k d g token None e given = refl
 too_new_by k d g token (Some row) e given =
-    let bound = found_all (λ (r : JobPlan). (r.attach ≤ k.last_attach) × (r.trigger.fs ≤ k.last_fs)) (λ (r : JobPlan). r.token == token) d.jobs row given.jobs e in
+    let bound = all_found (λ (r : JobPlan). (r.attach ≤ k.last_attach) × (r.trigger.fs ≤ k.last_fs)) (λ (r : JobPlan). r.token == token) d.jobs row given.jobs e in
     rw (above row.attach k.last_attach bound.0) refl
 
 -- no job is of the next attachment
@@ -145,7 +146,7 @@ again_by k d fs f attach g token false other given h s same =
 -- a file system that has an autofs was given
 known_fs : (k : KernelState) (d : DaemonState) (fs : ℕ) (row : Autofs) → AreGiven k d → autofs_of k.triggers fs ≡ Some row → fs ≤ k.last_fs
 known_fs k d fs row given e =
-    let bound = found_all (λ (r : Autofs). r.fs ≤ k.last_fs) (λ (r : Autofs). r.fs == fs) k.triggers.autofs row given.autofs e in
+    let bound = all_found (λ (r : Autofs). r.fs ≤ k.last_fs) (λ (r : Autofs). r.fs == fs) k.triggers.autofs row given.autofs e in
     let same = nat_is row.fs fs (found_passes (λ (r : Autofs). r.fs == fs) k.triggers.autofs row e) in
     subst (λ (n : ℕ). n ≤ k.last_fs) same bound
 

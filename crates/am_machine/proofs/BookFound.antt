@@ -9,17 +9,6 @@ use Rattle.am_laws.proofs.Bools.{or_no}
 use Rattle.am_laws.proofs.Packets.{nat_is}
 use Rattle.am_machine.specs.Invariant.Traces.{has, AreDifferent}
 
--- ---- what is found
-
--- what all rows have, the row has that is found
-pub found_all : {X : Type 0} (P : X → Type 0) (test : X → Bool) (rows : List X) (row : X) → All P rows → find test rows ≡ Some row → P row
-found_all P test [] row h e = absurd cc
-found_all {X} P test (x ∷ rows) row h e = by (found_all P test rows row (All-tail P x rows h)) (test x) e
-  where
-    by : (find test rows ≡ Some row → P row) → (b : Bool) → cond b (Some x) (find test rows) ≡ Some row → P row
-    by later true e = let same : x ≡ row = cc in subst P same (All-head P x rows h)
-    by later false e = later e
-
 -- ---- one row more, the last
 
 pub find_others : {X : Type 0} (test : X → Bool) (rows : List X) (new : X) → test new ≡ false → find test (rows ++ new ∷ []) ≡ find test rows

@@ -37,8 +37,10 @@ pub mod TokenEvents
 pub mod TokenSteps
 pub mod TokenTheorems
 pub mod GivenCurrent
+pub mod BookFound
+pub mod SiteKeeps
+pub mod Quiet
 pub mod PlaceKeeps
-pub mod PlaceQuiet
 pub mod PlaceRows
 pub mod PlaceAdded
 pub mod PlaceGrown
@@ -51,7 +53,6 @@ pub mod PlaceEvents
 pub mod PlaceActs
 pub mod PlaceLemmas
 pub mod BookRecords
-pub mod BookFound
 pub mod BookNarrows
 pub mod BookWalks
 pub mod BookJobs
@@ -63,7 +64,6 @@ pub mod BookEvents
 pub mod BookLemmas
 pub mod StandTops
 pub mod StandKeeps
-pub mod StandQuiet
 pub mod StandPlain
 pub mod StandJobs
 pub mod StandActs

@@ -45,8 +45,9 @@ use Rattle.am_machine.specs.Events.Deliveries as deliveries
 use Rattle.am_machine.specs.Events.Acts as acts
 use Rattle.am_machine.specs.Events.Requests as requests
 use Rattle.am_machine.specs.Invariant.Places.{PlacesAgree}
-use Rattle.am_machine.proofs.PlaceKeeps.{Keeps, keeps_all, marked_keeps, kept_places}
-use Rattle.am_machine.proofs.PlaceQuiet.{closes}
+use Rattle.am_machine.proofs.SiteKeeps.{Keeps, keeps_all, marked_sites}
+use Rattle.am_machine.proofs.PlaceKeeps.{kept_places}
+use Rattle.am_machine.proofs.Quiet.{closes}
 use Rattle.am_machine.proofs.PlaceGrown.{mounted_here}
 use Rattle.am_machine.proofs.PlaceUmounts.{daemons_places}
 use Rattle.am_machine.proofs.PlaceEvents.{Holds, either, refuses, says, unless_refused, quietly, else_none, not_false, umount_bare}
@@ -54,7 +55,7 @@ use Rattle.am_machine.proofs.PlaceEvents.{Holds, either, refuses, says, unless_r
 -- ---- what the daemon asks, and how a walker leaves
 
 pub leave : (s : State) (walker : ℕ) → Holds s (leave_outcome s walker)
-leave s walker = unless_refused (leave_refusal walker s.kernel.uses) s _ (λ may. quietly s _ _ (without_use walker s.kernel) (record { table = refl; last_fs = refl; locations = λ fs. refl }))
+leave s walker = unless_refused (leave_refusal walker s.kernel.uses) s _ (λ may. quietly s _ _ (without_use walker s.kernel) (record { table = refl; last_fs = refl; sites = λ fs. refl }))
 
 pub repeat : (s : State) (attach token : ℕ) → Holds s (requests.repeat_outcome s attach token)
 repeat s attach token =
@@ -72,7 +73,7 @@ pub admin_catatonic : (s : State) (fs : ℕ) → Holds s (requests.admin_cataton
 admin_catatonic s fs = unless_refused (autofs_refusal s.kernel fs) s _ (λ may. by_live (is_live s.kernel fs) s fs)
 
 pub set_timeout : (s : State) (attach fs timeout : ℕ) → Holds s (requests.timeout_outcome s attach fs timeout)
-set_timeout s attach fs timeout = unless_refused (timeout_refusal s.kernel attach fs) s _ (λ may. quietly s _ _ _ (record { table = refl; last_fs = refl; locations = λ g. refl }))
+set_timeout s attach fs timeout = unless_refused (timeout_refusal s.kernel attach fs) s _ (λ may. quietly s _ _ _ (record { table = refl; last_fs = refl; sites = λ fs. refl }))
 
 pub die : (s : State) → Holds s (requests.die_outcome s)
 die s = record { holds = λ h. h }
@@ -80,7 +81,7 @@ die s = record { holds = λ h. h }
 pub reattach : (s : State) (fs : ℕ) → Holds s (requests.reattach_outcome s fs)
 reattach s fs =
     let o = requests.reattaches s fs in
-    unless_refused (requests.reattach_refused s fs) s o (λ may. record { holds = kept_places s.kernel o.state.kernel (record { table = refl; last_fs = refl; locations = marked_keeps fs false s.kernel.triggers }) })
+    unless_refused (requests.reattach_refused s fs) s o (λ may. record { holds = kept_places s.kernel o.state.kernel (record { table = refl; last_fs = refl; sites = marked_sites fs false s.kernel.triggers }) })
 
 pub read_record : (s : State) (trigger : Trigger) → Holds s (requests.record_outcome s trigger)
 read_record s trigger = either s (not (is_trigger s.kernel trigger)) _ _ (refuses s _) (says _ s)
@@ -88,7 +89,7 @@ read_record s trigger = either s (not (is_trigger s.kernel trigger)) _ _ (refuse
 -- ---- deliver
 
 takes : (s : State) (row : QueuedRow) → Holds s (deliveries.takes s row)
-takes s row = let o = deliveries.takes s row in record { holds = kept_places s.kernel o.state.kernel (record { table = refl; last_fs = refl; locations = λ fs. refl }) }
+takes s row = let o = deliveries.takes s row in record { holds = kept_places s.kernel o.state.kernel (record { table = refl; last_fs = refl; sites = λ fs. refl }) }
 
 delivered_at : (row : Option QueuedRow) (s : State) (bytes : Option (List ℕ)) → Holds s (deliveries.delivered_at row s bytes)
 delivered_at None s bytes = refuses s _
@@ -103,12 +104,12 @@ goes_on : (s : State) (row : JobPlan) (outcome : job.Outcome) (answer : Answer) 
 goes_on s row outcome answer shown k keeps = record { holds = kept_places s.kernel k keeps }
 
 mkdir : (e : Option Errno) (s : State) (row : JobPlan) (trigger : Trigger) → Holds s (acts.mkdir_by e s row trigger)
-mkdir None s row trigger = goes_on s row came.Done _ [] (with_directory trigger s.kernel) (record { table = refl; last_fs = refl; locations = λ fs. refl })
+mkdir None s row trigger = goes_on s row came.Done _ [] (with_directory trigger s.kernel) (record { table = refl; last_fs = refl; sites = λ fs. refl })
 mkdir (Some errnos.EEXIST) s row trigger = goes_on s row came.Done _ [] s.kernel (keeps_all s.kernel)
 mkdir (Some _) s row trigger = refuses s _
 
 rmdir : (e : Option Errno) (s : State) (row : JobPlan) (trigger : Trigger) → Holds s (acts.rmdir_by e s row trigger)
-rmdir None s row trigger = goes_on s row came.Done _ [] (without_directory trigger s.kernel) (record { table = refl; last_fs = refl; locations = λ fs. refl })
+rmdir None s row trigger = goes_on s row came.Done _ [] (without_directory trigger s.kernel) (record { table = refl; last_fs = refl; sites = λ fs. refl })
 rmdir (Some errnos.ENOENT) s row trigger = goes_on s row came.Done _ [] s.kernel (keeps_all s.kernel)
 rmdir (Some errnos.EBUSY) s row trigger = goes_on s row came.Done _ [] s.kernel (keeps_all s.kernel)
 rmdir (Some _) s row trigger = refuses s _
@@ -193,7 +194,7 @@ record_act s row trigger entry =
 
 reply : (e : Option Errno) (s : State) (row : JobPlan) (status : Status) → Holds s (acts.reply_by e s row status)
 reply (Some e) s row status = refuses s e
-reply None s row status = let o = acts.reply_by None s row status in record { holds = kept_places s.kernel o.state.kernel (record { table = refl; last_fs = refl; locations = λ fs. refl }) }
+reply None s row status = let o = acts.reply_by None s row status in record { holds = kept_places s.kernel o.state.kernel (record { table = refl; last_fs = refl; sites = λ fs. refl }) }
 
 acted : (next : Option Act) (s : State) (row : JobPlan) (ok : Bool) → Holds s (acts.acted next s row ok)
 acted None s row ok = refuses s _

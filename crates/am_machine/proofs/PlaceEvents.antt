@@ -30,8 +30,9 @@ use Rattle.am_machine.specs.Outcome.{Outcome, refused, unless, with_kernel, told
 use Rattle.am_machine.specs.Events.Administration as administration
 use Rattle.am_machine.specs.Events.Walkers.{goes}
 use Rattle.am_machine.specs.Invariant.Places.{PlacesAgree}
-use Rattle.am_machine.proofs.PlaceKeeps.{Keeps, kept_places}
-use Rattle.am_machine.proofs.PlaceQuiet.{Quiet}
+use Rattle.am_machine.proofs.SiteKeeps.{Keeps}
+use Rattle.am_machine.proofs.PlaceKeeps.{kept_places}
+use Rattle.am_machine.proofs.Quiet.{Quiet}
 use Rattle.am_machine.proofs.PlaceGrown.{mounted_places}
 use Rattle.am_machine.proofs.PlaceUmounts.{plain_places, dropped_places}
 use Rattle.am_machine.proofs.PlaceCopies.{copied_places, changed_places}

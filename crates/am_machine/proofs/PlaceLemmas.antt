@@ -17,7 +17,7 @@ use Rattle.am_machine.specs.State.{Opening, State, opening_of}
 use Rattle.am_machine.specs.Outcome.{moment_of}
 use Rattle.am_machine.specs.Machine.{after, outcome_of}
 use Rattle.am_machine.specs.Invariant.Places.{PlacesAgree}
-use Rattle.am_machine.proofs.PlaceQuiet as quiet
+use Rattle.am_machine.proofs.Quiet as quiet
 use Rattle.am_machine.proofs.PlaceEvents as from
 use Rattle.am_machine.proofs.PlaceEvents.{Holds, walks}
 use Rattle.am_machine.proofs.PlaceActs as acts

@@ -38,7 +38,8 @@ use Rattle.am_machine.proofs.PlaceRows.{receiver_row, parent_row}
 use Rattle.am_machine.proofs.PlaceAdded.{mounted_grows}
 use Rattle.am_machine.proofs.PlaceGrown.{came_at}
 use Rattle.am_machine.proofs.BookRecords.{no_record}
-use Rattle.am_machine.proofs.BookFound.{found_all, find_others, find_new}
+use Rattle.am_machine.proofs.TokenLists.{all_found}
+use Rattle.am_machine.proofs.BookFound.{find_others, find_new}
 use Rattle.am_machine.proofs.BookNarrows.{found_same}
 use Rattle.am_machine.proofs.StandTops.{no_top}
 use Rattle.am_machine.proofs.StandKeeps.{Knows, its_autofs}
@@ -138,7 +139,7 @@ module _ (k : KernelState) (h : PlacesAgree k) (direct : Bool) (timeout : ℕ) (
 
     at_work_by : (fs attach : ℕ) (b : Bool) → (k.last_fs + 1 == fs) ≡ b → IsServed made d_new fs attach → (job : ℕ) (row : JobPlan) → job_of d.jobs job ≡ Some row → row.trigger.fs ≡ fs → (IsServed k d fs attach → mounted_on k row.trigger ≡ claims row.plan) → mounted_on made row.trigger ≡ claims row.plan
     at_work_by fs attach true is s job row found same old =
-        let bound = found_all (λ (r : JobPlan). (r.attach ≤ k.last_attach) × (r.trigger.fs ≤ k.last_fs)) (λ (r : JobPlan). r.token == job) d.jobs row given.jobs found in
+        let bound = all_found (λ (r : JobPlan). (r.attach ≤ k.last_attach) × (r.trigger.fs ≤ k.last_fs)) (λ (r : JobPlan). r.token == job) d.jobs row given.jobs found in
         let le : row.trigger.fs ≤ k.last_fs = bound.1 in
         let new : k.last_fs + 1 ≡ fs = nat_is (k.last_fs + 1) fs is in
         absurd (omega arith)

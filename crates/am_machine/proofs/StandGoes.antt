@@ -44,7 +44,8 @@ use Rattle.am_machine.proofs.BookNarrows.{Narrows, same_attachments, stays}
 use Rattle.am_machine.proofs.BookActs.{IsJob}
 use Rattle.am_machine.proofs.BookDeliver.{may_take}
 use Rattle.am_machine.proofs.StandTops.{none_there}
-use Rattle.am_machine.proofs.StandKeeps.{Knows, KeepsSites, keeps_all, kept_still, attached_autofs, stands_still, on_still}
+use Rattle.am_machine.proofs.SiteKeeps.{Keeps, keeps_all}
+use Rattle.am_machine.proofs.StandKeeps.{Knows, kept_still, attached_autofs, stands_still, on_still}
 use Rattle.am_machine.proofs.BookLemmas.{no_fault, its_job}
 use Rattle.am_machine.proofs.StandJobs.{MovesNothing, mounts, unmounts, claims_record}
 use Rattle.am_machine.proofs.StandActs.{goes_plainly, goes_moved, goes_written}
@@ -59,7 +60,7 @@ takes : (s : State) (row : QueuedRow) → not (is_some (delivery_fault row.attac
 takes s row fine =
     let tests = no_fault (knows s.daemon row.packet.dev) (holds s.daemon row.packet.dev row.attach) (is_busy s.daemon row.packet) fine in
     let made = without_packet row.token s.kernel in
-    let still = kept_still s.kernel made (record { table = refl; sites = λ fs. refl }) in
+    let still = kept_still s.kernel made (record { table = refl; last_fs = refl; sites = λ fs. refl }) in
     record {
       sites = λ on. on_still s.kernel made still on;
       stands = λ h. stands_still s.kernel made (taken_up row.attach row.packet s.daemon) (same_attachments s.kernel made (λ fs. refl) (omega arith)) still
@@ -84,7 +85,7 @@ pub record Acting (s : State) (row : JobPlan) : Type 0 where
   pub book : BookAgrees s.kernel s.daemon
 
 -- by an act that mounts and unmounts nothing, and writes nothing
-plainly : (s : State) (row : JobPlan) (outcome : job.Outcome) (answer : Answer) (shown : List Obs) (k : KernelState) → Acting s row → (a : Act) → next_of row.plan ≡ Some a → writes (Some a) ≡ None → MovesNothing (Some a) outcome → Narrows s.kernel k → KeepsSites s.kernel k →
+plainly : (s : State) (row : JobPlan) (outcome : job.Outcome) (answer : Answer) (shown : List Obs) (k : KernelState) → Acting s row → (a : Act) → next_of row.plan ≡ Some a → writes (Some a) ≡ None → MovesNothing (Some a) outcome → Narrows s.kernel k → Keeps s.kernel k →
     Stands s (acts.goes_on s row outcome answer shown k)
 plainly s row outcome answer shown k w a e none moves n keeps = record {
   sites = λ on. on_still s.kernel k (kept_still s.kernel k keeps) on;
@@ -92,12 +93,12 @@ plainly s row outcome answer shown k w a e none moves n keeps = record {
 }
 
 mkdir : (e : Option Errno) (s : State) (row : JobPlan) (trigger : Trigger) → Acting s row → next_of row.plan ≡ Some (act.Mkdir trigger) → Stands s (acts.mkdir_by e s row trigger)
-mkdir None s row trigger w e = plainly s row came.Done _ [] (with_directory trigger s.kernel) w (act.Mkdir trigger) e refl tt (same_attachments s.kernel (with_directory trigger s.kernel) (λ fs. refl) (omega arith)) (record { table = refl; sites = λ fs. refl })
+mkdir None s row trigger w e = plainly s row came.Done _ [] (with_directory trigger s.kernel) w (act.Mkdir trigger) e refl tt (same_attachments s.kernel (with_directory trigger s.kernel) (λ fs. refl) (omega arith)) (record { table = refl; last_fs = refl; sites = λ fs. refl })
 mkdir (Some errnos.EEXIST) s row trigger w e = plainly s row came.Done _ [] s.kernel w (act.Mkdir trigger) e refl tt (stays s.kernel) (keeps_all s.kernel)
 mkdir (Some _) s row trigger w e = refuses s _
 
 rmdir : (e : Option Errno) (s : State) (row : JobPlan) (trigger : Trigger) → Acting s row → next_of row.plan ≡ Some (act.Rmdir trigger) → Stands s (acts.rmdir_by e s row trigger)
-rmdir None s row trigger w e = plainly s row came.Done _ [] (without_directory trigger s.kernel) w (act.Rmdir trigger) e refl tt (same_attachments s.kernel (without_directory trigger s.kernel) (λ fs. refl) (omega arith)) (record { table = refl; sites = λ fs. refl })
+rmdir None s row trigger w e = plainly s row came.Done _ [] (without_directory trigger s.kernel) w (act.Rmdir trigger) e refl tt (same_attachments s.kernel (without_directory trigger s.kernel) (λ fs. refl) (omega arith)) (record { table = refl; last_fs = refl; sites = λ fs. refl })
 rmdir (Some errnos.ENOENT) s row trigger w e = plainly s row came.Done _ [] s.kernel w (act.Rmdir trigger) e refl tt (stays s.kernel) (keeps_all s.kernel)
 rmdir (Some errnos.EBUSY) s row trigger w e = plainly s row came.Done _ [] s.kernel w (act.Rmdir trigger) e refl tt (stays s.kernel) (keeps_all s.kernel)
 rmdir (Some _) s row trigger w e = refuses s _
@@ -200,7 +201,7 @@ record_act s row trigger entry w e =
 reply : (refusal : Option Errno) (s : State) (row : JobPlan) (status : Status) → Acting s row → next_of row.plan ≡ Some (act.Reply status) → Stands s (acts.reply_by refusal s row status)
 reply (Some fault) s row status w e = refuses s fault
 reply None s row status w e =
-    plainly s row came.Done _ _ (acknowledged row.token status s.kernel) w (act.Reply status) e refl refl (same_attachments s.kernel (acknowledged row.token status s.kernel) (λ fs. refl) (omega arith)) (record { table = refl; sites = λ fs. refl })
+    plainly s row came.Done _ _ (acknowledged row.token status s.kernel) w (act.Reply status) e refl refl (same_attachments s.kernel (acknowledged row.token status s.kernel) (λ fs. refl) (omega arith)) (record { table = refl; last_fs = refl; sites = λ fs. refl })
 
 -- ---- an act
 

@@ -15,34 +15,9 @@ use Rattle.am_kernel.specs.DaemonMounts.{location_in, location_of, mounted_on}
 use Rattle.am_daemon.specs.State.{DaemonState}
 use Rattle.am_machine.specs.Invariant.Books.{IsServed}
 use Rattle.am_machine.specs.Invariant.Stands.{AreClaimed, AreWritten, OnTriggers}
-use Rattle.am_machine.proofs.BookFound.{read_unchanged}
+use Rattle.am_machine.proofs.SiteKeeps.{awake, Keeps, same_location, was_there}
 use Rattle.am_machine.proofs.BookNarrows.{Narrows}
 use Rattle.am_machine.proofs.StandTops.{top_same}
-
--- ---- an autofs stays what it is, but for being catatonic
-
-abbrev pub awake : Autofs → Autofs
-awake a = record a { catatonic = false }
-
--- neither mounts nor the autofs change
-pub record KeepsSites (k made : KernelState) : Type 0 where
-  pub table : made.table ≡ k.table
-  pub sites : (fs : ℕ) → option_map awake (autofs_of made.triggers fs) ≡ option_map awake (autofs_of k.triggers fs)
-
-pub keeps_all : (k : KernelState) → KeepsSites k k
-keeps_all k = record { table = refl; sites = λ fs. refl }
-
-pub keeps_then : (k mid made : KernelState) → KeepsSites k mid → KeepsSites mid made → KeepsSites k made
-keeps_then k mid made h g = record { table = g.table ∙ h.table; sites = λ fs. g.sites fs ∙ h.sites fs }
-
-catatonic_fs : (fs : ℕ) (b : Bool) (row : Autofs) → (catatonic_row fs b row).fs ≡ row.fs
-catatonic_fs fs b row = elim (row.fs == fs) as (λ t. (if t then record row { catatonic = b } else row).fs ≡ row.fs) [ true ↦ refl | false ↦ refl ]
-
-catatonic_awake : (fs : ℕ) (b : Bool) (row : Autofs) → awake (catatonic_row fs b row) ≡ awake row
-catatonic_awake fs b row = elim (row.fs == fs) as (λ t. awake (if t then record row { catatonic = b } else row) ≡ awake row) [ true ↦ refl | false ↦ refl ]
-
-pub marked_sites : (fs : ℕ) (b : Bool) (t : TriggerRows) (g : ℕ) → option_map awake (autofs_of (with_catatonic fs b t) g) ≡ option_map awake (autofs_of t g)
-marked_sites fs b t g = read_unchanged (λ (row : Autofs). row.fs) awake (catatonic_row fs b) g t.autofs (catatonic_fs fs b) (catatonic_awake fs b)
 
 -- ---- nothing is mounted on a trigger, and nothing unmounted from one
 
@@ -56,13 +31,7 @@ pub record Still (k made : KernelState) : Type 0 where
 pub stays : (k : KernelState) → Still k k
 stays k = record { still = λ g a is. refl; rows = λ fs a is m row place e at. e; sites = λ fs. refl }
 
-same_location : (o p : Option Autofs) → option_map awake o ≡ option_map awake p → location_in o ≡ location_in p
-same_location None None e = refl
-same_location None (Some a) e = absurd cc
-same_location (Some a) None e = absurd cc
-same_location (Some a) (Some b) e = ap location_in e
-
-pub kept_still : (k made : KernelState) → KeepsSites k made → Still k made
+pub kept_still : (k made : KernelState) → Keeps k made → Still k made
 kept_still k made keeps = record {
   still = λ g a is.
       ap (λ (t : MountTable). top_of t.rows (location_of made g.fs) (place_of g)) keeps.table
@@ -125,21 +94,6 @@ fits_awake : (a : Autofs) (place : List (List ℕ)) → trigger_in (awake a) pla
 fits_awake a [] = refl
 fits_awake a (name ∷ []) = refl
 fits_awake a (name ∷ below ∷ names) = refl
-
-some_same : {x y : Autofs} → Some x ≡ Some y → x ≡ y
-some_same e = cc
-
--- an autofs was one before
-record WasThere (before : Option Autofs) (a : Autofs) : Type 0 where
-  was : Autofs
-  is_was : before ≡ Some was
-  same : awake was ≡ awake a
-
-was_there : (now before : Option Autofs) (a : Autofs) → option_map awake now ≡ option_map awake before → now ≡ Some a → WasThere before a
-was_there now None a same is = absurd (let no : Some (awake a) ≡ None = sym (ap (option_map awake) is) ∙ same in cc)
-was_there now (Some b) a same is =
-    let both : Some (awake b) ≡ Some (awake a) = sym same ∙ ap (option_map awake) is in
-    record { was = b; is_was = refl; same = some_same both }
 
 pub on_still : (k made : KernelState) → Still k made → OnTriggers k → OnTriggers made
 on_still k made still h = record {

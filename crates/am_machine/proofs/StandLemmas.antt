@@ -12,7 +12,7 @@ use Rattle.am_machine.specs.Invariant.Planned.{ArePlanned}
 use Rattle.am_machine.specs.Invariant.Places.{PlacesAgree}
 use Rattle.am_machine.specs.Invariant.Books.{BookAgrees}
 use Rattle.am_machine.specs.Invariant.Stands.{StandsAgree, OnTriggers}
-use Rattle.am_machine.proofs.StandQuiet as quiet
+use Rattle.am_machine.proofs.Quiet as quiet
 use Rattle.am_machine.proofs.BookWalks as walks
 use Rattle.am_machine.proofs.StandEvents as from
 use Rattle.am_machine.proofs.StandOutcomes.{Stands}

@@ -9,7 +9,8 @@ use Rattle.am_machine.specs.State.{State}
 use Rattle.am_machine.specs.Outcome.{Outcome, refused, unless}
 use Rattle.am_machine.specs.Invariant.Stands.{OnTriggers}
 use Rattle.am_machine.proofs.BookNarrows.{Narrows}
-use Rattle.am_machine.proofs.StandKeeps.{Knows, KeepsSites, Still, kept_still, stands_still, on_still}
+use Rattle.am_machine.proofs.SiteKeeps.{Keeps}
+use Rattle.am_machine.proofs.StandKeeps.{Knows, Still, kept_still, stands_still, on_still}
 
 -- where it is right it is so after the outcome
 pub record Stands (s : State) (o : Outcome) : Type 0 where
@@ -45,5 +46,5 @@ pub kernel_changes : (s : State) (answer : Answer) (shown : List Obs) (k : Kerne
 kernel_changes s answer shown k n still = record { stands = λ h. stands_still s.kernel k s.daemon n still h; sites = λ on. on_still s.kernel k still on }
 
 -- neither mounts nor locations change
-pub quietly : (s : State) (answer : Answer) (shown : List Obs) (k : KernelState) → Narrows s.kernel k → KeepsSites s.kernel k → Stands s (record { answer = answer; seen = shown; state = record s { kernel = k } })
+pub quietly : (s : State) (answer : Answer) (shown : List Obs) (k : KernelState) → Narrows s.kernel k → Keeps s.kernel k → Stands s (record { answer = answer; seen = shown; state = record s { kernel = k } })
 quietly s answer shown k n keeps = kernel_changes s answer shown k n (kept_still s.kernel k keeps)

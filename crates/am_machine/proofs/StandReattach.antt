@@ -23,14 +23,16 @@ use Rattle.am_machine.specs.Invariant.Attachments.{AreGiven}
 use Rattle.am_machine.specs.Invariant.Places.{PlacesAgree}
 use Rattle.am_machine.specs.Invariant.Books.{IsServed}
 use Rattle.am_machine.specs.Invariant.Stands.{OnTriggers}
-use Rattle.am_machine.proofs.BookFound.{found_all, find_others, find_new, absent, gone, found_left}
+use Rattle.am_machine.proofs.TokenLists.{all_found}
+use Rattle.am_machine.proofs.BookFound.{find_others, find_new, absent, gone, found_left}
 use Rattle.am_machine.proofs.BookNarrows.{pipe_others}
 use Rattle.am_machine.proofs.BookStanding.{mounted_others, standing_fs}
-use Rattle.am_machine.proofs.StandKeeps.{Knows, marked_sites, Still, kept_still, its_autofs}
+use Rattle.am_machine.proofs.SiteKeeps.{marked_sites}
+use Rattle.am_machine.proofs.StandKeeps.{Knows, Still, kept_still, its_autofs}
 use Rattle.am_machine.proofs.StandAgain.{standing_written}
 
 pub pipe_still : (k : KernelState) (fs : ℕ) → Still k (with_pipe fs k)
-pipe_still k fs = kept_still k (with_pipe fs k) (record { table = refl; sites = marked_sites fs false k.triggers })
+pipe_still k fs = kept_still k (with_pipe fs k) (record { table = refl; last_fs = refl; sites = marked_sites fs false k.triggers })
 
 other_way : (a b : ℕ) → (a == b) ≡ false → (b == a) ≡ false
 other_way a b e = grind (arith, nat_tests, e)
@@ -61,7 +63,7 @@ module _ (k : KernelState) (d : DaemonState) (fs : ℕ) (a : Autofs) (is : autof
   -- no job is of the new attachment
   none_at_work : (f attach : ℕ) → (fs == f) ≡ true → IsServed made d_new f attach → (job : ℕ) (row : JobPlan) → job_of d.jobs job ≡ Some row → row.attach ≡ attach → ⊥
   none_at_work f attach is_fs s job row found under =
-      let bound = found_all (λ (r : JobPlan). (r.attach ≤ k.last_attach) × (r.trigger.fs ≤ k.last_fs)) (λ (r : JobPlan). r.token == job) d.jobs row given.jobs found in
+      let bound = all_found (λ (r : JobPlan). (r.attach ≤ k.last_attach) × (r.trigger.fs ≤ k.last_fs)) (λ (r : JobPlan). r.token == job) d.jobs row given.jobs found in
       let le : row.attach ≤ k.last_attach = bound.0 in
       let new : attach ≡ k.last_attach + 1 = new_attach f attach is_fs s in
       omega arith

@@ -26,8 +26,9 @@ use Rattle.am_machine.proofs.TraceRows.{some_is}
 use Rattle.am_machine.proofs.PlaceEvents.{first_none}
 use Rattle.am_machine.proofs.BookNarrows.{same_attachments, timeout_narrows, closed_narrows, closed_if_live_narrows}
 use Rattle.am_machine.proofs.BookWalks.{Leaves}
-use Rattle.am_machine.proofs.StandKeeps.{KeepsSites, keeps_all, kept_still, stands_still, on_still}
-use Rattle.am_machine.proofs.StandQuiet.{Quiet, closes}
+use Rattle.am_machine.proofs.SiteKeeps.{Keeps, keeps_all}
+use Rattle.am_machine.proofs.StandKeeps.{kept_still, stands_still, on_still}
+use Rattle.am_machine.proofs.Quiet.{Quiet, closes}
 use Rattle.am_machine.proofs.StandAttach.{dead_stands}
 use Rattle.am_machine.proofs.StandReattach.{pipe_still, reattached_stands}
 use Rattle.am_machine.proofs.StandOutcomes.{Stands, told, refuses, either, unless_refused, quietly}
@@ -41,7 +42,7 @@ walks (kernel.Fails e) s moment l q = refuses s e
 
 pub leave : (s : State) (walker : ℕ) → Stands s (leave_outcome s walker)
 leave s walker =
-    unless_refused (leave_refusal walker s.kernel.uses) s _ (λ e. quietly s _ _ (without_use walker s.kernel) (same_attachments s.kernel (without_use walker s.kernel) (λ fs. refl) (omega arith)) (record { table = refl; sites = λ fs. refl }))
+    unless_refused (leave_refusal walker s.kernel.uses) s _ (λ e. quietly s _ _ (without_use walker s.kernel) (same_attachments s.kernel (without_use walker s.kernel) (λ fs. refl) (omega arith)) (record { table = refl; last_fs = refl; sites = λ fs. refl }))
 
 -- ---- what the daemon asks for
 
@@ -52,7 +53,7 @@ repeat s attach token =
 pub catatonic : (s : State) (attach fs : ℕ) → Stands s (requests.catatonic_outcome s attach fs)
 catatonic s attach fs = unless_refused (catatonic_refusal s.kernel attach fs) s _ (λ e. quietly s _ _ (closed fs s.kernel) (closed_narrows s.kernel fs) (closes s.kernel fs))
 
-closes_if : (k : KernelState) (fs : ℕ) (live : Bool) → KeepsSites k (if live then closed fs k else k)
+closes_if : (k : KernelState) (fs : ℕ) (live : Bool) → Keeps k (if live then closed fs k else k)
 closes_if k fs true = closes k fs
 closes_if k fs false = keeps_all k
 
@@ -62,7 +63,7 @@ admin_catatonic s fs =
 
 pub set_timeout : (s : State) (attach fs timeout : ℕ) → Stands s (requests.timeout_outcome s attach fs timeout)
 set_timeout s attach fs timeout =
-    unless_refused (timeout_refusal s.kernel attach fs) s _ (λ e. quietly s _ _ (with_timeout fs timeout s.kernel) (timeout_narrows s.kernel fs timeout) (record { table = refl; sites = λ g. refl }))
+    unless_refused (timeout_refusal s.kernel attach fs) s _ (λ e. quietly s _ _ (with_timeout fs timeout s.kernel) (timeout_narrows s.kernel fs timeout) (record { table = refl; last_fs = refl; sites = λ g. refl }))
 
 pub die : (s : State) → Stands s (requests.die_outcome s)
 die s = record { stands = λ h. dead_stands s.kernel s.daemon h; sites = λ on. on }

@@ -27,10 +27,10 @@ use Rattle.am_kernel.specs.Walks as walks
 use Rattle.am_kernel.specs.Walks.{closed}
 use Rattle.am_kernel.specs.Resumes as resumes
 use Rattle.am_kernel.specs.Expires as expires
-use Rattle.am_machine.proofs.StandKeeps.{KeepsSites, keeps_all, keeps_then, marked_sites}
+use Rattle.am_machine.proofs.SiteKeeps.{Keeps, keeps_all, keeps_then, marked_sites}
 
 abbrev pub KeepsIn : KernelState → Outcome → Type 0
-KeepsIn k (Goes begun shown made) = KeepsSites k made
+KeepsIn k (Goes begun shown made) = Keeps k made
 KeepsIn k (Fails e) = Unit {0}
 
 -- what it leaves keeps the mounts and the locations
@@ -46,11 +46,11 @@ fails k e = record { quiet = tt }
 
 -- ---- a walk begins
 
-pub closes : (k : KernelState) (fs : ℕ) → KeepsSites k (closed fs k)
-closes k fs = record { table = refl; sites = marked_sites fs true k.triggers }
+pub closes : (k : KernelState) (fs : ℕ) → Keeps k (closed fs k)
+closes k fs = record { table = refl; last_fs = refl; sites = marked_sites fs true k.triggers }
 
 notifies_by : (pipe : PipeState) (k : KernelState) (begin : Begin) (trigger : Trigger) (attach : ℕ) (passed : List Trigger) → Quiet k (walks.notifies_by pipe k begin trigger attach passed)
-notifies_by Room k begin trigger attach passed = record { quiet = record { table = refl; sites = λ fs. refl } }
+notifies_by Room k begin trigger attach passed = record { quiet = record { table = refl; last_fs = refl; sites = λ fs. refl } }
 notifies_by Full k begin trigger attach passed = fails k _
 notifies_by Gone k begin trigger attach passed = record { quiet = closes k trigger.fs }
 
@@ -61,9 +61,9 @@ notifies (Some attach) pipe k begin trigger passed =
     (either k (is_full k.waits) _ _ (fails k _) (notifies_by pipe k begin trigger attach passed))
 
 begun_by : (stop : Stop) (pipe : PipeState) (k : KernelState) (begin : Begin) (passed : List Trigger) → Quiet k (walks.begun_by stop pipe k begin passed)
-begun_by (stops.Arrive at) pipe k begin passed = record { quiet = record { table = refl; sites = λ fs. refl } }
+begun_by (stops.Arrive at) pipe k begin passed = record { quiet = record { table = refl; last_fs = refl; sites = λ fs. refl } }
 begun_by (stops.Block token) pipe k begin passed =
-    either k (is_full k.waits) _ _ (fails k _) (record { quiet = record { table = refl; sites = λ fs. refl } })
+    either k (is_full k.waits) _ _ (fails k _) (record { quiet = record { table = refl; last_fs = refl; sites = λ fs. refl } })
 begun_by (stops.Missing trigger) pipe k begin passed = notifies (attach_of k trigger.fs) pipe k begin trigger passed
 begun_by (stops.Refuse e) pipe k begin passed = fails k e
 
@@ -81,13 +81,13 @@ or_failed : (o : Outcome) (k : KernelState) → Quiet k o → Quiet k (resumes.o
 or_failed (Goes begun shown made) k h = h
 or_failed (Fails e) k h = nothing k e
 
-from_base : (k base : KernelState) (o : Outcome) → KeepsSites k base → Quiet base o → Quiet k o
+from_base : (k base : KernelState) (o : Outcome) → Keeps k base → Quiet base o → Quiet k o
 from_base k base (Goes begun shown made) h g = record { quiet = keeps_then k base made h g.quiet }
 from_base k base (Fails e) h g = fails k e
 
-freed : (kind : TokenKind) (k : KernelState) (wait : WaitRow) (moment : ℕ) → KeepsSites k (resumes.freed_from kind wait moment k)
-freed Missing k wait moment = record { table = refl; sites = λ fs. refl }
-freed Expire k wait moment = record { table = refl; sites = λ fs. refl }
+freed : (kind : TokenKind) (k : KernelState) (wait : WaitRow) (moment : ℕ) → Keeps k (resumes.freed_from kind wait moment k)
+freed Missing k wait moment = record { table = refl; last_fs = refl; sites = λ fs. refl }
+freed Expire k wait moment = record { table = refl; last_fs = refl; sites = λ fs. refl }
 
 again : (pipe : PipeState) (k base : KernelState) (row : WalkRow) (moment : ℕ) → Quiet base (resumes.again pipe k base row moment)
 again pipe k base row moment =
@@ -129,7 +129,7 @@ resume pipe k walker moment =
 -- ---- an expiry is asked for
 
 expires_by : (pipe : PipeState) (k : KernelState) (walker : ℕ) (trigger : Trigger) (attach : ℕ) → Quiet k (expires.expires_by pipe k walker trigger attach)
-expires_by Room k walker trigger attach = record { quiet = record { table = refl; sites = λ fs. refl } }
+expires_by Room k walker trigger attach = record { quiet = record { table = refl; last_fs = refl; sites = λ fs. refl } }
 expires_by Full k walker trigger attach = fails k _
 expires_by Gone k walker trigger attach = record { quiet = closes k trigger.fs }
 
