@@ -1,13 +1,11 @@
 -- What changes neither the mounts nor where an autofs is keeps the agreement on places.
-use Rattle.std.proofs.Common.{◌≡◌, ◌≤◌, ℕ, ◌==◌, Bool, true, false, cond, List, [], ◌∷◌, Option, Some, None, refl, sym, ◌∙◌, ap, subst}
-use Rattle.std.specs.Prelude.{map, find}
-use Rattle.std.specs.Option.{option_map}
+use Rattle.std.proofs.Common.{◌≡◌, ◌≤◌, ℕ, Some, sym, ap, subst}
 use Rattle.am_names.specs.declared.row.MountRow.{MountRow}
 use Rattle.am_mount.specs.Rows.{mount_row}
 use Rattle.am_propagate.specs.MountTable.{MountTable}
 use Rattle.am_propagate.specs.Invariant.{IsWhole}
 use Rattle.am_trigger.specs.declared.autofs.Autofs.{Autofs}
-use Rattle.am_trigger.specs.Rows.{TriggerRows, autofs_of, catatonic_row, with_catatonic}
+use Rattle.am_trigger.specs.Rows.{autofs_of}
 use Rattle.am_kernel.specs.State.{KernelState}
 use Rattle.am_machine.specs.Invariant.Places.{IsLocation, HoldsOne, IsCopied, PlacesAgree}
 use Rattle.am_machine.proofs.SiteKeeps.{Keeps, WasThere, was_there, still_none}

@@ -32,7 +32,6 @@ use Rattle.am_machine.specs.Invariant.Stands.{OnTriggers}
 use Rattle.am_machine.proofs.PlaceInside.{position_inside}
 use Rattle.am_machine.proofs.PlaceEvents.{else_none, others_none, first_none, not_false}
 use Rattle.am_machine.proofs.BookNarrows.{same_attachments, from_narrows}
-use Rattle.am_machine.proofs.SiteKeeps.{Keeps, keeps_all}
 use Rattle.am_machine.proofs.StandKeeps.{Knows, Still, kept_still, stands_still, on_still}
 use Rattle.am_machine.proofs.StandKeeps as still
 use Rattle.am_machine.proofs.StandPlain.{mounted_still, copied_still, plain_still, dropped_still}
