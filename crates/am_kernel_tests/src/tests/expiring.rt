@@ -4,7 +4,7 @@ use super::answer::Answer;
 use super::call::Call;
 use super::expiry::TWO_MOUNTED;
 use super::look::Look;
-use super::script::{Step, World, limits, plays_both};
+use super::script::{Step, World, limits, plays_all, plays_both};
 use super::sight::Sight;
 use super::trap::Trap;
 use am_names::{Errno, Status};
@@ -67,11 +67,8 @@ pub static READY: [Step; 14] = [
 
 #[test]
 fn a_walk_begins_again_after_an_expiry(rt: HostRuntime) -> Result<(), Fail> {
-    let alloc = rt.alloc();
-    let mut world = World::new(alloc, limits(9, 9, 9))?;
-    world.plays(&rt, alloc, &TWO_MOUNTED)?;
-    world.plays(&rt, alloc, &HOME_EXPIRES)?;
-    world.plays(&rt, alloc, &READY)?;
+    let tables: [&[Step]; 3] = [&TWO_MOUNTED, &HOME_EXPIRES, &READY];
+    plays_all(&rt, rt.alloc(), limits(9, 9, 9), &tables)?;
     Ok(())
 }
 
@@ -119,12 +116,8 @@ static DUE_AGAIN: [Step; 9] = [
 
 #[test]
 fn what_could_not_expire_is_due_again_later(rt: HostRuntime) -> Result<(), Fail> {
-    let alloc = rt.alloc();
-    let mut world = World::new(alloc, limits(9, 9, 9))?;
-    world.plays(&rt, alloc, &TWO_MOUNTED)?;
-    world.plays(&rt, alloc, &HOME_EXPIRES)?;
-    world.plays(&rt, alloc, &FAILS)?;
-    world.plays(&rt, alloc, &DUE_AGAIN)?;
+    let tables: [&[Step]; 4] = [&TWO_MOUNTED, &HOME_EXPIRES, &FAILS, &DUE_AGAIN];
+    plays_all(&rt, rt.alloc(), limits(9, 9, 9), &tables)?;
     Ok(())
 }
 
@@ -162,11 +155,8 @@ static STAYS: [Step; 9] = [
 
 #[test]
 fn what_has_expired_counts_as_used(rt: HostRuntime) -> Result<(), Fail> {
-    let alloc = rt.alloc();
-    let mut world = World::new(alloc, limits(9, 9, 9))?;
-    world.plays(&rt, alloc, &TWO_MOUNTED)?;
-    world.plays(&rt, alloc, &HOME_EXPIRES)?;
-    world.plays(&rt, alloc, &STAYS)?;
+    let tables: [&[Step]; 3] = [&TWO_MOUNTED, &HOME_EXPIRES, &STAYS];
+    plays_all(&rt, rt.alloc(), limits(9, 9, 9), &tables)?;
     Ok(())
 }
 
@@ -246,18 +236,18 @@ static FAILS_AT_LAST: [Step; 5] = [
     Step::Finds(Look::Idle(7)),
 ];
 
-fn expires_so_often(rt: &impl Abort, alloc: Global) -> Result<(), Errno> {
-    let mut world = World::new(alloc, limits(9, 9, 100))?;
+fn expires_so_often(rt: &impl Abort, alloc: Global, world: &mut World) -> Result<(), Errno> {
     world.plays(rt, alloc, &TWO_MOUNTED)?;
     world.plays(rt, alloc, &WORK_IN_USE)?;
     for token in 1..40 {
-        assert!(rt; expires_again(&mut world, alloc, token), "token {token}");
+        assert!(rt; expires_again(world, alloc, token), "token {token}");
     }
     world.plays(rt, alloc, &FAILS_AT_LAST)
 }
 
 #[test]
 fn a_walk_waits_for_forty_expiries(rt: HostRuntime) -> Result<(), Fail> {
-    expires_so_often(&rt, rt.alloc())?;
+    let mut world = World::new(rt.alloc(), limits(9, 9, 100))?;
+    expires_so_often(&rt, rt.alloc(), &mut world)?;
     Ok(())
 }

@@ -203,60 +203,48 @@ fn play(
     Ok(())
 }
 
-fn two_namespaces(rt: &impl Abort, alloc: Global) -> Result<(), Errno> {
-    let mut one = opened(alloc)?;
-    let mut other = opened(alloc)?;
-    play(rt, alloc, &mut one, &mut other, &TWO_NAMESPACES)?;
-    play(rt, alloc, &mut one, &mut other, &BOTH_WAIT)?;
-    play(rt, alloc, &mut one, &mut other, &ONE_MOUNT_SERVES_BOTH)
+fn plays_on(
+    rt: &impl Abort,
+    alloc: Global,
+    one: &mut World,
+    other: &mut World,
+    tables: &[&[Step]],
+) -> Result<(), Errno> {
+    for steps in tables {
+        play(rt, alloc, one, other, steps)?;
+    }
+    Ok(())
 }
 
-fn three_mounts(rt: &impl Abort, alloc: Global) -> Result<(), Errno> {
+/// The steps of all tables, one after the other, in two new kernels.
+fn plays_twice(rt: &impl Abort, alloc: Global, tables: &[&[Step]]) -> Result<(), Errno> {
     let mut one = opened(alloc)?;
     let mut other = opened(alloc)?;
-    play(rt, alloc, &mut one, &mut other, &THREE_MOUNTS)
-}
-
-fn expiries(rt: &impl Abort, alloc: Global, then: &[Step]) -> Result<(), Errno> {
-    let mut one = opened(alloc)?;
-    let mut other = opened(alloc)?;
-    play(rt, alloc, &mut one, &mut other, &TWO_MOUNTED)?;
-    play(rt, alloc, &mut one, &mut other, &HOME_EXPIRES)?;
-    play(rt, alloc, &mut one, &mut other, then)
-}
-
-fn pipe_gone(rt: &impl Abort, alloc: Global) -> Result<(), Errno> {
-    let mut one = opened(alloc)?;
-    let mut other = opened(alloc)?;
-    play(rt, alloc, &mut one, &mut other, &TWO_MOUNTED)?;
-    play(rt, alloc, &mut one, &mut other, &GONE)
-}
-
-fn previews(rt: &impl Abort, alloc: Global) -> Result<(), Errno> {
-    let mut one = opened(alloc)?;
-    let mut other = opened(alloc)?;
-    play(rt, alloc, &mut one, &mut other, &TWO_NAMESPACES)?;
-    play(rt, alloc, &mut one, &mut other, &WALKS)?;
-    play(rt, alloc, &mut one, &mut other, &GOES)
+    plays_on(rt, alloc, &mut one, &mut other, tables)
 }
 
 #[test]
 fn memory_may_run_out_in_an_expiry(rt: HostRuntime) -> Result<(), Fail> {
-    expiries(&rt, rt.alloc(), &READY)?;
-    expiries(&rt, rt.alloc(), &FAILS)?;
-    pipe_gone(&rt, rt.alloc())?;
+    let ready: [&[Step]; 3] = [&TWO_MOUNTED, &HOME_EXPIRES, &READY];
+    plays_twice(&rt, rt.alloc(), &ready)?;
+    let fails: [&[Step]; 3] = [&TWO_MOUNTED, &HOME_EXPIRES, &FAILS];
+    plays_twice(&rt, rt.alloc(), &fails)?;
+    let gone: [&[Step]; 2] = [&TWO_MOUNTED, &GONE];
+    plays_twice(&rt, rt.alloc(), &gone)?;
     Ok(())
 }
 
 #[test]
 fn memory_may_run_out_in_a_preview(rt: HostRuntime) -> Result<(), Fail> {
-    previews(&rt, rt.alloc())?;
+    let tables: [&[Step]; 3] = [&TWO_NAMESPACES, &WALKS, &GOES];
+    plays_twice(&rt, rt.alloc(), &tables)?;
     Ok(())
 }
 
 #[test]
 fn memory_may_run_out_anywhere(rt: HostRuntime) -> Result<(), Fail> {
-    two_namespaces(&rt, rt.alloc())?;
-    three_mounts(&rt, rt.alloc())?;
+    let tables: [&[Step]; 3] = [&TWO_NAMESPACES, &BOTH_WAIT, &ONE_MOUNT_SERVES_BOTH];
+    plays_twice(&rt, rt.alloc(), &tables)?;
+    plays_twice(&rt, rt.alloc(), &[&THREE_MOUNTS])?;
     Ok(())
 }

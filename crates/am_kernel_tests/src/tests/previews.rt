@@ -4,7 +4,7 @@ use super::answer::Answer;
 use super::call::Call;
 use super::look::Look;
 use super::preview::Preview;
-use super::script::{Step, World, limits};
+use super::script::{Step, limits, plays_all};
 use super::sight::Sight;
 use super::trap::Trap;
 use super::worked::TWO_NAMESPACES;
@@ -88,11 +88,7 @@ static TRIGGERS: [Step; 9] = [
 
 #[test]
 fn what_calls_would_answer(rt: HostRuntime) -> Result<(), Fail> {
-    let alloc = rt.alloc();
-    let mut world = World::new(alloc, limits(99, 9, 9))?;
-    world.plays(&rt, alloc, &TWO_NAMESPACES)?;
-    world.plays(&rt, alloc, &WALKS)?;
-    world.plays(&rt, alloc, &GOES)?;
-    world.plays(&rt, alloc, &TRIGGERS)?;
+    let tables: [&[Step]; 4] = [&TWO_NAMESPACES, &WALKS, &GOES, &TRIGGERS];
+    plays_all(&rt, rt.alloc(), limits(99, 9, 9), &tables)?;
     Ok(())
 }

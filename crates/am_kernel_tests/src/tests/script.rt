@@ -152,7 +152,30 @@ pub fn limits(mounts: u32, waiters: u32, tokens: u32) -> Limits {
     }
 }
 
-/// The steps of both tables go as they say, one after the other, in a new kernel.
+fn plays_on(
+    rt: &impl Abort,
+    alloc: Global,
+    world: &mut World,
+    tables: &[&[Step]],
+) -> Result<(), Errno> {
+    for steps in tables {
+        world.plays(rt, alloc, steps)?;
+    }
+    Ok(())
+}
+
+/// The steps of all tables go as they say, one after the other, in a new kernel.
+pub fn plays_all(
+    rt: &impl Abort,
+    alloc: Global,
+    limits: Limits,
+    tables: &[&[Step]],
+) -> Result<(), Errno> {
+    let mut world = World::new(alloc, limits)?;
+    plays_on(rt, alloc, &mut world, tables)
+}
+
+/// The steps of both tables go as they say.
 pub fn plays_both(
     rt: &impl Abort,
     alloc: Global,
@@ -160,13 +183,10 @@ pub fn plays_both(
     first: &[Step],
     then: &[Step],
 ) -> Result<(), Errno> {
-    let mut world = World::new(alloc, limits)?;
-    world.plays(rt, alloc, first)?;
-    world.plays(rt, alloc, then)
+    plays_all(rt, alloc, limits, &[first, then])
 }
 
 /// The steps go as they say, with ample numbers.
 pub fn plays(rt: &impl Abort, alloc: Global, steps: &[Step]) -> Result<(), Errno> {
-    let mut world = World::new(alloc, limits(100, 100, 100))?;
-    world.plays(rt, alloc, steps)
+    plays_all(rt, alloc, limits(100, 100, 100), &[steps])
 }

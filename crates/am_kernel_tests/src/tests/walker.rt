@@ -151,17 +151,17 @@ static FAILS_AT_LAST: [Step; 4] = [
     Step::Finds(Look::Closed(40)),
 ];
 
-fn walks_so_often(rt: &impl Abort, alloc: Global) -> Result<(), Errno> {
-    let mut world = World::new(alloc, limits(9, 9, 100))?;
+fn walks_so_often(rt: &impl Abort, alloc: Global, world: &mut World) -> Result<(), Errno> {
     world.plays(rt, alloc, &WAITS)?;
     for token in 1..40 {
-        assert!(rt; begins_again(&mut world, alloc, token), "token {token}");
+        assert!(rt; begins_again(world, alloc, token), "token {token}");
     }
     world.plays(rt, alloc, &FAILS_AT_LAST)
 }
 
 #[test]
 fn a_walk_begins_forty_times(rt: HostRuntime) -> Result<(), Fail> {
-    walks_so_often(&rt, rt.alloc())?;
+    let mut world = World::new(rt.alloc(), limits(9, 9, 100))?;
+    walks_so_often(&rt, rt.alloc(), &mut world)?;
     Ok(())
 }

@@ -3,7 +3,7 @@
 use super::answer::Answer;
 use super::call::Call;
 use super::look::Look;
-use super::script::{Step, World, limits, plays, plays_both};
+use super::script::{Step, limits, plays, plays_all, plays_both};
 use super::sight::Sight;
 use super::trap::Trap;
 use am_group::Change;
@@ -68,11 +68,8 @@ pub static ONE_MOUNT_SERVES_BOTH: [Step; 12] = [
 
 #[test]
 fn one_mount_serves_two_namespaces(rt: HostRuntime) -> Result<(), Fail> {
-    let alloc = rt.alloc();
-    let mut world = World::new(alloc, limits(9, 9, 9))?;
-    world.plays(&rt, alloc, &TWO_NAMESPACES)?;
-    world.plays(&rt, alloc, &BOTH_WAIT)?;
-    world.plays(&rt, alloc, &ONE_MOUNT_SERVES_BOTH)?;
+    let tables: [&[Step]; 3] = [&TWO_NAMESPACES, &BOTH_WAIT, &ONE_MOUNT_SERVES_BOTH];
+    plays_all(&rt, rt.alloc(), limits(9, 9, 9), &tables)?;
     Ok(())
 }
 
