@@ -1,6 +1,6 @@
 //! A call that finds no memory has changed nothing, and is done when it is made again. Each
 //! allocation is refused in turn: `rt try --test --fail-alloc N -- memory`, from 1 on, or
-//! `tools/refuse_each.sh am_kernel memory`.
+//! `tools/refuse_each.sh am_kernel_tests tests::memory::memory_may_run_out_anywhere` and its like.
 
 use super::call::{Call, Said};
 use super::expiring::{FAILS, HOME_EXPIRES, READY};
