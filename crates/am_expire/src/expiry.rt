@@ -2,14 +2,13 @@
 
 ghost use Rattle.std.specs.Prelude.{◌≡◌, ◌+◌, None, IfOk};
 ghost use Rattle.am_names.specs.Errno.{RefusedAs};
-ghost use Rattle.am_trigger.specs.Sites.{place_of};
 ghost use Rattle.am_expire.specs.Pick.{Expiry, is_due, may_go, mount_on, is_open, is_eligible, candidates, is_lesser_name, comes_before, IsPick, pick_of};
 ghost use Rattle.am_expire.specs.Scan.{expiry_in, earlier, candidates_before, IsBest};
 
 use crate::uses::Uses;
-use am_names::{Errno, FsId, MountId, Name, Place, Seconds, TokenKind, Trigger};
+use am_names::{Errno, FsId, MountId, Name, Seconds, TokenKind, Trigger};
 use am_propagate::Subtree;
-use am_trigger::Triggers;
+use am_trigger::{Triggers, place_of};
 use am_wait::Waits;
 use std::alloc::{AllocError, Global};
 
@@ -29,16 +28,6 @@ struct View<'a> {
     timeout: u32,
     moment: Seconds,
     immediate: bool,
-}
-
-fn place_of(alloc: Global, trigger: &Trigger) -> Result<Place, AllocError>
-    ensures { IfOk result (λ place. place ≡ place_of trigger.now) }
-{
-    let mut place = Place::root(alloc);
-    if let Some(name) = &trigger.name {
-        place.push(name)?;
-    }
-    Ok(place)
 }
 
 fn is_lesser_name(name: &Option<Name>, other: &Option<Name>) -> bool

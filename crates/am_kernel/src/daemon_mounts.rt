@@ -7,12 +7,11 @@ ghost use Rattle.am_propagate.specs.Removed.{umount_refusal, unmounted};
 ghost use Rattle.am_expire.specs.Uses.{is_used};
 ghost use Rattle.am_kernel.specs.DaemonMounts.{coming, is_there, location_of, mounted_on, mount_on_refusal, with_mount_on, umount_from_refusal, gone_from, without_mounts, is_top_at, trigger_under, standing_of, standing};
 
-use crate::directories::place_of;
 use crate::kernel::Kernel;
 use crate::table::{refuse, table};
 use am_names::{Attach, Errno, FsId, MountId, MountRow, Mounts, Name, Position, Trigger};
 use am_state::Obs;
-use am_trigger::Autofs;
+use am_trigger::{Autofs, place_of};
 use std::alloc::{AllocError, Global};
 
 impl Kernel {

@@ -1,6 +1,6 @@
 //! The directories of indirect autofs file systems.
 
-ghost use Rattle.std.specs.Prelude.{◌≡◌, IfOk, OnOk, OnErr};
+ghost use Rattle.std.specs.Prelude.{◌≡◌, OnOk, OnErr};
 ghost use Rattle.am_names.specs.Errno.{RefusedAs, RefusedOnlyAs};
 ghost use Rattle.am_names.specs.Path.{IsCanonical, names_of};
 ghost use Rattle.am_trigger.specs.Sites.{place_of};
@@ -9,18 +9,8 @@ ghost use Rattle.am_kernel.specs.Directories.{is_indirect, mkdir_refusal, with_d
 use crate::kernel::Kernel;
 use crate::table::{refuse, table};
 use am_names::{Attach, Errno, Name, Place, Trigger};
-use std::alloc::{AllocError, Global};
-
-/// The place of a trigger in each mount of its file system.
-pub fn place_of(alloc: Global, trigger: &Trigger) -> Result<Place, AllocError>
-    ensures { IfOk result (λ place. place ≡ place_of trigger.now) }
-{
-    let mut place = Place::root(alloc);
-    if let Some(name) = &trigger.name {
-        place.push(name)?;
-    }
-    Ok(place)
-}
+use am_trigger::place_of;
+use std::alloc::Global;
 
 impl Kernel {
     /// Whether the trigger is a name in an indirect autofs.

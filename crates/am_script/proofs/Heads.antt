@@ -1,5 +1,5 @@
 -- A script whose head is read line by line.
-use Rattle.std.proofs.Common.{◌≡◌, ◌⊎◌, ◌+◌, ℕ, List, [], ◌∷◌, length, drop, Option, Some, None, Result, Ok, Err, IfOk, IfErr, refl, sym, ap, subst, ◌∙◌, inl, inr, arith}
+use Rattle.std.proofs.Common.{◌≡◌, ◌⊎◌, ◌≤◌, ◌+◌, ℕ, List, [], ◌∷◌, length, drop, Option, Some, None, Result, Ok, Err, IfOk, IfErr, refl, sym, ap, subst, ◌∙◌, inl, inr, arith}
 use Rattle.std.specs.Io.KnownBytes.{Appends}
 use Rattle.std.proofs.lemmas.List.{drop-drop}
 use Rattle.am_machine.specs.State.{State, Opening, opening_in, opening_of}
@@ -7,7 +7,7 @@ use Rattle.am_script.specs.declared.fault.ScriptFault.{ScriptFault}
 use Rattle.am_script.specs.declared.fault.ScriptFaultKind.{ScriptFaultKind}
 use Rattle.am_script.specs.declared.fault.ScriptFaultKind.TheVariants.{NoMemory}
 use Rattle.am_script.specs.declared.play.Summary.{Summary}
-use Rattle.am_script.specs.Fault.{IsFaultOr}
+use Rattle.am_script.specs.Fault.{fault_at, IsFaultOr}
 use Rattle.am_script.specs.Sections.{parts_of_lines}
 use Rattle.am_script.specs.Head.{head_of}
 use Rattle.am_script.specs.Heading.{HeadSoFar, no_lines, Taken, GoesOn, EventsBegin, Stops, StopsAt, line_taken, first_open}
@@ -46,19 +46,38 @@ one_taken all head next number rest line lines left e t = record {
 kept_none : (old new : Option (List ℕ)) → new ≡ old → Appends old new []
 kept_none old new e = subst (λ (n : Option (List ℕ)). Appends old n []) (sym e) (appends_none old)
 
-faulty : (fault : ScriptFault) (script : Script) (old new : Option (List ℕ)) → script ≡ without_world (Some fault) → new ≡ old → IsStopped script old new fault
-faulty fault script old new e kept =
-    subst (λ (s : Script). IsStopped s old new fault) (sym e) (inr (record { found = refl; written = kept_none old new kept }))
+faulty : (count : ℕ) (fault : ScriptFault) (script : Script) (old new : Option (List ℕ)) → script ≡ without_world (Some fault) → new ≡ old → IsStopped count script old new fault
+faulty count fault script old new e kept =
+    subst (λ (s : Script). IsStopped count s old new fault) (sym e) (inr (record { found = refl; written = kept_none old new kept }))
 
-ran_out : (fault : ScriptFault) (script : Script) (old new : Option (List ℕ)) → fault.kind ≡ NoMemory → new ≡ old → IsStopped script old new fault
-ran_out fault script old new e kept = inl (record { kind = e; written = kept_none old new kept })
+ran_out : (count number : ℕ) (fault : ScriptFault) (script : Script) (old new : Option (List ℕ)) → fault ≡ fault_at number NoMemory → number ≤ count → new ≡ old → IsStopped count script old new fault
+ran_out count number fault script old new e fits kept =
+    let line : fault.line ≡ number = ap (λ (f : ScriptFault). f.line) e in
+    inl (record {
+      kind = ap (λ (f : ScriptFault). f.kind) e;
+      line = omega (arith, line, fits);
+      written = kept_none old new kept;
+    })
+
+-- a script has more lines than were taken
+more_lines : (few many : ℕ) (script : Script) (old new : Option (List ℕ)) (fault : ScriptFault) → few ≤ many → IsStopped few script old new fault → IsStopped many script old new fault
+more_lines few many script old new fault fits (inl none) = inl (record { kind = none.kind; line = omega (arith, none.line, fits); written = none.written })
+more_lines few many script old new fault fits (inr stops) = inr stops
+
+stops_in_more : (few many : ℕ) (script : Script) (old new : Option (List ℕ)) (r : Result Summary ScriptFault) → few ≤ many → IfErr r (IsStopped few script old new) → IfErr r (IsStopped many script old new)
+stops_in_more few many script old new (Ok summary) fits h = tt
+stops_in_more few many script old new (Err fault) fits h = more_lines few many script old new fault fits h
+
+taken_within : (all : List (List ℕ)) (head : HeadSoFar) (number : ℕ) (rest : List (List ℕ)) (line : List ℕ) (lines : List (List ℕ)) → IsLeft all head number rest → rest ≡ line ∷ lines → number + 1 ≤ length all
+taken_within all head number rest line lines left e = omega (arith, left.counted, ap (λ (ls : List (List ℕ)). length ls) e)
 
 -- a line of the head stops the script, or there is no memory for it
 pub head_stops : (broke : Option ScriptFaultKind) (all : List (List ℕ)) (head : HeadSoFar) (number : ℕ) (rest : List (List ℕ)) (line : List ℕ) (lines : List (List ℕ)) (fault : ScriptFault) (old new : Option (List ℕ)) →
-    IsLeft all head number rest → rest ≡ line ∷ lines → StopsAt (line_taken head (number + 1) line) fault → new ≡ old → IsStopped (script_from broke all) old new fault
+    IsLeft all head number rest → rest ≡ line ∷ lines → StopsAt (number + 1) (line_taken head (number + 1) line) fault → new ≡ old → IsStopped (length all) (script_from broke all) old new fault
 head_stops broke all head number rest line lines fault old new left e (inl t) kept =
-    faulty fault (script_from broke all) old new (ap (script_by broke all) (went all head number rest line lines (Stops fault) left e t)) kept
-head_stops broke all head number rest line lines fault old new left e (inr none) kept = ran_out fault (script_from broke all) old new none kept
+    faulty (length all) fault (script_from broke all) old new (ap (script_by broke all) (went all head number rest line lines (Stops fault) left e t)) kept
+head_stops broke all head number rest line lines fault old new left e (inr none) kept =
+    ran_out (length all) (number + 1) fault (script_from broke all) old new none (taken_within all head number rest line lines left e) kept
 
 -- ---- the events begin
 
@@ -69,9 +88,9 @@ begun broke all head next number rest line lines left e t =
     let starts = went all head number rest line lines (EventsBegin next) left e t in
     ap (script_by broke all) starts ∙ ap (λ (ls : List (List ℕ)). begun_by (opening_read next.said) (events_from broke (number + 1) ls)) (behind_more all head number rest line lines left e)
 
-pub begin_fails : (read : Result Opening ScriptFault) (told : Told) (fault : ScriptFault) (old : Option (List ℕ)) → IsFaultOr fault read → IsStopped (begun_by read told) old old fault
-begin_fails read told fault old (inl f) = faulty fault (begun_by read told) old old (ap (λ (r : Result Opening ScriptFault). begun_by r told) f) refl
-begin_fails read told fault old (inr none) = ran_out fault (begun_by read told) old old none refl
+pub begin_fails : (before : ℕ) (read : Result Opening ScriptFault) (told : Told) (fault : ScriptFault) (old : Option (List ℕ)) → IsFaultOr before fault read → IsStopped before (begun_by read told) old old fault
+begin_fails before read told fault old (inl f) = faulty before fault (begun_by read told) old old (ap (λ (r : Result Opening ScriptFault). begun_by r told) f) refl
+begin_fails before read told fault old (inr none) = ran_out before before fault (begun_by read told) old old none (omega arith) refl
 
 pub begun_played : (read : Result Opening ScriptFault) (told : Told) (world : State) (old new : Option (List ℕ)) (r : Result Summary ScriptFault) → read ≡ Ok (opening_in world) → world ≡ opening_of (opening_in world) →
     IfOk r (AllAnswered world told old new) → IfOk r (IsPlayed (begun_by read told) old new)
@@ -79,16 +98,16 @@ begun_played read told world old new (Ok summary) e w h =
     subst (λ (r : Result Opening ScriptFault). IsPlayed (begun_by r told) old new summary) (sym e) (subst (λ (s : State). AllAnswered s told old new summary) w h)
 begun_played read told world old new (Err fault) e w h = tt
 
-stopped_from : (read : Result Opening ScriptFault) (told : Told) (world : State) (old new : Option (List ℕ)) (fault : ScriptFault) → read ≡ Ok (opening_in world) → world ≡ opening_of (opening_in world) →
-    played.RanOut old new fault ⊎ played.Stops world told old new fault → IsStopped (begun_by read told) old new fault
-stopped_from read told world old new fault e w (inl none) = inl none
-stopped_from read told world old new fault e w (inr stops) =
-    subst (λ (r : Result Opening ScriptFault). IsStopped (begun_by r told) old new fault) (sym e) (inr (subst (λ (s : State). played.Stops s told old new fault) w stops))
+stopped_from : (before : ℕ) (read : Result Opening ScriptFault) (told : Told) (world : State) (old new : Option (List ℕ)) (fault : ScriptFault) → read ≡ Ok (opening_in world) → world ≡ opening_of (opening_in world) →
+    played.RanOut before old new fault ⊎ played.Stops world told old new fault → IsStopped before (begun_by read told) old new fault
+stopped_from before read told world old new fault e w (inl none) = inl none
+stopped_from before read told world old new fault e w (inr stops) =
+    subst (λ (r : Result Opening ScriptFault). IsStopped before (begun_by r told) old new fault) (sym e) (inr (subst (λ (s : State). played.Stops s told old new fault) w stops))
 
-pub begun_stopped : (read : Result Opening ScriptFault) (told : Told) (world : State) (old new : Option (List ℕ)) (r : Result Summary ScriptFault) → read ≡ Ok (opening_in world) → world ≡ opening_of (opening_in world) →
-    IfErr r (λ fault. played.RanOut old new fault ⊎ played.Stops world told old new fault) → IfErr r (IsStopped (begun_by read told) old new)
-begun_stopped read told world old new (Ok summary) e w h = tt
-begun_stopped read told world old new (Err fault) e w h = stopped_from read told world old new fault e w h
+pub begun_stopped : (before : ℕ) (read : Result Opening ScriptFault) (told : Told) (world : State) (old new : Option (List ℕ)) (r : Result Summary ScriptFault) → read ≡ Ok (opening_in world) → world ≡ opening_of (opening_in world) →
+    IfErr r (λ fault. played.RanOut before old new fault ⊎ played.Stops world told old new fault) → IfErr r (IsStopped before (begun_by read told) old new)
+begun_stopped before read told world old new (Ok summary) e w h = tt
+begun_stopped before read told world old new (Err fault) e w h = stopped_from before read told world old new fault e w h
 
 -- what is played behind the head is the whole script
 pub begins_played : (broke : Option ScriptFaultKind) (all : List (List ℕ)) (head next : HeadSoFar) (number : ℕ) (rest : List (List ℕ)) (line : List ℕ) (lines : List (List ℕ)) (old mid new : Option (List ℕ)) (r : Result Summary ScriptFault) →
@@ -99,9 +118,11 @@ begins_played broke all head next number rest line lines old mid new r left e t 
 
 pub begins_stopped : (broke : Option ScriptFaultKind) (all : List (List ℕ)) (head next : HeadSoFar) (number : ℕ) (rest : List (List ℕ)) (line : List ℕ) (lines : List (List ℕ)) (old mid new : Option (List ℕ)) (r : Result Summary ScriptFault) →
     IsLeft all head number rest → rest ≡ line ∷ lines → line_taken head (number + 1) line ≡ EventsBegin next → mid ≡ old →
-    IfErr r (IsStopped (begun_by (opening_read next.said) (events_from broke (number + 1) lines)) mid new) → IfErr r (IsStopped (script_from broke all) old new)
+    IfErr r (IsStopped (number + 1) (begun_by (opening_read next.said) (events_from broke (number + 1) lines)) mid new) → IfErr r (IsStopped (length all) (script_from broke all) old new)
 begins_stopped broke all head next number rest line lines old mid new r left e t kept h =
-    subst (λ (s : Script). IfErr r (IsStopped s old new)) (sym (begun broke all head next number rest line lines left e t)) (subst (λ (o : Option (List ℕ)). IfErr r (IsStopped (begun_by (opening_read next.said) (events_from broke (number + 1) lines)) o new)) kept h)
+    let script : Script = begun_by (opening_read next.said) (events_from broke (number + 1) lines) in
+    let stops : IfErr r (IsStopped (length all) script mid new) = stops_in_more (number + 1) (length all) script mid new r (taken_within all head number rest line lines left e) h in
+    subst (λ (s : Script). IfErr r (IsStopped (length all) s old new)) (sym (begun broke all head next number rest line lines left e t)) (subst (λ (o : Option (List ℕ)). IfErr r (IsStopped (length all) script o new)) kept stops)
 
 -- ---- the head ends
 
@@ -115,10 +136,10 @@ ended_ok None None number old = record { no_fault = refl; written = appends_none
 ended_ok None (Some first) number old = tt
 ended_ok (Some kind) section number old = tt
 
-ended_err : (broke : Option ScriptFaultKind) (section : Option ℕ) (number : ℕ) (old : Option (List ℕ)) → IfErr (end_of_head broke section number) (IsStopped (head_ends broke section number) old old)
-ended_err None None number old = tt
-ended_err None (Some first) number old = inr (record { found = refl; written = appends_none old })
-ended_err (Some kind) section number old = inr (record { found = refl; written = appends_none old })
+ended_err : (count : ℕ) (broke : Option ScriptFaultKind) (section : Option ℕ) (number : ℕ) (old : Option (List ℕ)) → IfErr (end_of_head broke section number) (IsStopped count (head_ends broke section number) old old)
+ended_err count None None number old = tt
+ended_err count None (Some first) number old = inr (record { found = refl; written = appends_none old })
+ended_err count (Some kind) section number old = inr (record { found = refl; written = appends_none old })
 
 pub end_played : (broke : Option ScriptFaultKind) (all : List (List ℕ)) (head : HeadSoFar) (number : ℕ) (rest : List (List ℕ)) (old new : Option (List ℕ)) (r : Result Summary ScriptFault) →
     IsLeft all head number rest → rest ≡ [] → new ≡ old → r ≡ end_of_head broke (first_open head.within) number → IfOk r (IsPlayed (script_from broke all) old new)
@@ -126,6 +147,6 @@ end_played broke all head number rest old new r left e kept is =
     rw (is, kept, ended broke all head number rest left e) (ended_ok broke (first_open head.within) number old)
 
 pub end_stopped : (broke : Option ScriptFaultKind) (all : List (List ℕ)) (head : HeadSoFar) (number : ℕ) (rest : List (List ℕ)) (old new : Option (List ℕ)) (r : Result Summary ScriptFault) →
-    IsLeft all head number rest → rest ≡ [] → new ≡ old → r ≡ end_of_head broke (first_open head.within) number → IfErr r (IsStopped (script_from broke all) old new)
+    IsLeft all head number rest → rest ≡ [] → new ≡ old → r ≡ end_of_head broke (first_open head.within) number → IfErr r (IsStopped (length all) (script_from broke all) old new)
 end_stopped broke all head number rest old new r left e kept is =
-    rw (is, kept, ended broke all head number rest left e) (ended_err broke (first_open head.within) number old)
+    rw (is, kept, ended broke all head number rest left e) (ended_err (length all) broke (first_open head.within) number old)

@@ -5,7 +5,7 @@ use Rattle.am_script.specs.declared.fault.ScriptFault.{ScriptFault}
 use Rattle.am_script.specs.declared.fault.ScriptFaultKind.{ScriptFaultKind}
 use Rattle.am_script.specs.declared.play.Summary.{Summary}
 use Rattle.am_script.specs.Lines.{lines_of}
-use Rattle.am_script.specs.Read.{IsReadFault, cut_line, cut_kind}
+use Rattle.am_script.specs.Read.{IsReadFault, cut_line, cut_kind, played}
 use Rattle.am_script.specs.Script.{Script, script_from, script_of}
 use Rattle.am_script.specs.Played.{IsStopped, StopsInput}
 
@@ -13,11 +13,17 @@ cut_script : (text slice cut whole : List ℕ) (kind told : ScriptFaultKind) →
 cut_script text slice cut whole kind told e f g h =
     ap (λ (k : ScriptFaultKind). script_from (Some k) (lines_of whole)) g ∙ ap (λ (w : List ℕ). script_from (Some (cut_kind cut kind)) (lines_of w)) h ∙ ap (λ (c : List ℕ). script_from (Some (cut_kind c kind)) (lines_of (take (length slice - length c) slice))) f ∙ ap (λ (s : List ℕ). script_of (Some kind) s) e
 
-pub stops_input : (ro rn wo wn : Option (List ℕ)) (text slice cut whole : List ℕ) (kind told : ScriptFaultKind) (r : Result Summary ScriptFault) → slice ≡ text → cut ≡ cut_line slice → told ≡ cut_kind cut kind → whole ≡ take (length slice - length cut) slice → Consumes ro rn text → IsReadFault kind → IfErr r (IsStopped (script_from (Some told) (lines_of whole)) wo wn) → IfErr r (StopsInput ro rn wo wn)
+cut_text : (text slice cut whole : List ℕ) (kind : ScriptFaultKind) → slice ≡ text → cut ≡ cut_line slice → whole ≡ take (length slice - length cut) slice → whole ≡ played (Some kind) text
+cut_text text slice cut whole kind e f h =
+    h ∙ ap (λ (c : List ℕ). take (length slice - length c) slice) f ∙ ap (λ (s : List ℕ). take (length s - length (cut_line s)) s) e
+
+pub stops_input : (ro rn wo wn : Option (List ℕ)) (text slice cut whole : List ℕ) (kind told : ScriptFaultKind) (r : Result Summary ScriptFault) → slice ≡ text → cut ≡ cut_line slice → told ≡ cut_kind cut kind → whole ≡ take (length slice - length cut) slice → Consumes ro rn text → IsReadFault kind → IfErr r (IsStopped (length (lines_of whole)) (script_from (Some told) (lines_of whole)) wo wn) → IfErr r (StopsInput ro rn wo wn)
 stops_input ro rn wo wn text slice cut whole kind told (Ok summary) e f g h read fault stopped = tt
 stops_input ro rn wo wn text slice cut whole kind told (Err at) e f g h read fault stopped = record {
   text = text;
   broke = Some kind;
   read = (read, fault);
-  stopped = subst (λ (s : Script). IsStopped s wo wn at) (cut_script text slice cut whole kind told e f g h) stopped;
+  stopped =
+    subst (λ (w : List ℕ). IsStopped (length (lines_of w)) (script_of (Some kind) text) wo wn at) (cut_text text slice cut whole kind e f h)
+    (subst (λ (s : Script). IsStopped (length (lines_of whole)) s wo wn at) (cut_script text slice cut whole kind told e f g h) stopped);
 }

@@ -23,6 +23,6 @@ fault_at line kind = record { line = line; kind = kind }
 abbrev pub fault_in : ℕ → ℕ → ScriptFaultKind → ScriptFault
 fault_in first line kind = fault_at (first + line) kind
 
--- this is the fault that is expected, or memory ran out
-abbrev pub IsFaultOr : {T : Type 0} → ScriptFault → Result T ScriptFault → Type 0
-IsFaultOr fault expected = (expected ≡ Err fault) ⊎ (fault.kind ≡ NoMemory)
+-- this is the fault that is expected, or memory ran out, which is told at this line
+abbrev pub IsFaultOr : {T : Type 0} → ℕ → ScriptFault → Result T ScriptFault → Type 0
+IsFaultOr number fault expected = (expected ≡ Err fault) ⊎ (fault ≡ fault_at number NoMemory)

@@ -100,9 +100,9 @@ line_taken head number line =
 abbrev pub taken_as : Bool → HeadSoFar → Taken
 taken_as begins head = if begins then EventsBegin head else GoesOn head
 
--- the line has this fault, or memory ran out
-abbrev pub StopsAt : Taken → ScriptFault → Type 0
-StopsAt taken fault = (taken ≡ Stops fault) ⊎ (fault.kind ≡ NoMemory)
+-- the line with this number has this fault, or memory ran out
+abbrev pub StopsAt : ℕ → Taken → ScriptFault → Type 0
+StopsAt number taken fault = (taken ≡ Stops fault) ⊎ (fault ≡ fault_at number NoMemory)
 
 -- the first line of the section that the lines are in, if they are in one
 abbrev pub first_open : Option Section → Option ℕ

@@ -1,6 +1,6 @@
 -- How a script is played: its answers are those of a run from its world, and their lines are
 -- what is written.
-use Rattle.std.specs.Prelude.{◌≡◌, ◌⊎◌, ℕ, List, [], ◌∷◌, ◌++◌, length, take, count_by, Option, None, Some, Result, Ok, Err}
+use Rattle.std.specs.Prelude.{◌≡◌, ◌⊎◌, ◌≤◌, ℕ, List, [], ◌∷◌, ◌++◌, length, take, count_by, Option, None, Some, Result, Ok, Err}
 use Rattle.std.specs.List.{flat_map}
 use Rattle.std.specs.Io.KnownBytes.{Appends, Consumes, IsAtEnd}
 use Rattle.am_machine.specs.declared.answer.Answer.{Answer}
@@ -11,8 +11,9 @@ use Rattle.am_script.specs.declared.fault.ScriptFaultKind.{ScriptFaultKind}
 use Rattle.am_script.specs.declared.fault.ScriptFaultKind.TheVariants.{BadSection, NoMemory, WriteFailed}
 use Rattle.am_script.specs.declared.play.Summary.{Summary}
 use Rattle.am_script.specs.Fault.{fault_at}
+use Rattle.am_script.specs.Lines.{lines_of}
 use Rattle.am_script.specs.Answers.{answer_line, is_refused}
-use Rattle.am_script.specs.Read.{WasRead}
+use Rattle.am_script.specs.Read.{WasRead, played}
 use Rattle.am_script.specs.Script.{Numbered, events_in, Told, Script, script_of}
 
 abbrev pub lines_for : List Answer → List ℕ
@@ -87,14 +88,17 @@ abbrev pub StoppedFrom : Option Opening → Told → Option (List ℕ) → Optio
 StoppedFrom None told old new fault = StopsBefore told old new fault
 StoppedFrom (Some opening) told old new fault = Stops (opening_of opening) told old new fault
 
--- no memory for the head or for the world: nothing is written
-pub record RanOut (old new : Option (List ℕ)) (fault : ScriptFault) : Type 0 where
+-- no memory for the head or for the world: nothing is written, and that is told at one of so many
+-- lines
+pub record RanOut (lines : ℕ) (old new : Option (List ℕ)) (fault : ScriptFault) : Type 0 where
   pub kind : fault.kind ≡ NoMemory
+  pub line : fault.line ≤ lines
   pub written : Appends old new []
 
--- the script isn't played to its end
-abbrev pub IsStopped : Script → Option (List ℕ) → Option (List ℕ) → ScriptFault → Type 0
-IsStopped script old new fault = RanOut old new fault ⊎ StoppedFrom script.opening script.told old new fault
+-- the script, of so many lines, isn't played to its end
+abbrev pub IsStopped : ℕ → Script → Option (List ℕ) → Option (List ℕ) → ScriptFault → Type 0
+IsStopped lines script old new fault =
+    RanOut lines old new fault ⊎ StoppedFrom script.opening script.told old new fault
 
 -- ---- with a reader
 
@@ -110,7 +114,7 @@ pub record StopsInput (input rest old new : Option (List ℕ)) (fault : ScriptFa
   pub text : List ℕ
   pub broke : Option ScriptFaultKind
   pub read : WasRead input rest text broke
-  pub stopped : IsStopped (script_of broke text) old new fault
+  pub stopped : IsStopped (length (lines_of (played broke text))) (script_of broke text) old new fault
 
 -- ---- the end of a head
 

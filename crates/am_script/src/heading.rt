@@ -3,7 +3,7 @@
 ghost use Rattle.std.specs.Prelude.{◌≡◌, ◌≤◌, ◌^◌, [], true, false, drop, None, Ok, IfOk, IfErr, IfNone, IfSome};
 ghost use Rattle.am_master.specs.Grammar.{master_read, StandWithin};
 ghost use Rattle.am_script.specs.declared.fault.ScriptFaultKind.TheVariants.{NoMemory};
-ghost use Rattle.am_script.specs.Fault.{IsFaultOr};
+ghost use Rattle.am_script.specs.Fault.{IsFaultOr, fault_at};
 ghost use Rattle.am_script.specs.Head.{is_limits, master_in};
 ghost use Rattle.am_script.specs.Heading.{may_open, is_start};
 ghost use Rattle.am_script.specs.Lines.{words_of};
@@ -58,7 +58,7 @@ impl Model for Heading {
 }
 
 impl Heading {
-    ghost use Rattle.am_script.specs.Heading.{no_lines, line_taken, within_taken, outside_taken, alone_taken, opened, closed, limits_taken, taken_as, first_open, StopsAt};
+    ghost use Rattle.am_script.specs.Heading.{no_lines, line_taken, within_taken, outside_taken, alone_taken, opened, closed, limits_taken, taken_as, first_open, Stops, StopsAt};
     ghost use Rattle.am_script.specs.Limits.{limits_read};
     ghost use Rattle.am_script.specs.Maps.{opening_read};
     ghost use Rattle.am_machine.specs.State.{opening_in, opening_of};
@@ -87,7 +87,7 @@ impl Heading {
     ) -> Result<bool, ScriptFault>
         requires { number ≤ 2 ^ 62 }
         ensures ok { IfOk result (λ begins. line_taken self.old number line.now ≡ taken_as begins self.new) }
-        ensures err { IfErr result (StopsAt (line_taken self.old number line.now)) }
+        ensures err { IfErr result (StopsAt number (line_taken self.old number line.now)) }
     {
         if is_long(line) {
             return Err(fault_at(number, ScriptFaultKind::LongLine));
@@ -108,7 +108,7 @@ impl Heading {
     ) -> Result<bool, ScriptFault>
         requires { self.old.within ≡ None }
         ensures ok { IfOk result (λ begins. within_taken self.old section line.now ≡ taken_as begins self.new) }
-        ensures err { IfErr result (StopsAt (within_taken self.old section line.now)) }
+        ensures err { IfErr result (StopsAt number (within_taken self.old section line.now)) }
     {
         if is_end(line) {
             return self.close(alloc, section, number);
@@ -126,7 +126,7 @@ impl Heading {
     fn close(&mut self, alloc: Global, section: Section, number: u64) -> Result<bool, ScriptFault>
         requires { self.old.within ≡ None }
         ensures ok { IfOk result (λ begins. closed self.old section ≡ taken_as begins self.new) }
-        ensures err { IfErr result (StopsAt (closed self.old section)) }
+        ensures err { IfErr result (StopsAt number (closed self.old section)) }
     {
         self.stage = Stage::Mastered;
         if section.is_map() {
@@ -150,7 +150,7 @@ impl Heading {
         requires number { number ≤ 2 ^ 62 }
         requires outside { self.old.within ≡ None }
         ensures ok { IfOk result (λ begins. outside_taken self.old number (words_of line.now) ≡ taken_as begins self.new) }
-        ensures err { IfErr result (StopsAt (outside_taken self.old number (words_of line.now))) }
+        ensures err { IfErr result (StopsAt number (outside_taken self.old number (words_of line.now))) }
     {
         if is_skipped(line) {
             return Ok(false);
@@ -165,7 +165,7 @@ impl Heading {
     /// A section begins, if it may.
     fn open_section(&mut self, section: Section) -> Result<bool, ScriptFault>
         ensures ok { IfOk result (λ begins. opened self.old section ≡ taken_as begins self.new) }
-        ensures err { IfErr result (StopsAt (opened self.old section)) }
+        ensures err { IfErr result (λ fault. opened self.old section ≡ Stops fault) }
     {
         if !may_open(&self.stage, &section) {
             return Err(fault_at(section.first(), ScriptFaultKind::BadSection));
@@ -177,7 +177,7 @@ impl Heading {
     /// Takes a line that opens no section.
     fn take_alone(&mut self, number: u64, line: &[u8]) -> Result<bool, ScriptFault>
         ensures ok { IfOk result (λ begins. alone_taken self.old number (words_of line.now) ≡ taken_as begins self.new) }
-        ensures err { IfErr result (StopsAt (alone_taken self.old number (words_of line.now))) }
+        ensures err { IfErr result (λ fault. alone_taken self.old number (words_of line.now) ≡ Stops fault) }
     {
         if is_start(&self.stage) {
             if let Some(words) = behind_limits(line) {
@@ -193,7 +193,7 @@ impl Heading {
     /// Takes the words behind `limits`.
     fn take_limits(&mut self, number: u64, words: &[u8]) -> Result<bool, ScriptFault>
         ensures ok { IfOk result (λ begins. limits_taken self.old number (limits_read (words_of words.now)) ≡ taken_as begins self.new) }
-        ensures err { IfErr result (StopsAt (limits_taken self.old number (limits_read (words_of words.now)))) }
+        ensures err { IfErr result (λ fault. limits_taken self.old number (limits_read (words_of words.now)) ≡ Stops fault) }
     {
         match read_limits(words) {
             Some(limits) => {
@@ -209,7 +209,7 @@ impl Heading {
     pub fn begin(self, alloc: Global, number: u64) -> Result<World, ScriptFault>
         ensures opening { IfOk result (λ world. opening_read self.said ≡ Ok (opening_in (state_of world))) }
         ensures world { IfOk result (λ world. state_of world ≡ opening_of (opening_in (state_of world))) }
-        ensures err { IfErr result (λ fault. IsFaultOr fault (opening_read self.said)) }
+        ensures err { IfErr result (λ fault. IsFaultOr number fault (opening_read self.said)) }
     {
         let Heading {
             stage: _,
@@ -278,7 +278,7 @@ fn behind_limits(line: &[u8]) -> Option<&[u8]>
 fn read_master(alloc: Global, section: &Section, number: u64) -> Result<Master, ScriptFault>
     ensures ok { IfOk result (λ master. master_in section.now.first (master_read section.now.text) ≡ Ok master) }
     ensures lines { IfOk result (StandWithin (2 ^ 63)) }
-    ensures err { IfErr result (λ fault. IsFaultOr fault (master_in section.now.first (master_read section.now.text))) }
+    ensures err { IfErr result (λ fault. IsFaultOr number fault (master_in section.now.first (master_read section.now.text))) }
 {
     match Master::read(alloc, section.text()) {
         Ok(master) => Ok(master),
@@ -296,7 +296,7 @@ fn read_master(alloc: Global, section: &Section, number: u64) -> Result<Master, 
 /// The master map of a script that has no master section.
 fn empty_master(alloc: Global, number: u64) -> Result<Master, ScriptFault>
     ensures ok { IfOk result (λ master. master ≡ []) }
-    ensures err { IfErr result (λ fault. fault.kind ≡ NoMemory) }
+    ensures err { IfErr result (λ fault. fault ≡ fault_at number NoMemory) }
 {
     match Master::read(alloc, b"") {
         Ok(master) => Ok(master),

@@ -72,7 +72,7 @@ fn play_text<W: Write>(
     requires { length text.now < 2 ^ 62 }
     ensures whole { OnOk result (broke ≡ None) }
     ensures ok { IfOk result (IsPlayed (script_from broke (lines_of text.now)) (W.contents writer.old) (W.contents writer.new)) }
-    ensures err { IfErr result (IsStopped (script_from broke (lines_of text.now)) (W.contents writer.old) (W.contents writer.new)) }
+    ensures err { IfErr result (IsStopped (length (lines_of text.now)) (script_from broke (lines_of text.now)) (W.contents writer.old) (W.contents writer.new)) }
 {
     let mut heading = Heading::new(alloc);
     let mut rest = Some(text);
@@ -101,7 +101,7 @@ fn play_behind<W: Write>(
     requires { before + size_in (option_copied text) ≤ 2 ^ 63 }
     ensures whole { OnOk result (broke ≡ None) }
     ensures ok { IfOk result (IsPlayed (begun_by (opening_read heading.said) (events_from broke before (lines_in (option_copied text.entry)))) (W.contents writer.old) (W.contents writer.new)) }
-    ensures err { IfErr result (IsStopped (begun_by (opening_read heading.said) (events_from broke before (lines_in (option_copied text.entry)))) (W.contents writer.old) (W.contents writer.new)) }
+    ensures err { IfErr result (IsStopped before (begun_by (opening_read heading.said) (events_from broke before (lines_in (option_copied text.entry)))) (W.contents writer.old) (W.contents writer.new)) }
 {
     match heading.begin(alloc, before) {
         Ok(mut world) => play_events(alloc, &mut world, text, before, broke, writer),
@@ -121,7 +121,7 @@ fn play_events<W: Write>(
     requires { before + size_in (option_copied text) ≤ 2 ^ 63 }
     ensures whole { OnOk result (broke ≡ None) }
     ensures ok { IfOk result (AllAnswered (state_of world.old) (events_from broke before (lines_in (option_copied text.entry))) (W.contents writer.old) (W.contents writer.new)) }
-    ensures err { IfErr result (λ fault. RanOut (W.contents writer.old) (W.contents writer.new) fault ⊎ Stops (state_of world.old) (events_from broke before (lines_in (option_copied text.entry))) (W.contents writer.old) (W.contents writer.new) fault) }
+    ensures err { IfErr result (λ fault. RanOut before (W.contents writer.old) (W.contents writer.new) fault ⊎ Stops (state_of world.old) (events_from broke before (lines_in (option_copied text.entry))) (W.contents writer.old) (W.contents writer.new) fault) }
 {
     let Ok(mut buffer) = Vec::with_capacity(alloc, 8192) else {
         return Err(ScriptFault {

@@ -1,9 +1,10 @@
-//! What a walk needs to know of an autofs.
+//! What a walk needs to know of an autofs, and where its triggers are.
 
-ghost use Rattle.std.specs.Prelude.{◌≡◌, []};
-ghost use Rattle.am_trigger.specs.Sites.{trigger_in};
+ghost use Rattle.std.specs.Prelude.{◌≡◌, [], IfOk};
+ghost use Rattle.am_trigger.specs.Sites.{trigger_in, place_of};
 
 use am_names::{FsId, MountId, Place, Trigger, split_first_name};
+use std::alloc::{AllocError, Global};
 
 /// An autofs.
 #[derive(Clone, Copy, Debug, PartialEq, Eq)]
@@ -47,4 +48,15 @@ impl Autofs {
             None
         }
     }
+}
+
+/// The place of a trigger in each mount of its file system.
+pub fn place_of(alloc: Global, trigger: &Trigger) -> Result<Place, AllocError>
+    ensures { IfOk result (λ place. place ≡ place_of trigger.now) }
+{
+    let mut place = Place::root(alloc);
+    if let Some(name) = &trigger.name {
+        place.push(name)?;
+    }
+    Ok(place)
 }

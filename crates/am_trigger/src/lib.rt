@@ -5,5 +5,5 @@
 pub mod autofs;
 pub mod triggers;
 
-pub use autofs::Autofs;
+pub use autofs::{Autofs, place_of};
 pub use triggers::Triggers;

@@ -1,7 +1,9 @@
-//! Examples as tables: what is mounted, made and asked for, and where walks end.
+//! Examples as tables: what is mounted, made and asked for, and where walks end. Run with each
+//! allocation refused in turn: a walk is then refused, and goes on as if nothing had been when it is
+//! made again.
 
-use crate::follow::{position, resolve};
-use crate::stop::Stop;
+use crate::follow::{position, resolve, resolve_text};
+use crate::stop::{Stop, Walk};
 use am_names::{
     AbsPath, Errno, FsId, MountId, Name, NsId, Place, Position, Token, TokenKind, Trigger, WalkerId,
 };
@@ -12,7 +14,6 @@ use std::alloc::Global;
 use std::process::Abort;
 
 mod administrator;
-mod memory;
 mod paths;
 mod traps;
 
@@ -21,7 +22,7 @@ mod traps;
 pub struct Trap(pub u32, pub &'static [u8]);
 
 impl Trap {
-    pub fn trigger(self) -> Result<Trigger, Errno> {
+    fn trigger(self) -> Result<Trigger, Errno> {
         let fs = FsId(self.0);
         if self.1.is_empty() {
             return Ok(Trigger { fs, name: None });
@@ -32,7 +33,7 @@ impl Trap {
         })
     }
 
-    pub fn is(self, trigger: &Trigger) -> bool {
+    fn is(self, trigger: &Trigger) -> bool {
         if trigger.fs != FsId(self.0) {
             return false;
         }
@@ -56,7 +57,7 @@ pub enum End {
 }
 
 impl End {
-    pub fn is_at(self, at: &Position) -> bool {
+    fn is_at(self, at: &Position) -> bool {
         match self {
             End::At(mount, place) => at.mount == MountId(mount) && at.place.text() == place,
             _ => false,
@@ -95,7 +96,7 @@ impl End {
 }
 
 /// These triggers were passed, in this order.
-pub fn are_passed(passed: &[Trigger], traps: &[Trap]) -> bool {
+fn are_passed(passed: &[Trigger], traps: &[Trap]) -> bool {
     passed.len() == traps.len()
         && passed
             .iter()
@@ -103,12 +104,16 @@ pub fn are_passed(passed: &[Trigger], traps: &[Trap]) -> bool {
             .all(|(trigger, trap)| trap.is(trigger))
 }
 
+fn is_walk(walk: &Walk, traps: &[Trap], end: End) -> bool {
+    are_passed(walk.passed.as_slice(), traps) && end.is(&walk.stop)
+}
+
 /// What a walk looks at.
 #[derive(Drop)]
-pub struct World {
-    pub subtree: Subtree,
-    pub triggers: Triggers,
-    pub waits: Waits,
+struct World {
+    subtree: Subtree,
+    triggers: Triggers,
+    waits: Waits,
 }
 
 /// A step of an example.
@@ -129,13 +134,19 @@ pub enum Step {
     Catatonic(u32),
     /// A walk in a namespace along a path passes these triggers and ends so.
     Walk(u32, &'static [u8], &'static [Trap], End),
+    /// The same in namespace 0 of a path that is kept as a place.
+    KeptWalk(&'static [u8], &'static [Trap], End),
     /// An administrator's path there leads so.
     Leads(u32, &'static [u8], End),
 }
 
+/// A letter for a fact, and the step by which it comes to hold.
+#[derive(Clone, Copy)]
+pub struct Fact(pub u8, pub Step);
+
 impl World {
     /// Mount 1 alone.
-    pub fn new(alloc: Global) -> Result<World, Errno> {
+    fn new(alloc: Global) -> Result<World, Errno> {
         Ok(World {
             subtree: Subtree::new(alloc, 100)?,
             triggers: Triggers::new(alloc),
@@ -186,7 +197,7 @@ impl World {
         Ok(true)
     }
 
-    fn make(&mut self, trap: Trap) -> Result<bool, Errno> {
+    fn mkdir(&mut self, trap: Trap) -> Result<bool, Errno> {
         let trigger = trap.trigger()?;
         // The checker wants the type of its name said too.
         let _name: Option<Name> = trigger.name;
@@ -194,7 +205,32 @@ impl World {
         Ok(true)
     }
 
-    pub fn walks(
+    fn walk(&self, alloc: Global, ns: u32, path: &[u8]) -> Result<Walk, Errno> {
+        let path = AbsPath::read(path)?;
+        Ok(resolve(
+            alloc,
+            &self.subtree,
+            &self.triggers,
+            &self.waits,
+            NsId(ns),
+            &path,
+        )?)
+    }
+
+    fn kept_walk(&self, alloc: Global, path: &[u8]) -> Result<Walk, Errno> {
+        let path = AbsPath::read(path)?;
+        let kept = Place::of(alloc, path.text())?;
+        Ok(resolve_text(
+            alloc,
+            &self.subtree,
+            &self.triggers,
+            &self.waits,
+            NsId(0),
+            kept.text(),
+        )?)
+    }
+
+    fn walks(
         &self,
         alloc: Global,
         ns: u32,
@@ -202,19 +238,20 @@ impl World {
         traps: &[Trap],
         end: End,
     ) -> Result<bool, Errno> {
-        let path = AbsPath::read(path)?;
-        let walk = resolve(
-            alloc,
-            &self.subtree,
-            &self.triggers,
-            &self.waits,
-            NsId(ns),
-            &path,
-        )?;
-        Ok(are_passed(walk.passed.as_slice(), traps) && end.is(&walk.stop))
+        Ok(is_walk(&self.walk(alloc, ns, path)?, traps, end))
     }
 
-    pub fn leads(&self, alloc: Global, ns: u32, path: &[u8], end: End) -> Result<bool, Errno> {
+    fn walks_kept(
+        &self,
+        alloc: Global,
+        path: &[u8],
+        traps: &[Trap],
+        end: End,
+    ) -> Result<bool, Errno> {
+        Ok(is_walk(&self.kept_walk(alloc, path)?, traps, end))
+    }
+
+    fn leads(&self, alloc: Global, ns: u32, path: &[u8], end: End) -> Result<bool, Errno> {
         let path = AbsPath::read(path)?;
         match position(alloc, &self.subtree, &self.triggers, NsId(ns), &path) {
             Ok(at) => Ok(end.is_at(&at)),
@@ -223,8 +260,18 @@ impl World {
         }
     }
 
-    /// Whether the step goes as it says.
-    pub fn goes(&mut self, alloc: Global, step: Step) -> Result<bool, Errno> {
+    /// Whether what is asked for is so.
+    fn looks(&self, alloc: Global, step: Step) -> Result<bool, Errno> {
+        match step {
+            Step::Walk(ns, path, traps, end) => self.walks(alloc, ns, path, traps, end),
+            Step::KeptWalk(path, traps, end) => self.walks_kept(alloc, path, traps, end),
+            Step::Leads(ns, path, end) => self.leads(alloc, ns, path, end),
+            _ => Ok(false),
+        }
+    }
+
+    /// Whether the step goes as it says. A walk that found no memory is made once more.
+    fn goes(&mut self, alloc: Global, step: Step) -> Result<bool, Errno> {
         match step {
             Step::Mount(parent, path, fs) => {
                 self.mount(alloc, parent, path, fs)?;
@@ -238,18 +285,52 @@ impl World {
             }
             Step::Expires(walker, trap) => self.open(alloc, walker, TokenKind::Expire, trap),
             Step::IsPending(walker, trap) => self.open(alloc, walker, TokenKind::Missing, trap),
-            Step::Makes(trap) => self.make(trap),
+            Step::Makes(trap) => self.mkdir(trap),
             Step::Catatonic(fs) => {
                 self.triggers.set_catatonic(FsId(fs), true)?;
                 Ok(true)
             }
-            Step::Walk(ns, path, traps, end) => self.walks(alloc, ns, path, traps, end),
-            Step::Leads(ns, path, end) => self.leads(alloc, ns, path, end),
+            _ => match self.looks(alloc, step) {
+                Err(Errno::NoMemory) => self.looks(alloc, step),
+                looks => looks,
+            },
         }
     }
 
+    fn make(&mut self, alloc: Global, steps: &[Step]) -> Result<(), Errno> {
+        for step in steps {
+            self.goes(alloc, *step)?;
+        }
+        Ok(())
+    }
+
+    /// The facts of these letters come to hold.
+    fn hold(&mut self, alloc: Global, facts: &[Fact], letters: &[u8]) -> Result<(), Errno> {
+        for letter in letters {
+            for fact in facts {
+                if fact.0 == *letter {
+                    self.goes(alloc, fact.1)?;
+                }
+            }
+        }
+        Ok(())
+    }
+
+    fn goes_where(
+        &mut self,
+        alloc: Global,
+        start: &[Step],
+        known: &[Fact],
+        facts: &[u8],
+        step: Step,
+    ) -> Result<bool, Errno> {
+        self.make(alloc, start)?;
+        self.hold(alloc, known, facts)?;
+        self.goes(alloc, step)
+    }
+
     /// Each step goes as it says.
-    pub fn plays(&mut self, rt: &impl Abort, alloc: Global, steps: &[Step]) -> Result<(), Errno> {
+    fn plays(&mut self, rt: &impl Abort, alloc: Global, steps: &[Step]) -> Result<(), Errno> {
         let mut number = 0_usize;
         for step in steps {
             number = number.saturating_add(1);
@@ -258,22 +339,65 @@ impl World {
         }
         Ok(())
     }
+
+    fn plays_both(
+        &mut self,
+        rt: &impl Abort,
+        alloc: Global,
+        first: &[Step],
+        then: &[Step],
+    ) -> Result<(), Errno> {
+        self.plays(rt, alloc, first)?;
+        self.plays(rt, alloc, then)
+    }
 }
 
-/// The steps go as they say, from mount 1 on.
-pub fn plays(rt: &impl Abort, alloc: Global, steps: &[Step]) -> Result<(), Errno> {
+fn play(rt: &impl Abort, alloc: Global, first: &[Step], then: &[Step]) -> Result<(), Errno> {
     let mut world = World::new(alloc)?;
-    world.plays(rt, alloc, steps)
+    world.plays_both(rt, alloc, first, then)
 }
 
-/// The same of two tables, one after the other.
+/// The steps of two tables go as they say, one after the other, from mount 1 on. They are played
+/// once more where no memory was found for what a walk is to meet.
 pub fn plays_both(
     rt: &impl Abort,
     alloc: Global,
     first: &[Step],
     then: &[Step],
 ) -> Result<(), Errno> {
+    match play(rt, alloc, first, then) {
+        Err(Errno::NoMemory) => play(rt, alloc, first, then),
+        played => played,
+    }
+}
+
+/// The same of one table.
+pub fn plays(rt: &impl Abort, alloc: Global, steps: &[Step]) -> Result<(), Errno> {
+    plays_both(rt, alloc, steps, &[])
+}
+
+fn goes_where(
+    alloc: Global,
+    start: &[Step],
+    known: &[Fact],
+    facts: &[u8],
+    step: Step,
+) -> Result<bool, Errno> {
     let mut world = World::new(alloc)?;
-    world.plays(rt, alloc, first)?;
-    world.plays(rt, alloc, then)
+    world.goes_where(alloc, start, known, facts, step)
+}
+
+/// Whether a step goes as it says where these of the known facts hold, each told by its letter, in
+/// a world that begins with these steps. It is made once more where no memory was found to make it.
+pub fn is_so_where(
+    alloc: Global,
+    start: &[Step],
+    known: &[Fact],
+    facts: &[u8],
+    step: Step,
+) -> Result<bool, Errno> {
+    match goes_where(alloc, start, known, facts, step) {
+        Err(Errno::NoMemory) => goes_where(alloc, start, known, facts, step),
+        goes => goes,
+    }
 }

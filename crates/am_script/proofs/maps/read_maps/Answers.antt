@@ -20,7 +20,7 @@ returns-in-Err-clause-err c =
     ap (λ (o : Option (Bor Section)). option_copied o) (c.copied-section.ensures ∙ c.get.ensures.value)
     ∙ c.in-Ok.ensures c.as_slice.result.now
     ∙ ap (section_for sections) (c.as_slice.ensures.value ∙ ap (λ (row : MasterRow). row.map) c.entry.view_is) in
-    let stops : IsFaultOr c.in-Err.fault (map_by (section_for sections entry.map) c.args.first entry) = rw (← found) c.in-Err.ensures.err in
+    let stops : IsFaultOr c.args.number c.in-Err.fault (map_by (section_for sections entry.map) c.args.first entry) = rw (← found) c.in-Err.ensures.err in
     ⊎_elim
     (λ e. inl (sym c.loop-entry.invariant.read ∙ map_stops sections c.args.first entries i entry c.loop-entry.maps.items c.in-Err.fault inside item e))
     (λ k. inr k)

@@ -16,10 +16,10 @@ pub returns-in-Ok-clause-err : goal.returns-in-Ok-clause-err
 returns-in-Ok-clause-err g c =
     let contents = g.W.Write.contents in
     let told : Told = events_from c.args.broke c.args.before (lines_in (option_copied c.args.text)) in
-    begun_stopped (opening_read c.args.heading.said) told (state_of c.in-Ok.world) (contents c.args.writer.now) (contents c.play_events.new.writer) c.play_events.result c.in-Ok.ensures.opening c.in-Ok.ensures.world c.play_events.ensures.err
+    begun_stopped c.args.before (opening_read c.args.heading.said) told (state_of c.in-Ok.world) (contents c.args.writer.now) (contents c.play_events.new.writer) c.play_events.result c.in-Ok.ensures.opening c.in-Ok.ensures.world c.play_events.ensures.err
 
 pub returns-in-Err-clause-err : goal.returns-in-Err-clause-err
 returns-in-Err-clause-err g c =
     let contents = g.W.Write.contents in
     let told : Told = events_from c.args.broke c.args.before (lines_in (option_copied c.args.text)) in
-    begin_fails (opening_read c.args.heading.said) told c.in-Err.fault (contents c.args.writer.now) c.in-Err.ensures.err
+    begin_fails c.args.before (opening_read c.args.heading.said) told c.in-Err.fault (contents c.args.writer.now) c.in-Err.ensures.err

@@ -46,7 +46,7 @@ returns-in-None-clause-ok g c =
     going_ends (state_of c.args.world.now) all (contents c.args.writer.now) (contents c.loop-rest.writer) (state_of c.loop-rest.world) c.loop-rest.summary (subst (λ (t : Told). Going (state_of c.args.world.now) all t (contents c.args.writer.now) (contents c.loop-rest.writer) (state_of c.loop-rest.world) c.loop-rest.summary) ended c.loop-rest.invariant.going)
 
 pub returns-in_default-clause-err : goal.returns-in_default-clause-err
-returns-in_default-clause-err g c = inl (record { kind = refl; written = appends_none (g.W.Write.contents c.args.writer.now) })
+returns-in_default-clause-err g c = inl (record { kind = refl; line = omega arith; written = appends_none (g.W.Write.contents c.args.writer.now) })
 
 pub returns-clause-err : goal.returns-clause-err
 returns-clause-err g c =

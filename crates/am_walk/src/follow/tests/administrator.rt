@@ -1,35 +1,29 @@
 //! An administrator's path: the mount traps are off.
 
 use crate::follow::tests::paths::TWO_ON_THE_WAY;
-use crate::follow::tests::traps::{home_where, root_where};
-use crate::follow::tests::{End, Step, plays, plays_both};
+use crate::follow::tests::traps::{DIRECT, INDIRECT, OF_HOME, OF_ROOT};
+use crate::follow::tests::{End, Fact, Step, is_so_where, plays, plays_both};
 use am_names::Errno;
 use std::alloc::Global;
 use std::process::Abort;
 use std::test::Fail;
 
-/// A path in namespace 1 of a world where these facts hold, and where it leads.
+/// Facts, and where a path in namespace 1 leads where they hold.
 #[derive(Clone, Copy)]
 struct Case(&'static [u8], &'static [u8], End);
 
-fn lead_where_home(rt: &impl Abort, alloc: Global, cases: &[Case]) -> Result<(), Errno> {
+fn lead_where(
+    rt: &impl Abort,
+    alloc: Global,
+    start: &[Step],
+    known: &[Fact],
+    cases: &[Case],
+) -> Result<(), Errno> {
     let mut number = 0_usize;
     for Case(facts, path, end) in cases {
         number = number.saturating_add(1);
-        let world = home_where(rt, alloc, facts)?;
-        let leads = world.leads(alloc, 1, path, *end)?;
-        assert!(rt; leads, "case {number}");
-    }
-    Ok(())
-}
-
-fn lead_where_root(rt: &impl Abort, alloc: Global, cases: &[Case]) -> Result<(), Errno> {
-    let mut number = 0_usize;
-    for Case(facts, path, end) in cases {
-        number = number.saturating_add(1);
-        let world = root_where(rt, alloc, facts)?;
-        let leads = world.leads(alloc, 1, path, *end)?;
-        assert!(rt; leads, "case {number}");
+        let is_so = is_so_where(alloc, start, known, facts, Step::Leads(1, path, *end))?;
+        assert!(rt; is_so, "case {number}");
     }
     Ok(())
 }
@@ -52,7 +46,7 @@ fn what_is_mounted_on_a_trigger_is_entered(rt: HostRuntime) -> Result<(), Fail> 
         Case(b"xpmckd", b"/auto/home", End::At(5, b"")),
         Case(b"xpmckd", b"/auto/home/x", End::At(5, b"/x")),
     ];
-    lead_where_home(&rt, rt.alloc(), &CASES)?;
+    lead_where(&rt, rt.alloc(), &INDIRECT, &OF_HOME, &CASES)?;
     Ok(())
 }
 
@@ -72,7 +66,7 @@ fn a_directory_that_is_made_is_entered(rt: HostRuntime) -> Result<(), Fail> {
         Case(b"xpckd", b"/auto/home", End::At(4, b"/home")),
         Case(b"xpckd", b"/auto/home/x", End::Fails(Errno::ENOENT)),
     ];
-    lead_where_home(&rt, rt.alloc(), &CASES)?;
+    lead_where(&rt, rt.alloc(), &INDIRECT, &OF_HOME, &CASES)?;
     Ok(())
 }
 
@@ -94,7 +88,7 @@ fn a_missing_directory_is_not_found(rt: HostRuntime) -> Result<(), Fail> {
         Case(b"xpcd", b"/auto/home", End::Fails(Errno::ENOENT)),
         Case(b"xpcd", b"/auto/home/x", End::Fails(Errno::ENOENT)),
     ];
-    lead_where_home(&rt, rt.alloc(), &CASES)?;
+    lead_where(&rt, rt.alloc(), &INDIRECT, &OF_HOME, &CASES)?;
     Ok(())
 }
 
@@ -111,7 +105,7 @@ fn the_root_of_a_direct_autofs_is_entered(rt: HostRuntime) -> Result<(), Fail> {
         Case(b"c", b"/auto/x", End::Fails(Errno::ENOENT)),
         Case(b"m", b"/auto/x", End::At(5, b"/x")),
     ];
-    lead_where_root(&rt, rt.alloc(), &CASES)?;
+    lead_where(&rt, rt.alloc(), &DIRECT, &OF_ROOT, &CASES)?;
     Ok(())
 }
 

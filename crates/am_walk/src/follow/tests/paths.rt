@@ -1,11 +1,7 @@
 //! Paths over stacks, over several triggers, and in several namespaces.
 
-use crate::follow::resolve_text;
-use crate::follow::tests::{End, Step, Trap, World, are_passed, plays, plays_both};
-use crate::stop::{Stop, Walk};
-use am_names::{AbsPath, Errno, NsId, Place};
-use std::alloc::Global;
-use std::process::Abort;
+use crate::follow::tests::{End, Step, Trap, plays, plays_both};
+use am_names::Errno;
 use std::test::Fail;
 
 const HOME: Trap = Trap(2, b"home");
@@ -207,34 +203,9 @@ fn a_walk_stays_in_its_namespace(rt: HostRuntime) -> Result<(), Fail> {
     Ok(())
 }
 
-fn two_on_the_way(rt: &impl Abort, alloc: Global) -> Result<World, Errno> {
-    let mut world = World::new(alloc)?;
-    world.plays(rt, alloc, &TWO_ON_THE_WAY)?;
-    Ok(world)
-}
-
-/// The walk along a path that is kept as a place.
-fn kept_walk(world: &World, alloc: Global, path: &[u8]) -> Result<Walk, Errno> {
-    let path = AbsPath::read(path)?;
-    let kept = Place::of(alloc, path.text())?;
-    Ok(resolve_text(
-        alloc,
-        &world.subtree,
-        &world.triggers,
-        &world.waits,
-        NsId(0),
-        kept.text(),
-    )?)
-}
-
 #[test]
 fn a_kept_text_is_walked_like_its_path(rt: HostRuntime) -> Result<(), Fail> {
-    let world = two_on_the_way(&rt, rt.alloc())?;
-    let walk = kept_walk(&world, rt.alloc(), b"//auto/home/x/")?;
-    assert!(rt; are_passed(walk.passed.as_slice(), &[HOME]));
-    let Stop::Arrive(at) = &walk.stop else {
-        panic!(rt; "no arrival");
-    };
-    assert!(rt; End::At(3, b"/x").is_at(at));
+    static STEPS: [Step; 1] = [Step::KeptWalk(b"//auto/home/x/", &[HOME], End::At(3, b"/x"))];
+    plays_both(&rt, rt.alloc(), &TWO_ON_THE_WAY, &STEPS)?;
     Ok(())
 }

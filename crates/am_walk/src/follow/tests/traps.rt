@@ -1,104 +1,60 @@
 //! What a walk meets at a trigger: each case of autofs.rst, "Mount Traps" and "Catatonic mode",
 //! and where several hold at once, the first.
 
-use crate::follow::tests::{End, Step, Trap, World, plays};
+use crate::follow::tests::{End, Fact, Step, Trap, is_so_where, plays};
 use am_names::Errno;
 use std::alloc::Global;
 use std::process::Abort;
 use std::test::Fail;
 
-pub const HOME: Trap = Trap(2, b"home");
+const HOME: Trap = Trap(2, b"home");
 
-pub const ROOT: Trap = Trap(2, b"");
+const ROOT: Trap = Trap(2, b"");
 
 /// Autofs 2 is at `/auto` of namespace 0 as the daemon's mount 2, and of namespace 1 as mount 4.
-static INDIRECT: [Step; 2] = [Step::Indirect(1, b"/auto", 2), Step::Copy];
+pub static INDIRECT: [Step; 2] = [Step::Indirect(1, b"/auto", 2), Step::Copy];
 
-static DIRECT: [Step; 2] = [Step::Direct(1, b"/auto", 2), Step::Copy];
+pub static DIRECT: [Step; 2] = [Step::Direct(1, b"/auto", 2), Step::Copy];
 
-/// A path in a world where these facts hold of a trigger of autofs 2, and where it ends. The
-/// trigger is expiring (`x`), a mount is pending (`p`), something is mounted on it at mount 4
-/// (`m`), the file system is catatonic (`c`), the directory is made (`k`), something is mounted on
-/// it at mount 2, the daemon's (`d`).
-#[derive(Clone, Copy)]
-pub struct Case(
-    pub &'static [u8],
-    pub &'static [u8],
-    pub &'static [Trap],
-    pub End,
-);
-
-/// The step by which a fact comes to hold of the trigger `home`.
-fn of_home(fact: u8) -> Step {
-    match fact {
-        b'x' => Step::Expires(1, HOME),
-        b'p' => Step::IsPending(2, HOME),
-        b'm' => Step::Mount(4, b"/home", 7),
-        b'c' => Step::Catatonic(2),
-        b'k' => Step::Makes(HOME),
-        _ => Step::Mount(2, b"/home", 7),
-    }
-}
+/// The trigger `home` is expiring (`x`), a mount is pending (`p`), something is mounted on it at
+/// mount 4 (`m`), the file system is catatonic (`c`), the directory is made (`k`), something is
+/// mounted on it at mount 2, the daemon's (`d`).
+pub static OF_HOME: [Fact; 6] = [
+    Fact(b'x', Step::Expires(1, HOME)),
+    Fact(b'p', Step::IsPending(2, HOME)),
+    Fact(b'm', Step::Mount(4, b"/home", 7)),
+    Fact(b'c', Step::Catatonic(2)),
+    Fact(b'k', Step::Makes(HOME)),
+    Fact(b'd', Step::Mount(2, b"/home", 7)),
+];
 
 /// The same of the root of a direct autofs.
-fn of_root(fact: u8) -> Step {
-    match fact {
-        b'x' => Step::Expires(1, ROOT),
-        b'p' => Step::IsPending(2, ROOT),
-        b'm' => Step::Mount(4, b"/", 7),
-        b'c' => Step::Catatonic(2),
-        _ => Step::Mount(2, b"/", 7),
-    }
-}
+pub static OF_ROOT: [Fact; 5] = [
+    Fact(b'x', Step::Expires(1, ROOT)),
+    Fact(b'p', Step::IsPending(2, ROOT)),
+    Fact(b'm', Step::Mount(4, b"/", 7)),
+    Fact(b'c', Step::Catatonic(2)),
+    Fact(b'd', Step::Mount(2, b"/", 7)),
+];
 
-fn hold_of_home(world: &mut World, alloc: Global, facts: &[u8]) -> Result<(), Errno> {
-    for fact in facts {
-        world.goes(alloc, of_home(*fact))?;
-    }
-    Ok(())
-}
+/// Facts, a walk along a path where they hold, the triggers that it passes, and where it ends.
+#[derive(Clone, Copy)]
+struct Case(&'static [u8], &'static [u8], &'static [Trap], End);
 
-fn hold_of_root(world: &mut World, alloc: Global, facts: &[u8]) -> Result<(), Errno> {
-    for fact in facts {
-        world.goes(alloc, of_root(*fact))?;
-    }
-    Ok(())
-}
-
-/// Where the facts hold of `home`.
-pub fn home_where(rt: &impl Abort, alloc: Global, facts: &[u8]) -> Result<World, Errno> {
-    let mut world = World::new(alloc)?;
-    world.plays(rt, alloc, &INDIRECT)?;
-    hold_of_home(&mut world, alloc, facts)?;
-    Ok(world)
-}
-
-/// Where they hold of the root of a direct autofs.
-pub fn root_where(rt: &impl Abort, alloc: Global, facts: &[u8]) -> Result<World, Errno> {
-    let mut world = World::new(alloc)?;
-    world.plays(rt, alloc, &DIRECT)?;
-    hold_of_root(&mut world, alloc, facts)?;
-    Ok(world)
-}
-
-fn walks_where_home(rt: &impl Abort, alloc: Global, ns: u32, cases: &[Case]) -> Result<(), Errno> {
+fn walk_where(
+    rt: &impl Abort,
+    alloc: Global,
+    start: &[Step],
+    known: &[Fact],
+    ns: u32,
+    cases: &[Case],
+) -> Result<(), Errno> {
     let mut number = 0_usize;
     for Case(facts, path, traps, end) in cases {
         number = number.saturating_add(1);
-        let world = home_where(rt, alloc, facts)?;
-        let walks = world.walks(alloc, ns, path, traps, *end)?;
-        assert!(rt; walks, "case {number}");
-    }
-    Ok(())
-}
-
-fn walks_where_root(rt: &impl Abort, alloc: Global, cases: &[Case]) -> Result<(), Errno> {
-    let mut number = 0_usize;
-    for Case(facts, path, traps, end) in cases {
-        number = number.saturating_add(1);
-        let world = root_where(rt, alloc, facts)?;
-        let walks = world.walks(alloc, 1, path, traps, *end)?;
-        assert!(rt; walks, "case {number}");
+        let walk = Step::Walk(ns, path, traps, *end);
+        let is_so = is_so_where(alloc, start, known, facts, walk)?;
+        assert!(rt; is_so, "case {number}");
     }
     Ok(())
 }
@@ -131,7 +87,7 @@ fn of_two_cases_of_an_indirect_autofs_the_first_decides(rt: HostRuntime) -> Resu
         Case(b"pmckd", b"/auto/home", &[], End::Waits(1)),
         Case(b"mckd", b"/auto/home", &[HOME], End::At(5, b"")),
     ];
-    walks_where_home(&rt, rt.alloc(), 1, &CASES)?;
+    walk_where(&rt, rt.alloc(), &INDIRECT, &OF_HOME, 1, &CASES)?;
     Ok(())
 }
 
@@ -156,7 +112,7 @@ fn of_two_cases_of_a_direct_autofs_the_first_decides(rt: HostRuntime) -> Result<
         Case(b"md", b"/auto", &[ROOT], End::At(5, b"")),
         Case(b"cd", b"/auto", &[], End::At(4, b"")),
     ];
-    walks_where_root(&rt, rt.alloc(), &CASES)?;
+    walk_where(&rt, rt.alloc(), &DIRECT, &OF_ROOT, 1, &CASES)?;
     Ok(())
 }
 
@@ -172,7 +128,7 @@ fn what_is_mounted_on_another_mount_is_not_mounted_here(rt: HostRuntime) -> Resu
         Case(b"xd", b"/auto/home", &[], End::Waits(1)),
         Case(b"pd", b"/auto/home", &[], End::Waits(1)),
     ];
-    walks_where_home(&rt, rt.alloc(), 0, &CASES)?;
+    walk_where(&rt, rt.alloc(), &INDIRECT, &OF_HOME, 0, &CASES)?;
     Ok(())
 }
 
@@ -185,7 +141,7 @@ fn names_of_one_autofs_are_triggers_of_their_own(rt: HostRuntime) -> Result<(), 
         Case(b"ck", b"/auto/work", &[], End::Fails(Errno::ENOENT)),
         Case(b"d", b"/auto/work", &[], End::Notifies(Trap(2, b"work"))),
     ];
-    walks_where_home(&rt, rt.alloc(), 1, &CASES)?;
+    walk_where(&rt, rt.alloc(), &INDIRECT, &OF_HOME, 1, &CASES)?;
     Ok(())
 }
 
@@ -201,7 +157,7 @@ fn names_below_an_indirect_autofs(rt: HostRuntime) -> Result<(), Fail> {
         Case(b"ck", b"/auto/home/x", &[], End::Fails(Errno::ENOENT)),
         Case(b"d", b"/auto/home/x", &[], End::Fails(Errno::ELOOP)),
     ];
-    walks_where_home(&rt, rt.alloc(), 1, &CASES)?;
+    walk_where(&rt, rt.alloc(), &INDIRECT, &OF_HOME, 1, &CASES)?;
     Ok(())
 }
 
@@ -214,7 +170,7 @@ fn names_below_a_direct_autofs(rt: HostRuntime) -> Result<(), Fail> {
         Case(b"c", b"/auto/x", &[], End::Fails(Errno::ENOENT)),
         Case(b"d", b"/auto/x", &[], End::Fails(Errno::ELOOP)),
     ];
-    walks_where_root(&rt, rt.alloc(), &CASES)?;
+    walk_where(&rt, rt.alloc(), &DIRECT, &OF_ROOT, 1, &CASES)?;
     Ok(())
 }
 
