@@ -1,4 +1,4 @@
--- Changes of a mount's propagation (sharedsubtree.rst, 5c and 8), and what an emptied peer
+-- Changes of a mount's propagation (sharedsubtree.rst, 5a and 8), and what an emptied peer
 -- group leaves.
 use Rattle.std.specs.Prelude.{◌==◌, ◌+◌, ℕ, zero, suc, Bool, true, false, not, List, [], ◌∷◌, ◌++◌, map, filter, find, Option, Some, None, if◌then◌else◌}
 use Rattle.std.specs.List.{list_any}

@@ -1,4 +1,4 @@
--- What a mount on a shared mount adds: a copy on each receiver (sharedsubtree.rst, 5b).
+-- What a mount on a shared mount adds: a copy on each receiver (sharedsubtree.rst, 5b and 5e).
 -- Their peer groups: own (docs/DECISIONS.md, "Copies in groups").
 use Rattle.std.specs.Prelude.{◌==◌, ◌&&◌, ◌+◌, ℕ, Bool, false, not, nat_lt, List, [], ◌∷◌, ◌++◌, map, filter, length, Option, Some, None, option_map, if◌then◌else◌}
 use Rattle.std.specs.List.{list_any}

@@ -1,4 +1,4 @@
--- The states of a mount (sharedsubtree.rst, 5a), and what each change makes of them (5c).
+-- The states of a mount (sharedsubtree.rst, 5a), and what each change makes of them.
 use Rattle.std.specs.Prelude.{◌≡◌, ◌==◌, ◌&&◌, ℕ, Bool, true, false, not, List, Option, Some, None, option_map, if◌then◌else◌}
 use Rattle.std.specs.List.{list_any}
 use Rattle.am_names.specs.declared.row.MemberRow.{MemberRow}
@@ -52,7 +52,7 @@ column MakePrivate first second third fourth = third
 column MakeUnbindable first second third fourth = fourth
 
 -- the table of changes: what make-shared, make-slave, make-private and make-unbindable make of
--- each state (sharedsubtree.rst, 5c; alone: the mount is the only one of its peer group)
+-- each state (the state diagram of 5a; alone: the mount is the only one of its peer group)
 abbrev pub kind_after : Change → Bool → Kind → Kind
 kind_after change alone Shared =
     column change Shared (if alone then Private else Slave) Private Unbindable

@@ -1,4 +1,4 @@
--- Which mounts receive propagation from another (sharedsubtree.rst, 5a and 5b).
+-- Which mounts receive propagation from another (sharedsubtree.rst, 5a).
 use Rattle.std.specs.Prelude.{◌≡◌, ◌≢◌, ◌⊎◌, ◌==◌, ℕ, List, [], ◌∷◌, Option, Some, None, find}
 use Rattle.am_names.specs.PeerGroups.{PeerGroups}
 use Rattle.am_names.specs.declared.row.MemberRow.{MemberRow}

@@ -1,4 +1,4 @@
-//! The states of a mount, and what the four changes make of them (sharedsubtree.rst, 5a and 5c).
+//! The states of a mount, and what the four changes make of them (sharedsubtree.rst, 5a).
 
 ghost use Rattle.std.specs.Prelude.{◌≡◌, false};
 ghost use Rattle.am_group.specs.Changes.{shared_row, slave_row};
@@ -19,7 +19,7 @@ pub enum Kind {
     Unbindable,
 }
 
-/// A change of a mount's state (sharedsubtree.rst, 5c; `mount --make-shared` and so on).
+/// A change of a mount's state (sharedsubtree.rst, 5a; `mount --make-shared` and so on).
 #[derive(Clone, Copy, Debug, PartialEq, Eq)]
 pub enum Change {
     MakeShared,

@@ -51,7 +51,7 @@ is_unbindable (Some SharedSlave) = false
 is_unbindable (Some Private) = false
 is_unbindable None = false
 
--- the source can't be bound (sharedsubtree.rst, 5e)
+-- the source can't be bound (sharedsubtree.rst, 5b)
 abbrev pub source_refusal : KernelState → ℕ → Option Errno
 source_refusal k mount =
     if is_unbindable (kind_of k.table.groups mount) then Some EINVAL else None

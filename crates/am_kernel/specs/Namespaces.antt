@@ -1,4 +1,4 @@
--- Copies and drops of namespaces (sharedsubtree.rst, 7). What walkers, daemons and tokens do belongs
+-- Copies and drops of namespaces (sharedsubtree.rst, 5g). What walkers, daemons and tokens do belongs
 -- to file systems, and isn't copied.
 use Rattle.std.specs.Prelude.{ℕ}
 use Rattle.am_propagate.specs.Namespaces.{with_copy}

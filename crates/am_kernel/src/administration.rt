@@ -37,7 +37,7 @@ impl Kernel {
         self.mount_new(alloc, &at, seen)
     }
 
-    /// Whether the mount can't be bound (sharedsubtree.rst, 5e).
+    /// Whether the mount can't be bound (sharedsubtree.rst, 5b).
     fn is_unbindable(&self, mount: MountId) -> bool
         ensures { result ≡ is_unbindable (kind_of self.now.table.groups mount) }
     {
@@ -47,7 +47,7 @@ impl Kernel {
         }
     }
 
-    /// Mounts at one path what another has mounted (sharedsubtree.rst, 5b to 5e).
+    /// Mounts at one path what another has mounted (sharedsubtree.rst, 5b).
     pub fn bind(
         &mut self,
         alloc: Global,
@@ -156,7 +156,7 @@ impl Kernel {
         self.umount_mount(alloc, at.mount, seen)
     }
 
-    /// Changes the state of the mount to which the path leads (sharedsubtree.rst, 5c).
+    /// Changes the state of the mount to which the path leads (sharedsubtree.rst, 5a).
     pub fn change(
         &mut self,
         alloc: Global,

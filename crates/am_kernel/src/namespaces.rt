@@ -15,7 +15,7 @@ use am_state::Obs;
 use std::alloc::Global;
 
 impl Kernel {
-    /// A new namespace with a copy of each mount of this one (sharedsubtree.rst, 7).
+    /// A new namespace with a copy of each mount of this one (sharedsubtree.rst, 5g).
     pub fn ns_copy(&mut self, alloc: Global, ns: NsId, seen: &mut Vec<Obs>) -> Result<NsId, Errno>
         ensures refusal { RefusedAs (copy_refusal ns self.old.table) result }
         ensures number { IfOk result (λ to. to ≡ self.old.table.last_ns + 1) }

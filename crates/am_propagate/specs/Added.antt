@@ -1,4 +1,4 @@
--- A mount or bind, with its copies on the mounts that receive it (sharedsubtree.rst, 5b to 5e).
+-- A mount or bind, with its copies on the mounts that receive it (sharedsubtree.rst, 5b and 5e).
 use Rattle.std.specs.Prelude.{◌≡◌, ◌⊎◌, ◌+◌, ℕ, zero, suc, Bool, true, false, not, List, [], ◌∷◌, ◌++◌, length, Option, Some, None, if◌then◌else◌}
 use Rattle.am_names.specs.declared.errno.Errno.{Errno}
 use Rattle.am_names.specs.declared.errno.Errno.TheVariants.{EINVAL, ENOSPC}
@@ -56,7 +56,7 @@ abbrev pub membership_of : MountTable → ℕ → Membership
 membership_of t m = membership_in (member_row t.groups.members m)
 
 -- a new mount on a shared one is in its source's peer group where the source is shared, and else
--- in a fresh one (5b to 5e)
+-- in a fresh one (5b and 5e)
 abbrev pub new_group : Membership → ℕ → ℕ
 new_group (InGroup group) last = group
 new_group (SlaveOf master) last = last + 1

@@ -1,4 +1,4 @@
--- A copy of a namespace (Linux: copy_mnt_ns; sharedsubtree.rst, 7).
+-- A copy of a namespace (Linux: copy_mnt_ns; sharedsubtree.rst, 5g).
 use Rattle.std.specs.Prelude.{◌==◌, ◌+◌, ℕ, Bool, not, nat_le, List, [], ◌++◌, map, filter, length, Option, Some, None, option_map, if◌then◌else◌}
 use Rattle.am_names.specs.declared.errno.Errno.{Errno}
 use Rattle.am_names.specs.declared.errno.Errno.TheVariants.{ENOENT, ENOSPC}

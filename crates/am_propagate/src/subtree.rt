@@ -107,7 +107,7 @@ impl Subtree {
         MountId(self.last_mount)
     }
 
-    /// Changes the mount's state (sharedsubtree.rst, 5c).
+    /// Changes the mount's state (sharedsubtree.rst, 5a).
     pub fn change(&mut self, alloc: Global, change: Change, mount: MountId) -> Result<(), Errno>
         ensures refusal { RefusedAs (change_refusal change mount self.old.groups) result }
         ensures ok { OnOk result (self.new ≡ with_change change mount self.old) }

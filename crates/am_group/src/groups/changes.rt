@@ -84,7 +84,7 @@ impl Groups {
         Ok(())
     }
 
-    /// Makes the mount shared (sharedsubtree.rst, 5c). One that is shared stays in its peer
+    /// Makes the mount shared (sharedsubtree.rst, 5a). One that is shared stays in its peer
     /// group; another comes into a fresh one, whose master is the one that it had.
     pub fn make_shared(&mut self, alloc: Global, mount: MountId) -> Result<(), Errno>
         ensures refusal { RefusedAs (change_refusal Change.MakeShared mount self.old) result }
@@ -112,7 +112,7 @@ impl Groups {
         Ok(())
     }
 
-    /// Makes the mount a slave of the peer group that it leaves (sharedsubtree.rst, 5c). One
+    /// Makes the mount a slave of the peer group that it leaves (sharedsubtree.rst, 5a). One
     /// that was alone there is a slave of the group's master, if there is one:
     /// own (docs/DECISIONS.md, "A shared mount that is alone in its group and becomes a slave").
     pub fn make_slave(&mut self, alloc: Global, mount: MountId) -> Result<(), Errno>
@@ -124,7 +124,7 @@ impl Groups {
         self.give_up(alloc, Change::MakeSlave, mount)
     }
 
-    /// Makes the mount private (sharedsubtree.rst, 5c).
+    /// Makes the mount private (sharedsubtree.rst, 5a).
     pub fn make_private(&mut self, alloc: Global, mount: MountId) -> Result<(), Errno>
         ensures refusal { RefusedAs (change_refusal Change.MakePrivate mount self.old) result }
         ensures ok { OnOk result (self.new ≡ made_private mount self.old) }
@@ -134,7 +134,7 @@ impl Groups {
         self.give_up(alloc, Change::MakePrivate, mount)
     }
 
-    /// Makes the mount private, and not to be bound (sharedsubtree.rst, 5c).
+    /// Makes the mount private, and not to be bound (sharedsubtree.rst, 5a).
     pub fn make_unbindable(&mut self, alloc: Global, mount: MountId) -> Result<(), Errno>
         ensures refusal { RefusedAs (change_refusal Change.MakeUnbindable mount self.old) result }
         ensures ok { OnOk result (self.new ≡ made_unbindable mount self.old) }

@@ -73,7 +73,7 @@ impl Groups {
         Ok(next)
     }
 
-    /// The mounts that receive propagation from this one (sharedsubtree.rst, 5b).
+    /// The mounts that receive propagation from this one (sharedsubtree.rst, 5a).
     pub fn receivers(&self, alloc: Global, mount: MountId) -> Result<Vec<MountId>, Errno>
         ensures refusal { RefusedAs None result }
         ensures exact { IfOk result (λ v. (c : ℕ) → Contains v.items c ↔ Receives self.now mount c) }

@@ -1,4 +1,4 @@
-//! Worked examples of propagation (sharedsubtree.rst, 5b and 5f).
+//! Worked examples of propagation (sharedsubtree.rst, 5e and 5f).
 
 use super::answer::Answer;
 use super::call::Call;

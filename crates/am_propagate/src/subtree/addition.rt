@@ -158,7 +158,7 @@ impl Subtree {
     }
 
     /// Mounts a new file system at the position, and copies of it at the same place of each mount
-    /// that receives from the position's (sharedsubtree.rst, 5b). The answer tells all that came,
+    /// that receives from the position's (sharedsubtree.rst, 5e). The answer tells all that came,
     /// in rising order: the mount itself first, which has the next number, then its copies.
     pub fn mount(&mut self, alloc: Global, at: &Position, fs: FsId) -> Result<Vec<MountId>, Errno>
         ensures refusal { RefusedAs (mount_refusal at.now.mount self.old) result }
@@ -185,7 +185,7 @@ impl Subtree {
     }
 
     /// Mounts at the position what the source has mounted, with copies as `mount` makes them, and
-    /// tells all that came as `mount` does (sharedsubtree.rst, 5b to 5e).
+    /// tells all that came as `mount` does (sharedsubtree.rst, 5b).
     pub fn bind(
         &mut self,
         alloc: Global,

@@ -99,7 +99,7 @@ impl Subtree {
     }
 
     /// A new namespace with a copy of each mount of this one, mounted alike (sharedsubtree.rst,
-    /// 7). The answer tells it and the copies.
+    /// 5g). The answer tells it and the copies.
     pub fn copy_namespace(&mut self, alloc: Global, ns: NsId) -> Result<NewNamespace, Errno>
         ensures refusal { RefusedAs (copy_refusal ns self.old) result }
         ensures number { IfOk result (λ made. made.ns ≡ self.old.last_ns + 1) }
