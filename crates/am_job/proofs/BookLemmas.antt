@@ -11,7 +11,7 @@ use Rattle.am_state.specs.declared.daemon_row.Record.{Record}
 use Rattle.am_state.specs.declared.daemon_row.RecordRow.{RecordRow}
 use Rattle.am_job.specs.Book.{record_of, record_row, with_record, without_record, without_fs}
 use Rattle.am_job.specs.Inside.{row_of, rows_of}
-use Rattle.am_job.proofs.KeyLemmas.{is_one, either_way}
+use Rattle.am_names.proofs.SameTriggers.{is_one, either_way}
 
 -- rows are left out as pairs are
 pub rows_left : (keep : RecordRow → Bool) (pairs : List (Trigger × Record)) → rows_of (filter (λ pair. keep (row_of pair)) pairs) ≡ filter keep (rows_of pairs)

@@ -1,13 +1,14 @@
 -- Packets and triggers, and the tests that tell them apart.
-use Rattle.std.proofs.Common.{◌≡◌, ℕ, true, List, Option, Some, None, refl, ap, subst, ◌∙◌, arith}
+use Rattle.std.proofs.Common.{◌≡◌, ℕ, true, List, refl, ap, subst, ◌∙◌, arith}
 use Rattle.std.specs.Prelude.{◌==◌, ◌&&◌}
 use Rattle.std.specs.Str.{bytes_eq}
 use Rattle.std.proofs.lemmas.Slice.Eq.{bytes_eq-Decides}
 use Rattle.std.proofs.lemmas.Bool.Decides.{nat_tests}
-use Rattle.am_names.specs.Trigger.{same_name, same_trigger}
+use Rattle.am_names.specs.Trigger.{same_trigger}
 use Rattle.am_names.specs.declared.trigger.Trigger.{Trigger}
 use Rattle.am_names.specs.declared.row.TokenKind.{TokenKind}
 use Rattle.am_names.specs.declared.row.TokenKind.TheVariants.{Missing, Expire}
+use Rattle.am_names.proofs.SameTriggers.{is_one, is_itself}
 use Rattle.am_wire.specs.Kind.{kind_number, token_kind}
 use Rattle.am_wire.specs.declared.kind.Kind.{Kind}
 use Rattle.am_wire.specs.declared.packet.Packet.{Packet}
@@ -22,28 +23,6 @@ nat_same n = grind (arith, nat_tests)
 pub nat_is : (m n : ℕ) → (m == n) ≡ true → m ≡ n
 nat_is m n h = grind (arith, nat_tests, h)
 
--- ---- triggers
-
-same_name_is : (a b : Option (List ℕ)) → same_name a b ≡ true → a ≡ b
-same_name_is None None h = refl
-same_name_is (Some x) (Some y) h = ap (λ (n : List ℕ). Some n) ((bytes_eq-Decides x y).0 h)
-same_name_is _ _ h = absurd cc
-
-same_name_same : (a : Option (List ℕ)) → same_name a a ≡ true
-same_name_same None = refl
-same_name_same (Some x) = (bytes_eq-Decides x x).1 refl
-
-abbrev trigger_with : ℕ → Option (List ℕ) → Trigger
-trigger_with fs name = record { fs = fs; name = name }
-
-pub same_trigger_is : (a b : Trigger) → same_trigger a b ≡ true → a ≡ b
-same_trigger_is a b h =
-    let both = and_both (a.fs == b.fs) (same_name a.name b.name) h in
-    ap (λ (x : ℕ). trigger_with x a.name) (nat_is a.fs b.fs both.0) ∙ ap (λ (x : Option (List ℕ)). trigger_with b.fs x) (same_name_is a.name b.name both.1)
-
-pub same_trigger_same : (a : Trigger) → same_trigger a a ≡ true
-same_trigger_same a = and_of _ _ (nat_same a.fs) (same_name_same a.name)
-
 -- ---- what a packet asks for
 
 expire_is : (k : TokenKind) → is_expire k ≡ true → k ≡ Expire
@@ -52,12 +31,12 @@ expire_is Expire h = refl
 
 pub expires_true : (trigger : Trigger) (packet : Packet) → AsksToExpire packet trigger → expires trigger packet ≡ true
 expires_true trigger packet h =
-    and_of _ _ (ap is_expire h.asks) (subst (λ (t : Trigger). same_trigger (trigger_of packet) t ≡ true) h.is_its (same_trigger_same (trigger_of packet)))
+    and_of _ _ (ap is_expire h.asks) (subst (λ (t : Trigger). same_trigger (trigger_of packet) t ≡ true) h.is_its (is_itself (trigger_of packet)))
 
 pub expires_from_test : (trigger : Trigger) (packet : Packet) → expires trigger packet ≡ true → AsksToExpire packet trigger
 expires_from_test trigger packet h =
     let both = and_both (is_expire (token_kind packet.kind)) (same_trigger (trigger_of packet) trigger) h in
-    record { asks = expire_is (token_kind packet.kind) both.0; is_its = same_trigger_is (trigger_of packet) trigger both.1 }
+    record { asks = expire_is (token_kind packet.kind) both.0; is_its = is_one (trigger_of packet) trigger both.1 }
 
 -- ---- packets
 

@@ -16,7 +16,8 @@ use Rattle.am_kernel.specs.Requests.{queued_of}
 use Rattle.am_job.specs.Book.{record_of}
 use Rattle.am_daemon.specs.State.{DaemonState, JobPlan}
 use Rattle.am_daemon.specs.Deliveries.{job_of}
-use Rattle.am_laws.proofs.Packets.{nat_is, same_trigger_is}
+use Rattle.am_names.proofs.SameTriggers.{is_one}
+use Rattle.am_laws.proofs.Packets.{nat_is}
 use Rattle.am_machine.specs.Invariant.Tokens.{IsInPipe, IsAtWork, HasToken, TokensAgree}
 use Rattle.am_machine.specs.Invariant.Planned.{has_record_left}
 use Rattle.am_machine.specs.Invariant.Books.{IsServed, is_pending_for, is_to_record, BookAgrees}
@@ -92,7 +93,7 @@ module _ (k : KernelState) (d : DaemonState) (tokens : TokensAgree k d.jobs) (fs
   pub pending_here : BookAgrees k d → AreOfTheirTokens k.waits d.book → (g : Trigger) (entry : Record) (token : ℕ) → g.fs ≡ fs → record_of d.book g ≡ Some entry → is_pending_for token (Some entry) ≡ true → IsPending k d attach g entry token
   pending_here book records g entry token same found e =
       let j = job_on attach g (job_of d.jobs token) (sym (book.pending fs attach served g same token) ∙ ap (is_pending_for token) found ∙ e) in
-      let system : j.job.trigger.fs ≡ g.fs = ap (λ (t : Trigger). t.fs) (same_trigger_is j.job.trigger g j.trigger) in
+      let system : j.job.trigger.fs ≡ g.fs = ap (λ (t : Trigger). t.fs) (is_one j.job.trigger g j.trigger) in
       let lasts : attach_of k j.job.trigger.fs ≡ Some j.job.attach = ap (attach_of k) (system ∙ same) ∙ served.current ∙ ap (λ (n : ℕ). Some n) (sym j.current) in
       let has = token_at_work k d tokens token j.job j.is_job lasts in
       let number : j.job.token ≡ token = nat_is j.job.token token (found_passes (λ (row : JobPlan). row.token == token) d.jobs j.job j.is_job) in
@@ -106,7 +107,7 @@ module _ (k : KernelState) (d : DaemonState) (tokens : TokensAgree k d.jobs) (fs
         is_open = is_open;
         fs = sym has.fs ∙ system;
         kind = (its_token k.waits d.book g entry records found).kind token has.token is_open e;
-        asked = λ named. sym (has.trigger named) ∙ same_trigger_is j.job.trigger g j.trigger;
+        asked = λ named. sym (has.trigger named) ∙ is_one j.job.trigger g j.trigger;
       }
 
   -- an open token whose packet is in the pipe is to be delivered

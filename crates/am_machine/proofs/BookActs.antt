@@ -9,7 +9,7 @@ use Rattle.am_job.specs.declared.act.Act.TheVariants as act
 use Rattle.am_job.specs.declared.act.Outcome.{Outcome}
 use Rattle.am_job.specs.Plans.{rest_of, next_of}
 use Rattle.am_job.specs.Book.{record_of}
-use Rattle.am_job.proofs.KeyLemmas.{is_one, is_itself}
+use Rattle.am_names.proofs.SameTriggers.{is_one, is_itself}
 use Rattle.am_kernel.specs.State.{KernelState}
 use Rattle.am_daemon.specs.declared.acts.Writing.{Writing}
 use Rattle.am_daemon.specs.State.{DaemonState, JobPlan}

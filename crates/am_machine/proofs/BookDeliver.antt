@@ -11,7 +11,7 @@ use Rattle.am_map.specs.EntryText.{EntryText}
 use Rattle.am_state.specs.declared.daemon_row.Record.{Record}
 use Rattle.am_job.specs.Book.{record_of, recorded}
 use Rattle.am_job.specs.Plans.{is_reply, plan_for}
-use Rattle.am_job.proofs.KeyLemmas.{is_one}
+use Rattle.am_names.proofs.SameTriggers.{is_one}
 use Rattle.am_wait.proofs.CallLemmas.{is_none_of}
 use Rattle.am_kernel.specs.State.{KernelState}
 use Rattle.am_daemon.specs.State.{DaemonState, JobPlan}

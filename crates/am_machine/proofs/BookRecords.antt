@@ -12,7 +12,7 @@ use Rattle.am_state.specs.declared.daemon_row.Record.TheVariants.{Mounting, Moun
 use Rattle.am_state.specs.declared.daemon_row.RecordRow.{RecordRow}
 use Rattle.am_job.specs.Book.{record_of, record_row, with_record, recorded, IsRecorded}
 use Rattle.am_job.proofs.BookLemmas.{removed}
-use Rattle.am_job.proofs.KeyLemmas.{is_one, is_itself}
+use Rattle.am_names.proofs.SameTriggers.{is_one, is_itself}
 use Rattle.am_machine.specs.Invariant.Books.{is_pending_for}
 use Rattle.am_daemon.specs.Packets.{is_pending}
 

@@ -10,6 +10,7 @@ use Rattle.am_kernel.specs.declared.row.Attached.{Attached}
 use Rattle.am_kernel.specs.State.{KernelState}
 use Rattle.am_kernel.specs.Sites.{is_live, attach_of, is_attached_by, fs_of_attach, is_current}
 use Rattle.am_laws.proofs.Bools.{and_both}
+use Rattle.am_names.proofs.SameTriggers.{both_are}
 use Rattle.am_laws.proofs.Packets.{nat_is, nat_same}
 use Rattle.am_machine.specs.Invariant.Attachments.{RiseTo}
 use Rattle.am_machine.proofs.TraceRows.{found_passes}
@@ -38,10 +39,6 @@ one_by test last low x row rows false h later e =
 pub one_row : (test : Attached → Bool) (last low : ℕ) (rows : List Attached) (row : Attached) → RiseTo last low rows → find test rows ≡ Some row → find (λ (r : Attached). r.fs == row.fs) rows ≡ Some row
 one_row test last low [] row h e = absurd cc
 one_row test last low (x ∷ rows) row h e = one_by test last low x row rows (test x) h (one_row test last (x.fs + 1) rows row h.2) e
-
-both_are : (a b : Bool) → a ≡ true → b ≡ true → (a && b) ≡ true
-both_are true b e g = g
-both_are false b e g = absurd cc
 
 -- ---- the file system of an attachment has it
 

@@ -9,7 +9,7 @@ use Rattle.am_state.specs.declared.daemon_row.RecordRow.{RecordRow}
 use Rattle.am_job.specs.declared.act.Outcome.{Outcome}
 use Rattle.am_job.specs.Plans.{rest_of, next_of, claims, mount_in}
 use Rattle.am_job.specs.Book.{record_of}
-use Rattle.am_job.proofs.KeyLemmas.{is_one, is_itself, both_are}
+use Rattle.am_names.proofs.SameTriggers.{is_one, is_itself, both_are}
 use Rattle.am_trigger.specs.declared.autofs.Autofs.{Autofs}
 use Rattle.am_trigger.specs.Rows.{autofs_of}
 use Rattle.am_kernel.specs.State.{KernelState}

@@ -14,7 +14,7 @@ use Rattle.am_state.specs.declared.daemon_row.RecordRow.{RecordRow}
 use Rattle.am_group.specs.Changes.{is_just}
 use Rattle.am_group.proofs.ScanLemmas.{just_same}
 use Rattle.am_job.specs.Book.{record_of, with_record}
-use Rattle.am_job.proofs.KeyLemmas.{is_one, is_itself, both_are}
+use Rattle.am_names.proofs.SameTriggers.{is_one, is_itself, both_are}
 use Rattle.am_mount.specs.Rows.{mount_row, top_of}
 use Rattle.am_trigger.specs.declared.autofs.Autofs.{Autofs}
 use Rattle.am_trigger.specs.Rows.{autofs_of}

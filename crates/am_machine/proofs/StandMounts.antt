@@ -6,7 +6,7 @@ use Rattle.am_names.specs.declared.trigger.Trigger.{Trigger}
 use Rattle.am_names.specs.declared.row.MountRow.{MountRow}
 use Rattle.am_group.specs.declared.membership.Membership.TheVariants.{Private}
 use Rattle.am_group.specs.Propagation.{Receives}
-use Rattle.am_job.proofs.KeyLemmas.{is_itself}
+use Rattle.am_names.proofs.SameTriggers.{is_itself}
 use Rattle.am_mount.specs.Rows.{mount_row, top_of, IsAt, IsFree}
 use Rattle.am_propagate.specs.MountTable.{is_mount}
 use Rattle.am_propagate.specs.Invariant.{IsWhole}

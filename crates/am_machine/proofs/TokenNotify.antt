@@ -6,7 +6,7 @@ use Rattle.std.proofs.lemmas.Bool.{cases_lt}
 use Rattle.std.proofs.lemmas.List.Elements.{All-weaker, All-push}
 use Rattle.am_names.specs.Trigger.{same_trigger}
 use Rattle.am_names.specs.declared.row.OpenToken.{OpenToken}
-use Rattle.am_trigger.proofs.TriggerLemmas.{either_way}
+use Rattle.am_names.proofs.SameTriggers.{either_way}
 use Rattle.am_wait.specs.Rows.{token_of}
 use Rattle.am_wait.specs.Invariant.{RiseBy, AreGiven}
 use Rattle.am_wait.proofs.FindLemmas.{or_first, find_append}

@@ -25,7 +25,8 @@ use Rattle.am_laws.specs.TraceLaws.{AllReleased}
 use Rattle.am_laws.specs.Fold.{IsLawfulAt, AreLawful}
 use Rattle.am_laws.specs.Tests.{is_open}
 use Rattle.am_laws.proofs.Bools.{or_no, or_right}
-use Rattle.am_laws.proofs.Packets.{nat_same, same_trigger_same}
+use Rattle.am_names.proofs.SameTriggers.{is_itself}
+use Rattle.am_laws.proofs.Packets.{nat_same}
 use Rattle.am_laws.proofs.Words.{waits_true, waits_from_test, once_from_test, delivered_from_test, never_queued_from_test, never_delivered_from_test, queued_from_since, zero_uses}
 use Rattle.am_laws.proofs.Decided.{is_open_true, open_from_test, has_since}
 use Rattle.am_machine.specs.Invariant.Traces.{has, names, Asked, asked_in, asked_by, opened, AgreeOnOpen, WaitersFit, AgreeOnWaiters, AgreeOnUses, PacketFits, AgreeOnJobs}
@@ -61,7 +62,7 @@ asks_same : (row : OpenToken) (packet : Packet) (trigger : Trigger) → asked_by
 asks_same row packet trigger e t k =
     let its : row.trigger ≡ trigger = ap (λ (a : Asked). a.trigger) e ∙ t in
     let kind : row.kind ≡ Expire = ap (λ (a : Asked). a.kind) e ∙ k in
-    rw (its, kind, same_trigger_same trigger) refl
+    rw (its, kind, is_itself trigger) refl
 
 not_expiring : (tokens : List OpenToken) (trace : List Obs) (trigger : Trigger) → AgreeOnOpen tokens trace → open_on tokens Expire trigger ≡ None → ¬ IsExpiring trace trigger
 not_expiring tokens trace trigger h none = λ expiring.

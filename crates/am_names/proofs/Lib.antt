@@ -3,3 +3,4 @@ pub mod Cuts
 pub mod Puts
 pub mod PathLemmas
 pub mod PathReads
+pub mod SameTriggers

@@ -5,6 +5,6 @@ pub mod daemon_row;
 pub mod kernel_row;
 pub mod obs;
 
-pub use daemon_row::{ActsLeft, HeldRow, JobRow, KnownRow, Record, RecordRow};
-pub use kernel_row::{AutofsRow, Doing, QueuedRow, UseRow, WalkerRow};
+pub use daemon_row::{HeldRow, KnownRow, Record, RecordRow};
+pub use kernel_row::QueuedRow;
 pub use obs::Obs;

@@ -1,50 +1,12 @@
--- Triggers that are one, and lists in which one is looked for.
-use Rattle.std.proofs.Common.{◌≡◌, ℕ, Bool, true, false, cond, not, ◌&&◌, ◌||◌, ◌==◌, List, [], ◌∷◌, ◌++◌, Option, Some, None, refl, sym, ap, subst, ◌∙◌}
+-- Lists in which a trigger is looked for.
+use Rattle.std.proofs.Common.{◌≡◌, ℕ, Bool, true, false, cond, not, ◌&&◌, ◌||◌, List, [], ◌∷◌, ◌++◌, Option, Some, None, refl, sym, ap, ◌∙◌}
 use Rattle.std.specs.Prelude.{filter, find, if◌then◌else◌}
-use Rattle.std.specs.Bool.{Decides}
 use Rattle.std.specs.List.{list_any}
 use Rattle.std.specs.Option.{option_map}
-use Rattle.std.proofs.lemmas.Bool.Decides.{Decides-eqb, same_from_decides}
-use Rattle.std.proofs.lemmas.Slice.Eq.{bytes_eq-Decides}
-use Rattle.am_names.specs.Trigger.{same_trigger, same_name}
+use Rattle.am_names.specs.Trigger.{same_trigger}
 use Rattle.am_names.specs.declared.trigger.Trigger.{Trigger}
+use Rattle.am_names.proofs.SameTriggers.{is_one, either_way}
 use Rattle.am_trigger.specs.Rows.{used_in, last_use_in}
-
-pub both : (a b : Bool) → (a && b) ≡ true → (a ≡ true) × (b ≡ true)
-both true true h = (refl, refl)
-both true false h = absurd cc
-both false b h = absurd cc
-
-pub both_are : (a b : Bool) → a ≡ true → b ≡ true → (a && b) ≡ true
-both_are true true d e = refl
-both_are true false d e = absurd cc
-both_are false b d e = absurd cc
-
-name_is : (a b : Option (List ℕ)) → same_name a b ≡ true → a ≡ b
-name_is None None h = refl
-name_is None (Some b) h = absurd cc
-name_is (Some a) None h = absurd cc
-name_is (Some a) (Some b) h = ap (λ (bytes : List ℕ). Some bytes) ((bytes_eq-Decides a b).0 h)
-
-name_self : (a : Option (List ℕ)) → same_name a a ≡ true
-name_self None = refl
-name_self (Some a) = (bytes_eq-Decides a a).1 refl
-
-pub is_one : (a b : Trigger) → same_trigger a b ≡ true → a ≡ b
-is_one a b h =
-    let two = both (a.fs == b.fs) (same_name a.name b.name) h in
-    let make : ℕ → Option (List ℕ) → Trigger = λ fs name. record { fs = fs; name = name } in
-    ap (λ (fs : ℕ). make fs a.name) ((Decides-eqb a.fs b.fs).0 two.0) ∙ ap (make b.fs) (name_is a.name b.name two.1)
-
-pub is_itself : (a : Trigger) → same_trigger a a ≡ true
-is_itself a = both_are (a.fs == a.fs) (same_name a.name a.name) ((Decides-eqb a.fs a.fs).1 refl) (name_self a.name)
-
--- the test tells whether two triggers are one
-pub tells : (a b : Trigger) → Decides (same_trigger a b) (a ≡ b)
-tells a b = (is_one a b, λ e. subst (λ (x : Trigger). same_trigger a x ≡ true) e (is_itself a))
-
-pub either_way : (a b : Trigger) → same_trigger a b ≡ same_trigger b a
-either_way a b = same_from_decides (same_trigger a b) (same_trigger b a) (tells a b) ((λ h. sym (is_one b a h)), (λ e. (tells b a).1 (sym e)))
 
 -- ---- directories
 

@@ -1,6 +1,7 @@
 use Rattle.std.proofs.Common.{◌∙◌}
 use Rattle.am_names.specs.contracts.trigger.TriggerPartialEq.TheImpl.{eq-value}
-use Rattle.am_trigger.proofs.KeyLemmas.{key_is, insert_is, when_ok}
+use Rattle.am_names.proofs.SameTriggers.{key_is, when_ok}
+use Rattle.am_trigger.proofs.KeyLemmas.{insert_is}
 use Rattle.am_trigger.proofs.triggers.use_reserved.Goals as goal
 
 pub returns-clause-entries : goal.returns-clause-entries

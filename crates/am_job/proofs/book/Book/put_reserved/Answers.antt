@@ -5,7 +5,7 @@ use Rattle.am_names.specs.contracts.trigger.TriggerPartialEq.TheImpl.{eq-value}
 use Rattle.am_job.specs.Book.{with_record, record_of}
 use Rattle.am_job.specs.Inside.{rows_of}
 use Rattle.am_job.specs.Table.{BookTable}
-use Rattle.am_job.proofs.KeyLemmas.{key_is, when_ok}
+use Rattle.am_names.proofs.SameTriggers.{key_is, when_ok}
 use Rattle.am_job.proofs.BookLemmas.{insert_is, recorded_is}
 use Rattle.am_job.proofs.book.Book.put_reserved.Goals as goal
 

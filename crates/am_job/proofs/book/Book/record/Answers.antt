@@ -2,7 +2,7 @@ use Rattle.std.proofs.Common.{ap, ◌∙◌}
 use Rattle.am_names.specs.contracts.trigger.TriggerPartialEq.TheImpl.{eq-value}
 use Rattle.am_job.specs.Book.{record_of}
 use Rattle.am_job.specs.Table.{BookTable}
-use Rattle.am_job.proofs.KeyLemmas.{key_is}
+use Rattle.am_names.proofs.SameTriggers.{key_is}
 use Rattle.am_job.proofs.BookLemmas.{lookup_is}
 use Rattle.am_job.proofs.book.Book.record.Goals as goal
 

@@ -2,7 +2,8 @@ use Rattle.std.proofs.Common.{ap, ◌∙◌}
 use Rattle.am_names.specs.contracts.trigger.TriggerPartialEq.TheImpl.{eq-value}
 use Rattle.am_trigger.specs.Rows.{last_use_of}
 use Rattle.am_trigger.specs.Table.{TriggerTable}
-use Rattle.am_trigger.proofs.KeyLemmas.{key_is, lookup_is}
+use Rattle.am_names.proofs.SameTriggers.{key_is}
+use Rattle.am_trigger.proofs.KeyLemmas.{lookup_is}
 use Rattle.am_trigger.proofs.triggers.Triggers.last_use.Goals as goal
 
 pub returns : goal.returns

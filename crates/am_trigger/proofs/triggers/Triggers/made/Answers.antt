@@ -3,7 +3,8 @@ use Rattle.am_names.specs.Trigger.{same_trigger}
 use Rattle.am_names.specs.contracts.trigger.TriggerPartialEq.TheImpl.{eq-value}
 use Rattle.am_trigger.specs.Rows.{is_made}
 use Rattle.am_trigger.specs.Table.{TriggerTable}
-use Rattle.am_trigger.proofs.KeyLemmas.{key_is, any_same}
+use Rattle.am_names.proofs.SameTriggers.{key_is}
+use Rattle.am_trigger.proofs.KeyLemmas.{any_same}
 use Rattle.am_trigger.proofs.triggers.Triggers.made.Goals as goal
 
 pub returns : goal.returns

@@ -5,7 +5,8 @@ use Rattle.am_names.specs.declared.trigger.Trigger.{Trigger}
 use Rattle.am_names.specs.contracts.trigger.TriggerPartialEq.TheImpl.{eq-value}
 use Rattle.am_trigger.specs.Rows.{TriggerRows, is_made, with_directory}
 use Rattle.am_trigger.specs.Table.{TriggerTable}
-use Rattle.am_trigger.proofs.KeyLemmas.{key_is, any_same}
+use Rattle.am_names.proofs.SameTriggers.{key_is}
+use Rattle.am_trigger.proofs.KeyLemmas.{any_same}
 use Rattle.am_trigger.proofs.TriggerLemmas.{any_last}
 use Rattle.am_trigger.proofs.triggers.Triggers.mkdir.Goals as goal
 

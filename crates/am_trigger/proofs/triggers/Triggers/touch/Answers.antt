@@ -3,7 +3,8 @@ use Rattle.am_names.specs.declared.trigger.Trigger.{Trigger}
 use Rattle.am_names.specs.contracts.trigger.TriggerPartialEq.TheImpl.{eq-value}
 use Rattle.am_trigger.specs.Rows.{TriggerRows, used_in, used, last_use_of}
 use Rattle.am_trigger.specs.Table.{TriggerTable}
-use Rattle.am_trigger.proofs.KeyLemmas.{key_is, insert_is}
+use Rattle.am_names.proofs.SameTriggers.{key_is}
+use Rattle.am_trigger.proofs.KeyLemmas.{insert_is}
 use Rattle.am_trigger.proofs.TriggerLemmas.{used_at}
 use Rattle.am_trigger.proofs.triggers.Triggers.touch.Goals as goal
 
