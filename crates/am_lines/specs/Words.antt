@@ -11,8 +11,8 @@ abbrev pub is_colon : ℕ → Bool
 is_colon b = b == 58
 
 -- what stands between blanks
-abbrev pub words : List ℕ → List (List ℕ)
-words line = filter (λ word. not (length word == 0)) (slice_split is_blank line)
+abbrev pub words_of : List ℕ → List (List ℕ)
+words_of line = filter (λ word. not (length word == 0)) (slice_split is_blank line)
 
 -- a line with words that is no comment: its number, its first word and the others
 pub record Statement : Type 0 where
@@ -31,7 +31,7 @@ statement_of_words number (first ∷ others) =
     if begins_with 35 first then [] else record { number = number; first = first; others = others } ∷ []
 
 abbrev pub statement_of : Line → List Statement
-statement_of line = statement_of_words line.number (words line.bytes)
+statement_of line = statement_of_words line.number (words_of line.bytes)
 
 -- the statements of a text that begins at the raw line of this number
 abbrev pub statements_from : ℕ → List ℕ → List Statement

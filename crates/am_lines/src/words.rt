@@ -2,12 +2,12 @@
 
 ghost use Rattle.std.specs.Prelude.{◌≡◌, ◌<◌, ◌∷◌, [], ℕ, IfNone, IfSome, length, position};
 ghost use Rattle.std.specs.List.{slice_split, before_first, after_first};
-ghost use Rattle.am_lines.specs.Words.{is_blank, is_colon, words, begins_with, statement_of_words};
+ghost use Rattle.am_lines.specs.Words.{is_blank, is_colon, words_of, begins_with, statement_of_words};
 
 /// The first word of a line and what stands behind it, or none where no word is left.
 pub fn next_word(line: &[u8]) -> Option<(&[u8], &[u8])>
-    ensures none { IfNone result (words line.now ≡ []) }
-    ensures some { IfSome result (λ cut. words line.now ≡ cut.0.now ∷ words cut.1.now) }
+    ensures none { IfNone result (words_of line.now ≡ []) }
+    ensures some { IfSome result (λ cut. words_of line.now ≡ cut.0.now ∷ words_of cut.1.now) }
     ensures shorter { IfSome result (λ cut. length cut.1.now < length line.now) }
 {
     let mut rest = line;
@@ -26,9 +26,9 @@ pub fn next_word(line: &[u8]) -> Option<(&[u8], &[u8])>
 /// The first word of a line that says something, and what stands behind it.
 /// None for a line without words, and for a comment, whose first word begins with `#`.
 pub fn first_word(line: &[u8]) -> Option<(&[u8], &[u8])>
-    ensures none { IfNone result ((n : ℕ) → statement_of_words n (words line.now) ≡ []) }
-    ensures some { IfSome result (λ cut. (n : ℕ) → statement_of_words n (words line.now)
-        ≡ record { number = n; first = cut.0.now; others = words cut.1.now } ∷ []) }
+    ensures none { IfNone result ((n : ℕ) → statement_of_words n (words_of line.now) ≡ []) }
+    ensures some { IfSome result (λ cut. (n : ℕ) → statement_of_words n (words_of line.now)
+        ≡ record { number = n; first = cut.0.now; others = words_of cut.1.now } ∷ []) }
 {
     let (word, others) = next_word(line)?;
     if begins_with(word, b'#') {

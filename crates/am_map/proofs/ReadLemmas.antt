@@ -3,7 +3,7 @@ use Rattle.std.proofs.Common.{◌≡◌, ℕ, true, false, cond, List, [], ◌�
 use Rattle.std.specs.Prelude.{Result, Ok, Err, fold}
 use Rattle.std.specs.List.{flat_map}
 use Rattle.am_lines.specs.Lines.{Line, lines_from}
-use Rattle.am_lines.specs.Words.{Statement, words, begins_with, statement_of, statement_of_words, statements_from}
+use Rattle.am_lines.specs.Words.{Statement, words_of, begins_with, statement_of, statement_of_words, statements_from}
 use Rattle.am_map.specs.declared.fault.MapFault.{MapFault}
 use Rattle.am_map.specs.declared.fault.MapFaultKind.{MapFaultKind}
 use Rattle.am_map.specs.declared.kind.MapKind.{MapKind}
@@ -58,15 +58,15 @@ statement_stops of number rows kind (first ∷ ws) others e =
       | false ↦ λ read. row_stops number rows kind (row_read of line) (rows_read of others) read
     ] e
 
-pub line_goes : (of : MapKind) (number : ℕ) (rows new : List Row) (text bytes : List ℕ) (lines : List Line) → lines_from number text ≡ record { number = number; bytes = bytes } ∷ lines → line_added of rows (statement_of_words number (words bytes)) ≡ Ok new →
+pub line_goes : (of : MapKind) (number : ℕ) (rows new : List Row) (text bytes : List ℕ) (lines : List Line) → lines_from number text ≡ record { number = number; bytes = bytes } ∷ lines → line_added of rows (statement_of_words number (words_of bytes)) ≡ Ok new →
     behind rows (rows_read of (statements_from number text)) ≡ behind new (rows_read of (flat_map statement_of lines))
 line_goes of number rows new text bytes lines cut e =
-    ap (λ (all : List Line). behind rows (rows_read of (flat_map statement_of all))) cut ∙ statement_goes of number rows new (words bytes) (flat_map statement_of lines) e
+    ap (λ (all : List Line). behind rows (rows_read of (flat_map statement_of all))) cut ∙ statement_goes of number rows new (words_of bytes) (flat_map statement_of lines) e
 
-pub line_stops : (of : MapKind) (number : ℕ) (rows : List Row) (kind : MapFaultKind) (text bytes : List ℕ) (lines : List Line) → lines_from number text ≡ record { number = number; bytes = bytes } ∷ lines → line_added of rows (statement_of_words number (words bytes)) ≡ Err kind →
+pub line_stops : (of : MapKind) (number : ℕ) (rows : List Row) (kind : MapFaultKind) (text bytes : List ℕ) (lines : List Line) → lines_from number text ≡ record { number = number; bytes = bytes } ∷ lines → line_added of rows (statement_of_words number (words_of bytes)) ≡ Err kind →
     behind rows (rows_read of (statements_from number text)) ≡ Err (record { line = number; kind = kind })
 line_stops of number rows kind text bytes lines cut e =
-    ap (λ (all : List Line). behind rows (rows_read of (flat_map statement_of all))) cut ∙ statement_stops of number rows kind (words bytes) (flat_map statement_of lines) e
+    ap (λ (all : List Line). behind rows (rows_read of (flat_map statement_of all))) cut ∙ statement_stops of number rows kind (words_of bytes) (flat_map statement_of lines) e
 
 -- what is kept of all rows is what a text is read as
 pub read_is : (read : Result (List Row) MapFault) → behind [] read ≡ kept read

@@ -2,7 +2,7 @@
 
 ghost use Rattle.std.specs.Prelude.{◌≡◌, ◌≤◌, ◌+◌, [], ℕ, length, is_some, IfOk, IfErr, OnOk, OnErr, find};
 ghost use Rattle.std.specs.Option.{option_copied, option_map};
-ghost use Rattle.am_lines.specs.Words.{words, statements, statement_of_words};
+ghost use Rattle.am_lines.specs.Words.{words_of, statements, statement_of_words};
 ghost use Rattle.am_map.specs.LookUp.{has_key, row_for, entry_for};
 ghost use Rattle.am_map.specs.Fault.{IsFaultOr};
 ghost use Rattle.am_map.specs.Grammar.{map_read, rows_read, ReadAs, FindsFirst, keyed, entry_read};
@@ -111,8 +111,8 @@ impl Map {
 
     /// Adds the row of a line, if the line says something.
     fn read_line(&mut self, alloc: Global, line: &[u8], kind: MapKind) -> Result<(), MapFaultKind>
-        ensures ok { OnOk result ((n : ℕ) → line_added kind self.old (statement_of_words n (words line.now)) ≡ Ok self.new) }
-        ensures err { IfErr result (λ fault. IsFaultOr fault ((n : ℕ) → line_added kind self.old (statement_of_words n (words line.now)) ≡ Err fault)) }
+        ensures ok { OnOk result ((n : ℕ) → line_added kind self.old (statement_of_words n (words_of line.now)) ≡ Ok self.new) }
+        ensures err { IfErr result (λ fault. IsFaultOr fault ((n : ℕ) → line_added kind self.old (statement_of_words n (words_of line.now)) ≡ Err fault)) }
     {
         let Some((first, others)) = first_word(line) else {
             return Ok(());
@@ -131,8 +131,8 @@ impl Map {
 
     /// Adds the row of a key and the words behind it.
     fn read_row(&mut self, alloc: Global, key: &[u8], others: &[u8]) -> Result<(), MapFaultKind>
-        ensures ok { OnOk result (added self.old (keyed (Ok key.now) (entry_read (words others.now))) ≡ Ok self.new) }
-        ensures err { IfErr result (λ fault. IsFaultOr fault (added self.old (keyed (Ok key.now) (entry_read (words others.now))) ≡ Err fault)) }
+        ensures ok { OnOk result (added self.old (keyed (Ok key.now) (entry_read (words_of others.now))) ≡ Ok self.new) }
+        ensures err { IfErr result (λ fault. IsFaultOr fault (added self.old (keyed (Ok key.now) (entry_read (words_of others.now))) ≡ Err fault)) }
     {
         let entry = read_entry(others)?;
         match self.add(alloc, key, &entry) {

@@ -2,7 +2,7 @@
 
 ghost use Rattle.std.specs.Prelude.{◌≡◌, IfOk, IfErr, OnOk};
 ghost use Rattle.std.specs.List.{list_all};
-ghost use Rattle.am_lines.specs.Words.{words};
+ghost use Rattle.am_lines.specs.Words.{words_of};
 ghost use Rattle.am_map.specs.Words.{is_plain, is_plain_byte, is_indirect_key, key_read, is_options, is_location, is_host_byte};
 ghost use Rattle.am_map.specs.Grammar.{entry_read, entry_with};
 ghost use Rattle.am_map.specs.Parts.{entry_of};
@@ -43,8 +43,8 @@ pub(crate) fn read_path(word: &[u8]) -> Result<AbsPath, MapFaultKind>
 
 /// Reads the words behind the key: options, if the first begins with a dash, and a location.
 pub(crate) fn read_entry(line: &[u8]) -> Result<EntryRef<'_>, MapFaultKind>
-    ensures ok { IfOk result (λ entry. entry_read (words line.now) ≡ Ok (entry_of entry)) }
-    ensures err { IfErr result (λ fault. entry_read (words line.now) ≡ Err fault) }
+    ensures ok { IfOk result (λ entry. entry_read (words_of line.now) ≡ Ok (entry_of entry)) }
+    ensures err { IfErr result (λ fault. entry_read (words_of line.now) ≡ Err fault) }
 {
     let Some((word, others)) = next_word(line) else {
         return Err(MapFaultKind::NoLocation);
@@ -63,8 +63,8 @@ fn read_location<'a>(
     options: Option<&'a [u8]>,
     line: &'a [u8],
 ) -> Result<EntryRef<'a>, MapFaultKind>
-    ensures ok { IfOk result (λ entry. entry_with (option_copied options.entry) (words line.now) ≡ Ok (entry_of entry)) }
-    ensures err { IfErr result (λ fault. entry_with (option_copied options.entry) (words line.now) ≡ Err fault) }
+    ensures ok { IfOk result (λ entry. entry_with (option_copied options.entry) (words_of line.now) ≡ Ok (entry_of entry)) }
+    ensures err { IfErr result (λ fault. entry_with (option_copied options.entry) (words_of line.now) ≡ Err fault) }
 {
     let Some((word, others)) = next_word(line) else {
         return Err(MapFaultKind::NoLocation);

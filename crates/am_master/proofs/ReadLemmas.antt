@@ -4,7 +4,7 @@ use Rattle.std.proofs.lemmas.List.Elements.{All-push}
 use Rattle.std.specs.Prelude.{Result, Ok, Err}
 use Rattle.std.specs.List.{flat_map}
 use Rattle.am_lines.specs.Lines.{Line, lines_from}
-use Rattle.am_lines.specs.Words.{Statement, words, begins_with, statement_of, statement_of_words, statements_from}
+use Rattle.am_lines.specs.Words.{Statement, words_of, begins_with, statement_of, statement_of_words, statements_from}
 use Rattle.am_master.specs.declared.fault.MasterFault.{MasterFault}
 use Rattle.am_master.specs.declared.fault.MasterFaultKind.{MasterFaultKind}
 use Rattle.am_master.specs.MasterRow.{MasterRow}
@@ -51,15 +51,15 @@ statement_stops number above kind (first ∷ ws) others e =
       | false ↦ λ read. row_stops number above kind (row_read above line) (λ rows. rows_read rows others) read
     ] e
 
-pub line_goes : (number : ℕ) (above new : List MasterRow) (text bytes : List ℕ) (lines : List Line) → lines_from number text ≡ record { number = number; bytes = bytes } ∷ lines → line_added above (statement_of_words number (words bytes)) ≡ Ok new →
+pub line_goes : (number : ℕ) (above new : List MasterRow) (text bytes : List ℕ) (lines : List Line) → lines_from number text ≡ record { number = number; bytes = bytes } ∷ lines → line_added above (statement_of_words number (words_of bytes)) ≡ Ok new →
     rows_read above (statements_from number text) ≡ rows_read new (flat_map statement_of lines)
 line_goes number above new text bytes lines cut e =
-    ap (λ (all : List Line). rows_read above (flat_map statement_of all)) cut ∙ statement_goes number above new (words bytes) (flat_map statement_of lines) e
+    ap (λ (all : List Line). rows_read above (flat_map statement_of all)) cut ∙ statement_goes number above new (words_of bytes) (flat_map statement_of lines) e
 
-pub line_stops : (number : ℕ) (above : List MasterRow) (kind : MasterFaultKind) (text bytes : List ℕ) (lines : List Line) → lines_from number text ≡ record { number = number; bytes = bytes } ∷ lines → line_added above (statement_of_words number (words bytes)) ≡ Err kind →
+pub line_stops : (number : ℕ) (above : List MasterRow) (kind : MasterFaultKind) (text bytes : List ℕ) (lines : List Line) → lines_from number text ≡ record { number = number; bytes = bytes } ∷ lines → line_added above (statement_of_words number (words_of bytes)) ≡ Err kind →
     rows_read above (statements_from number text) ≡ Err (record { line = number; kind = kind })
 line_stops number above kind text bytes lines cut e =
-    ap (λ (all : List Line). rows_read above (flat_map statement_of all)) cut ∙ statement_stops number above kind (words bytes) (flat_map statement_of lines) e
+    ap (λ (all : List Line). rows_read above (flat_map statement_of all)) cut ∙ statement_stops number above kind (words_of bytes) (flat_map statement_of lines) e
 
 -- ---- the lines on which rows stand
 

@@ -3,7 +3,7 @@
 ghost use Rattle.std.specs.Prelude.{◌≡◌, ◌≤◌, ◌+◌, ◌∷◌, ◌++◌, [], length, IfOk, IfErr, OnOk, OnErr, IsOk, false};
 ghost use Rattle.std.specs.Str.{bytes_eq};
 ghost use Rattle.std.specs.List.{list_any};
-ghost use Rattle.am_lines.specs.Words.{words, statement_of_words};
+ghost use Rattle.am_lines.specs.Words.{words_of, statement_of_words};
 ghost use Rattle.am_master.specs.Fault.{IsFaultOr};
 ghost use Rattle.am_master.specs.Points.{texts_of};
 ghost use Rattle.am_master.specs.declared.fault.MasterFaultKind.TheVariants.{NoMemory};
@@ -91,8 +91,8 @@ impl Master {
         line: &[u8],
         number: usize,
     ) -> Result<(), MasterFaultKind>
-        ensures ok { OnOk result (line_added self.old (statement_of_words number (words line.now)) ≡ Ok self.new) }
-        ensures err { IfErr result (λ fault. IsFaultOr fault (line_added self.old (statement_of_words number (words line.now)) ≡ Err fault)) }
+        ensures ok { OnOk result (line_added self.old (statement_of_words number (words_of line.now)) ≡ Ok self.new) }
+        ensures err { IfErr result (λ fault. IsFaultOr fault (line_added self.old (statement_of_words number (words_of line.now)) ≡ Err fault)) }
     {
         let Some((first, others)) = first_word(line) else {
             return Ok(());

@@ -3,7 +3,7 @@
 ghost use Rattle.std.specs.Prelude.{◌≡◌, ◌<◌, ◌++◌, [], nat_le, fold, Some, None, IfNone, IfSome, length, if◌then◌else◌};
 ghost use Rattle.std.specs.List.{list_all};
 ghost use Rattle.std.specs.Option.{option_copied, option_to_list};
-ghost use Rattle.am_lines.specs.Words.{words};
+ghost use Rattle.am_lines.specs.Words.{words_of};
 ghost use Rattle.am_master.specs.Timeout.{timeout_read, timeout_values, takes_next, value_in, is_seconds, is_digit, decimal};
 
 use crate::fault::MasterFaultKind;
@@ -11,7 +11,7 @@ use am_lines::next_word;
 
 /// The timeout that the options set, or 300 seconds.
 pub(crate) fn read_timeout(options: &[u8]) -> Result<u32, MasterFaultKind>
-    ensures { result ≡ timeout_read (words options.now) }
+    ensures { result ≡ timeout_read (words_of options.now) }
 {
     let mut timeout = 300;
     let mut rest = options;
@@ -29,9 +29,9 @@ pub(crate) fn read_timeout(options: &[u8]) -> Result<u32, MasterFaultKind>
 
 /// The timeout that the first option sets, if it sets one, and what stands behind the option.
 fn next_option(options: &[u8]) -> Option<(Option<&[u8]>, &[u8])>
-    ensures none { IfNone result (words options.now ≡ []) }
-    ensures some { IfSome result (λ cut. timeout_values (words options.now)
-        ≡ option_to_list (option_copied cut.0) ++ timeout_values (words cut.1.now)) }
+    ensures none { IfNone result (words_of options.now ≡ []) }
+    ensures some { IfSome result (λ cut. timeout_values (words_of options.now)
+        ≡ option_to_list (option_copied cut.0) ++ timeout_values (words_of cut.1.now)) }
     ensures shorter { IfSome result (λ cut. length cut.1.now < length options.now) }
 {
     let (word, others) = next_word(options)?;

@@ -1,7 +1,7 @@
 //! What the words of a line may be.
 
 ghost use Rattle.std.specs.Prelude.{◌≡◌, IfOk, IfErr};
-ghost use Rattle.am_lines.specs.Words.{words, is_colon};
+ghost use Rattle.am_lines.specs.Words.{words_of, is_colon};
 ghost use Rattle.std.specs.List.{list_any};
 ghost use Rattle.am_names.specs.Path.{path_read};
 ghost use Rattle.am_master.specs.Grammar.{served_read};
@@ -43,8 +43,8 @@ pub(crate) fn read_point(word: &[u8]) -> Result<AbsPath, MasterFaultKind>
 
 /// Reads the words behind the point: a map and options.
 pub(crate) fn read_served(line: &[u8]) -> Result<ServedRef<'_>, MasterFaultKind>
-    ensures ok { IfOk result (λ s. served_read (words line.now) ≡ Ok (served_of s)) }
-    ensures err { IfErr result (λ fault. served_read (words line.now) ≡ Err fault) }
+    ensures ok { IfOk result (λ s. served_read (words_of line.now) ≡ Ok (served_of s)) }
+    ensures err { IfErr result (λ fault. served_read (words_of line.now) ≡ Err fault) }
 {
     let Some((word, options)) = next_word(line) else {
         return Err(MasterFaultKind::NoMap);

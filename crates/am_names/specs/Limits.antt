@@ -1,5 +1,5 @@
 -- The ranges of the limits.
-use Rattle.std.specs.Prelude.{◌≤◌}
+use Rattle.std.specs.Prelude.{◌≤◌, ◌&&◌, Bool, nat_le}
 use Rattle.am_names.specs.declared.limits.Limits.{Limits}
 
 -- at least 1 each, and at most 65,536 waits; the other two are bounded by their type
@@ -8,3 +8,8 @@ pub record IsInRange (limits : Limits) : Type 0 where
   pub some_waiters : 1 ≤ limits.waiters
   pub few_waiters : limits.waiters ≤ 65536
   pub some_tokens : 1 ≤ limits.tokens
+
+-- the test of that
+abbrev pub is_in_range : Limits → Bool
+is_in_range limits =
+    nat_le 1 limits.mounts && nat_le 1 limits.waiters && nat_le limits.waiters 65536 && nat_le 1 limits.tokens

@@ -1,7 +1,7 @@
 //! How far the numbers may go.
 
-ghost use Rattle.std.specs.Prelude.{◌↔◌, IsTrue};
-ghost use Rattle.am_names.specs.Limits.{IsInRange};
+ghost use Rattle.std.specs.Prelude.{◌≡◌, ◌↔◌, IsTrue};
+ghost use Rattle.am_names.specs.Limits.{IsInRange, is_in_range};
 
 /// The greatest mount number, the most waits at one time, the greatest token.
 /// Going past one is ENOSPC.
@@ -18,8 +18,9 @@ pub struct Limits {
 impl Limits {
     /// Whether each limit is in its range.
     pub fn is_in_range(&self) -> bool
-        ensures { IsTrue result ↔ IsInRange self.now }
+        ensures test { result ≡ is_in_range self.now }
+        ensures range { IsTrue result ↔ IsInRange self.now }
     {
-        self.mounts >= 1 && self.waiters >= 1 && self.waiters <= 65_536 && self.tokens >= 1
+        1 <= self.mounts && 1 <= self.waiters && self.waiters <= 65_536 && 1 <= self.tokens
     }
 }

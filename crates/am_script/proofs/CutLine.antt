@@ -1,7 +1,8 @@
 -- The last line is the last of the rest.
 use Rattle.std.proofs.Common.{◌≡◌, ◌<◌, ℕ, List, [], ◌∷◌, length, refl, arith, ap, ◌∙◌}
 use Rattle.std.proofs.lemmas.List.Splits.{length-slice_split}
-use Rattle.am_script.specs.Lines.{lines_of, is_line_feed}
+use Rattle.am_lines.specs.Lines.{is_line_feed}
+use Rattle.am_script.specs.Lines.{lines_of}
 use Rattle.am_script.specs.Read.{last_of, cut_line}
 
 last_more : (line : List ℕ) (lines : List (List ℕ)) → 0 < length lines → last_of (line ∷ lines) ≡ last_of lines

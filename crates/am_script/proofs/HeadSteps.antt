@@ -9,7 +9,8 @@ use Rattle.am_script.specs.declared.heading.Stage.{Stage}
 use Rattle.am_script.specs.declared.heading.Stage.TheVariants as stages
 use Rattle.am_script.specs.declared.fault.ScriptFaultKind.TheVariants.{BadSection, LongLine}
 use Rattle.am_script.specs.Fault.{fault_at}
-use Rattle.am_script.specs.Lines.{words_of, is_long, are_skipped}
+use Rattle.am_lines.specs.Words.{words_of}
+use Rattle.am_script.specs.Lines.{is_long, are_skipped}
 use Rattle.am_script.specs.Limits.{limits_read}
 use Rattle.am_script.specs.Sections.{Section, Part, Alone, Whole, Unended, Long, parts_in, part_by, with_line, is_end, are_only, map_name}
 use Rattle.am_script.specs.Head.{Head, Headed, Begins, Ends, Faulty, is_map, is_limits, limits_by, limits_then, master_then, master_by, maps_then, section_read, bad, too_long}

@@ -1,5 +1,4 @@
 pub mod CutLine
-pub mod Cuts
 pub mod Going
 pub mod HeadSteps
 pub mod Heads

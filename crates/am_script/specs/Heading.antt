@@ -7,7 +7,8 @@ use Rattle.am_script.specs.declared.fault.ScriptFaultKind.TheVariants.{BadSectio
 use Rattle.am_script.specs.declared.heading.Stage.{Stage}
 use Rattle.am_script.specs.declared.heading.Stage.TheVariants as stages
 use Rattle.am_script.specs.Fault.{fault_at}
-use Rattle.am_script.specs.Lines.{words_of, is_long, are_skipped}
+use Rattle.am_lines.specs.Words.{words_of}
+use Rattle.am_script.specs.Lines.{is_long, are_skipped}
 use Rattle.am_script.specs.Limits.{limits_read}
 use Rattle.am_script.specs.Sections.{Section, section_opened, with_line, is_end, are_only}
 use Rattle.am_script.specs.Head.{Head, no_head, is_map, is_limits, with_map, with_master, section_read}

@@ -1,13 +1,8 @@
--- The lines of a text, and the words of a line.
-use Rattle.std.specs.Prelude.{ℕ, ◌+◌, Bool, true, false, not, ◌||◌, ◌==◌, nat_lt, List, [], ◌∷◌, length, Option, None, Some}
-use Rattle.std.specs.List.{slice_split, filter}
-
-abbrev pub is_line_feed : ℕ → Bool
-is_line_feed b = b == 10
-
--- a space or a tab
-abbrev pub is_blank : ℕ → Bool
-is_blank b = b == 32 || b == 9
+-- The lines of a text, and those that are skipped. The words of a line are am_lines'.
+use Rattle.std.specs.Prelude.{ℕ, ◌+◌, Bool, true, nat_lt, List, [], ◌∷◌, length, Option, None, Some}
+use Rattle.std.specs.List.{slice_split}
+use Rattle.am_lines.specs.Lines.{is_line_feed}
+use Rattle.am_lines.specs.Words.{begins_with}
 
 -- the lines of a text: what stands between line feeds. Behind a last line feed there is a line
 -- without bytes, which is skipped.
@@ -24,21 +19,9 @@ abbrev pub size_in : Option (List ℕ) → ℕ
 size_in None = 0
 size_in (Some text) = length text + 1
 
--- the parts between blanks, empty ones among them
-abbrev pub parts_of : List ℕ → List (List ℕ)
-parts_of line = slice_split is_blank line
-
--- the words of a line: the parts that aren't empty
-abbrev pub words_of : List ℕ → List (List ℕ)
-words_of line = filter (λ word. not (length word == 0)) (parts_of line)
-
 -- the line has more than 8,192 bytes, its line feed not counted
 abbrev pub is_long : List ℕ → Bool
 is_long line = nat_lt 8192 (length line)
-
-abbrev pub begins_with : ℕ → List ℕ → Bool
-begins_with byte [] = false
-begins_with byte (b ∷ bytes) = b == byte
 
 -- these are the words of a line that is skipped: there is none, or the first begins with `#`
 abbrev pub are_skipped : List (List ℕ) → Bool

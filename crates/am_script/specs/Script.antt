@@ -6,7 +6,8 @@ use Rattle.am_machine.specs.State.{Opening}
 use Rattle.am_script.specs.declared.fault.ScriptFault.{ScriptFault}
 use Rattle.am_script.specs.declared.fault.ScriptFaultKind.{ScriptFaultKind}
 use Rattle.am_script.specs.declared.fault.ScriptFaultKind.TheVariants.{BadSection, BadEvent, LongLine}
-use Rattle.am_script.specs.Lines.{lines_of, words_of, is_long, are_skipped}
+use Rattle.am_lines.specs.Words.{words_of}
+use Rattle.am_script.specs.Lines.{lines_of, is_long, are_skipped}
 use Rattle.am_script.specs.Events.{event_read}
 use Rattle.am_script.specs.Fault.{fault_at}
 use Rattle.am_script.specs.Head.{Headed, Begins, Ends, Faulty, head_of}

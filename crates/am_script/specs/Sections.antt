@@ -2,7 +2,8 @@
 -- line to the first line that is just `end`.
 use Rattle.std.specs.Prelude.{ℕ, ◌+◌, Bool, false, List, [], ◌∷◌, ◌++◌, codes, bytes_eq, Option, None, Some, if◌then◌else◌}
 use Rattle.std.specs.Option.{option_map}
-use Rattle.am_script.specs.Lines.{words_of, is_long, are_skipped}
+use Rattle.am_lines.specs.Words.{words_of}
+use Rattle.am_script.specs.Lines.{is_long, are_skipped}
 
 -- a section: the number of its first line, the name of its map (none for the master section), and
 -- the bytes between its first line and its `end`

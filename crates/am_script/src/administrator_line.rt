@@ -1,12 +1,12 @@
 //! The lines of what an administrator does.
 
 ghost use Rattle.std.specs.Prelude.{◌≡◌};
-ghost use Rattle.am_script.specs.Lines.{words_of};
+ghost use Rattle.am_lines.specs.Words.{words_of};
 ghost use Rattle.am_script.specs.AdministratorLines.{administrator_read, mount_read, bind_read, umount_read, change_line_read, kind_read, nscopy_read, nsdrop_read, admincat_read};
 
 use crate::event_word::{is_word, read_change};
-use crate::line::split_word;
 use crate::number::read_u32;
+use am_lines::next_word;
 use am_machine::Event;
 use am_names::{AbsPath, FsId, NsId};
 
@@ -44,9 +44,9 @@ pub(crate) fn read_administrator(word: &[u8], words: &[u8]) -> Option<Event>
 fn read_mount(words: &[u8]) -> Option<Event>
     ensures { result ≡ mount_read (words_of words.now) }
 {
-    let (ns, words) = split_word(words)?;
-    let (path, words) = split_word(words)?;
-    if let Some(_) = split_word(words) {
+    let (ns, words) = next_word(words)?;
+    let (path, words) = next_word(words)?;
+    if let Some(_) = next_word(words) {
         return None;
     }
     Some(Event::Mount {
@@ -58,10 +58,10 @@ fn read_mount(words: &[u8]) -> Option<Event>
 fn read_bind(words: &[u8]) -> Option<Event>
     ensures { result ≡ bind_read (words_of words.now) }
 {
-    let (ns, words) = split_word(words)?;
-    let (from, words) = split_word(words)?;
-    let (to, words) = split_word(words)?;
-    if let Some(_) = split_word(words) {
+    let (ns, words) = next_word(words)?;
+    let (from, words) = next_word(words)?;
+    let (to, words) = next_word(words)?;
+    if let Some(_) = next_word(words) {
         return None;
     }
     Some(Event::Bind {
@@ -74,9 +74,9 @@ fn read_bind(words: &[u8]) -> Option<Event>
 fn read_umount(words: &[u8]) -> Option<Event>
     ensures { result ≡ umount_read (words_of words.now) }
 {
-    let (ns, words) = split_word(words)?;
-    let (path, words) = split_word(words)?;
-    if let Some(_) = split_word(words) {
+    let (ns, words) = next_word(words)?;
+    let (path, words) = next_word(words)?;
+    if let Some(_) = next_word(words) {
         return None;
     }
     Some(Event::Umount {
@@ -88,10 +88,10 @@ fn read_umount(words: &[u8]) -> Option<Event>
 fn read_change_line(words: &[u8]) -> Option<Event>
     ensures { result ≡ change_line_read (words_of words.now) }
 {
-    let (ns, words) = split_word(words)?;
-    let (path, words) = split_word(words)?;
-    let (kind, words) = split_word(words)?;
-    if let Some(_) = split_word(words) {
+    let (ns, words) = next_word(words)?;
+    let (path, words) = next_word(words)?;
+    let (kind, words) = next_word(words)?;
+    if let Some(_) = next_word(words) {
         return None;
     }
     Some(Event::Change {
@@ -104,9 +104,9 @@ fn read_change_line(words: &[u8]) -> Option<Event>
 fn read_kind(words: &[u8]) -> Option<Event>
     ensures { result ≡ kind_read (words_of words.now) }
 {
-    let (ns, words) = split_word(words)?;
-    let (path, words) = split_word(words)?;
-    if let Some(_) = split_word(words) {
+    let (ns, words) = next_word(words)?;
+    let (path, words) = next_word(words)?;
+    if let Some(_) = next_word(words) {
         return None;
     }
     Some(Event::Kind {
@@ -118,8 +118,8 @@ fn read_kind(words: &[u8]) -> Option<Event>
 fn read_nscopy(words: &[u8]) -> Option<Event>
     ensures { result ≡ nscopy_read (words_of words.now) }
 {
-    let (ns, words) = split_word(words)?;
-    if let Some(_) = split_word(words) {
+    let (ns, words) = next_word(words)?;
+    if let Some(_) = next_word(words) {
         return None;
     }
     Some(Event::CopyNamespace {
@@ -130,8 +130,8 @@ fn read_nscopy(words: &[u8]) -> Option<Event>
 fn read_nsdrop(words: &[u8]) -> Option<Event>
     ensures { result ≡ nsdrop_read (words_of words.now) }
 {
-    let (ns, words) = split_word(words)?;
-    if let Some(_) = split_word(words) {
+    let (ns, words) = next_word(words)?;
+    if let Some(_) = next_word(words) {
         return None;
     }
     Some(Event::DropNamespace {
@@ -142,8 +142,8 @@ fn read_nsdrop(words: &[u8]) -> Option<Event>
 fn read_admincat(words: &[u8]) -> Option<Event>
     ensures { result ≡ admincat_read (words_of words.now) }
 {
-    let (fs, words) = split_word(words)?;
-    if let Some(_) = split_word(words) {
+    let (fs, words) = next_word(words)?;
+    if let Some(_) = next_word(words) {
         return None;
     }
     Some(Event::AdminCatatonic {

@@ -1,12 +1,12 @@
 //! The lines of what the daemon does.
 
 ghost use Rattle.std.specs.Prelude.{◌≡◌};
-ghost use Rattle.am_script.specs.Lines.{words_of};
+ghost use Rattle.am_lines.specs.Words.{words_of};
 ghost use Rattle.am_script.specs.DaemonLines.{attachment_read, work_read, attach_read, deliver_read, act_read, repeat_read, catatonic_read, timeout_read, die_read, reattach_read, record_read};
 
 use crate::event_word::{is_word, read_outcome, read_status, read_trigger_name};
-use crate::line::split_word;
 use crate::number::{read_packet, read_u32};
+use am_lines::next_word;
 use am_machine::Event;
 use am_names::{AbsPath, Attach, FsId, JobId, Token, Trigger};
 
@@ -54,8 +54,8 @@ pub(crate) fn read_attachment(word: &[u8], words: &[u8]) -> Option<Event>
 fn read_attach(words: &[u8]) -> Option<Event>
     ensures { result ≡ attach_read (words_of words.now) }
 {
-    let (path, words) = split_word(words)?;
-    if let Some(_) = split_word(words) {
+    let (path, words) = next_word(words)?;
+    if let Some(_) = next_word(words) {
         return None;
     }
     Some(Event::Attach {
@@ -66,14 +66,14 @@ fn read_attach(words: &[u8]) -> Option<Event>
 fn read_deliver(words: &[u8]) -> Option<Event>
     ensures { result ≡ deliver_read (words_of words.now) }
 {
-    let (token, words) = split_word(words)?;
-    let Some((digits, words)) = split_word(words) else {
+    let (token, words) = next_word(words)?;
+    let Some((digits, words)) = next_word(words) else {
         return Some(Event::Deliver {
             token: Token(read_u32(token)?),
             bytes: None,
         });
     };
-    if let Some(_) = split_word(words) {
+    if let Some(_) = next_word(words) {
         return None;
     }
     Some(Event::Deliver {
@@ -85,9 +85,9 @@ fn read_deliver(words: &[u8]) -> Option<Event>
 fn read_act(words: &[u8]) -> Option<Event>
     ensures { result ≡ act_read (words_of words.now) }
 {
-    let (job, words) = split_word(words)?;
-    let (outcome, words) = split_word(words)?;
-    if let Some(_) = split_word(words) {
+    let (job, words) = next_word(words)?;
+    let (outcome, words) = next_word(words)?;
+    if let Some(_) = next_word(words) {
         return None;
     }
     Some(Event::Act {
@@ -99,10 +99,10 @@ fn read_act(words: &[u8]) -> Option<Event>
 fn read_repeat(words: &[u8]) -> Option<Event>
     ensures { result ≡ repeat_read (words_of words.now) }
 {
-    let (attach, words) = split_word(words)?;
-    let (token, words) = split_word(words)?;
-    let (status, words) = split_word(words)?;
-    if let Some(_) = split_word(words) {
+    let (attach, words) = next_word(words)?;
+    let (token, words) = next_word(words)?;
+    let (status, words) = next_word(words)?;
+    if let Some(_) = next_word(words) {
         return None;
     }
     Some(Event::Repeat {
@@ -115,9 +115,9 @@ fn read_repeat(words: &[u8]) -> Option<Event>
 fn read_catatonic(words: &[u8]) -> Option<Event>
     ensures { result ≡ catatonic_read (words_of words.now) }
 {
-    let (attach, words) = split_word(words)?;
-    let (fs, words) = split_word(words)?;
-    if let Some(_) = split_word(words) {
+    let (attach, words) = next_word(words)?;
+    let (fs, words) = next_word(words)?;
+    if let Some(_) = next_word(words) {
         return None;
     }
     Some(Event::Catatonic {
@@ -129,10 +129,10 @@ fn read_catatonic(words: &[u8]) -> Option<Event>
 fn read_timeout(words: &[u8]) -> Option<Event>
     ensures { result ≡ timeout_read (words_of words.now) }
 {
-    let (attach, words) = split_word(words)?;
-    let (fs, words) = split_word(words)?;
-    let (seconds, words) = split_word(words)?;
-    if let Some(_) = split_word(words) {
+    let (attach, words) = next_word(words)?;
+    let (fs, words) = next_word(words)?;
+    let (seconds, words) = next_word(words)?;
+    if let Some(_) = next_word(words) {
         return None;
     }
     Some(Event::Timeout {
@@ -145,7 +145,7 @@ fn read_timeout(words: &[u8]) -> Option<Event>
 fn read_die(words: &[u8]) -> Option<Event>
     ensures { result ≡ die_read (words_of words.now) }
 {
-    if let Some(_) = split_word(words) {
+    if let Some(_) = next_word(words) {
         return None;
     }
     Some(Event::Die)
@@ -154,8 +154,8 @@ fn read_die(words: &[u8]) -> Option<Event>
 fn read_reattach(words: &[u8]) -> Option<Event>
     ensures { result ≡ reattach_read (words_of words.now) }
 {
-    let (fs, words) = split_word(words)?;
-    if let Some(_) = split_word(words) {
+    let (fs, words) = next_word(words)?;
+    if let Some(_) = next_word(words) {
         return None;
     }
     Some(Event::Reattach {
@@ -166,9 +166,9 @@ fn read_reattach(words: &[u8]) -> Option<Event>
 fn read_record(words: &[u8]) -> Option<Event>
     ensures { result ≡ record_read (words_of words.now) }
 {
-    let (fs, words) = split_word(words)?;
-    let (name, words) = split_word(words)?;
-    if let Some(_) = split_word(words) {
+    let (fs, words) = next_word(words)?;
+    let (name, words) = next_word(words)?;
+    if let Some(_) = next_word(words) {
         return None;
     }
     Some(Event::Record {

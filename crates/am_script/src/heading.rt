@@ -6,14 +6,15 @@ ghost use Rattle.am_script.specs.declared.fault.ScriptFaultKind.TheVariants.{NoM
 ghost use Rattle.am_script.specs.Fault.{IsFaultOr, fault_at};
 ghost use Rattle.am_script.specs.Head.{is_limits, master_in};
 ghost use Rattle.am_script.specs.Heading.{may_open, is_start};
-ghost use Rattle.am_script.specs.Lines.{words_of};
+ghost use Rattle.am_lines.specs.Words.{words_of};
 
 use crate::event_word::is_word;
 use crate::fault::{ScriptFault, ScriptFaultKind, fault_at};
 use crate::limits::{default_limits, read_limits};
-use crate::line::{is_long, is_skipped, split_word};
+use crate::line::{is_long, is_skipped};
 use crate::maps::read_maps;
 use crate::section::{Section, fault_in, is_end, is_only};
+use am_lines::next_word;
 use am_master::{Master, MasterFaultKind};
 use am_names::Limits;
 use am_world::World;
@@ -267,7 +268,7 @@ fn behind_limits(line: &[u8]) -> Option<&[u8]>
     ensures first { IfSome result (λ words. is_limits (words_of line.now) ≡ true) }
     ensures others { IfSome result (λ words. words_of words.now ≡ drop 1 (words_of line.now)) }
 {
-    let (word, words) = split_word(line)?;
+    let (word, words) = next_word(line)?;
     if !is_word(word, b"limits") {
         return None;
     }

@@ -1,8 +1,12 @@
-//! Lines and words.
+//! The lines of a text.
 
 ghost use Rattle.std.specs.Prelude.{◌≡◌, ◌+◌, ◌<◌, ◌≤◌, ◌∷◌, [], length, position, IfNone, IfSome, option_copied};
-ghost use Rattle.am_script.specs.Lines.{is_line_feed, is_blank, lines_of, lines_in, size_in, parts_of, words_of, is_long, begins_with, are_skipped};
+ghost use Rattle.am_lines.specs.Lines.{is_line_feed};
+ghost use Rattle.am_lines.specs.Words.{words_of};
+ghost use Rattle.am_script.specs.Lines.{lines_of, lines_in, size_in, is_long, are_skipped};
 ghost use Rattle.am_script.specs.Read.{cut_line};
+
+use am_lines::{begins_with, next_word};
 
 /// The first line, without its line feed, and what stands behind that, if there is one.
 pub fn split_line(text: &[u8]) -> (&[u8], Option<&[u8]>)
@@ -44,40 +48,6 @@ fn line_feed_place(text: &[u8]) -> Option<usize>
     text.iter().position(|b| *b == b'\n')
 }
 
-/// The first word and what stands behind it.
-pub fn split_word(line: &[u8]) -> Option<(&[u8], &[u8])>
-    ensures none { IfNone result (words_of line.now ≡ []) }
-    ensures some { IfSome result (λ cut. words_of line.now ≡ cut.0.now ∷ words_of cut.1.now) }
-{
-    let mut rest = line;
-    while let Some((word, others)) = cut_at_blank(rest) {
-        if !word.is_empty() {
-            return Some((word, others));
-        }
-        rest = others;
-    }
-    if rest.is_empty() {
-        return None;
-    }
-    Some((rest, &[]))
-}
-
-/// What stands before the first blank and what stands behind it.
-fn cut_at_blank(line: &[u8]) -> Option<(&[u8], &[u8])>
-    ensures none { IfNone result (parts_of line.now ≡ line.now ∷ []) }
-    ensures some { IfSome result (λ cut. parts_of line.now ≡ cut.0.now ∷ parts_of cut.1.now) }
-    ensures parted { IfSome result (λ cut. length cut.0.now + 1 + length cut.1.now ≡ length line.now) }
-{
-    let at = blank_place(line)?;
-    Some((&line[..at], &line[at + 1..]))
-}
-
-fn blank_place(line: &[u8]) -> Option<usize>
-    ensures { result ≡ position is_blank line.now }
-{
-    line.iter().position(|b| *b == b' ' || *b == b'\t')
-}
-
 /// Whether the line has more than 8,192 bytes.
 pub fn is_long(line: &[u8]) -> bool
     ensures { result ≡ is_long line.now }
@@ -89,17 +59,8 @@ pub fn is_long(line: &[u8]) -> bool
 pub fn is_skipped(line: &[u8]) -> bool
     ensures { result ≡ are_skipped (words_of line.now) }
 {
-    match split_word(line) {
+    match next_word(line) {
         None => true,
-        Some((word, _)) => begins_with(b'#', word),
-    }
-}
-
-pub(crate) fn begins_with(byte: u8, word: &[u8]) -> bool
-    ensures { result ≡ begins_with byte word.now }
-{
-    match word {
-        [] => false,
-        [first, ..] => *first == byte,
+        Some((word, _)) => begins_with(word, b'#'),
     }
 }

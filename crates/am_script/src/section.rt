@@ -4,12 +4,12 @@ ghost use Rattle.std.specs.Prelude.{◌≡◌, ◌≤◌, ◌^◌, IfOk, OnOk};
 ghost use Rattle.std.specs.Option.{option_copied};
 ghost use Rattle.am_script.specs.Fault.{fault_in};
 ghost use Rattle.am_script.specs.Head.{is_map};
-ghost use Rattle.am_script.specs.Lines.{words_of};
+ghost use Rattle.am_lines.specs.Words.{words_of};
 ghost use Rattle.am_script.specs.Sections.{is_end, are_only, map_name, section_opened, with_line};
 
 use crate::event_word::is_word;
 use crate::fault::{ScriptFault, ScriptFaultKind, fault_at};
-use crate::line::split_word;
+use am_lines::next_word;
 use std::alloc::{AllocError, Global};
 use std::marker::Model;
 
@@ -123,10 +123,10 @@ pub fn is_end(line: &[u8]) -> bool
 pub fn is_only(text: &[u8], line: &[u8]) -> bool
     ensures { result ≡ are_only text.now (words_of line.now) }
 {
-    let Some((word, words)) = split_word(line) else {
+    let Some((word, words)) = next_word(line) else {
         return false;
     };
-    if let Some(_) = split_word(words) {
+    if let Some(_) = next_word(words) {
         return false;
     }
     is_word(word, text)
@@ -136,9 +136,9 @@ pub fn is_only(text: &[u8], line: &[u8]) -> bool
 fn map_name(line: &[u8]) -> Option<&[u8]>
     ensures { option_copied result ≡ map_name (words_of line.now) }
 {
-    let (word, words) = split_word(line)?;
-    let (name, words) = split_word(words)?;
-    if let Some(_) = split_word(words) {
+    let (word, words) = next_word(line)?;
+    let (name, words) = next_word(words)?;
+    if let Some(_) = next_word(words) {
         return None;
     }
     if !is_word(word, b"map") {

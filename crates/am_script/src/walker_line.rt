@@ -1,12 +1,12 @@
 //! The lines of what walkers do.
 
 ghost use Rattle.std.specs.Prelude.{◌≡◌};
-ghost use Rattle.am_script.specs.Lines.{words_of};
+ghost use Rattle.am_lines.specs.Words.{words_of};
 ghost use Rattle.am_script.specs.WalkerLines.{walker_read, walk_read, resume_read, leave_read, expire_read};
 
 use crate::event_word::{is_word, read_immediate, read_pipe};
-use crate::line::split_word;
 use crate::number::{read_u32, read_u64};
+use am_lines::next_word;
 use am_machine::Event;
 use am_names::{AbsPath, FsId, NsId, Seconds, WalkerId};
 
@@ -32,12 +32,12 @@ pub(crate) fn read_walker(word: &[u8], words: &[u8]) -> Option<Event>
 fn read_walk(words: &[u8]) -> Option<Event>
     ensures { result ≡ walk_read (words_of words.now) }
 {
-    let (walker, words) = split_word(words)?;
-    let (ns, words) = split_word(words)?;
-    let (path, words) = split_word(words)?;
-    let (now, words) = split_word(words)?;
-    let (pipe, words) = split_word(words)?;
-    if let Some(_) = split_word(words) {
+    let (walker, words) = next_word(words)?;
+    let (ns, words) = next_word(words)?;
+    let (path, words) = next_word(words)?;
+    let (now, words) = next_word(words)?;
+    let (pipe, words) = next_word(words)?;
+    if let Some(_) = next_word(words) {
         return None;
     }
     Some(Event::Walk {
@@ -52,10 +52,10 @@ fn read_walk(words: &[u8]) -> Option<Event>
 fn read_resume(words: &[u8]) -> Option<Event>
     ensures { result ≡ resume_read (words_of words.now) }
 {
-    let (walker, words) = split_word(words)?;
-    let (now, words) = split_word(words)?;
-    let (pipe, words) = split_word(words)?;
-    if let Some(_) = split_word(words) {
+    let (walker, words) = next_word(words)?;
+    let (now, words) = next_word(words)?;
+    let (pipe, words) = next_word(words)?;
+    if let Some(_) = next_word(words) {
         return None;
     }
     Some(Event::Resume {
@@ -68,8 +68,8 @@ fn read_resume(words: &[u8]) -> Option<Event>
 fn read_leave(words: &[u8]) -> Option<Event>
     ensures { result ≡ leave_read (words_of words.now) }
 {
-    let (walker, words) = split_word(words)?;
-    if let Some(_) = split_word(words) {
+    let (walker, words) = next_word(words)?;
+    if let Some(_) = next_word(words) {
         return None;
     }
     Some(Event::Leave {
@@ -80,12 +80,12 @@ fn read_leave(words: &[u8]) -> Option<Event>
 fn read_expire(words: &[u8]) -> Option<Event>
     ensures { result ≡ expire_read (words_of words.now) }
 {
-    let (walker, words) = split_word(words)?;
-    let (fs, words) = split_word(words)?;
-    let (now, words) = split_word(words)?;
-    let (how, words) = split_word(words)?;
-    let (pipe, words) = split_word(words)?;
-    if let Some(_) = split_word(words) {
+    let (walker, words) = next_word(words)?;
+    let (fs, words) = next_word(words)?;
+    let (now, words) = next_word(words)?;
+    let (how, words) = next_word(words)?;
+    let (pipe, words) = next_word(words)?;
+    if let Some(_) = next_word(words) {
         return None;
     }
     Some(Event::Expire {

@@ -1,10 +1,10 @@
 use Rattle.std.proofs.Common.{◌≡◌, ◌≤◌, length}
-use Rattle.am_lines.specs.Words.{words}
+use Rattle.am_lines.specs.Words.{words_of}
 use Rattle.am_lines.proofs.words.next_word.Given as goal
 
 abbrev pub invariant-loop-word : goal.invariant-loop-word
 invariant-loop-word l = record {
-  same : words l.rest ≡ words l.fn.line;
+  same : words_of l.rest ≡ words_of l.fn.line;
   shorter : length l.rest ≤ length l.fn.line;
 }
 

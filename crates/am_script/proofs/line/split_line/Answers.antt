@@ -1,7 +1,7 @@
 use Rattle.std.proofs.Common.{sym, ◌+◌}
 use Rattle.std.proofs.lemmas.List.{take_rest}
-use Rattle.am_script.specs.Lines.{is_line_feed}
-use Rattle.am_script.proofs.Cuts.{cut_some, cut_none}
+use Rattle.am_lines.specs.Lines.{is_line_feed}
+use Rattle.am_lines.proofs.Cuts.{cut_some, cut_none}
 use Rattle.am_script.proofs.line.split_line.Goals as goal
 
 pub returns-in-None-clause-lines : goal.returns-in-None-clause-lines

@@ -1,5 +1,5 @@
 use Rattle.std.proofs.Common.{◌≡◌, ℕ, Ok, Err, sym, ◌∙◌, arith}
-use Rattle.am_lines.specs.Words.{statements, words, statement_of_words}
+use Rattle.am_lines.specs.Words.{statements, words_of, statement_of_words}
 use Rattle.am_lines.specs.Behind.{lines_behind}
 use Rattle.am_map.specs.Grammar.{rows_read, map_read}
 use Rattle.am_map.specs.Stored.{line_added}
@@ -10,7 +10,7 @@ use Rattle.am_map.proofs.map.Map.read.Goals as goal
 pub returns-in-Err-clause-read : goal.returns-in-Err-clause-read
 returns-in-Err-clause-read c =
     let number = c.loop-behind.number in
-    let stops = λ (e : (n : ℕ) → line_added c.args.kind c.loop-behind.map (statement_of_words n (words c.as_slice.result.now)) ≡ Err c.in-Err.kind).
+    let stops = λ (e : (n : ℕ) → line_added c.args.kind c.loop-behind.map (statement_of_words n (words_of c.as_slice.result.now)) ≡ Err c.in-Err.kind).
     sym (read_is (rows_read c.args.kind (statements c.args.text.now))) ∙ sym c.loop-behind.invariant.read
     ∙ line_stops c.args.kind number c.loop-behind.map c.in-Err.kind c.loop-behind.rest.now c.next_line.new.line.items (lines_behind number c.in-Ok.behind) (c.in-Ok.ensures.ok number) (rw c.as_slice.ensures.value at (e number)) in
     passed_on c.in-Err.kind stops c.in-Err.ensures.err

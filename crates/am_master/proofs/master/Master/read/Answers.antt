@@ -1,5 +1,5 @@
 use Rattle.std.proofs.Common.{◌≡◌, ◌+◌, length, Err, sym, ◌∙◌, arith}
-use Rattle.am_lines.specs.Words.{words, statement_of_words}
+use Rattle.am_lines.specs.Words.{words_of, statement_of_words}
 use Rattle.am_lines.specs.Behind.{lines_behind}
 use Rattle.am_master.specs.Grammar.{line_added}
 use Rattle.am_master.proofs.FaultLemmas.{passed_on}
@@ -9,14 +9,14 @@ use Rattle.am_master.proofs.master.Master.read.Goals as goal
 pub returns-in-Err-clause-read : goal.returns-in-Err-clause-read
 returns-in-Err-clause-read c =
     let number = c.loop-behind.number in
-    let stops = λ (e : line_added c.loop-behind.master (statement_of_words number (words c.as_slice.result.now)) ≡ Err c.in-Err.kind).
+    let stops = λ (e : line_added c.loop-behind.master (statement_of_words number (words_of c.as_slice.result.now)) ≡ Err c.in-Err.kind).
     sym c.loop-behind.invariant.read
     ∙ line_stops number c.loop-behind.master c.in-Err.kind c.loop-behind.rest.now c.next_line.new.line.items (lines_behind number c.in-Ok.behind) (c.in-Ok.ensures.ok number) (rw c.as_slice.ensures.value at e) in
     passed_on c.in-Err.kind stops c.in-Err.ensures.err
 
 pub returns-in_default-rest-clause-lines : goal.returns-in_default-rest-clause-lines
 returns-in_default-rest-clause-lines c =
-    line_stands c.loop-behind.number (length c.args.text.now + 1) c.loop-behind.master c.read_line.new.self (words c.as_slice.result.now) c.in_default-read_line.ensures.ok (omega (arith, c.loop-behind.invariant.counted)) c.loop-behind.invariant.stand
+    line_stands c.loop-behind.number (length c.args.text.now + 1) c.loop-behind.master c.read_line.new.self (words_of c.as_slice.result.now) c.in_default-read_line.ensures.ok (omega (arith, c.loop-behind.invariant.counted)) c.loop-behind.invariant.stand
 
 pub returns-in_default-rest-clause-read : goal.returns-in_default-rest-clause-read
 returns-in_default-rest-clause-read c =
@@ -31,6 +31,6 @@ loop-behind-preserved c =
     let shorter = (rw c.in-Some.is at c.in-Ok.ensures.shorter) in
     record {
       read = sym (rw c.in-Some.is at goes) ∙ c.loop-behind.invariant.read;
-      stand = line_stands number (length c.args.text.now + 1) c.loop-behind.master c.read_line.new.self (words c.as_slice.result.now) c.in_default-read_line.ensures.ok (omega (arith, c.loop-behind.invariant.counted)) c.loop-behind.invariant.stand;
+      stand = line_stands number (length c.args.text.now + 1) c.loop-behind.master c.read_line.new.self (words_of c.as_slice.result.now) c.in_default-read_line.ensures.ok (omega (arith, c.loop-behind.invariant.counted)) c.loop-behind.invariant.stand;
       counted = omega (arith, shorter, c.loop-behind.invariant.counted);
     }
