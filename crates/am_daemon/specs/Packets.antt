@@ -1,5 +1,5 @@
 -- What a packet asks for, and the plan for it (auto_fs.h, struct autofs_v5_packet).
-use Rattle.std.specs.Prelude.{ℕ, Bool, true, false, List, Option, Some, None, if◌then◌else◌}
+use Rattle.std.specs.Prelude.{ℕ, Bool, true, false, List, Option, Some, None}
 use Rattle.std.specs.Option.{option_map}
 use Rattle.std.specs.Result.{result_ok}
 use Rattle.am_names.specs.Name.{name_read}

@@ -1,5 +1,5 @@
 -- What a request comes to: what the call comes to that it names.
-use Rattle.std.specs.Prelude.{◌≡◌, ◌+◌, ℕ, List, Option, Result, Ok, Err, OnOk, OnErr}
+use Rattle.std.specs.Prelude.{◌≡◌, ◌+◌, List, Option, Result, Ok, Err, OnOk, OnErr}
 use Rattle.am_names.specs.Errno.{RefusedOnlyAs}
 use Rattle.am_names.specs.declared.errno.Errno.{Errno}
 use Rattle.am_names.specs.declared.trigger.Status.TheVariants as status

@@ -1,5 +1,5 @@
 -- A walk is followed step by step, and name by name.
-use Rattle.std.proofs.Common.{◌≡◌, ℕ, suc, ◌-◌, ◌<◌, true, false, List, [], ◌∷◌, ◌++◌, Option, Some, None, refl, sym, ap, subst, ◌∙◌, arith}
+use Rattle.std.proofs.Common.{◌≡◌, ℕ, suc, ◌-◌, ◌<◌, List, [], ◌∷◌, ◌++◌, Option, Some, None, refl, sym, ap, ◌∙◌, arith}
 use mathlib.Core.List.{reverse_aux}
 use Rattle.am_names.specs.declared.errno.Errno.TheVariants.{ENOENT}
 use Rattle.am_names.specs.declared.trigger.Trigger.{Trigger}
@@ -8,9 +8,9 @@ use Rattle.am_walk.specs.declared.stop.Next.{Next}
 use Rattle.am_walk.specs.declared.stop.Next.TheVariants as nexts
 use Rattle.am_walk.specs.declared.stop.Stop.{Stop}
 use Rattle.am_walk.specs.declared.stop.Stop.TheVariants as stops
-use Rattle.am_walk.specs.Scene.{Scene, autofs_at, has_names}
+use Rattle.am_walk.specs.Scene.{Scene}
 use Rattle.am_walk.specs.Meet.{next_at}
-use Rattle.am_walk.specs.Walks.{Visit, Stands, Stops, Walked, followed, settled_within, settled, onward, after, visit_from, visit_of, ended}
+use Rattle.am_walk.specs.Walks.{Visit, Stands, Stops, followed, settled_within, settled, onward, after, visit_from, visit_of, ended}
 
 met : (steps fewer : ℕ) (scene : Scene) (mount : ℕ) (place : List (List ℕ)) (passed : List Trigger) (next : Next) → steps ≡ suc fewer → next ≡ next_at scene mount place → followed next mount place passed (λ m gs. settled_within fewer scene m [] gs) ≡ settled_within steps scene mount place passed
 met steps fewer scene mount place passed next e n =

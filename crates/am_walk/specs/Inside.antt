@@ -1,7 +1,5 @@
 -- What the code's values stand for.
-use Rattle.std.specs.Prelude.{ℕ, List, Option, Some, None}
-use Rattle.am_trigger.specs.Rows.{TriggerRows}
-use Rattle.am_wait.specs.Rows.{WaitRows}
+use Rattle.std.specs.Prelude.{Option, Some, None}
 use Rattle.am_walk.specs.declared.scene.View.{View}
 use Rattle.am_walk.specs.declared.follow.Walking.{Walking}
 use Rattle.am_walk.specs.declared.stop.Stop.{Stop}

@@ -7,7 +7,6 @@ use Rattle.am_names.specs.PeerGroups.{PeerGroups}
 use Rattle.am_group.specs.Propagation.{Receives}
 use Rattle.am_group.specs.Invariant.{RiseFrom, IsSound}
 use Rattle.am_group.specs.Scan.{numbers, is_reached}
-use Rattle.am_group.specs.Receivers.{receivers_of}
 use Rattle.am_group.proofs.ReceiverLemmas.{listed_from}
 use Rattle.am_group.proofs.ScanLemmas.{IsPartial, partial_start, partial_next, longer, at_most, closed, found_receives, found_rises}
 use Rattle.am_group.proofs.groups.Groups.receivers.Goals as goal

@@ -1,6 +1,5 @@
-use Rattle.std.proofs.Common.{◌≡◌, ◌∷◌, ◌++◌, [], false, true, Some, None, sym, ap, ◌∙◌, arith, rules}
+use Rattle.std.proofs.Common.{◌≡◌, [], None, sym, ap, ◌∙◌, arith, rules}
 use Rattle.am_names.specs.Path.{names_of}
-use Rattle.am_mount.specs.Rows.{root_of}
 use Rattle.am_walk.specs.Inside.{scene_in, left_of}
 use Rattle.am_walk.specs.Walks.{settled, onward, visit_of, Stops}
 use Rattle.am_walk.proofs.WalkLemmas.{along, begins, stopped, goes_on}
