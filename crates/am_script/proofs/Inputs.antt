@@ -24,6 +24,6 @@ stops_input ro rn wo wn text slice cut whole kind told (Err at) e f g h read fau
   broke = Some kind;
   read = (read, fault);
   stopped =
-    subst (λ (w : List ℕ). IsStopped (length (lines_of w)) (script_of (Some kind) text) wo wn at) (cut_text text slice cut whole kind e f h)
-    (subst (λ (s : Script). IsStopped (length (lines_of whole)) s wo wn at) (cut_script text slice cut whole kind told e f g h) stopped);
+      subst (λ (w : List ℕ). IsStopped (length (lines_of w)) (script_of (Some kind) text) wo wn at) (cut_text text slice cut whole kind e f h)
+      (subst (λ (s : Script). IsStopped (length (lines_of whole)) s wo wn at) (cut_script text slice cut whole kind told e f g h) stopped);
 }
