@@ -2,7 +2,7 @@
 
 use super::Triggers;
 use crate::autofs::{Autofs, place_of};
-use am_names::{Errno, FsId, MountId, Name, Place, Seconds, Trigger};
+use am_names::{AbsPath, Errno, FsId, MountId, Name, Place, Seconds, Trigger};
 use std::alloc::Global;
 use std::process::Abort;
 use std::test::Fail;
@@ -62,7 +62,7 @@ enum Step {
     AddFs(u32, bool, u64, Option<Errno>),
     SetCatatonic(u32, bool, Option<Errno>),
     Autofs(u32, Option<Row>),
-    /// The trigger at a place of an autofs.
+    /// The trigger at a place of an autofs, told by its path.
     TriggerIn(u32, &'static [u8], Option<Trap>),
     /// The place of a trigger.
     PlaceOf(Trap, &'static [u8]),
@@ -169,10 +169,11 @@ fn has_trigger_in(
     alloc: Global,
     triggers: &Triggers,
     fs: u32,
-    place: &[u8],
+    path: &[u8],
     trap: Option<Trap>,
 ) -> Result<bool, Errno> {
-    let place = Place::of(alloc, place)?;
+    let path = AbsPath::read(path)?;
+    let place = Place::of(alloc, path.text())?;
     let Some(autofs) = triggers.autofs(FsId(fs)) else {
         return Ok(false);
     };
@@ -196,7 +197,7 @@ fn goes(alloc: Global, triggers: &mut Triggers, step: Step) -> Result<bool, Errn
             answers(triggers.set_catatonic(FsId(fs), catatonic), expected)
         }
         Step::Autofs(fs, row) => Ok(is_autofs(triggers, fs, row)),
-        Step::TriggerIn(fs, place, trap) => has_trigger_in(alloc, triggers, fs, place, trap),
+        Step::TriggerIn(fs, path, trap) => has_trigger_in(alloc, triggers, fs, path, trap),
         Step::PlaceOf(trap, place) => has_place(alloc, trap, place),
         Step::Mkdir(trap, expected) => answers(mkdir(triggers, trap), expected),
         Step::Rmdir(trap, expected) => answers(rmdir(triggers, trap), expected),
@@ -300,10 +301,10 @@ fn each_autofs_is_added_once_and_catatonic_alone(rt: HostRuntime) -> Result<(), 
 static PLACES: [Step; 9] = [
     Step::AddFs(2, false, 2, None),
     Step::AddFs(3, true, 3, None),
-    Step::TriggerIn(2, b"", None),
+    Step::TriggerIn(2, b"/", None),
     Step::TriggerIn(2, b"/home", Some(HOME)),
     Step::TriggerIn(2, b"/home/x", None),
-    Step::TriggerIn(3, b"", Some(DIRECT)),
+    Step::TriggerIn(3, b"/", Some(DIRECT)),
     Step::TriggerIn(3, b"/home", None),
     Step::PlaceOf(HOME, b"/home"),
     Step::PlaceOf(DIRECT, b""),
