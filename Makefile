@@ -1,11 +1,15 @@
 # What a machine with the toolchain needs: nothing else is to be set up.
 SCRIPT ?= examples/first.script
 
-.PHONY: run build test
+.PHONY: run show build test
 
-# plays a script
+# plays a script, and writes its answers
 run:
-	@tools/run.sh $(SCRIPT)
+	@tools/run.sh '$(SCRIPT)'
+
+# plays a script, and writes each event with its answer
+show:
+	@tools/show.sh '$(SCRIPT)'
 
 # proves the program and builds it
 build:

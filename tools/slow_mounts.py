@@ -1,7 +1,7 @@
 #!/usr/bin/env python3
 """Mounts, binds, unmounts and namespaces computed the slow way, by chains of mounts, over
 generated small worlds. It prints the number that the test `worlds_of_the_slow_model` of
-am_propagate expects: both fold each answer, what each unmount would take, and the whole mount
+am_table_tests expects: both fold each answer, what each unmount would take, and the whole mount
 table after each step."""
 import sys
 

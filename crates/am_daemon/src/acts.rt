@@ -14,7 +14,7 @@ use am_names::{Errno, JobId, Trigger};
 use am_state::Record;
 
 /// What an act writes into the book.
-#[derive(Clone, Copy, Debug)]
+#[derive(Clone, Copy)]
 pub struct Writing {
     pub trigger: Trigger,
     /// None to forget the trigger.

@@ -7,7 +7,7 @@ ghost use Rattle.am_daemon.specs.Attachments.{is_attached, knows, attach_held, h
 
 use crate::daemon::Daemon;
 use am_job::Book;
-use am_names::{AbsPath, Attach, Errno, FsId, MountId, Place, Trigger};
+use am_names::{Attach, Errno, FsId, MountId, Place, Trigger};
 use am_state::{HeldRow, KnownRow, Record};
 use std::alloc::Global;
 
@@ -44,11 +44,10 @@ fn hold_again(held: &mut Vec<HeldRow>, fs: FsId, attach: Attach) -> Result<(), E
 
 impl Daemon {
     /// Whether a file system was attached at this path.
-    pub fn is_attached(&self, path: &AbsPath) -> bool
+    pub fn is_attached(&self, path: &Place) -> bool
         ensures { result ≡ is_attached (rows_of self.now) path.now }
     {
-        let text = path.text();
-        self.known.iter().any(|row| row.path.is_at(text))
+        self.known.iter().any(|row| row.path.is_same(path))
     }
 
     /// Whether the daemon was ever attached to this file system.
@@ -98,7 +97,7 @@ impl Daemon {
     }
 
     /// Why the daemon isn't to be attached at this path.
-    fn attach_refusal(&self, path: &AbsPath) -> Option<Errno>
+    fn attach_refusal(&self, path: &Place) -> Option<Errno>
         ensures { result ≡ attach_refusal path.now (rows_of self.now) }
     {
         if self.point(path).is_none() {
@@ -116,7 +115,7 @@ impl Daemon {
         alloc: Global,
         fs: FsId,
         attach: Attach,
-        path: &AbsPath,
+        path: &Place,
     ) -> Result<(), Errno>
         ensures refusal { RefusedAs (attach_refusal path.now (rows_of self.old)) result }
         ensures ok { OnOk result (rows_of self.new ≡ with_attachment fs attach path.now (rows_of self.old)) }
@@ -125,7 +124,7 @@ impl Daemon {
         if let Some(errno) = self.attach_refusal(path) {
             return Err(errno);
         }
-        let path = Place::of(alloc, path.text())?;
+        let path = path.copy(alloc)?;
         self.reserve_attach()?;
         self.attached_reserved(fs, attach, path);
         Ok(())

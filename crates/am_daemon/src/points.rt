@@ -12,7 +12,7 @@ use crate::daemon::Daemon;
 use crate::served::Served;
 use am_map::{Entry, Map};
 use am_master::{MasterEntry, Point};
-use am_names::{AbsPath, FsId, Name, Trigger};
+use am_names::{FsId, Name, Place, Trigger};
 use am_state::KnownRow;
 use std::alloc::{AllocError, Global};
 
@@ -112,7 +112,7 @@ impl Daemon {
 
     /// How the master map serves a path: by the line whose point it is, else by the first `/-` line
     /// whose map has it as a key (auto.master(5), "FORMAT").
-    pub fn point(&self, path: &AbsPath) -> Option<Served>
+    pub fn point(&self, path: &Place) -> Option<Served>
         ensures { result ≡ point_of (rows_of self.now) path.now }
     {
         let (entry, (line, _map)) = self.line_for(path.text())?;

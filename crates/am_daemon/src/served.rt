@@ -2,7 +2,7 @@
 
 /// A line of the master map that serves a path, at which an autofs may be attached
 /// (auto.master(5), "FORMAT").
-#[derive(Clone, Copy, Debug, PartialEq, Eq)]
+#[derive(Clone, Copy, PartialEq, Eq)]
 pub struct Served {
     /// The place of the line in the master map, from 0.
     pub entry: usize,

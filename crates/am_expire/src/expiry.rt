@@ -12,11 +12,6 @@ use am_trigger::{Triggers, place_of};
 use am_wait::Waits;
 use std::alloc::{AllocError, Global};
 
-#[cfg(test)]
-mod script;
-#[cfg(test)]
-mod tests;
-
 /// What decides whether a trigger may expire.
 #[derive(Clone, Copy)]
 struct View<'a> {

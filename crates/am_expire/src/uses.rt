@@ -9,9 +9,6 @@ use am_propagate::InUse;
 use std::alloc::Global;
 use std::marker::Model;
 
-#[cfg(test)]
-mod tests;
-
 /// A walker that is inside a mount, which is one use of the mount.
 #[derive(Clone, Copy, Debug)]
 pub struct Use {

@@ -18,8 +18,6 @@ use std::marker::Model;
 
 mod changes;
 mod receivers;
-#[cfg(test)]
-mod tests;
 
 /// Mounts in rising order of number, and peer groups with their masters (sharedsubtree.rst, 5a).
 /// A master has a lower number than the groups under it, and has members.

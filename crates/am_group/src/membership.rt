@@ -6,7 +6,7 @@ ghost use Rattle.am_group.specs.Members.{row_with};
 use am_names::{GroupId, MemberRow, MountId};
 
 /// The propagation of a mount that is added (sharedsubtree.rst, 5a).
-#[derive(Clone, Copy, Debug, PartialEq, Eq)]
+#[derive(Clone, Copy, PartialEq, Eq)]
 pub enum Membership {
     /// Shared, in this peer group.
     InGroup(GroupId),

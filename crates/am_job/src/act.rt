@@ -8,7 +8,7 @@ use am_state::Record;
 use std::alloc::{AllocError, Global};
 
 /// One act of a daemon.
-#[derive(Debug, Drop)]
+#[derive(Drop)]
 pub enum Act {
     /// Make the directory of an indirect trigger.
     Mkdir {
@@ -39,7 +39,7 @@ pub enum Act {
 }
 
 /// What came of an act.
-#[derive(Clone, Copy, Debug, PartialEq, Eq)]
+#[derive(Clone, Copy)]
 pub enum Outcome {
     Done,
     /// A mount, of this number.

@@ -10,9 +10,6 @@ use indexmap::IndexMap;
 use std::alloc::Global;
 use std::marker::Model;
 
-#[cfg(test)]
-mod tests;
-
 /// What the daemon has written down of each trigger.
 #[derive(Drop)]
 pub struct Book {

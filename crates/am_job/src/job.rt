@@ -12,12 +12,9 @@ use am_names::{Attach, JobId, MountId, TokenKind, Trigger};
 use std::marker::Model;
 use std::mem;
 
-#[cfg(test)]
-mod tests;
-
 /// What the daemon does for one packet: a plan of acts, each told by what came of the one before.
 /// No memory is taken once it is made.
-#[derive(Debug, Drop)]
+#[derive(Drop)]
 pub struct Job {
     job: JobId,
     attach: Attach,

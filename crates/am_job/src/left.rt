@@ -13,7 +13,7 @@ use am_names::{MountId, Status, TokenKind, Trigger};
 use am_state::Record;
 
 /// What comes after the next act.
-#[derive(Debug, Drop)]
+#[derive(Drop)]
 pub enum Later {
     /// Nothing: that act acknowledges the notification.
     Nothing,
@@ -30,7 +30,7 @@ pub enum Later {
 }
 
 /// The acts that are left: the next, and what comes after it.
-#[derive(Debug, Drop)]
+#[derive(Drop)]
 pub enum Left {
     Ended,
     Next { act: Act, later: Later },

@@ -20,7 +20,7 @@ impl Kernel {
         &mut self,
         alloc: Global,
         ns: NsId,
-        path: &AbsPath,
+        path: &AbsPath<'_>,
         seen: &mut Vec<Obs>,
     ) -> Result<MountId, Errno>
         ensures refusal { RefusedAs (mount_refusal self.old ns path.now) result }
@@ -52,8 +52,8 @@ impl Kernel {
         &mut self,
         alloc: Global,
         ns: NsId,
-        from: &AbsPath,
-        to: &AbsPath,
+        from: &AbsPath<'_>,
+        to: &AbsPath<'_>,
         seen: &mut Vec<Obs>,
     ) -> Result<MountId, Errno>
         ensures refusal { RefusedAs (bind_refusal self.old ns from.now to.now) result }
@@ -136,7 +136,7 @@ impl Kernel {
         &mut self,
         alloc: Global,
         ns: NsId,
-        path: &AbsPath,
+        path: &AbsPath<'_>,
         seen: &mut Vec<Obs>,
     ) -> Result<Vec<MountId>, Errno>
         ensures refusal { RefusedAs (plain_umount_refusal self.old ns path.now) result }
@@ -161,7 +161,7 @@ impl Kernel {
         &mut self,
         alloc: Global,
         ns: NsId,
-        path: &AbsPath,
+        path: &AbsPath<'_>,
         change: Change,
     ) -> Result<(), Errno>
         ensures refusal { RefusedAs (plain_change_refusal change self.old ns path.now) result }
@@ -176,7 +176,7 @@ impl Kernel {
     }
 
     /// The state of the mount to which the path leads.
-    pub fn kind(&self, alloc: Global, ns: NsId, path: &AbsPath) -> Result<Kind, Errno>
+    pub fn kind(&self, alloc: Global, ns: NsId, path: &AbsPath<'_>) -> Result<Kind, Errno>
         ensures refusal { RefusedAs (kind_refusal self.now ns path.now) result }
         ensures ok { IfOk result (λ kind. kind_at self.now ns path.now ≡ Some kind) }
     {

@@ -26,7 +26,7 @@ use am_names::{
 use am_state::{Obs, QueuedRow};
 use am_trigger::Triggers;
 use am_wait::Waits;
-use am_walk::{Stop, Walk, resolve_text};
+use am_walk::{Stop, Walk, resolve};
 use std::alloc::{AllocError, Global};
 
 /// What a walker waited on that begins a walk.
@@ -151,7 +151,7 @@ impl Kernel {
     /// The walk has come to the end of its path.
     fn arrive(
         &mut self,
-        begin: &Begin,
+        begin: &Begin<'_>,
         waited: &Waited,
         at: Position,
         passed: &[Trigger],
@@ -178,22 +178,23 @@ impl Kernel {
     /// The walker joins those that wait on an open token.
     fn join(
         &mut self,
-        begin: Begin,
+        alloc: Global,
+        begin: &Begin<'_>,
         waited: &Waited,
         token: Token,
         passed: &[Trigger],
         seen: &mut Vec<Obs>,
     ) -> Result<Begun, Errno>
-        requires free { IsFree waited.now begin.walker self.old.waits }
+        requires free { IsFree waited.now begin.now.walker self.old.waits }
         requires open { is_some (token_of self.old.waits.tokens token) ≡ true }
-        ensures { Meets (joins (freed_as waited.now begin.walker begin.moment self.old) begin token passed.now) result self.old self.new seen.old.items seen.new.items }
+        ensures { Meets (joins (freed_as waited.now begin.now.walker begin.now.moment self.old) begin.now token passed.now) result self.old self.new seen.old.items seen.new.items }
     {
         let walker = begin.walker;
         let moment = begin.moment;
         if self.waits.is_full_for(walker) {
             return Err(Errno::ENOSPC);
         }
-        let row = begin.into_row();
+        let row = begin.to_row(alloc)?;
         seen.reserve(passed.len() + 1)?;
         self.triggers.reserve_uses(passed.len() + 1)?;
         self.walks.reserve(1)?;
@@ -210,16 +211,16 @@ impl Kernel {
     fn queue(
         &mut self,
         alloc: Global,
-        begin: Begin,
+        begin: &Begin<'_>,
         waited: &Waited,
         trigger: &Trigger,
         attach: Attach,
         passed: &[Trigger],
         seen: &mut Vec<Obs>,
     ) -> Result<Begun, Errno>
-        requires free { IsFree waited.now begin.walker self.old.waits }
-        requires room { reopen_refusal begin.walker self.old.waits ≡ None }
-        ensures { Meets (notified (freed_as waited.now begin.walker begin.moment self.old) begin trigger.now attach passed.now) result self.old self.new seen.old.items seen.new.items }
+        requires free { IsFree waited.now begin.now.walker self.old.waits }
+        requires room { reopen_refusal begin.now.walker self.old.waits ≡ None }
+        ensures { Meets (notified (freed_as waited.now begin.now.walker begin.now.moment self.old) begin.now trigger.now attach passed.now) result self.old self.new seen.old.items seen.new.items }
     {
         let walker = begin.walker;
         let moment = begin.moment;
@@ -227,7 +228,7 @@ impl Kernel {
         self.triggers.reserve_uses(passed.len() + 2)?;
         self.walks.reserve(1)?;
         self.queue.reserve(1)?;
-        let row = begin.into_row();
+        let row = begin.to_row(alloc)?;
         let token = self
             .waits
             .reopen(alloc, *trigger, TokenKind::Missing, walker)?;
@@ -272,7 +273,7 @@ impl Kernel {
     fn hang_up(
         &mut self,
         alloc: Global,
-        begin: &Begin,
+        begin: &Begin<'_>,
         waited: &Waited,
         fs: FsId,
         seen: &mut Vec<Obs>,
@@ -295,16 +296,16 @@ impl Kernel {
     fn notify(
         &mut self,
         alloc: Global,
-        begin: Begin,
+        begin: &Begin<'_>,
         waited: &Waited,
         trigger: Trigger,
         passed: &[Trigger],
         pipe: PipeState,
         seen: &mut Vec<Obs>,
     ) -> Result<Begun, Errno>
-        requires free { IsFree waited.now begin.walker self.old.waits }
-        ensures { let base = freed_as waited.now begin.walker begin.moment self.old in
-            Meets (notifies (attach_of base trigger.fs) pipe base begin trigger passed.now) result self.old self.new seen.old.items seen.new.items }
+        requires free { IsFree waited.now begin.now.walker self.old.waits }
+        ensures { let base = freed_as waited.now begin.now.walker begin.now.moment self.old in
+            Meets (notifies (attach_of base trigger.fs) pipe base begin.now trigger passed.now) result self.old self.new seen.old.items seen.new.items }
     {
         let Some(attach) = self.attach_of(trigger.fs) else {
             return Err(Errno::ENOENT);
@@ -315,7 +316,7 @@ impl Kernel {
         match pipe {
             PipeState::Room => self.queue(alloc, begin, waited, &trigger, attach, passed, seen),
             PipeState::Full => Err(Errno::EAGAIN),
-            PipeState::Gone => self.hang_up(alloc, &begin, waited, trigger.fs, seen),
+            PipeState::Gone => self.hang_up(alloc, begin, waited, trigger.fs, seen),
         }
     }
 
@@ -323,27 +324,27 @@ impl Kernel {
     pub(crate) fn begin(
         &mut self,
         alloc: Global,
-        begin: Begin,
+        begin: &Begin<'_>,
         waited: &Waited,
         pipe: PipeState,
         seen: &mut Vec<Obs>,
     ) -> Result<Begun, Errno>
-        requires outside { mount_of self.old.uses begin.walker ≡ None }
-        requires free { IsFree waited.now begin.walker self.old.waits }
-        ensures { Meets (begun_with (walk_of (scene_of self.old) begin.ns begin.path) pipe (freed_as waited.now begin.walker begin.moment self.old) begin) result self.old self.new seen.old.items seen.new.items }
+        requires outside { mount_of self.old.uses begin.now.walker ≡ None }
+        requires free { IsFree waited.now begin.now.walker self.old.waits }
+        ensures { Meets (begun_with (walk_of (scene_of self.old) begin.now.ns begin.now.path) pipe (freed_as waited.now begin.now.walker begin.now.moment self.old) begin.now) result self.old self.new seen.old.items seen.new.items }
     {
-        let walk = resolve_text(
+        let walk = resolve(
             alloc,
             &self.subtree,
             &self.triggers,
             &self.waits,
             begin.ns,
-            begin.path.text(),
+            &begin.path,
         )?;
         let Walk { stop, passed } = walk;
         match stop {
-            Stop::Arrive(at) => self.arrive(&begin, waited, at, passed.as_slice(), seen),
-            Stop::Block(token) => self.join(begin, waited, token, passed.as_slice(), seen),
+            Stop::Arrive(at) => self.arrive(begin, waited, at, passed.as_slice(), seen),
+            Stop::Block(token) => self.join(alloc, begin, waited, token, passed.as_slice(), seen),
             Stop::Missing(trigger) => {
                 self.notify(alloc, begin, waited, trigger, passed.as_slice(), pipe, seen)
             }

@@ -1,33 +1,34 @@
 //! Walks that begin, and how they go on.
 
-ghost use Rattle.std.specs.Prelude.{◌≡◌};
+ghost use Rattle.std.specs.Prelude.{◌≡◌, IfOk};
 ghost use Rattle.am_kernel.specs.Walks.{walk_row};
 
 use crate::row::WalkRow;
-use am_names::{Errno, NsId, Place, Position, Seconds, Token, WalkerId};
+use am_names::{AbsPath, Errno, NsId, Position, Seconds, Token, WalkerId};
+use std::alloc::{AllocError, Global};
 
 /// A walk that begins.
 #[derive(Debug, Drop)]
-pub struct Begin {
+pub struct Begin<'a> {
     pub walker: WalkerId,
     pub ns: NsId,
-    pub path: Place,
+    pub path: AbsPath<'a>,
     /// How many walks the walker began on this path, this one among them.
     pub begins: u32,
     pub moment: Seconds,
 }
 
-impl Begin {
-    /// The row of a walker that waits.
-    pub fn into_row(self) -> WalkRow
-        ensures { result ≡ walk_row self }
+impl Begin<'_> {
+    /// The row of a walker that waits: it keeps the path.
+    pub fn to_row(&self, alloc: Global) -> Result<WalkRow, AllocError>
+        ensures { IfOk result (λ row. row ≡ walk_row self.now) }
     {
-        WalkRow {
+        Ok(WalkRow {
             walker: self.walker,
             ns: self.ns,
-            path: self.path,
+            path: self.path.to_place(alloc)?,
             begins: self.begins,
-        }
+        })
     }
 }
 

@@ -3,16 +3,40 @@
 ghost use Rattle.std.specs.Prelude.{◌≡◌, ◌+◌, ◌∷◌, ◌++◌, [], IfOk, OnOk, OnErr};
 ghost use Rattle.am_names.specs.Errno.{RefusedAs};
 ghost use Rattle.am_state.specs.declared.obs.Obs.TheVariants.{Mounted, Unmounted};
-ghost use Rattle.am_propagate.specs.Removed.{umount_refusal, unmounted};
+ghost use Rattle.am_propagate.specs.Removed.{umount_refusal, unmounted, removed};
 ghost use Rattle.am_expire.specs.Uses.{is_used};
 ghost use Rattle.am_kernel.specs.DaemonMounts.{coming, is_there, location_of, mounted_on, mount_on_refusal, with_mount_on, umount_from_refusal, gone_from, without_mounts, is_top_at, trigger_under, standing_of, standing};
 
 use crate::kernel::Kernel;
 use crate::table::{refuse, table};
+use am_expire::Uses;
 use am_names::{Attach, Errno, FsId, MountId, MountRow, Mounts, Name, Position, Trigger};
+use am_propagate::Subtree;
 use am_state::Obs;
 use am_trigger::{Autofs, place_of};
 use std::alloc::{AllocError, Global};
+
+/// Unmounts a mount with what was mounted with it, and tells all that went.
+fn umount_of(
+    subtree: &mut Subtree,
+    uses: &Uses,
+    alloc: Global,
+    mount: MountId,
+    seen: &mut Vec<Obs>,
+) -> Result<Vec<MountId>, Errno>
+    ensures refusal { RefusedAs (umount_refusal (is_used uses.now) mount subtree.old) result }
+    ensures gone { IfOk result (λ v. v.items ≡ unmounted subtree.old mount) }
+    ensures ok { OnOk result (subtree.new ≡ removed (unmounted subtree.old mount) subtree.old) }
+    ensures shown { OnOk result (seen.new.items ≡ seen.old.items ++ Unmounted (unmounted subtree.old mount) ∷ []) }
+    ensures err { OnErr result (subtree.new ≡ subtree.old) }
+    ensures unseen { OnErr result (seen.new.items ≡ seen.old.items) }
+{
+    seen.reserve(1)?;
+    let mounts = Mounts::of(subtree.umount_takes(alloc, mount)?);
+    let gone = subtree.umount(alloc, mount, uses)?;
+    seen.push_reserved(Obs::Unmounted { mounts });
+    Ok(gone)
+}
 
 impl Kernel {
     /// Whether the trigger is there: an indirect one once its directory is made.
@@ -110,11 +134,7 @@ impl Kernel {
         ensures err { OnErr result (self.new ≡ self.old) }
         ensures unseen { OnErr result (seen.new.items ≡ seen.old.items) }
     {
-        seen.reserve(1)?;
-        let mounts = Mounts::of(self.subtree.umount_takes(alloc, mount)?);
-        let gone = self.subtree.umount(alloc, mount, &self.uses)?;
-        seen.push_reserved(Obs::Unmounted { mounts });
-        Ok(gone)
+        umount_of(&mut self.subtree, &self.uses, alloc, mount, seen)
     }
 
     /// Whether the row is the top at its place of this mount.

@@ -176,7 +176,7 @@ impl Kernel {
     }
 
     /// Where an administrator's path leads.
-    pub fn position(&self, alloc: Global, ns: NsId, path: &AbsPath) -> Result<Position, Errno>
+    pub fn position(&self, alloc: Global, ns: NsId, path: &AbsPath<'_>) -> Result<Position, Errno>
         ensures refusal { RefusedAs (fault_of (position_at self.now ns path.now)) result }
         ensures ok { IfOk result (λ at. position_at self.now ns path.now ≡ Ok at) }
     {

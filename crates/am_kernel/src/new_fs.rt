@@ -1,12 +1,13 @@
 //! New file systems: the mounts of them, and autofs that are attached.
 
-ghost use Rattle.std.specs.Prelude.{◌≡◌, ◌+◌, ◌∷◌, ◌++◌, [], IfOk, OnOk, OnErr};
+ghost use Rattle.std.specs.Prelude.{◌≡◌, ◌<◌, ◌+◌, ◌∷◌, ◌++◌, [], IfOk, OnOk, OnErr};
 ghost use Rattle.am_names.specs.Errno.{RefusedAs};
 ghost use Rattle.am_state.specs.declared.obs.Obs.TheVariants.{Mounted};
 ghost use Rattle.am_group.specs.declared.membership.Membership.TheVariants.{Private};
 ghost use Rattle.am_propagate.specs.Added.{mount_refusal, mounted};
+ghost use Rattle.am_kernel.specs.State.{greatest_u32};
 ghost use Rattle.am_kernel.specs.Sites.{fs_refusal};
-ghost use Rattle.am_kernel.specs.DaemonMounts.{new_fs_refusal, coming_in, coming, with_mount, autofs_refusal, attaching, with_attached};
+ghost use Rattle.am_kernel.specs.DaemonMounts.{new_fs_refusal, coming_in, coming, with_mount, attach_tests, attached_at, autofs_refusal, attaching, with_attached};
 
 use crate::kernel::Kernel;
 use crate::row::Attached;
@@ -81,11 +82,77 @@ impl Kernel {
         Ok(mount)
     }
 
+    /// Mounts a new autofs with the next numbers, which are left.
+    fn add_autofs(
+        &mut self,
+        alloc: Global,
+        at: &Position,
+        direct: bool,
+        timeout: u32,
+        seen: &mut Vec<Obs>,
+    ) -> Result<NewAutofs, Errno>
+        requires fs { self.old.last_fs < greatest_u32 }
+        requires attach { self.old.last_attach < greatest_u32 }
+        ensures refusal { RefusedAs (mount_refusal at.now.mount self.old.table) result }
+        ensures fs { IfOk result (λ row. row.fs ≡ self.old.last_fs + 1) }
+        ensures attach { IfOk result (λ row. row.attach ≡ self.old.last_attach + 1) }
+        ensures mount { IfOk result (λ row. row.mount ≡ self.old.table.last_mount + 1) }
+        ensures ok { OnOk result (self.new ≡ attached_at direct timeout self.old at.now) }
+        ensures shown { OnOk result (seen.new.items ≡ seen.old.items ++ Mounted (coming self.old at.now.mount) ∷ []) }
+        ensures err { OnErr result (self.new ≡ self.old) }
+        ensures unseen { OnErr result (seen.new.items ≡ seen.old.items) }
+    {
+        let fs = FsId(self.last_fs + 1);
+        let attach = Attach(self.last_attach + 1);
+        self.triggers.reserve_fs()?;
+        self.attached.reserve(1)?;
+        let mount = mount_fs(&mut self.subtree, alloc, at, fs, seen)?;
+        self.triggers.add_fs_reserved(fs, direct, mount);
+        self.attached.push_reserved(Attached {
+            fs,
+            attach,
+            timeout,
+        });
+        self.last_fs = fs.0;
+        self.last_attach = attach.0;
+        Ok(NewAutofs { fs, attach, mount })
+    }
+
+    /// Mounts a new autofs at a position, with an attachment for its daemon.
+    fn attach_at(
+        &mut self,
+        alloc: Global,
+        at: &Position,
+        direct: bool,
+        timeout: u32,
+        seen: &mut Vec<Obs>,
+    ) -> Result<NewAutofs, Errno>
+        ensures refusal { RefusedAs (attach_tests self.old at.now) result }
+        ensures fs { IfOk result (λ row. row.fs ≡ self.old.last_fs + 1) }
+        ensures attach { IfOk result (λ row. row.attach ≡ self.old.last_attach + 1) }
+        ensures mount { IfOk result (λ row. row.mount ≡ self.old.table.last_mount + 1) }
+        ensures ok { OnOk result (self.new ≡ attached_at direct timeout self.old at.now) }
+        ensures shown { OnOk result (seen.new.items ≡ seen.old.items ++ Mounted (coming self.old at.now.mount) ∷ []) }
+        ensures err { OnErr result (self.new ≡ self.old) }
+        ensures unseen { OnErr result (seen.new.items ≡ seen.old.items) }
+    {
+        if self.is_on_autofs(at.mount) {
+            return Err(Errno::EPERM);
+        }
+        if self.last_attach == u32::MAX {
+            return Err(Errno::ENOSPC);
+        }
+        if self.last_fs == u32::MAX {
+            return Err(Errno::ENOSPC);
+        }
+        self.add_autofs(alloc, at, direct, timeout, seen)
+    }
+
     /// Mounts a new autofs at a path of namespace 0, with an attachment for its daemon.
     pub fn attach_autofs(
         &mut self,
         alloc: Global,
-        path: &AbsPath,
+        path: &AbsPath<'_>,
         direct: bool,
         timeout: u32,
         seen: &mut Vec<Obs>,
@@ -100,28 +167,6 @@ impl Kernel {
         ensures unseen { OnErr result (seen.new.items ≡ seen.old.items) }
     {
         let at = self.position(alloc, NsId(0), path)?;
-        if self.is_on_autofs(at.mount) {
-            return Err(Errno::EPERM);
-        }
-        if self.last_attach == u32::MAX {
-            return Err(Errno::ENOSPC);
-        }
-        if let Some(errno) = self.fs_refusal() {
-            return Err(errno);
-        }
-        let fs = FsId(self.last_fs + 1);
-        let attach = Attach(self.last_attach + 1);
-        self.triggers.reserve_fs()?;
-        self.attached.reserve(1)?;
-        let mount = mount_fs(&mut self.subtree, alloc, &at, fs, seen)?;
-        self.triggers.add_fs_reserved(fs, direct, mount);
-        self.attached.push_reserved(Attached {
-            fs,
-            attach,
-            timeout,
-        });
-        self.last_fs = fs.0;
-        self.last_attach = attach.0;
-        Ok(NewAutofs { fs, attach, mount })
+        self.attach_at(alloc, &at, direct, timeout, seen)
     }
 }

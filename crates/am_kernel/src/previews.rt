@@ -2,7 +2,6 @@
 
 ghost use Rattle.std.specs.Prelude.{◌≡◌, None, IfOk};
 ghost use Rattle.am_names.specs.Errno.{RefusedAs};
-ghost use Rattle.am_names.specs.Path.{IsCanonical, names_of};
 ghost use Rattle.am_propagate.specs.Removed.{mounts_in};
 ghost use Rattle.am_walk.specs.Walks.{fault_of};
 ghost use Rattle.am_kernel.specs.Sites.{position_at};
@@ -11,7 +10,7 @@ ghost use Rattle.am_kernel.specs.Previews.{arrived_at, arrival_of, arrival_again
 
 use crate::kernel::Kernel;
 use am_names::{AbsPath, Attach, Errno, FsId, MountId, NsId, Position, Trigger, WalkerId};
-use am_walk::{Stop, resolve_text};
+use am_walk::{Stop, resolve};
 use std::alloc::{AllocError, Global};
 
 /// Where a walk arrives that stops so.
@@ -25,30 +24,17 @@ fn arrived_at(stop: Stop) -> Option<Position>
 }
 
 impl Kernel {
-    /// Where a walk along a canonical text arrives.
-    fn arrival_along(
-        &self,
-        alloc: Global,
-        ns: NsId,
-        path: &[u8],
-    ) -> Result<Option<Position>, AllocError>
-        requires { IsCanonical path.now }
-        ensures { IfOk result (λ at. at ≡ arrival_of self.now ns (names_of path.now)) }
-    {
-        let walk = resolve_text(alloc, &self.subtree, &self.triggers, &self.waits, ns, path)?;
-        Ok(arrived_at(walk.stop))
-    }
-
     /// The position at which a walk that begins now would arrive. Nothing changes.
     pub fn arrival(
         &self,
         alloc: Global,
         ns: NsId,
-        path: &AbsPath,
+        path: &AbsPath<'_>,
     ) -> Result<Option<Position>, AllocError>
         ensures { IfOk result (λ at. at ≡ arrival_of self.now ns path.now) }
     {
-        self.arrival_along(alloc, ns, path.text())
+        let walk = resolve(alloc, &self.subtree, &self.triggers, &self.waits, ns, path)?;
+        Ok(arrived_at(walk.stop))
     }
 
     /// The same of the walk of a walker that waits, as if it began again now.
@@ -60,7 +46,7 @@ impl Kernel {
         ensures { IfOk result (λ at. at ≡ arrival_again_of self.now walker) }
     {
         match self.walk_row(walker) {
-            Some(row) => self.arrival_along(alloc, row.ns, row.path.text()),
+            Some(row) => self.arrival(alloc, row.ns, &row.path.path()),
             None => Ok(None),
         }
     }
@@ -70,7 +56,7 @@ impl Kernel {
         &self,
         alloc: Global,
         ns: NsId,
-        path: &AbsPath,
+        path: &AbsPath<'_>,
     ) -> Result<Vec<MountId>, Errno>
         ensures refusal { RefusedAs (fault_of (position_at self.now ns path.now)) result }
         ensures ok { IfOk result (λ v. v.items ≡ plain_gone self.now ns path.now) }

@@ -12,9 +12,7 @@ use crate::begin::{Waited, forget, forget_walk, touch_expired};
 use crate::begun::{Begin, Begun};
 use crate::kernel::Kernel;
 use crate::row::WalkRow;
-use am_names::{
-    AbsPath, Errno, NsId, PipeState, Place, Seconds, Status, TokenKind, WaitRow, WalkerId,
-};
+use am_names::{AbsPath, Errno, NsId, PipeState, Seconds, Status, TokenKind, WaitRow, WalkerId};
 use am_state::Obs;
 use std::alloc::{AllocError, Global};
 
@@ -34,18 +32,29 @@ fn waited_on(wait: &WaitRow) -> Waited
 }
 
 impl WalkRow {
-    /// The walk begins once more.
-    fn next(&self, alloc: Global, moment: Seconds) -> Result<Begin, AllocError>
-        requires { self.now.begins < 4294967295 }
-        ensures { IfOk result (λ begin. begin ≡ next_begin self.now moment) }
+    fn copy(&self, alloc: Global) -> Result<WalkRow, AllocError>
+        ensures { IfOk result (λ row. row ≡ self.now) }
     {
-        Ok(Begin {
+        Ok(WalkRow {
             walker: self.walker,
             ns: self.ns,
             path: self.path.copy(alloc)?,
+            begins: self.begins,
+        })
+    }
+
+    /// The walk begins once more.
+    fn next(&self, moment: Seconds) -> Begin<'_>
+        requires { self.now.begins < 4294967295 }
+        ensures { result ≡ next_begin self.now moment }
+    {
+        Begin {
+            walker: self.walker,
+            ns: self.ns,
+            path: self.path.path(),
             begins: self.begins + 1,
             moment,
-        })
+        }
     }
 }
 
@@ -57,7 +66,7 @@ impl Kernel {
         alloc: Global,
         walker: WalkerId,
         ns: NsId,
-        path: &AbsPath,
+        path: &AbsPath<'_>,
         moment: Seconds,
         pipe: PipeState,
         seen: &mut Vec<Obs>,
@@ -70,11 +79,11 @@ impl Kernel {
         let begin = Begin {
             walker,
             ns,
-            path: Place::of(alloc, path.text())?,
+            path: path.copy(),
             begins: 1,
             moment,
         };
-        self.begin(alloc, begin, &Waited::Idle, pipe, seen)
+        self.begin(alloc, &begin, &Waited::Idle, pipe, seen)
     }
 
     pub(crate) fn walk_row(&self, walker: WalkerId) -> Option<&WalkRow>
@@ -181,8 +190,9 @@ impl Kernel {
         if MOST_BEGINS <= row.begins {
             return self.fail(&waited, walker, moment, Errno::ELOOP, seen);
         }
-        let begin = row.next(alloc, moment)?;
-        match self.begin(alloc, begin, &waited, pipe, seen) {
+        let row = row.copy(alloc)?;
+        let begin = row.next(moment);
+        match self.begin(alloc, &begin, &waited, pipe, seen) {
             Ok(begun) => Ok(begun),
             Err(errno) => self.fall(&waited, walker, moment, errno, seen),
         }

@@ -7,6 +7,3 @@ pub mod words;
 
 pub use lines::{Behind, next_line};
 pub use words::{begins_with, cut_at_colon, first_word, next_word};
-
-#[cfg(test)]
-mod tests;

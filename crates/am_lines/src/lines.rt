@@ -9,7 +9,7 @@ ghost use Rattle.am_lines.specs.Behind.{lines_behind};
 use std::alloc::AllocError;
 
 /// What stands behind a line.
-#[derive(Clone, Copy, Debug)]
+#[derive(Clone, Copy)]
 pub struct Behind<'a> {
     /// How many raw lines the line was made of, at least 1.
     pub raw_lines: usize,

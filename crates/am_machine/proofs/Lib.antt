@@ -90,3 +90,4 @@ pub mod AgreeTokens
 pub mod InStep
 pub mod InStepRuns
 pub mod AgreeRuns
+pub mod Histories

@@ -1,6 +1,7 @@
 pub mod State
 pub mod Outcome
 pub mod Events
+pub mod History
 pub mod Machine
 pub mod Invariant
 pub mod Agreement

@@ -6,6 +6,8 @@ use Rattle.am_machine.specs.declared.event.Event.{Event}
 use Rattle.am_machine.specs.declared.event.Event.TheVariants as events
 use Rattle.am_machine.specs.declared.answer.Answer.{Answer}
 use Rattle.am_machine.specs.declared.answer.Answer.TheVariants as answers
+use Rattle.am_machine.specs.declared.entry.Entry.{Entry}
+use Rattle.am_machine.specs.History.{events_of, answers_of}
 use Rattle.am_machine.specs.State.{State, opening_in, opening_of}
 use Rattle.am_machine.specs.Outcome.{Outcome}
 use Rattle.am_machine.specs.Events.Administration.{attach_outcome, mount_outcome, bind_outcome, umount_outcome, change_outcome, kind_outcome, copy_outcome, drop_outcome}
@@ -66,5 +68,9 @@ Run old [] (answer ∷ answers) new = ⊥
 Run old (event ∷ events) [] new = ⊥
 
 -- A history is legal for a world where it is a run from the initial world that ends there.
-abbrev pub IsLegal : List Event → List Answer → State → Type 0
-IsLegal events answers s = Run (opening_of (opening_in s)) events answers s
+abbrev pub IsLegal : List Entry → State → Type 0
+IsLegal history s = Run (opening_of (opening_in s)) (events_of history) (answers_of history) s
+
+-- Each legal history of the old world goes on by these entries to one of the new world.
+abbrev pub GoesOnBy : List Entry → State → State → Type 0
+GoesOnBy more old new = (history : List Entry) → IsLegal history old → IsLegal (history ++ more) new

@@ -2,8 +2,10 @@
 #![tactic(auto)]
 
 pub mod answer;
+pub mod entry;
 pub mod event;
 pub mod laws;
 
 pub use answer::Answer;
+pub use entry::Entry;
 pub use event::Event;

@@ -35,7 +35,7 @@ impl MapFaultKind {
 }
 
 /// The first faulty line of a text.
-#[derive(Clone, Copy, Debug, PartialEq, Eq, Hash, Error)]
+#[derive(Clone, Copy, Debug, PartialEq, Error)]
 #[error("line {line}: {kind}")]
 pub struct MapFault {
     /// The first raw line of the line, from 1. Of `NoMemory` the line that was being read.

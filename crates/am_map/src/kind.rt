@@ -1,7 +1,7 @@
 //! The two kinds of maps.
 
 /// How the keys of a map are read (autofs(5), "SUN FORMAT").
-#[derive(Clone, Copy, Debug, PartialEq, Eq, Hash)]
+#[derive(Clone, Copy, PartialEq)]
 pub enum MapKind {
     /// A key is a name, or `*`.
     Indirect,

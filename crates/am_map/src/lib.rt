@@ -13,6 +13,3 @@ pub use entry::Entry;
 pub use fault::{MapFault, MapFaultKind};
 pub use kind::MapKind;
 pub use map::Map;
-
-#[cfg(test)]
-mod tests;

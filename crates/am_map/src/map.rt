@@ -20,7 +20,7 @@ use std::alloc::{AllocError, Global};
 use std::marker::Model;
 
 /// The rows of a map, of those with one key the first.
-#[derive(Debug, Drop)]
+#[derive(Drop)]
 pub struct Map {
     rows: IndexMap<Vec<u8>, Entry>,
 }
@@ -66,7 +66,7 @@ impl Map {
 
     /// The entry of the first line with this key, else of the first `*` line, with each `&` of
     /// its host and its path replaced by the key (autofs(5), "Map Key Substitution" and "Wildcard
-    /// Key"). A key of a direct map is a canonical text, as `AbsPath::text` lends it.
+    /// Key"). A key of a direct map is a canonical text, as `Place::text` lends it.
     pub fn look_up(&self, alloc: Global, key: &[u8]) -> Result<Option<Entry>, AllocError>
         ensures { IfOk result (λ found. found ≡ entry_for self.now key.now) }
     {
@@ -124,7 +124,10 @@ impl Map {
             }
             MapKind::Direct => {
                 let path = read_path(first)?;
-                self.read_row(alloc, path.text(), others)
+                let Ok(key) = path.to_place(alloc) else {
+                    return Err(MapFaultKind::NoMemory);
+                };
+                self.read_row(alloc, key.text(), others)
             }
         }
     }

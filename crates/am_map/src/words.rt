@@ -28,7 +28,7 @@ pub(crate) fn read_name(word: &[u8]) -> Result<(), MapFaultKind>
 }
 
 /// Reads the key of a direct map's line.
-pub(crate) fn read_path(word: &[u8]) -> Result<AbsPath, MapFaultKind>
+pub(crate) fn read_path(word: &[u8]) -> Result<AbsPath<'_>, MapFaultKind>
     ensures ok { IfOk result (λ path. key_read Direct word.now ≡ Ok (text_of path)) }
     ensures err { IfErr result (λ fault. key_read Direct word.now ≡ Err fault) }
 {

@@ -38,7 +38,7 @@ impl MasterFaultKind {
 }
 
 /// The first faulty line of a text.
-#[derive(Clone, Copy, Debug, PartialEq, Eq, Hash, Error)]
+#[derive(Clone, Copy, Debug, PartialEq, Error)]
 #[error("line {line}: {kind}")]
 pub struct MasterFault {
     /// The first raw line of the line, from 1. Of `NoMemory` the line that was being read.

@@ -14,6 +14,3 @@ pub use entry::MasterEntry;
 pub use fault::{MasterFault, MasterFaultKind};
 pub use master::Master;
 pub use point::Point;
-
-#[cfg(test)]
-mod tests;

@@ -15,7 +15,6 @@ use crate::point::Point;
 use crate::points::Points;
 use crate::words::{ServedRef, is_direct, read_point, read_served};
 use am_lines::{first_word, next_line};
-use am_names::Place;
 use std::alloc::{AllocError, Global};
 use std::marker::Model;
 
@@ -102,13 +101,13 @@ impl Master {
             return in_memory(self.add(alloc, Point::Direct, &served, number));
         }
         let path = read_point(first)?;
-        if self.has_point(path.text()) {
+        let Ok(place) = path.to_place(alloc) else {
+            return Err(MasterFaultKind::NoMemory);
+        };
+        if self.has_point(place.text()) {
             return Err(MasterFaultKind::Twice);
         }
         let served = read_served(others)?;
-        let Ok(place) = Place::of(alloc, path.text()) else {
-            return Err(MasterFaultKind::NoMemory);
-        };
         in_memory(self.add(alloc, Point::Indirect(place), &served, number))
     }
 

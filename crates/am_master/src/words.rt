@@ -28,14 +28,14 @@ pub(crate) fn is_direct(word: &[u8]) -> bool
 }
 
 /// Reads the path of an indirect map.
-pub(crate) fn read_point(word: &[u8]) -> Result<AbsPath, MasterFaultKind>
+pub(crate) fn read_point(word: &[u8]) -> Result<AbsPath<'_>, MasterFaultKind>
     ensures ok { IfOk result (λ names. below_root (path_read word.now) ≡ Ok names) }
     ensures err { IfErr result (λ fault. below_root (path_read word.now) ≡ Err fault) }
 {
     let Ok(path) = AbsPath::read(word) else {
         return Err(MasterFaultKind::BadPoint);
     };
-    if path.text().is_empty() {
+    if path.split_first().is_none() {
         return Err(MasterFaultKind::BadPoint);
     }
     Ok(path)

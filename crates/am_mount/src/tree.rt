@@ -11,11 +11,8 @@ use am_names::{MountId, MountRow, NsId};
 use std::alloc::{AllocError, Global};
 use std::marker::Model;
 
-#[cfg(test)]
-mod tests;
-
 /// A set of mount rows, no two with the same number (Linux: the mounts of all namespaces).
-#[derive(Debug, Drop)]
+#[derive(Drop)]
 pub struct Tree {
     rows: Vec<MountRow>,
 }
@@ -140,7 +137,7 @@ impl Tree {
     }
 
     /// The top at a place of the mount: of the mounts there the most recently mounted. The
-    /// place is told by its canonical text, as `Place::text` and `AbsPath::text` lend it.
+    /// place is told by its canonical text, as `Place::text` lends it.
     pub fn top(&self, mount: MountId, place: &[u8]) -> Option<MountId>
         requires { IsCanonical place.now }
         ensures exact { result ≡ top_of self.now mount (names_of place.now) }

@@ -2,5 +2,5 @@ pub mod NameStored
 pub mod Cuts
 pub mod Puts
 pub mod PathLemmas
-pub mod PathReads
 pub mod SameTriggers
+pub mod PathFaultLemmas

@@ -1,15 +1,14 @@
 -- A canonical text and its names.
-use Rattle.std.proofs.Common.{◌≡◌, ℕ, ◌+◌, ◌-◌, ◌≤◌, Bool, true, false, ◌&&◌, Decides, not, ◌==◌, List, [], ◌∷◌, ◌++◌, length, take, drop, refl, sym, ap, subst, ◌∙◌, append_assoc, arith}
-use Rattle.std.specs.Prelude.{IsTrue, replicate}
+use Rattle.std.proofs.Common.{◌≡◌, ℕ, ◌+◌, ◌≤◌, Bool, true, false, ◌&&◌, Decides, not, ◌==◌, List, [], ◌∷◌, ◌++◌, length, take, drop, refl, sym, ap, subst, ◌∙◌, append_assoc, arith}
+use Rattle.std.specs.Prelude.{IsTrue}
 use Rattle.std.specs.List.{list_all, filter, position_or_len}
 use Rattle.std.specs.Str.{bytes_eq}
 use Rattle.std.proofs.lemmas.Bool.Decides.{nat_tests, Decides-eqb, same_from_decides}
 use Rattle.std.proofs.lemmas.Slice.Eq.{slice_eq-Decides}
-use Rattle.std.proofs.lemmas.List.{append-nil, length-append, length-take, take-append-drop, take_at, drop_at, drop-drop, drop-replicate, length-replicate}
+use Rattle.std.proofs.lemmas.List.{append-nil, length-append, take_at, drop_at}
 use Rattle.std.proofs.lemmas.List.Splits.{slice_split-cons_no}
 use Rattle.am_names.specs.Name.{is_name, is_name_byte}
-use Rattle.am_names.specs.Path.{is_slash, parts_of, text_of, names_of, same_names, IsCanonical, IsPathStored, padded_path}
-use Rattle.am_names.proofs.Puts.{next}
+use Rattle.am_names.specs.Path.{is_slash, parts_of, text_of, names_of, same_names, IsCanonical}
 
 and_left : (a b : Bool) → (a && b) ≡ true → a ≡ true
 and_left true b h = refl
@@ -118,40 +117,6 @@ cuts_at text below slash len (name ∷ names) e p same spelled named =
 
 pub cuts_first : (text below : List ℕ) (slash len : ℕ) → IsCanonical text → text ≡ slash ∷ below → len ≡ position_or_len is_slash below → CutsFirst text below len
 cuts_first text below slash len h e p = cuts_at text below slash len (names_of text) e p refl h.spelled h.named
-
--- a text in a buffer with zeros behind it
-pub path_stored : (text buf : List ℕ) → IsCanonical text → length text ≤ 4095 → buf ≡ padded_path text → IsPathStored buf (length text)
-path_stored text buf h short e =
-    let back : take (length text) buf ≡ text = ap (take (length text)) e ∙ take_at text (replicate (4095 - length text) 0) (length text) refl in
-    record {
-      long = ap length e ∙ omega (arith, length-append text (replicate (4095 - length text) 0), length-replicate {A = ℕ} (4095 - length text) 0);
-      short = short;
-      canonical = subst IsCanonical (sym back) h;
-      zeros = e ∙ ap padded_path (sym back);
-    }
-
--- a slash and a name written behind the text
-pub path_pushed : (len : ℕ) (buf slashed new name : List ℕ) → IsPathStored buf len → is_name name ≡ true → len + 1 + length name ≤ 4095 →
-    slashed ≡ take len buf ++ ((47 ∷ []) ++ drop (len + 1) buf) → new ≡ take (len + 1) slashed ++ (name ++ drop (len + 1 + length name) slashed) →
-    IsPathStored new (len + (1 + length name)) × (take (len + (1 + length name)) new ≡ take len buf ++ 47 ∷ name)
-path_pushed len buf slashed new name h n fits first second =
-    let text : List ℕ = take len buf in
-    let long : length text ≡ len = omega (arith, length-take len buf, h.long, h.short) in
-    let one : slashed ≡ (text ++ 47 ∷ []) ++ drop (len + 1) buf = next len 1 text buf buf slashed (47 ∷ []) long (sym (take-append-drop len buf)) first in
-    let two : new ≡ ((text ++ 47 ∷ []) ++ name) ++ drop (len + 1 + length name) buf = next (len + 1) (length name) (text ++ 47 ∷ []) buf slashed new name (length-append text (47 ∷ []) ∙ ap (λ (k : ℕ). k + 1) long) one second in
-    let whole : List ℕ = text ++ 47 ∷ name in
-    let joined : (text ++ 47 ∷ []) ++ name ≡ whole = append_assoc text (47 ∷ []) name in
-    let size : length whole ≡ len + (1 + length name) = omega (arith, length-append text (47 ∷ name), long) in
-    let zeros : drop (len + 1 + length name) buf ≡ replicate (4095 - length whole) 0 =
-    let behind : drop len buf ≡ replicate (4095 - length text) 0 = ap (λ (t : List ℕ). drop len t) h.zeros ∙ drop_at text (replicate (4095 - length text) 0) len long in
-    let further : drop (1 + length name) (drop len buf) ≡ drop (len + (1 + length name)) buf = drop-drop (1 + length name) len buf in
-    let count : 4095 - length text - (1 + length name) ≡ 4095 - length whole = omega (arith, size, long) in
-    let sum : len + 1 + length name ≡ len + (1 + length name) = omega arith in
-    ap (λ (k : ℕ). drop k buf) sum ∙ sym further ∙ ap (drop (1 + length name)) behind ∙ drop-replicate (1 + length name) (4095 - length text) 0 ∙ ap (λ (k : ℕ). replicate k 0) count in
-    let e : new ≡ padded_path whole = two ∙ ap (λ (t : List ℕ). t ++ drop (len + 1 + length name) buf) joined ∙ ap (λ (t : List ℕ). whole ++ t) zeros in
-    let p = pushed text name h.canonical n in
-    let stored = path_stored whole new p.canonical (omega (arith, size)) e in
-    (subst (λ (k : ℕ). IsPathStored new k) size stored, ap (λ (k : ℕ). take k new) (sym size) ∙ ap (take (length whole)) e ∙ take_at whole (replicate (4095 - length whole) 0) (length whole) refl)
 
 joined : (x y : List ℕ) (xs ys : List (List ℕ)) → x ≡ y → xs ≡ ys → ◌≡◌ {A = List (List ℕ)} (x ∷ xs) (y ∷ ys)
 joined x y xs ys h g = cc

@@ -3,7 +3,6 @@ pub mod Limits
 pub mod Name
 pub mod NameInside
 pub mod Path
-pub mod PathInside
-pub mod PathSteps
+pub mod PathFaults
 pub mod PeerGroups
 pub mod Trigger

@@ -1,5 +1,5 @@
 -- What an absolute path is, its names, and its canonical text.
-use Rattle.std.specs.Prelude.{◌≡◌, ℕ, ◌-◌, ◌≤◌, Bool, true, false, not, ◌&&◌, ◌==◌, nat_lt, List, [], ◌∷◌, ◌++◌, length, take, replicate, Result, Ok, Err, if◌then◌else◌}
+use Rattle.std.specs.Prelude.{◌≡◌, ℕ, Bool, true, false, not, ◌&&◌, ◌==◌, nat_lt, List, [], ◌∷◌, ◌++◌, length, Result, Ok, Err, if◌then◌else◌}
 use Rattle.std.specs.List.{slice_split, filter, list_all}
 use Rattle.std.specs.Str.{bytes_eq}
 use Rattle.am_names.specs.declared.errno.Errno.{Errno}
@@ -55,14 +55,3 @@ same_names (name ∷ names) (other ∷ others) = bytes_eq name other && same_nam
 pub record IsCanonical (text : List ℕ) : Type 0 where
   pub spelled : text ≡ text_of (names_of text)
   pub named : list_all is_name (names_of text) ≡ true
-
--- a text and zeros behind it, 4,095 bytes in all
-abbrev pub padded_path : List ℕ → List ℕ
-padded_path text = text ++ replicate (4095 - length text) 0
-
--- the buffer has a canonical text of this length, and zeros behind it
-pub record IsPathStored (buf : List ℕ) (len : ℕ) : Type 0 where
-  pub long : length buf ≡ 4095
-  pub short : len ≤ 4095
-  pub canonical : IsCanonical (take len buf)
-  pub zeros : buf ≡ padded_path (take len buf)

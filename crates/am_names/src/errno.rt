@@ -8,7 +8,7 @@ use std::alloc::{AllocError, AllocFailed};
 use thiserror::Error;
 
 /// The errors of all calls. The first nine are those of errno(3); the numbers are this project's.
-#[derive(Clone, Copy, Debug, PartialEq, Eq, Hash, Error)]
+#[derive(Clone, Copy, Debug, PartialEq, Error)]
 pub enum Errno {
     /// No such path, namespace, directory or mount.
     #[error("ENOENT")]

@@ -25,6 +25,3 @@ pub use row::{GroupRow, MemberRow, MountRow, OpenToken, Position, TokenKind, Wai
 pub use text::split_first_name;
 pub use trigger::{PipeState, Status, Trigger};
 pub use waiters::Waiters;
-
-#[cfg(test)]
-mod tests;

@@ -5,7 +5,7 @@ ghost use Rattle.am_names.specs.Limits.{IsInRange, is_in_range};
 
 /// The greatest mount number, the most waits at one time, the greatest token.
 /// Going past one is ENOSPC.
-#[derive(Clone, Copy, Debug, PartialEq, Eq, Hash)]
+#[derive(Clone, Copy, Debug, PartialEq)]
 pub struct Limits {
     /// 1 to 4,294,967,295.
     pub mounts: u32,

@@ -70,7 +70,7 @@ impl Name {
 }
 
 /// Whether the bytes are a name.
-fn is_name(bytes: &[u8]) -> bool
+pub(crate) fn is_name(bytes: &[u8]) -> bool
     ensures { result ≡ is_name bytes.now }
 {
     if bytes.is_empty() || bytes.len() > 255 || is_dots(bytes) {

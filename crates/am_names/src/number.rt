@@ -3,7 +3,7 @@
 use std::marker::Model;
 
 /// A mount. The numbers rise from 1 and none is used again.
-#[derive(Clone, Copy, Debug, PartialEq, Eq, PartialOrd, Ord, Hash)]
+#[derive(Clone, Copy, Debug, PartialEq, Eq, PartialOrd)]
 pub struct MountId(pub u64);
 
 impl Model for MountId {
@@ -17,7 +17,7 @@ impl Model for MountId {
 }
 
 /// A peer group (sharedsubtree.rst, 5a). The numbers rise from 1.
-#[derive(Clone, Copy, Debug, PartialEq, Eq, PartialOrd, Ord, Hash)]
+#[derive(Clone, Copy, Debug, PartialEq, Eq, PartialOrd)]
 pub struct GroupId(pub u64);
 
 impl Model for GroupId {
@@ -31,7 +31,7 @@ impl Model for GroupId {
 }
 
 /// A mount namespace. The numbers rise from 0.
-#[derive(Clone, Copy, Debug, PartialEq, Eq, PartialOrd, Ord, Hash)]
+#[derive(Clone, Copy, Debug, PartialEq)]
 pub struct NsId(pub u32);
 
 impl Model for NsId {
@@ -45,7 +45,7 @@ impl Model for NsId {
 }
 
 /// A file system. The numbers rise from 1.
-#[derive(Clone, Copy, Debug, PartialEq, Eq, PartialOrd, Ord, Hash)]
+#[derive(Clone, Copy, Debug, PartialEq, Eq, Hash)]
 pub struct FsId(pub u32);
 
 impl Model for FsId {
@@ -59,7 +59,7 @@ impl Model for FsId {
 }
 
 /// A `wait_queue_token` (auto_fs.h). The numbers rise from 1 over all file systems.
-#[derive(Clone, Copy, Debug, PartialEq, Eq, PartialOrd, Ord, Hash)]
+#[derive(Clone, Copy, Debug, PartialEq, Eq)]
 pub struct Token(pub u32);
 
 impl Model for Token {
@@ -74,7 +74,7 @@ impl Model for Token {
 
 /// An attachment of the daemon to an autofs: what the pipe and the daemon's process group
 /// are in Linux. The numbers rise from 1.
-#[derive(Clone, Copy, Debug, PartialEq, Eq, PartialOrd, Ord, Hash)]
+#[derive(Clone, Copy, Debug, PartialEq)]
 pub struct Attach(pub u32);
 
 impl Model for Attach {
@@ -88,7 +88,7 @@ impl Model for Attach {
 }
 
 /// A process that walks paths.
-#[derive(Clone, Copy, Debug, PartialEq, Eq, PartialOrd, Ord, Hash)]
+#[derive(Clone, Copy, Debug, PartialEq, PartialOrd)]
 pub struct WalkerId(pub u32);
 
 impl Model for WalkerId {
@@ -102,7 +102,7 @@ impl Model for WalkerId {
 }
 
 /// What the daemon does for a packet: it has the number of the packet's token.
-#[derive(Clone, Copy, Debug, PartialEq, Eq, PartialOrd, Ord, Hash)]
+#[derive(Clone, Copy, Debug, PartialEq)]
 pub struct JobId(pub u32);
 
 impl Model for JobId {
@@ -116,7 +116,7 @@ impl Model for JobId {
 }
 
 /// A moment, in whole seconds.
-#[derive(Clone, Copy, Debug, PartialEq, Eq, PartialOrd, Ord, Hash)]
+#[derive(Clone, Copy, Debug, PartialEq, PartialOrd)]
 pub struct Seconds(pub u64);
 
 impl Model for Seconds {

@@ -1,120 +1,152 @@
 //! Absolute paths.
 
-ghost use Rattle.std.specs.Prelude.{◌≡◌, ◌≤◌, ◌+◌, ◌∷◌, ◌++◌, [], false, length, take, drop, position, IfNone, IfSome, IfErr, OnOk};
-ghost use Rattle.am_names.specs.Path.{path_read, parts_of, names_of, text_of, is_slash, begins_with_slash, IsCanonical};
-ghost use Rattle.am_names.specs.PathSteps.{part_taken};
+ghost use Rattle.std.specs.Prelude.{◌≡◌, ◌≤◌, ◌+◌, ◌∷◌, ◌++◌, [], false, length, position, IsTrue, IfNone, IfSome, IfErr, IfOk};
+ghost use Rattle.am_names.specs.Path.{path_read, parts_of, names_of, is_slash, begins_with_slash, IsCanonical};
+ghost use Rattle.am_names.specs.PathFaults.{part_fault, first_fault, name_fault, AreNames};
+ghost use Rattle.am_names.specs.Name.{is_name};
 
 use crate::errno::Errno;
-use crate::name::Name;
+use crate::name::{Name, is_name};
+use crate::place::Place;
+use std::alloc::{AllocError, Global};
 use std::marker::Model;
 
-/// An absolute path: the names below a namespace's root. Its text has at most 4,095 bytes,
-/// and it takes no memory.
-#[derive(Clone, Copy, PartialEq, Eq, Hash, Debug)]
-pub struct AbsPath {
-    buf: [u8; 4095],
-    len: u16,
+/// An absolute path: the names below a namespace's root. It borrows the text that was read, with
+/// its doubled and trailing slashes, and takes no memory. A `Place` is the path that owns its text.
+#[derive(Debug, Drop)]
+pub struct AbsPath<'a> {
+    text: &'a [u8],
 }
 
-impl Model for AbsPath {
-    ghost use Rattle.std.specs.Prelude.{ℕ, List, take};
-    ghost use Rattle.am_names.specs.Path.{names_of, IsPathStored};
+impl<'a> Model for AbsPath<'a> {
+    ghost use Rattle.std.specs.Prelude.{ℕ, List};
+    ghost use Rattle.am_names.specs.Path.{names_of};
+    ghost use Rattle.am_names.specs.PathFaults.{AreNames};
 
     ghost Value = { List (List ℕ) };
 
-    ghost use Rattle.am_names.specs.PathInside.{inside_of, stored_back};
+    ghost view = { λ p. names_of p.text.now };
 
-    ghost view = { λ p. names_of (take p.len p.buf) };
-
-    // The bytes behind the text are zero, so that equal paths are equal bytes.
-    ghost invariant = { λ p. IsPathStored p.buf p.len };
-
-    ghost inverse = { inside_of };
-
-    ghost inverse_ok = { stored_back };
+    // A first slash isn't asked for: what stands behind a first name is a path too.
+    ghost invariant = { λ p. AreNames p.text.now };
 }
 
-impl AbsPath {
-    /// The path that these bytes spell. Slashes that follow one another count as one.
-    pub fn read(bytes: &[u8]) -> Result<AbsPath, Errno>
+impl<'a> AbsPath<'a> {
+    /// The path that these bytes spell, at most 4,095 of them. Slashes that follow one another
+    /// count as one.
+    pub fn read(bytes: &'a [u8]) -> Result<AbsPath<'a>, Errno>
         ensures { result ≡ path_read bytes.now }
     {
-        let Some(mut rest) = below_root(bytes) else {
+        if !begins_with_slash(bytes) {
             return Err(Errno::EINVAL);
-        };
+        }
         if bytes.len() > 4095 {
             return Err(Errno::ENAMETOOLONG);
         }
-        let mut path = AbsPath::root();
-        while let Some((part, others)) = cut_at_slash(rest) {
-            path.take_part(part)?;
-            rest = others;
+        if let Some(errno) = first_fault(bytes) {
+            return Err(errno);
         }
-        path.take_part(rest)?;
-        Ok(path)
+        Ok(AbsPath { text: bytes })
     }
 
     /// The root itself.
-    pub fn root() -> AbsPath
+    pub fn root() -> AbsPath<'a>
         ensures { result ≡ [] }
     {
-        AbsPath {
-            buf: [0; 4095],
-            len: 0,
+        AbsPath { text: b"/" }
+    }
+
+    /// The path of a canonical text, as `Place::text` lends it.
+    pub fn of(text: &'a [u8]) -> AbsPath<'a>
+        requires { IsCanonical text.now }
+        ensures { result ≡ names_of text.now }
+    {
+        AbsPath { text }
+    }
+
+    /// The same path once more, which borrows the same text.
+    pub fn copy(&self) -> AbsPath<'a>
+        ensures { result ≡ self.now }
+    {
+        AbsPath { text: self.text }
+    }
+
+    /// The first name, and the path behind it. The names are taken one after another by
+    /// `while let Some((name, rest)) = path.split_first()`.
+    pub fn split_first(&self) -> Option<(Name, AbsPath<'a>)>
+        ensures none { IfNone result (self.now ≡ []) }
+        ensures some { IfSome result (λ cut. self.now ≡ cut.0 ∷ cut.1) }
+    {
+        let mut rest = self.text;
+        while let Some((part, others)) = cut_at_slash(rest) {
+            if !part.is_empty() {
+                return Some((Name::of(part), AbsPath { text: others }));
+            }
+            rest = others;
         }
-    }
-
-    /// The canonical text: each name behind one slash, nothing for the root.
-    pub fn text(&self) -> &[u8]
-        ensures text { result.now ≡ text_of self.now }
-        ensures names { names_of result.now ≡ self.now }
-        ensures canonical { IsCanonical result.now }
-    {
-        &self.buf[..self.len as usize]
-    }
-
-    /// Takes the next part between slashes: nothing where it is empty, else a name.
-    fn take_part(&mut self, part: &[u8]) -> Result<(), Errno>
-        requires { length (text_of self.old) + 1 + length part.now ≤ 4095 }
-        ensures ok { OnOk result (part_taken self.old part.now ≡ Ok self.new) }
-        ensures err { IfErr result (λ e. part_taken self.old part.now ≡ Err e) }
-        ensures longer { OnOk result (length (text_of self.new) ≤ length (text_of self.old) + 1 + length part.now) }
-    {
-        if !part.is_empty() {
-            let name = Name::read(part)?;
-            self.push(&name);
+        if rest.is_empty() {
+            return None;
         }
-        Ok(())
+        Some((Name::of(rest), AbsPath { text: b"" }))
     }
 
-    fn push(&mut self, name: &Name)
-        requires { length (text_of self.old) + 1 + length name.now ≤ 4095 }
-        ensures { self.new ≡ self.old ++ name.now ∷ [] }
+    /// The path that owns its text, the canonical one, in one allocation.
+    pub fn to_place(&self, alloc: Global) -> Result<Place, AllocError>
+        ensures { IfOk result (λ place. place ≡ self.now) }
     {
-        let at = self.len as usize;
-        let bytes = name.as_bytes();
-        put(&mut self.buf, at, b"/");
-        put(&mut self.buf, at + 1, bytes);
-        self.len += 1 + bytes.len() as u16;
+        let mut place = Place::with_room(alloc, self.text.len() + 1)?;
+        let mut path = self.copy();
+        while let Some((name, rest)) = path.split_first() {
+            place.push(&name)?;
+            path = rest;
+        }
+        Ok(place)
     }
 }
 
-/// Writes bytes at a place.
-fn put(buf: &mut [u8; 4095], at: usize, bytes: &[u8])
-    requires { at + length bytes.now ≤ 4095 }
-    ensures { buf.new ≡ take at buf.old ++ (bytes.now ++ drop (at + length bytes.now) buf.old) }
+/// The first fault among the parts between slashes.
+fn first_fault(bytes: &[u8]) -> Option<Errno>
+    ensures { result ≡ first_fault (parts_of bytes.now) }
 {
-    buf[at..at + bytes.len()].copy_from_slice(bytes);
+    let mut rest = bytes;
+    while let Some((part, others)) = cut_at_slash(rest) {
+        if let Some(errno) = part_fault(part) {
+            return Some(errno);
+        }
+        rest = others;
+    }
+    part_fault(rest)
 }
 
-/// What stands behind the first slash.
-fn below_root(bytes: &[u8]) -> Option<&[u8]>
-    ensures none { IfNone result (begins_with_slash bytes.now ≡ false) }
-    ensures some { IfSome result (λ rest. bytes.now ≡ 47 ∷ rest.now) }
+/// What is wrong with a part: an empty one is passed over.
+fn part_fault(part: &[u8]) -> Option<Errno>
+    ensures { result ≡ part_fault part.now }
+{
+    if part.is_empty() {
+        return None;
+    }
+    name_fault(part)
+}
+
+/// The first test of a name that fails.
+fn name_fault(bytes: &[u8]) -> Option<Errno>
+    ensures { result ≡ name_fault bytes.now }
+{
+    if bytes.len() > 255 {
+        return Some(Errno::ENAMETOOLONG);
+    }
+    if !is_name(bytes) {
+        return Some(Errno::EINVAL);
+    }
+    None
+}
+
+fn begins_with_slash(bytes: &[u8]) -> bool
+    ensures { result ≡ begins_with_slash bytes.now }
 {
     match bytes {
-        [b'/', rest @ ..] => Some(rest),
-        _ => None,
+        [first, ..] => *first == b'/',
+        _ => false,
     }
 }
 

@@ -4,6 +4,7 @@ ghost use Rattle.std.specs.Prelude.{◌≡◌, ◌∷◌, ◌++◌, ◌↔◌, [
 ghost use Rattle.am_names.specs.Path.{IsCanonical, names_of, text_of, same_names};
 
 use crate::name::Name;
+use crate::path::AbsPath;
 use std::alloc::{AllocError, Global};
 use std::marker::Model;
 
@@ -35,7 +36,23 @@ impl Place {
         }
     }
 
-    /// The names of a canonical text, as `AbsPath::text` and `Place::text` lend it.
+    /// The root, with room for a text of so many bytes.
+    pub(crate) fn with_room(alloc: Global, len: usize) -> Result<Place, AllocError>
+        ensures { IfOk result (λ place. place ≡ []) }
+    {
+        Ok(Place {
+            text: Vec::with_capacity(alloc, len)?,
+        })
+    }
+
+    /// The same names as a path that borrows them.
+    pub fn path(&self) -> AbsPath<'_>
+        ensures { result ≡ self.now }
+    {
+        AbsPath::of(self.text())
+    }
+
+    /// The names of a canonical text, as `Place::text` lends it.
     pub fn of(alloc: Global, text: &[u8]) -> Result<Place, AllocError>
         requires { IsCanonical text.now }
         ensures { IfOk result (λ place. place ≡ names_of text.now) }

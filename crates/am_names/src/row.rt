@@ -66,7 +66,7 @@ impl MountRow {
 }
 
 /// The propagation of a mount (sharedsubtree.rst, 5a). A shared mount's master is its group's.
-#[derive(Clone, Copy, Debug, PartialEq, Eq)]
+#[derive(Clone, Copy, PartialEq)]
 pub struct MemberRow {
     pub mount: MountId,
     /// The peer group of a shared mount.
@@ -78,14 +78,14 @@ pub struct MemberRow {
 }
 
 /// A peer group and its master peer group.
-#[derive(Clone, Copy, Debug, PartialEq, Eq)]
+#[derive(Clone, Copy, PartialEq)]
 pub struct GroupRow {
     pub group: GroupId,
     pub master: Option<GroupId>,
 }
 
 /// What the daemon is asked for.
-#[derive(Clone, Copy, Debug, PartialEq, Eq, Hash)]
+#[derive(Clone, Copy, Debug, PartialEq)]
 pub enum TokenKind {
     /// A mount is pending (Linux: AUTOFS_INF_PENDING).
     Missing,
@@ -104,7 +104,7 @@ pub struct OpenToken {
 
 /// A walker that waits, or has not collected its status yet. The token's trigger and kind
 /// stay with it when the token's own row has gone.
-#[derive(Clone, Copy, Debug, PartialEq, Eq)]
+#[derive(Clone, Copy, Debug, PartialEq)]
 pub struct WaitRow {
     pub walker: WalkerId,
     pub token: Token,

@@ -1,5 +1,5 @@
 -- The mounts that come stand behind those that were there.
-use Rattle.std.proofs.Common.{◌≡◌, ◌≤◌, ◌<◌, ◌+◌, ℕ, true, false, List, [], ◌∷◌, ◌++◌, length, refl, ap, ◌∙◌, arith}
+use Rattle.std.proofs.Common.{◌≡◌, ◌≤◌, ◌<◌, ◌+◌, ℕ, suc, true, false, List, [], ◌∷◌, ◌++◌, length, add-one, refl, ap, ◌∙◌, arith}
 use Rattle.std.specs.Prelude.{filter, map, nat_le}
 use Rattle.std.proofs.lemmas.Bool.Decides.{nat_tests}
 use Rattle.std.proofs.lemmas.List.{map-append}
@@ -24,6 +24,13 @@ pub mounted_came : (t : MountTable) (at : Position) (fs : ℕ) (membership : Mem
 mounted_came t at fs membership =
     map-append (λ (r : MountRow). r.mount) t.rows (rows_at t at.place fs (t.last_mount + 1) (t.last_mount + 1) (at.mount ∷ receivers_of t.groups at.mount)) ∙
     ap (λ (xs : List ℕ). all_mounts t ++ xs) (row_numbers t at.place fs (t.last_mount + 1) t.last_mount (at.mount ∷ receivers_of t.groups at.mount))
+
+-- so many numbers are those of the mounts that come
+pub come_made : (t : MountTable) (at last : ℕ) (receivers comes : List ℕ) → last ≡ t.last_mount → receivers ≡ receivers_of t.groups at → comes ≡ numbers_after last (length receivers + 1) → comes ≡ new_mounts t (mounts_made at t)
+come_made t at last receivers comes last_is receivers_are comes_are =
+    comes_are ∙ ap (numbers_after last) (add-one (length receivers)) ∙
+    ap (λ (n : ℕ). numbers_after n (suc (length receivers))) last_is ∙
+    ap (λ (xs : List ℕ). numbers_after t.last_mount (suc (length xs))) receivers_are
 
 -- of rising numbers that are above this one, none counts up to it
 none_up_to : (a low : ℕ) (xs : List ℕ) → a < low → RiseOn low xs → count_up_to a xs ≡ 0

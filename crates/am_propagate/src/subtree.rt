@@ -19,19 +19,9 @@ use std::marker::Model;
 
 mod addition;
 mod joining;
-#[cfg(test)]
-mod memory_tests;
 mod namespace;
-#[cfg(test)]
-mod refusal_tests;
 mod removal;
-#[cfg(test)]
-mod script;
 mod stand_ins;
-#[cfg(test)]
-mod tests;
-#[cfg(test)]
-mod world_tests;
 
 pub use crate::subtree::namespace::NewNamespace;
 

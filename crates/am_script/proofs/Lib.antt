@@ -1,9 +1,12 @@
 pub mod CutLine
+pub mod FirstRead
 pub mod Going
 pub mod HeadSteps
 pub mod Heads
 pub mod IndexLemmas
 pub mod Inputs
+pub mod LineAnswers
+pub mod LineWordsLemmas
 pub mod MapsLemmas
 pub mod Numerals
 pub mod Pieces

@@ -17,6 +17,10 @@ abbrev pub mount_read : List (List ℕ) → Option Event
 mount_read (ns ∷ path ∷ []) = mount_of (u32_read ns) (result_ok (path_read path))
 mount_read words = None
 
+-- the event of a line whose words are these
+abbrev pub mount_event : ℕ × List (List ℕ) → Event
+mount_event words = events.Mount words.0 words.1
+
 abbrev pub bind_of : Option ℕ → Option (List (List ℕ)) → Option (List (List ℕ)) → Option Event
 bind_of (Some ns) (Some from) (Some to) = Some (events.Bind ns from to)
 bind_of ns from to = None
@@ -27,6 +31,9 @@ bind_read (ns ∷ from ∷ to ∷ []) =
     bind_of (u32_read ns) (result_ok (path_read from)) (result_ok (path_read to))
 bind_read words = None
 
+abbrev pub bind_event : ℕ × List (List ℕ) × List (List ℕ) → Event
+bind_event words = events.Bind words.0 words.1 words.2
+
 abbrev pub umount_of : Option ℕ → Option (List (List ℕ)) → Option Event
 umount_of (Some ns) (Some path) = Some (events.Umount ns path)
 umount_of ns path = None
@@ -35,6 +42,9 @@ umount_of ns path = None
 abbrev pub umount_read : List (List ℕ) → Option Event
 umount_read (ns ∷ path ∷ []) = umount_of (u32_read ns) (result_ok (path_read path))
 umount_read words = None
+
+abbrev pub umount_event : ℕ × List (List ℕ) → Event
+umount_event words = events.Umount words.0 words.1
 
 abbrev pub change_of : Option ℕ → Option (List (List ℕ)) → Option Change → Option Event
 change_of (Some ns) (Some path) (Some change) = Some (events.Change ns path change)
@@ -46,6 +56,9 @@ change_line_read (ns ∷ path ∷ kind ∷ []) =
     change_of (u32_read ns) (result_ok (path_read path)) (change_read kind)
 change_line_read words = None
 
+abbrev pub change_event : ℕ × List (List ℕ) × Change → Event
+change_event words = events.Change words.0 words.1 words.2
+
 abbrev pub kind_of : Option ℕ → Option (List (List ℕ)) → Option Event
 kind_of (Some ns) (Some path) = Some (events.Kind ns path)
 kind_of ns path = None
@@ -54,6 +67,9 @@ kind_of ns path = None
 abbrev pub kind_read : List (List ℕ) → Option Event
 kind_read (ns ∷ path ∷ []) = kind_of (u32_read ns) (result_ok (path_read path))
 kind_read words = None
+
+abbrev pub kind_event : ℕ × List (List ℕ) → Event
+kind_event words = events.Kind words.0 words.1
 
 -- `nscopy NS`
 abbrev pub nscopy_read : List (List ℕ) → Option Event

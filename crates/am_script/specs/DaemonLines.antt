@@ -13,6 +13,10 @@ abbrev pub attach_read : List (List ℕ) → Option Event
 attach_read (path ∷ []) = option_map events.Attach (result_ok (path_read path))
 attach_read words = None
 
+-- the event of a line whose path is this
+abbrev pub attach_event : List (List ℕ) → Event
+attach_event path = events.Attach path
+
 abbrev pub deliver_of : Option ℕ → Option (List ℕ) → Option Event
 deliver_of (Some token) (Some bytes) = Some (events.Deliver token (Some bytes))
 deliver_of token bytes = None

@@ -1,5 +1,5 @@
 -- The event that a line spells by its words, if it spells one.
-use Rattle.std.specs.Prelude.{ℕ, List, [], ◌∷◌, Option, None}
+use Rattle.std.specs.Prelude.{◌≡◌, ℕ, true, is_some, List, [], ◌∷◌, Option, None, Result, Ok, Err}
 use Rattle.std.specs.Option.{option_or}
 use Rattle.am_machine.specs.declared.event.Event.{Event}
 use Rattle.am_script.specs.AdministratorLines.{administrator_read}
@@ -13,3 +13,8 @@ event_read (word ∷ words) =
     option_or (administrator_read word words)
     (option_or (walker_read word words)
     (option_or (attachment_read word words) (work_read word words)))
+
+-- the event that is said is read, if there is one; memory may run out where there is one
+abbrev pub ReadAs : {E : Type 0} → Option Event → Result (Option Event) E → Type 0
+ReadAs said (Ok event) = event ≡ said
+ReadAs said (Err e) = is_some said ≡ true

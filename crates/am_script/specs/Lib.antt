@@ -8,6 +8,7 @@ pub mod Head
 pub mod Heading
 pub mod Inside
 pub mod Limits
+pub mod LineWords
 pub mod Lines
 pub mod Maps
 pub mod Numbers

@@ -19,6 +19,10 @@ walk_read (walker ∷ ns ∷ path ∷ now ∷ pipe ∷ []) =
     walk_of (u32_read walker) (u32_read ns) (result_ok (path_read path)) (u64_read now) (pipe_read pipe)
 walk_read words = None
 
+-- the event of a line whose words are these
+abbrev pub walk_event : ℕ × ℕ × List (List ℕ) × ℕ × PipeState → Event
+walk_event words = events.Walk words.0 words.1 words.2 words.3 words.4
+
 abbrev pub resume_of : Option ℕ → Option ℕ → Option PipeState → Option Event
 resume_of (Some walker) (Some now) (Some pipe) = Some (events.Resume walker now pipe)
 resume_of walker now pipe = None

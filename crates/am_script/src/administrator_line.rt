@@ -1,151 +1,175 @@
 //! The lines of what an administrator does.
 
-ghost use Rattle.std.specs.Prelude.{◌≡◌};
+ghost use Rattle.std.specs.Prelude.{◌≡◌, option_map};
 ghost use Rattle.am_lines.specs.Words.{words_of};
-ghost use Rattle.am_script.specs.AdministratorLines.{administrator_read, mount_read, bind_read, umount_read, change_line_read, kind_read, nscopy_read, nsdrop_read, admincat_read};
+ghost use Rattle.am_script.specs.AdministratorLines.{administrator_read, mount_read, mount_event, bind_read, bind_event, umount_read, umount_event, change_line_read, change_event, kind_read, kind_event, nscopy_read, nsdrop_read, admincat_read};
+ghost use Rattle.am_script.specs.Events.{ReadAs};
 
 use crate::event_word::{is_word, read_change};
+use crate::line_words::{only_word, three_words, two_words};
 use crate::number::read_u32;
-use am_lines::next_word;
+use am_group::Change;
 use am_machine::Event;
 use am_names::{AbsPath, FsId, NsId};
+use std::alloc::{AllocError, Global};
 
 /// A line of an administrator, by its first word and what stands behind that.
-pub(crate) fn read_administrator(word: &[u8], words: &[u8]) -> Option<Event>
-    ensures { result ≡ administrator_read word.now (words_of words.now) }
+pub(crate) fn read_administrator(
+    alloc: Global,
+    word: &[u8],
+    words: &[u8],
+) -> Result<Option<Event>, AllocError>
+    ensures { ReadAs (administrator_read word.now (words_of words.now)) result }
 {
     if is_word(word, b"mount") {
-        return read_mount(words);
+        return read_mount(alloc, words);
     }
     if is_word(word, b"bind") {
-        return read_bind(words);
+        return read_bind(alloc, words);
     }
     if is_word(word, b"umount") {
-        return read_umount(words);
+        return read_umount(alloc, words);
     }
     if is_word(word, b"change") {
-        return read_change_line(words);
+        return read_change_line(alloc, words);
     }
     if is_word(word, b"kind") {
-        return read_kind(words);
+        return read_kind(alloc, words);
     }
     if is_word(word, b"nscopy") {
-        return read_nscopy(words);
+        return Ok(read_nscopy(words));
     }
     if is_word(word, b"nsdrop") {
-        return read_nsdrop(words);
+        return Ok(read_nsdrop(words));
     }
     if is_word(word, b"admincat") {
-        return read_admincat(words);
+        return Ok(read_admincat(words));
     }
-    None
+    Ok(None)
 }
 
-fn read_mount(words: &[u8]) -> Option<Event>
-    ensures { result ≡ mount_read (words_of words.now) }
+/// A namespace and a path.
+#[tactic(auto, using(crate::proofs::LineWordsLemmas::no_mount, crate::proofs::LineWordsLemmas::no_umount, crate::proofs::LineWordsLemmas::no_kind))]
+fn path_words(words: &[u8]) -> Option<(NsId, AbsPath<'_>)>
+    ensures mount { option_map mount_event result ≡ mount_read (words_of words.now) }
+    ensures umount { option_map umount_event result ≡ umount_read (words_of words.now) }
+    ensures kind { option_map kind_event result ≡ kind_read (words_of words.now) }
 {
-    let (ns, words) = next_word(words)?;
-    let (path, words) = next_word(words)?;
-    if let Some(_) = next_word(words) {
-        return None;
-    }
-    Some(Event::Mount {
-        ns: NsId(read_u32(ns)?),
-        path: AbsPath::read(path).ok()?,
-    })
+    let (ns, path) = two_words(words)?;
+    Some((NsId(read_u32(ns)?), AbsPath::read(path).ok()?))
 }
 
-fn read_bind(words: &[u8]) -> Option<Event>
-    ensures { result ≡ bind_read (words_of words.now) }
+fn read_mount(alloc: Global, words: &[u8]) -> Result<Option<Event>, AllocError>
+    ensures { ReadAs (mount_read (words_of words.now)) result }
 {
-    let (ns, words) = next_word(words)?;
-    let (from, words) = next_word(words)?;
-    let (to, words) = next_word(words)?;
-    if let Some(_) = next_word(words) {
-        return None;
-    }
-    Some(Event::Bind {
-        ns: NsId(read_u32(ns)?),
-        from: AbsPath::read(from).ok()?,
-        to: AbsPath::read(to).ok()?,
-    })
+    let Some((ns, path)) = path_words(words) else {
+        return Ok(None);
+    };
+    Ok(Some(Event::Mount {
+        ns,
+        path: path.to_place(alloc)?,
+    }))
 }
 
-fn read_umount(words: &[u8]) -> Option<Event>
-    ensures { result ≡ umount_read (words_of words.now) }
+#[tactic(auto, using(crate::proofs::LineWordsLemmas::no_bind))]
+fn bind_words(words: &[u8]) -> Option<(NsId, AbsPath<'_>, AbsPath<'_>)>
+    ensures { option_map bind_event result ≡ bind_read (words_of words.now) }
 {
-    let (ns, words) = next_word(words)?;
-    let (path, words) = next_word(words)?;
-    if let Some(_) = next_word(words) {
-        return None;
-    }
-    Some(Event::Umount {
-        ns: NsId(read_u32(ns)?),
-        path: AbsPath::read(path).ok()?,
-    })
+    let (ns, from, to) = three_words(words)?;
+    Some((
+        NsId(read_u32(ns)?),
+        AbsPath::read(from).ok()?,
+        AbsPath::read(to).ok()?,
+    ))
 }
 
-fn read_change_line(words: &[u8]) -> Option<Event>
-    ensures { result ≡ change_line_read (words_of words.now) }
+fn read_bind(alloc: Global, words: &[u8]) -> Result<Option<Event>, AllocError>
+    ensures { ReadAs (bind_read (words_of words.now)) result }
 {
-    let (ns, words) = next_word(words)?;
-    let (path, words) = next_word(words)?;
-    let (kind, words) = next_word(words)?;
-    if let Some(_) = next_word(words) {
-        return None;
-    }
-    Some(Event::Change {
-        ns: NsId(read_u32(ns)?),
-        path: AbsPath::read(path).ok()?,
-        change: read_change(kind)?,
-    })
+    let Some((ns, from, to)) = bind_words(words) else {
+        return Ok(None);
+    };
+    Ok(Some(Event::Bind {
+        ns,
+        from: from.to_place(alloc)?,
+        to: to.to_place(alloc)?,
+    }))
 }
 
-fn read_kind(words: &[u8]) -> Option<Event>
-    ensures { result ≡ kind_read (words_of words.now) }
+fn read_umount(alloc: Global, words: &[u8]) -> Result<Option<Event>, AllocError>
+    ensures { ReadAs (umount_read (words_of words.now)) result }
 {
-    let (ns, words) = next_word(words)?;
-    let (path, words) = next_word(words)?;
-    if let Some(_) = next_word(words) {
-        return None;
-    }
-    Some(Event::Kind {
-        ns: NsId(read_u32(ns)?),
-        path: AbsPath::read(path).ok()?,
-    })
+    let Some((ns, path)) = path_words(words) else {
+        return Ok(None);
+    };
+    Ok(Some(Event::Umount {
+        ns,
+        path: path.to_place(alloc)?,
+    }))
 }
 
+#[tactic(auto, using(crate::proofs::LineWordsLemmas::no_change_line))]
+fn change_words(words: &[u8]) -> Option<(NsId, AbsPath<'_>, Change)>
+    ensures { option_map change_event result ≡ change_line_read (words_of words.now) }
+{
+    let (ns, path, kind) = three_words(words)?;
+    Some((
+        NsId(read_u32(ns)?),
+        AbsPath::read(path).ok()?,
+        read_change(kind)?,
+    ))
+}
+
+fn read_change_line(alloc: Global, words: &[u8]) -> Result<Option<Event>, AllocError>
+    ensures { ReadAs (change_line_read (words_of words.now)) result }
+{
+    let Some((ns, path, change)) = change_words(words) else {
+        return Ok(None);
+    };
+    Ok(Some(Event::Change {
+        ns,
+        path: path.to_place(alloc)?,
+        change,
+    }))
+}
+
+fn read_kind(alloc: Global, words: &[u8]) -> Result<Option<Event>, AllocError>
+    ensures { ReadAs (kind_read (words_of words.now)) result }
+{
+    let Some((ns, path)) = path_words(words) else {
+        return Ok(None);
+    };
+    Ok(Some(Event::Kind {
+        ns,
+        path: path.to_place(alloc)?,
+    }))
+}
+
+#[tactic(auto, using(crate::proofs::LineWordsLemmas::no_nscopy))]
 fn read_nscopy(words: &[u8]) -> Option<Event>
     ensures { result ≡ nscopy_read (words_of words.now) }
 {
-    let (ns, words) = next_word(words)?;
-    if let Some(_) = next_word(words) {
-        return None;
-    }
+    let ns = only_word(words)?;
     Some(Event::CopyNamespace {
         ns: NsId(read_u32(ns)?),
     })
 }
 
+#[tactic(auto, using(crate::proofs::LineWordsLemmas::no_nsdrop))]
 fn read_nsdrop(words: &[u8]) -> Option<Event>
     ensures { result ≡ nsdrop_read (words_of words.now) }
 {
-    let (ns, words) = next_word(words)?;
-    if let Some(_) = next_word(words) {
-        return None;
-    }
+    let ns = only_word(words)?;
     Some(Event::DropNamespace {
         ns: NsId(read_u32(ns)?),
     })
 }
 
+#[tactic(auto, using(crate::proofs::LineWordsLemmas::no_admincat))]
 fn read_admincat(words: &[u8]) -> Option<Event>
     ensures { result ≡ admincat_read (words_of words.now) }
 {
-    let (fs, words) = next_word(words)?;
-    if let Some(_) = next_word(words) {
-        return None;
-    }
+    let fs = only_word(words)?;
     Some(Event::AdminCatatonic {
         fs: FsId(read_u32(fs)?),
     })

@@ -1,14 +1,17 @@
 //! The lines of what the daemon does.
 
-ghost use Rattle.std.specs.Prelude.{◌≡◌};
+ghost use Rattle.std.specs.Prelude.{◌≡◌, option_map};
 ghost use Rattle.am_lines.specs.Words.{words_of};
-ghost use Rattle.am_script.specs.DaemonLines.{attachment_read, work_read, attach_read, deliver_read, act_read, repeat_read, catatonic_read, timeout_read, die_read, reattach_read, record_read};
+ghost use Rattle.am_script.specs.DaemonLines.{attachment_read, work_read, attach_read, attach_event, deliver_read, act_read, repeat_read, catatonic_read, timeout_read, die_read, reattach_read, record_read};
+ghost use Rattle.am_script.specs.Events.{ReadAs};
 
 use crate::event_word::{is_word, read_outcome, read_status, read_trigger_name};
+use crate::line_words::{only_word, three_words, two_words};
 use crate::number::{read_packet, read_u32};
 use am_lines::next_word;
 use am_machine::Event;
 use am_names::{AbsPath, Attach, FsId, JobId, Token, Trigger};
+use std::alloc::{AllocError, Global};
 
 /// A line of the daemon's work, by its first word and what stands behind that.
 pub(crate) fn read_work(word: &[u8], words: &[u8]) -> Option<Event>
@@ -30,37 +33,47 @@ pub(crate) fn read_work(word: &[u8], words: &[u8]) -> Option<Event>
 }
 
 /// A line of the daemon's attachments, in the same form.
-pub(crate) fn read_attachment(word: &[u8], words: &[u8]) -> Option<Event>
-    ensures { result ≡ attachment_read word.now (words_of words.now) }
+pub(crate) fn read_attachment(
+    alloc: Global,
+    word: &[u8],
+    words: &[u8],
+) -> Result<Option<Event>, AllocError>
+    ensures { ReadAs (attachment_read word.now (words_of words.now)) result }
 {
     if is_word(word, b"attach") {
-        return read_attach(words);
+        return read_attach(alloc, words);
     }
     if is_word(word, b"catatonic") {
-        return read_catatonic(words);
+        return Ok(read_catatonic(words));
     }
     if is_word(word, b"timeout") {
-        return read_timeout(words);
+        return Ok(read_timeout(words));
     }
     if is_word(word, b"die") {
-        return read_die(words);
+        return Ok(read_die(words));
     }
     if is_word(word, b"reattach") {
-        return read_reattach(words);
+        return Ok(read_reattach(words));
     }
-    None
+    Ok(None)
 }
 
-fn read_attach(words: &[u8]) -> Option<Event>
-    ensures { result ≡ attach_read (words_of words.now) }
+#[tactic(auto, using(crate::proofs::LineWordsLemmas::no_attach))]
+fn attach_words(words: &[u8]) -> Option<AbsPath<'_>>
+    ensures { option_map attach_event result ≡ attach_read (words_of words.now) }
 {
-    let (path, words) = next_word(words)?;
-    if let Some(_) = next_word(words) {
-        return None;
-    }
-    Some(Event::Attach {
-        path: AbsPath::read(path).ok()?,
-    })
+    AbsPath::read(only_word(words)?).ok()
+}
+
+fn read_attach(alloc: Global, words: &[u8]) -> Result<Option<Event>, AllocError>
+    ensures { ReadAs (attach_read (words_of words.now)) result }
+{
+    let Some(path) = attach_words(words) else {
+        return Ok(None);
+    };
+    Ok(Some(Event::Attach {
+        path: path.to_place(alloc)?,
+    }))
 }
 
 fn read_deliver(words: &[u8]) -> Option<Event>
@@ -82,29 +95,22 @@ fn read_deliver(words: &[u8]) -> Option<Event>
     })
 }
 
+#[tactic(auto, using(crate::proofs::LineWordsLemmas::no_act))]
 fn read_act(words: &[u8]) -> Option<Event>
     ensures { result ≡ act_read (words_of words.now) }
 {
-    let (job, words) = next_word(words)?;
-    let (outcome, words) = next_word(words)?;
-    if let Some(_) = next_word(words) {
-        return None;
-    }
+    let (job, outcome) = two_words(words)?;
     Some(Event::Act {
         job: JobId(read_u32(job)?),
         ok: read_outcome(outcome)?,
     })
 }
 
+#[tactic(auto, using(crate::proofs::LineWordsLemmas::no_repeat))]
 fn read_repeat(words: &[u8]) -> Option<Event>
     ensures { result ≡ repeat_read (words_of words.now) }
 {
-    let (attach, words) = next_word(words)?;
-    let (token, words) = next_word(words)?;
-    let (status, words) = next_word(words)?;
-    if let Some(_) = next_word(words) {
-        return None;
-    }
+    let (attach, token, status) = three_words(words)?;
     Some(Event::Repeat {
         attach: Attach(read_u32(attach)?),
         token: Token(read_u32(token)?),
@@ -112,29 +118,22 @@ fn read_repeat(words: &[u8]) -> Option<Event>
     })
 }
 
+#[tactic(auto, using(crate::proofs::LineWordsLemmas::no_catatonic))]
 fn read_catatonic(words: &[u8]) -> Option<Event>
     ensures { result ≡ catatonic_read (words_of words.now) }
 {
-    let (attach, words) = next_word(words)?;
-    let (fs, words) = next_word(words)?;
-    if let Some(_) = next_word(words) {
-        return None;
-    }
+    let (attach, fs) = two_words(words)?;
     Some(Event::Catatonic {
         attach: Attach(read_u32(attach)?),
         fs: FsId(read_u32(fs)?),
     })
 }
 
+#[tactic(auto, using(crate::proofs::LineWordsLemmas::no_timeout))]
 fn read_timeout(words: &[u8]) -> Option<Event>
     ensures { result ≡ timeout_read (words_of words.now) }
 {
-    let (attach, words) = next_word(words)?;
-    let (fs, words) = next_word(words)?;
-    let (seconds, words) = next_word(words)?;
-    if let Some(_) = next_word(words) {
-        return None;
-    }
+    let (attach, fs, seconds) = three_words(words)?;
     Some(Event::Timeout {
         attach: Attach(read_u32(attach)?),
         fs: FsId(read_u32(fs)?),
@@ -151,26 +150,21 @@ fn read_die(words: &[u8]) -> Option<Event>
     Some(Event::Die)
 }
 
+#[tactic(auto, using(crate::proofs::LineWordsLemmas::no_reattach))]
 fn read_reattach(words: &[u8]) -> Option<Event>
     ensures { result ≡ reattach_read (words_of words.now) }
 {
-    let (fs, words) = next_word(words)?;
-    if let Some(_) = next_word(words) {
-        return None;
-    }
+    let fs = only_word(words)?;
     Some(Event::Reattach {
         fs: FsId(read_u32(fs)?),
     })
 }
 
+#[tactic(auto, using(crate::proofs::LineWordsLemmas::no_record))]
 fn read_record(words: &[u8]) -> Option<Event>
     ensures { result ≡ record_read (words_of words.now) }
 {
-    let (fs, words) = next_word(words)?;
-    let (name, words) = next_word(words)?;
-    if let Some(_) = next_word(words) {
-        return None;
-    }
+    let (fs, name) = two_words(words)?;
     Some(Event::Record {
         trigger: Trigger {
             fs: FsId(read_u32(fs)?),

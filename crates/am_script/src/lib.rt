@@ -12,6 +12,7 @@ mod heading;
 mod input;
 mod limits;
 mod line;
+mod line_words;
 mod maps;
 mod number;
 mod output;

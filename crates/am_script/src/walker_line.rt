@@ -1,63 +1,74 @@
 //! The lines of what walkers do.
 
-ghost use Rattle.std.specs.Prelude.{◌≡◌};
+ghost use Rattle.std.specs.Prelude.{◌≡◌, option_map};
 ghost use Rattle.am_lines.specs.Words.{words_of};
-ghost use Rattle.am_script.specs.WalkerLines.{walker_read, walk_read, resume_read, leave_read, expire_read};
+ghost use Rattle.am_script.specs.WalkerLines.{walker_read, walk_read, walk_event, resume_read, leave_read, expire_read};
+ghost use Rattle.am_script.specs.Events.{ReadAs};
 
 use crate::event_word::{is_word, read_immediate, read_pipe};
+use crate::line_words::{five_words, only_word, three_words};
 use crate::number::{read_u32, read_u64};
-use am_lines::next_word;
 use am_machine::Event;
-use am_names::{AbsPath, FsId, NsId, Seconds, WalkerId};
+use am_names::{AbsPath, FsId, NsId, PipeState, Seconds, WalkerId};
+use std::alloc::{AllocError, Global};
 
 /// A line of a walker, by its first word and what stands behind that.
-pub(crate) fn read_walker(word: &[u8], words: &[u8]) -> Option<Event>
-    ensures { result ≡ walker_read word.now (words_of words.now) }
+pub(crate) fn read_walker(
+    alloc: Global,
+    word: &[u8],
+    words: &[u8],
+) -> Result<Option<Event>, AllocError>
+    ensures { ReadAs (walker_read word.now (words_of words.now)) result }
 {
     if is_word(word, b"walk") {
-        return read_walk(words);
+        return read_walk(alloc, words);
     }
     if is_word(word, b"resume") {
-        return read_resume(words);
+        return Ok(read_resume(words));
     }
     if is_word(word, b"leave") {
-        return read_leave(words);
+        return Ok(read_leave(words));
     }
     if is_word(word, b"expire") {
-        return read_expire(words);
+        return Ok(read_expire(words));
     }
-    None
+    Ok(None)
 }
 
-fn read_walk(words: &[u8]) -> Option<Event>
-    ensures { result ≡ walk_read (words_of words.now) }
+#[tactic(auto, using(crate::proofs::LineWordsLemmas::no_walk))]
+fn walk_words(words: &[u8]) -> Option<(WalkerId, NsId, AbsPath<'_>, Seconds, PipeState)>
+    ensures { option_map walk_event result ≡ walk_read (words_of words.now) }
 {
-    let (walker, words) = next_word(words)?;
-    let (ns, words) = next_word(words)?;
-    let (path, words) = next_word(words)?;
-    let (now, words) = next_word(words)?;
-    let (pipe, words) = next_word(words)?;
-    if let Some(_) = next_word(words) {
-        return None;
-    }
-    Some(Event::Walk {
-        walker: WalkerId(read_u32(walker)?),
-        ns: NsId(read_u32(ns)?),
-        path: AbsPath::read(path).ok()?,
-        now: Seconds(read_u64(now)?),
-        pipe: read_pipe(pipe)?,
-    })
+    let (walker, ns, path, now, pipe) = five_words(words)?;
+    Some((
+        WalkerId(read_u32(walker)?),
+        NsId(read_u32(ns)?),
+        AbsPath::read(path).ok()?,
+        Seconds(read_u64(now)?),
+        read_pipe(pipe)?,
+    ))
 }
 
+fn read_walk(alloc: Global, words: &[u8]) -> Result<Option<Event>, AllocError>
+    ensures { ReadAs (walk_read (words_of words.now)) result }
+{
+    let Some((walker, ns, path, now, pipe)) = walk_words(words) else {
+        return Ok(None);
+    };
+    Ok(Some(Event::Walk {
+        walker,
+        ns,
+        path: path.to_place(alloc)?,
+        now,
+        pipe,
+    }))
+}
+
+#[tactic(auto, using(crate::proofs::LineWordsLemmas::no_resume))]
 fn read_resume(words: &[u8]) -> Option<Event>
     ensures { result ≡ resume_read (words_of words.now) }
 {
-    let (walker, words) = next_word(words)?;
-    let (now, words) = next_word(words)?;
-    let (pipe, words) = next_word(words)?;
-    if let Some(_) = next_word(words) {
-        return None;
-    }
+    let (walker, now, pipe) = three_words(words)?;
     Some(Event::Resume {
         walker: WalkerId(read_u32(walker)?),
         now: Seconds(read_u64(now)?),
@@ -65,29 +76,21 @@ fn read_resume(words: &[u8]) -> Option<Event>
     })
 }
 
+#[tactic(auto, using(crate::proofs::LineWordsLemmas::no_leave))]
 fn read_leave(words: &[u8]) -> Option<Event>
     ensures { result ≡ leave_read (words_of words.now) }
 {
-    let (walker, words) = next_word(words)?;
-    if let Some(_) = next_word(words) {
-        return None;
-    }
+    let walker = only_word(words)?;
     Some(Event::Leave {
         walker: WalkerId(read_u32(walker)?),
     })
 }
 
+#[tactic(auto, using(crate::proofs::LineWordsLemmas::no_expire))]
 fn read_expire(words: &[u8]) -> Option<Event>
     ensures { result ≡ expire_read (words_of words.now) }
 {
-    let (walker, words) = next_word(words)?;
-    let (fs, words) = next_word(words)?;
-    let (now, words) = next_word(words)?;
-    let (how, words) = next_word(words)?;
-    let (pipe, words) = next_word(words)?;
-    if let Some(_) = next_word(words) {
-        return None;
-    }
+    let (walker, fs, now, how, pipe) = five_words(words)?;
     Some(Event::Expire {
         walker: WalkerId(read_u32(walker)?),
         fs: FsId(read_u32(fs)?),

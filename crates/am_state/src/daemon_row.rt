@@ -3,7 +3,7 @@
 use am_names::{Attach, FsId, MountId, Place, Token, Trigger};
 
 /// What the daemon's book says of a trigger.
-#[derive(Clone, Copy, Debug, PartialEq, Eq)]
+#[derive(Clone, Copy, PartialEq, Eq)]
 pub enum Record {
     /// It mounts, for this token.
     Mounting { token: Token },
@@ -14,21 +14,21 @@ pub enum Record {
 }
 
 /// A record of the book.
-#[derive(Clone, Copy, Debug)]
+#[derive(Clone, Copy)]
 pub struct RecordRow {
     pub trigger: Trigger,
     pub entry: Record,
 }
 
 /// A file system that the daemon was ever attached to, and at which point.
-#[derive(Debug, Drop)]
+#[derive(Drop)]
 pub struct KnownRow {
     pub fs: FsId,
     pub path: Place,
 }
 
 /// An attachment that the daemon holds.
-#[derive(Clone, Copy, Debug)]
+#[derive(Clone, Copy)]
 pub struct HeldRow {
     pub fs: FsId,
     pub attach: Attach,

@@ -5,7 +5,7 @@ use am_names::{Attach, FsId, MountId, Mounts, Status, Token, Trigger, WalkerId};
 use am_wire::Packet;
 
 /// One observation. A trace is a list of them.
-#[derive(Debug, Drop)]
+#[derive(Drop)]
 pub enum Obs {
     /// A packet was queued for the daemon.
     Queued {

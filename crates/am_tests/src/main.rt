@@ -3,23 +3,7 @@
 #![tactic(auto)]
 
 #[cfg(test)]
-mod head_faults;
-#[cfg(test)]
-mod heads;
-#[cfg(test)]
-mod lines;
-#[cfg(test)]
-mod positions;
-#[cfg(test)]
-mod refused;
-#[cfg(test)]
-mod shared_worlds;
-#[cfg(test)]
 mod tests;
-#[cfg(test)]
-mod traces;
-#[cfg(test)]
-mod worlds;
 
 use am_script::run_script;
 use anyhow::Result;

@@ -13,8 +13,6 @@ use std::alloc::Global;
 use std::marker::Model;
 
 mod last_uses;
-#[cfg(test)]
-mod tests;
 
 /// Each autofs, the directories that the daemon made, and when each trigger was last used
 /// (autofs.rst, "Content" and "Mountpoint expiry").

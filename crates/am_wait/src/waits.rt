@@ -13,8 +13,6 @@ use std::alloc::{AllocError, Global};
 use std::marker::Model;
 
 mod again;
-#[cfg(test)]
-mod tests;
 
 /// The open tokens with their waiters, and for each walker that waits, or has not collected its
 /// status yet, its wait (Linux: the wait queues of an autofs).

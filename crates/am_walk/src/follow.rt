@@ -2,7 +2,6 @@
 
 ghost use Rattle.std.specs.Prelude.{◌≡◌, [], None, Some, Ok, IfOk};
 ghost use Rattle.am_names.specs.Errno.{RefusedAs};
-ghost use Rattle.am_names.specs.Path.{IsCanonical, names_of};
 ghost use Rattle.am_walk.specs.Inside.{scene_in, walked_of, left_of, settled_at};
 ghost use Rattle.am_walk.specs.Laws.{IsOrderly, RestsAt};
 ghost use Rattle.am_walk.specs.Scene.{with_traps, without_traps};
@@ -10,14 +9,11 @@ ghost use Rattle.am_walk.specs.Walks.{onward, ended, walk_of, position_of, fault
 
 use crate::scene::{View, has_names};
 use crate::stop::{Next, Stop, Walk};
-use am_names::{AbsPath, Errno, MountId, Name, NsId, Place, Position, Trigger, split_first_name};
+use am_names::{AbsPath, Errno, MountId, Name, NsId, Place, Position, Trigger};
 use am_propagate::Subtree;
 use am_trigger::Triggers;
 use am_wait::Waits;
 use std::alloc::{AllocError, Global};
-
-#[cfg(test)]
-mod tests;
 
 /// Where a walk stands, and the triggers that it passed on its way.
 #[derive(Drop)]
@@ -96,10 +92,9 @@ impl View<'_> {
         self.settle(alloc, at)
     }
 
-    /// A walk from the root of a namespace along the names of a canonical text.
-    pub fn walk(&self, alloc: Global, ns: NsId, path: &[u8]) -> Result<Walk, AllocError>
-        requires { IsCanonical path.now }
-        ensures { IfOk result (λ walk. walked_of walk ≡ walk_of (scene_in self.now) ns (names_of path.now)) }
+    /// A walk from the root of a namespace along a path.
+    pub fn walk(&self, alloc: Global, ns: NsId, path: &AbsPath<'_>) -> Result<Walk, AllocError>
+        ensures { IfOk result (λ walk. walked_of walk ≡ walk_of (scene_in self.now) ns path.now) }
     {
         let Some(root) = self.tree.root_of(ns) else {
             return Ok(Walk {
@@ -111,8 +106,8 @@ impl View<'_> {
         if let Some(stop) = self.settle(alloc, &mut at)? {
             return Ok(at.stopped(stop));
         }
-        let mut rest = path;
-        while let Some((name, others)) = split_first_name(rest) {
+        let mut rest = path.copy();
+        while let Some((name, others)) = rest.split_first() {
             if let Some(stop) = self.step(alloc, &mut at, &name)? {
                 return Ok(at.stopped(stop));
             }
@@ -130,26 +125,9 @@ pub fn resolve<'a>(
     triggers: &'a Triggers,
     waits: &'a Waits,
     ns: NsId,
-    path: &AbsPath,
+    path: &AbsPath<'_>,
 ) -> Result<Walk, AllocError>
     ensures walk { IfOk result (λ walk. walked_of walk ≡ walk_of (with_traps subtree.now triggers.now.rows waits.now) ns path.now) }
-    ensures orderly { IfOk result (λ walk. IsOrderly waits.now.tokens (walked_of walk)) }
-    ensures rests { IfOk result (λ walk. RestsAt (with_traps subtree.now triggers.now.rows waits.now) walk.stop) }
-{
-    resolve_text(alloc, subtree, triggers, waits, ns, path.text())
-}
-
-/// The same along the names of a canonical text, as `Place::text` lends it.
-pub fn resolve_text<'a>(
-    alloc: Global,
-    subtree: &'a Subtree,
-    triggers: &'a Triggers,
-    waits: &'a Waits,
-    ns: NsId,
-    path: &[u8],
-) -> Result<Walk, AllocError>
-    requires { IsCanonical path.now }
-    ensures walk { IfOk result (λ walk. walked_of walk ≡ walk_of (with_traps subtree.now triggers.now.rows waits.now) ns (names_of path.now)) }
     ensures orderly { IfOk result (λ walk. IsOrderly waits.now.tokens (walked_of walk)) }
     ensures rests { IfOk result (λ walk. RestsAt (with_traps subtree.now triggers.now.rows waits.now) walk.stop) }
 {
@@ -167,7 +145,7 @@ pub fn position<'a>(
     subtree: &'a Subtree,
     triggers: &'a Triggers,
     ns: NsId,
-    path: &AbsPath,
+    path: &AbsPath<'_>,
 ) -> Result<Position, Errno>
     ensures refusal { RefusedAs (fault_of (position_of (without_traps subtree.now triggers.now.rows) ns path.now)) result }
     ensures ok { IfOk result (λ at. position_of (without_traps subtree.now triggers.now.rows) ns path.now ≡ Ok at) }
@@ -180,7 +158,7 @@ pub fn position<'a>(
     let Walk {
         stop,
         passed: _passed,
-    } = view.walk(alloc, ns, path.text())?;
+    } = view.walk(alloc, ns, path)?;
     match stop {
         Stop::Arrive(at) => Ok(at),
         Stop::Block(_) | Stop::Missing(_) => Err(Errno::ENOENT),

@@ -6,5 +6,5 @@ mod meet;
 mod scene;
 pub mod stop;
 
-pub use follow::{position, resolve, resolve_text};
+pub use follow::{position, resolve};
 pub use stop::{Stop, Walk};

@@ -6,7 +6,7 @@ ghost use Rattle.am_wire.specs.Kind.{kind_number, kind_read, kind_of, is_indirec
 use am_names::TokenKind;
 
 /// The `type` of a packet (auto_fs.h, `enum autofs_notify`).
-#[derive(Clone, Copy, Debug, PartialEq, Eq, Hash)]
+#[derive(Clone, Copy, Debug, PartialEq)]
 pub enum Kind {
     /// autofs_ptype_missing_indirect: a name is looked up that nothing is mounted on.
     MissingIndirect,

@@ -19,6 +19,3 @@ pub use packet_name::PacketName;
 pub use reading::read;
 pub use request::Request;
 pub use writing::{is_writable, write};
-
-#[cfg(test)]
-mod tests;

@@ -8,7 +8,7 @@ use crate::packet_name::PacketName;
 use am_names::{FsId, Token};
 
 /// A packet (auto_fs.h, `struct autofs_v5_packet`), without `proto_version`, which is 5.
-#[derive(Clone, Copy, Debug, PartialEq, Eq, Hash)]
+#[derive(Clone, Copy, Debug, PartialEq)]
 pub struct Packet {
     /// `type`.
     pub kind: Kind,
@@ -27,7 +27,7 @@ pub struct Packet {
 }
 
 /// A packet whose name is where it was read.
-#[derive(Clone, Copy, Debug)]
+#[derive(Clone, Copy)]
 pub struct PacketRef<'a> {
     pub kind: Kind,
     pub token: Token,

@@ -6,7 +6,7 @@ ghost use Rattle.am_wire.specs.Stored.{padded};
 use std::marker::Model;
 
 /// Up to 255 bytes of any kind. It takes no memory.
-#[derive(Clone, Copy, Debug, PartialEq, Eq, Hash)]
+#[derive(Clone, Copy, Debug, PartialEq)]
 pub struct PacketName {
     buf: [u8; 256],
     len: u32,

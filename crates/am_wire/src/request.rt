@@ -3,7 +3,7 @@
 use am_names::{Attach, FsId, PipeState, Seconds, Token, WalkerId};
 
 /// A request about an autofs (autofs.rst, "root directory ioctls" and "char-device ioctls").
-#[derive(Clone, Copy, Debug, PartialEq, Eq, Hash)]
+#[derive(Clone, Copy, PartialEq)]
 pub enum Request {
     /// AUTOFS_IOC_READY: the notification with this token has been dealt with.
     Ready {

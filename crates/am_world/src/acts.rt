@@ -20,7 +20,7 @@ use am_state::{Obs, Record};
 use std::alloc::Global;
 
 /// An act without what it mounts.
-#[derive(Clone, Copy, Debug)]
+#[derive(Clone, Copy)]
 pub enum Deed {
     Mkdir {
         trigger: Trigger,
@@ -44,7 +44,7 @@ pub enum Deed {
 }
 
 /// The next act of a job, and the attachment that it carries.
-#[derive(Clone, Copy, Debug)]
+#[derive(Clone, Copy)]
 pub struct Turn {
     pub job: JobId,
     pub attach: Attach,

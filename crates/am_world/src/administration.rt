@@ -6,12 +6,12 @@ ghost use Rattle.am_world.specs.Halves.{state_of, Goes};
 use crate::halves::Halves;
 use am_group::Change;
 use am_machine::Answer;
-use am_names::{AbsPath, Errno, Mounts, NsId, Place};
+use am_names::{Errno, Mounts, NsId, Place};
 use std::alloc::Global;
 
 impl Halves {
     /// An autofs is mounted at a point of the master, and the daemon attaches to it.
-    pub fn attach(&mut self, alloc: Global, path: &AbsPath) -> Result<Answer, Errno>
+    pub fn attach(&mut self, alloc: Global, path: &Place) -> Result<Answer, Errno>
         ensures { Goes (attach_outcome (state_of self.old) path.now) (state_of self.old) result (state_of self.new) }
     {
         let Some(point) = self.daemon.point(path) else {
@@ -20,11 +20,15 @@ impl Halves {
         if self.daemon.is_attached(path) {
             return Err(Errno::EEXIST);
         }
-        let place = Place::of(alloc, path.text())?;
+        let place = path.copy(alloc)?;
         self.daemon.reserve_attach()?;
-        let made = self
-            .kernel
-            .attach_autofs(alloc, path, point.direct, point.timeout, &mut self.trace)?;
+        let made = self.kernel.attach_autofs(
+            alloc,
+            &path.path(),
+            point.direct,
+            point.timeout,
+            &mut self.trace,
+        )?;
         self.daemon.attached_reserved(made.fs, made.attach, place);
         Ok(Answer::Attached {
             fs: made.fs,
@@ -34,10 +38,12 @@ impl Halves {
     }
 
     /// A new plain file system is mounted.
-    pub fn mount(&mut self, alloc: Global, ns: NsId, path: &AbsPath) -> Result<Answer, Errno>
+    pub fn mount(&mut self, alloc: Global, ns: NsId, path: &Place) -> Result<Answer, Errno>
         ensures { Goes (mount_outcome (state_of self.old) ns path.now) (state_of self.old) result (state_of self.new) }
     {
-        let mount = self.kernel.mount_plain(alloc, ns, path, &mut self.trace)?;
+        let mount = self
+            .kernel
+            .mount_plain(alloc, ns, &path.path(), &mut self.trace)?;
         Ok(Answer::Mount { mount })
     }
 
@@ -46,20 +52,24 @@ impl Halves {
         &mut self,
         alloc: Global,
         ns: NsId,
-        from: &AbsPath,
-        to: &AbsPath,
+        from: &Place,
+        to: &Place,
     ) -> Result<Answer, Errno>
         ensures { Goes (bind_outcome (state_of self.old) ns from.now to.now) (state_of self.old) result (state_of self.new) }
     {
-        let mount = self.kernel.bind(alloc, ns, from, to, &mut self.trace)?;
+        let mount = self
+            .kernel
+            .bind(alloc, ns, &from.path(), &to.path(), &mut self.trace)?;
         Ok(Answer::Mount { mount })
     }
 
     /// A mount goes, and what was mounted with it.
-    pub fn umount(&mut self, alloc: Global, ns: NsId, path: &AbsPath) -> Result<Answer, Errno>
+    pub fn umount(&mut self, alloc: Global, ns: NsId, path: &Place) -> Result<Answer, Errno>
         ensures { Goes (umount_outcome (state_of self.old) ns path.now) (state_of self.old) result (state_of self.new) }
     {
-        let gone = self.kernel.umount_plain(alloc, ns, path, &mut self.trace)?;
+        let gone = self
+            .kernel
+            .umount_plain(alloc, ns, &path.path(), &mut self.trace)?;
         Ok(Answer::Gone {
             mounts: Mounts::of(gone),
         })
@@ -70,20 +80,20 @@ impl Halves {
         &mut self,
         alloc: Global,
         ns: NsId,
-        path: &AbsPath,
+        path: &Place,
         change: Change,
     ) -> Result<Answer, Errno>
         ensures { Goes (change_outcome (state_of self.old) ns path.now change) (state_of self.old) result (state_of self.new) }
     {
-        self.kernel.change(alloc, ns, path, change)?;
+        self.kernel.change(alloc, ns, &path.path(), change)?;
         Ok(Answer::Done)
     }
 
     /// How a mount takes part in propagation.
-    pub fn kind(&self, alloc: Global, ns: NsId, path: &AbsPath) -> Result<Answer, Errno>
+    pub fn kind(&self, alloc: Global, ns: NsId, path: &Place) -> Result<Answer, Errno>
         ensures { Goes (kind_outcome (state_of self.now) ns path.now) (state_of self.now) result (state_of self.now) }
     {
-        let kind = self.kernel.kind(alloc, ns, path)?;
+        let kind = self.kernel.kind(alloc, ns, &path.path())?;
         Ok(Answer::Kind { kind })
     }
 

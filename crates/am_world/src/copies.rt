@@ -8,7 +8,7 @@ ghost use Rattle.am_world.specs.Copies.{IsSpare, arrival_told};
 
 use crate::halves::Halves;
 use am_machine::{Answer, Event};
-use am_names::{AbsPath, Errno, Mounts, NsId, Position};
+use am_names::{Errno, Mounts, NsId, Place, Position};
 use std::alloc::{AllocError, Global};
 
 /// The answer of a walk that arrives there.
@@ -62,11 +62,11 @@ impl Halves {
         &self,
         alloc: Global,
         ns: NsId,
-        path: &AbsPath,
+        path: &Place,
     ) -> Result<Option<Answer>, AllocError>
         ensures { IfOk result (λ spare. IsSpare spare (umount_outcome (state_of self.now) ns path.now).answer) }
     {
-        match self.kernel.umount_takes(alloc, ns, path) {
+        match self.kernel.umount_takes(alloc, ns, &path.path()) {
             Ok(gone) => Ok(Some(Answer::Gone {
                 mounts: Mounts::of(gone),
             })),
@@ -95,7 +95,7 @@ impl Halves {
             Event::Umount { ns, path } => self.umount_told(alloc, *ns, path),
             Event::DropNamespace { ns } => self.drop_told(alloc, *ns),
             Event::Walk { ns, path, .. } => {
-                Ok(arrival_told(self.kernel.arrival(alloc, *ns, path)?))
+                Ok(arrival_told(self.kernel.arrival(alloc, *ns, &path.path())?))
             }
             Event::Resume { walker, .. } => {
                 Ok(arrival_told(self.kernel.arrival_again(alloc, *walker)?))

@@ -7,7 +7,7 @@ ghost use Rattle.am_world.specs.Halves.{state_of, Goes};
 use crate::halves::Halves;
 use am_kernel::Begun;
 use am_machine::Answer;
-use am_names::{AbsPath, Errno, FsId, NsId, PipeState, Seconds, WalkerId};
+use am_names::{Errno, FsId, NsId, PipeState, Place, Seconds, WalkerId};
 use std::alloc::Global;
 
 /// The answer to a walk that goes on so.
@@ -29,16 +29,17 @@ impl Halves {
         alloc: Global,
         walker: WalkerId,
         ns: NsId,
-        path: &AbsPath,
+        path: &Place,
         now: Seconds,
         pipe: PipeState,
     ) -> Result<Answer, Errno>
         ensures { Goes (walk_outcome (state_of self.old) walker ns path.now now pipe) (state_of self.old) result (state_of self.new) }
     {
         let moment = self.moment(now);
+        let path = path.path();
         let came = self
             .kernel
-            .walk(alloc, walker, ns, path, moment, pipe, &mut self.trace);
+            .walk(alloc, walker, ns, &path, moment, pipe, &mut self.trace);
         match came {
             Ok(begun) => {
                 self.latest = moment;

@@ -1,11 +1,13 @@
 //! The world: what happens to it, event by event.
 
-ghost use Rattle.std.specs.Prelude.{◌≡◌, List, length, None, IfOk, IfErr};
+ghost use Rattle.std.specs.Prelude.{◌≡◌, List, [], ◌∷◌, length, None, IfOk, IfErr};
 ghost use Rattle.std.specs.Option.{option_map, option_copied};
 ghost use Rattle.am_names.specs.Errno.{RefusedAs};
 ghost use Rattle.am_names.specs.Limits.{IsInRange};
 ghost use Rattle.am_state.specs.declared.obs.Obs.{Obs};
 ghost use Rattle.am_laws.specs.TraceLaws.{Lawful};
+ghost use Rattle.am_wait.specs.Rows.{wait_of};
+ghost use Rattle.am_wait.specs.Calls.{still_waits};
 ghost use Rattle.am_kernel.specs.Requests.{queued_of};
 ghost use Rattle.am_daemon.specs.Acts.{next_act_of};
 ghost use Rattle.am_daemon.specs.State.{rows_of};
@@ -13,7 +15,8 @@ ghost use Rattle.am_machine.specs.Agreement.{Agree};
 ghost use Rattle.am_machine.specs.InStep.{AreInStep};
 ghost use Rattle.am_machine.specs.Invariant.Names.{GoesAlongNames};
 ghost use Rattle.am_machine.specs.State.{opening_of};
-ghost use Rattle.am_machine.specs.Machine.{Step, Run};
+ghost use Rattle.am_machine.specs.History.{entry, entries};
+ghost use Rattle.am_machine.specs.Machine.{Step, Run, GoesOnBy};
 ghost use Rattle.am_machine.specs.Events.Deliveries.{packet_bytes};
 ghost use Rattle.am_world.specs.Table.{state_of};
 ghost use Rattle.am_world.specs.Halves.{told};
@@ -27,7 +30,7 @@ use am_kernel::Kernel;
 use am_machine::{Answer, Event};
 use am_map::Map;
 use am_master::Master;
-use am_names::{Errno, JobId, Limits, Seconds, Token};
+use am_names::{Errno, JobId, Limits, Seconds, Token, WalkerId};
 use am_state::Obs;
 use std::alloc::Global;
 use std::marker::Model;
@@ -86,20 +89,24 @@ impl World {
           maps = maps.items;
         })) }
     {
+        let daemon = Daemon::new(alloc, master, maps);
+        let kernel = Kernel::new(alloc, limits)?;
         Ok(World {
             halves: Halves {
-                kernel: Kernel::new(alloc, limits)?,
-                daemon: Daemon::new(alloc, master, maps),
+                kernel,
+                daemon,
                 latest: Seconds(0),
                 trace: Vec::new(alloc),
             },
         })
     }
 
-    /// What was observed so far.
+    /// What was observed so far. It is lawful, and kernel and daemon agree.
     pub fn trace(&self) -> &[Obs]
         ensures trace { result.now ≡ self.now.trace }
         ensures lawful { Lawful result.now }
+        ensures agree { Agree (state_of self.now) }
+        ensures in_step { AreInStep (state_of self.now) }
     {
         self.halves.trace.as_slice()
     }
@@ -119,6 +126,16 @@ impl World {
         self.halves.daemon.next_act(job)
     }
 
+    /// Whether a walker waits on a token that isn't acknowledged yet.
+    pub fn is_waiting(&self, walker: WalkerId) -> bool
+        ensures { result ≡ still_waits (wait_of self.now.kernel.waits.waits walker) }
+    {
+        match self.halves.kernel.waits().wait_of(walker) {
+            Some(wait) => wait.status.is_none(),
+            None => false,
+        }
+    }
+
     /// One step of the machine.
     pub fn step(&mut self, alloc: Global, event: &Event) -> Answer
         ensures { (seen : List Obs) × Step (state_of self.old) event.now result seen (state_of self.new) }
@@ -130,6 +147,7 @@ impl World {
     /// One step of the machine, with its answer twice.
     pub fn step_pair(&mut self, alloc: Global, event: &Event) -> (Answer, Answer)
         ensures step { (seen : List Obs) × Step (state_of self.old) event.now result.0 seen (state_of self.new) }
+        ensures legal { GoesOnBy (entry event.now result.0 ∷ []) (state_of self.old) (state_of self.new) }
         ensures same { result.1 ≡ result.0 }
     {
         let Ok(spare) = self.halves.spare(alloc, event) else {
@@ -152,6 +170,7 @@ pub struct Ran {
 /// Makes a step for each event. Where the list of answers finds no memory, nothing runs.
 pub fn run(alloc: Global, mut world: World, events: &[Event]) -> Result<Ran, World>
     ensures run { IfOk result (λ ran. Run (state_of world) events.now ran.answers.items (state_of ran.world)) }
+    ensures legal { IfOk result (λ ran. GoesOnBy (entries events.now ran.answers.items) (state_of world) (state_of ran.world)) }
     ensures lawful { IfOk result (λ ran. Lawful ran.world.trace) }
     ensures agree { IfOk result (λ ran. Agree (state_of ran.world)) }
     ensures in_step { IfOk result (λ ran. AreInStep (state_of ran.world)) }

@@ -13,9 +13,9 @@ fn main(rt: HostRuntime) -> ExitCode {
     let status = run_words(
         rt.alloc(),
         std::env::args(&rt),
-        rt.stdin(),
-        rt.stdout(),
-        rt.stderr(),
+        &mut rt.stdin(),
+        &mut rt.stdout(),
+        &mut rt.stderr(),
     );
     ExitCode::from(status)
 }

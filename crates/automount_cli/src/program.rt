@@ -1,68 +1,116 @@
 //! What the program does with its words and streams.
 
-use crate::args::{Args, read_args};
-use am_script::run_script;
+ghost use Rattle.std.specs.Prelude.{◌≡◌};
+ghost use Rattle.automount_cli.specs.Program.{ExitsWith};
+ghost use Rattle.automount_cli.specs.Args.{fault_number};
+
+use crate::args::{Args, ArgsFault, read_args};
+use am_script::{ScriptFault, run_script};
 use std::alloc::{AllocError, Global};
 use std::env;
 use std::io::{self, Read, Write};
 
 /// Runs the program and answers its exit status: 0 done, 1 a fault, 2 a bad command line. A fault
 /// is told on the last stream; where that takes no bytes, the status alone tells it.
-pub fn run_program<R: Read + Drop, W: Write + Drop, E: Write + Drop>(
+pub fn run_program<R: Read, W: Write, E: Write>(
     alloc: Global,
     words: &[&str],
-    mut reader: R,
-    mut writer: W,
-    mut errors: E,
-) -> u8 {
+    reader: &mut R,
+    writer: &mut W,
+    errors: &mut E,
+) -> u8
+    ensures { ExitsWith (R.remaining reader.old) (R.remaining reader.new) (W.contents writer.old) (W.contents writer.new) (E.contents errors.old) (E.contents errors.new) result }
+{
     match read_args(alloc, words) {
-        Ok(Args::Script) => match run_script(alloc, &mut reader, &mut writer) {
-            Ok(_) => 0,
-            Err(fault) => {
-                let _ = writeln!(errors, "fault: {fault}");
-                1
-            }
-        },
-        Err(fault) => {
-            let _ = writeln!(errors, "fault: {fault}");
-            fault.number()
-        }
+        Ok(Args::Script) => play(alloc, reader, writer, errors),
+        Err(fault) => refuse(errors, fault),
     }
 }
 
+/// Plays the script that the reader gives.
+fn play<R: Read, W: Write, E: Write>(
+    alloc: Global,
+    reader: &mut R,
+    writer: &mut W,
+    errors: &mut E,
+) -> u8
+    ensures { ExitsWith (R.remaining reader.old) (R.remaining reader.new) (W.contents writer.old) (W.contents writer.new) (E.contents errors.old) (E.contents errors.new) result }
+{
+    match run_script(alloc, reader, writer) {
+        Ok(_) => 0,
+        Err(fault) => stop(errors, fault),
+    }
+}
+
+/// A script isn't played to its end.
+fn stop<E: Write>(errors: &mut E, fault: ScriptFault) -> u8
+    ensures { result ≡ 1 }
+{
+    let _ = writeln!(errors, "fault: {fault}");
+    1
+}
+
+/// The command line is none.
+fn refuse<E: Write>(errors: &mut E, fault: ArgsFault) -> u8
+    ensures { result ≡ fault_number fault }
+{
+    let _ = writeln!(errors, "fault: {fault}");
+    fault.number()
+}
+
 /// Runs the program with the words of its process.
-pub fn run_words<R: Read + Drop, W: Write + Drop, E: Write + Drop>(
+pub fn run_words<R: Read, W: Write, E: Write>(
     alloc: Global,
     words: io::Result<env::Args>,
-    reader: R,
-    writer: W,
-    mut errors: E,
-) -> u8 {
-    let words: Vec<String> = match words {
-        Ok(words) => match words.collect(alloc) {
-            Ok(words) => words,
-            Err(_) => return without_memory(errors),
-        },
-        Err(error) => {
-            if error.kind() == io::ErrorKind::OutOfMemory {
-                return without_memory(errors);
-            }
-            // A word that isn't UTF-8 is no command.
-            let _ = writeln!(errors, "fault: Usage");
-            return 2;
-        }
-    };
-    match lend(alloc, &words) {
+    reader: &mut R,
+    writer: &mut W,
+    errors: &mut E,
+) -> u8
+    ensures { ExitsWith (R.remaining reader.old) (R.remaining reader.new) (W.contents writer.old) (W.contents writer.new) (E.contents errors.old) (E.contents errors.new) result }
+{
+    match read_words(alloc, words) {
+        Ok(words) => run_lent(alloc, &words, reader, writer, errors),
+        Err(fault) => refuse(errors, fault),
+    }
+}
+
+/// The words of the process. A word that isn't UTF-8 is no command.
+fn read_words(alloc: Global, words: io::Result<env::Args>) -> Result<Vec<String>, ArgsFault> {
+    match words {
+        Ok(words) => collected(alloc, words),
+        Err(error) => Err(words_fault(&error)),
+    }
+}
+
+fn collected(alloc: Global, words: env::Args) -> Result<Vec<String>, ArgsFault> {
+    match words.collect(alloc) {
+        Ok(words) => Ok(words),
+        Err(_) => Err(ArgsFault::NoMemory),
+    }
+}
+
+fn words_fault(error: &io::Error) -> ArgsFault {
+    if error.kind() == io::ErrorKind::OutOfMemory {
+        return ArgsFault::NoMemory;
+    }
+    ArgsFault::Usage
+}
+
+fn run_lent<R: Read, W: Write, E: Write>(
+    alloc: Global,
+    words: &[String],
+    reader: &mut R,
+    writer: &mut W,
+    errors: &mut E,
+) -> u8
+    ensures { ExitsWith (R.remaining reader.old) (R.remaining reader.new) (W.contents writer.old) (W.contents writer.new) (E.contents errors.old) (E.contents errors.new) result }
+{
+    match lend(alloc, words) {
         Ok(words) => run_program(alloc, words.as_slice(), reader, writer, errors),
-        Err(_) => without_memory(errors),
+        Err(_) => refuse(errors, ArgsFault::NoMemory),
     }
 }
 
 fn lend<'a>(alloc: Global, words: &'a [String]) -> Result<Vec<&'a str>, AllocError> {
     words.iter().map(|word| word.as_str()).collect(alloc)
-}
-
-fn without_memory<E: Write + Drop>(mut errors: E) -> u8 {
-    let _ = writeln!(errors, "fault: NoMemory");
-    1
 }

@@ -28,10 +28,10 @@ fn script_is_the_one_command(rt: HostRuntime) {
     assert_eq!(rt; read_args(alloc, &[]), Err(ArgsFault::Usage));
 }
 
-fn run(alloc: Global, words: &[&str], script: &[u8]) -> Result<(u8, Vec<u8>, Vec<u8>), Fail> {
+fn run(alloc: Global, words: &[&str], mut script: &[u8]) -> Result<(u8, Vec<u8>, Vec<u8>), Fail> {
     let mut output = Vec::new(alloc);
     let mut errors = Vec::new(alloc);
-    let status = run_program(alloc, words, script, &mut output, &mut errors);
+    let status = run_program(alloc, words, &mut script, &mut output, &mut errors);
     Ok((status, output, errors))
 }
 

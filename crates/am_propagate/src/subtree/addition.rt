@@ -1,13 +1,15 @@
 //! Mounts and binds, with the copies on the mounts that receive them.
 
-ghost use Rattle.std.specs.Prelude.{◌≡◌, ◌+◌, ◌^◌, ◌<◌, ◌∷◌, ◌++◌, true, length, Some, IfOk, OnOk, OnErr};
+ghost use Rattle.std.specs.Prelude.{◌≡◌, ◌+◌, ◌^◌, ◌<◌, ◌∷◌, ◌++◌, true, length, Some, None, IfOk, OnOk, OnErr};
 ghost use Rattle.std.specs.List.{slice_get};
 ghost use Rattle.am_names.specs.Errno.{RefusedAs};
 ghost use Rattle.am_group.specs.Invariant.{AddsNoReceivers};
 ghost use Rattle.am_group.specs.Propagation.{group_of};
 ghost use Rattle.am_group.specs.declared.membership.Membership.TheVariants.{Private};
+ghost use Rattle.am_group.specs.Receivers.{receivers_of};
 ghost use Rattle.am_mount.specs.Rows.{mount_row};
 ghost use Rattle.am_propagate.specs.MountTable.{is_mount, all_mounts};
+ghost use Rattle.am_propagate.specs.Joining.{others_of};
 ghost use Rattle.am_propagate.specs.Added.{ns_in, row_at, rows_at, membership_where, membership_of, is_unbindable, fresh_count, numbers_after, new_mounts, mounts_made, made_beside, mount_refusal, bind_refusal, mounted, bound, numbers_refusal, HasSource};
 
 use crate::subtree::Subtree;
@@ -122,6 +124,54 @@ impl Subtree {
         Ok(rows)
     }
 
+    /// The groups, beside that of the mount `at`, in which mounts are that receive from it, where
+    /// numbers are left for a mount on it with its copies, and for their peer groups.
+    fn numbered_others(
+        &self,
+        alloc: Global,
+        at: MountId,
+        membership: &Membership,
+        receivers: &[MountId],
+    ) -> Result<Vec<GroupId>, Errno>
+        requires { receivers.now ≡ receivers_of self.now.groups at }
+        ensures refusal { RefusedAs (numbers_refusal at membership.now self.now) result }
+        ensures others { IfOk result (λ v. v.items ≡ others_of self.now.groups receivers.now (group_of self.now.groups at)) }
+        ensures left { OnOk result (numbers_refusal at membership.now self.now ≡ None) }
+    {
+        if self.lacks_mounts(receivers.len() + 1) {
+            return Err(Errno::ENOSPC);
+        }
+        let others = self.others(alloc, at, receivers)?;
+        if self.lacks_groups(self.groups_made(at, membership, others.as_slice())) {
+            return Err(Errno::ENOSPC);
+        }
+        Ok(others)
+    }
+
+    /// Adds the rows of a mount of this file system, and those of its copies on the receivers.
+    fn add_with(
+        &mut self,
+        alloc: Global,
+        at: &Position,
+        fs: FsId,
+        membership: Membership,
+        receivers: &[MountId],
+        others: Vec<GroupId>,
+    ) -> Result<(), AllocError>
+        requires there { is_mount self.old at.now.mount ≡ true }
+        requires source { HasSource self.old fs membership }
+        requires receivers { receivers.now ≡ receivers_of self.old.groups at.now.mount }
+        requires others { others.items ≡ others_of self.old.groups receivers.now (group_of self.old.groups at.now.mount) }
+        requires left { numbers_refusal at.now.mount membership self.old ≡ None }
+        ensures ok { OnOk result (self.new ≡ mounted at.now fs membership self.old) }
+        ensures err { OnErr result (self.new ≡ self.old) }
+    {
+        let mount = MountId(self.last_mount + 1);
+        let joining = self.joining(alloc, at.mount, membership, mount, receivers, others)?;
+        let rows = self.rows_at(alloc, at, fs, mount, receivers)?;
+        self.grow(rows, joining, NsId(self.last_ns))
+    }
+
     /// Adds a mount of this file system, of whose source the membership tells, with its copies.
     fn add_at(
         &mut self,
@@ -141,19 +191,10 @@ impl Subtree {
         ensures law { AddsNoReceivers self.old.groups self.new.groups }
     {
         let receivers = self.groups.receivers(alloc, at.mount)?;
-        if self.lacks_mounts(receivers.len() + 1) {
-            return Err(Errno::ENOSPC);
-        }
-        let others = self.others(alloc, at.mount, receivers.as_slice())?;
-        if self.lacks_groups(self.groups_made(at.mount, &membership, others.as_slice())) {
-            return Err(Errno::ENOSPC);
-        }
-        let mounts = numbers_after(alloc, self.last_mount, receivers.len() + 1)?;
-        let mount = MountId(self.last_mount + 1);
         let receivers = receivers.as_slice();
-        let joining = self.joining(alloc, at.mount, membership, mount, receivers, others)?;
-        let rows = self.rows_at(alloc, at, fs, mount, receivers)?;
-        self.grow(rows, joining, NsId(self.last_ns))?;
+        let others = self.numbered_others(alloc, at.mount, &membership, receivers)?;
+        let mounts = numbers_after(alloc, self.last_mount, receivers.len() + 1)?;
+        self.add_with(alloc, at, fs, membership, receivers, others)?;
         Ok(mounts)
     }
 

@@ -9,9 +9,9 @@ pub invariant_of-result : goal.invariant_of-result
 invariant_of-result c =
     let opening : Opening = record { limits = c.args.limits; master = c.args.master; maps = c.args.maps.items } in
     record {
-      consistent = rw (c.in_ok-new.ensures.ok, c.new-2.ensures, c.new-3.ensures.items) (initial_consistent opening);
-      named = rw (c.in_ok-new.ensures.ok) (initial_named opening);
+      consistent = rw (c.in_ok-kernel.ensures.ok, c.new-daemon.ensures, c.new-2.ensures.items) (initial_consistent opening);
+      named = rw (c.in_ok-kernel.ensures.ok) (initial_named opening);
     }
 
 pub returns-clause-ok : goal.returns-clause-ok
-returns-clause-ok c = state_is _ ∙ (rw (c.in_ok-new.ensures.ok, c.new-2.ensures, c.new-3.ensures.items) refl)
+returns-clause-ok c = state_is _ ∙ (rw (c.in_ok-kernel.ensures.ok, c.new-daemon.ensures, c.new-2.ensures.items) refl)

@@ -1,0 +1,8 @@
+use Rattle.std.proofs.Common.{ap, arith}
+use Rattle.am_pipe.proofs.MoveLemmas.{takes}
+use Rattle.am_pipe.proofs.ends.TakeEnd.take.Goals as goal
+
+pub pop_as-requires-clause-rule : goal.pop_as-requires-clause-rule
+pop_as-requires-clause-rule g c =
+    let one = ap (λ v. v.parts) c.self.invariant.1 in
+    (takes _ _ (λ none. absurd (omega arith)), λ items views h at. tt)

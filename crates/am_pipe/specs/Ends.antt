@@ -1,0 +1,44 @@
+-- What contracts see of the ends of a pipe (autofs.rst, "the event pipe").
+use Rattle.std.specs.Prelude.{◌≡◌, ℕ, ◌+◌, ◌-◌, ◌<◌, ◌==◌, List, [], ◌∷◌, ◌++◌, Some, slice_get}
+use Rattle.std.specs.Prelude.{All, if◌then◌else◌, nat_le, nat_lt, ◌&&◌}
+use Rattle.atomic_table.specs.Seated.{TableId}
+use Rattle.am_pipe.specs.declared.note.Note.{Note}
+
+-- the put end: its pipe, how many notes the pipe has room for, how many take ends it has, and the
+-- notes that were put, in order
+pub record Putter : Type 0 where
+  pub pipe : TableId
+  pub room : ℕ
+  pub takers : ℕ
+  pub sent : List Note
+
+-- a take end: its pipe, and the notes that it took, in order, each with its position
+pub record Taker : Type 0 where
+  pub pipe : TableId
+  pub got : List (ℕ × Note)
+
+-- what these take ends took, one end after another
+abbrev pub taken_by : List Taker → List (ℕ × Note)
+taken_by [] = []
+taken_by (t ∷ ts) = t.got ++ taken_by ts
+
+-- each of these is the note that was put at its position, where the first position is 1
+abbrev pub AreAsPut : List Note → List (ℕ × Note) → Type 0
+AreAsPut sent notes = All (λ x. (0 < x.0) × (slice_get sent (x.0 - 1) ≡ Some x.1)) notes
+
+-- f of each, added up
+abbrev pub total : {A : Type 0} → (A → ℕ) → List A → ℕ
+total f [] = 0
+total f (x ∷ xs) = f x + total f xs
+
+-- how often a note of this position stands here
+abbrev pub times : ℕ → List (ℕ × Note) → ℕ
+times position notes = total (λ x. if x.0 == position then 1 else 0) notes
+
+-- 1 for a position from 1 to n, and else 0
+abbrev pub once_to : ℕ → ℕ → ℕ
+once_to n position = if nat_lt 0 position && nat_le position n then 1 else 0
+
+-- each position from 1 to n stands here once, and no other position stands here
+abbrev pub HasEachOnce : ℕ → List (ℕ × Note) → Type 0
+HasEachOnce n notes = (position : ℕ) → times position notes ≡ once_to n position

@@ -1,0 +1,10 @@
+//! The pipe from the kernel to the workers of the daemon (autofs.rst, "the event pipe"): one end
+//! puts notes, several ends take them, and each may be in a thread of its own.
+#![tactic(auto)]
+
+mod ends;
+mod note;
+mod rule;
+
+pub use ends::{PutEnd, TakeEnd, gather, pipe};
+pub use note::Note;

@@ -1,0 +1,102 @@
+-- One event more.
+use Rattle.std.proofs.Common.{◌≡◌, ℕ, ◌+◌, ◌≤◌, List, [], ◌∷◌, ◌++◌, length, length-append, drop}
+use Rattle.std.proofs.Common.{refl, sym, ap, ◌∙◌, subst, arith, append_assoc}
+use Rattle.std.proofs.Math.Seq.{drop-append_seam}
+use Rattle.am_state.specs.declared.obs.Obs.{Obs}
+use Rattle.am_machine.specs.declared.event.Event.{Event}
+use Rattle.am_machine.specs.declared.answer.Answer.{Answer}
+use Rattle.am_machine.specs.State.{State, Opening, opening_in, opening_of}
+use Rattle.am_machine.specs.Machine.{Step, Run, IsLegal}
+use Rattle.am_machine.proofs.SafetyLemmas.{step_lawful}
+use Rattle.am_world.specs.Table.{WorldTable, state_of}
+use Rattle.am_world.proofs.TableLemmas.{state_is}
+use Rattle.am_pipe.specs.declared.note.Note.{Note}
+use Rattle.am_machine.specs.declared.entry.Entry.{Entry}
+use Rattle.am_machine.specs.History.{entry, events_of, answers_of}
+use Rattle.am_shared.specs.Notes.{notes_of}
+use Rattle.am_shared.specs.Sharing.{Sharing, IsShared, IsSharedFrom, Applies}
+use Rattle.am_machine.proofs.Histories.{legal_more}
+use Rattle.am_shared.proofs.NoteLemmas.{notes_append, notes_count}
+
+-- a step of the world with this answer
+abbrev pub Stepped : WorldTable → Event → Answer → WorldTable → Type 0
+Stepped s event answer t = (seen : List Obs) × Step (state_of s) event answer seen (state_of t)
+
+-- what was seen of it is what came to the trace
+pub grown : (s t : WorldTable) (event : Event) (answer : Answer) (step : Stepped s event answer t)
+    → t.trace ≡ s.trace ++ step.0
+grown s t event answer step =
+    sym (ap (λ (x : State). x.trace) (state_is t))
+    ∙ (step_lawful (state_of s) event answer step.0 (state_of t) step.1).trace
+    ∙ ap (λ (x : State). x.trace ++ step.0) (state_is s)
+
+pub longer : (s t : WorldTable) (event : Event) (answer : Answer) → Stepped s event answer t
+    → length s.trace ≤ length t.trace
+longer s t event answer step =
+    omega (arith, ap length (grown s t event answer step), length-append s.trace step.0)
+
+pub seen_of : (s t : WorldTable) (event : Event) (answer : Answer) (step : Stepped s event answer t)
+    → drop (length s.trace) t.trace ≡ step.0
+seen_of s t event answer step =
+    ap (drop (length s.trace)) (grown s t event answer step) ∙ drop-append_seam s.trace step.0
+
+-- one note at most
+pub few : (s t : WorldTable) (event : Event) (answer : Answer) → Stepped s event answer t
+    → length (notes_of (drop (length s.trace) t.trace)) ≤ 1
+few s t event answer step =
+    omega (
+      arith,
+      ap (λ (l : List Obs). length (notes_of l)) (seen_of s t event answer step),
+      notes_count step.0,
+      (step_lawful (state_of s) event answer step.0 (state_of t) step.1).once,
+    )
+
+-- the history stays legal
+pub kept_legal : (s t : WorldTable) (event : Event) (answer : Answer) (history later : List Entry)
+    → Stepped s event answer t → later ≡ history ++ entry event answer ∷ []
+    → IsLegal history (state_of s) → IsLegal later (state_of t)
+kept_legal s t event answer history later step is legal =
+    subst (λ (l : List Entry). IsLegal l (state_of t)) (sym is)
+    (legal_more history (state_of s) event answer (state_of t) legal step)
+
+-- and the notes are those of the trace
+pub kept_notes : (s t : WorldTable) (event : Event) (answer : Answer)
+    (sent unsent collected put left : List Note) → Stepped s event answer t
+    → collected ≡ unsent ++ notes_of (drop (length s.trace) t.trace)
+    → put ++ left ≡ sent ++ collected → sent ++ unsent ≡ notes_of s.trace
+    → put ++ left ≡ notes_of t.trace
+kept_notes s t event answer sent unsent collected put left step all flushed notes =
+    let more = notes_of step.0 in
+    flushed ∙ ap (λ l. sent ++ l) (all ∙ ap (λ l. unsent ++ notes_of l) (seen_of s t event answer step))
+    ∙ sym (append_assoc sent unsent more) ∙ ap (λ l. l ++ more) notes
+    ∙ sym (notes_append s.trace step.0) ∙ ap notes_of (sym (grown s t event answer step))
+
+-- the opening stays
+pub kept_opening : (old new : Sharing) (event : Event) (position : ℕ) (answer : Answer)
+    → Applies old new event position answer
+    → opening_in (state_of new.world) ≡ opening_in (state_of old.world)
+kept_opening old new event position answer h =
+    (step_lawful (state_of old.world) event answer h.seen (state_of new.world) h.step).opening
+
+-- so the history is a run from there
+pub shared_from : (o : Opening) (s : Sharing) → IsShared s → opening_in (state_of s.world) ≡ o
+    → IsSharedFrom o s
+shared_from o s h is = record {
+  run = subst
+      (λ (x : Opening). Run (opening_of x) (events_of s.history) (answers_of s.history) (state_of s.world))
+      is h.legal;
+  shared = h;
+}
+
+-- ---- at the start
+
+pub began : (o : Opening) (s : State) → s ≡ opening_of o → opening_in s ≡ o
+began o s is = ap opening_in is
+
+pub new_legal : (o : Opening) (s : State) → s ≡ opening_of o → IsLegal [] s
+new_legal o s is =
+    subst (λ (x : State). IsLegal [] x) (sym is) refl
+
+pub new_notes : (o : Opening) (t : WorldTable) → state_of t ≡ opening_of o → notes_of t.trace ≡ []
+new_notes o t is =
+    ap (λ (s : State). notes_of s.trace) (sym (state_is t) ∙ is)

@@ -1,0 +1,3 @@
+pub mod NoteLemmas
+pub mod ApplyLemmas
+pub mod MatchLemmas

@@ -1,0 +1,14 @@
+use Rattle.std.proofs.Common.{◌≡◌, [], rules}
+use Rattle.std.specs.Prelude.{List}
+use Rattle.am_shared.specs.declared.caller.Receipt.{Receipt}
+use Rattle.std.proofs.lemmas.List.Elements.{All-push}
+use Rattle.am_shared.proofs.caller.share.Goals as goal
+
+pub loop-made-preserved : goal.loop-made-preserved
+loop-made-preserved g c = record {
+  parts = search rules;
+  amount = search rules;
+  len = search rules;
+  fits = search rules;
+  each = rw c.push_reserved.ensures.items (All-push (λ (x : List Receipt). x ≡ []) _ _ c.loop-made.invariant.each (search rules));
+}

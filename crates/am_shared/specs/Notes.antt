@@ -1,0 +1,27 @@
+-- The notes of what the kernel queued (autofs.rst, "the event pipe").
+use Rattle.std.specs.Prelude.{ℕ, List, [], ◌∷◌, ◌++◌, Option, Some, None}
+use Rattle.am_wire.specs.declared.packet.Packet.{Packet}
+use Rattle.am_wire.specs.Said.{said}
+use Rattle.am_wire.specs.Format.{canonical}
+use Rattle.am_state.specs.declared.obs.Obs.{Obs}
+use Rattle.am_state.specs.declared.obs.Obs.TheVariants.{Queued}
+use Rattle.am_pipe.specs.declared.note.Note.{Note}
+
+-- a packet with its token and its attachment, in its canonical bytes
+abbrev pub note : ℕ → ℕ → Packet → Note
+note token attach packet =
+    record { token = token; attach = attach; bytes = canonical (said packet) }
+
+-- the note of an observation, if it is that of a queued packet
+abbrev pub note_at : Obs → Option Note
+note_at (Queued token attach packet) = Some (note token attach packet)
+note_at _ = None
+
+abbrev pub before : Option Note → List Note → List Note
+before None notes = notes
+before (Some note) notes = note ∷ notes
+
+-- the notes of all queued packets of a trace, in order
+abbrev pub notes_of : List Obs → List Note
+notes_of [] = []
+notes_of (obs ∷ rest) = before (note_at obs) (notes_of rest)

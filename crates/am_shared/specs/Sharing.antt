@@ -1,0 +1,48 @@
+-- What lies under the lock.
+use Rattle.std.specs.Prelude.{◌≡◌, ℕ, List, [], ◌∷◌, ◌++◌, length}
+use Rattle.am_state.specs.declared.obs.Obs.{Obs}
+use Rattle.am_laws.specs.TraceLaws.{Lawful}
+use Rattle.am_machine.specs.declared.event.Event.{Event}
+use Rattle.am_machine.specs.declared.answer.Answer.{Answer}
+use Rattle.am_machine.specs.Agreement.{Agree}
+use Rattle.am_machine.specs.InStep.{AreInStep}
+use Rattle.am_machine.specs.State.{Opening, opening_in, opening_of}
+use Rattle.am_machine.specs.Machine.{Step, Run, IsLegal}
+use Rattle.am_world.specs.Table.{WorldTable, state_of}
+use Rattle.am_pipe.specs.declared.note.Note.{Note}
+use Rattle.am_pipe.specs.Ends.{Putter}
+use Rattle.am_machine.specs.declared.entry.Entry.{Entry}
+use Rattle.am_machine.specs.History.{entry, events_of, answers_of}
+use Rattle.am_shared.specs.Notes.{notes_of}
+
+-- a world, the events that happened to it with their answers, the put end of the pipe, and the notes
+-- that wait for room in the pipe
+pub record Sharing : Type 0 where
+  pub world : WorldTable
+  pub history : List Entry
+  pub put : Putter
+  pub unsent : List Note
+
+-- what holds of it whenever the lock is free
+pub record IsShared (s : Sharing) : Type 0 where
+  -- the history is one of a single thread, and ends in the world
+  pub legal : IsLegal s.history (state_of s.world)
+  -- the notes that were put, and then those that wait, are those of all queued packets
+  pub notes : s.put.sent ++ s.unsent ≡ notes_of s.world.trace
+  pub lawful : Lawful s.world.trace
+  pub agree : Agree (state_of s.world)
+  pub in_step : AreInStep (state_of s.world)
+
+-- what holds of it whenever the lock is free, where the world began with this opening
+pub record IsSharedFrom (opening : Opening) (s : Sharing) : Type 0 where
+  -- the history is a run from the initial world of this opening
+  pub run : Run (opening_of opening) (events_of s.history) (answers_of s.history) (state_of s.world)
+  pub shared : IsShared s
+
+-- The event was applied: the world made a step with this answer, and the pair is the last of the
+-- history, at this position.
+pub record Applies (old new : Sharing) (event : Event) (position : ℕ) (answer : Answer) : Type 0 where
+  pub seen : List Obs
+  pub step : Step (state_of old.world) event answer seen (state_of new.world)
+  pub history : new.history ≡ old.history ++ entry event answer ∷ []
+  pub is_last : position ≡ length new.history

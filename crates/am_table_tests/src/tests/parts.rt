@@ -1,0 +1,401 @@
+//! A world of the kernel's parts: mounts, triggers, waits and uses, on which walks and picks are
+//! played.
+
+use crate::tests::script::{Stage, Step, plays};
+use crate::tests::trap::Trap;
+use am_expire::{Uses, pick};
+use am_group::Change;
+use am_names::{
+    AbsPath, Errno, FsId, MountId, Name, NsId, Position, Seconds, Token, TokenKind, Trigger,
+    WalkerId,
+};
+use am_propagate::Subtree;
+use am_trigger::Triggers;
+use am_wait::Waits;
+use am_walk::{Stop, Walk, position, resolve};
+use std::alloc::Global;
+use std::process::Abort;
+
+/// Where a walk ends.
+#[derive(Clone, Copy)]
+pub enum End {
+    /// In this mount, at this place below its root.
+    At(u64, &'static [u8]),
+    /// It waits on this token.
+    Waits(u32),
+    /// The daemon is to be notified.
+    Notifies(Trap),
+    Fails(Errno),
+}
+
+impl End {
+    fn is_at(self, at: &Position) -> bool {
+        match self {
+            End::At(mount, place) => at.mount == MountId(mount) && at.place.text() == place,
+            _ => false,
+        }
+    }
+
+    fn waits(self, token: Token) -> bool {
+        match self {
+            End::Waits(number) => token == Token(number),
+            _ => false,
+        }
+    }
+
+    fn notifies(self, trigger: &Trigger) -> bool {
+        match self {
+            End::Notifies(trap) => trap.is(trigger),
+            _ => false,
+        }
+    }
+
+    fn fails(self, errno: Errno) -> bool {
+        match self {
+            End::Fails(expected) => errno == expected,
+            _ => false,
+        }
+    }
+
+    fn is(self, stop: &Stop) -> bool {
+        match stop {
+            Stop::Arrive(at) => self.is_at(at),
+            Stop::Block(token) => self.waits(*token),
+            Stop::Missing(trigger) => self.notifies(trigger),
+            Stop::Refuse(errno) => self.fails(*errno),
+        }
+    }
+}
+
+/// These triggers were passed, in this order.
+fn are_passed(passed: &[Trigger], traps: &[Trap]) -> bool {
+    passed.len() == traps.len()
+        && passed
+            .iter()
+            .zip(traps)
+            .all(|(trigger, trap)| trap.is(trigger))
+}
+
+fn is_walk(walk: &Walk, traps: &[Trap], end: End) -> bool {
+    are_passed(walk.passed.as_slice(), traps) && end.is(&walk.stop)
+}
+
+/// What a pick is asked: the file system, its timeout, the moment, and whether at once.
+#[derive(Clone, Copy)]
+pub struct Ask(pub u32, pub u32, pub u64, pub bool);
+
+/// A call, and what it answers.
+#[derive(Clone, Copy)]
+pub enum Call {
+    /// A file system is mounted on a place of a mount.
+    Mount(u64, &'static [u8], u32),
+    /// The same of a new autofs, of which that is the daemon's mount.
+    Indirect(u64, &'static [u8], u32),
+    Direct(u64, &'static [u8], u32),
+    Share(u64),
+    /// A namespace gets copies of all mounts of namespace 0.
+    Copy,
+    /// The walker waits on the next token: the trigger is expiring.
+    Expires(u32, Trap),
+    /// The same of a mount that is pending.
+    IsPending(u32, Trap),
+    Makes(Trap),
+    Catatonic(u32),
+    /// The trigger was last used at this moment.
+    Used(Trap, u64),
+    /// A walker enters a mount.
+    Enters(u32, u64),
+    Leaves(u32),
+    /// A walk in a namespace along a path passes these triggers and ends so.
+    Walk(u32, &'static [u8], &'static [Trap], End),
+    /// The same in namespace 0 of a path that is kept as a place.
+    KeptWalk(&'static [u8], &'static [Trap], End),
+    /// An administrator's path there leads so.
+    Leads(u32, &'static [u8], End),
+    /// The trigger that expires next.
+    Picks(Ask, Option<Trap>),
+}
+
+/// What walks and picks look at.
+#[derive(Drop)]
+struct Parts {
+    subtree: Subtree,
+    triggers: Triggers,
+    waits: Waits,
+    uses: Uses,
+}
+
+fn subtree(alloc: Global) -> Result<Subtree, Errno> {
+    match Subtree::new(alloc, 100) {
+        Err(Errno::NoMemory) => Subtree::new(alloc, 100),
+        made => made,
+    }
+}
+
+impl Parts {
+    /// Mount 1 alone.
+    fn new(alloc: Global) -> Result<Parts, Errno> {
+        Ok(Parts {
+            subtree: subtree(alloc)?,
+            triggers: Triggers::new(alloc),
+            waits: Waits::new(alloc, 9, 9),
+            uses: Uses::new(alloc),
+        })
+    }
+
+    fn mount(
+        &mut self,
+        alloc: Global,
+        parent: u64,
+        path: &[u8],
+        fs: u32,
+    ) -> Result<MountId, Errno> {
+        let path = AbsPath::read(path)?;
+        let at = Position {
+            mount: MountId(parent),
+            place: path.to_place(alloc)?,
+        };
+        let mounts = self.subtree.mount(alloc, &at, FsId(fs))?;
+        mounts.first().copied().ok_or(Errno::EINVAL)
+    }
+
+    fn autofs(
+        &mut self,
+        alloc: Global,
+        parent: u64,
+        path: &[u8],
+        fs: u32,
+        direct: bool,
+    ) -> Result<bool, Errno> {
+        // A call that found no memory is made once more: it must have changed nothing.
+        self.triggers.reserve_fs()?;
+        let location = self.mount(alloc, parent, path, fs)?;
+        self.triggers.add_fs(FsId(fs), direct, location)?;
+        Ok(true)
+    }
+
+    fn share(&mut self, alloc: Global, mount: u64) -> Result<bool, Errno> {
+        self.subtree
+            .change(alloc, Change::MakeShared, MountId(mount))?;
+        Ok(true)
+    }
+
+    fn copy(&mut self, alloc: Global) -> Result<bool, Errno> {
+        self.subtree.copy_namespace(alloc, NsId(0))?;
+        Ok(true)
+    }
+
+    fn open(
+        &mut self,
+        alloc: Global,
+        walker: u32,
+        kind: TokenKind,
+        trap: Trap,
+    ) -> Result<bool, Errno> {
+        let trigger = trap.trigger()?;
+        // The checker wants the type of its name said too, here and below.
+        let _name: Option<Name> = trigger.name;
+        self.waits.open(alloc, trigger, kind, WalkerId(walker))?;
+        Ok(true)
+    }
+
+    fn mkdir(&mut self, trap: Trap) -> Result<bool, Errno> {
+        let trigger = trap.trigger()?;
+        let _name: Option<Name> = trigger.name;
+        self.triggers.mkdir(trigger)?;
+        Ok(true)
+    }
+
+    fn set_catatonic(&mut self, fs: u32) -> Result<bool, Errno> {
+        self.triggers.set_catatonic(FsId(fs), true)?;
+        Ok(true)
+    }
+
+    fn touch(&mut self, trap: Trap, moment: u64) -> Result<bool, Errno> {
+        let trigger = trap.trigger()?;
+        let _name: Option<Name> = trigger.name;
+        self.triggers.touch(trigger, Seconds(moment))?;
+        Ok(true)
+    }
+
+    fn enter(&mut self, walker: u32, mount: u64) -> Result<bool, Errno> {
+        self.uses.enter(WalkerId(walker), MountId(mount))?;
+        Ok(true)
+    }
+
+    fn leave(&mut self, walker: u32) -> Result<bool, Errno> {
+        self.uses.leave(WalkerId(walker))?;
+        Ok(true)
+    }
+
+    fn walks(
+        &self,
+        alloc: Global,
+        ns: u32,
+        path: &[u8],
+        traps: &[Trap],
+        end: End,
+    ) -> Result<bool, Errno> {
+        let path = AbsPath::read(path)?;
+        let walk = resolve(
+            alloc,
+            &self.subtree,
+            &self.triggers,
+            &self.waits,
+            NsId(ns),
+            &path,
+        )?;
+        Ok(is_walk(&walk, traps, end))
+    }
+
+    fn walks_kept(
+        &self,
+        alloc: Global,
+        path: &[u8],
+        traps: &[Trap],
+        end: End,
+    ) -> Result<bool, Errno> {
+        let path = AbsPath::read(path)?;
+        let kept = path.to_place(alloc)?;
+        let walk = resolve(
+            alloc,
+            &self.subtree,
+            &self.triggers,
+            &self.waits,
+            NsId(0),
+            &kept.path(),
+        )?;
+        Ok(is_walk(&walk, traps, end))
+    }
+
+    fn leads(&self, alloc: Global, ns: u32, path: &[u8], end: End) -> Result<bool, Errno> {
+        let path = AbsPath::read(path)?;
+        match position(alloc, &self.subtree, &self.triggers, NsId(ns), &path) {
+            Ok(at) => Ok(end.is_at(&at)),
+            Err(Errno::NoMemory) => Err(Errno::NoMemory),
+            Err(errno) => Ok(end.fails(errno)),
+        }
+    }
+
+    fn pick(&self, alloc: Global, ask: Ask) -> Result<Option<Trigger>, Errno> {
+        pick(
+            alloc,
+            &self.subtree,
+            &self.triggers,
+            &self.waits,
+            &self.uses,
+            FsId(ask.0),
+            ask.1,
+            Seconds(ask.2),
+            ask.3,
+        )
+    }
+
+    fn picks(&self, alloc: Global, ask: Ask, expected: Option<Trap>) -> Result<bool, Errno> {
+        match (self.pick(alloc, ask)?, expected) {
+            (Some(trigger), Some(trap)) => Ok(trap.is(&trigger)),
+            (None, None) => Ok(true),
+            _ => Ok(false),
+        }
+    }
+
+    /// What changes nothing.
+    fn look(&self, alloc: Global, call: Call) -> Result<bool, Errno> {
+        match call {
+            Call::Walk(ns, path, traps, end) => self.walks(alloc, ns, path, traps, end),
+            Call::KeptWalk(path, traps, end) => self.walks_kept(alloc, path, traps, end),
+            Call::Leads(ns, path, end) => self.leads(alloc, ns, path, end),
+            Call::Picks(ask, expected) => self.picks(alloc, ask, expected),
+            _ => Ok(false),
+        }
+    }
+
+    /// Each call goes as it says.
+    fn make_all(&mut self, alloc: Global, calls: &[Call]) -> Result<bool, Errno> {
+        for call in calls {
+            if !self.make(alloc, *call)? {
+                return Ok(false);
+            }
+        }
+        Ok(true)
+    }
+
+    /// The facts of these letters come to hold.
+    fn hold(&mut self, alloc: Global, known: &[Fact], letters: &[u8]) -> Result<bool, Errno> {
+        for letter in letters {
+            let Some(fact) = known.iter().find(|fact| fact.0 == *letter) else {
+                return Ok(false);
+            };
+            if !self.make(alloc, fact.1)? {
+                return Ok(false);
+            }
+        }
+        Ok(true)
+    }
+
+    fn is_so_where(
+        &mut self,
+        alloc: Global,
+        setting: Setting,
+        facts: &[u8],
+        call: Call,
+    ) -> Result<bool, Errno> {
+        if !self.make_all(alloc, setting.0)? {
+            return Ok(false);
+        }
+        if !self.hold(alloc, setting.1, facts)? {
+            return Ok(false);
+        }
+        self.make(alloc, call)
+    }
+}
+
+impl Stage for Parts {
+    type Call = Call;
+
+    fn make(&mut self, alloc: Global, call: Call) -> Result<bool, Errno> {
+        match call {
+            Call::Mount(parent, path, fs) => {
+                self.mount(alloc, parent, path, fs)?;
+                Ok(true)
+            }
+            Call::Indirect(parent, path, fs) => self.autofs(alloc, parent, path, fs, false),
+            Call::Direct(parent, path, fs) => self.autofs(alloc, parent, path, fs, true),
+            Call::Share(mount) => self.share(alloc, mount),
+            Call::Copy => self.copy(alloc),
+            Call::Expires(walker, trap) => self.open(alloc, walker, TokenKind::Expire, trap),
+            Call::IsPending(walker, trap) => self.open(alloc, walker, TokenKind::Missing, trap),
+            Call::Makes(trap) => self.mkdir(trap),
+            Call::Catatonic(fs) => self.set_catatonic(fs),
+            Call::Used(trap, moment) => self.touch(trap, moment),
+            Call::Enters(walker, mount) => self.enter(walker, mount),
+            Call::Leaves(walker) => self.leave(walker),
+            _ => self.look(alloc, call),
+        }
+    }
+}
+
+/// The steps of two tables go as they say, one after the other, from mount 1 on.
+pub fn play_parts(rt: &impl Abort, alloc: Global, first: &[Step<Call>], then: &[Step<Call>]) {
+    let Ok(mut parts) = Parts::new(alloc) else {
+        panic!(rt; "no world");
+    };
+    plays(rt, alloc, &mut parts, first);
+    plays(rt, alloc, &mut parts, then);
+}
+
+/// A letter for a fact, and the call by which it comes to hold.
+#[derive(Clone, Copy)]
+pub struct Fact(pub u8, pub Call);
+
+/// Where facts may hold: how the world begins, and the facts that are known.
+#[derive(Clone, Copy)]
+pub struct Setting(pub &'static [Call], pub &'static [Fact]);
+
+impl Setting {
+    /// Whether a call goes as it says where these facts hold, each told by its letter.
+    pub fn is_so_where(self, alloc: Global, facts: &[u8], call: Call) -> Result<bool, Errno> {
+        let mut parts = Parts::new(alloc)?;
+        parts.is_so_where(alloc, self, facts, call)
+    }
+}

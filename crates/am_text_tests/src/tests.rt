@@ -1,0 +1,8 @@
+//! Tables of texts in and what is expected out, and one player.
+
+mod lines;
+mod maps;
+mod masters;
+mod names;
+mod packets;
+mod table;

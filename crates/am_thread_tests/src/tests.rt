@@ -1,0 +1,9 @@
+//! Threads are joined, each test ends by itself, and what it says depends on no schedule.
+
+mod callers;
+mod crowds;
+mod ends;
+mod releases;
+mod rows;
+mod shared;
+mod worlds;

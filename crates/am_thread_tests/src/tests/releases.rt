@@ -1,0 +1,128 @@
+//! A walker that waits in a thread of its own, until the daemon's thread has released it.
+
+ghost use Rattle.std.specs.Prelude.{◌≡◌, []};
+
+use crate::tests::worlds::{Beginning, call, is_line, world_and_ends};
+use am_names::WalkerId;
+use am_pipe::{PutEnd, pipe};
+use am_shared::{Caller, Opened, gather, share};
+use std::alloc::{AllocError, Global};
+use std::marker::Brand;
+use std::process::Abort;
+use std::sync::Wait;
+use std::sync::atomic::{AtomicU32, Ordering};
+use std::sync::ledger::Blank;
+use std::test::*;
+use std::thread;
+use std::thread::Threads;
+
+fn answers<L: Opened, R: Wait>(
+    rt: &R,
+    alloc: Global,
+    caller: &mut Caller<L>,
+    line: &[u8],
+    wanted: &[u8],
+) -> bool {
+    match call(rt, alloc, caller, line) {
+        Some(receipt) => is_line(alloc, &receipt.answer, wanted),
+        None => false,
+    }
+}
+
+/// Once it is released, the walk goes on at once.
+fn walks<L: Opened, R: Wait>(rt: &R, alloc: Global, caller: &mut Caller<L>) -> bool {
+    caller.wait_release(rt, WalkerId(7));
+    answers(rt, alloc, caller, b"resume 7 101 room", b"at 3 /\n")
+}
+
+fn serves<L: Opened, R: Wait>(rt: &R, alloc: Global, caller: &mut Caller<L>) -> bool {
+    answers(rt, alloc, caller, b"deliver 1", b"job 1\n")
+        && answers(rt, alloc, caller, b"act 1 ok", b"did mkdir\n")
+        && answers(rt, alloc, caller, b"act 1 ok", b"did mount 3\n")
+        && answers(rt, alloc, caller, b"act 1 ok", b"did record\n")
+        && answers(rt, alloc, caller, b"act 1 ok", b"did reply\n")
+}
+
+/// The first caller is the walker, and the second the daemon.
+fn takes_part<L: Opened, R: Wait>(
+    rt: &R,
+    alloc: Global,
+    done: &AtomicU32,
+    index: usize,
+    caller: &mut Caller<L>,
+) {
+    let right = if index == 0 {
+        walks(rt, alloc, caller)
+    } else {
+        serves(rt, alloc, caller)
+    };
+    if right {
+        done.fetch_add(1, Ordering::SeqCst);
+    }
+}
+
+fn begins<L: Opened, R: Wait>(rt: &R, alloc: Global, callers: &mut [Caller<L>]) -> bool {
+    let Some(first) = callers.first_mut() else {
+        return false;
+    };
+    answers(
+        rt,
+        alloc,
+        first,
+        b"attach /auto",
+        b"fs 2 attach 1 mount 2\n",
+    ) && answers(
+        rt,
+        alloc,
+        first,
+        b"walk 7 0 /auto/home 100 room",
+        b"wait 1\n",
+    )
+}
+
+fn released<L: Opened + Send + Sync, R: Threads + Wait + Abort + Sync>(
+    rt: &R,
+    alloc: Global,
+    blank: Blank,
+    begun: Beginning,
+    put: PutEnd,
+) -> Result<(), AllocError>
+    requires blank { (blank.name ≡ L.name) × (blank.parts ≡ L.parts) × (blank.parts ≡ 2) }
+    requires opening { L.opening ≡ record {
+      limits = begun.limits;
+      master = begun.master;
+      maps = begun.maps.items;
+    } }
+    requires put { put.sent ≡ [] }
+{
+    let Beginning {
+        limits,
+        master,
+        maps,
+    } = begun;
+    let mut callers = share::<L>(alloc, blank, limits, master, maps, put, 2)?;
+    assert!(rt;
+        begins(rt, alloc, callers.as_mut_slice()),
+        "the walker waits"
+    );
+    let done = AtomicU32::new(0);
+    thread::for_each_mut(
+        rt,
+        callers.as_mut_slice(),
+        2,
+        &|index, caller| takes_part(rt, alloc, &done, index, caller),
+    );
+    assert_eq!(rt; done.load(Ordering::SeqCst), 2);
+    let (count, test) = gather(rt, callers, |_shared, count, test| (count, test));
+    assert!(rt; count == 8 && test, "eight calls");
+    Ok(())
+}
+
+#[test]
+fn a_walker_waits_for_its_release(rt: HostRuntime) -> Result<(), Fail> {
+    let alloc = rt.alloc();
+    let begun = world_and_ends(alloc, b"home srv:/home")?;
+    let (put, _takers) = pipe(alloc, 1, 1)?;
+    released::<Brand, HostRuntime>(&rt, alloc, Blank::new(2), begun, put)?;
+    Ok(())
+}

@@ -1,0 +1,85 @@
+//! What a shared world begins with, events that are read from their lines, and the calls that are made.
+
+ghost use Rattle.std.specs.Prelude.{◌≡◌, length};
+ghost use Rattle.am_names.specs.Limits.{IsInRange};
+
+use am_map::{Map, MapKind};
+use am_master::Master;
+use am_names::{Errno, Limits};
+use am_script::answer_line::push_answer;
+use am_script::event_line::read_event;
+use am_shared::{Caller, Opened, Receipt};
+use am_world::{Answer, Event, World};
+use std::alloc::{AllocError, Global};
+use std::sync::Wait;
+
+const LIMITS: Limits = Limits {
+    mounts: 1_000_000,
+    waiters: 1_024,
+    tokens: u32::MAX,
+};
+
+/// An autofs at /auto.
+const POINTS: &[u8] = b"/auto auto.home --timeout=10";
+
+/// What a world begins with, as `share` and `World::new` want it.
+#[derive(Drop)]
+pub struct Beginning {
+    pub limits: Limits,
+    pub master: Master,
+    pub maps: Vec<Map>,
+    ghost limits_fit: { IsInRange limits },
+    ghost maps_fit: { length maps.items ≡ length master },
+}
+
+/// A world with an autofs at /auto, of this map.
+pub fn world_and_ends(alloc: Global, map: &[u8]) -> Result<Beginning, AllocError> {
+    let master = Master::read(alloc, POINTS).map_err(|_fault| AllocError)?;
+    let map = Map::read(alloc, map, MapKind::Indirect).map_err(|_fault| AllocError)?;
+    let mut maps = Vec::new(alloc);
+    maps.push(map)?;
+    let limits = LIMITS;
+    if !limits.is_in_range() || maps.len() != master.entries().len() {
+        return Err(AllocError);
+    }
+    Ok(Beginning {
+        limits,
+        master,
+        maps,
+    })
+}
+
+/// The same world, for one thread.
+pub fn world_of(alloc: Global, map: &[u8]) -> Result<World, Errno> {
+    let Beginning {
+        limits,
+        master,
+        maps,
+    } = world_and_ends(alloc, map)?;
+    World::new(alloc, limits, master, maps)
+}
+
+/// The event of a line, read again where there was no memory for it.
+fn event_in_the_end(alloc: Global, line: &[u8]) -> Option<Event> {
+    match read_event(alloc, line) {
+        Ok(event) => event,
+        Err(_) => read_event(alloc, line).ok()?,
+    }
+}
+
+/// Makes the event of a line, unless it is none or there is no memory.
+pub fn call<'a, L: Opened, R: Wait>(
+    rt: &R,
+    alloc: Global,
+    caller: &'a mut Caller<L>,
+    line: &[u8],
+) -> Option<&'a Receipt> {
+    let event = event_in_the_end(alloc, line)?;
+    caller.call(rt, alloc, event).ok()
+}
+
+/// Whether the line of an answer is this.
+pub fn is_line(alloc: Global, answer: &Answer, wanted: &[u8]) -> bool {
+    let mut line = Vec::new(alloc);
+    push_answer(&mut line, answer).is_ok() && line.as_slice() == wanted
+}

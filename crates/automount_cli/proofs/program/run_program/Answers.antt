@@ -1,0 +1,5 @@
+use Rattle.automount_cli.proofs.Ends.{ends_refused}
+use Rattle.automount_cli.proofs.program.run_program.Goals as goal
+
+pub returns-in-Err : goal.returns-in-Err
+returns-in-Err g c = ends_refused (g.R.Read.remaining c.args.reader.now) (g.W.Write.contents c.args.writer.now) (g.E.Write.contents c.args.errors.now) (g.E.Write.contents c.refuse.new.errors) c.in-Err.fault c.refuse.result c.refuse.ensures

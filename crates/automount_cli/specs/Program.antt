@@ -1,0 +1,34 @@
+-- How a run of the program ends.
+use Rattle.std.specs.Prelude.{◌≡◌, ℕ, List, Option}
+use Rattle.am_script.specs.Played.{PlaysInput, StopsInput}
+use Rattle.am_script.specs.declared.fault.ScriptFault.{ScriptFault}
+use Rattle.am_script.specs.declared.play.Summary.{Summary}
+use Rattle.automount_cli.specs.Args.{fault_number}
+use Rattle.automount_cli.specs.declared.args.ArgsFault.{ArgsFault}
+
+pub data End : Type 0 where
+  -- the script is played to its end
+  Played : Summary → End
+  -- the script stops at its fault
+  Stopped : ScriptFault → End
+  -- the command line is none
+  Refused : ArgsFault → End
+
+-- the exit status
+abbrev pub status_of : End → ℕ
+status_of (Played summary) = 0
+status_of (Stopped fault) = 1
+status_of (Refused fault) = fault_number fault
+
+-- What is read and written, and what is told of it: nothing is told of a script that is played to its
+-- end, and nothing is read or written where the command line is none.
+abbrev pub Leaves : End → Option (List ℕ) → Option (List ℕ) → Option (List ℕ) → Option (List ℕ) → Option (List ℕ) → Option (List ℕ) → Type 0
+Leaves (Played summary) input rest old new quiet told = PlaysInput input rest old new summary × (told ≡ quiet)
+Leaves (Stopped fault) input rest old new quiet told = StopsInput input rest old new fault
+Leaves (Refused fault) input rest old new quiet told = (rest ≡ input) × (new ≡ old)
+
+-- the program exits with this status
+pub record ExitsWith (input rest old new quiet told : Option (List ℕ)) (status : ℕ) : Type 0 where
+  pub end : End
+  pub status_is : status ≡ status_of end
+  pub streams : Leaves end input rest old new quiet told
