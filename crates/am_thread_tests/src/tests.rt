@@ -5,5 +5,6 @@ mod crowds;
 mod ends;
 mod releases;
 mod rows;
+mod runner;
 mod shared;
 mod worlds;

@@ -1,0 +1,326 @@
+//! A run of walkers, workers and an expirer.
+
+ghost use Rattle.std.specs.Prelude.{◌≡◌, ◌+◌, ◌<◌, ◌≤◌, ◌^◌, [], length, vec_len, All, IfOk};
+ghost use Rattle.am_names.specs.Limits.{IsInRange};
+
+use crate::walkers::{expirer, walker};
+use crate::workers::{Backend, Gate, daemon_worker};
+use am_machine::{Answer, Entry, Event};
+use am_map::{Map, MapKind};
+use am_master::Master;
+use am_names::{AbsPath, Errno, FsId, Limits, Trigger, WalkerId};
+use am_pipe::{PutEnd, TakeEnd, pipe};
+use am_shared::{Caller, Opened, Shared, gather, share};
+use am_state::Obs;
+use std::alloc::{AllocError, Global};
+use std::marker::Brand;
+use std::sync::Wait;
+use std::sync::atomic::{AtomicBool, Ordering};
+use std::sync::ledger::Blank;
+use std::thread;
+use std::thread::{Scope, Threads};
+
+/// How many notes the pipe has room for.
+const CAPACITY: usize = 64;
+
+const LIMITS: Limits = Limits {
+    mounts: u32::MAX,
+    waiters: 65_536,
+    tokens: u32::MAX,
+};
+
+/// An autofs at /auto, and a map in which each key is found.
+const MASTER: &[u8] = b"/auto auto.home";
+
+const MAP: &[u8] = b"* srv:/&";
+
+/// What a run came to.
+#[derive(Clone, Copy, PartialEq, Eq, Debug)]
+pub struct Tally {
+    /// Rounds that were made, those that were refused among them.
+    pub rounds: u64,
+    /// How often a walker entered a mount, and left one.
+    pub entered: u64,
+    pub left: u64,
+}
+
+/// Nothing is held up.
+struct Open;
+
+impl Gate for Open {
+    fn pass(&self, _call: u32) {}
+}
+
+/// All goes well.
+#[derive(Drop)]
+struct Succeeds;
+
+impl Backend for Succeeds {
+    fn mount(&mut self, _entry: &am_map::Entry) -> bool {
+        true
+    }
+
+    fn umount(&mut self, _trigger: &Trigger) -> bool {
+        true
+    }
+}
+
+/// What the world of a run begins with, as `share` wants it.
+#[derive(Drop)]
+struct Beginning {
+    limits: Limits,
+    master: Master,
+    maps: Vec<Map>,
+    ghost limits_fit: { IsInRange limits },
+    ghost maps_fit: { length maps.items ≡ length master },
+}
+
+fn make_beginning(alloc: Global) -> Result<Beginning, AllocError> {
+    let master = Master::read(alloc, MASTER).map_err(|_fault| AllocError)?;
+    let map = Map::read(alloc, MAP, MapKind::Indirect).map_err(|_fault| AllocError)?;
+    let mut maps = Vec::new(alloc);
+    maps.push(map)?;
+    let limits = LIMITS;
+    if !limits.is_in_range() || maps.len() != master.entries().len() {
+        return Err(AllocError);
+    }
+    Ok(Beginning {
+        limits,
+        master,
+        maps,
+    })
+}
+
+/// What each thread is to do.
+#[derive(Clone, Copy)]
+struct Plan {
+    fs: FsId,
+    rounds: u32,
+}
+
+fn walks<L: Opened, R: Wait>(
+    rt: &R,
+    alloc: Global,
+    caller: Caller<L>,
+    number: u32,
+    rounds: u32,
+) -> Caller<L> {
+    let text: &[u8] = if number % 2 == 1 {
+        b"/auto/k0"
+    } else {
+        b"/auto/k1"
+    };
+    match AbsPath::read(text) {
+        Ok(path) => walker(rt, alloc, caller, WalkerId(number), &path, rounds),
+        Err(_) => caller,
+    }
+}
+
+/// Number 0 asks for expiries, and the others walk.
+fn asks<L: Opened, R: Wait>(
+    rt: &R,
+    alloc: Global,
+    caller: Caller<L>,
+    number: u32,
+    plan: Plan,
+) -> Caller<L> {
+    if number == 0 {
+        return expirer(rt, alloc, caller, WalkerId(0), plan.fs, plan.rounds);
+    }
+    walks(rt, alloc, caller, number, plan.rounds)
+}
+
+fn works<L: Opened, R: Wait>(
+    rt: &R,
+    alloc: Global,
+    caller: Caller<L>,
+    taker: TakeEnd,
+    stop: &AtomicBool,
+) -> Caller<L> {
+    daemon_worker(rt, alloc, caller, taker, &Open, Succeeds, stop).0
+}
+
+/// Starts a worker for each take end, then the others, joins these, tells the workers to stop, and
+/// joins them. Where a thread can't be started, what was started ends in the same order.
+fn all_back<'s, E, L: Opened + Send + 's, R: Threads + Wait + Sync>(
+    scope: &Scope<'s, E>,
+    rt: &'s R,
+    alloc: Global,
+    mut callers: Vec<Caller<L>>,
+    takers: Vec<TakeEnd>,
+    stop: &'s AtomicBool,
+    plan: Plan,
+) -> Result<Vec<Caller<L>>, AllocError>
+    ensures { IfOk result (λ back. vec_len back ≡ vec_len callers) }
+{
+    let count = callers.len();
+    let mut working = Vec::with_capacity(alloc, takers.len())?;
+    let mut asking = Vec::with_capacity(alloc, count)?;
+    let mut back = Vec::with_capacity(alloc, count)?;
+    for taker in takers {
+        let Some(caller) = callers.pop() else {
+            break;
+        };
+        let Ok(worker) = scope.spawn(move || works(rt, alloc, caller, taker, stop)) else {
+            // Nobody serves what walkers might ask for.
+            stop.store(true, Ordering::SeqCst);
+            return Err(AllocError);
+        };
+        working.push_reserved(worker);
+    }
+    let mut number = 0_u32;
+    for caller in callers {
+        if let Ok(thread) = scope.spawn(move || asks(rt, alloc, caller, number, plan)) {
+            asking.push_reserved(thread);
+        }
+        number = number.wrapping_add(1);
+    }
+    for thread in asking {
+        back.push_reserved(thread.join(rt));
+    }
+    stop.store(true, Ordering::SeqCst);
+    for thread in working {
+        back.push_reserved(thread.join(rt));
+    }
+    if back.len() != count {
+        return Err(AllocError);
+    }
+    Ok(back)
+}
+
+/// An autofs at /auto.
+fn attach<L: Opened, R: Wait>(
+    rt: &R,
+    alloc: Global,
+    callers: &mut [Caller<L>],
+) -> Result<FsId, AllocError> {
+    let Ok(path) = AbsPath::read(b"/auto") else {
+        return Err(AllocError);
+    };
+    let path = path.to_place(alloc)?;
+    let Some(first) = callers.first_mut() else {
+        return Err(AllocError);
+    };
+    match first.call(rt, alloc, Event::Attach { path })?.answer {
+        Answer::Attached { fs, .. } => Ok(fs),
+        _ => Err(AllocError),
+    }
+}
+
+fn is_out_of_memory(answer: &Answer) -> bool {
+    match answer {
+        Answer::Refused { errno } => *errno == Errno::NoMemory,
+        _ => false,
+    }
+}
+
+/// Whether a round begins here. Where memory runs out it begins again.
+fn is_round(entry: &Entry) -> bool {
+    match entry.event {
+        Event::Walk { .. } => !is_out_of_memory(&entry.answer),
+        _ => false,
+    }
+}
+
+fn is_entered(obs: &Obs) -> bool {
+    matches!(obs, Obs::Entered { .. })
+}
+
+fn is_left(obs: &Obs) -> bool {
+    matches!(obs, Obs::Left { .. })
+}
+
+fn rounds_of(history: &[Entry]) -> u64 {
+    history.iter().filter(|entry| is_round(entry)).count() as u64
+}
+
+fn entered_in(trace: &[Obs]) -> u64 {
+    trace.iter().filter(|obs| is_entered(obs)).count() as u64
+}
+
+fn left_in(trace: &[Obs]) -> u64 {
+    trace.iter().filter(|obs| is_left(obs)).count() as u64
+}
+
+/// Rounds are counted where the receipts of all callers match the history.
+fn tally_of(shared: &Shared, is_matched: bool) -> Tally {
+    if !is_matched {
+        return Tally {
+            rounds: 0,
+            entered: 0,
+            left: 0,
+        };
+    }
+    let trace = shared.world().trace();
+    Tally {
+        rounds: rounds_of(shared.history()),
+        entered: entered_in(trace),
+        left: left_in(trace),
+    }
+}
+
+fn run<L: Opened + Send + Sync, R: Threads + Wait + Sync>(
+    rt: &R,
+    alloc: Global,
+    blank: Blank,
+    begun: Beginning,
+    put: PutEnd,
+    takers: Vec<TakeEnd>,
+    callers: u32,
+    rounds: u32,
+) -> Result<Tally, AllocError>
+    requires blank { (blank.name ≡ L.name) × (blank.parts ≡ L.parts) }
+    requires callers { (blank.parts ≡ callers) × (0 < callers) }
+    requires opening { L.opening ≡ record {
+      limits = begun.limits;
+      master = begun.master;
+      maps = begun.maps.items;
+    } }
+    requires put { put.sent ≡ [] }
+{
+    let Beginning {
+        limits,
+        master,
+        maps,
+    } = begun;
+    let mut callers = share::<L>(alloc, blank, limits, master, maps, put, callers)?;
+    let fs = attach(rt, alloc, callers.as_mut_slice())?;
+    let plan = Plan { fs, rounds };
+    let stop = AtomicBool::new(false);
+    let flag = &stop;
+    let back = thread::scope(
+        thread::scope_env(),
+        rt,
+        |scope| -> Result<Vec<Caller<L>>, AllocError>
+            ensures { IfOk result (λ back. vec_len back ≡ vec_len callers) }
+        { all_back(scope, rt, alloc, callers, takers, flag, plan) },
+    )?;
+    Ok(gather(
+        rt,
+        back,
+        |shared, _count, is_matched| tally_of(shared, is_matched),
+    ))
+}
+
+/// Runs so many walkers and workers, and an expirer, each walker and the expirer so many rounds.
+/// It is out of memory too where a thread can't be started.
+pub fn run_threads<R: Threads + Wait + Sync>(
+    rt: &R,
+    alloc: Global,
+    walkers: u32,
+    workers: u32,
+    rounds: u32,
+) -> Result<Tally, AllocError>
+    requires workers { 0 < workers }
+    requires callers { walkers + workers + 1 < 2 ^ 32 }
+{
+    let callers = walkers + workers + 1;
+    let begun = make_beginning(alloc)?;
+    let (put, takers) = pipe(alloc, CAPACITY, workers as usize)?;
+    let blank = Blank::new(callers as u64);
+    let tally = run::<Brand, R>(rt, alloc, blank, begun, put, takers, callers, rounds)?;
+    if tally.rounds != walkers as u64 * rounds as u64 {
+        return Err(AllocError);
+    }
+    Ok(tally)
+}

@@ -1,0 +1,300 @@
+//! Walkers, workers and an expirer as threads.
+
+ghost use Rattle.std.specs.Prelude.{◌≡◌, ◌<◌, [], vec_len, IfOk};
+
+use crate::tests::worlds::{Beginning, call, world_and_ends};
+use am_machine::{Answer, Entry};
+use am_map::Entry as MapEntry;
+use am_names::{AbsPath, Errno, Trigger, WalkerId};
+use am_pipe::{PutEnd, TakeEnd, pipe};
+use am_runner::{Backend, Gate, Tally, daemon_worker, run_threads, walker};
+use am_shared::{Caller, Opened, Shared, gather, share};
+use std::alloc::{AllocError, Global};
+use std::marker::Brand;
+use std::process::Abort;
+use std::sync::Wait;
+use std::sync::atomic::{AtomicBool, Ordering};
+use std::sync::ledger::Blank;
+use std::test::*;
+use std::thread;
+use std::thread::{Threads, join};
+
+/// How long the gate holds a worker up, in turns.
+const TURNS: u32 = 10_000_000;
+
+/// The worker of token 1 is held up until a walker has made its round. This can't be the walker of
+/// that token.
+#[derive(Drop)]
+struct Held {
+    arrived: AtomicBool,
+    stop: AtomicBool,
+    late: AtomicBool,
+}
+
+impl Gate for Held {
+    fn pass(&self, call: u32) {
+        if call == 1 && !has_arrived(&self.arrived) {
+            self.late.store(true, Ordering::SeqCst);
+        }
+    }
+}
+
+fn has_arrived(arrived: &AtomicBool) -> bool {
+    for _ in 0..TURNS {
+        if arrived.load(Ordering::SeqCst) {
+            return true;
+        }
+        thread::yield_now();
+    }
+    false
+}
+
+#[derive(Drop)]
+struct Succeeds;
+
+impl Backend for Succeeds {
+    fn mount(&mut self, _entry: &MapEntry) -> bool {
+        true
+    }
+
+    fn umount(&mut self, _trigger: &Trigger) -> bool {
+        true
+    }
+}
+
+fn walks<L: Opened, R: Wait>(
+    rt: &R,
+    alloc: Global,
+    held: &Held,
+    caller: Caller<L>,
+    number: u32,
+    text: &[u8],
+) -> Caller<L> {
+    let back = match AbsPath::read(text) {
+        Ok(path) => walker(rt, alloc, caller, WalkerId(number), &path, 1),
+        Err(_) => caller,
+    };
+    held.arrived.store(true, Ordering::SeqCst);
+    back
+}
+
+fn both_walk<L: Opened + Send, R: Threads + Wait + Sync>(
+    rt: &R,
+    alloc: Global,
+    held: &Held,
+    first: Caller<L>,
+    second: Caller<L>,
+) -> (Caller<L>, Caller<L>) {
+    let back = join(
+        rt,
+        || walks(rt, alloc, held, first, 7, b"/auto/k0"),
+        || walks(rt, alloc, held, second, 8, b"/auto/k1"),
+    );
+    held.stop.store(true, Ordering::SeqCst);
+    back
+}
+
+fn works<L: Opened, R: Wait>(
+    rt: &R,
+    alloc: Global,
+    held: &Held,
+    caller: Caller<L>,
+    taker: TakeEnd,
+) -> Caller<L> {
+    daemon_worker(rt, alloc, caller, taker, held, Succeeds, &held.stop).0
+}
+
+/// A caller with an end of the pipe.
+#[derive(Drop)]
+struct Worker<L: Opened> {
+    caller: Caller<L>,
+    taker: TakeEnd,
+}
+
+fn both_work<L: Opened + Send, R: Threads + Wait + Sync>(
+    rt: &R,
+    alloc: Global,
+    held: &Held,
+    first: Worker<L>,
+    second: Worker<L>,
+) -> (Caller<L>, Caller<L>) {
+    join(
+        rt,
+        || works(rt, alloc, held, first.caller, first.taker),
+        || works(rt, alloc, held, second.caller, second.taker),
+    )
+}
+
+fn is_not_released(entry: &Entry) -> bool {
+    match &entry.answer {
+        Answer::Refused { errno } => *errno == Errno::NotReleased,
+        _ => false,
+    }
+}
+
+/// What is left when all is over.
+#[derive(Clone, Copy)]
+struct End {
+    count: u64,
+    test: bool,
+    /// No walker resumed before it was released.
+    are_released: bool,
+}
+
+fn end_of(shared: &Shared, count: u64, test: bool) -> End {
+    let are_released = !shared.history().iter().any(is_not_released);
+    End {
+        count,
+        test,
+        are_released,
+    }
+}
+
+/// Two walkers and two workers, all at once.
+fn all_at_once<L: Opened + Send, R: Threads + Wait + Sync>(
+    rt: &R,
+    alloc: Global,
+    held: &Held,
+    walkers: (Caller<L>, Caller<L>),
+    workers: (Worker<L>, Worker<L>),
+) -> ((Caller<L>, Caller<L>), (Caller<L>, Caller<L>)) {
+    join(
+        rt,
+        || both_walk(rt, alloc, held, walkers.0, walkers.1),
+        || both_work(rt, alloc, held, workers.0, workers.1),
+    )
+}
+
+fn take_worker<L: Opened>(
+    callers: &mut Vec<Caller<L>>,
+    takers: &mut Vec<TakeEnd>,
+) -> Option<Worker<L>> {
+    let caller = callers.pop()?;
+    let taker = takers.pop()?;
+    Some(Worker { caller, taker })
+}
+
+/// All four callers, when the walkers have walked and the workers have stopped.
+fn four_back<L: Opened + Send, R: Threads + Wait + Sync>(
+    rt: &R,
+    alloc: Global,
+    held: &Held,
+    mut callers: Vec<Caller<L>>,
+    mut takers: Vec<TakeEnd>,
+) -> Result<Vec<Caller<L>>, AllocError>
+    ensures { IfOk result (λ back. vec_len back ≡ 4) }
+{
+    let mut back = Vec::with_capacity(alloc, 4)?;
+    let Some(first) = take_worker(&mut callers, &mut takers) else {
+        return Err(AllocError);
+    };
+    let Some(second) = take_worker(&mut callers, &mut takers) else {
+        return Err(AllocError);
+    };
+    let Some(third) = callers.pop() else {
+        return Err(AllocError);
+    };
+    let Some(fourth) = callers.pop() else {
+        return Err(AllocError);
+    };
+    let (walkers, workers) = all_at_once(rt, alloc, held, (third, fourth), (first, second));
+    back.push_reserved(walkers.0);
+    back.push_reserved(walkers.1);
+    back.push_reserved(workers.0);
+    back.push_reserved(workers.1);
+    Ok(back)
+}
+
+fn attach<L: Opened, R: Wait>(rt: &R, alloc: Global, callers: &mut [Caller<L>]) -> bool {
+    match callers.first_mut() {
+        Some(first) => call(rt, alloc, first, b"attach /auto").is_some(),
+        None => false,
+    }
+}
+
+fn meets<L: Opened + Send + Sync, R: Threads + Wait + Abort + Sync>(
+    rt: &R,
+    alloc: Global,
+    blank: Blank,
+    begun: Beginning,
+    put: PutEnd,
+    takers: Vec<TakeEnd>,
+) -> Result<(), AllocError>
+    requires blank { (blank.name ≡ L.name) × (blank.parts ≡ L.parts) × (blank.parts ≡ 4) }
+    requires opening { L.opening ≡ record {
+      limits = begun.limits;
+      master = begun.master;
+      maps = begun.maps.items;
+    } }
+    requires put { put.sent ≡ [] }
+{
+    let Beginning {
+        limits,
+        master,
+        maps,
+    } = begun;
+    let mut callers = share::<L>(alloc, blank, limits, master, maps, put, 4)?;
+    assert!(rt; attach(rt, alloc, callers.as_mut_slice()), "an autofs");
+    let held = Held {
+        arrived: AtomicBool::new(false),
+        stop: AtomicBool::new(false),
+        late: AtomicBool::new(false),
+    };
+    let back = four_back(rt, alloc, &held, callers, takers)?;
+    let end = gather(rt, back, |shared, count, test| end_of(shared, count, test));
+    assert!(rt;
+        !held.late.load(Ordering::SeqCst),
+        "the other worker serves meanwhile"
+    );
+    assert_eq!(rt; end.count, 17);
+    assert!(rt; end.test, "each call has its receipt");
+    assert!(rt; end.are_released, "no walker resumes too early");
+    Ok(())
+}
+
+/// Each walker walks to a key of its own, and each worker serves one of them.
+fn two_at_once<R: Threads + Wait + Abort + Sync>(
+    rt: &R,
+    alloc: Global,
+    capacity: usize,
+) -> Result<(), AllocError>
+    requires { 0 < capacity }
+{
+    let begun = world_and_ends(alloc, b"* srv:/any")?;
+    let (put, takers) = pipe(alloc, capacity, 2)?;
+    meets::<Brand, R>(rt, alloc, Blank::new(4), begun, put, takers)
+}
+
+#[test]
+fn two_at_once_with_room(rt: HostRuntime) -> Result<(), Fail> {
+    two_at_once(&rt, rt.alloc(), 64)?;
+    Ok(())
+}
+
+#[test]
+fn two_at_once_with_one_place(rt: HostRuntime) -> Result<(), Fail> {
+    two_at_once(&rt, rt.alloc(), 1)?;
+    Ok(())
+}
+
+fn tally(count: u64) -> Tally {
+    Tally {
+        rounds: count,
+        entered: count,
+        left: count,
+    }
+}
+
+#[test]
+fn four_walkers_and_two_workers(rt: HostRuntime) -> Result<(), Fail> {
+    let made = run_threads(&rt, rt.alloc(), 4, 2, 10)?;
+    assert_eq!(rt; made, tally(40));
+    Ok(())
+}
+
+#[test]
+fn one_walker_and_one_worker(rt: HostRuntime) -> Result<(), Fail> {
+    let made = run_threads(&rt, rt.alloc(), 1, 1, 3)?;
+    assert_eq!(rt; made, tally(3));
+    Ok(())
+}
