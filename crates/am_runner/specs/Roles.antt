@@ -1,6 +1,6 @@
 -- What each role of a run makes: the receipts of the caller that comes back.
-use Rattle.std.specs.Prelude.{◌≡◌, ◌⊎◌, ⊤, ℕ, Bool, true, List, ◌++◌, All, Any, Some, drop, length}
-use Rattle.am_names.specs.declared.row.PipeState.TheVariants.{Room}
+use Rattle.std.specs.Prelude.{◌≡◌, ◌⊎◌, ⊤, ℕ, Bool, true, List, ◌++◌, All, Any, Some}
+use Rattle.am_names.specs.declared.trigger.PipeState.TheVariants.{Room}
 use Rattle.am_machine.specs.declared.event.Event.{Event}
 use Rattle.am_machine.specs.declared.event.Event.TheVariants as events
 use Rattle.am_machine.specs.declared.answer.Answer.{Answer}
@@ -22,28 +22,35 @@ IsOf event receipt = receipt.event ≡ event
 
 -- a walker resumes its own walk or expiry, at moment 0, where the pipe has room
 abbrev pub Resumes : ℕ → Receipt → Type 0
-Resumes walker receipt = receipt.event ≡ events.Resume walker 0 Room
+Resumes walker receipt = IsOf (events.Resume walker 0 Room) receipt
+
+-- a walker makes this walk, resumes, or leaves
+abbrev pub IsOfRound : Event → ℕ → Receipt → Type 0
+IsOfRound walk walker receipt =
+    IsOf walk receipt ⊎ Resumes walker receipt ⊎ IsOf (events.Leave walker) receipt
 
 -- a walker begins a walk along its path in the first namespace, resumes it, or leaves
 abbrev pub IsOfWalker : ℕ → List (List ℕ) → Receipt → Type 0
-IsOfWalker walker path receipt =
-    (receipt.event ≡ events.Walk walker 0 path 0 Room) ⊎ Resumes walker receipt
-    ⊎ (receipt.event ≡ events.Leave walker)
+IsOfWalker walker path receipt = IsOfRound (events.Walk walker 0 path 0 Room) walker receipt
 
 -- an expirer asks for an immediate expiry of its file system, or resumes
 abbrev pub IsOfExpirer : ℕ → ℕ → Receipt → Type 0
 IsOfExpirer walker fs receipt =
-    (receipt.event ≡ events.Expire walker fs 0 true Room) ⊎ Resumes walker receipt
+    IsOf (events.Expire walker fs 0 true Room) receipt ⊎ Resumes walker receipt
 
 -- the packet of one of these notes is delivered, byte for byte
 abbrev pub IsDelivery : List (ℕ × Note) → Receipt → Type 0
 IsDelivery taken receipt =
     Any (λ x. receipt.event ≡ events.Deliver x.1.token (Some x.1.bytes)) taken
 
+-- an act of this job
+abbrev pub IsActOf : ℕ → Receipt → Type 0
+IsActOf job receipt = (ok : Bool) × (receipt.event ≡ events.Act job ok)
+
 -- an act of a job which such a delivery, one of these receipts, began
 abbrev pub IsActOfJob : List (ℕ × Note) → List Receipt → Receipt → Type 0
 IsActOfJob taken made receipt =
-    (job : ℕ) × (ok : Bool) × (receipt.event ≡ events.Act job ok)
+    (job : ℕ) × IsActOf job receipt
     × Any (λ begun. IsDelivery taken begun × (begun.answer ≡ answers.Job job)) made
 
 -- A worker took notes out of the pipe, and each receipt that it added is of a delivery of one of them,

@@ -1,5 +1,6 @@
 //! The calls of a thread, made again where memory runs out.
 
+ghost use Rattle.am_machine.specs.declared.answer.Answer.TheVariants.{Refused};
 ghost use Rattle.am_runner.specs.Roles.{Calls, IsReplyTo};
 
 use am_machine::{Answer, Event};
@@ -30,7 +31,7 @@ pub enum Reply {
 }
 
 fn refusal(errno: Errno) -> Reply
-    ensures { (answer : _) → IsReplyTo answer result }
+    ensures { IsReplyTo (Refused errno) result }
 {
     match errno {
         Errno::NoMemory => Reply::NoMemory,

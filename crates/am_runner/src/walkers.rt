@@ -1,8 +1,6 @@
 //! Who walks, and who asks for expiries.
 
-ghost use Rattle.std.specs.Prelude.{◌⊎◌, ◌≡◌, true};
-ghost use Rattle.am_machine.specs.declared.event.Event.TheVariants as events;
-ghost use Rattle.am_runner.specs.Roles.{Adds, IsOf, Resumes, IsOfWalker, IsOfExpirer};
+ghost use Rattle.am_runner.specs.Roles.{Adds, Resumes, IsOfRound, IsOfWalker, IsOfExpirer};
 
 use crate::calls::{Reply, call};
 use am_machine::Event;
@@ -45,8 +43,7 @@ fn round<L: Opened, R: Wait>(
     walker: WalkerId,
     walk: &Event,
 )
-    ensures { Adds (λ receipt. IsOf walk.now receipt ⊎ Resumes walker receipt
-        ⊎ IsOf (events.Leave walker) receipt) caller.old caller.new }
+    ensures { Adds (IsOfRound walk.now walker) caller.old caller.new }
 {
     let begun = call(rt, alloc, caller, walk);
     let reply = settle(rt, alloc, caller, walker, begun);

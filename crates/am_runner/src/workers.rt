@@ -1,8 +1,7 @@
 //! Who serves: the daemon's workers.
 
-ghost use Rattle.std.specs.Prelude.{◌≡◌, Bool, Some};
-ghost use Rattle.am_machine.specs.declared.event.Event.TheVariants as events;
-ghost use Rattle.am_runner.specs.Roles.{Adds, Calls, IsActOf, Serves, Works};
+ghost use Rattle.std.specs.Prelude.{◌≡◌, [], ◌∷◌};
+ghost use Rattle.am_runner.specs.Roles.{Adds, IsActOf, Serves};
 
 use crate::calls::{Reply, TRIES, call};
 use am_job::Act;
@@ -67,7 +66,7 @@ fn next_act<L: Opened, R: Wait>(
     Err(AllocError)
 }
 
-/// Makes the next act of a job. Tells whether the job may go on.
+/// Makes the next act of a job.
 fn act<L: Opened, B: Backend, R: Wait>(
     rt: &R,
     alloc: Global,
@@ -87,6 +86,18 @@ fn act<L: Opened, B: Backend, R: Wait>(
     }
 }
 
+/// Whether a job goes on behind this reply. Where memory ran out for good, nobody is to wait for it.
+fn goes_on<L: Opened, R: Wait>(rt: &R, caller: &Caller<L>, reply: Reply) -> bool {
+    match reply {
+        Reply::Done => true,
+        Reply::NoMemory => {
+            caller.give_up(rt);
+            false
+        }
+        _ => false,
+    }
+}
+
 /// Makes the acts of a job one by one, until there are no more or one is refused.
 fn finish<L: Opened, B: Backend, R: Wait>(
     rt: &R,
@@ -98,13 +109,9 @@ fn finish<L: Opened, B: Backend, R: Wait>(
     ensures { Adds (IsActOf job) caller.old caller.new }
 {
     for _ in rt.forever() {
-        match act(rt, alloc, caller, job, backend) {
-            Reply::Done => {}
-            Reply::NoMemory => {
-                caller.give_up(rt);
-                break;
-            }
-            _ => break,
+        let reply = act(rt, alloc, caller, job, backend);
+        if !goes_on(rt, caller, reply) {
+            break;
         }
     }
 }
@@ -115,12 +122,13 @@ fn serve<L: Opened, G: Gate, B: Backend, R: Wait>(
     rt: &R,
     alloc: Global,
     caller: &mut Caller<L>,
-    note: &Note,
+    taken: &(u64, Note),
     gate: &G,
     backend: &mut B,
 )
-    ensures { Works note.now caller.old caller.new }
+    ensures { Serves [] (taken.now ∷ []) caller.old caller.new }
 {
+    let note = &taken.1;
     let deliver = Event::Deliver {
         token: note.token,
         bytes: Some(note.bytes),
@@ -153,7 +161,7 @@ pub fn daemon_worker<L: Opened, G: Gate, B: Backend + Drop, R: Wait>(
         // Read before the take: what was put before the flag was set is found.
         let is_over = stop.load(Ordering::SeqCst);
         match taker.take(rt) {
-            Some((_, note)) => serve(rt, alloc, &mut caller, &note, gate, &mut backend),
+            Some(taken) => serve(rt, alloc, &mut caller, &taken, gate, &mut backend),
             None => {
                 if is_over {
                     break;

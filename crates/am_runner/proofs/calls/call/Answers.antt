@@ -1,0 +1,6 @@
+use Rattle.am_runner.proofs.RoleLemmas.{calls_more}
+use Rattle.am_runner.proofs.calls.call.Goals as goal
+
+pub returns-in_default : goal.returns-in_default
+returns-in_default g c = calls_more c.args.event.now c.call_once.result c.args.caller.now c.loop.caller
+    c.call_once.new.caller c.loop.invariant c.call_once.ensures

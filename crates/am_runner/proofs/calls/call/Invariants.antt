@@ -1,0 +1,5 @@
+use Rattle.am_runner.specs.Roles.{Adds, IsOf}
+use Rattle.am_runner.proofs.calls.call.Given as goal
+
+abbrev pub invariant-loop : goal.invariant-loop
+invariant-loop g l = Adds (IsOf l.event) l.initial.caller l.caller
