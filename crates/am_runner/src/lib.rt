@@ -3,9 +3,11 @@
 
 mod calls;
 mod run;
+mod tally;
 mod walkers;
 mod workers;
 
-pub use run::{Tally, run_threads};
+pub use run::run_threads;
+pub use tally::Tally;
 pub use walkers::{expirer, walker};
 pub use workers::{Backend, Gate, daemon_worker};

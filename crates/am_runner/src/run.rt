@@ -1,17 +1,18 @@
 //! A run of walkers, workers and an expirer.
 
-ghost use Rattle.std.specs.Prelude.{◌≡◌, ◌+◌, ◌<◌, ◌≤◌, ◌^◌, [], length, vec_len, All, IfOk};
+ghost use Rattle.std.specs.Prelude.{◌≡◌, ◌+◌, ◌*◌, ◌<◌, ◌^◌, [], length, vec_len, IfOk, IfSome, IsTrue};
 ghost use Rattle.am_names.specs.Limits.{IsInRange};
+ghost use Rattle.am_runner.specs.Runs.{IsTally, IsTallyOf};
 
+use crate::tally::{Tally, tally_of};
 use crate::walkers::{expirer, walker};
 use crate::workers::{Backend, Gate, daemon_worker};
-use am_machine::{Answer, Entry, Event};
-use am_map::{Map, MapKind};
+use am_machine::{Answer, Event};
+use am_map::{Entry, Map, MapKind};
 use am_master::Master;
-use am_names::{AbsPath, Errno, FsId, Limits, Trigger, WalkerId};
+use am_names::{AbsPath, FsId, Limits, Trigger, WalkerId};
 use am_pipe::{PutEnd, TakeEnd, pipe};
 use am_shared::{Caller, Opened, Shared, gather, share};
-use am_state::Obs;
 use std::alloc::{AllocError, Global};
 use std::marker::Brand;
 use std::sync::Wait;
@@ -34,16 +35,6 @@ const MASTER: &[u8] = b"/auto auto.home";
 
 const MAP: &[u8] = b"* srv:/&";
 
-/// What a run came to.
-#[derive(Clone, Copy, PartialEq, Eq, Debug)]
-pub struct Tally {
-    /// Rounds that were made, those that were refused among them.
-    pub rounds: u64,
-    /// How often a walker entered a mount, and left one.
-    pub entered: u64,
-    pub left: u64,
-}
-
 /// Nothing is held up.
 struct Open;
 
@@ -56,7 +47,7 @@ impl Gate for Open {
 struct Succeeds;
 
 impl Backend for Succeeds {
-    fn mount(&mut self, _entry: &am_map::Entry) -> bool {
+    fn mount(&mut self, _entry: &Entry) -> bool {
         true
     }
 
@@ -207,58 +198,6 @@ fn attach<L: Opened, R: Wait>(
     }
 }
 
-fn is_out_of_memory(answer: &Answer) -> bool {
-    match answer {
-        Answer::Refused { errno } => *errno == Errno::NoMemory,
-        _ => false,
-    }
-}
-
-/// Whether a round begins here. Where memory runs out it begins again.
-fn is_round(entry: &Entry) -> bool {
-    match entry.event {
-        Event::Walk { .. } => !is_out_of_memory(&entry.answer),
-        _ => false,
-    }
-}
-
-fn is_entered(obs: &Obs) -> bool {
-    matches!(obs, Obs::Entered { .. })
-}
-
-fn is_left(obs: &Obs) -> bool {
-    matches!(obs, Obs::Left { .. })
-}
-
-fn rounds_of(history: &[Entry]) -> u64 {
-    history.iter().filter(|entry| is_round(entry)).count() as u64
-}
-
-fn entered_in(trace: &[Obs]) -> u64 {
-    trace.iter().filter(|obs| is_entered(obs)).count() as u64
-}
-
-fn left_in(trace: &[Obs]) -> u64 {
-    trace.iter().filter(|obs| is_left(obs)).count() as u64
-}
-
-/// Rounds are counted where the receipts of all callers match the history.
-fn tally_of(shared: &Shared, is_matched: bool) -> Tally {
-    if !is_matched {
-        return Tally {
-            rounds: 0,
-            entered: 0,
-            left: 0,
-        };
-    }
-    let trace = shared.world().trace();
-    Tally {
-        rounds: rounds_of(shared.history()),
-        entered: entered_in(trace),
-        left: left_in(trace),
-    }
-}
-
 fn run<L: Opened + Send + Sync, R: Threads + Wait + Sync>(
     rt: &R,
     alloc: Global,
@@ -277,6 +216,7 @@ fn run<L: Opened + Send + Sync, R: Threads + Wait + Sync>(
       maps = begun.maps.items;
     } }
     requires put { put.sent ≡ [] }
+    ensures { IfOk result IsTally }
 {
     let Beginning {
         limits,
@@ -295,11 +235,18 @@ fn run<L: Opened + Send + Sync, R: Threads + Wait + Sync>(
             ensures { IfOk result (λ back. vec_len back ≡ vec_len callers) }
         { all_back(scope, rt, alloc, callers, takers, flag, plan) },
     )?;
-    Ok(gather(
+    let tally = gather(
         rt,
         back,
-        |shared, _count, is_matched| tally_of(shared, is_matched),
-    ))
+        |shared: &Shared, _count: u64, is_matched: bool| -> Option<Tally>
+            ensures tally { IfSome result (λ tally. IsTallyOf tally shared.now) }
+            ensures matched { IfSome result (λ _. IsTrue is_matched) }
+        { tally_of(shared, is_matched) },
+    );
+    match tally {
+        Some(tally) => Ok(tally),
+        None => Err(AllocError),
+    }
 }
 
 /// Runs so many walkers and workers, and an expirer, each walker and the expirer so many rounds.
@@ -313,6 +260,8 @@ pub fn run_threads<R: Threads + Wait + Sync>(
 ) -> Result<Tally, AllocError>
     requires workers { 0 < workers }
     requires callers { walkers + workers + 1 < 2 ^ 32 }
+    ensures tally { IfOk result IsTally }
+    ensures rounds { IfOk result (λ tally. tally.rounds ≡ walkers * rounds) }
 {
     let callers = walkers + workers + 1;
     let begun = make_beginning(alloc)?;

@@ -1,10 +1,10 @@
 //! The command line.
 
-ghost use Rattle.std.specs.Prelude.{◌≡◌};
-ghost use Rattle.automount_cli.specs.Args.{fault_number};
+ghost use Rattle.std.specs.Prelude.{◌≡◌, ◌≤◌, IfOk};
+ghost use Rattle.automount_cli.specs.Args.{fault_number, IsInRange};
 
-use clap::Command;
 use clap::error::ErrorKind;
+use clap::{Arg, ArgAction, ArgMatches, Command, Error as ClapError, value_parser};
 use std::alloc::{AllocError, Global};
 use thiserror::Error;
 
@@ -13,6 +13,15 @@ use thiserror::Error;
 pub enum Args {
     /// Plays the script on standard input.
     Script,
+    /// Lets so many threads walk, each so many rounds, and so many serve them.
+    Threads {
+        /// 1 to 16.
+        walkers: u32,
+        /// 1 to 16.
+        workers: u32,
+        /// 1 to 1000.
+        rounds: u32,
+    },
 }
 
 /// Why a command line is none; the numbers are the exit statuses.
@@ -34,26 +43,76 @@ impl ArgsFault {
     }
 }
 
+/// The number of an option, where it is in its range.
+fn number(given: &ArgMatches<'_>, id: &str, most: u32) -> Result<u32, ArgsFault>
+    ensures { IfOk result (λ number. (1 ≤ number) × (number ≤ most)) }
+{
+    let Some(number) = given.get_one::<u32>(id) else {
+        return Err(ArgsFault::Usage);
+    };
+    if number < 1 || most < number {
+        return Err(ArgsFault::Usage);
+    }
+    Ok(number)
+}
+
+fn threads(given: &ArgMatches<'_>) -> Result<Args, ArgsFault>
+    ensures { IfOk result IsInRange }
+{
+    Ok(Args::Threads {
+        walkers: number(given, "walkers", 16)?,
+        workers: number(given, "workers", 16)?,
+        rounds: number(given, "rounds", 1_000)?,
+    })
+}
+
+fn asked(matches: &ArgMatches<'_>) -> Result<Args, ArgsFault>
+    ensures { IfOk result IsInRange }
+{
+    match matches.subcommand() {
+        Some(("script", _)) => Ok(Args::Script),
+        Some(("threads", given)) => threads(given),
+        _ => Err(ArgsFault::Usage),
+    }
+}
+
+fn fault_of(error: &ClapError) -> ArgsFault {
+    match error.kind() {
+        ErrorKind::OutOfMemory => ArgsFault::NoMemory,
+        _ => ArgsFault::Usage,
+    }
+}
+
 /// Reads the words of a command line, of which the first is the program's name.
-pub fn read_args(alloc: Global, words: &[&str]) -> Result<Args, ArgsFault> {
+pub fn read_args(alloc: Global, words: &[&str]) -> Result<Args, ArgsFault>
+    ensures { IfOk result IsInRange }
+{
     let Ok(command) = command(alloc) else {
         return Err(ArgsFault::NoMemory);
     };
     match command.try_get_matches_from(words) {
-        Ok(matches) => match matches.subcommand_name() {
-            Some("script") => Ok(Args::Script),
-            _ => Err(ArgsFault::Usage),
-        },
-        Err(error) => match error.kind() {
-            ErrorKind::OutOfMemory => Err(ArgsFault::NoMemory),
-            _ => Err(ArgsFault::Usage),
-        },
+        Ok(matches) => asked(&matches),
+        Err(error) => Err(fault_of(&error)),
     }
+}
+
+/// An option that is a number, and has a default.
+fn option<'a>(alloc: Global, name: &'a str, default: &'a str) -> Arg<'a> {
+    Arg::new(alloc, name)
+        .long(name)
+        .action(ArgAction::Set)
+        .value_parser(value_parser!(u32))
+        .default_value(default)
 }
 
 fn command<'a>(alloc: Global) -> Result<Command<'a>, AllocError> {
     let script = Command::new(alloc, "script");
+    let threads = Command::new(alloc, "threads")
+        .arg(option(alloc, "walkers", "4"))?
+        .arg(option(alloc, "workers", "2"))?
+        .arg(option(alloc, "rounds", "10"))?;
     Command::new(alloc, "automount_cli")
         .subcommand_required(true)
-        .subcommand(script)
+        .subcommand(script)?
+        .subcommand(threads)
 }

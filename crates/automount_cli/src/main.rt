@@ -1,4 +1,4 @@
-//! The program: plays a script from standard input.
+//! The program: plays a script from standard input, or runs threads.
 #![tactic(auto)]
 
 mod args;
@@ -11,6 +11,7 @@ use std::process::ExitCode;
 
 fn main(rt: HostRuntime) -> ExitCode {
     let status = run_words(
+        &rt,
         rt.alloc(),
         std::env::args(&rt),
         &mut rt.stdin(),

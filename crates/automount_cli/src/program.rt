@@ -1,18 +1,22 @@
 //! What the program does with its words and streams.
 
-ghost use Rattle.std.specs.Prelude.{◌≡◌};
+ghost use Rattle.std.specs.Prelude.{◌≡◌, ◌<◌, ◌≤◌};
 ghost use Rattle.automount_cli.specs.Program.{ExitsWith};
 ghost use Rattle.automount_cli.specs.Args.{fault_number};
 
 use crate::args::{Args, ArgsFault, read_args};
+use am_runner::run_threads;
 use am_script::{ScriptFault, run_script};
 use std::alloc::{AllocError, Global};
 use std::env;
 use std::io::{self, Read, Write};
+use std::sync::Wait;
+use std::thread::Threads;
 
 /// Runs the program and answers its exit status: 0 done, 1 a fault, 2 a bad command line. A fault
 /// is told on the last stream; where that takes no bytes, the status alone tells it.
-pub fn run_program<R: Read, W: Write, E: Write>(
+pub fn run_program<T: Threads + Wait + Sync, R: Read, W: Write, E: Write>(
+    rt: &T,
     alloc: Global,
     words: &[&str],
     reader: &mut R,
@@ -23,6 +27,11 @@ pub fn run_program<R: Read, W: Write, E: Write>(
 {
     match read_args(alloc, words) {
         Ok(Args::Script) => play(alloc, reader, writer, errors),
+        Ok(Args::Threads {
+            walkers,
+            workers,
+            rounds,
+        }) => run_crowd(rt, alloc, walkers, workers, rounds, writer, errors),
         Err(fault) => refuse(errors, fault),
     }
 }
@@ -39,6 +48,35 @@ fn play<R: Read, W: Write, E: Write>(
     match run_script(alloc, reader, writer) {
         Ok(_) => 0,
         Err(fault) => stop(errors, fault),
+    }
+}
+
+/// Runs walkers and workers as threads, and tells how many rounds they made.
+fn run_crowd<T: Threads + Wait + Sync, W: Write, E: Write>(
+    rt: &T,
+    alloc: Global,
+    walkers: u32,
+    workers: u32,
+    rounds: u32,
+    writer: &mut W,
+    errors: &mut E,
+) -> u8
+    requires workers { (0 < workers) × (workers ≤ 16) }
+    requires walkers { walkers ≤ 16 }
+{
+    match run_threads(rt, alloc, walkers, workers, rounds) {
+        Ok(tally) => tell(writer, errors, tally.rounds),
+        Err(_) => refuse(errors, ArgsFault::NoMemory),
+    }
+}
+
+fn tell<W: Write, E: Write>(writer: &mut W, errors: &mut E, rounds: u64) -> u8 {
+    match writeln!(writer, "rounds {rounds}") {
+        Ok(()) => 0,
+        Err(_) => {
+            let _ = writeln!(errors, "fault: WriteFailed");
+            1
+        }
     }
 }
 
@@ -59,7 +97,8 @@ fn refuse<E: Write>(errors: &mut E, fault: ArgsFault) -> u8
 }
 
 /// Runs the program with the words of its process.
-pub fn run_words<R: Read, W: Write, E: Write>(
+pub fn run_words<T: Threads + Wait + Sync, R: Read, W: Write, E: Write>(
+    rt: &T,
     alloc: Global,
     words: io::Result<env::Args>,
     reader: &mut R,
@@ -69,7 +108,7 @@ pub fn run_words<R: Read, W: Write, E: Write>(
     ensures { ExitsWith (R.remaining reader.old) (R.remaining reader.new) (W.contents writer.old) (W.contents writer.new) (E.contents errors.old) (E.contents errors.new) result }
 {
     match read_words(alloc, words) {
-        Ok(words) => run_lent(alloc, &words, reader, writer, errors),
+        Ok(words) => run_lent(rt, alloc, &words, reader, writer, errors),
         Err(fault) => refuse(errors, fault),
     }
 }
@@ -96,7 +135,8 @@ fn words_fault(error: &io::Error) -> ArgsFault {
     ArgsFault::Usage
 }
 
-fn run_lent<R: Read, W: Write, E: Write>(
+fn run_lent<T: Threads + Wait + Sync, R: Read, W: Write, E: Write>(
+    rt: &T,
     alloc: Global,
     words: &[String],
     reader: &mut R,
@@ -106,7 +146,7 @@ fn run_lent<R: Read, W: Write, E: Write>(
     ensures { ExitsWith (R.remaining reader.old) (R.remaining reader.new) (W.contents writer.old) (W.contents writer.new) (E.contents errors.old) (E.contents errors.new) result }
 {
     match lend(alloc, words) {
-        Ok(words) => run_program(alloc, words.as_slice(), reader, writer, errors),
+        Ok(words) => run_program(rt, alloc, words.as_slice(), reader, writer, errors),
         Err(_) => refuse(errors, ArgsFault::NoMemory),
     }
 }

@@ -3,17 +3,15 @@
 use crate::args::{Args, ArgsFault, read_args};
 use crate::program::run_program;
 use std::alloc::Global;
+use std::sync::Wait;
 use std::test::Fail;
+use std::thread::Threads;
 
 #[test]
-fn script_is_the_one_command(rt: HostRuntime) {
+fn script_takes_no_words(rt: HostRuntime) {
     let alloc = rt.alloc();
     assert_eq!(rt; read_args(alloc, &["cli", "script"]), Ok(Args::Script));
     assert_eq!(rt; read_args(alloc, &["cli"]), Err(ArgsFault::Usage));
-    assert_eq!(rt;
-        read_args(alloc, &["cli", "threads"]),
-        Err(ArgsFault::Usage)
-    );
     assert_eq!(rt; read_args(alloc, &["cli", "--help"]), Err(ArgsFault::Usage));
     assert_eq!(rt; read_args(alloc, &["cli", "help"]), Err(ArgsFault::Usage));
     assert_eq!(rt;
@@ -28,22 +26,96 @@ fn script_is_the_one_command(rt: HostRuntime) {
     assert_eq!(rt; read_args(alloc, &[]), Err(ArgsFault::Usage));
 }
 
-fn run(alloc: Global, words: &[&str], mut script: &[u8]) -> Result<(u8, Vec<u8>, Vec<u8>), Fail> {
+fn threads(walkers: u32, workers: u32, rounds: u32) -> Result<Args, ArgsFault> {
+    Ok(Args::Threads {
+        walkers,
+        workers,
+        rounds,
+    })
+}
+
+#[test]
+fn numbers_of_threads(rt: HostRuntime) {
+    let alloc = rt.alloc();
+    assert_eq!(rt; read_args(alloc, &["cli", "threads"]), threads(4, 2, 10));
+    assert_eq!(rt;
+        read_args(alloc, &["cli", "threads", "--rounds", "1000", "--walkers", "16"]),
+        threads(16, 2, 1000)
+    );
+    assert_eq!(rt;
+        read_args(alloc, &["cli", "threads", "--workers", "16", "--walkers", "1"]),
+        threads(1, 16, 10)
+    );
+}
+
+static OUT_OF_RANGE: [(&str, &str); 9] = [
+    ("--walkers", "0"),
+    ("--walkers", "17"),
+    ("--workers", "0"),
+    ("--workers", "17"),
+    ("--rounds", "0"),
+    ("--rounds", "1001"),
+    ("--rounds", "4294967297"),
+    ("--rounds", "-1"),
+    ("--rounds", "ten"),
+];
+
+#[test]
+fn numbers_out_of_range(rt: HostRuntime) {
+    let alloc = rt.alloc();
+    for (option, number) in &OUT_OF_RANGE {
+        assert_eq!(rt;
+            read_args(alloc, &["cli", "threads", option, number]),
+            Err(ArgsFault::Usage)
+        );
+    }
+    assert_eq!(rt;
+        read_args(alloc, &["cli", "threads", "--rounds"]),
+        Err(ArgsFault::Usage)
+    );
+    assert_eq!(rt;
+        read_args(alloc, &["cli", "threads", "x"]),
+        Err(ArgsFault::Usage)
+    );
+}
+
+fn run<T: Threads + Wait + Sync>(
+    rt: &T,
+    alloc: Global,
+    words: &[&str],
+    mut script: &[u8],
+) -> Result<(u8, Vec<u8>, Vec<u8>), Fail> {
     let mut output = Vec::new(alloc);
     let mut errors = Vec::new(alloc);
-    let status = run_program(alloc, words, &mut script, &mut output, &mut errors);
+    let status = run_program(rt, alloc, words, &mut script, &mut output, &mut errors);
     Ok((status, output, errors))
 }
 
 #[test]
 fn statuses_and_faults(rt: HostRuntime) -> Result<(), Fail> {
     let alloc = rt.alloc();
-    let (status, output, errors) = run(alloc, &["cli", "script"], b"# nothing\n")?;
+    let (status, output, errors) = run(&rt, alloc, &["cli", "script"], b"# nothing\n")?;
     assert_eq!(rt; (status, output.len(), errors.len()), (0, 0, 0));
-    let (status, output, errors) = run(alloc, &["cli", "script"], b"\nmaster\nx\nend\n")?;
+    let (status, output, errors) = run(&rt, alloc, &["cli", "script"], b"\nmaster\nx\nend\n")?;
     assert_eq!(rt; (status, output.len()), (1, 0));
     assert_eq!(rt; errors.as_slice(), b"fault: line 3: BadPoint\n".as_slice());
-    let (status, output, errors) = run(alloc, &["cli", "--help"], b"")?;
+    let (status, output, errors) = run(&rt, alloc, &["cli", "--help"], b"")?;
+    assert_eq!(rt; (status, output.len()), (2, 0));
+    assert_eq!(rt; errors.as_slice(), b"fault: Usage\n".as_slice());
+    Ok(())
+}
+
+#[test]
+fn threads_tell_their_rounds(rt: HostRuntime) -> Result<(), Fail> {
+    let alloc = rt.alloc();
+    let (status, output, errors) = run(&rt, alloc, &["cli", "threads"], b"")?;
+    assert_eq!(rt; (status, errors.len()), (0, 0));
+    assert_eq!(rt; output.as_slice(), b"rounds 40\n".as_slice());
+    let words = ["cli", "threads", "--walkers", "2", "--workers", "1", "--rounds", "3"];
+    let (status, output, errors) = run(&rt, alloc, &words, b"")?;
+    assert_eq!(rt; (status, errors.len()), (0, 0));
+    assert_eq!(rt; output.as_slice(), b"rounds 6\n".as_slice());
+    let (status, output, errors) = run(&rt, alloc, &["cli", "threads", "--walkers", "17"], b"")?;
     assert_eq!(rt; (status, output.len()), (2, 0));
     assert_eq!(rt; errors.as_slice(), b"fault: Usage\n".as_slice());
     Ok(())

@@ -1,0 +1,96 @@
+//! What a run came to.
+
+ghost use Rattle.std.specs.Prelude.{◌≡◌, IfSome, IsTrue};
+ghost use Rattle.std.specs.List.{count_by};
+ghost use Rattle.am_machine.specs.declared.answer.Answer.TheVariants.{Refused};
+ghost use Rattle.am_runner.specs.Runs.{is_out_of_memory, is_walk, is_round, is_entered, is_left, IsTallyOf};
+
+use am_machine::{Answer, Entry, Event};
+use am_names::Errno;
+use am_shared::Shared;
+use am_state::Obs;
+
+/// How often something was done in a run.
+#[derive(Clone, Copy, PartialEq, Eq, Debug)]
+pub struct Tally {
+    /// Rounds that walkers made, those that were refused among them.
+    pub rounds: u64,
+    /// How often a walker entered a mount.
+    pub entered: u64,
+    /// How often a walker left a mount.
+    pub left: u64,
+}
+
+fn is_no_memory(errno: Errno) -> bool
+    ensures { result ≡ is_out_of_memory (Refused errno) }
+{
+    matches!(errno, Errno::NoMemory)
+}
+
+fn is_out_of_memory(answer: &Answer) -> bool
+    ensures { result ≡ is_out_of_memory answer.now }
+{
+    match answer {
+        Answer::Refused { errno } => is_no_memory(*errno),
+        _ => false,
+    }
+}
+
+fn is_walk(event: &Event) -> bool
+    ensures { result ≡ is_walk event.now }
+{
+    matches!(event, Event::Walk { .. })
+}
+
+/// Whether a round begins here. Where memory runs out the same round begins once more.
+fn is_round(entry: &Entry) -> bool
+    ensures { result ≡ is_round entry.now }
+{
+    is_walk(&entry.event) && !is_out_of_memory(&entry.answer)
+}
+
+fn is_entered(obs: &Obs) -> bool
+    ensures { result ≡ is_entered obs.now }
+{
+    matches!(obs, Obs::Entered { .. })
+}
+
+fn is_left(obs: &Obs) -> bool
+    ensures { result ≡ is_left obs.now }
+{
+    matches!(obs, Obs::Left { .. })
+}
+
+fn rounds_in(history: &[Entry]) -> usize
+    ensures { result ≡ count_by is_round history.now }
+{
+    history.iter().filter(|entry| is_round(*entry)).count()
+}
+
+fn entered_in(trace: &[Obs]) -> usize
+    ensures { result ≡ count_by is_entered trace.now }
+{
+    trace.iter().filter(|obs| is_entered(*obs)).count()
+}
+
+fn left_in(trace: &[Obs]) -> usize
+    ensures { result ≡ count_by is_left trace.now }
+{
+    trace.iter().filter(|obs| is_left(*obs)).count()
+}
+
+/// The tally of a world, where the receipts of all callers match its history.
+pub fn tally_of(shared: &Shared, is_matched: bool) -> Option<Tally>
+    ensures tally { IfSome result (λ tally. IsTallyOf tally shared.now) }
+    ensures matched { IfSome result (λ _. IsTrue is_matched) }
+{
+    if !is_matched {
+        return None;
+    }
+    let trace = shared.world().trace();
+    Some(Tally {
+        rounds: rounds_in(shared.history()) as u64,
+        entered: entered_in(trace) as u64,
+        left: left_in(trace) as u64,
+    })
+}
