@@ -19,7 +19,7 @@ use std::sync::Wait;
 use std::sync::atomic::{AtomicBool, Ordering};
 use std::sync::ledger::Blank;
 use std::thread;
-use std::thread::{Scope, Threads};
+use std::thread::{JoinHandle, Scope, Threads};
 
 /// How many notes the pipe has room for.
 const CAPACITY: usize = 64;
@@ -82,13 +82,6 @@ fn make_beginning(alloc: Global) -> Result<Beginning, AllocError> {
     })
 }
 
-/// What each thread is to do.
-#[derive(Clone, Copy)]
-struct Plan {
-    fs: FsId,
-    rounds: u32,
-}
-
 fn walks<L: Opened, R: Wait>(
     rt: &R,
     alloc: Global,
@@ -113,12 +106,13 @@ fn asks<L: Opened, R: Wait>(
     alloc: Global,
     caller: Caller<L>,
     number: u32,
-    plan: Plan,
+    fs: FsId,
+    rounds: u32,
 ) -> Caller<L> {
     if number == 0 {
-        return expirer(rt, alloc, caller, WalkerId(0), plan.fs, plan.rounds);
+        return expirer(rt, alloc, caller, WalkerId(0), fs, rounds);
     }
-    walks(rt, alloc, caller, number, plan.rounds)
+    walks(rt, alloc, caller, number, rounds)
 }
 
 fn works<L: Opened, R: Wait>(
@@ -131,6 +125,33 @@ fn works<L: Opened, R: Wait>(
     daemon_worker(rt, alloc, caller, taker, &Open, Succeeds, stop).0
 }
 
+fn start_asking<'s, E, L: Opened + Send + 's, R: Wait + Sync>(
+    scope: &Scope<'s, E>,
+    rt: &'s R,
+    alloc: Global,
+    caller: Caller<L>,
+    number: u32,
+    fs: FsId,
+    rounds: u32,
+) -> Option<JoinHandle<Caller<L>>> {
+    scope
+        .spawn(move || asks(rt, alloc, caller, number, fs, rounds))
+        .ok()
+}
+
+fn start_working<'s, E, L: Opened + Send + 's, R: Wait + Sync>(
+    scope: &Scope<'s, E>,
+    rt: &'s R,
+    alloc: Global,
+    caller: Caller<L>,
+    taker: TakeEnd,
+    stop: &'s AtomicBool,
+) -> Option<JoinHandle<Caller<L>>> {
+    scope
+        .spawn(move || works(rt, alloc, caller, taker, stop))
+        .ok()
+}
+
 /// Starts a worker for each take end, then the others, joins these, tells the workers to stop, and
 /// joins them. Where a thread can't be started, what was started ends in the same order.
 fn all_back<'s, E, L: Opened + Send + 's, R: Threads + Wait + Sync>(
@@ -140,7 +161,8 @@ fn all_back<'s, E, L: Opened + Send + 's, R: Threads + Wait + Sync>(
     mut callers: Vec<Caller<L>>,
     takers: Vec<TakeEnd>,
     stop: &'s AtomicBool,
-    plan: Plan,
+    fs: FsId,
+    rounds: u32,
 ) -> Result<Vec<Caller<L>>, AllocError>
     ensures { IfOk result (λ back. vec_len back ≡ vec_len callers) }
 {
@@ -152,7 +174,7 @@ fn all_back<'s, E, L: Opened + Send + 's, R: Threads + Wait + Sync>(
         let Some(caller) = callers.pop() else {
             break;
         };
-        let Ok(worker) = scope.spawn(move || works(rt, alloc, caller, taker, stop)) else {
+        let Some(worker) = start_working(scope, rt, alloc, caller, taker, stop) else {
             // Nobody serves what walkers might ask for.
             stop.store(true, Ordering::SeqCst);
             return Err(AllocError);
@@ -161,7 +183,7 @@ fn all_back<'s, E, L: Opened + Send + 's, R: Threads + Wait + Sync>(
     }
     let mut number = 0_u32;
     for caller in callers {
-        if let Ok(thread) = scope.spawn(move || asks(rt, alloc, caller, number, plan)) {
+        if let Some(thread) = start_asking(scope, rt, alloc, caller, number, fs, rounds) {
             asking.push_reserved(thread);
         }
         number = number.wrapping_add(1);
@@ -225,7 +247,6 @@ fn run<L: Opened + Send + Sync, R: Threads + Wait + Sync>(
     } = begun;
     let mut callers = share::<L>(alloc, blank, limits, master, maps, put, callers)?;
     let fs = attach(rt, alloc, callers.as_mut_slice())?;
-    let plan = Plan { fs, rounds };
     let stop = AtomicBool::new(false);
     let flag = &stop;
     let back = thread::scope(
@@ -233,7 +254,7 @@ fn run<L: Opened + Send + Sync, R: Threads + Wait + Sync>(
         rt,
         |scope| -> Result<Vec<Caller<L>>, AllocError>
             ensures { IfOk result (λ back. vec_len back ≡ vec_len callers) }
-        { all_back(scope, rt, alloc, callers, takers, flag, plan) },
+        { all_back(scope, rt, alloc, callers, takers, flag, fs, rounds) },
     )?;
     let tally = gather(
         rt,
