@@ -30,7 +30,7 @@ struct Size {
     judged: u32,
 }
 
-/// What the gate makes: 100,000 calls. `bench/crowds.sh` has more made.
+/// What the gate makes: 100,000 calls. `bench/crowds.py` has more made.
 const GATE: Size = Size {
     threads: 8,
     calls: 12_500,
