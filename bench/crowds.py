@@ -26,11 +26,12 @@ def plays(crowd):
     words = {name: str(number) for name, number in zip(names, crowd)}
     before = resource.getrusage(resource.RUSAGE_CHILDREN)
     start = time.monotonic()
-    ran = subprocess.run([PROGRAM, TEST], env={**os.environ, **words}, check=False)
+    how = {"stdout": subprocess.PIPE, "stderr": subprocess.STDOUT, "errors": "replace"}
+    ran = subprocess.run([PROGRAM, TEST], env={**os.environ, **words}, check=False, **how)
     clock = time.monotonic() - start
     after = resource.getrusage(resource.RUSAGE_CHILDREN)
     if ran.returncode:
-        sys.exit(f"crowds: {crowd} failed with status {ran.returncode}")
+        sys.exit(f"{ran.stdout}crowds: {crowd} failed with status {ran.returncode}")
     taken = after.ru_utime + after.ru_stime - before.ru_utime - before.ru_stime
     # The most of all crowds so far: each is greater than the one before.
     return clock, taken, after.ru_maxrss / 1024
