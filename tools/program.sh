@@ -79,7 +79,8 @@ build() {
         echo "program: the program can't be built" >&2
         exit 1
     fi
-    # A source that is edited from now on is newer than the program.
+    trap 'rm -rf "$room"' EXIT
+    # A source that is edited while it is built is newer than the program.
     touch -r "$room/begun" "$room/program"
     mv -f "$room/program" "$quick"
 }
