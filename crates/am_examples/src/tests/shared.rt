@@ -30,26 +30,32 @@ fn is_death(shared: &Shared) -> bool {
     }
 }
 
-/// Shares a world between two callers, of which one makes an event. Each may go to a thread of its own.
+/// The first caller makes an event. Tells its position in the history.
+fn dies<L: Opened, R: Wait>(rt: &R, alloc: Global, callers: &mut [Caller<L>]) -> Option<u64> {
+    let caller = callers.first_mut()?;
+    let receipt = caller.call(rt, alloc, Event::Die).ok()?;
+    Some(receipt.position)
+}
+
+/// Shares a world between two callers, each of which may go to a thread of its own.
 fn plays<L: Opened, R: Wait + Abort>(
     rt: &R,
     alloc: Global,
     blank: Blank,
+    limits: Limits,
     master: Master,
     maps: Vec<Map>,
     put: PutEnd,
 ) -> Result<(), AllocError>
     requires ledger { (blank.name ≡ L.name) × (blank.parts ≡ L.parts) × (blank.parts ≡ 2) }
-    requires limits { IsInRange LIMITS }
+    requires limits { IsInRange limits }
     requires maps { length maps.items ≡ length master }
-    requires opening { L.opening ≡ record { limits = LIMITS; master = master; maps = maps.items } }
+    requires opening { L.opening ≡ record { limits = limits; master = master; maps = maps.items } }
     requires put { put.sent ≡ [] }
 {
-    let mut callers: Vec<Caller<L>> = share(alloc, blank, LIMITS, master, maps, put, 2)?;
-    if let Some(caller) = callers.first_mut() {
-        let receipt = caller.call(rt, alloc, Event::Die)?;
-        assert_eq!(rt; receipt.position, 1);
-    }
+    let mut callers: Vec<Caller<L>> = share(alloc, blank, limits, master, maps, put, 2)?;
+    let position = dies(rt, alloc, callers.as_mut_slice());
+    assert!(rt; position == Some(1), "the first event");
     let (count, test, death) = gather(rt, callers, |shared, count, test| {
         (count, test, is_death(shared))
     });
@@ -60,12 +66,14 @@ fn plays<L: Opened, R: Wait + Abort>(
 
 #[test]
 fn two_callers_share_a_world(rt: HostRuntime) -> Result<(), Fail> {
+    let limits = LIMITS;
     let master = Master::read(rt.alloc(), b"")?;
     let maps = Vec::new(rt.alloc());
-    if !LIMITS.is_in_range() || maps.len() != master.entries().len() {
+    if !limits.is_in_range() || maps.len() != master.entries().len() {
         return Err(Fail::new("an empty master map has no maps"));
     }
     let (put, _takers) = pipe(rt.alloc(), 4, 1)?;
-    plays::<Brand, HostRuntime>(&rt, rt.alloc(), Blank::new(2), master, maps, put)?;
+    let blank = Blank::new(2);
+    plays::<Brand, HostRuntime>(&rt, rt.alloc(), blank, limits, master, maps, put)?;
     Ok(())
 }

@@ -8,7 +8,7 @@ use am_names::{
 };
 use am_world::laws::trace_holds;
 use am_world::{Answer, Event, Obs, Ran, World, run};
-use std::alloc::{AllocError, Global};
+use std::alloc::Global;
 use std::test::Fail;
 
 const LIMITS: Limits = Limits {

@@ -3,7 +3,7 @@ use Rattle.am_examples.proofs.tests.shared.two_callers_share_a_world.Given as go
 abbrev pub ghosts-plays-L-Opened : goal.ghosts-plays-L-Opened
 ghosts-plays-L-Opened g a = record {
   opening = record {
-    limits = record { mounts = 1000000; waiters = 1024; tokens = 4294967295 };
+    limits = a.limits;
     master = a.master;
     maps = a.maps.items;
   };
