@@ -1,15 +1,18 @@
 -- A walker's wait is collected as its walk begins again.
 use Rattle.std.proofs.Common.{◌≡◌, ℕ, Bool, true, false, cond, not, ◌==◌, List, [], ◌∷◌, ◌++◌, Option, Some, None, Ok, Err, refl, sym, ap, subst, ◌∙◌}
-use Rattle.std.specs.Prelude.{is_none}
+use Rattle.std.specs.Prelude.{is_none, is_some}
 use Rattle.std.proofs.lemmas.List.{append_assoc}
-use Rattle.am_names.specs.declared.errno.Errno.TheVariants.{ENOSPC}
+use Rattle.am_names.specs.Errno.{RefusedAs}
+use Rattle.am_names.specs.declared.errno.Errno.{Errno}
+use Rattle.am_names.specs.declared.errno.Errno.TheVariants.{ENOENT, EPERM, EBUSY, EEXIST, EINVAL, EAGAIN, ELOOP, ENAMETOOLONG, ENOSPC, NoMemory, NotReleased, Stranger}
 use Rattle.am_names.specs.declared.trigger.Trigger.{Trigger}
 use Rattle.am_names.specs.declared.trigger.Status.{Status}
 use Rattle.am_names.specs.declared.row.WaitRow.{WaitRow}
 use Rattle.am_state.specs.declared.obs.Obs.{Obs}
 use Rattle.am_state.specs.declared.obs.Obs.TheVariants as seen
-use Rattle.am_wait.specs.Rows.{WaitRows, wait_of}
-use Rattle.am_wait.specs.Calls.{is_full, collected, still_waits, status_refusal, wait_refusal}
+use Rattle.am_names.specs.declared.row.OpenToken.{OpenToken}
+use Rattle.am_wait.specs.Rows.{WaitRows, token_of, wait_of}
+use Rattle.am_wait.specs.Calls.{is_full, collected, still_waits, status_refusal, wait_refusal, rejoin_refusal}
 use Rattle.am_wait.proofs.CallLemmas.{idle_collected}
 use Rattle.am_kernel.specs.declared.row.WalkRow.{WalkRow}
 use Rattle.am_kernel.specs.declared.begin.Waited.{Waited}
@@ -17,7 +20,7 @@ use Rattle.am_kernel.specs.declared.begin.Waited.TheVariants.{Idle, OnMount, OnE
 use Rattle.am_kernel.specs.declared.begun.Begin.{Begin}
 use Rattle.am_kernel.specs.declared.begun.Begun.TheVariants.{Waits}
 use Rattle.am_kernel.specs.State.{KernelState}
-use Rattle.am_kernel.specs.Outcome.{Meets}
+use Rattle.am_kernel.specs.Outcome.{Outcome, Goes, Fails, IsAsBefore, Meets}
 use Rattle.am_kernel.specs.Walks.{passes, walk_row, without_walk, with_walk, with_joined, joins}
 use Rattle.am_kernel.specs.Inside.{expired_uses, forgotten_waits, forgotten_walks, freed_as, IsFree}
 
@@ -94,3 +97,39 @@ pub joins_as : (waited : Waited) (k new : KernelState) (begin : Begin) (token : 
 joins_as waited k new begin token passed before after free room state shown =
     subst (λ (base : KernelState). Meets (joins base begin token passed) (Ok (Waits token)) k new before after) (sym (free_kernel waited begin.walker begin.moment k free))
     (joins_from waited k new begin token passed before after room state shown)
+
+-- ---- what joining lacks is memory
+
+open_token : (o : Option OpenToken) → is_some o ≡ true → cond (is_none o) (Some EINVAL) None ≡ None
+open_token None h = absurd cc
+open_token (Some row) h = refl
+
+rejoins : (waited : Waited) (walker token : ℕ) (w : WaitRows) → IsFree waited walker w → is_some (token_of w.tokens token) ≡ true → is_full (collected walker w) ≡ false → rejoin_refusal token walker w ≡ None
+rejoins waited walker token w free opened room = rw (free_waits waited walker w free, room) (open_token (token_of w.tokens token) opened)
+
+memory_alone : (T : Type 0) (e : Errno) → RefusedAs {T = T} None (Err e) → e ≡ NoMemory
+memory_alone T NoMemory h = refl
+memory_alone T ENOENT h = absurd cc
+memory_alone T EPERM h = absurd cc
+memory_alone T EBUSY h = absurd cc
+memory_alone T EEXIST h = absurd cc
+memory_alone T EINVAL h = absurd cc
+memory_alone T EAGAIN h = absurd cc
+memory_alone T ELOOP h = absurd cc
+memory_alone T ENAMETOOLONG h = absurd cc
+memory_alone T ENOSPC h = absurd cc
+memory_alone T NotReleased h = absurd cc
+memory_alone T Stranger h = absurd cc
+
+memory_meets : (o : Outcome) (old new : KernelState) (before after : List Obs) → IsAsBefore old new before after → Meets o (Err NoMemory) old new before after
+memory_meets (Goes answer shown made) old new before after h = (refl, h)
+memory_meets (Fails e) old new before after h = h
+
+pub joins_wants : (T : Type 0) (waited : Waited) (kept k new : KernelState) (begin : Begin) (token : ℕ) (passed : List Trigger) (e : Errno) (before after : List Obs) → IsFree waited begin.walker k.waits → is_some (token_of k.waits.tokens token) ≡ true → is_full (collected begin.walker k.waits) ≡ false → kept ≡ k →
+    RefusedAs {T = T} (rejoin_refusal token begin.walker kept.waits) (Err e) → new ≡ kept → after ≡ before →
+    Meets (joins (freed_as waited begin.walker begin.moment k) begin token passed) (Err e) k new before after
+joins_wants T waited kept k new begin token passed e before after free opened room is_kept refused state shown =
+    let o = joins (freed_as waited begin.walker begin.moment k) begin token passed in
+    let first = ap (λ (s : KernelState). rejoin_refusal token begin.walker s.waits) is_kept ∙ rejoins waited begin.walker token k.waits free opened room in
+    let none : RefusedAs {T = T} None (Err e) = subst (λ (first : Option Errno). RefusedAs {T = T} first (Err e)) first refused in
+    subst (λ (f : Errno). Meets o (Err f) k new before after) (sym (memory_alone T e none)) (memory_meets o k new before after (record { state = state ∙ is_kept; seen = shown }))

@@ -90,13 +90,25 @@ pub fn is_in_queue(token: Token, attach: Attach, packet: &Packet, seen: &[Obs]) 
     queued
 }
 
+/// How often the mount was entered.
+fn times_entered(seen: &[Obs], mount: MountId) -> usize
+    ensures { result ≡ count_by (enters mount) seen.now }
+{
+    seen.iter().filter(|o| enters(mount, *o)).count()
+}
+
+/// How often the mount was left.
+fn times_left(seen: &[Obs], mount: MountId) -> usize
+    ensures { result ≡ count_by (leaves mount) seen.now }
+{
+    seen.iter().filter(|o| leaves(mount, *o)).count()
+}
+
 /// The mount was left as often as entered.
 pub fn is_unused(seen: &[Obs], mount: MountId) -> bool
     ensures { result ≡ is_unused seen.now mount }
 {
-    let entered = seen.iter().filter(|o| enters(mount, *o)).count();
-    let left = seen.iter().filter(|o| leaves(mount, *o)).count();
-    entered == left
+    times_entered(seen, mount) == times_left(seen, mount)
 }
 
 /// The walker is released in the row of releases with which these begin.

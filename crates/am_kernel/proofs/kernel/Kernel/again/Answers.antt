@@ -7,7 +7,7 @@ use Rattle.am_kernel.specs.declared.row.WalkRow.{WalkRow}
 use Rattle.am_kernel.specs.declared.begin.Waited.{Waited}
 use Rattle.am_kernel.specs.declared.begun.Begin.{Begin}
 use Rattle.am_kernel.specs.State.{KernelState}
-use Rattle.am_kernel.specs.Resumes.{walk_in, most_begins}
+use Rattle.am_kernel.specs.Resumes.{walk_in, most_begins, next_begin}
 use Rattle.am_kernel.specs.Inside.{IsFree}
 use Rattle.am_kernel.proofs.AgainLemmas.{found_number, err_is, again_goes, again_falls}
 use Rattle.am_kernel.proofs.kernel.Kernel.again.Goals as goal
@@ -15,15 +15,17 @@ use Rattle.am_kernel.proofs.kernel.Kernel.again.Goals as goal
 pub begin-requires-clause-outside : goal.begin-requires-clause-outside
 begin-requires-clause-outside c =
     let k = c.args.self.now in
+    let next = c.next-begin.ensures ∙ ap (λ (r : WalkRow). next_begin r c.args.moment) c.in_ok-row.ensures in
     let found : walk_in k.walks c.args.wait.now.walker ≡ Some c.in-Some.row.now = sym c.walk_row.ensures ∙ ap (λ o. option_copied o) c.in-Some.is in
-    let same : c.in_ok-begin.begin.walker ≡ c.args.wait.now.walker = ap (λ (b : Begin). b.walker) c.in_ok-begin.ensures ∙ found_number (λ (row : WalkRow). row.walker) c.args.wait.now.walker k.walks c.in-Some.row.now found in
+    let same : c.next-begin.result.walker ≡ c.args.wait.now.walker = ap (λ (b : Begin). b.walker) next ∙ found_number (λ (row : WalkRow). row.walker) c.args.wait.now.walker k.walks c.in-Some.row.now found in
     subst (λ (n : ℕ). mount_of k.uses n ≡ None) (sym same) c.requires.outside
 
 pub begin-requires-clause-free : goal.begin-requires-clause-free
 begin-requires-clause-free c =
     let k = c.args.self.now in
+    let next = c.next-begin.ensures ∙ ap (λ (r : WalkRow). next_begin r c.args.moment) c.in_ok-row.ensures in
     let found : walk_in k.walks c.args.wait.now.walker ≡ Some c.in-Some.row.now = sym c.walk_row.ensures ∙ ap (λ o. option_copied o) c.in-Some.is in
-    let same : c.in_ok-begin.begin.walker ≡ c.args.wait.now.walker = ap (λ (b : Begin). b.walker) c.in_ok-begin.ensures ∙ found_number (λ (row : WalkRow). row.walker) c.args.wait.now.walker k.walks c.in-Some.row.now found in
+    let same : c.next-begin.result.walker ≡ c.args.wait.now.walker = ap (λ (b : Begin). b.walker) next ∙ found_number (λ (row : WalkRow). row.walker) c.args.wait.now.walker k.walks c.in-Some.row.now found in
     subst (λ (n : ℕ). IsFree c.waited_on-waited.result n k.waits) (sym same)
     (subst (λ (w : Waited). IsFree w c.args.wait.now.walker k.waits) (sym c.waited_on-waited.ensures) c.requires.free)
 
@@ -35,15 +37,17 @@ fall-requires c =
 pub returns-in-Ok : goal.returns-in-Ok
 returns-in-Ok c =
     let k = c.args.self.now in
+    let next = c.next-begin.ensures ∙ ap (λ (r : WalkRow). next_begin r c.args.moment) c.in_ok-row.ensures in
     let row = c.in-Some.row.now in
     let found : walk_in k.walks c.args.wait.now.walker ≡ Some row = sym c.walk_row.ensures ∙ ap (λ o. option_copied o) c.in-Some.is in
     let few : nat_le most_begins row.begins ≡ false = grind (arith, nat_tests, c.if-row-ge-MOST_BEGINS.false) in
-    again_goes row c.args.wait.now c.in_ok-begin.begin c.waited_on-waited.result c.args.pipe k c.begin.new.self c.args.moment c.in-Ok.begun c.args.seen.now.items c.begin.new.seen.items c.in_ok-begin.ensures c.waited_on-waited.ensures found few c.in-Ok.ensures
+    again_goes row c.args.wait.now c.next-begin.result c.waited_on-waited.result c.args.pipe k c.begin.new.self c.args.moment c.in-Ok.begun c.args.seen.now.items c.begin.new.seen.items next c.waited_on-waited.ensures found few c.in-Ok.ensures
 
-pub returns-in-Err : goal.returns-in-Err
-returns-in-Err c =
+pub returns : goal.returns
+returns c =
     let k = c.args.self.now in
+    let next = c.next-begin.ensures ∙ ap (λ (r : WalkRow). next_begin r c.args.moment) c.in_ok-row.ensures in
     let row = c.in-Some.row.now in
     let found : walk_in k.walks c.args.wait.now.walker ≡ Some row = sym c.walk_row.ensures ∙ ap (λ o. option_copied o) c.in-Some.is in
     let few : nat_le most_begins row.begins ≡ false = grind (arith, nat_tests, c.if-row-ge-MOST_BEGINS.false) in
-    again_falls row c.args.wait.now c.in_ok-begin.begin c.waited_on-waited.result c.args.pipe k c.begin.new.self c.fall.new.self c.args.moment c.in-Err.errno c.fall.result c.args.seen.now.items c.begin.new.seen.items c.fall.new.seen.items c.in_ok-begin.ensures c.waited_on-waited.ensures found few c.in-Err.ensures c.fall.ensures
+    again_falls row c.args.wait.now c.next-begin.result c.waited_on-waited.result c.args.pipe k c.begin.new.self c.fall.new.self c.args.moment c.in-Err.errno c.fall.result c.args.seen.now.items c.begin.new.seen.items c.fall.new.seen.items next c.waited_on-waited.ensures found few c.in-Err.ensures c.fall.ensures

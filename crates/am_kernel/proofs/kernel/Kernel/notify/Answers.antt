@@ -10,14 +10,14 @@ use Rattle.am_kernel.proofs.kernel.Kernel.notify.Goals as goal
 
 pub returns-in-Some-reopen_refusal : goal.returns-in-Some-reopen_refusal
 returns-in-Some-reopen_refusal c =
-    notify_refused c.args.waited.now c.args.self.now c.args.begin c.args.trigger c.in-Some.attach c.args.pipe c.args.passed.now c.in-Some-reopen_refusal.errno c.args.seen.now.items c.requires.free
+    notify_refused c.args.waited.now c.args.self.now c.args.begin.now c.args.trigger c.in-Some.attach c.args.pipe c.args.passed.now c.in-Some-reopen_refusal.errno c.args.seen.now.items c.requires.free
     (sym c.attach_of.ensures ∙ c.in-Some.is)
-    (ap (λ (k : KernelState). reopen_refusal c.args.begin.walker k.waits) (sym c.self.view_is) ∙ sym c.reopen_refusal.ensures ∙ c.in-Some-reopen_refusal.is)
+    (ap (λ (k : KernelState). reopen_refusal c.args.begin.now.walker k.waits) (sym c.self.view_is) ∙ sym c.reopen_refusal.ensures ∙ c.in-Some-reopen_refusal.is)
 
 pub returns-in-Room : goal.returns-in-Room
 returns-in-Room c =
     let k = c.args.self.now in
-    let b = c.args.begin in
+    let b = c.args.begin.now in
     let base = freed_as c.args.waited.now b.walker b.moment k in
     let by = notify_by c.args.waited.now k b c.args.trigger c.in-Some.attach c.args.pipe c.args.passed.now c.requires.free (sym c.attach_of.ensures ∙ c.in-Some.is) (ap (λ (s : KernelState). reopen_refusal b.walker s.waits) (sym c.self.view_is) ∙ sym c.reopen_refusal.ensures ∙ c.in_default-reopen_refusal.is) in
     subst (λ (o : Outcome). Meets o c.queue.result k c.queue.new.self c.args.seen.now.items c.queue.new.seen.items)
@@ -26,7 +26,7 @@ returns-in-Room c =
 pub returns-in-Full : goal.returns-in-Full
 returns-in-Full c =
     let k = c.args.self.now in
-    let b = c.args.begin in
+    let b = c.args.begin.now in
     let base = freed_as c.args.waited.now b.walker b.moment k in
     let by = notify_by c.args.waited.now k b c.args.trigger c.in-Some.attach c.args.pipe c.args.passed.now c.requires.free (sym c.attach_of.ensures ∙ c.in-Some.is) (ap (λ (s : KernelState). reopen_refusal b.walker s.waits) (sym c.self.view_is) ∙ sym c.reopen_refusal.ensures ∙ c.in_default-reopen_refusal.is) in
     rw (by ∙ ap (λ (p : PipeState). notifies_by p base b c.args.trigger c.in-Some.attach c.args.passed.now) c.in-Full.is) (refl, record { state = refl; seen = refl })
@@ -34,7 +34,7 @@ returns-in-Full c =
 pub returns-in-Gone : goal.returns-in-Gone
 returns-in-Gone c =
     let k = c.args.self.now in
-    let b = c.args.begin in
+    let b = c.args.begin.now in
     let base = freed_as c.args.waited.now b.walker b.moment k in
     let by = notify_by c.args.waited.now k b c.args.trigger c.in-Some.attach c.args.pipe c.args.passed.now c.requires.free (sym c.attach_of.ensures ∙ c.in-Some.is) (ap (λ (s : KernelState). reopen_refusal b.walker s.waits) (sym c.self.view_is) ∙ sym c.reopen_refusal.ensures ∙ c.in_default-reopen_refusal.is) in
     subst (λ (o : Outcome). Meets o c.hang_up.result k c.hang_up.new.self c.args.seen.now.items c.hang_up.new.seen.items)
