@@ -1,20 +1,29 @@
 # What a machine with the toolchain needs: nothing else is to be set up.
 SCRIPT ?= examples/first.script
+export SCRIPT
 
-.PHONY: run show build test
+.PHONY: run show examples build pages test
 
 # plays a script, and writes its answers
 run:
-	@tools/run.sh '$(SCRIPT)'
+	@tools/run.sh "$$SCRIPT"
 
-# plays a script, and writes each event with its answer
+# plays a script, and writes each event with its answer beside it
 show:
-	@tools/show.sh '$(SCRIPT)'
+	@tools/show.sh "$$SCRIPT"
+
+# plays all examples, and compares their answers
+examples:
+	@tools/examples.sh
 
 # proves the program and builds it
 build:
 	cd crates/automount_cli && rt run -- script < /dev/null
 
-# the merge gate, and each example
+# compares what the pages name with what there is
+pages:
+	@tools/check_pages
+
+# the merge gate, the examples and the pages
 test:
 	@tools/test.sh

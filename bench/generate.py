@@ -176,7 +176,8 @@ def text(lines):
 def main(words):
     if len(words) != 3 or words[0] not in SHAPES + HEADS + COPIES or not words[1].isdigit() \
             or words[2] not in ("script", "answers"):
-        sys.exit(__doc__)
+        print("generate: expected a shape, a number, and script or answers", file=sys.stderr)
+        sys.exit(2)
     tell = script if words[2] == "script" else answers
     sys.stdout.buffer.write(text(tell(words[0], int(words[1]))))
 

@@ -79,8 +79,10 @@ def ms(seconds):
 
 
 def main(words):
-    if not words or not all(word.isdigit() and int(word) > 0 for word in words[1:]):
-        sys.exit(__doc__)
+    if not words or not os.access(words[0], os.X_OK) \
+            or not all(word.isdigit() and int(word) > 0 for word in words[1:]):
+        print("measure: expected a program, and then numbers from 1 on", file=sys.stderr)
+        sys.exit(2)
     program = words[0]
     runs = int(words[1]) if len(words) > 1 else RUNS
     sizes = [int(word) for word in words[2:]] or KEYS

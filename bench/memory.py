@@ -25,10 +25,10 @@ def greatest(test):
 
 def main(words):
     if len(words) > 1:
-        print(__doc__, end="")
+        print("memory: expected no words", file=sys.stderr)
         return 2
     if not os.access(PROGRAM, os.X_OK):
-        print("memory: build the test first: rt test in crates/am_tests", file=sys.stderr)
+        print("memory: expected tests that are built: rt test in crates/am_tests", file=sys.stderr)
         return 2
     few = greatest("tests::events::an_event_has_at_most_320_bytes")
     many = greatest("tests::events::a_long_list_of_walks")

@@ -109,8 +109,8 @@ def table(checks):
 
 
 def main(words):
-    if len(words) > 2 or words[1:2] in (["-h"], ["--help"]):
-        print(__doc__, end="")
+    if len(words) > 2 or words[1:] and words[1].startswith("-"):
+        print("gate_cost: expected no words, or the path of a log", file=sys.stderr)
         return 2
     os.chdir(os.path.dirname(os.path.abspath(__file__)) + "/..")
     begin = time.time()

@@ -2,9 +2,12 @@
 # tools/refuse_each.sh CRATE TEST: runs a test of a crate with each of its allocations refused in
 # turn, on the program that `rt test CRATE` or the gate has built. It needs a C compiler.
 set -u
+. "$(dirname "$0")/common.sh"
+[ $# -eq 2 ] || refuse "expected two words, a crate and the whole path of a test"
 cd "$(dirname "$0")/.."
+[ -d "crates/$1/src" ] || refuse "expected a crate, and there is none named $1"
 program=crates/$1/out/$1_tests
-[ -x "$program" ] || { echo "build the tests first: rt test $1" >&2; exit 2; }
+[ -x "$program" ] || refuse "expected tests that are built: rt test in crates/$1"
 room=$(mktemp -d)
 trap 'rm -rf "$room"' EXIT
 cc -shared -fPIC -O1 -o "$room/refuse.so" tools/refuse.c -ldl || exit 2
@@ -24,5 +27,5 @@ while :; do
 done
 echo "$1 $2: $count allocations refused in turn, $failed failed"
 # A test takes memory; where nothing was refused there is no test of this name.
-[ "$count" -gt 0 ] || { echo "no such test: give its whole path" >&2; exit 2; }
+[ "$count" -gt 0 ] || refuse "expected the whole path of a test, and there is none at $2"
 [ "$failed" -eq 0 ]

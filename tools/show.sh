@@ -2,11 +2,13 @@
 # tools/show.sh FILE: plays a script, and writes each event with its answer beside it.
 set -u
 export LC_ALL=C
+. "$(dirname "$0")/common.sh"
+expect_script "$@"
+program=$("$(dirname "$0")/program.sh") || exit 1
 room=$(mktemp -d)
 trap 'rm -rf "$room"' EXIT
-"$(dirname "$0")/run.sh" "$@" > "$room/answers"
+"$program" script < "$1" > "$room/answers"
 status=$?
-[ "$status" -ne 2 ] || exit 2
 
 # The events: what stands behind the line `events` that is in no section, without blank lines and
 # comments.
@@ -15,7 +17,7 @@ awk '
     inside { if ($0 == "end") inside = 0; next }
     $1 == "master" || $1 == "map" { inside = 1 }
     $1 == "events" { begun = 1 }
-' "$1" > "$room/events"
+' < "$1" > "$room/events"
 
 # Events behind a fault have no answer.
 paste "$room/events" "$room/answers" | head -n "$(wc -l < "$room/answers")" \

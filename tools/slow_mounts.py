@@ -184,8 +184,11 @@ def step(world, random):
     return world.copy(n) if n % 2 == 0 else world.drop(n, b)
 
 
-def main():
-    worlds, steps = (int(word) for word in sys.argv[1:3])
+def main(words):
+    if len(words) != 2 or not all(word.isdecimal() for word in words):
+        print("slow_mounts: expected two numbers, of worlds and of the steps of each", file=sys.stderr)
+        return 2
+    worlds, steps = (int(word) for word in words)
     random, total = Random(1), 0
 
     def fold(value):
@@ -206,6 +209,8 @@ def main():
                 fold(world.master_of(m) or 0)
                 fold(1 if unbindable else 0)
     print(total)
+    return 0
 
 
-main()
+if __name__ == "__main__":
+    sys.exit(main(sys.argv[1:]))

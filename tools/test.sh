@@ -1,10 +1,12 @@
 #!/bin/sh
-# Runs the merge gate, and then plays each example and compares what it writes.
-# The last line counts both.
+# tools/test.sh: runs the merge gate, then plays each example, and then compares what the pages name
+# with what there is. The last line counts all three.
 #
 # RT_JOBS is how many checks run side by side. Where the environment doesn't tell it, it is one for
 # each processor, but only as many as have 4 GB of free memory each, and one at least.
 set -u
+. "$(dirname "$0")/common.sh"
+expect_nothing "$@"
 cd "$(dirname "$0")/.."
 room=$(mktemp -d)
 trap 'rm -rf "$room"' EXIT
@@ -46,19 +48,19 @@ passed=${counts%% *}
 failed=${counts#*, }
 failed=${failed%% *}
 
-for script in examples/*.script; do
-    name=$(basename "$script" .script)
-    if tools/run.sh "$script" 2> "$room/said" > "$room/wrote" \
-        && cmp -s "$room/wrote" "examples/$name.out"; then
-        echo "example $name: as expected"
-        passed=$((passed + 1))
-    else
-        echo "example $name: not as expected"
-        cat "$room/said"
-        diff "$room/wrote" "examples/$name.out"
-        failed=$((failed + 1))
-    fi
-done
+# Each of these ends in a line that counts what it looked at.
+count() {
+    "$@" > "$room/said" 2>&1
+    cat "$room/said"
+    counts=$(grep -E '^[0-9]+ passed, [0-9]+ failed$' "$room/said" | tail -1)
+    counts=${counts:-0 passed, 1 failed}
+    passed=$((passed + ${counts%% *}))
+    counts=${counts#*, }
+    failed=$((failed + ${counts%% *}))
+}
+
+count tools/examples.sh
+count tools/check_pages
 
 echo "$passed passed, $failed failed"
 [ "$failed" -eq 0 ]

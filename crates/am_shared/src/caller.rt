@@ -163,7 +163,8 @@ impl<L: Opened> Desk<L> {
     }
 
     fn give_up(&mut self)
-        ensures { self.new ≡ record self.old { given_up = true } }
+        ensures given_up { self.new.given_up ≡ true }
+        ensures shared { self.new.shared ≡ self.old.shared }
     {
         self.given_up = true;
     }

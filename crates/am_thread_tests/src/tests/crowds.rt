@@ -1,32 +1,45 @@
 //! Threads that walk, serve, mount and expire, all at once. The history is one of a single thread.
 
-ghost use Rattle.std.specs.Prelude.{◌≡◌, []};
+ghost use Rattle.std.specs.Prelude.{◌≡◌, ◌<◌, []};
 
 use crate::tests::worlds::{Beginning, call, world_and_ends, world_of};
 use am_machine::Entry;
+use am_names::{JobId, Token, WalkerId};
 use am_pipe::{PutEnd, pipe};
 use am_shared::{Caller, Opened, Shared, gather, share};
 use am_world::laws::trace_holds;
-use am_world::{Answer, run};
+use am_world::{Answer, Ran, World, run};
 use std::alloc::{AllocError, Global};
 use std::marker::Brand;
 use std::process::Abort;
 use std::sync::Wait;
-use std::sync::atomic::{AtomicU64, Ordering};
 use std::sync::ledger::Blank;
 use std::test::*;
-use std::thread;
 use std::thread::Threads;
+use std::{env, thread};
 
 /// Every key is mounted from one place.
 const ANY: &[u8] = b"* srv:/any";
 
-const THREADS: u32 = 8;
+/// How many threads make how many calls, each of them, and how much of the trace is judged then: the
+/// time for that grows faster than its length.
+#[derive(Clone, Copy)]
+struct Size {
+    threads: u32,
+    calls: u32,
+    judged: u32,
+}
 
-const ROUNDS: u32 = 50;
+/// What the gate makes: 100,000 calls. `bench/crowds.py` has more made.
+const GATE: Size = Size {
+    threads: 8,
+    calls: 12_500,
+    judged: 600,
+};
 
-/// How much of a trace is judged: the time for it grows faster than its length.
-const JUDGED: usize = 300;
+fn all_calls(size: Size) -> u64 {
+    (size.threads as u64).wrapping_mul(size.calls as u64)
+}
 
 /// The token of an answer that tells the walker to wait.
 fn token_of(answer: &Answer) -> Option<u32> {
@@ -36,16 +49,23 @@ fn token_of(answer: &Answer) -> Option<u32> {
     }
 }
 
-/// Makes the event of a line and counts it. Tells the token where the walker is to wait.
+fn is_done<L: Opened>(caller: &Caller<L>, calls: u32) -> bool {
+    caller.receipts().len() >= calls as usize
+}
+
+/// Makes the event of a line, unless the caller has made all its calls. Tells the token where the
+/// walker is to wait.
 fn makes<L: Opened, R: Wait>(
     rt: &R,
     alloc: Global,
-    made: &AtomicU64,
+    calls: u32,
     caller: &mut Caller<L>,
     line: &str,
 ) -> Option<u32> {
+    if is_done(caller, calls) {
+        return None;
+    }
     let receipt = call(rt, alloc, caller, line.as_bytes())?;
-    made.fetch_add(1, Ordering::SeqCst);
     token_of(&receipt.answer)
 }
 
@@ -53,15 +73,15 @@ fn makes<L: Opened, R: Wait>(
 fn serves<L: Opened, R: Wait>(
     rt: &R,
     alloc: Global,
-    made: &AtomicU64,
+    calls: u32,
     caller: &mut Caller<L>,
     token: u32,
 ) -> Result<(), AllocError> {
     let deliver = format!(in alloc; "deliver {token}")?;
-    makes(rt, alloc, made, caller, deliver.as_str());
+    makes(rt, alloc, calls, caller, deliver.as_str());
     let act = format!(in alloc; "act {token} ok")?;
     for _ in 0..4 {
-        makes(rt, alloc, made, caller, act.as_str());
+        makes(rt, alloc, calls, caller, act.as_str());
     }
     Ok(())
 }
@@ -70,23 +90,24 @@ fn serves<L: Opened, R: Wait>(
 fn goes_on<L: Opened, R: Wait>(
     rt: &R,
     alloc: Global,
-    made: &AtomicU64,
+    calls: u32,
     caller: &mut Caller<L>,
     line: &str,
     resume: &str,
 ) -> Result<(), AllocError> {
-    if let Some(token) = makes(rt, alloc, made, caller, line) {
-        serves(rt, alloc, made, caller, token)?;
-        makes(rt, alloc, made, caller, resume);
+    if let Some(token) = makes(rt, alloc, calls, caller, line) {
+        serves(rt, alloc, calls, caller, token)?;
+        makes(rt, alloc, calls, caller, resume);
     }
     Ok(())
 }
 
-/// A walk to one of three keys, an expiry, and a mount that goes again.
+/// A walk to one of three keys, an expiry, and a mount that goes again. A walk that waited for another
+/// thread's work goes on first.
 fn round<L: Opened, R: Wait>(
     rt: &R,
     alloc: Global,
-    made: &AtomicU64,
+    calls: u32,
     caller: &mut Caller<L>,
     walker: u32,
     turn: u32,
@@ -98,25 +119,29 @@ fn round<L: Opened, R: Wait>(
     let expire = format!(in alloc; "expire {walker} 2 {turn} immediate room")?;
     let mount = format!(in alloc; "mount 0 /m{walker}")?;
     let umount = format!(in alloc; "umount 0 /m{walker}")?;
-    goes_on(rt, alloc, made, caller, walk.as_str(), resume.as_str())?;
-    makes(rt, alloc, made, caller, mount.as_str());
-    makes(rt, alloc, made, caller, leave.as_str());
-    goes_on(rt, alloc, made, caller, expire.as_str(), resume.as_str())?;
-    makes(rt, alloc, made, caller, umount.as_str());
+    makes(rt, alloc, calls, caller, resume.as_str());
+    goes_on(rt, alloc, calls, caller, walk.as_str(), resume.as_str())?;
+    makes(rt, alloc, calls, caller, mount.as_str());
+    makes(rt, alloc, calls, caller, leave.as_str());
+    goes_on(rt, alloc, calls, caller, expire.as_str(), resume.as_str())?;
+    makes(rt, alloc, calls, caller, umount.as_str());
     Ok(())
 }
 
 fn rounds<L: Opened, R: Wait>(
     rt: &R,
     alloc: Global,
-    made: &AtomicU64,
+    calls: u32,
     index: usize,
     caller: &mut Caller<L>,
 ) {
     let walker = u32::try_from(index).unwrap_or(0);
-    for turn in 0..ROUNDS {
-        // Without memory a round ends early: what it made is counted.
-        let _ = round(rt, alloc, made, caller, walker, turn);
+    for turn in 0..calls {
+        if is_done(caller, calls) {
+            return;
+        }
+        // Without memory a round ends early, and another comes.
+        let _ = round(rt, alloc, calls, caller, walker, turn);
     }
 }
 
@@ -125,7 +150,7 @@ fn rounds<L: Opened, R: Wait>(
 struct End {
     count: u64,
     test: bool,
-    /// One thread that makes the events of the history gets its answers.
+    /// One thread that makes the events of the history gets its answers, and comes to its world.
     is_replayed: bool,
     /// The laws hold of what was seen at first.
     is_lawful: bool,
@@ -140,8 +165,43 @@ fn are_answers(history: &[Entry], answers: &[Answer]) -> bool {
     history.len() == answers.len()
 }
 
-/// Whether one thread that makes these events on a new world gets these answers.
-fn is_replayed(alloc: Global, history: &[Entry]) -> Result<bool, AllocError> {
+/// Whether a token has the same packet in the pipe, and its job as much to do.
+fn is_same_token(one: &World, other: &World, token: u32) -> bool {
+    let job = JobId(token);
+    one.queued(Token(token)) == other.queued(Token(token))
+        && one.next_act(job).is_some() == other.next_act(job).is_some()
+}
+
+fn are_same_tokens(one: &World, other: &World, last: u32) -> bool {
+    for token in 0..last {
+        if !is_same_token(one, other, token) {
+            return false;
+        }
+    }
+    true
+}
+
+fn are_same_waits(one: &World, other: &World, walkers: u32) -> bool {
+    for walker in 0..walkers {
+        if one.is_waiting(WalkerId(walker)) != other.is_waiting(WalkerId(walker)) {
+            return false;
+        }
+    }
+    true
+}
+
+/// Whether what can be asked of two worlds is the same: as much was seen, and the same packets, jobs and
+/// waits are left.
+fn are_same_worlds(one: &World, other: &World, size: Size) -> bool {
+    let seen = one.trace().len();
+    let last = u32::try_from(seen).unwrap_or(u32::MAX);
+    seen == other.trace().len()
+        && are_same_tokens(one, other, last)
+        && are_same_waits(one, other, size.threads)
+}
+
+/// What one thread gets that makes these events on a new world.
+fn replay(alloc: Global, history: &[Entry]) -> Result<Ran, AllocError> {
     let mut events = Vec::with_capacity(alloc, history.len())?;
     for entry in history {
         events.push(entry.event.copy(alloc)?)?;
@@ -149,31 +209,35 @@ fn is_replayed(alloc: Global, history: &[Entry]) -> Result<bool, AllocError> {
     let Ok(world) = world_of(alloc, ANY) else {
         return Err(AllocError);
     };
-    match run(alloc, world, events.as_slice()) {
-        Ok(ran) => Ok(are_answers(history, ran.answers.as_slice())),
-        Err(_) => Err(AllocError),
-    }
+    run(alloc, world, events.as_slice()).map_err(|_world| AllocError)
 }
 
-fn end_of(alloc: Global, shared: &Shared, count: u64, test: bool) -> Result<End, AllocError> {
+fn is_replayed(alloc: Global, shared: &Shared, size: Size) -> Result<bool, AllocError> {
+    let ran = replay(alloc, shared.history())?;
+    let are_told = are_answers(shared.history(), ran.answers.as_slice());
+    Ok(are_told && are_same_worlds(shared.world(), &ran.world, size))
+}
+
+fn end_of(
+    alloc: Global,
+    shared: &Shared,
+    size: Size,
+    count: u64,
+    test: bool,
+) -> Result<End, AllocError> {
     let trace = shared.world().trace();
-    let (first, _) = trace.split_at(trace.len().min(JUDGED));
+    let (first, _) = trace.split_at(trace.len().min(size.judged as usize));
     Ok(End {
         count,
         test,
-        is_replayed: is_replayed(alloc, shared.history())?,
+        is_replayed: is_replayed(alloc, shared, size)?,
         is_lawful: trace_holds(first),
     })
 }
 
-fn attach<L: Opened, R: Wait>(
-    rt: &R,
-    alloc: Global,
-    made: &AtomicU64,
-    callers: &mut [Caller<L>],
-) -> bool {
+fn attach<L: Opened, R: Wait>(rt: &R, alloc: Global, callers: &mut [Caller<L>]) -> bool {
     match callers.first_mut() {
-        Some(first) => makes(rt, alloc, made, first, "attach /auto").is_none(),
+        Some(first) => makes(rt, alloc, 1, first, "attach /auto").is_none(),
         None => false,
     }
 }
@@ -184,8 +248,10 @@ fn crowd<L: Opened + Send + Sync, R: Threads + Wait + Abort + Sync>(
     blank: Blank,
     begun: Beginning,
     put: PutEnd,
+    size: Size,
 ) -> Result<(), AllocError>
-    requires blank { (blank.name ≡ L.name) × (blank.parts ≡ L.parts) × (blank.parts ≡ 8) }
+    requires blank { (blank.name ≡ L.name) × (blank.parts ≡ L.parts) }
+    requires threads { (blank.parts ≡ size.threads) × (0 < size.threads) }
     requires opening { L.opening ≡ record {
       limits = begun.limits;
       master = begun.master;
@@ -198,36 +264,50 @@ fn crowd<L: Opened + Send + Sync, R: Threads + Wait + Abort + Sync>(
         master,
         maps,
     } = begun;
-    let made = AtomicU64::new(0);
-    let mut callers = share::<L>(alloc, blank, limits, master, maps, put, THREADS)?;
-    assert!(rt;
-        attach(rt, alloc, &made, callers.as_mut_slice()),
-        "an autofs"
-    );
+    let mut callers = share::<L>(alloc, blank, limits, master, maps, put, size.threads)?;
+    assert!(rt; attach(rt, alloc, callers.as_mut_slice()), "an autofs");
     thread::for_each_mut(
         rt,
         callers.as_mut_slice(),
-        THREADS as usize,
-        &|index, caller| rounds(rt, alloc, &made, index, caller),
+        size.threads as usize,
+        &|index, caller| rounds(rt, alloc, size.calls, index, caller),
     );
     let end = gather(
         rt,
         callers,
-        |shared, count, test| end_of(alloc, shared, count, test),
+        |shared, count, test| end_of(alloc, shared, size, count, test),
     )?;
-    assert_eq!(rt; end.count, made.load(Ordering::SeqCst));
+    assert_eq!(rt; end.count, all_calls(size));
     assert!(rt; end.test, "each call has its receipt");
     assert!(rt; end.is_replayed, "the history is one of a single thread");
     assert!(rt; end.is_lawful, "the trace is lawful");
     Ok(())
 }
 
+/// A number of the environment, or else this one.
+fn number(rt: &HostRuntime, name: &str, otherwise: u32) -> u32 {
+    match env::var(rt, name) {
+        Ok(text) => text.as_str().parse::<u32>().unwrap_or(otherwise),
+        Err(_) => otherwise,
+    }
+}
+
+fn size_of(rt: &HostRuntime) -> Size {
+    Size {
+        threads: number(rt, "CROWD_THREADS", GATE.threads),
+        calls: number(rt, "CROWD_CALLS", GATE.calls),
+        judged: number(rt, "CROWD_JUDGED", GATE.judged),
+    }
+}
+
 #[test]
-fn eight_threads(rt: HostRuntime) -> Result<(), Fail> {
+fn a_crowd(rt: HostRuntime) -> Result<(), Fail> {
     let alloc = rt.alloc();
+    let size = size_of(&rt);
+    assert!(rt; size.threads > 0, "a thread at least");
     let begun = world_and_ends(alloc, ANY)?;
     let (put, _takers) = pipe(alloc, 64, 1)?;
-    let blank = Blank::new(THREADS as u64);
-    crowd::<Brand, HostRuntime>(&rt, alloc, blank, begun, put)?;
+    let blank = Blank::new(size.threads as u64);
+    crowd::<Brand, HostRuntime>(&rt, alloc, blank, begun, put, size)?;
     Ok(())
 }

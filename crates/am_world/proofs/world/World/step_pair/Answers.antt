@@ -1,6 +1,9 @@
-use Rattle.std.proofs.Common.{◌≡◌, sym, ap, subst, ◌∙◌}
+use Rattle.std.proofs.Common.{◌≡◌, [], inl, refl, sym, ap, subst, ◌∙◌}
+use Rattle.am_names.specs.declared.errno.Errno.TheVariants.{NoMemory}
+use Rattle.am_machine.specs.declared.answer.Answer.TheVariants.{Refused}
 use Rattle.am_machine.specs.State.{State}
 use Rattle.am_machine.specs.Machine.{outcome_of}
+use Rattle.am_machine.proofs.Histories.{step_goes_on}
 use Rattle.am_world.specs.Copies.{IsSpare}
 use Rattle.am_world.specs.Halves.{table_of, state_of}
 use Rattle.am_world.specs.Table as table
@@ -14,3 +17,12 @@ again-other-requires c =
     let same : table.state_of c.args.self.now ≡ state_of c.self.inside.halves = ap table.state_of (sym c.self.view_is) ∙ state_is (table_of c.self.inside.halves) in
     step_spares (table.state_of c.args.self.now) event c.step-answer.result c.step-answer.ensures.0 _ c.in-Ok.spare
     (subst (λ (s : State). IsSpare c.in-Ok.spare (outcome_of s event).answer) (sym same) c.in-Ok.ensures) c.step-answer.ensures.1
+
+pub returns-in_default-clause-legal : goal.returns-in_default-clause-legal
+returns-in_default-clause-legal c =
+    let old = table.state_of c.args.self.now in
+    step_goes_on old c.args.event.now (Refused NoMemory) old ([], inl (record { told = refl; nothing = refl; same = refl }))
+
+pub returns-clause-legal : goal.returns-clause-legal
+returns-clause-legal c =
+    step_goes_on (table.state_of c.args.self.now) c.args.event.now c.step-answer.result (table.state_of c.step-answer.new.self) c.step-answer.ensures

@@ -1,4 +1,4 @@
-use Rattle.am_thread_tests.proofs.tests.crowds.eight_threads.Given as goal
+use Rattle.am_thread_tests.proofs.tests.crowds.a_crowd.Given as goal
 
 abbrev pub ghosts-crowd-L-Opened : goal.ghosts-crowd-L-Opened
 ghosts-crowd-L-Opened g a = record {

@@ -1,0 +1,6 @@
+//! For a daemon's author, for that of a mount layer, and for that of tests, in one thread and in more.
+
+mod daemon;
+mod mounts;
+mod shared;
+mod worlds;

@@ -1,0 +1,144 @@
+//! For the author of tests: a world, event by event.
+
+use am_job::Act;
+use am_map::{Map, MapKind};
+use am_master::Master;
+use am_names::{
+    AbsPath, Errno, JobId, Limits, MountId, NsId, PipeState, Place, Seconds, Token, WalkerId,
+};
+use am_world::laws::trace_holds;
+use am_world::{Answer, Event, Obs, Ran, World, run};
+use std::alloc::Global;
+use std::test::Fail;
+
+const LIMITS: Limits = Limits {
+    mounts: 1_000_000,
+    waiters: 1_024,
+    tokens: u32::MAX,
+};
+
+/// A world with the point `/auto`, whose map has the key `home`.
+fn world(alloc: Global) -> Result<World, Errno> {
+    let Ok(master) = Master::read(alloc, b"/auto auto.home") else {
+        return Err(Errno::NoMemory);
+    };
+    let Ok(map) = Map::read(alloc, b"home srv:/home", MapKind::Indirect) else {
+        return Err(Errno::NoMemory);
+    };
+    let maps = vec![in alloc; map]?;
+    // `World::new` requires limits in their ranges, and a map for each line of the master map.
+    if !LIMITS.is_in_range() || maps.len() != master.entries().len() {
+        return Err(Errno::EINVAL);
+    }
+    World::new(alloc, LIMITS, master, maps)
+}
+
+fn place(alloc: Global, path: &[u8]) -> Result<Place, Errno> {
+    Ok(AbsPath::read(path)?.to_place(alloc)?)
+}
+
+fn attach(alloc: Global) -> Result<Event, Errno> {
+    let path = place(alloc, b"/auto")?;
+    Ok(Event::Attach { path })
+}
+
+/// Walker 7 walks to `/auto/home` in namespace 0.
+fn walk(alloc: Global) -> Result<Event, Errno> {
+    Ok(Event::Walk {
+        walker: WalkerId(7),
+        ns: NsId(0),
+        path: place(alloc, b"/auto/home")?,
+        now: Seconds(100),
+        pipe: PipeState::Room,
+    })
+}
+
+fn deliver() -> Event {
+    Event::Deliver {
+        token: Token(1),
+        bytes: None,
+    }
+}
+
+fn act() -> Event {
+    Event::Act {
+        job: JobId(1),
+        ok: true,
+    }
+}
+
+fn resume() -> Event {
+    Event::Resume {
+        walker: WalkerId(7),
+        now: Seconds(101),
+        pipe: PipeState::Room,
+    }
+}
+
+/// The walker waits on token 1.
+fn is_wait(answer: &Answer) -> bool {
+    matches!(answer, Answer::Wait { token } if *token == Token(1))
+}
+
+/// The walk has arrived in mount 3.
+fn is_arrival(answer: &Answer) -> bool {
+    matches!(answer, Answer::At { position } if position.mount == MountId(3))
+}
+
+/// Walker 7 was released.
+fn is_release(seen: &Obs) -> bool {
+    matches!(seen, Obs::Released { walker, .. } if *walker == WalkerId(7))
+}
+
+fn is_mkdir(act: Option<&Act>) -> bool {
+    matches!(act, Some(Act::Mkdir { .. }))
+}
+
+/// The walk waits, its packet is queued, and the daemon begins by making the directory.
+fn begins(alloc: Global, world: &mut World) -> Result<bool, Errno> {
+    world.step(alloc, &attach(alloc)?);
+    let waits = is_wait(&world.step(alloc, &walk(alloc)?));
+    let queued = world.queued(Token(1)).is_some();
+    world.step(alloc, &deliver());
+    Ok(waits && queued && is_mkdir(world.next_act(JobId(1))))
+}
+
+#[test]
+fn a_walk_waits_for_the_daemon(rt: HostRuntime) -> Result<(), Fail> {
+    let mut world = world(rt.alloc())?;
+    let begins = begins(rt.alloc(), &mut world)?;
+    assert!(rt; begins);
+    assert!(rt; world.is_waiting(WalkerId(7)));
+    Ok(())
+}
+
+fn events(alloc: Global) -> Result<Vec<Event>, Errno> {
+    let (attach, walk) = (attach(alloc)?, walk(alloc)?);
+    Ok(vec![in alloc;
+        attach,
+        walk,
+        deliver(),
+        act(),
+        act(),
+        act(),
+        act(),
+        resume(),
+    ]?)
+}
+
+/// The walk arrives, its release is in the trace, and the laws hold of the trace.
+fn is_served(ran: &Ran) -> bool {
+    let trace = ran.world.trace();
+    let arrives = ran.answers.last().is_some_and(is_arrival);
+    arrives && trace.iter().any(is_release) && trace_holds(trace)
+}
+
+#[test]
+fn a_run_serves_the_walk(rt: HostRuntime) -> Result<(), Fail> {
+    let events = events(rt.alloc())?;
+    let Ok(ran) = run(rt.alloc(), world(rt.alloc())?, events.as_slice()) else {
+        return Err(Fail::new("no room for the answers"));
+    };
+    assert!(rt; is_served(&ran));
+    Ok(())
+}
