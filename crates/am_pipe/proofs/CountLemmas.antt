@@ -1,5 +1,5 @@
 -- Sums over the views of a pipe's ends, and the positions of notes.
-use Rattle.std.proofs.Common.{◌≡◌, ◌≢◌, ℕ, zero, suc, ◌+◌, ◌-◌, ◌<◌, ◌≤◌, List, [], ◌∷◌, ◌++◌}
+use Rattle.std.proofs.Common.{◌≡◌, ◌≢◌, ℕ, zero, suc, ◌+◌, ◌<◌, ◌≤◌, List, [], ◌∷◌, ◌++◌}
 use Rattle.std.proofs.Common.{length, set, drop, Some, slice_get, ◌==◌, refl, sym, ap, ◌∙◌, arith}
 use Rattle.std.proofs.Common.{length-drop}
 use Rattle.std.proofs.lemmas.Bool.Decides.{nat_tests}

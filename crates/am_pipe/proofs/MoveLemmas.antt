@@ -1,7 +1,7 @@
 -- Each move of an end keeps the rule of the pipe.
 use Rattle.std.proofs.Common.{◌≡◌, ◌≢◌, ℕ, zero, suc, ◌+◌, ◌-◌, ◌<◌, ◌≤◌, true, false, true≢false}
 use Rattle.std.proofs.Common.{List, [], ◌∷◌, ◌++◌, length, set, drop, Some, slice_get, refl, sym}
-use Rattle.std.proofs.Common.{ap, ◌∙◌, subst, ⊎_elim, length-append, arith, All}
+use Rattle.std.proofs.Common.{ap, ◌∙◌, subst, ⊎_elim, length-append, arith}
 use Rattle.std.proofs.lemmas.List.{drop-append-le}
 use Rattle.std.proofs.lemmas.List.Elements.{All-append}
 use mathlib.Core.Option.{some, some-injective, some-ne-none}
@@ -10,7 +10,6 @@ use Rattle.crossbeam_queue.specs.Fifo.{Pushes, Pops, Forks, Merges}
 use Rattle.crossbeam_queue.proofs.Lists.{at_set, at_snoc}
 use Rattle.am_pipe.specs.declared.note.Note.{Note}
 use Rattle.am_pipe.specs.declared.rule.EndView.{EndView}
-use Rattle.am_pipe.specs.Ends.{total}
 use Rattle.am_pipe.specs.Rule.{end_view, numbered, weigh, AreTaken, FitsPipe, AllFitPipe, IsPipe}
 use Rattle.am_pipe.specs.Rule.{Puts, Takes}
 use Rattle.am_pipe.proofs.CountLemmas.{total_set, total_snoc, total_append, length_numbered}
