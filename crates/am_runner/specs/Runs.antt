@@ -24,7 +24,7 @@ is_walk (Walk walker ns path now pipe) = true
 is_walk event = false
 
 -- a round begins with a walk; where memory ran out, the same round's walk is made once more
-abbrev pub is_round : Entry → Bool
+unfoldable pub is_round : Entry → Bool
 is_round e = is_walk e.event && not (is_out_of_memory e.answer)
 
 abbrev pub is_entered : Obs → Bool

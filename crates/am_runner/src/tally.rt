@@ -43,6 +43,7 @@ fn is_walk(event: &Event) -> bool
 }
 
 /// Whether a round begins here. Where memory runs out the same round begins once more.
+#[tactic(auto, unfolding(crate::specs::Runs::is_round))]
 fn is_round(entry: &Entry) -> bool
     ensures { result ≡ is_round entry.now }
 {
@@ -64,7 +65,13 @@ fn is_left(obs: &Obs) -> bool
 fn rounds_in(history: &[Entry]) -> usize
     ensures { result ≡ count_by is_round history.now }
 {
-    history.iter().filter(|entry| is_round(*entry)).count()
+    let mut rounds = 0;
+    for entry in history {
+        if is_round(entry) {
+            rounds += 1;
+        }
+    }
+    rounds
 }
 
 fn entered_in(trace: &[Obs]) -> usize
