@@ -1,10 +1,13 @@
 -- Each way in which the program ends.
 use Rattle.std.proofs.Common.{◌≡◌, ℕ, List, Option, refl}
+use Rattle.std.specs.Io.KnownBytes.{Appends}
+use Rattle.am_runner.specs.Runs.{IsTally}
+use Rattle.am_runner.specs.declared.tally.Tally.{Tally}
 use Rattle.am_script.specs.Played.{PlaysInput, StopsInput}
 use Rattle.am_script.specs.declared.fault.ScriptFault.{ScriptFault}
 use Rattle.am_script.specs.declared.play.Summary.{Summary}
 use Rattle.automount_cli.specs.Args.{fault_number}
-use Rattle.automount_cli.specs.Program.{ExitsWith, Played, Stopped, Refused}
+use Rattle.automount_cli.specs.Program.{ExitsWith, Played, Stopped, Ran, Untold, NotRun, Refused, rounds_line}
 use Rattle.automount_cli.specs.declared.args.ArgsFault.{ArgsFault}
 
 pub ends_played : (input rest old new quiet : Option (List ℕ)) (summary : Summary) → PlaysInput input rest old new summary → ExitsWith input rest old new quiet quiet 0
@@ -15,3 +18,12 @@ ends_stopped input rest old new quiet told fault status stops e = record { end =
 
 pub ends_refused : (input old quiet told : Option (List ℕ)) (fault : ArgsFault) (status : ℕ) → status ≡ fault_number fault → ExitsWith input input old old quiet told status
 ends_refused input old quiet told fault status e = record { end = Refused fault; status_is = e; streams = (refl, refl) }
+
+pub ends_ran : (input old new quiet : Option (List ℕ)) (tally : Tally) → IsTally tally → Appends old new (rounds_line tally.rounds) → ExitsWith input input old new quiet quiet 0
+ends_ran input old new quiet tally counted written = record { end = Ran tally; status_is = refl; streams = (counted, refl, written, refl) }
+
+pub ends_untold : (input old new quiet told : Option (List ℕ)) (tally : Tally) → IsTally tally → ExitsWith input input old new quiet told 1
+ends_untold input old new quiet told tally counted = record { end = Untold tally; status_is = refl; streams = (counted, refl) }
+
+pub ends_not_run : (input old quiet told : Option (List ℕ)) (status : ℕ) → status ≡ 1 → ExitsWith input input old old quiet told status
+ends_not_run input old quiet told status e = record { end = NotRun; status_is = e; streams = (refl, refl) }

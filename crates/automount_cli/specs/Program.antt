@@ -1,16 +1,29 @@
 -- How a run of the program ends.
-use Rattle.std.specs.Prelude.{◌≡◌, ℕ, List, Option}
+use Rattle.std.specs.Prelude.{◌≡◌, ◌++◌, ℕ, List, Option, codes, decimal}
+use Rattle.std.specs.Io.KnownBytes.{Appends}
+use Rattle.am_runner.specs.Runs.{IsTally}
+use Rattle.am_runner.specs.declared.tally.Tally.{Tally}
 use Rattle.am_script.specs.Played.{PlaysInput, StopsInput}
 use Rattle.am_script.specs.declared.fault.ScriptFault.{ScriptFault}
 use Rattle.am_script.specs.declared.play.Summary.{Summary}
 use Rattle.automount_cli.specs.Args.{fault_number}
 use Rattle.automount_cli.specs.declared.args.ArgsFault.{ArgsFault}
 
+-- the line that tells the rounds of threads
+abbrev pub rounds_line : ℕ → List ℕ
+rounds_line rounds = codes "rounds " ++ decimal rounds ++ codes "\n"
+
 pub data End : Type 0 where
   -- the script is played to its end
   Played : Summary → End
   -- the script stops at its fault
   Stopped : ScriptFault → End
+  -- threads have made their rounds, and the line that tells them is written
+  Ran : Tally → End
+  -- they have, but the writer didn't take the whole line
+  Untold : Tally → End
+  -- they haven't: memory ran out, or a thread can't be started
+  NotRun : End
   -- the command line is none
   Refused : ArgsFault → End
 
@@ -18,13 +31,21 @@ pub data End : Type 0 where
 abbrev pub status_of : End → ℕ
 status_of (Played summary) = 0
 status_of (Stopped fault) = 1
+status_of (Ran tally) = 0
+status_of (Untold tally) = 1
+status_of NotRun = 1
 status_of (Refused fault) = fault_number fault
 
 -- What is read and written, and what is told of it: nothing is told of a script that is played to its
--- end, and nothing is read or written where the command line is none.
+-- end, nor of threads whose rounds stand written. Threads read nothing. Nothing is read or written where
+-- they don't run, or the command line is none.
 abbrev pub Leaves : End → Option (List ℕ) → Option (List ℕ) → Option (List ℕ) → Option (List ℕ) → Option (List ℕ) → Option (List ℕ) → Type 0
 Leaves (Played summary) input rest old new quiet told = PlaysInput input rest old new summary × (told ≡ quiet)
 Leaves (Stopped fault) input rest old new quiet told = StopsInput input rest old new fault
+Leaves (Ran tally) input rest old new quiet told =
+    IsTally tally × (rest ≡ input) × Appends old new (rounds_line tally.rounds) × (told ≡ quiet)
+Leaves (Untold tally) input rest old new quiet told = IsTally tally × (rest ≡ input)
+Leaves NotRun input rest old new quiet told = (rest ≡ input) × (new ≡ old)
 Leaves (Refused fault) input rest old new quiet told = (rest ≡ input) × (new ≡ old)
 
 -- the program exits with this status

@@ -1,12 +1,15 @@
 //! What the program does with its words and streams.
 
-ghost use Rattle.std.specs.Prelude.{◌≡◌, ◌<◌, ◌≤◌};
-ghost use Rattle.automount_cli.specs.Program.{ExitsWith};
+ghost use Rattle.std.specs.Prelude.{◌≡◌, ◌<◌, ◌≤◌, ℕ, List, Option, OnOk};
+ghost use Rattle.std.specs.Io.KnownBytes.{Appends};
+ghost use Rattle.am_runner.specs.Runs.{IsTally};
+ghost use Rattle.automount_cli.specs.Program.{ExitsWith, rounds_line};
 ghost use Rattle.automount_cli.specs.Args.{fault_number};
 
 use crate::args::{Args, ArgsFault, read_args};
-use am_runner::run_threads;
+use am_runner::{Tally, run_threads};
 use am_script::{ScriptFault, run_script};
+use itoa::Buffer;
 use std::alloc::{AllocError, Global};
 use std::env;
 use std::io::{self, Read, Write};
@@ -27,11 +30,13 @@ pub fn run_program<T: Threads + Wait + Sync, R: Read, W: Write, E: Write>(
 {
     match read_args(alloc, words) {
         Ok(Args::Script) => play(alloc, reader, writer, errors),
-        Ok(Args::Threads {
-            walkers,
-            workers,
-            rounds,
-        }) => run_crowd(rt, alloc, walkers, workers, rounds, writer, errors),
+        Ok(
+            Args::Threads {
+                walkers,
+                workers,
+                rounds,
+            },
+        ) => run_crowd(rt, alloc, walkers, workers, rounds, writer, errors),
         Err(fault) => refuse(errors, fault),
     }
 }
@@ -63,21 +68,34 @@ fn run_crowd<T: Threads + Wait + Sync, W: Write, E: Write>(
 ) -> u8
     requires workers { (0 < workers) × (workers ≤ 16) }
     requires walkers { walkers ≤ 16 }
+    ensures { (input : Option (List ℕ)) → ExitsWith input input (W.contents writer.old) (W.contents writer.new) (E.contents errors.old) (E.contents errors.new) result }
 {
     match run_threads(rt, alloc, walkers, workers, rounds) {
-        Ok(tally) => tell(writer, errors, tally.rounds),
+        Ok(tally) => tell(writer, errors, tally),
         Err(_) => refuse(errors, ArgsFault::NoMemory),
     }
 }
 
-fn tell<W: Write, E: Write>(writer: &mut W, errors: &mut E, rounds: u64) -> u8 {
-    match writeln!(writer, "rounds {rounds}") {
+fn tell<W: Write, E: Write>(writer: &mut W, errors: &mut E, tally: Tally) -> u8
+    requires { IsTally tally }
+    ensures { (input : Option (List ℕ)) → ExitsWith input input (W.contents writer.old) (W.contents writer.new) (E.contents errors.old) (E.contents errors.new) result }
+{
+    match write_rounds(writer, tally.rounds) {
         Ok(()) => 0,
         Err(_) => {
             let _ = writeln!(errors, "fault: WriteFailed");
             1
         }
     }
+}
+
+fn write_rounds<W: Write>(writer: &mut W, rounds: u64) -> io::Result<()>
+    ensures { OnOk result (Appends (W.contents writer.old) (W.contents writer.new) (rounds_line rounds)) }
+{
+    let mut digits = Buffer::new();
+    writer.write_all(b"rounds ")?;
+    writer.write_all(digits.format(rounds).as_bytes())?;
+    writer.write_all(b"\n")
 }
 
 /// A script isn't played to its end.

@@ -39,11 +39,17 @@ fn numbers_of_threads(rt: HostRuntime) {
     let alloc = rt.alloc();
     assert_eq!(rt; read_args(alloc, &["cli", "threads"]), threads(4, 2, 10));
     assert_eq!(rt;
-        read_args(alloc, &["cli", "threads", "--rounds", "1000", "--walkers", "16"]),
+        read_args(
+            alloc,
+            &["cli", "threads", "--rounds", "1000", "--walkers", "16"]
+        ),
         threads(16, 2, 1000)
     );
     assert_eq!(rt;
-        read_args(alloc, &["cli", "threads", "--workers", "16", "--walkers", "1"]),
+        read_args(
+            alloc,
+            &["cli", "threads", "--workers", "16", "--walkers", "1"]
+        ),
         threads(1, 16, 10)
     );
 }
@@ -111,7 +117,16 @@ fn threads_tell_their_rounds(rt: HostRuntime) -> Result<(), Fail> {
     let (status, output, errors) = run(&rt, alloc, &["cli", "threads"], b"")?;
     assert_eq!(rt; (status, errors.len()), (0, 0));
     assert_eq!(rt; output.as_slice(), b"rounds 40\n".as_slice());
-    let words = ["cli", "threads", "--walkers", "2", "--workers", "1", "--rounds", "3"];
+    let words = [
+        "cli",
+        "threads",
+        "--walkers",
+        "2",
+        "--workers",
+        "1",
+        "--rounds",
+        "3",
+    ];
     let (status, output, errors) = run(&rt, alloc, &words, b"")?;
     assert_eq!(rt; (status, errors.len()), (0, 0));
     assert_eq!(rt; output.as_slice(), b"rounds 6\n".as_slice());
