@@ -7,6 +7,7 @@ use am_machine::Entry;
 use am_names::{JobId, Token, WalkerId};
 use am_pipe::{PutEnd, pipe};
 use am_shared::{Caller, Opened, Shared, gather, share};
+use am_state::Obs;
 use am_world::laws::trace_holds;
 use am_world::{Answer, Ran, World, run};
 use std::alloc::{AllocError, Global};
@@ -218,6 +219,18 @@ fn is_replayed(alloc: Global, shared: &Shared, size: Size) -> Result<bool, Alloc
     Ok(are_told && are_same_worlds(shared.world(), &ran.world, size))
 }
 
+fn is_released(obs: &Obs) -> bool {
+    matches!(obs, Obs::Released { .. })
+}
+
+/// So many observations, and some more: the row of releases that one event makes isn't cut.
+fn first_seen(trace: &[Obs], count: usize) -> &[Obs] {
+    let (_, rest) = trace.split_at(count.min(trace.len()));
+    let row = rest.iter().take_while(|obs| is_released(*obs)).count();
+    let (first, _) = trace.split_at(count.saturating_add(row).min(trace.len()));
+    first
+}
+
 fn end_of(
     alloc: Global,
     shared: &Shared,
@@ -225,8 +238,7 @@ fn end_of(
     count: u64,
     test: bool,
 ) -> Result<End, AllocError> {
-    let trace = shared.world().trace();
-    let (first, _) = trace.split_at(trace.len().min(size.judged as usize));
+    let first = first_seen(shared.world().trace(), size.judged as usize);
     Ok(End {
         count,
         test,
