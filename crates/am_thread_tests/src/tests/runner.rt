@@ -13,11 +13,11 @@ use std::alloc::{AllocError, Global};
 use std::marker::Brand;
 use std::process::Abort;
 use std::sync::Wait;
-use std::sync::atomic::{AtomicBool, Ordering};
+use std::sync::atomic::{AtomicBool, AtomicU32, Ordering};
 use std::sync::ledger::Blank;
 use std::test::*;
 use std::thread;
-use std::thread::{Threads, join};
+use std::thread::Threads;
 
 /// How long the gate holds a worker up, in turns.
 const TURNS: u32 = 10_000_000;
@@ -27,6 +27,8 @@ const TURNS: u32 = 10_000_000;
 #[derive(Drop)]
 struct Held {
     arrived: AtomicBool,
+    /// How many walkers are back.
+    back: AtomicU32,
     stop: AtomicBool,
     late: AtomicBool,
 }
@@ -62,35 +64,39 @@ impl Backend for Succeeds {
     }
 }
 
+/// Where a thread sits that has a caller: a worker, if it has an end of the pipe, and else a walker.
+#[derive(Drop)]
+struct Seat<L: Opened> {
+    caller: Option<Caller<L>>,
+    taker: Option<TakeEnd>,
+}
+
+/// The last walker that comes back tells the workers to stop.
+fn comes_back(held: &Held) {
+    held.arrived.store(true, Ordering::SeqCst);
+    if held.back.fetch_add(1, Ordering::SeqCst) == 1 {
+        held.stop.store(true, Ordering::SeqCst);
+    }
+}
+
+/// Each walker walks to a key of its own.
 fn walks<L: Opened, R: Wait>(
     rt: &R,
     alloc: Global,
     held: &Held,
     caller: Caller<L>,
-    number: u32,
-    text: &[u8],
+    index: usize,
 ) -> Caller<L> {
+    let (number, text): (u32, &[u8]) = if index == 2 {
+        (7, b"/auto/k0")
+    } else {
+        (8, b"/auto/k1")
+    };
     let back = match AbsPath::read(text) {
         Ok(path) => walker(rt, alloc, caller, WalkerId(number), &path, 1),
         Err(_) => caller,
     };
-    held.arrived.store(true, Ordering::SeqCst);
-    back
-}
-
-fn both_walk<L: Opened + Send, R: Threads + Wait + Sync>(
-    rt: &R,
-    alloc: Global,
-    held: &Held,
-    first: Caller<L>,
-    second: Caller<L>,
-) -> (Caller<L>, Caller<L>) {
-    let back = join(
-        rt,
-        || walks(rt, alloc, held, first, 7, b"/auto/k0"),
-        || walks(rt, alloc, held, second, 8, b"/auto/k1"),
-    );
-    held.stop.store(true, Ordering::SeqCst);
+    comes_back(held);
     back
 }
 
@@ -104,25 +110,66 @@ fn works<L: Opened, R: Wait>(
     daemon_worker(rt, alloc, caller, taker, held, Succeeds, &held.stop).0
 }
 
-/// A caller with an end of the pipe.
-#[derive(Drop)]
-struct Worker<L: Opened> {
-    caller: Caller<L>,
-    taker: TakeEnd,
+fn acts<L: Opened, R: Wait>(rt: &R, alloc: Global, held: &Held, index: usize, seat: &mut Seat<L>) {
+    let Some(caller) = seat.caller.take() else {
+        return;
+    };
+    let back = match seat.taker.take() {
+        Some(taker) => works(rt, alloc, held, caller, taker),
+        None => walks(rt, alloc, held, caller, index),
+    };
+    seat.caller = Some(back);
 }
 
-fn both_work<L: Opened + Send, R: Threads + Wait + Sync>(
+/// The first seats are those of workers.
+fn seats_of<L: Opened>(
+    alloc: Global,
+    callers: Vec<Caller<L>>,
+    mut takers: Vec<TakeEnd>,
+) -> Result<Vec<Seat<L>>, AllocError> {
+    let mut seats = Vec::with_capacity(alloc, callers.len())?;
+    for caller in callers {
+        seats.push(Seat {
+            caller: Some(caller),
+            taker: takers.pop(),
+        })?;
+    }
+    Ok(seats)
+}
+
+fn callers_of<L: Opened>(alloc: Global, seats: Vec<Seat<L>>) -> Result<Vec<Caller<L>>, AllocError> {
+    let mut back = Vec::with_capacity(alloc, seats.len())?;
+    for seat in seats {
+        let Seat { caller, taker: _ } = seat;
+        if let Some(caller) = caller {
+            back.push(caller)?;
+        }
+    }
+    Ok(back)
+}
+
+/// All four callers, when the walkers have walked and the workers have stopped.
+fn four_back<L: Opened + Send + Sync, R: Threads + Wait + Abort + Sync>(
     rt: &R,
     alloc: Global,
     held: &Held,
-    first: Worker<L>,
-    second: Worker<L>,
-) -> (Caller<L>, Caller<L>) {
-    join(
+    callers: Vec<Caller<L>>,
+    takers: Vec<TakeEnd>,
+) -> Result<Vec<Caller<L>>, AllocError>
+    ensures { IfOk result (λ back. vec_len back ≡ 4) }
+{
+    let mut seats = seats_of(alloc, callers, takers)?;
+    thread::for_each_mut(
         rt,
-        || works(rt, alloc, held, first.caller, first.taker),
-        || works(rt, alloc, held, second.caller, second.taker),
-    )
+        seats.as_mut_slice(),
+        4,
+        &|index, seat| acts(rt, alloc, held, index, seat),
+    );
+    let back = callers_of(alloc, seats)?;
+    if back.len() != 4 {
+        return Err(AllocError);
+    }
+    Ok(back)
 }
 
 fn is_not_released(entry: &Entry) -> bool {
@@ -148,61 +195,6 @@ fn end_of(shared: &Shared, count: u64, test: bool) -> End {
         test,
         are_released,
     }
-}
-
-/// Two walkers and two workers, all at once.
-fn all_at_once<L: Opened + Send, R: Threads + Wait + Sync>(
-    rt: &R,
-    alloc: Global,
-    held: &Held,
-    walkers: (Caller<L>, Caller<L>),
-    workers: (Worker<L>, Worker<L>),
-) -> ((Caller<L>, Caller<L>), (Caller<L>, Caller<L>)) {
-    join(
-        rt,
-        || both_walk(rt, alloc, held, walkers.0, walkers.1),
-        || both_work(rt, alloc, held, workers.0, workers.1),
-    )
-}
-
-fn take_worker<L: Opened>(
-    callers: &mut Vec<Caller<L>>,
-    takers: &mut Vec<TakeEnd>,
-) -> Option<Worker<L>> {
-    let caller = callers.pop()?;
-    let taker = takers.pop()?;
-    Some(Worker { caller, taker })
-}
-
-/// All four callers, when the walkers have walked and the workers have stopped.
-fn four_back<L: Opened + Send, R: Threads + Wait + Sync>(
-    rt: &R,
-    alloc: Global,
-    held: &Held,
-    mut callers: Vec<Caller<L>>,
-    mut takers: Vec<TakeEnd>,
-) -> Result<Vec<Caller<L>>, AllocError>
-    ensures { IfOk result (λ back. vec_len back ≡ 4) }
-{
-    let mut back = Vec::with_capacity(alloc, 4)?;
-    let Some(first) = take_worker(&mut callers, &mut takers) else {
-        return Err(AllocError);
-    };
-    let Some(second) = take_worker(&mut callers, &mut takers) else {
-        return Err(AllocError);
-    };
-    let Some(third) = callers.pop() else {
-        return Err(AllocError);
-    };
-    let Some(fourth) = callers.pop() else {
-        return Err(AllocError);
-    };
-    let (walkers, workers) = all_at_once(rt, alloc, held, (third, fourth), (first, second));
-    back.push_reserved(walkers.0);
-    back.push_reserved(walkers.1);
-    back.push_reserved(workers.0);
-    back.push_reserved(workers.1);
-    Ok(back)
 }
 
 fn attach<L: Opened, R: Wait>(rt: &R, alloc: Global, callers: &mut [Caller<L>]) -> bool {
@@ -237,6 +229,7 @@ fn meets<L: Opened + Send + Sync, R: Threads + Wait + Abort + Sync>(
     assert!(rt; attach(rt, alloc, callers.as_mut_slice()), "an autofs");
     let held = Held {
         arrived: AtomicBool::new(false),
+        back: AtomicU32::new(0),
         stop: AtomicBool::new(false),
         late: AtomicBool::new(false),
     };
