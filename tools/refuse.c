@@ -1,10 +1,13 @@
 /* Loaded before a program's own libraries (LD_PRELOAD), makes its REFUSE-th call of malloc or
-   realloc fail, and says at its end how many calls there were and whether one was refused. */
+   realloc fail, and says at its end how many calls there were and whether one was refused. A
+   program with threads ends by _exit, where no destructor runs. */
 #define _GNU_SOURCE
 #include <dlfcn.h>
 #include <errno.h>
 #include <stdio.h>
 #include <stdlib.h>
+#include <sys/syscall.h>
+#include <unistd.h>
 
 static long calls, chosen = -1;
 static int refused;
@@ -37,5 +40,15 @@ void *realloc(void *old, size_t size) {
 }
 
 __attribute__((destructor)) static void say(void) {
+    static int said;
+    if (said)
+        return;
+    said = 1;
     fprintf(stderr, "calls=%ld refused=%d\n", calls, refused);
+}
+
+void _exit(int status) {
+    say();
+    syscall(SYS_exit_group, status);
+    __builtin_unreachable();
 }

@@ -141,7 +141,7 @@ impl Daemon {
 
     /// The daemon attaches again to a file system: it holds this attachment and no other one, and of
     /// the file system the book has the mounts that stand, and nothing else
-    /// (autofs.rst, "detecting the daemon").
+    /// (autofs.rst, "Communicating with autofs: detecting the daemon").
     pub fn reattach(
         &mut self,
         fs: FsId,

@@ -32,7 +32,8 @@ pub enum Act {
         trigger: Trigger,
         entry: Option<Record>,
     },
-    /// Acknowledge the notification (autofs.rst, "root directory ioctls").
+    /// Acknowledge the notification
+    /// (autofs.rst, "Communicating with autofs: root directory ioctls").
     Reply {
         status: Status,
     },

@@ -37,14 +37,16 @@ fn is_same_name(one: &Option<Name>, other: &Option<Name>) -> bool
     }
 }
 
-/// How the daemon acknowledges a notification (autofs.rst, "root directory ioctls").
+/// How the daemon acknowledges a notification
+/// (autofs.rst, "Communicating with autofs: root directory ioctls").
 #[derive(Clone, Copy, Debug, PartialEq)]
 pub enum Status {
     Ready,
     Fail,
 }
 
-/// What the kernel meets when it notifies the daemon (autofs.rst, "the event pipe").
+/// What the kernel meets when it notifies the daemon
+/// (autofs.rst, "Communicating with autofs: the event pipe").
 #[derive(Clone, Copy, Debug, PartialEq)]
 pub enum PipeState {
     /// One more packet fits.

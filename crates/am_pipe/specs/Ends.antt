@@ -1,4 +1,5 @@
--- What contracts see of the ends of a pipe (autofs.rst, "the event pipe").
+-- What contracts see of the ends of a pipe
+-- (autofs.rst, "Communicating with autofs: the event pipe").
 use Rattle.std.specs.Prelude.{◌≡◌, ℕ, ◌+◌, ◌-◌, ◌<◌, ◌==◌, List, [], ◌∷◌, ◌++◌, Some, slice_get}
 use Rattle.std.specs.Prelude.{All, if◌then◌else◌, nat_le, nat_lt, ◌&&◌}
 use Rattle.atomic_table.specs.Seated.{TableId}

@@ -1,5 +1,6 @@
-//! The pipe from the kernel to the workers of the daemon (autofs.rst, "the event pipe"): one end
-//! puts notes, several ends take them, and each may be in a thread of its own.
+//! The pipe from the kernel to the workers of the daemon
+//! (autofs.rst, "Communicating with autofs: the event pipe"): one end puts notes, several ends take
+//! them, and each may be in a thread of its own.
 #![tactic(auto)]
 
 mod ends;

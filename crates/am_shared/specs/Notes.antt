@@ -1,4 +1,5 @@
--- The notes of what the kernel queued (autofs.rst, "the event pipe").
+-- The notes of what the kernel queued
+-- (autofs.rst, "Communicating with autofs: the event pipe").
 use Rattle.std.specs.Prelude.{ℕ, List, [], ◌∷◌, ◌++◌, Option, Some, None}
 use Rattle.am_wire.specs.declared.packet.Packet.{Packet}
 use Rattle.am_wire.specs.Said.{said}

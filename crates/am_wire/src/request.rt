@@ -2,7 +2,8 @@
 
 use am_names::{Attach, FsId, PipeState, Seconds, Token, WalkerId};
 
-/// A request about an autofs (autofs.rst, "root directory ioctls" and "char-device ioctls").
+/// A request about an autofs (autofs.rst, "Communicating with autofs: root directory ioctls" and
+/// "Communicating with autofs: char-device ioctls").
 #[derive(Clone, Copy, PartialEq)]
 pub enum Request {
     /// AUTOFS_IOC_READY: the notification with this token has been dealt with.
