@@ -1,12 +1,14 @@
 -- The notes of what the kernel queued
 -- (autofs.rst, "Communicating with autofs: the event pipe").
-use Rattle.std.specs.Prelude.{ℕ, List, [], ◌∷◌, ◌++◌, Option, Some, None}
+use Rattle.std.specs.Prelude.{◌≡◌, ◌≤◌, ◌+◌, ◌^◌, ◌⊎◌, ℕ, List, [], ◌∷◌, ◌++◌, length}
+use Rattle.std.specs.Prelude.{Option, Some, None}
 use Rattle.am_wire.specs.declared.packet.Packet.{Packet}
 use Rattle.am_wire.specs.Said.{said}
 use Rattle.am_wire.specs.Format.{canonical}
 use Rattle.am_state.specs.declared.obs.Obs.{Obs}
 use Rattle.am_state.specs.declared.obs.Obs.TheVariants.{Queued}
 use Rattle.am_pipe.specs.declared.note.Note.{Note}
+use Rattle.am_pipe.specs.Ends.{Putter}
 
 -- a packet with its token and its attachment, in its canonical bytes
 abbrev pub note : ℕ → ℕ → Packet → Note
@@ -26,3 +28,9 @@ before (Some note) notes = note ∷ notes
 abbrev pub notes_of : List Obs → List Note
 notes_of [] = []
 notes_of (obs ∷ rest) = before (note_at obs) (notes_of rest)
+
+-- No note waits to be put, or as many were put as the pipe has room for, or its positions are spent.
+-- A put end can't know how many of them were taken.
+abbrev pub IsFlushed : Putter → List Note → Type 0
+IsFlushed put unsent =
+    (length unsent ≡ 0) ⊎ ((put.room ≤ length put.sent) ⊎ (2 ^ 64 ≤ length put.sent + 1))

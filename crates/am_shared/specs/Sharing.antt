@@ -13,7 +13,7 @@ use Rattle.am_pipe.specs.declared.note.Note.{Note}
 use Rattle.am_pipe.specs.Ends.{Putter}
 use Rattle.am_machine.specs.declared.entry.Entry.{Entry}
 use Rattle.am_machine.specs.History.{entry, events_of, answers_of}
-use Rattle.am_shared.specs.Notes.{notes_of}
+use Rattle.am_shared.specs.Notes.{notes_of, IsFlushed}
 
 -- a world, the events that happened to it with their answers, the put end of the pipe, and the notes
 -- that wait for room in the pipe
@@ -29,6 +29,8 @@ pub record IsShared (s : Sharing) : Type 0 where
   pub legal : IsLegal s.history (state_of s.world)
   -- the notes that were put, and then those that wait, are those of all queued packets
   pub notes : s.put.sent ++ s.unsent ≡ notes_of s.world.trace
+  -- they wait only where the pipe may be full
+  pub flushed : IsFlushed s.put s.unsent
   pub lawful : Lawful s.world.trace
   pub agree : Agree (state_of s.world)
   pub in_step : AreInStep (state_of s.world)

@@ -124,6 +124,7 @@ impl<L: Opened> Desk<L> {
         requires { all.old.parts ≡ L.parts }
         ensures count { length self.new.shared.history ≡ all.old.amount }
         ensures same { self.new.shared ≡ self.old.shared }
+        ensures given_up { self.new.given_up ≡ self.old.given_up }
     {
         self.book.audit(all);
     }

@@ -2,7 +2,7 @@
 
 ghost use Rattle.std.specs.Prelude.{◌≡◌, ◌≤◌, ◌+◌, ◌++◌, length, drop};
 ghost use Rattle.std.specs.VecDeque.{deque_len, deque_capacity};
-ghost use Rattle.am_shared.specs.Notes.{note as note_of, note_at, notes_of};
+ghost use Rattle.am_shared.specs.Notes.{note as note_of, note_at, notes_of, IsFlushed};
 
 use am_names::{Attach, Token};
 use am_pipe::{Note, PutEnd};
@@ -61,9 +61,11 @@ pub fn collect(unsent: &mut VecDeque<Note>, trace: &[Obs], from: usize)
 
 /// Puts the notes that wait, in order, until the pipe is full.
 pub fn flush<R: Wait>(rt: &R, put: &mut PutEnd, unsent: &mut VecDeque<Note>)
-    ensures { put.new.sent ++ unsent.new.items ≡ put.old.sent ++ unsent.old.items }
+    ensures notes { put.new.sent ++ unsent.new.items ≡ put.old.sent ++ unsent.old.items }
+    ensures flushed { IsFlushed put.new unsent.new.items }
 {
-    for _ in 0..unsent.len() {
+    let count = unsent.len();
+    for _i in 0..count {
         let Some(first) = unsent.front().copied() else {
             return;
         };

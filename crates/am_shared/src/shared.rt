@@ -34,7 +34,7 @@ impl Model for Shared {
     ghost use Rattle.std.specs.Prelude.{◌≡◌, ◌++◌};
     ghost use Rattle.am_machine.specs.Machine.{IsLegal};
     ghost use Rattle.am_world.specs.Table.{state_of};
-    ghost use Rattle.am_shared.specs.Notes.{notes_of};
+    ghost use Rattle.am_shared.specs.Notes.{notes_of, IsFlushed};
     ghost use Rattle.am_shared.specs.Sharing.{Sharing};
 
     ghost Value = { Sharing };
@@ -47,7 +47,8 @@ impl Model for Shared {
     } };
 
     ghost invariant = { λ s. IsLegal s.history.items (state_of s.world)
-        × (s.put.sent ++ s.unsent.items ≡ notes_of s.world.trace) };
+        × (s.put.sent ++ s.unsent.items ≡ notes_of s.world.trace)
+        × IsFlushed s.put s.unsent.items };
 }
 
 impl Shared {

@@ -1,6 +1,9 @@
-use Rattle.std.proofs.Common.{◌≡◌, ◌++◌}
+use Rattle.std.proofs.Common.{◌≡◌, ◌+◌, ◌++◌}
+use Rattle.std.specs.VecDeque.{deque_len}
 use Rattle.am_shared.proofs.notes.flush.Given as goal
 
-abbrev pub invariant-loop : goal.invariant-loop
-invariant-loop g l =
-    l.put.sent ++ l.unsent.items ≡ l.initial.put.sent ++ l.initial.unsent.items
+abbrev pub invariant-loop-i : goal.invariant-loop-i
+invariant-loop-i g l = record {
+  notes : l.put.sent ++ l.unsent.items ≡ l.initial.put.sent ++ l.initial.unsent.items;
+  rest : deque_len l.unsent + l._i ≡ l.count;
+}

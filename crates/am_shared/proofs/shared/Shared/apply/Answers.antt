@@ -41,5 +41,6 @@ invariant_of-self-2 g c =
           (search rules) c.self.invariant.0,
       kept_notes old new event answer c.self.inside.put.sent c.self.inside.unsent.items
           c.collect.new.unsent.items c.flush.new.put.sent c.flush.new.unsent.items step collected
-          c.flush.ensures c.self.invariant.1,
+          c.flush.ensures.notes c.self.invariant.1,
+      c.flush.ensures.flushed,
     )

@@ -1,4 +1,4 @@
-use Rattle.std.proofs.Common.{◌≡◌, ◌++◌, sym, ◌∙◌}
+use Rattle.std.proofs.Common.{◌≡◌, ◌++◌, length, ap, inl, sym, ◌∙◌}
 use Rattle.am_machine.specs.State.{Opening}
 use Rattle.am_world.specs.Table.{state_of}
 use Rattle.am_shared.proofs.ApplyLemmas.{new_legal, new_notes}
@@ -11,4 +11,5 @@ invariant_of-result c =
     let is = c.in-Ok.ensures.ok in (
       rw (c.new-2.ensures.items) (new_legal opening (state_of c.in-Ok.world) is),
       (λ i. c.requires.put i ++ c.new-3.ensures.items i) ∙ sym (new_notes opening c.in-Ok.world is),
+      inl (ap length c.new-3.ensures.items),
     )
