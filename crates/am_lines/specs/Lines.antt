@@ -13,6 +13,10 @@ pub record Line : Type 0 where
 abbrev pub is_line_feed : ℕ → Bool
 is_line_feed b = b == 10
 
+-- how many raw lines a text has
+abbrev pub raw_lines_in : List ℕ → ℕ
+raw_lines_in text = length (slice_split is_line_feed text)
+
 -- a raw line whose last byte is a backslash is joined with the one that follows
 abbrev pub is_joined : List ℕ → Bool
 is_joined raw = bytes_eq (drop (length raw - 1) raw) (92 ∷ [])
