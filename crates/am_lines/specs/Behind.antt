@@ -6,7 +6,8 @@ use Rattle.am_lines.specs.Lines.{Line, lines_from, raw_lines_in}
 
 -- the lines behind one that begins at the raw line of this number
 abbrev pub lines_behind : ℕ → Behind → List Line
-lines_behind number behind = option_map_or (λ rest. lines_from (number + behind.raw_lines) rest.now) behind.rest []
+lines_behind number behind =
+    option_map_or (λ rest. lines_from (number + behind.raw_lines) rest.now) behind.rest []
 
 -- how many raw lines are still to be read
 abbrev pub raw_lines_behind : Behind → ℕ

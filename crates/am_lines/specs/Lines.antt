@@ -29,7 +29,8 @@ before_backslash raw = take (length raw - 1) raw
 -- they are a line by themselves
 abbrev pub put_before : ℕ → List ℕ → List Line → List Line
 put_before number front [] = record { number = number; bytes = front } ∷ []
-put_before number front (line ∷ lines) = record { number = number; bytes = front ++ line.bytes } ∷ lines
+put_before number front (line ∷ lines) =
+    record { number = number; bytes = front ++ line.bytes } ∷ lines
 
 -- the lines that the raw lines make, the first of which has this number
 abbrev pub joined : ℕ → List (List ℕ) → List Line

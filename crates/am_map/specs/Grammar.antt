@@ -1,5 +1,5 @@
 -- The grammar of a map: a text and its rows, or its first fault (autofs(5), "SUN FORMAT").
-use Rattle.std.specs.Prelude.{◌≡◌, ℕ, List, [], ◌∷◌, drop, Option, Some, None, Result, Ok, Err, if◌then◌else◌}
+use Rattle.std.specs.Prelude.{◌≡◌, ℕ, List, [], ◌∷◌, drop, Option, Some, None, Result, Ok, Err, IsOk, if◌then◌else◌}
 use Rattle.am_lines.specs.Words.{Statement, statements, begins_with}
 use Rattle.am_map.specs.declared.fault.MapFault.{MapFault}
 use Rattle.am_map.specs.declared.fault.MapFaultKind.{MapFaultKind}
@@ -42,6 +42,10 @@ with_row number (Err kind) rows = Err (record { line = number; kind = kind })
 abbrev pub rows_read : MapKind → List Statement → Result (List Row) MapFault
 rows_read kind [] = Ok []
 rows_read kind (line ∷ lines) = with_row line.number (row_read kind line) (rows_read kind lines)
+
+-- each of these lines is a row
+abbrev pub AreRows : MapKind → List Statement → Type 0
+AreRows kind lines = IsOk (rows_read kind lines)
 
 abbrev pub kept : Result (List Row) MapFault → Result (List Row) MapFault
 kept (Ok rows) = Ok (first_of_each rows)

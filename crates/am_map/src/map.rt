@@ -3,9 +3,10 @@
 ghost use Rattle.std.specs.Prelude.{◌≡◌, ◌≤◌, ◌+◌, [], ℕ, length, is_some, IfOk, IfErr, OnOk, OnErr, find};
 ghost use Rattle.std.specs.Option.{option_copied, option_map};
 ghost use Rattle.am_lines.specs.Words.{words_of, statements, statement_of_words};
+ghost use Rattle.am_lines.specs.Reached.{IsReached};
 ghost use Rattle.am_map.specs.LookUp.{has_key, row_for, entry_for};
 ghost use Rattle.am_map.specs.Fault.{IsFaultOr};
-ghost use Rattle.am_map.specs.Grammar.{map_read, rows_read, ReadAs, FindsFirst, keyed, entry_read};
+ghost use Rattle.am_map.specs.Grammar.{map_read, rows_read, AreRows, ReadAs, FindsFirst, keyed, entry_read};
 ghost use Rattle.am_map.specs.Parts.{entry_of};
 ghost use Rattle.am_map.specs.Stored.{row_added, added, line_added};
 
@@ -40,6 +41,7 @@ impl Map {
     pub fn read(alloc: Global, text: &[u8], kind: MapKind) -> Result<Map, MapFault>
         ensures read { ReadAs (map_read kind text.now) result }
         ensures look_ups { IfOk result (FindsFirst (rows_read kind (statements text.now))) }
+        ensures reached { IfErr result (λ fault. IsReached (AreRows kind) text.now fault.line) }
         ensures line { IfErr result (λ fault. fault.line ≤ length text.now + 1) }
     {
         let mut map = Map::new(alloc);
