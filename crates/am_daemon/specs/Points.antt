@@ -3,10 +3,11 @@
 use Rattle.std.specs.Prelude.{ℕ, ◌==◌, Bool, true, false, is_some, List, [], Option, Some, None, find, zip}
 use Rattle.std.specs.List.{enumerate_from}
 use Rattle.std.specs.Option.{option_map, option_map_or, option_or}
-use Rattle.am_names.specs.Path.{same_names, text_of}
+use Rattle.am_names.specs.Path.{same_names}
 use Rattle.am_names.specs.declared.trigger.Trigger.{Trigger}
 use Rattle.am_map.specs.EntryText.{EntryText, Row}
 use Rattle.am_map.specs.LookUp.{row_for, entry_for}
+use Rattle.am_map.specs.Words.{key_text}
 use Rattle.am_master.specs.declared.point.Point.{Point}
 use Rattle.am_master.specs.declared.point.Point.TheVariants.{Direct, Indirect}
 use Rattle.am_master.specs.MasterRow.{MasterRow}
@@ -29,7 +30,7 @@ has_point path (Indirect names) = same_names names path
 
 -- the line is of a direct map that has this path as a key
 abbrev pub has_key : List (List ℕ) → Point → List Row → Bool
-has_key path Direct rows = is_some (row_for rows (text_of path))
+has_key path Direct rows = is_some (row_for rows (key_text path))
 has_key path (Indirect names) rows = false
 
 -- the lines of the master, each beside its map
@@ -57,10 +58,10 @@ rows_at d path = option_map_or (λ line. line.1.1) (line_for d path) []
 abbrev pub path_of : List KnownRow → ℕ → Option (List (List ℕ))
 path_of known fs = option_map (λ row. row.path) (find (λ row. row.fs == fs) known)
 
--- what is looked up: the name, or for a direct trigger the text of the path
+-- what is looked up: the name, or for a direct trigger the key of the path
 abbrev pub key_of : Option (List ℕ) → List (List ℕ) → List ℕ
 key_of (Some name) path = name
-key_of None path = text_of path
+key_of None path = key_text path
 
 abbrev pub entry_at : DaemonState → Option (List (List ℕ)) → Option (List ℕ) → Option EntryText
 entry_at d None name = None

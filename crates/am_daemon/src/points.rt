@@ -10,7 +10,7 @@ ghost use Rattle.am_daemon.specs.Lent.{line_in};
 
 use crate::daemon::Daemon;
 use crate::served::Served;
-use am_map::{Entry, Map};
+use am_map::{Entry, Map, key_text};
 use am_master::{MasterEntry, Point};
 use am_names::{FsId, Name, Place, Trigger};
 use am_state::KnownRow;
@@ -33,7 +33,7 @@ fn has_key(path: &[u8], line: &MasterEntry, map: &Map) -> bool
     ensures { result ≡ has_key (names_of path.now) line.now.point map.now }
 {
     match &line.point {
-        Point::Direct => map.has_entry(path),
+        Point::Direct => map.has_entry(key_text(path)),
         Point::Indirect(_) => false,
     }
 }
@@ -55,7 +55,7 @@ fn known_row(known: &[KnownRow], fs: FsId) -> Option<&KnownRow>
     known.iter().find(|row| row.fs == fs)
 }
 
-/// The entry of a name, or of a path's text, in a map.
+/// The entry of a name, or of a path's key, in a map.
 fn look_up(
     alloc: Global,
     map: &Map,
@@ -67,7 +67,7 @@ fn look_up(
 {
     match name {
         Some(name) => map.look_up(alloc, name.as_bytes()),
-        None => map.look_up(alloc, path),
+        None => map.look_up(alloc, key_text(path)),
     }
 }
 
@@ -158,7 +158,7 @@ impl Daemon {
     }
 
     /// The entry of a trigger, in the map that serves the path at which its file system was
-    /// attached: of its name, or of the path's text if it is direct.
+    /// attached: of its name, or of the path's key if it is direct.
     pub(crate) fn entry_of(
         &self,
         alloc: Global,

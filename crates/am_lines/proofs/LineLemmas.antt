@@ -1,5 +1,5 @@
 -- The first line of a text.
-use Rattle.std.proofs.Common.{◌≡◌, ℕ, ◌+◌, true, false, cond, List, [], ◌∷◌, length, refl, ap, arith}
+use Rattle.std.proofs.Common.{◌≡◌, ℕ, ◌+◌, true, false, cond, List, [], ◌∷◌, ◌++◌, length, refl, ap, subst, arith}
 use Rattle.std.specs.List.{slice_split}
 use Rattle.std.proofs.lemmas.List.Splits.{length-slice_split}
 use Rattle.am_lines.specs.Lines.{Line, is_line_feed, is_joined, before_backslash, put_before, joined, lines_from}
@@ -24,3 +24,16 @@ some_parts n text (raw ∷ raws) e = first_joined n raw raws
 -- the first line begins at the text's own number
 pub nothing_before : (n : ℕ) (text : List ℕ) → put_before n [] (lines_from n text) ≡ lines_from n text
 nothing_before n text = some_parts n text (slice_split is_line_feed text) refl
+
+-- the lines begin with one of this number
+pub record BeginAt (n : ℕ) (lines : List Line) : Type 0 where
+  pub bytes : List ℕ
+  pub others : List Line
+  pub is : lines ≡ record { number = n; bytes = bytes } ∷ others
+
+begin : (n : ℕ) (front : List ℕ) (lines : List Line) → BeginAt n (put_before n front lines)
+begin n front [] = record { bytes = front; others = []; is = refl }
+begin n front (line ∷ lines) = record { bytes = front ++ line.bytes; others = lines; is = refl }
+
+pub lines_begin : (n : ℕ) (text : List ℕ) → BeginAt n (lines_from n text)
+lines_begin n text = subst (BeginAt n) (nothing_before n text) (begin n [] (lines_from n text))

@@ -2,8 +2,13 @@
 use Rattle.std.specs.Prelude.{ℕ, ◌+◌, List, []}
 use Rattle.std.specs.Option.{option_map_or}
 use Rattle.am_lines.specs.declared.lines.Behind.{Behind}
-use Rattle.am_lines.specs.Lines.{Line, lines_from}
+use Rattle.am_lines.specs.Lines.{Line, lines_from, raw_lines_in}
 
 -- the lines behind one that begins at the raw line of this number
 abbrev pub lines_behind : ℕ → Behind → List Line
-lines_behind number behind = option_map_or (λ rest. lines_from (number + behind.raw_lines) rest.now) behind.rest []
+lines_behind number behind =
+    option_map_or (λ rest. lines_from (number + behind.raw_lines) rest.now) behind.rest []
+
+-- how many raw lines are still to be read
+abbrev pub raw_lines_behind : Behind → ℕ
+raw_lines_behind behind = option_map_or (λ rest. raw_lines_in rest.now) behind.rest 0

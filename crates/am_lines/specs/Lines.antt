@@ -13,6 +13,10 @@ pub record Line : Type 0 where
 abbrev pub is_line_feed : ℕ → Bool
 is_line_feed b = b == 10
 
+-- how many raw lines a text has
+abbrev pub raw_lines_in : List ℕ → ℕ
+raw_lines_in text = length (slice_split is_line_feed text)
+
 -- a raw line whose last byte is a backslash is joined with the one that follows
 abbrev pub is_joined : List ℕ → Bool
 is_joined raw = bytes_eq (drop (length raw - 1) raw) (92 ∷ [])
@@ -25,7 +29,8 @@ before_backslash raw = take (length raw - 1) raw
 -- they are a line by themselves
 abbrev pub put_before : ℕ → List ℕ → List Line → List Line
 put_before number front [] = record { number = number; bytes = front } ∷ []
-put_before number front (line ∷ lines) = record { number = number; bytes = front ++ line.bytes } ∷ lines
+put_before number front (line ∷ lines) =
+    record { number = number; bytes = front ++ line.bytes } ∷ lines
 
 -- the lines that the raw lines make, the first of which has this number
 abbrev pub joined : ℕ → List (List ℕ) → List Line

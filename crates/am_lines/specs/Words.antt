@@ -28,7 +28,8 @@ begins_with byte (b ∷ bytes) = b == byte
 abbrev pub statement_of_words : ℕ → List (List ℕ) → List Statement
 statement_of_words number [] = []
 statement_of_words number (first ∷ others) =
-    if begins_with 35 first then [] else record { number = number; first = first; others = others } ∷ []
+    if begins_with 35 first then []
+    else record { number = number; first = first; others = others } ∷ []
 
 abbrev pub statement_of : Line → List Statement
 statement_of line = statement_of_words line.number (words_of line.bytes)

@@ -3,8 +3,8 @@
 ghost use Rattle.std.specs.Prelude.{◌≡◌, ◌+◌, ◌≤◌, ℕ, ◌∷◌, [], IfNone, IfSome, IfOk, length, position, false, true};
 ghost use Rattle.std.specs.Option.{option_copied};
 ghost use Rattle.std.specs.List.{slice_split};
-ghost use Rattle.am_lines.specs.Lines.{Line, lines_from, is_line_feed, is_joined, before_backslash};
-ghost use Rattle.am_lines.specs.Behind.{lines_behind};
+ghost use Rattle.am_lines.specs.Lines.{Line, lines_from, raw_lines_in, is_line_feed, is_joined, before_backslash};
+ghost use Rattle.am_lines.specs.Behind.{lines_behind, raw_lines_behind};
 
 use std::alloc::AllocError;
 
@@ -20,9 +20,13 @@ pub struct Behind<'a> {
 /// Puts the first line of a text into the buffer, joined with the raw lines on which it goes on.
 /// What the buffer held goes; out of memory it holds a part of the line.
 pub fn next_line<'a>(text: &'a [u8], line: &mut Vec<u8>) -> Result<Behind<'a>, AllocError>
-    ensures ok { IfOk result (λ behind. (n : ℕ) → lines_from n text.now ≡ record { number = n; bytes = line.new.items } ∷ lines_behind n behind) }
+    ensures ok { IfOk result (λ behind. (n : ℕ) → lines_from n text.now
+        ≡ record { number = n; bytes = line.new.items } ∷ lines_behind n behind) }
     ensures counted { IfOk result (λ behind. 1 ≤ behind.raw_lines) }
-    ensures shorter { IfOk result (λ behind. IfSome behind.rest (λ rest. behind.raw_lines + length rest.now ≤ length text.now)) }
+    ensures raw { IfOk result (λ behind.
+        behind.raw_lines + raw_lines_behind behind ≡ raw_lines_in text.now) }
+    ensures shorter { IfOk result (λ behind. IfSome behind.rest (λ rest.
+        behind.raw_lines + length rest.now ≤ length text.now)) }
 {
     line.clear();
     let mut rest = text;
@@ -60,7 +64,8 @@ fn before_backslash(raw: &[u8]) -> Option<&[u8]>
 /// The first raw line and what stands behind its line feed.
 fn cut_at_line_feed(text: &[u8]) -> (&[u8], Option<&[u8]>)
     ensures last { IfNone result.1 (slice_split is_line_feed text.now ≡ result.0.now ∷ []) }
-    ensures cut { IfSome result.1 (λ rest. slice_split is_line_feed text.now ≡ result.0.now ∷ slice_split is_line_feed rest.now) }
+    ensures cut { IfSome result.1 (λ rest.
+        slice_split is_line_feed text.now ≡ result.0.now ∷ slice_split is_line_feed rest.now) }
     ensures shorter { IfSome result.1 (λ rest. 1 + length rest.now ≤ length text.now) }
 {
     match line_feed_place(text) {

@@ -67,7 +67,8 @@ fn colon_place(word: &[u8]) -> Option<usize>
 /// What stands before the first blank and what stands behind it.
 fn cut_at_blank(line: &[u8]) -> Option<(&[u8], &[u8])>
     ensures none { IfNone result (slice_split is_blank line.now ≡ line.now ∷ []) }
-    ensures some { IfSome result (λ cut. slice_split is_blank line.now ≡ cut.0.now ∷ slice_split is_blank cut.1.now) }
+    ensures some { IfSome result (λ cut.
+        slice_split is_blank line.now ≡ cut.0.now ∷ slice_split is_blank cut.1.now) }
     ensures shorter { IfSome result (λ cut. length cut.1.now < length line.now) }
 {
     let at = blank_place(line)?;

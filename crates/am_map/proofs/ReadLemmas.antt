@@ -1,6 +1,6 @@
 -- A text is read line by line.
 use Rattle.std.proofs.Common.{◌≡◌, ℕ, true, false, cond, List, [], ◌∷◌, ◌++◌, refl, sym, ap, ◌∙◌}
-use Rattle.std.specs.Prelude.{Result, Ok, Err, fold}
+use Rattle.std.specs.Prelude.{Result, Ok, Err, IsOk, fold}
 use Rattle.std.specs.List.{flat_map}
 use Rattle.am_lines.specs.Lines.{Line, lines_from}
 use Rattle.am_lines.specs.Words.{Statement, words_of, begins_with, statement_of, statement_of_words, statements_from}
@@ -8,7 +8,7 @@ use Rattle.am_map.specs.declared.fault.MapFault.{MapFault}
 use Rattle.am_map.specs.declared.fault.MapFaultKind.{MapFaultKind}
 use Rattle.am_map.specs.declared.kind.MapKind.{MapKind}
 use Rattle.am_map.specs.EntryText.{Row}
-use Rattle.am_map.specs.Grammar.{rows_read, row_read, with_row, kept, FindsFirst}
+use Rattle.am_map.specs.Grammar.{rows_read, row_read, with_row, AreRows, kept, FindsFirst}
 use Rattle.am_map.specs.LookUp.{first_of_each, entry_for}
 use Rattle.am_map.specs.Stored.{row_added, added, line_added}
 use Rattle.am_map.proofs.FirstLemmas.{added-first_of_each, entry_for-first_of_each}
@@ -78,3 +78,33 @@ finds_first (Ok rows) map e =
     let is : first_of_each rows ≡ map = cc in
     λ (key : List ℕ). ap (λ (found : List Row). entry_for found key) (sym is) ∙ entry_for-first_of_each rows key
 finds_first (Err fault) map e = absurd cc
+
+-- ---- lines that are rows
+
+with_good : (number : ℕ) (read : Result Row MapFaultKind) (one both : Result (List Row) MapFault) → IsOk (with_row number read one) → (IsOk one → IsOk both) → IsOk (with_row number read both)
+with_good number (Ok row) (Ok rows) (Ok more) good goes = refl
+with_good number (Ok row) (Ok rows) (Err fault) good goes = goes refl
+with_good number (Ok row) (Err fault) both good goes = absurd cc
+with_good number (Err kind) one both good goes = absurd cc
+
+both_good : (of : MapKind) (above lines : List Statement) → AreRows of above → AreRows of lines → AreRows of (above ++ lines)
+both_good of [] lines good more = more
+both_good of (line ∷ above) lines good more =
+    with_good line.number (row_read of line) (rows_read of above) (rows_read of (above ++ lines)) good (λ (rest : AreRows of above). both_good of above lines rest more)
+
+row_good : (number : ℕ) (rows new : List Row) (read : Result Row MapFaultKind) → added rows read ≡ Ok new → IsOk (with_row number read (Ok []))
+row_good number rows new (Ok row) e = refl
+row_good number rows new (Err kind) e = absurd cc
+
+line_good : (of : MapKind) (number : ℕ) (rows new : List Row) (ws : List (List ℕ)) → line_added of rows (statement_of_words number ws) ≡ Ok new → AreRows of (statement_of_words number ws)
+line_good of number rows new [] e = refl
+line_good of number rows new (first ∷ ws) e =
+    let line : Statement = record { number = number; first = first; others = ws } in
+    elim (begins_with 35 first) as (λ b. line_added of rows (cond b [] (line ∷ [])) ≡ Ok new → AreRows of (cond b [] (line ∷ []))) [
+      | true ↦ λ same. refl
+      | false ↦ λ read. row_good number rows new (row_read of line) read
+    ] e
+
+-- a line that adds its row, or says nothing, is good behind good lines
+pub stay_good : (of : MapKind) (number : ℕ) (rows new : List Row) (ws : List (List ℕ)) → line_added of rows (statement_of_words number ws) ≡ Ok new → (above : List Statement) → AreRows of above → AreRows of (above ++ statement_of_words number ws)
+stay_good of number rows new ws e above good = both_good of above (statement_of_words number ws) good (line_good of number rows new ws e)

@@ -1,5 +1,5 @@
 -- The grammar of a map: a text and its rows, or its first fault (autofs(5), "SUN FORMAT").
-use Rattle.std.specs.Prelude.{◌≡◌, ℕ, List, [], ◌∷◌, drop, Option, Some, None, Result, Ok, Err, if◌then◌else◌}
+use Rattle.std.specs.Prelude.{◌≡◌, ℕ, List, [], ◌∷◌, drop, Option, Some, None, Result, Ok, Err, IsOk, if◌then◌else◌}
 use Rattle.am_lines.specs.Words.{Statement, statements, begins_with}
 use Rattle.am_map.specs.declared.fault.MapFault.{MapFault}
 use Rattle.am_map.specs.declared.fault.MapFaultKind.{MapFaultKind}
@@ -14,17 +14,21 @@ use Rattle.am_map.specs.Words.{key_read, is_options, is_location, host_of, path_
 abbrev pub entry_with : Option (List ℕ) → List (List ℕ) → Result EntryText MapFaultKind
 entry_with options [] = Err NoLocation
 entry_with options (word ∷ []) =
-    if is_location word then Ok (record { options = options; host = host_of word; path = path_of word }) else Err BadLocation
+    if is_location word then Ok (record { options = options; host = host_of word; path = path_of word })
+    else Err BadLocation
 entry_with options (word ∷ other ∷ words) = Err BadLocation
 
--- what the words behind the key are read as: mount options, if the first begins with a dash, and a location
+-- what the words behind the key are read as: mount options, if the first begins with a dash,
+-- and a location
 abbrev pub entry_read : List (List ℕ) → Result EntryText MapFaultKind
 entry_read [] = Err NoLocation
 entry_read (word ∷ words) =
-    if begins_with 45 word then (if is_options word then entry_with (Some (drop 1 word)) words else Err BadOption)
+    if begins_with 45 word then
+    (if is_options word then entry_with (Some (drop 1 word)) words else Err BadOption)
     else entry_with None (word ∷ words)
 
-abbrev pub keyed : Result (List ℕ) MapFaultKind → Result EntryText MapFaultKind → Result Row MapFaultKind
+abbrev pub keyed : Result (List ℕ) MapFaultKind → Result EntryText MapFaultKind →
+    Result Row MapFaultKind
 keyed (Ok key) (Ok entry) = Ok (record { key = key; entry = entry })
 keyed (Ok key) (Err fault) = Err fault
 keyed (Err fault) entry = Err fault
@@ -33,7 +37,8 @@ keyed (Err fault) entry = Err fault
 abbrev pub row_read : MapKind → Statement → Result Row MapFaultKind
 row_read kind line = keyed (key_read kind line.first) (entry_read line.others)
 
-abbrev pub with_row : ℕ → Result Row MapFaultKind → Result (List Row) MapFault → Result (List Row) MapFault
+abbrev pub with_row : ℕ → Result Row MapFaultKind → Result (List Row) MapFault →
+    Result (List Row) MapFault
 with_row number (Ok row) (Ok rows) = Ok (row ∷ rows)
 with_row number (Ok row) (Err fault) = Err fault
 with_row number (Err kind) rows = Err (record { line = number; kind = kind })
@@ -43,11 +48,16 @@ abbrev pub rows_read : MapKind → List Statement → Result (List Row) MapFault
 rows_read kind [] = Ok []
 rows_read kind (line ∷ lines) = with_row line.number (row_read kind line) (rows_read kind lines)
 
+-- each of these lines is a row
+abbrev pub AreRows : MapKind → List Statement → Type 0
+AreRows kind lines = IsOk (rows_read kind lines)
+
 abbrev pub kept : Result (List Row) MapFault → Result (List Row) MapFault
 kept (Ok rows) = Ok (first_of_each rows)
 kept (Err fault) = Err fault
 
--- what a text is read as: the rows of its lines, of those with one key the first, or its first fault
+-- what a text is read as: the rows of its lines, of those with one key the first, or its first
+-- fault
 abbrev pub map_read : MapKind → List ℕ → Result (List Row) MapFault
 map_read kind text = kept (rows_read kind (statements text))
 

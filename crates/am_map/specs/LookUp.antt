@@ -11,7 +11,8 @@ has_key key row = bytes_eq key row.key
 -- of the rows with one key the first
 abbrev pub first_of_each : List Row → List Row
 first_of_each [] = []
-first_of_each (row ∷ rows) = row ∷ filter (λ other. not (has_key row.key other)) (first_of_each rows)
+first_of_each (row ∷ rows) =
+    row ∷ filter (λ other. not (has_key row.key other)) (first_of_each rows)
 
 abbrev pub or_else : Option Row → Option Row → Option Row
 or_else (Some row) other = Some row
@@ -27,7 +28,8 @@ with_key key bytes = flat_map (λ b. if b == 38 then key else b ∷ []) bytes
 
 -- the entry with the key put into its host and its path; options keep their `&`
 abbrev pub entry_with_key : List ℕ → EntryText → EntryText
-entry_with_key key entry = record { options = entry.options; host = with_key key entry.host; path = with_key key entry.path }
+entry_with_key key entry =
+    record { options = entry.options; host = with_key key entry.host; path = with_key key entry.path }
 
 abbrev pub entry_of_row : List ℕ → Option Row → Option EntryText
 entry_of_row key None = None

@@ -4,4 +4,5 @@ use Rattle.am_map.specs.declared.parts.EntryRef.{EntryRef}
 use Rattle.am_map.specs.EntryText.{EntryText}
 
 abbrev pub entry_of : EntryRef → EntryText
-entry_of entry = record { options = option_copied entry.options; host = entry.host.now; path = entry.path.now }
+entry_of entry =
+    record { options = option_copied entry.options; host = entry.host.now; path = entry.path.now }

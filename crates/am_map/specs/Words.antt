@@ -25,16 +25,22 @@ star = 42 ∷ []
 
 -- a name or the wildcard, but no `+`, which would include another map
 abbrev pub is_indirect_key : List ℕ → Bool
-is_indirect_key word = is_plain word && not (begins_with 43 word) && (bytes_eq word star || is_name word)
+is_indirect_key word =
+    is_plain word && not (begins_with 43 word) && (bytes_eq word star || is_name word)
 
-abbrev pub text_read : Result (List (List ℕ)) Errno → Result (List ℕ) MapFaultKind
-text_read (Ok names) = Ok (text_of names)
-text_read (Err e) = Err BadKey
+-- the key of a path in a direct map: its canonical text, and `/` for the root
+abbrev pub key_text : List (List ℕ) → List ℕ
+key_text [] = 47 ∷ []
+key_text (name ∷ names) = text_of (name ∷ names)
 
--- what the first word is read as: the key, in a direct map the canonical text of a path
+abbrev pub path_key : Result (List (List ℕ)) Errno → Result (List ℕ) MapFaultKind
+path_key (Ok names) = Ok (key_text names)
+path_key (Err e) = Err BadKey
+
+-- what the first word is read as: the key, in a direct map that of a path
 abbrev pub key_read : MapKind → List ℕ → Result (List ℕ) MapFaultKind
 key_read Indirect word = if is_indirect_key word then Ok word else Err BadKey
-key_read Direct word = if is_plain word then text_read (path_read word) else Err BadKey
+key_read Direct word = if is_plain word then path_key (path_read word) else Err BadKey
 
 -- a dash and at least one byte more
 abbrev pub is_options : List ℕ → Bool
@@ -52,4 +58,5 @@ path_of word = after_first is_colon word
 
 -- a host, possibly empty, a colon and a path that begins with a slash
 abbrev pub is_location : List ℕ → Bool
-is_location word = is_plain word && list_all is_host_byte (host_of word) && begins_with 47 (path_of word)
+is_location word =
+    is_plain word && list_all is_host_byte (host_of word) && begins_with 47 (path_of word)

@@ -23,7 +23,11 @@ impl Model for Entry {
 
     ghost Value = { EntryText };
 
-    ghost view = { λ e. record { options = option_map (λ o. o.items) e.options; host = e.host.items; path = e.path.items } };
+    ghost view = { λ e. record {
+      options = option_map (λ o. o.items) e.options;
+      host = e.host.items;
+      path = e.path.items;
+    } };
 }
 
 impl Entry {
@@ -85,7 +89,8 @@ fn with_key(alloc: Global, bytes: &[u8], key: &[u8]) -> Result<Vec<u8>, AllocErr
 
 /// Whether both have no options, or the same ones.
 fn are_same_options(one: &Option<Vec<u8>>, other: &Option<Vec<u8>>) -> bool
-    ensures { IsTrue result ↔ (option_map (λ o. o.items) one.now ≡ option_map (λ o. o.items) other.now) }
+    ensures { IsTrue result
+        ↔ (option_map (λ o. o.items) one.now ≡ option_map (λ o. o.items) other.now) }
 {
     match (one, other) {
         (Some(one), Some(other)) => one.as_slice() == other.as_slice(),

@@ -13,3 +13,4 @@ pub use entry::Entry;
 pub use fault::{MapFault, MapFaultKind};
 pub use kind::MapKind;
 pub use map::Map;
+pub use words::key_text;

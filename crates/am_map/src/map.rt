@@ -3,9 +3,10 @@
 ghost use Rattle.std.specs.Prelude.{◌≡◌, ◌≤◌, ◌+◌, [], ℕ, length, is_some, IfOk, IfErr, OnOk, OnErr, find};
 ghost use Rattle.std.specs.Option.{option_copied, option_map};
 ghost use Rattle.am_lines.specs.Words.{words_of, statements, statement_of_words};
+ghost use Rattle.am_lines.specs.Reached.{IsReached};
 ghost use Rattle.am_map.specs.LookUp.{has_key, row_for, entry_for};
 ghost use Rattle.am_map.specs.Fault.{IsFaultOr};
-ghost use Rattle.am_map.specs.Grammar.{map_read, rows_read, ReadAs, FindsFirst, keyed, entry_read};
+ghost use Rattle.am_map.specs.Grammar.{map_read, rows_read, AreRows, ReadAs, FindsFirst, keyed, entry_read};
 ghost use Rattle.am_map.specs.Parts.{entry_of};
 ghost use Rattle.am_map.specs.Stored.{row_added, added, line_added};
 
@@ -13,7 +14,7 @@ use crate::entry::Entry;
 use crate::fault::{MapFault, MapFaultKind};
 use crate::kind::MapKind;
 use crate::parts::EntryRef;
-use crate::words::{read_entry, read_name, read_path};
+use crate::words::{key_text, read_entry, read_name, read_path};
 use am_lines::{first_word, next_line};
 use indexmap::IndexMap;
 use std::alloc::{AllocError, Global};
@@ -40,6 +41,7 @@ impl Map {
     pub fn read(alloc: Global, text: &[u8], kind: MapKind) -> Result<Map, MapFault>
         ensures read { ReadAs (map_read kind text.now) result }
         ensures look_ups { IfOk result (FindsFirst (rows_read kind (statements text.now))) }
+        ensures reached { IfErr result (λ fault. IsReached (AreRows kind) text.now fault.line) }
         ensures line { IfErr result (λ fault. fault.line ≤ length text.now + 1) }
     {
         let mut map = Map::new(alloc);
@@ -66,7 +68,7 @@ impl Map {
 
     /// The entry of the first line with this key, else of the first `*` line, with each `&` of
     /// its host and its path replaced by the key (autofs(5), "Map Key Substitution" and "Wildcard
-    /// Key"). A key of a direct map is a canonical text, as `Place::text` lends it.
+    /// Key"). A key of a direct map is the `key_text` of a path.
     pub fn look_up(&self, alloc: Global, key: &[u8]) -> Result<Option<Entry>, AllocError>
         ensures { IfOk result (λ found. found ≡ entry_for self.now key.now) }
     {
@@ -95,7 +97,8 @@ impl Map {
 
     /// The entry of the line with this key.
     fn line_with(&self, key: &[u8]) -> Option<&Entry>
-        ensures { option_copied result ≡ option_map (λ row. row.entry) (find (has_key key.now) self.now) }
+        ensures { option_copied result
+            ≡ option_map (λ row. row.entry) (find (has_key key.now) self.now) }
     {
         self.rows.get(key)
     }
@@ -111,8 +114,10 @@ impl Map {
 
     /// Adds the row of a line, if the line says something.
     fn read_line(&mut self, alloc: Global, line: &[u8], kind: MapKind) -> Result<(), MapFaultKind>
-        ensures ok { OnOk result ((n : ℕ) → line_added kind self.old (statement_of_words n (words_of line.now)) ≡ Ok self.new) }
-        ensures err { IfErr result (λ fault. IsFaultOr fault ((n : ℕ) → line_added kind self.old (statement_of_words n (words_of line.now)) ≡ Err fault)) }
+        ensures ok { OnOk result ((n : ℕ)
+            → line_added kind self.old (statement_of_words n (words_of line.now)) ≡ Ok self.new) }
+        ensures err { IfErr result (λ fault. IsFaultOr fault ((n : ℕ)
+            → line_added kind self.old (statement_of_words n (words_of line.now)) ≡ Err fault)) }
     {
         let Some((first, others)) = first_word(line) else {
             return Ok(());
@@ -124,18 +129,20 @@ impl Map {
             }
             MapKind::Direct => {
                 let path = read_path(first)?;
-                let Ok(key) = path.to_place(alloc) else {
+                let Ok(place) = path.to_place(alloc) else {
                     return Err(MapFaultKind::NoMemory);
                 };
-                self.read_row(alloc, key.text(), others)
+                self.read_row(alloc, key_text(place.text()), others)
             }
         }
     }
 
     /// Adds the row of a key and the words behind it.
     fn read_row(&mut self, alloc: Global, key: &[u8], others: &[u8]) -> Result<(), MapFaultKind>
-        ensures ok { OnOk result (added self.old (keyed (Ok key.now) (entry_read (words_of others.now))) ≡ Ok self.new) }
-        ensures err { IfErr result (λ fault. IsFaultOr fault (added self.old (keyed (Ok key.now) (entry_read (words_of others.now))) ≡ Err fault)) }
+        ensures ok { OnOk result
+            (added self.old (keyed (Ok key.now) (entry_read (words_of others.now))) ≡ Ok self.new) }
+        ensures err { IfErr result (λ fault. IsFaultOr fault
+            (added self.old (keyed (Ok key.now) (entry_read (words_of others.now))) ≡ Err fault)) }
     {
         let entry = read_entry(others)?;
         match self.add(alloc, key, &entry) {
@@ -146,7 +153,8 @@ impl Map {
 
     /// Adds a row behind the others, unless there is one with its key.
     fn add(&mut self, alloc: Global, key: &[u8], entry: &EntryRef<'_>) -> Result<(), AllocError>
-        ensures ok { OnOk result (self.new ≡ row_added self.old (record { key = key.now; entry = entry_of entry.now })) }
+        ensures ok { OnOk result
+            (self.new ≡ row_added self.old (record { key = key.now; entry = entry_of entry.now })) }
         ensures err { OnErr result (self.new ≡ self.old) }
     {
         if self.rows.contains_key(key) {

@@ -3,11 +3,11 @@
 ghost use Rattle.std.specs.Prelude.{◌≡◌, IfOk, IfErr, OnOk};
 ghost use Rattle.std.specs.List.{list_all};
 ghost use Rattle.am_lines.specs.Words.{words_of};
-ghost use Rattle.am_map.specs.Words.{is_plain, is_plain_byte, is_indirect_key, key_read, is_options, is_location, is_host_byte};
+ghost use Rattle.am_map.specs.Words.{is_plain, is_plain_byte, is_indirect_key, key_read, is_options, is_location, is_host_byte, key_text};
 ghost use Rattle.am_map.specs.Grammar.{entry_read, entry_with};
 ghost use Rattle.am_map.specs.Parts.{entry_of};
 ghost use Rattle.am_names.specs.Name.{is_name};
-ghost use Rattle.am_names.specs.Path.{text_of};
+ghost use Rattle.am_names.specs.Path.{IsCanonical, names_of};
 ghost use Rattle.am_map.specs.declared.kind.MapKind.TheVariants.{Indirect, Direct};
 ghost use Rattle.std.specs.Option.{option_copied};
 
@@ -29,7 +29,7 @@ pub(crate) fn read_name(word: &[u8]) -> Result<(), MapFaultKind>
 
 /// Reads the key of a direct map's line.
 pub(crate) fn read_path(word: &[u8]) -> Result<AbsPath<'_>, MapFaultKind>
-    ensures ok { IfOk result (λ path. key_read Direct word.now ≡ Ok (text_of path)) }
+    ensures ok { IfOk result (λ path. key_read Direct word.now ≡ Ok (key_text path)) }
     ensures err { IfErr result (λ fault. key_read Direct word.now ≡ Err fault) }
 {
     if !is_plain(word) {
@@ -39,6 +39,18 @@ pub(crate) fn read_path(word: &[u8]) -> Result<AbsPath<'_>, MapFaultKind>
         Ok(path) => Ok(path),
         Err(_) => Err(MapFaultKind::BadKey),
     }
+}
+
+/// The key of a path in a direct map, from the canonical text of the path, as `Place::text` lends
+/// it: that text, and `/` for the root, whose text is empty.
+pub fn key_text(path: &[u8]) -> &[u8]
+    requires { IsCanonical path.now }
+    ensures { result.now ≡ key_text (names_of path.now) }
+{
+    if path.is_empty() {
+        return b"/";
+    }
+    path
 }
 
 /// Reads the words behind the key: options, if the first begins with a dash, and a location.
@@ -63,8 +75,10 @@ fn read_location<'a>(
     options: Option<&'a [u8]>,
     line: &'a [u8],
 ) -> Result<EntryRef<'a>, MapFaultKind>
-    ensures ok { IfOk result (λ entry. entry_with (option_copied options.entry) (words_of line.now) ≡ Ok (entry_of entry)) }
-    ensures err { IfErr result (λ fault. entry_with (option_copied options.entry) (words_of line.now) ≡ Err fault) }
+    ensures ok { IfOk result (λ entry.
+        entry_with (option_copied options.entry) (words_of line.now) ≡ Ok (entry_of entry)) }
+    ensures err { IfErr result (λ fault.
+        entry_with (option_copied options.entry) (words_of line.now) ≡ Err fault) }
 {
     let Some((word, others)) = next_word(line) else {
         return Err(MapFaultKind::NoLocation);

@@ -11,7 +11,8 @@ use Rattle.am_master.specs.declared.point.Point.TheVariants.{Indirect}
 use Rattle.am_master.specs.MasterRow.{MasterRow}
 use Rattle.am_master.specs.Points.{texts_of}
 use Rattle.am_master.specs.Words.{is_direct, below_root}
-use Rattle.am_master.specs.Grammar.{Served, is_taken, served_read, row_of, added, line_added}
+use Rattle.am_master.specs.Grammar.{Served, is_taken, served_read, row_of}
+use Rattle.am_master.specs.Stored.{added, line_added}
 
 -- a line with the point of an indirect map
 pub line_is : (above : List MasterRow) (number : ℕ) (ws : List (List ℕ)) (first : List ℕ) (others : List (List ℕ)) (names : List (List ℕ)) (taken : Bool) →

@@ -1,5 +1,6 @@
 -- A text is read line by line.
-use Rattle.std.proofs.Common.{◌≡◌, ◌≤◌, ℕ, true, false, cond, List, [], ◌∷◌, ◌++◌, ap, subst, ◌∙◌}
+use Rattle.std.proofs.Common.{◌≡◌, ◌≤◌, ℕ, true, false, cond, List, [], ◌∷◌, ◌++◌, refl, sym, ap, subst, ◌∙◌}
+use Rattle.std.proofs.lemmas.List.{append-nil}
 use Rattle.std.proofs.lemmas.List.Elements.{All-push}
 use Rattle.std.specs.Prelude.{Result, Ok, Err}
 use Rattle.std.specs.List.{flat_map}
@@ -9,7 +10,8 @@ use Rattle.am_master.specs.declared.fault.MasterFault.{MasterFault}
 use Rattle.am_master.specs.declared.fault.MasterFaultKind.{MasterFaultKind}
 use Rattle.am_master.specs.MasterRow.{MasterRow}
 use Rattle.am_master.specs.declared.point.Point.{Point}
-use Rattle.am_master.specs.Grammar.{Served, rows_read, row_read, row_of, with_row, added, line_added, once, served_read, StandWithin}
+use Rattle.am_master.specs.Grammar.{Served, rows_read, row_read, row_of, with_row, once, served_read, AreRows, StandWithin}
+use Rattle.am_master.specs.Stored.{added, line_added}
 use Rattle.am_master.specs.Words.{point_read}
 
 row_goes : (number : ℕ) (above new : List MasterRow) (read : Result MasterRow MasterFaultKind) (below : List MasterRow → Result (List MasterRow) MasterFault) → added above read ≡ Ok new → with_row number above read below ≡ below new
@@ -84,3 +86,35 @@ line_stands number last above new (first ∷ ws) e h stand =
       | true ↦ λ same. nothing_stands last above new same stand
       | false ↦ λ read. row_stands number last (once above (point_read first)) (served_read ws) above new read h stand
     ] e
+
+-- ---- lines that are rows
+
+-- these lines are read as these rows
+abbrev pub AreReadAs : List MasterRow → List Statement → Type 0
+AreReadAs rows lines = rows_read [] lines ≡ Ok rows
+
+pub are_rows : (rows : List MasterRow) (lines : List Statement) → AreReadAs rows lines → AreRows lines
+are_rows rows lines e = rw e refl
+
+with_more : (number : ℕ) (start above : List MasterRow) (read : Result MasterRow MasterFaultKind) (lines more : List Statement) →
+    ((rows : List MasterRow) → rows_read rows lines ≡ Ok above → rows_read rows (lines ++ more) ≡ rows_read above more) →
+    with_row number start read (λ rows. rows_read rows lines) ≡ Ok above →
+    with_row number start read (λ rows. rows_read rows (lines ++ more)) ≡ rows_read above more
+with_more number start above (Ok row) lines more goes e = goes (start ++ row ∷ []) e
+with_more number start above (Err kind) lines more goes e = absurd cc
+
+read_more : (start above : List MasterRow) (lines more : List Statement) → rows_read start lines ≡ Ok above → rows_read start (lines ++ more) ≡ rows_read above more
+read_more start above [] more e =
+    let is : start ≡ above = cc in
+    ap (λ (rows : List MasterRow). rows_read rows more) is
+read_more start above (line ∷ lines) more e =
+    with_more line.number start above (row_read start line) lines more (λ rows h. read_more rows above lines more h) e
+
+-- a line that adds its row, or says nothing, behind lines that are read
+pub one_more : (number : ℕ) (above new : List MasterRow) (ws : List (List ℕ)) → line_added above (statement_of_words number ws) ≡ Ok new →
+    (lines : List Statement) → AreReadAs above lines → AreReadAs new (lines ++ statement_of_words number ws)
+one_more number above new ws e lines read =
+    let said = statement_of_words number ws in
+    read_more [] above lines said read
+    ∙ ap (λ (more : List Statement). rows_read above more) (sym (append-nil said))
+    ∙ statement_goes number above new ws [] e

@@ -1,5 +1,5 @@
 -- The grammar of a master map: a text and its rows, or its first fault (auto.master(5), "FORMAT").
-use Rattle.std.specs.Prelude.{◌≡◌, ◌≤◌, ℕ, Bool, All, List, [], ◌∷◌, ◌++◌, Result, Ok, Err, if◌then◌else◌}
+use Rattle.std.specs.Prelude.{◌≡◌, ◌≤◌, ℕ, Bool, All, List, [], ◌∷◌, ◌++◌, Result, Ok, Err, IsOk, if◌then◌else◌}
 use Rattle.am_lines.specs.Words.{Statement, statements}
 use Rattle.am_master.specs.declared.fault.MasterFault.{MasterFault}
 use Rattle.am_master.specs.declared.fault.MasterFaultKind.{MasterFaultKind}
@@ -24,7 +24,8 @@ pub record Served : Type 0 where
   pub map : List ℕ
   pub timeout : ℕ
 
-abbrev pub served : Result (List ℕ) MasterFaultKind → Result ℕ MasterFaultKind → Result Served MasterFaultKind
+abbrev pub served : Result (List ℕ) MasterFaultKind → Result ℕ MasterFaultKind →
+    Result Served MasterFaultKind
 served (Ok map) (Ok timeout) = Ok (record { map = map; timeout = timeout })
 served (Ok map) (Err fault) = Err fault
 served (Err fault) timeout = Err fault
@@ -34,23 +35,32 @@ abbrev pub served_read : List (List ℕ) → Result Served MasterFaultKind
 served_read [] = Err NoMap
 served_read (word ∷ options) = served (name_read word) (timeout_read options)
 
-abbrev pub row_of : ℕ → Result Point MasterFaultKind → Result Served MasterFaultKind → Result MasterRow MasterFaultKind
-row_of number (Ok point) (Ok s) = Ok (record { point = point; map = s.map; timeout = s.timeout; line = number })
+abbrev pub row_of : ℕ → Result Point MasterFaultKind → Result Served MasterFaultKind →
+    Result MasterRow MasterFaultKind
+row_of number (Ok point) (Ok s) =
+    Ok (record { point = point; map = s.map; timeout = s.timeout; line = number })
 row_of number (Ok point) (Err fault) = Err fault
 row_of number (Err fault) s = Err fault
 
 -- a line below these rows is a row, or has one fault, that of its first faulty word
 abbrev pub row_read : List MasterRow → Statement → Result MasterRow MasterFaultKind
-row_read above line = row_of line.number (once above (point_read line.first)) (served_read line.others)
+row_read above line =
+    row_of line.number (once above (point_read line.first)) (served_read line.others)
 
-abbrev pub with_row : ℕ → List MasterRow → Result MasterRow MasterFaultKind → (List MasterRow → Result (List MasterRow) MasterFault) → Result (List MasterRow) MasterFault
+abbrev pub with_row : ℕ → List MasterRow → Result MasterRow MasterFaultKind →
+    (List MasterRow → Result (List MasterRow) MasterFault) → Result (List MasterRow) MasterFault
 with_row number above (Ok row) below = below (above ++ row ∷ [])
 with_row number above (Err kind) below = Err (record { line = number; kind = kind })
 
 -- each line is a row below those above it, or the first faulty line is told
 abbrev pub rows_read : List MasterRow → List Statement → Result (List MasterRow) MasterFault
 rows_read above [] = Ok above
-rows_read above (line ∷ lines) = with_row line.number above (row_read above line) (λ rows. rows_read rows lines)
+rows_read above (line ∷ lines) =
+    with_row line.number above (row_read above line) (λ rows. rows_read rows lines)
+
+-- each of these lines is a row
+abbrev pub AreRows : List Statement → Type 0
+AreRows lines = IsOk (rows_read [] lines)
 
 -- what a text is read as: the rows of its lines, or its first fault
 abbrev pub master_read : List ℕ → Result (List MasterRow) MasterFault
@@ -61,15 +71,7 @@ abbrev pub StandWithin : ℕ → List MasterRow → Type 0
 StandWithin last rows = All (λ row. row.line ≤ last) rows
 
 -- the answer is what the text is read as, but that memory may run out
-abbrev pub ReadAs : Result (List MasterRow) MasterFault → Result (List MasterRow) MasterFault → Type 0
+abbrev pub ReadAs : Result (List MasterRow) MasterFault → Result (List MasterRow) MasterFault →
+    Type 0
 ReadAs expected (Ok rows) = expected ≡ Ok rows
 ReadAs expected (Err fault) = IsFaultOf expected fault
-
--- one line more below these rows, if it says something
-abbrev pub added : List MasterRow → Result MasterRow MasterFaultKind → Result (List MasterRow) MasterFaultKind
-added above (Ok row) = Ok (above ++ row ∷ [])
-added above (Err fault) = Err fault
-
-abbrev pub line_added : List MasterRow → List Statement → Result (List MasterRow) MasterFaultKind
-line_added above [] = Ok above
-line_added above (line ∷ lines) = added above (row_read above line)

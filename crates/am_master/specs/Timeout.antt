@@ -9,12 +9,13 @@ abbrev pub is_digit : ℕ → Bool
 is_digit b = nat_le 48 b && nat_le b 57
 
 -- the number that decimal digits write
-abbrev pub decimal : List ℕ → ℕ
-decimal digits = fold (λ n digit. n * 10 + (digit - 48)) 0 digits
+abbrev pub number_of : List ℕ → ℕ
+number_of digits = fold (λ n digit. n * 10 + (digit - 48)) 0 digits
 
 -- at least one decimal digit and nothing else, at most 4,294,967,295
 abbrev pub is_seconds : List ℕ → Bool
-is_seconds text = not (length text == 0) && list_all is_digit text && nat_le (decimal text) 4294967295
+is_seconds text =
+    not (length text == 0) && list_all is_digit text && nat_le (number_of text) 4294967295
 
 -- the options whose value is the next word
 abbrev pub takes_next : List ℕ → Bool
@@ -29,12 +30,14 @@ abbrev pub timeout_values : List (List ℕ) → List (List ℕ)
 timeout_values [] = []
 timeout_values (word ∷ []) = if takes_next word then [] ∷ [] else value_in word
 timeout_values (word ∷ next ∷ words) =
-    if takes_next word then next ∷ timeout_values words else value_in word ++ timeout_values (next ∷ words)
+    if takes_next word then next ∷ timeout_values words
+    else value_in word ++ timeout_values (next ∷ words)
 
 -- each value is a number of seconds, and the last counts, or this timeout where there is none
 abbrev pub timeout_of : ℕ → List (List ℕ) → Result ℕ MasterFaultKind
 timeout_of timeout [] = Ok timeout
-timeout_of timeout (value ∷ values) = if is_seconds value then timeout_of (decimal value) values else Err BadTimeout
+timeout_of timeout (value ∷ values) =
+    if is_seconds value then timeout_of (number_of value) values else Err BadTimeout
 
 -- own (docs/DECISIONS.md, "A timeout that no option tells is 300 seconds")
 abbrev pub timeout_read : List (List ℕ) → Result ℕ MasterFaultKind

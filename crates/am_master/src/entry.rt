@@ -21,5 +21,6 @@ impl Model for MasterEntry {
 
     ghost Value = { MasterRow };
 
-    ghost view = { λ e. record { point = e.point; map = e.map.items; timeout = e.timeout; line = e.line } };
+    ghost view = { λ e.
+        record { point = e.point; map = e.map.items; timeout = e.timeout; line = e.line } };
 }

@@ -4,10 +4,12 @@ ghost use Rattle.std.specs.Prelude.{◌≡◌, ◌≤◌, ◌+◌, ◌∷◌, �
 ghost use Rattle.std.specs.Str.{bytes_eq};
 ghost use Rattle.std.specs.List.{list_any};
 ghost use Rattle.am_lines.specs.Words.{words_of, statement_of_words};
+ghost use Rattle.am_lines.specs.Reached.{IsReached};
 ghost use Rattle.am_master.specs.Fault.{IsFaultOr};
 ghost use Rattle.am_master.specs.Points.{texts_of};
 ghost use Rattle.am_master.specs.declared.fault.MasterFaultKind.TheVariants.{NoMemory};
-ghost use Rattle.am_master.specs.Grammar.{master_read, ReadAs, line_added, is_taken, StandWithin};
+ghost use Rattle.am_master.specs.Grammar.{master_read, AreRows, ReadAs, is_taken, StandWithin};
+ghost use Rattle.am_master.specs.Stored.{line_added};
 
 use crate::entry::MasterEntry;
 use crate::fault::{MasterFault, MasterFaultKind};
@@ -42,6 +44,7 @@ impl Master {
     pub fn read(alloc: Global, text: &[u8]) -> Result<Master, MasterFault>
         ensures read { ReadAs (master_read text.now) result }
         ensures lines { IfOk result (StandWithin (length text.now + 1)) }
+        ensures reached { IfErr result (λ fault. IsReached AreRows text.now fault.line) }
         ensures line { IfErr result (λ fault. fault.line ≤ length text.now + 1) }
     {
         let mut master = Master::new(alloc);
@@ -90,8 +93,10 @@ impl Master {
         line: &[u8],
         number: usize,
     ) -> Result<(), MasterFaultKind>
-        ensures ok { OnOk result (line_added self.old (statement_of_words number (words_of line.now)) ≡ Ok self.new) }
-        ensures err { IfErr result (λ fault. IsFaultOr fault (line_added self.old (statement_of_words number (words_of line.now)) ≡ Err fault)) }
+        ensures ok { OnOk result
+            (line_added self.old (statement_of_words number (words_of line.now)) ≡ Ok self.new) }
+        ensures err { IfErr result (λ fault. IsFaultOr fault
+            (line_added self.old (statement_of_words number (words_of line.now)) ≡ Err fault)) }
     {
         let Some((first, others)) = first_word(line) else {
             return Ok(());
@@ -127,7 +132,12 @@ impl Master {
         line: usize,
     ) -> Result<(), AllocError>
         requires { is_taken self.old point ≡ false }
-        ensures ok { OnOk result (self.new ≡ self.old ++ record { point = point; map = served.now.map.now; timeout = served.now.timeout; line = line } ∷ []) }
+        ensures ok { OnOk result (self.new ≡ self.old ++ record {
+          point = point;
+          map = served.now.map.now;
+          timeout = served.now.timeout;
+          line = line;
+        } ∷ []) }
         ensures err { OnErr result (self.new ≡ self.old) }
     {
         let map = Vec::from_slice(alloc, served.map)?;

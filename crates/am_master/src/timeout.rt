@@ -4,7 +4,7 @@ ghost use Rattle.std.specs.Prelude.{◌≡◌, ◌<◌, ◌++◌, [], nat_le, fo
 ghost use Rattle.std.specs.List.{list_all};
 ghost use Rattle.std.specs.Option.{option_copied, option_to_list};
 ghost use Rattle.am_lines.specs.Words.{words_of};
-ghost use Rattle.am_master.specs.Timeout.{timeout_read, timeout_values, takes_next, value_in, is_seconds, is_digit, decimal};
+ghost use Rattle.am_master.specs.Timeout.{timeout_read, timeout_values, takes_next, value_in, is_seconds, is_digit, number_of};
 
 use crate::fault::MasterFaultKind;
 use am_lines::next_word;
@@ -59,7 +59,7 @@ fn value_in(word: &[u8]) -> Option<&[u8]>
 
 /// A decimal number of seconds.
 fn read_seconds(text: &[u8]) -> Option<u32>
-    ensures { result ≡ (if is_seconds text.now then Some (decimal text.now) else None) }
+    ensures { result ≡ (if is_seconds text.now then Some (number_of text.now) else None) }
 {
     if text.is_empty() || !are_digits(text) {
         return None;
@@ -75,7 +75,8 @@ fn are_digits(text: &[u8]) -> bool
 
 /// The number that digits write, if it fits.
 fn number_of(digits: &[u8]) -> Option<u32>
-    ensures { result ≡ (if nat_le (decimal digits.now) 4294967295 then Some (decimal digits.now) else None) }
+    ensures { result ≡ (if nat_le (number_of digits.now) 4294967295 then Some (number_of digits.now)
+        else None) }
 {
     let mut number: u64 = 0;
     let mut rest = digits;

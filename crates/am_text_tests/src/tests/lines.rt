@@ -85,10 +85,12 @@ fn lines_and_how_many_raw_lines_they_have(rt: HostRuntime) {
     hold(&rt, rt.alloc(), &LINES);
 }
 
-static ENDS: [Text; 3] = [
+static ENDS: [Text; 5] = [
     Text::Lines(b"a\n", &[(b"a", 1), (b"", 1)]),
     Text::Lines(b"", &[(b"", 1)]),
     Text::Lines(b"a\\\n", &[(b"a", 2)]),
+    Text::Lines(b"a\\\nb\\\nc", &[(b"abc", 3)]),
+    Text::Lines(b"\\\n\\\n\\", &[(b"", 3)]),
 ];
 
 #[test]

@@ -7,8 +7,8 @@ use crate::tests::maps::look_ups::{
     Line, Said, finds, finds_all, finds_lines, finds_none, good, look_up, read,
 };
 use crate::tests::table::{Row, hold, joined, push_digits, stretched};
-use am_map::{Map, MapFault, MapFaultKind, MapKind};
-use am_names::Errno;
+use am_map::{Map, MapFault, MapFaultKind, MapKind, key_text};
+use am_names::{AbsPath, Errno};
 use std::alloc::Global;
 
 /// The first raw line of a fault, and its kind.
@@ -33,6 +33,8 @@ enum Text {
     Big(u32, &'static [u8], Said),
     /// Whether a map of the text has an entry for the key.
     HasEntry(&'static [u8], MapKind, &'static [u8], bool),
+    /// The key of a path in a direct map.
+    Key(&'static [u8], &'static [u8]),
     /// Whether two keys have the same entry.
     Same(&'static [u8], &'static [u8], &'static [u8], bool),
     /// The copy of the entry of a key is the same.
@@ -142,6 +144,11 @@ fn has_entry(alloc: Global, text: &[u8], kind: MapKind, key: &[u8]) -> Result<bo
     Ok(good(alloc, text, kind)?.has_entry(key))
 }
 
+fn has_key(alloc: Global, path: &[u8], key: &[u8]) -> Result<bool, Errno> {
+    let place = AbsPath::read(path)?.to_place(alloc)?;
+    Ok(key_text(place.text()) == key)
+}
+
 /// Whether the entries of two keys are the same; none where one has no entry.
 fn are_same(alloc: Global, text: &[u8], one: &[u8], other: &[u8]) -> Result<Option<bool>, Errno> {
     let map = good(alloc, text, MapKind::Indirect)?;
@@ -187,6 +194,7 @@ impl Row for Text {
             Text::HasEntry(text, kind, key, expected) => {
                 Ok(has_entry(alloc, text, *kind, key)? == *expected)
             }
+            Text::Key(path, key) => has_key(alloc, path, key),
             Text::Same(text, one, other, expected) => {
                 Ok(are_same(alloc, text, one, other)? == Some(*expected))
             }
@@ -255,7 +263,7 @@ const DIRECT_ROWS: &[Line] = &[
         (Some(b"rw"), b"tiger", b"/usr/local/budgets"),
     ),
     (b"/tst/sbin", (None, b"apps", b"/usr/sbin")),
-    (b"", (None, b"root", b"/all")),
+    (b"/", (None, b"root", b"/all/")),
 ];
 
 static DIRECT: [Text; 1] = [Text::LooksUp(
@@ -265,7 +273,7 @@ static DIRECT: [Text; 1] = [Text::LooksUp(
 / root:/all&\n",
     MapKind::Direct,
     DIRECT_ROWS,
-    &[b"/nfs", b"//nfs//data/budgets/"],
+    &[b"/nfs", b"//nfs//data/budgets/", b"", b"//"],
 )];
 
 #[test]
@@ -433,7 +441,7 @@ fn a_map_of_50000_lines(rt: HostRuntime) {
     hold(&rt, rt.alloc(), &BIG);
 }
 
-static KEYS: [Text; 7] = [
+static KEYS: [Text; 10] = [
     Text::HasEntry(b"web srv:/www", MapKind::Indirect, b"web", true),
     Text::HasEntry(b"web srv:/www", MapKind::Indirect, b"ann", false),
     Text::HasEntry(b"web srv:/www", MapKind::Indirect, b"*", false),
@@ -461,11 +469,26 @@ static KEYS: [Text; 7] = [
         b"//srv/data/",
         false,
     ),
+    Text::HasEntry(b"/ nas:/root", MapKind::Direct, b"/", true),
+    Text::HasEntry(b"// nas:/root", MapKind::Direct, b"/", true),
+    Text::HasEntry(b"/srv nas:/srv", MapKind::Direct, b"/", false),
 ];
 
 #[test]
 fn a_key_has_an_entry_where_it_is_found(rt: HostRuntime) {
     hold(&rt, rt.alloc(), &KEYS);
+}
+
+static PATHS: [Text; 4] = [
+    Text::Key(b"/", b"/"),
+    Text::Key(b"//", b"/"),
+    Text::Key(b"/srv", b"/srv"),
+    Text::Key(b"//srv//data/", b"/srv/data"),
+];
+
+#[test]
+fn a_path_has_its_canonical_text_as_its_key(rt: HostRuntime) {
+    hold(&rt, rt.alloc(), &PATHS);
 }
 
 const SIX_LINES: &[u8] = b"a -ro h:/x\nb h:/x\nc -ro i:/x\nd -ro h:/y\ne -rw h:/x\nf -ro h:/x\n";

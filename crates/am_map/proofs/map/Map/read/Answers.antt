@@ -1,11 +1,16 @@
-use Rattle.std.proofs.Common.{◌≡◌, ℕ, Ok, Err, sym, ◌∙◌, arith}
-use Rattle.am_lines.specs.Words.{statements, words_of, statement_of_words}
+use Rattle.std.proofs.Common.{◌≡◌, ◌+◌, ℕ, List, Ok, Err, sym, ◌∙◌, arith}
+use Rattle.am_lines.specs.Words.{Statement, statements, words_of, statement_of_words}
 use Rattle.am_lines.specs.Behind.{lines_behind}
-use Rattle.am_map.specs.Grammar.{rows_read, map_read}
+use Rattle.am_lines.proofs.ReachedLemmas.{goes_on, reached}
+use Rattle.am_map.specs.Grammar.{rows_read, AreRows, map_read}
 use Rattle.am_map.specs.Stored.{line_added}
 use Rattle.am_map.proofs.FaultLemmas.{passed_on}
-use Rattle.am_map.proofs.ReadLemmas.{line_goes, line_stops, read_is, finds_first}
+use Rattle.am_map.proofs.ReadLemmas.{line_goes, line_stops, stay_good, read_is, finds_first}
 use Rattle.am_map.proofs.map.Map.read.Goals as goal
+
+pub returns-in_default-clause-reached : goal.returns-in_default-clause-reached
+returns-in_default-clause-reached c =
+    reached (AreRows c.args.kind) (AreRows c.args.kind) c.args.text.now c.loop-behind.number c.loop-behind.rest.now c.loop-behind.invariant.come (λ (lines : List Statement) good. good)
 
 pub returns-in-Err-clause-read : goal.returns-in-Err-clause-read
 returns-in-Err-clause-read c =
@@ -21,7 +26,7 @@ returns-in_default-rest c =
     let goes = line_goes c.args.kind number c.loop-behind.map c.read_line.new.self c.loop-behind.rest.now c.next_line.new.line.items (lines_behind number c.in-Ok.behind) (c.in-Ok.ensures.ok number) (rw c.as_slice.ensures.value at (c.in_default-read_line.ensures.ok number)) in
     let whole : map_read c.args.kind c.args.text.now ≡ Ok c.read_line.new.self =
     sym (read_is (rows_read c.args.kind (statements c.args.text.now))) ∙ sym c.loop-behind.invariant.read ∙ (rw c.in_default-rest.is at goes) in
-    record { read = whole; look_ups = finds_first (rows_read c.args.kind (statements c.args.text.now)) c.read_line.new.self whole; line = tt }
+    record { read = whole; look_ups = finds_first (rows_read c.args.kind (statements c.args.text.now)) c.read_line.new.self whole; reached = tt; line = tt }
 
 pub loop-behind-preserved : goal.loop-behind-preserved
 loop-behind-preserved c =
@@ -30,5 +35,9 @@ loop-behind-preserved c =
     let shorter = (rw c.in-Some.is at c.in-Ok.ensures.shorter) in
     record {
       read = sym (rw c.in-Some.is at goes) ∙ c.loop-behind.invariant.read;
+      come = goes_on (AreRows c.args.kind) (AreRows c.args.kind) c.args.text.now number (number + c.in-Ok.behind.raw_lines) c.loop-behind.rest.now c.next_line.new.line.items c.in-Some.next.now
+          (rw c.in-Some.is at (c.in-Ok.ensures.ok number))
+          (stay_good c.args.kind number c.loop-behind.map c.read_line.new.self (words_of c.next_line.new.line.items) (rw c.as_slice.ensures.value at (c.in_default-read_line.ensures.ok number)))
+          c.loop-behind.invariant.come;
       counted = omega (arith, shorter, c.loop-behind.invariant.counted);
     }

@@ -4,7 +4,8 @@ use Rattle.am_lines.specs.Words.{words_of}
 use Rattle.am_names.specs.Path.{text_of}
 use Rattle.am_master.specs.declared.point.Point.TheVariants.{Indirect}
 use Rattle.am_master.specs.MasterRow.{MasterRow}
-use Rattle.am_master.specs.Grammar.{added, row_of}
+use Rattle.am_master.specs.Grammar.{row_of}
+use Rattle.am_master.specs.Stored.{added}
 use Rattle.am_master.specs.Served.{served_of}
 use Rattle.am_master.proofs.FaultLemmas.{is_fault}
 use Rattle.am_master.proofs.PointLemmas.{line_is, taken_is, row_added}
