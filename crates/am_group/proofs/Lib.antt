@@ -1,5 +1,6 @@
 pub mod ReceiveLemmas
 pub mod LookupLemmas
+pub mod FindLemmas
 pub mod SettleLemmas
 pub mod LawLemmas
 pub mod ChangeLemmas
