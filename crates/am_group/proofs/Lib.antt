@@ -16,3 +16,4 @@ pub mod GrowLemmas
 pub mod MemberLemmas
 pub mod TableLemmas
 pub mod ReceiverLemmas
+pub mod EarlyLemmas
