@@ -1,5 +1,6 @@
 pub mod ReceiveLemmas
 pub mod LookupLemmas
+pub mod FindLemmas
 pub mod SettleLemmas
 pub mod LawLemmas
 pub mod ChangeLemmas
@@ -15,3 +16,4 @@ pub mod GrowLemmas
 pub mod MemberLemmas
 pub mod TableLemmas
 pub mod ReceiverLemmas
+pub mod EarlyLemmas

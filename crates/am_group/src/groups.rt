@@ -11,7 +11,7 @@ ghost use Rattle.am_group.specs.Members.{no_mounts, below, row_with, with_member
 
 use crate::kind::Kind;
 use crate::membership::Membership;
-use crate::tables::{group_row, has_members};
+use crate::tables::{group_row, has_members, member_row};
 use am_names::{Errno, GroupId, GroupRow, MemberRow, MountId};
 use std::alloc::{AllocError, Global};
 use std::marker::Model;
@@ -79,7 +79,7 @@ impl Groups {
     pub fn member(&self, mount: MountId) -> Option<MemberRow>
         ensures { result ≡ member_row self.now.members mount }
     {
-        self.members.iter().copied().find(|row| row.mount == mount)
+        member_row(self.members.as_slice(), mount)
     }
 
     /// The peer group of a shared mount.

@@ -1,12 +1,12 @@
 //! The rows of a change before the masters are lifted.
 
 ghost use Rattle.std.specs.Prelude.{◌≡◌, map, IfOk};
-ghost use Rattle.am_group.specs.Propagation.{group_row, master_of_group};
+ghost use Rattle.am_group.specs.Propagation.{member_row, group_row, master_of_group};
 ghost use Rattle.am_group.specs.Changes.{is_just, has_members, lifted, lifted_member, lifted_group};
-ghost use Rattle.am_group.specs.Invariant.{IsOrderly};
+ghost use Rattle.am_group.specs.Invariant.{RiseFrom, IsOrderly};
 ghost use Rattle.am_group.specs.Tables.{state_of};
 
-use am_names::{GroupId, GroupRow, MemberRow};
+use am_names::{GroupId, GroupRow, MemberRow, MountId};
 use std::alloc::{AllocError, Global};
 
 /// Rows in which a master may have lost its members.
@@ -24,6 +24,18 @@ pub fn is_just(group: GroupId, of: Option<GroupId>) -> bool
     match of {
         Some(other) => other == group,
         None => false,
+    }
+}
+
+/// The mount's row. The rows rise by number, so that halves of them are left out at a time.
+pub fn member_row(members: &[MemberRow], mount: MountId) -> Option<MemberRow>
+    requires { RiseFrom 0 members.now }
+    ensures { result ≡ member_row members.now mount }
+{
+    let number = mount.0;
+    match members.binary_search_by_key(&number, |row| row.mount.0) {
+        Ok(at) => Some(members[at]),
+        Err(_) => None,
     }
 }
 

@@ -72,6 +72,18 @@ fn is_above(mount: MountId, last: &Option<MountId>) -> bool
     }
 }
 
+/// The mount's row. The rows rise by number, so that halves of them are left out at a time.
+fn mount_row(rows: &[MountRow], mount: MountId) -> Option<&MountRow>
+    requires { IsRising rows.now }
+    ensures { option_copied result ≡ mount_row rows.now mount }
+{
+    let number = mount.0;
+    match rows.binary_search_by_key(&number, |row| row.mount.0) {
+        Ok(at) => Some(&rows[at]),
+        Err(_) => None,
+    }
+}
+
 impl Tree {
     /// No mount.
     pub fn new(alloc: Global) -> Tree
@@ -94,7 +106,7 @@ impl Tree {
     pub fn row(&self, mount: MountId) -> Option<&MountRow>
         ensures { option_copied result ≡ mount_row self.now mount }
     {
-        self.rows.iter().find(|row| row.mount == mount)
+        mount_row(self.rows.as_slice(), mount)
     }
 
     /// Whether the numbers of these rows rise, and are above all that are there.

@@ -5,7 +5,7 @@ ghost use Rattle.std.specs.List.{Contains};
 ghost use Rattle.std.specs.List.Sorted.{IsStrictlyIncreasing};
 ghost use Rattle.am_names.specs.Errno.{RefusedAs};
 ghost use Rattle.am_group.specs.Propagation.{Receives, master_of};
-ghost use Rattle.am_group.specs.Scan.{numbers, takes_from, propagates, is_handed, is_reached};
+ghost use Rattle.am_group.specs.Scan.{numbers, takes_from, is_handed, is_reached};
 ghost use Rattle.am_group.specs.Receivers.{receivers_of};
 
 use crate::groups::Groups;
@@ -35,19 +35,18 @@ impl Groups {
         }
     }
 
-    fn propagates_to(&self, from: MountId, to: MountId) -> bool
-        ensures { result ≡ propagates self.now from to }
-    {
-        takes_from(self.group_of(from), self.group_of(to), self.master_of(to))
-    }
-
     fn is_handed(&self, reached: &[MountId], to: MountId) -> bool
         ensures { result ≡ is_handed self.now reached.now to }
     {
+        let group = self.group_of(to);
+        let master = self.master_of(to);
+        if group.is_none() && master.is_none() {
+            return false;
+        }
         reached
             .iter()
             .copied()
-            .any(|from| self.propagates_to(from, to))
+            .any(|from| takes_from(self.group_of(from), group, master))
     }
 
     fn is_reached(&self, mount: MountId, reached: &[MountId], to: MountId) -> bool
@@ -81,6 +80,9 @@ impl Groups {
         ensures listed { IfOk result (λ v. v.items ≡ receivers_of self.now mount) }
     {
         let _members = &self.members;
+        let Some(_) = self.group_of(mount) else {
+            return Ok(Vec::new(alloc));
+        };
         let mut reached = Vec::new(alloc);
         let mut next = self.scan(alloc, mount, &reached)?;
         while reached.len() < next.len() {

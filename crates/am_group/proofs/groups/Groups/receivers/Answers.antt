@@ -1,15 +1,29 @@
-use Rattle.std.proofs.Common.{rules, tests, arith, ◌≡◌, ◌≤◌, ◌<◌, ◌↔◌, ℕ, List, length, eqb, sym, ap, subst, ◌∙◌}
+use Rattle.std.proofs.Common.{rules, tests, arith, ◌≡◌, ◌≤◌, ◌<◌, ◌↔◌, ℕ, List, None, length, eqb, sym, ap, subst, ◌∙◌}
 use Rattle.std.specs.Prelude.{filter, not, vec_len}
 use Rattle.std.specs.List.{Contains}
 use Rattle.std.specs.List.Sorted.{IsStrictlyIncreasing}
 use Rattle.std.proofs.lemmas.Fn.{filter_same}
 use Rattle.am_names.specs.PeerGroups.{PeerGroups}
-use Rattle.am_group.specs.Propagation.{Receives}
+use Rattle.am_group.specs.Propagation.{group_of, Receives}
 use Rattle.am_group.specs.Invariant.{RiseFrom, IsSound}
 use Rattle.am_group.specs.Scan.{numbers, is_reached}
+use Rattle.am_group.proofs.EarlyLemmas.{none_exact, none_listed}
 use Rattle.am_group.proofs.ReceiverLemmas.{listed_from}
 use Rattle.am_group.proofs.ScanLemmas.{IsPartial, partial_start, partial_next, longer, at_most, closed, found_receives, found_rises}
 use Rattle.am_group.proofs.groups.Groups.receivers.Goals as goal
+
+pub returns-in_default-clause-exact : goal.returns-in_default-clause-exact
+returns-in_default-clause-exact c =
+    let s = c.args.self.now in
+    let none : group_of s c.args.mount ≡ None = sym c.group_of.ensures ∙ c.in_default.is in
+    λ other. subst (λ (xs : List ℕ). Contains xs other ↔ Receives s c.args.mount other)
+    (sym c.new.ensures.items) (none_exact s c.args.mount none other)
+
+pub returns-in_default-clause-listed : goal.returns-in_default-clause-listed
+returns-in_default-clause-listed c =
+    let s = c.args.self.now in
+    let none : group_of s c.args.mount ≡ None = sym c.group_of.ensures ∙ c.in_default.is in
+    c.new.ensures.items ∙ none_listed s c.args.mount none
 
 pub loop-alloc-init : goal.loop-alloc-init
 loop-alloc-init c = record {
