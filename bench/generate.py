@@ -4,11 +4,14 @@
 usage: generate.py one-by-one|all-first KEYS script|answers
        generate.py map|master LINES script|answers
        generate.py namespaces|peers N script|answers
+       generate.py expiries|walks|mounts|lives|copies N script|answers
 
 Key I is walked to by walker I, which waits on token I. Of a long map, or of a long master map with
 a map for each of its lines, the last line is attached, walked to and begun to be served, so that
 the answers tell whether it was read. With N namespaces beside the first, or with N peers of a
-mount, TIMES mounts are made, each with N copies. The same arguments give the same bytes.
+mount, TIMES mounts are made, each with N copies. Where N keys stand, they are asked to expire, or
+walked to; N times a mount with TIMES copies comes and goes, or one key lives from its walk to its
+expiry; and a namespace of N mounts is copied and dropped. The same arguments give the same bytes.
 """
 
 import sys
@@ -16,6 +19,8 @@ import sys
 SHAPES = ("one-by-one", "all-first")
 HEADS = ("map", "master")
 COPIES = ("namespaces", "peers")
+STANDING = ("expiries", "walks")
+LIVES = STANDING + ("mounts", "lives", "copies")
 # So many mounts come with copies, whatever N is.
 TIMES = 10
 # By default no mount has a greater number.
@@ -28,10 +33,14 @@ def head(shape, keys):
     # By default 1024 walkers may wait at once.
     if shape == "all-first" and keys > 1024:
         yield f"limits {MOST_MOUNTS} {keys} 4294967295"
-    if shape == "peers":
+    if shape in ("mounts", "copies"):
+        most = keys * (TIMES + 1) + TIMES + 2
+        if most > MOST_MOUNTS:
+            yield f"limits {most} 1024 4294967295"
+    if shape in ("peers", "mounts", "copies"):
         yield "events"
     else:
-        yield from one_map(TIMES if shape == "namespaces" else keys, "")
+        yield from one_map({"namespaces": TIMES, "lives": 1}.get(shape, keys), "")
 
 
 def one_map(lines, options):
@@ -58,15 +67,31 @@ def walk(i, ns=0):
     yield f"walk {i} {ns} /auto/{name(i)} 100 room", f"wait {i}"
 
 
-def serve(i, mount, arrives):
+def serve(i, mount, arrives, walker=None, key=None):
     """The daemon serves token I by job I, which makes this mount, and walker I arrives in that one."""
+    walker, key = walker or i, key or i
     yield f"deliver {i}", f"job {i}"
     yield f"act {i} ok", "did mkdir"
     yield f"act {i} ok", f"did mount {mount}"
     yield f"act {i} ok", "did record"
     yield f"act {i} ok", "did reply"
-    yield f"record 2 {name(i)}", f"record mounted {mount}"
-    yield f"resume {i} 101 room", f"at {arrives} /"
+    yield f"record 2 {name(key)}", f"record mounted {mount}"
+    yield f"resume {walker} 101 room", f"at {arrives} /"
+
+
+def gone(first, count):
+    return "gone " + " ".join(str(it) for it in range(first, first + count))
+
+
+def ends(i, walker):
+    """The daemon serves token I, of an expiry that this walker asks for, and the mount goes."""
+    yield f"expire {walker} 2 101 immediate room", f"wait {i}"
+    yield f"deliver {i}", f"job {i}"
+    yield f"act {i} ok", "did umount"
+    yield f"act {i} ok", "did rmdir"
+    yield f"act {i} ok", "did record"
+    yield f"act {i} ok", "did reply"
+    yield f"resume {walker} 101 room", "expired"
 
 
 def copied(shape, n, i):
@@ -88,8 +113,15 @@ def first_events(shape, n):
         yield "change 0 /a shared", "ok"
         for i in range(1, n + 1):
             yield f"bind 0 /a /b{i}", f"mount {i + 2}"
+    elif shape == "mounts":
+        yield from first_events("peers", TIMES)
+    elif shape == "copies":
+        for i in range(1, n + 1):
+            yield f"mount 0 /{name(i)}", f"mount {i + 1}"
     else:
         yield from attach()
+        if shape in STANDING:
+            yield from events("one-by-one", n)
 
 
 def events(shape, keys):
@@ -104,6 +136,28 @@ def events(shape, keys):
     elif shape == "peers":
         for i in range(1, TIMES + 1):
             yield f"mount 0 /a/x{i}", f"mount {copied(shape, keys, i)}"
+    elif shape == "expiries":
+        for _ in range(keys):
+            yield f"expire {keys + 1} 2 105 idle room", "err 6"
+    elif shape == "walks":
+        for i in range(1, keys + 1):
+            yield f"leave {i}", "ok"
+            yield f"walk {i} 0 /auto/{name(i)} 102 room", f"at {i + 2} /"
+    elif shape == "mounts":
+        for i in range(1, keys + 1):
+            mount = copied("peers", TIMES, i)
+            yield "mount 0 /a/x", f"mount {mount}"
+            yield "umount 0 /a/x", gone(mount, TIMES + 1)
+    elif shape == "lives":
+        for i in range(1, keys + 1):
+            yield f"walk 1 0 /auto/{name(1)} 100 room", f"wait {2 * i - 1}"
+            yield from serve(2 * i - 1, i + 2, i + 2, walker=1, key=1)
+            yield "leave 1", "ok"
+            yield from ends(2 * i, 1)
+    elif shape == "copies":
+        for i in range(1, TIMES + 1):
+            yield "nscopy 0", f"ns {i}"
+            yield f"nsdrop {i}", gone(i * (keys + 1) + 1, keys + 1)
     elif shape == "one-by-one":
         for i in range(1, keys + 1):
             yield from walk(i)
@@ -174,7 +228,7 @@ def text(lines):
 
 
 def main(words):
-    if len(words) != 3 or words[0] not in SHAPES + HEADS + COPIES or not words[1].isdigit() \
+    if len(words) != 3 or words[0] not in SHAPES + HEADS + COPIES + LIVES or not words[1].isdigit() \
             or words[2] not in ("script", "answers"):
         print("generate: expected a shape, a number, and script or answers", file=sys.stderr)
         sys.exit(2)

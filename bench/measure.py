@@ -1,9 +1,10 @@
 #!/usr/bin/env python3
-"""Measures a built program and prints three tables.
+"""Measures a built program and prints four tables.
 
 usage: measure.py PROGRAM [RUNS [KEYS..]]
 
-The second table, of long heads, and the third, of mounts with copies, have the same sizes each time.
+The second table, of long heads, the third, of mounts with copies, and the fourth, of worlds that have
+much in them or last, have the same sizes each time.
 
 Each run's answers are compared with those that the script must get. Where one line differs,
 nothing is printed for it, and the exit status is 1.
@@ -22,9 +23,10 @@ RUNS = 15
 KEYS = (10, 100, 1000)
 LINES = {"map": (500, 5000, 50000), "master": (10, 100, 1000)}
 COPIES = (10, 100, 300)
+LIVES = (100, 300, 1000)
 # Short runs are repeated so many times more often.
 SHORT = 10
-# Of more copies than that there is a single run, with none before it.
+# Of more copies than that there is a single run, with none before it, and so of the fourth table.
 MANY = 100
 
 
@@ -95,6 +97,9 @@ def main(words):
         print()
         top("copies", "N")
         shapes(program, room, runs, generate.COPIES, COPIES)
+        print()
+        top("worlds", "N")
+        shapes(program, room, runs, generate.LIVES, LIVES)
 
 
 def top(shape, size):
@@ -107,7 +112,7 @@ def shapes(program, room, runs, names, sizes):
         before = None
         for size in sizes:
             again, uncounted = runs * SHORT if size <= 100 else runs, 1
-            if shape in generate.COPIES:
+            if shape in generate.COPIES + generate.LIVES:
                 again, uncounted = (runs, 1) if size <= MANY else (1, 0)
             script = generate.text(generate.script(shape, size))
             wanted = generate.text(generate.answers(shape, size))
