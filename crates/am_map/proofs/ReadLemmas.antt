@@ -81,22 +81,28 @@ finds_first (Err fault) map e = absurd cc
 
 -- ---- lines that are rows
 
-with_good : (number : ℕ) (read : Result Row MapFaultKind) (one both : Result (List Row) MapFault) → IsOk (with_row number read one) → (IsOk one → IsOk both) → IsOk (with_row number read both)
+with_good : (number : ℕ) (read : Result Row MapFaultKind) (one both : Result (List Row) MapFault) →
+    IsOk (with_row number read one) → (IsOk one → IsOk both) → IsOk (with_row number read both)
 with_good number (Ok row) (Ok rows) (Ok more) good goes = refl
 with_good number (Ok row) (Ok rows) (Err fault) good goes = goes refl
 with_good number (Ok row) (Err fault) both good goes = absurd cc
 with_good number (Err kind) one both good goes = absurd cc
 
-both_good : (of : MapKind) (above lines : List Statement) → AreRows of above → AreRows of lines → AreRows of (above ++ lines)
+both_good : (of : MapKind) (above lines : List Statement) → AreRows of above → AreRows of lines →
+    AreRows of (above ++ lines)
 both_good of [] lines good more = more
 both_good of (line ∷ above) lines good more =
-    with_good line.number (row_read of line) (rows_read of above) (rows_read of (above ++ lines)) good (λ (rest : AreRows of above). both_good of above lines rest more)
+    with_good line.number (row_read of line) (rows_read of above) (rows_read of (above ++ lines)) good
+    (λ (rest : AreRows of above). both_good of above lines rest more)
 
-row_good : (number : ℕ) (rows new : List Row) (read : Result Row MapFaultKind) → added rows read ≡ Ok new → IsOk (with_row number read (Ok []))
+row_good : (number : ℕ) (rows new : List Row) (read : Result Row MapFaultKind) →
+    added rows read ≡ Ok new → IsOk (with_row number read (Ok []))
 row_good number rows new (Ok row) e = refl
 row_good number rows new (Err kind) e = absurd cc
 
-line_good : (of : MapKind) (number : ℕ) (rows new : List Row) (ws : List (List ℕ)) → line_added of rows (statement_of_words number ws) ≡ Ok new → AreRows of (statement_of_words number ws)
+line_good : (of : MapKind) (number : ℕ) (rows new : List Row) (ws : List (List ℕ)) →
+    line_added of rows (statement_of_words number ws) ≡ Ok new →
+    AreRows of (statement_of_words number ws)
 line_good of number rows new [] e = refl
 line_good of number rows new (first ∷ ws) e =
     let line : Statement = record { number = number; first = first; others = ws } in
@@ -106,5 +112,8 @@ line_good of number rows new (first ∷ ws) e =
     ] e
 
 -- a line that adds its row, or says nothing, is good behind good lines
-pub stay_good : (of : MapKind) (number : ℕ) (rows new : List Row) (ws : List (List ℕ)) → line_added of rows (statement_of_words number ws) ≡ Ok new → (above : List Statement) → AreRows of above → AreRows of (above ++ statement_of_words number ws)
-stay_good of number rows new ws e above good = both_good of above (statement_of_words number ws) good (line_good of number rows new ws e)
+pub stay_good : (of : MapKind) (number : ℕ) (rows new : List Row) (ws : List (List ℕ)) →
+    line_added of rows (statement_of_words number ws) ≡ Ok new → (above : List Statement) →
+    AreRows of above → AreRows of (above ++ statement_of_words number ws)
+stay_good of number rows new ws e above good =
+    both_good of above (statement_of_words number ws) good (line_good of number rows new ws e)

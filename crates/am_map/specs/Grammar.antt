@@ -14,7 +14,8 @@ use Rattle.am_map.specs.Words.{key_read, is_options, is_location, host_of, path_
 abbrev pub entry_with : Option (List ℕ) → List (List ℕ) → Result EntryText MapFaultKind
 entry_with options [] = Err NoLocation
 entry_with options (word ∷ []) =
-    if is_location word then Ok (record { options = options; host = host_of word; path = path_of word })
+    if is_location word then
+    Ok (record { options = options; host = host_of word; path = path_of word })
     else Err BadLocation
 entry_with options (word ∷ other ∷ words) = Err BadLocation
 

@@ -28,8 +28,11 @@ with_key key bytes = flat_map (λ b. if b == 38 then key else b ∷ []) bytes
 
 -- the entry with the key put into its host and its path; options keep their `&`
 abbrev pub entry_with_key : List ℕ → EntryText → EntryText
-entry_with_key key entry =
-    record { options = entry.options; host = with_key key entry.host; path = with_key key entry.path }
+entry_with_key key entry = record {
+  options = entry.options;
+  host = with_key key entry.host;
+  path = with_key key entry.path;
+}
 
 abbrev pub entry_of_row : List ℕ → Option Row → Option EntryText
 entry_of_row key None = None

@@ -1,4 +1,4 @@
--- What the borrowed parts of a line say.
+-- What the borrowed parts of a line say, for the code alone.
 use Rattle.std.specs.Option.{option_copied}
 use Rattle.am_map.specs.declared.parts.EntryRef.{EntryRef}
 use Rattle.am_map.specs.EntryText.{EntryText}

@@ -1,4 +1,4 @@
--- The rows that a map keeps while it is read.
+-- The rows that a map keeps while it is read, for the code alone.
 use Rattle.std.specs.Prelude.{ℕ, List, [], ◌∷◌, ◌++◌, map, Result, Ok, Err, if◌then◌else◌}
 use Rattle.std.specs.List.{list_any}
 use Rattle.am_lines.specs.Words.{Statement}

@@ -93,26 +93,32 @@ line_stands number last above new (first ∷ ws) e h stand =
 abbrev pub AreReadAs : List MasterRow → List Statement → Type 0
 AreReadAs rows lines = rows_read [] lines ≡ Ok rows
 
-pub are_rows : (rows : List MasterRow) (lines : List Statement) → AreReadAs rows lines → AreRows lines
+pub are_rows : (rows : List MasterRow) (lines : List Statement) → AreReadAs rows lines →
+    AreRows lines
 are_rows rows lines e = rw e refl
 
-with_more : (number : ℕ) (start above : List MasterRow) (read : Result MasterRow MasterFaultKind) (lines more : List Statement) →
-    ((rows : List MasterRow) → rows_read rows lines ≡ Ok above → rows_read rows (lines ++ more) ≡ rows_read above more) →
+with_more : (number : ℕ) (start above : List MasterRow) (read : Result MasterRow MasterFaultKind)
+    (lines more : List Statement) →
+    ((rows : List MasterRow) → rows_read rows lines ≡ Ok above →
+    rows_read rows (lines ++ more) ≡ rows_read above more) →
     with_row number start read (λ rows. rows_read rows lines) ≡ Ok above →
     with_row number start read (λ rows. rows_read rows (lines ++ more)) ≡ rows_read above more
 with_more number start above (Ok row) lines more goes e = goes (start ++ row ∷ []) e
 with_more number start above (Err kind) lines more goes e = absurd cc
 
-read_more : (start above : List MasterRow) (lines more : List Statement) → rows_read start lines ≡ Ok above → rows_read start (lines ++ more) ≡ rows_read above more
+read_more : (start above : List MasterRow) (lines more : List Statement) →
+    rows_read start lines ≡ Ok above → rows_read start (lines ++ more) ≡ rows_read above more
 read_more start above [] more e =
     let is : start ≡ above = cc in
     ap (λ (rows : List MasterRow). rows_read rows more) is
 read_more start above (line ∷ lines) more e =
-    with_more line.number start above (row_read start line) lines more (λ rows h. read_more rows above lines more h) e
+    with_more line.number start above (row_read start line) lines more
+    (λ rows h. read_more rows above lines more h) e
 
 -- a line that adds its row, or says nothing, behind lines that are read
-pub one_more : (number : ℕ) (above new : List MasterRow) (ws : List (List ℕ)) → line_added above (statement_of_words number ws) ≡ Ok new →
-    (lines : List Statement) → AreReadAs above lines → AreReadAs new (lines ++ statement_of_words number ws)
+pub one_more : (number : ℕ) (above new : List MasterRow) (ws : List (List ℕ)) →
+    line_added above (statement_of_words number ws) ≡ Ok new → (lines : List Statement) →
+    AreReadAs above lines → AreReadAs new (lines ++ statement_of_words number ws)
 one_more number above new ws e lines read =
     let said = statement_of_words number ws in
     read_more [] above lines said read
