@@ -17,7 +17,7 @@ use Rattle.std.proofs.lemmas.Map.Lookups.{exact_bytes}
 use Rattle.std.proofs.lemmas.Option.{slice_get_within, get_or_from_slice_get, slice_get_cases}
 use Rattle.am_names.specs.declared.trigger.Trigger.{Trigger}
 use Rattle.am_expire.specs.Pick.{Expiry, is_due, is_open, may_go, mount_on, is_eligible, is_lesser_name, comes_before, candidates, IsLeast, is_first, pick_of}
-use Rattle.am_expire.specs.Scan.{earlier, candidates_before, IsBest}
+use Rattle.am_expire.specs.Scan.{comes_first, candidates_before, IsBest}
 
 names_total : IsTotalOrder (option_cmp (slice_cmp nat_cmp))
 names_total = options_total nat_list_cmp_total
@@ -65,16 +65,28 @@ not_before other row best e f = by_test (comes_before other row) refl
 all_of_none : {X : Type 0} (P : X → Type 0) (rows : List X) → rows ≡ [] → All P rows
 all_of_none P rows none = subst (All P) (sym none) (λ k d lt. absurd (omega arith))
 
-best_more : (rows : List (Trigger × ℕ)) (best : Option (Trigger × ℕ)) (row : Trigger × ℕ) → IsBest rows best → IsBest (rows ++ row ∷ []) (Some (earlier best row))
-best_more rows None row none =
-    (Contains-push rows row, All-push (λ other. comes_before other row ≡ false) rows row (all_of_none (λ other. comes_before other row ≡ false) rows none) (not_before_itself row))
-best_more rows (Some best) row least = by_test (comes_before row best) refl
-  where
-    by_test : (b : Bool) → comes_before row best ≡ b → IsLeast (rows ++ row ∷ []) (cond b row best)
-    by_test true e =
-        (Contains-push rows row, All-push (λ other. comes_before other row ≡ false) rows row (λ k d lt. not_before (get_or rows k d) row best e (least.1 k d lt)) (not_before_itself row))
-    by_test false e =
-        (Contains-append_left rows (row ∷ []) best least.0, All-push (λ other. comes_before other best ≡ false) rows row least.1 e)
+best_more :
+    (rows : List (Trigger × ℕ)) (best : Option (Trigger × ℕ)) (row : Trigger × ℕ) →
+    comes_first best row ≡ true → IsBest rows best → IsBest (rows ++ row ∷ []) (Some row)
+best_more rows None row first none = (
+  Contains-push rows row,
+  All-push (λ other. comes_before other row ≡ false) rows row
+      (all_of_none (λ other. comes_before other row ≡ false) rows none) (not_before_itself row),
+)
+best_more rows (Some best) row first least = (
+  Contains-push rows row,
+  All-push (λ other. comes_before other row ≡ false) rows row
+      (λ k d lt. not_before (get_or rows k d) row best first (least.1 k d lt)) (not_before_itself row),
+)
+
+best_stays :
+    (rows : List (Trigger × ℕ)) (best : Option (Trigger × ℕ)) (row : Trigger × ℕ) →
+    comes_first best row ≡ false → IsBest rows best → IsBest (rows ++ row ∷ []) best
+best_stays rows None row later none = absurd cc
+best_stays rows (Some best) row later least = (
+  Contains-append_left rows (row ∷ []) best least.0,
+  All-push (λ other. comes_before other best ≡ false) rows row least.1 later,
+)
 
 -- ---- the rows one after another
 
@@ -96,9 +108,29 @@ pub left_out : (e : Expiry) (index : ℕ) (row : Trigger × ℕ) (best : Option 
 left_out e index row best at out is =
     subst (λ (rows : List (Trigger × ℕ)). IsBest rows best) (sym (one_more e index row false at out ∙ append-nil (candidates_before index e))) is
 
-pub taken : (e : Expiry) (index : ℕ) (row : Trigger × ℕ) (best : Option (Trigger × ℕ)) → slice_get e.triggers.uses index ≡ Some row → is_eligible e row ≡ true → IsBest (candidates_before index e) best → IsBest (candidates_before (index + 1) e) (Some (earlier best row))
-taken e index row best at eligible is =
-    subst (λ (rows : List (Trigger × ℕ)). IsBest rows (Some (earlier best row))) (sym (one_more e index row true at eligible)) (best_more (candidates_before index e) best row is)
+pub taken :
+    (e : Expiry) (index : ℕ) (row : Trigger × ℕ) (best : Option (Trigger × ℕ)) →
+    slice_get e.triggers.uses index ≡ Some row → comes_first best row ≡ true →
+    is_eligible e row ≡ true → IsBest (candidates_before index e) best →
+    IsBest (candidates_before (index + 1) e) (Some row)
+taken e index row best at first eligible is =
+    subst (λ (rows : List (Trigger × ℕ)). IsBest rows (Some row))
+    (sym (one_more e index row true at eligible))
+    (best_more (candidates_before index e) best row first is)
+
+-- a row that comes later is passed over, whether it may expire or not
+pub passed_over :
+    (e : Expiry) (index : ℕ) (row : Trigger × ℕ) (best : Option (Trigger × ℕ)) →
+    slice_get e.triggers.uses index ≡ Some row → comes_first best row ≡ false →
+    IsBest (candidates_before index e) best → IsBest (candidates_before (index + 1) e) best
+passed_over e index row best at later is = by_test (is_eligible e row) refl
+  where
+    by_test : (b : Bool) → is_eligible e row ≡ b → IsBest (candidates_before (index + 1) e) best
+    by_test false out = left_out e index row best at out is
+    by_test true eligible =
+        subst (λ (rows : List (Trigger × ℕ)). IsBest rows best)
+        (sym (one_more e index row true at eligible))
+        (best_stays (candidates_before index e) best row later is)
 
 pub all_seen : (e : Expiry) (index : ℕ) (best : Option (Trigger × ℕ)) → length e.triggers.uses ≤ index → IsBest (candidates_before index e) best → IsBest (candidates e) best
 all_seen e index best le is = subst (λ (rows : List (Trigger × ℕ)). IsBest rows best) (past_end e index le) is

@@ -1,5 +1,5 @@
 -- What a pick looks at, and how it looks through the last uses.
-use Rattle.std.specs.Prelude.{◌≡◌, ℕ, List, [], take, filter, Option, Some, None, if◌then◌else◌}
+use Rattle.std.specs.Prelude.{◌≡◌, ℕ, Bool, true, List, [], take, filter, Option, Some, None}
 use Rattle.am_names.specs.declared.trigger.Trigger.{Trigger}
 use Rattle.am_expire.specs.declared.expiry.View.{View}
 use Rattle.am_expire.specs.Pick.{Expiry, is_eligible, comes_before, IsLeast}
@@ -16,10 +16,10 @@ expiry_in v = record {
   immediate = v.immediate;
 }
 
--- of two rows the one that comes first, of which the first may be missing
-abbrev pub earlier : Option (Trigger × ℕ) → Trigger × ℕ → Trigger × ℕ
-earlier None row = row
-earlier (Some best) row = if comes_before row best then row else best
+-- the row comes before the least so far, as any does where there is none
+abbrev pub comes_first : Option (Trigger × ℕ) → Trigger × ℕ → Bool
+comes_first None row = true
+comes_first (Some best) row = comes_before row best
 
 -- the last uses before this index of those that may expire now
 abbrev pub candidates_before : ℕ → Expiry → List (Trigger × ℕ)

@@ -3,7 +3,7 @@
 ghost use Rattle.std.specs.Prelude.{◌≡◌, ◌+◌, None, IfOk};
 ghost use Rattle.am_names.specs.Errno.{RefusedAs};
 ghost use Rattle.am_expire.specs.Pick.{Expiry, is_due, may_go, mount_on, is_open, is_eligible, candidates, is_lesser_name, comes_before, IsPick, pick_of};
-ghost use Rattle.am_expire.specs.Scan.{expiry_in, earlier, candidates_before, IsBest};
+ghost use Rattle.am_expire.specs.Scan.{expiry_in, comes_first, candidates_before, IsBest};
 
 use crate::uses::Uses;
 use am_names::{Errno, FsId, MountId, Name, Seconds, TokenKind, Trigger};
@@ -47,13 +47,13 @@ fn comes_before(row: &(Trigger, Seconds), other: &(Trigger, Seconds)) -> bool
     is_lesser_name(&row.0.name, &other.0.name)
 }
 
-fn earlier(best: &Option<(Trigger, Seconds)>, row: &(Trigger, Seconds)) -> (Trigger, Seconds)
-    ensures { result ≡ earlier best.now row.now }
+fn comes_first(best: &Option<(Trigger, Seconds)>, row: &(Trigger, Seconds)) -> bool
+    ensures { result ≡ comes_first best.now row.now }
 {
-    let Some(best) = best else {
-        return *row;
-    };
-    if comes_before(row, best) { *row } else { *best }
+    match best {
+        Some(best) => comes_before(row, best),
+        None => true,
+    }
 }
 
 impl View<'_> {
@@ -133,10 +133,14 @@ impl View<'_> {
         let Some(row) = self.triggers.use_at(index) else {
             return Ok(*best);
         };
+        // Whether it may expire comes last: that takes looks at what is mounted on it.
+        if !comes_first(best, &row) {
+            return Ok(*best);
+        }
         if !self.is_eligible(alloc, &row)? {
             return Ok(*best);
         }
-        Ok(Some(earlier(best, &row)))
+        Ok(Some(row))
     }
 
     /// The least of all that may expire.
