@@ -1,10 +1,10 @@
--- What is in no peer group: nothing is received from it, and it has nothing to receive.
-use Rattle.std.proofs.Common.{◌≡◌, ◌<◌, ◌↔◌, ℕ, Bool, true, false, ◌&&◌, ◌||◌, List, [], ◌∷◌, Option, Some, None, refl, sym, ap, ◌∙◌, arith}
-use Rattle.std.specs.Prelude.{filter, not, is_some, ◌==◌}
+-- Nothing is received from a mount that is in no peer group.
+use Rattle.std.proofs.Common.{◌≡◌, ◌<◌, ◌↔◌, ℕ, Bool, true, false, ◌&&◌, List, [], ◌∷◌, Some, None, refl, sym, ◌∙◌, arith}
+use Rattle.std.specs.Prelude.{filter, not, ◌==◌}
 use Rattle.std.specs.List.{Contains}
 use Rattle.am_names.specs.PeerGroups.{PeerGroups}
-use Rattle.am_group.specs.Propagation.{group_of, master_of, Receives}
-use Rattle.am_group.specs.Scan.{numbers, takes_from, is_handed}
+use Rattle.am_group.specs.Propagation.{group_of, Receives}
+use Rattle.am_group.specs.Scan.{numbers}
 use Rattle.am_group.specs.Receivers.{receives, receivers_of}
 use Rattle.am_group.proofs.ReceiveLemmas.{under_from_way}
 
@@ -30,21 +30,3 @@ and_false false = refl
 pub none_listed : (s : PeerGroups) (b : ℕ) → group_of s b ≡ None → [] ≡ receivers_of s b
 none_listed s b none =
     filter_false (receives s b) (numbers s.members) (λ c. rw none (and_false (not (c == b))))
-
-takes_none :
-    (sender group master : Option ℕ) → is_some group ≡ false → is_some master ≡ false →
-    takes_from sender group master ≡ false
-takes_none sender (Some g) master lone free = absurd cc
-takes_none sender None (Some h) lone free = absurd cc
-takes_none None None None lone free = refl
-takes_none (Some g) None None lone free = refl
-
--- a mount without a group and a master receives from none of these
-pub none_handed :
-    (s : PeerGroups) (reached : List ℕ) (c : ℕ) →
-    is_some (group_of s c) ≡ false → is_some (master_of s c) ≡ false → is_handed s reached c ≡ false
-none_handed s [] c lone free = refl
-none_handed s (b ∷ reached) c lone free =
-    ap (λ (x : Bool). x || is_handed s reached c)
-    (takes_none (group_of s b) (group_of s c) (master_of s c) lone free) ∙
-    none_handed s reached c lone free

@@ -17,3 +17,4 @@ pub mod MemberLemmas
 pub mod TableLemmas
 pub mod ReceiverLemmas
 pub mod EarlyLemmas
+pub mod SenderLemmas

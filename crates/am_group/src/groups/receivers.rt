@@ -1,25 +1,45 @@
 //! Which mounts receive propagation from another: all are scanned again until nothing new comes.
 
-ghost use Rattle.std.specs.Prelude.{◌≡◌, ◌↔◌, ℕ, None, filter, IfOk};
+ghost use Rattle.std.specs.Prelude.{◌≡◌, ◌↔◌, ℕ, None, filter, IfOk, OnOk};
 ghost use Rattle.std.specs.List.{Contains};
 ghost use Rattle.std.specs.List.Sorted.{IsStrictlyIncreasing};
 ghost use Rattle.am_names.specs.Errno.{RefusedAs};
 ghost use Rattle.am_group.specs.Propagation.{Receives, master_of};
-ghost use Rattle.am_group.specs.Scan.{numbers, takes_from, is_handed, is_reached};
+ghost use Rattle.am_group.specs.Changes.{is_among};
+ghost use Rattle.am_group.specs.Scan.{numbers, is_reached, is_one_of, HasToo, AreGroupsOf, is_under_one, is_reached_by};
 ghost use Rattle.am_group.specs.Receivers.{receivers_of};
 
 use crate::groups::Groups;
-use crate::tables::is_just;
 use am_names::{Errno, GroupId, MountId};
 use std::alloc::{AllocError, Global};
 
-fn takes_from(sender: Option<GroupId>, group: Option<GroupId>, master: Option<GroupId>) -> bool
-    ensures { result ≡ takes_from sender group master }
+fn is_among(group: GroupId, groups: &[GroupId]) -> bool
+    ensures { result ≡ is_among groups.now group }
 {
-    match sender {
-        Some(sender) => is_just(sender, group) || is_just(sender, master),
+    groups.iter().copied().any(|other| other == group)
+}
+
+fn is_one_of(group: Option<GroupId>, groups: &[GroupId]) -> bool
+    ensures { result ≡ is_one_of groups.now group }
+{
+    match group {
+        Some(group) => is_among(group, groups),
         None => false,
     }
+}
+
+/// Puts the peer group to the others, if it isn't there.
+fn add_group(groups: &mut Vec<GroupId>, group: Option<GroupId>) -> Result<(), AllocError>
+    ensures { OnOk result (HasToo group groups.old.items groups.new.items) }
+{
+    let Some(group) = group else {
+        return Ok(());
+    };
+    if is_among(group, groups.as_slice()) {
+        return Ok(());
+    }
+    groups.push(group)?;
+    Ok(())
 }
 
 impl Groups {
@@ -35,24 +55,30 @@ impl Groups {
         }
     }
 
-    fn is_handed(&self, reached: &[MountId], to: MountId) -> bool
-        ensures { result ≡ is_handed self.now reached.now to }
+    /// The peer groups of these mounts.
+    fn groups_of(&self, alloc: Global, mounts: &[MountId]) -> Result<Vec<GroupId>, AllocError>
+        ensures { IfOk result (λ v. AreGroupsOf self.now mounts.now v.items) }
     {
-        let group = self.group_of(to);
-        let master = self.master_of(to);
-        if group.is_none() && master.is_none() {
-            return false;
+        let mut groups = Vec::new(alloc);
+        for mount in mounts {
+            add_group(&mut groups, self.group_of(*mount))?;
         }
-        reached
-            .iter()
-            .copied()
-            .any(|from| takes_from(self.group_of(from), group, master))
+        Ok(groups)
     }
 
-    fn is_reached(&self, mount: MountId, reached: &[MountId], to: MountId) -> bool
-        ensures { result ≡ is_reached self.now mount reached.now to }
+    fn is_under_one(&self, groups: &[GroupId], to: MountId) -> bool
+        ensures { result ≡ is_under_one self.now groups.now to }
     {
-        to == mount || self.is_handed(reached, to)
+        if is_one_of(self.group_of(to), groups) {
+            return true;
+        }
+        is_one_of(self.master_of(to), groups)
+    }
+
+    fn is_reached(&self, mount: MountId, groups: &[GroupId], to: MountId) -> bool
+        ensures { result ≡ is_reached_by self.now mount groups.now to }
+    {
+        to == mount || self.is_under_one(groups, to)
     }
 
     fn scan(
@@ -63,9 +89,10 @@ impl Groups {
     ) -> Result<Vec<MountId>, AllocError>
         ensures { IfOk result (λ v. v.items ≡ filter (is_reached self.now mount reached.now) (numbers self.now.members)) }
     {
+        let groups = self.groups_of(alloc, reached)?;
         let mut next = Vec::new(alloc);
         for row in self.members.iter() {
-            if self.is_reached(mount, reached, row.mount) {
+            if self.is_reached(mount, &groups, row.mount) {
                 next.push(row.mount)?;
             }
         }

@@ -22,4 +22,4 @@ returns-in-Err c =
     let number = c.mount.inside.0 in
     let by_number = c.in-Err.ensures.position (λ (r : MemberRow). r.mount)
     (answers_always _ _ _ (λ f a r g called. search rules)) in
-    rw (← c.mount.view_is) (sym (absent rows c.requires number c.in-Err.field-0 by_number))
+    rw (← c.mount.view_is) (sym (absent rows c.requires number _ by_number))

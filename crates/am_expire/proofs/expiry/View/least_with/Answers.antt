@@ -1,5 +1,4 @@
-use Rattle.std.proofs.Common.{◌≡◌, ℕ, true, false, Some, slice_get, sym, ◌∙◌}
-use Rattle.am_names.specs.declared.trigger.Trigger.{Trigger}
+use Rattle.std.proofs.Common.{◌≡◌, true, false, Some, slice_get, sym, ◌∙◌}
 use Rattle.am_expire.specs.Pick.{is_eligible}
 use Rattle.am_expire.specs.Scan.{expiry_in, comes_first}
 use Rattle.am_expire.proofs.PickLemmas.{left_out, passed_over, taken}
