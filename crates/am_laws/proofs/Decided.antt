@@ -154,7 +154,7 @@ row_found front [] cause row token status h =
 row_found front (o ∷ before) cause row token status h =
     or_right (is_cause front o (before ++ cause ∷ row) token status) _ (row_found (front ++ o ∷ []) before cause row token status (subst (λ (b : List Obs). is_cause b cause row token status ≡ true) (sym (append_assoc front (o ∷ []) before)) h))
 
-row_true : (seen : List Obs) (token : ℕ) (status : Status) → EndsInRow seen token status → ends_in_row [] seen token status ≡ true
+pub row_true : (seen : List Obs) (token : ℕ) (status : Status) → EndsInRow seen token status → ends_in_row [] seen token status ≡ true
 row_true seen token status h =
     subst (λ (s : List Obs). ends_in_row [] s token status ≡ true) (sym h.splits) (row_found [] h.before h.cause h.row token status (and_of _ _ (and_of _ _ (closes_true h.before token status h.cause h.closed) h.unbroken) (is_open_true h.before token h.was_open)))
 
@@ -168,7 +168,7 @@ row_either : (front : List Obs) (o : Obs) (row : List Obs) (token : ℕ) (status
 row_either front o row token status true e later h = row_here front o row token status e
 row_either front o row token status false e later h = subst (λ (s : List Obs). EndsInRow s token status) (append_assoc front (o ∷ []) row) (later h)
 
-row_split : (front rest : List Obs) (token : ℕ) (status : Status) → ends_in_row front rest token status ≡ true → EndsInRow (front ++ rest) token status
+pub row_split : (front rest : List Obs) (token : ℕ) (status : Status) → ends_in_row front rest token status ≡ true → EndsInRow (front ++ rest) token status
 row_split front [] token status h = absurd cc
 row_split front (o ∷ rest) token status h = row_either front o rest token status (is_cause front o rest token status) refl (row_split (front ++ o ∷ []) rest token status) h
 

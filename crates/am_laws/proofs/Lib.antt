@@ -4,3 +4,8 @@ pub mod Words
 pub mod Places
 pub mod Append
 pub mod Decided
+pub mod Lists
+pub mod Late
+pub mod Same
+pub mod Grows
+pub mod Rows

@@ -19,15 +19,15 @@ use Rattle.am_laws.proofs.Packets.{nat_same, packet_is, packet_same}
 
 -- one observation
 
-waits_is : (walker token : ℕ) (o : Obs) → waits walker token o ≡ true → o ≡ Waits walker token
+pub waits_is : (walker token : ℕ) (o : Obs) → waits walker token o ≡ true → o ≡ Waits walker token
 waits_is walker token (Waits w k) h = grind (arith, nat_tests, h)
 waits_is walker token _ h = absurd cc
 
-queues_is : (token : ℕ) (o : Obs) → queues token o ≡ true → (attach : ℕ) × (packet : Packet) × (o ≡ Queued token attach packet)
+pub queues_is : (token : ℕ) (o : Obs) → queues token o ≡ true → (attach : ℕ) × (packet : Packet) × (o ≡ Queued token attach packet)
 queues_is token (Queued k attach packet) h = (attach, packet, grind (arith, nat_tests, h))
 queues_is token _ h = absurd cc
 
-releases_is : (walker token : ℕ) (o : Obs) → releases walker token o ≡ true → (status : Status) × (o ≡ Released walker token status)
+pub releases_is : (walker token : ℕ) (o : Obs) → releases walker token o ≡ true → (status : Status) × (o ≡ Released walker token status)
 releases_is walker token (Released w k status) h = (status, grind (arith, nat_tests, h))
 releases_is walker token _ h = absurd cc
 
@@ -52,11 +52,11 @@ pub fs_from_test : (fs : ℕ) (known : Option ℕ) → is_fs known fs ≡ true �
 fs_from_test fs None h = absurd cc
 fs_from_test fs (Some other) h = let same : other ≡ fs = grind (arith, nat_tests, h) in ap (λ (x : ℕ). Some x) same
 
-delivers_is : (token : ℕ) (o : Obs) → delivers token o ≡ true → (attach : ℕ) × (packet : Packet) × (o ≡ Delivered token attach packet)
+pub delivers_is : (token : ℕ) (o : Obs) → delivers token o ≡ true → (attach : ℕ) × (packet : Packet) × (o ≡ Delivered token attach packet)
 delivers_is token (Delivered k attach packet) h = (attach, packet, grind (arith, nat_tests, h))
 delivers_is token _ h = absurd cc
 
-queues_as_is : (token attach : ℕ) (packet : Packet) (o : Obs) → queues_as token attach packet o ≡ true → o ≡ Queued token attach packet
+pub queues_as_is : (token attach : ℕ) (packet : Packet) (o : Obs) → queues_as token attach packet o ≡ true → o ≡ Queued token attach packet
 queues_as_is token attach packet (Queued k a p) h =
     let both = and_both (k == token && a == attach) (is_same_packet p packet) h in
     let two = and_both (k == token) (a == attach) both.0 in

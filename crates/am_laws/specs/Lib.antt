@@ -3,3 +3,4 @@ pub mod Counts
 pub mod TraceLaws
 pub mod Fold
 pub mod Tests
+pub mod Lately

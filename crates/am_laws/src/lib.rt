@@ -2,14 +2,16 @@
 //! is, and look at no world.
 #![tactic(auto)]
 
-ghost use Rattle.std.specs.Prelude.{◌≡◌, ◌↔◌, IsTrue, []};
+ghost use Rattle.std.specs.Prelude.{◌≡◌, ◌↔◌, IsTrue, [], ◌∷◌, ◌++◌, MatchOption, true, false};
 ghost use Rattle.std.specs.List.{list_any, list_all};
-ghost use Rattle.am_laws.specs.OneObservation.{is_released};
+ghost use Rattle.am_laws.specs.OneObservation.{queues};
 ghost use Rattle.am_laws.specs.TraceLaws.{Lawful};
 ghost use Rattle.am_laws.specs.Tests.{is_expiry, is_cause, ends_in_row, may_be_released, is_let_go, all_released, is_closed, is_lawful_at, are_lawful};
+ghost use Rattle.am_laws.specs.Lately.{AreUpTo, Remembers, is_lawful_lately};
 
 mod counts;
 mod one_observation;
+mod settled;
 
 use am_names::{FsId, Status, Token, Trigger, WalkerId};
 use am_state::Obs;
@@ -18,6 +20,7 @@ use counts::{
     is_in_row, is_open,
 };
 use one_observation::{closes_as, is_fs, is_released};
+use settled::{greatest_with, is_greater, settled_at};
 
 /// An open token that asks to expire the trigger is queued here.
 fn is_expiry(seen: &[Obs], trigger: &Trigger, o: &Obs) -> bool
@@ -29,28 +32,24 @@ fn is_expiry(seen: &[Obs], trigger: &Trigger, o: &Obs) -> bool
     }
 }
 
-fn are_released(row: &[Obs]) -> bool
-    ensures { result ≡ list_all is_released row.now }
+/// The token was open, and is closed here with this status.
+fn is_cause(before: &[Obs], cause: &Obs, token: Token, status: Status) -> bool
+    ensures { result ≡ is_cause before.now cause.now [] token status }
 {
-    row.iter().all(|o| is_released(o))
+    closes_as(token, &fs_of_token(token, before), status, cause) && is_open(token, before)
 }
 
-/// The token was open, and is closed here with this status; a row of releases follows.
-fn is_cause(before: &[Obs], cause: &Obs, row: &[Obs], token: Token, status: Status) -> bool
-    ensures { result ≡ is_cause before.now cause.now row.now token status }
-{
-    closes_as(token, &fs_of_token(token, before), status, cause)
-        && are_released(row)
-        && is_open(token, before)
-}
+/// These end in a row of releases, behind what closed the token with this status.
 
 fn ends_in_row(seen: &[Obs], token: Token, status: Status) -> bool
     ensures { result ≡ ends_in_row [] seen.now token status }
 {
-    for (i, o) in seen.iter().enumerate() {
-        if is_cause(&seen[..i], o, &seen[i + 1..], token, status) {
-            return true;
+    let mut rest = seen;
+    while let Some((o, before)) = rest.split_last() {
+        if !is_released(o) {
+            return is_cause(before, o, token, status);
         }
+        rest = before;
     }
     false
 }
@@ -108,31 +107,44 @@ fn is_expiring(seen: &[Obs], trigger: &Trigger) -> bool
     seen.iter().any(|o| is_expiry(seen, trigger, o))
 }
 
-/// One place of a trace, after what was seen before it.
-fn is_lawful_at(before: &[Obs], o: &Obs, rest: &[Obs]) -> bool
-    ensures { result ≡ is_lawful_at before.now o.now rest.now }
+/// Whether a packet of the token was queued, of which none is greater than the greatest.
+fn was_queued(before: &[Obs], greatest: Token, token: Token) -> bool
+    requires { AreUpTo greatest before.now }
+    ensures { result ≡ list_any (queues token) before.now }
+{
+    if is_greater(token, greatest) {
+        return false;
+    }
+    has_queued(before, token)
+}
+
+/// One place of a trace, after what was seen before it, of which the last part is what was seen
+/// lately.
+fn is_lawful_lately(before: &[Obs], lately: &[Obs], greatest: Token, o: &Obs, rest: &[Obs]) -> bool
+    requires { AreUpTo greatest before.now }
+    ensures { result ≡ is_lawful_lately before.now lately.now o.now rest.now }
 {
     match o {
-        Obs::Queued { token, .. } => !has_queued(before, *token),
-        Obs::Waits { token, .. } => is_open(*token, before),
+        Obs::Queued { token, .. } => !was_queued(before, greatest, *token),
+        Obs::Waits { token, .. } => is_open(*token, lately),
         Obs::Answered { token, .. } => {
-            is_open(*token, before)
-                && has_delivered(before, *token)
-                && all_released(before, *token, rest)
+            is_open(*token, lately)
+                && has_delivered(lately, *token)
+                && all_released(lately, *token, rest)
         }
-        Obs::Catatonic { fs } => all_closed(*fs, before, rest),
+        Obs::Catatonic { fs } => all_closed(*fs, lately, rest),
         Obs::Released {
             walker,
             token,
             status,
-        } => may_be_released(before, *walker, *token, *status),
-        Obs::Passed { trigger, .. } => !is_expiring(before, trigger),
+        } => may_be_released(lately, *walker, *token, *status),
+        Obs::Passed { trigger, .. } => !is_expiring(lately, trigger),
         Obs::Unmounted { mounts } => all_unused(before, mounts.as_slice()),
         Obs::Delivered {
             token,
             attach,
             packet,
-        } => { is_in_queue(*token, *attach, packet, before) && !has_delivered(before, *token) }
+        } => { is_in_queue(*token, *attach, packet, lately) && !has_delivered(lately, *token) }
         Obs::Entered { .. }
         | Obs::Left { .. }
         | Obs::Mounted { .. }
@@ -142,14 +154,54 @@ fn is_lawful_at(before: &[Obs], o: &Obs, rest: &[Obs]) -> bool
     }
 }
 
+/// What is kept in mind of a trace while it is judged from its front.
+#[derive(Clone, Copy)]
+struct Past {
+    /// No token that was queued before this place is open any more.
+    settled: usize,
+    /// No token that was queued is greater.
+    greatest: Token,
+}
+
+impl Past {
+    fn new() -> Past
+        ensures { Remembers result.settled result.greatest [] }
+    {
+        Past {
+            settled: 0,
+            greatest: Token(0),
+        }
+    }
+
+    /// Judges the next place, and keeps it in mind, if it is lawful.
+    fn next(self, before: &[Obs], o: &Obs, rest: &[Obs]) -> Option<Past>
+        requires { Remembers self.settled self.greatest before.now }
+        ensures { MatchOption result
+            (is_lawful_at before.now o.now rest.now ≡ false)
+            (λ past. (is_lawful_at before.now o.now rest.now ≡ true)
+            × Remembers past.settled past.greatest (before.now ++ o.now ∷ [])) }
+    {
+        let settled = settled_at(self.settled, before, o);
+        if !is_lawful_lately(before, &before[settled..], self.greatest, o, rest) {
+            return None;
+        }
+        Some(Past {
+            settled,
+            greatest: greatest_with(self.greatest, o),
+        })
+    }
+}
+
 /// Each place of a trace.
 fn are_lawful(trace: &[Obs]) -> bool
     ensures { result ≡ are_lawful [] trace.now }
 {
+    let mut past = Past::new();
     for (i, o) in trace.iter().enumerate() {
-        if !is_lawful_at(&trace[..i], o, &trace[i + 1..]) {
+        let Some(next) = past.next(&trace[..i], o, &trace[i + 1..]) else {
             return false;
-        }
+        };
+        past = next;
     }
     true
 }
