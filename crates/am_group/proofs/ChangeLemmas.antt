@@ -1,16 +1,17 @@
 -- The law of receivers for each change, and that each keeps the invariant.
-use Rattle.std.proofs.Common.{◌≡◌, ◌⊎◌, ℕ, Bool, true, false, cond, List, Option, Some, None, refl, sym, ap, inl, inr, ◌∙◌}
+use Rattle.std.proofs.Common.{◌≡◌, ◌⊎◌, ℕ, Bool, true, false, cond, List, Option, Some, None, refl, sym, ap, subst, inl, inr, ◌∙◌}
 use Rattle.std.specs.Prelude.{map, option_map, is_some, not, ◌==◌}
 use Rattle.am_names.specs.declared.row.MemberRow.{MemberRow}
 use Rattle.am_names.specs.declared.row.GroupRow.{GroupRow}
 use Rattle.am_names.specs.PeerGroups.{PeerGroups}
 use Rattle.am_group.specs.Propagation.{member_row, group_row, group_in, slave_in, master_in, group_of, master_of_group}
-use Rattle.am_group.specs.Changes.{settled, slave_from, slave_row, at_row, private_row, unbindable_row, with_row, made_slave, made_private, made_unbindable, with_only, without}
-use Rattle.am_group.specs.Invariant.{RiseFrom, IsGroup, IsMaster, IsOrderly, IsSound, AddsNoReceivers}
+use Rattle.am_group.specs.Changes.{settled, left, slave_from, slave_row, at_row, private_row, unbindable_row, with_row, made_slave, made_private, made_unbindable, with_only, without}
+use Rattle.am_group.specs.Invariant.{RiseFrom, RiseBy, IsGroup, IsMaster, IsOrderly, IsSound, AddsNoReceivers}
 use Rattle.am_group.proofs.ReceiveLemmas.{home_where, home_of}
 use Rattle.am_group.proofs.LookupLemmas.{find_map_same, find_filter, RiseFrom-map, RiseFrom-filter}
 use Rattle.am_group.proofs.SettleLemmas.{leads_same, settled_sound}
 use Rattle.am_group.proofs.LawLemmas.{BringsNoneUnder, law_from_under, none_under-settled}
+use Rattle.am_group.proofs.ClearLemmas.{cleared_sound, none_under-cleared}
 
 -- rows leave groups, masters and homes, or stay: nothing is named that was not named by them
 pub record Thins (old : PeerGroups) (new : PeerGroups) : Type 0 where
@@ -30,6 +31,7 @@ same_named old new thin g = ap (λ (rows : List GroupRow). is_some (group_row ro
 pub thin_orderly : (old new : PeerGroups) → Thins old new → IsOrderly old → IsOrderly new
 thin_orderly old new thin orderly = record {
   rising = thin.rising;
+  groups_rising = subst (λ (rows : List GroupRow). RiseBy (λ (r : GroupRow). r.group) 0 rows) (sym thin.same_groups) orderly.groups_rising;
   group_named = λ m g e. same_named old new thin g ∙ orderly.group_named m g (thin.groups_stay m g e);
   master_named = named;
   down = λ h g e. orderly.down h g (sym (same_masters old new thin h) ∙ e);
@@ -55,15 +57,20 @@ thin_under old new thin b c g stands_b stands_c other in_g under = (
   },
 )
 
--- the law and the invariant, for a change that is a thinning, settled
+-- the law and the invariant, for a change that is a thinning, after which masters are lifted and
+-- emptied groups go
 pub record KeepsLaw (old : PeerGroups) (new : PeerGroups) : Type 0 where
   pub sound : IsSound new
   pub law : AddsNoReceivers old new
 
-pub thinned : (old new : PeerGroups) → Thins old new → IsSound old → KeepsLaw old (settled new)
+pub thinned :
+    (old new : PeerGroups) → Thins old new → IsSound old → KeepsLaw old (left old new)
 thinned old new thin sound = record {
-  sound = settled_sound new (thin_orderly old new thin sound.orderly);
-  law = law_from_under old (settled new) sound (none_under-settled old new (thin_under old new thin));
+  sound = cleared_sound old (settled new) (settled_sound new (thin_orderly old new thin sound.orderly));
+  law =
+      law_from_under old (left old new) sound
+      (none_under-cleared old old (settled new)
+      (none_under-settled old new (thin_under old new thin)));
 }
 
 -- one row changes to what names nothing new

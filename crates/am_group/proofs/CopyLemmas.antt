@@ -3,16 +3,16 @@ use Rattle.std.proofs.Common.{◌≡◌, ◌≢◌, ◌≤◌, ◌<◌, ◌+◌,
 use Rattle.std.specs.Prelude.{filter, map, not, nat_lt, is_some, option_map, ◌==◌}
 use Rattle.std.specs.Option.{option_or}
 use Rattle.std.proofs.lemmas.List.Folds.{list_any-append}
-use Rattle.std.proofs.lemmas.Bool.{eqb-true, eq-eqb, ne_eqb, cases_eq, and_parts, and_from, ltb-true, ltb-false}
+use Rattle.std.proofs.lemmas.Bool.{eqb-true, eq-eqb, ne_eqb, cases_eq, and_parts, and_from, or_cases, ltb-true, ltb-false}
 use Rattle.am_names.specs.declared.row.MemberRow.{MemberRow}
 use Rattle.am_names.specs.declared.row.GroupRow.{GroupRow}
 use Rattle.am_names.specs.PeerGroups.{PeerGroups}
 use Rattle.am_group.specs.Propagation.{member_row, group_row, slave_in, group_of, master_of_group, Receives}
 use Rattle.am_group.specs.Changes.{is_just, has_members}
 use Rattle.am_group.specs.Copies.{added, has_receiver, receiving_groups, rank, stand_in, copy_row, copies_from, group_copies, copied}
-use Rattle.am_group.specs.Invariant.{RiseFrom, IsGroup, IsMaster, HasMembers, IsSound}
+use Rattle.am_group.specs.Invariant.{RiseFrom, RiseBy, IsGroup, IsMaster, HasMembers, IsSound}
 use Rattle.am_group.proofs.ReceiveLemmas.{LeadsUp, IsUnder, under_from_way, reached_from_under}
-use Rattle.am_group.proofs.LookupLemmas.{found_passes, members_from_test}
+use Rattle.am_group.proofs.LookupLemmas.{found_passes, members_from_test, RiseBy-filter, groups_follow}
 use Rattle.am_group.proofs.ChangeLemmas.{KeepsLaw}
 use Rattle.am_group.proofs.ScanLemmas.{has, any_has, has_any, has-filter, has-from_filter, or_left, or_right, just_same, just_self}
 use Rattle.am_group.proofs.AddLemmas.{NamesWell, added_keeps, old_is_group, groups_or}
@@ -146,6 +146,24 @@ some_or : (o p : Option GroupRow) → is_some p ≡ true → is_some (option_or 
 some_or None p e = e
 some_or (Some r) p e = refl
 
+-- numbers that rise are not below the first
+all_above :
+    (low : ℕ) (gs : List ℕ) → RiseBy (λ (g : ℕ). g) low gs → (h : ℕ) → has h gs ≡ true → low ≤ h
+all_above low [] rises h e = absurd cc
+all_above low (g ∷ gs) rises h e = ⊎_elim
+    (λ same. let at : h ≡ g = eqb-true h g same in let first : low ≤ g = rises.0 in omega arith)
+    (λ later.
+    let first : low ≤ g = rises.0 in
+    let rest : g + 1 ≤ h = all_above (g + 1) gs rises.1 h later in
+    omega arith)
+    (or_cases (eqb h g) (has h gs) e)
+
+numbers_rise :
+    (low : ℕ) (rows : List GroupRow) → RiseBy (λ (r : GroupRow). r.group) low rows →
+    RiseBy (λ (g : ℕ). g) low (map (λ (r : GroupRow). r.group) rows)
+numbers_rise low [] rises = tt
+numbers_rise low (r ∷ rows) rises = (rises.0, numbers_rise (r.group + 1) rows rises.1)
+
 module _ (s : PeerGroups) (sound : IsSound s) (b own : ℕ) (in_own : group_of s b ≡ Some own) (receivers : List ℕ) (exact : (r : ℕ) → (has r receivers ≡ true) ↔ Receives s b r) (new number : ℕ) (new_there : IsGroup s new) (above : (m : ℕ) → is_some (member_row s.members m) ≡ true → m < number) where
   abbrev groups : List ℕ
   groups = receiving_groups s receivers own
@@ -264,6 +282,38 @@ module _ (s : PeerGroups) (sound : IsSound s) (b own : ℕ) (in_own : group_of s
           let less : rank m (receiving_groups s receivers own) < rank h (receiving_groups s receivers own) = rank_less m h (sound.orderly.down h m up) (receiving_groups s receivers own) there in
           subst (λ (x : ℕ). x < stand h) (sym (stand_other m (not_own m there))) (subst (λ (x : ℕ). s.last_group + 1 + rank m (receiving_groups s receivers own) < x) (sym at) (omega arith))
 
+  -- of the groups in rising order the stand-ins rise
+  stands_rise :
+      (low least : ℕ) (gs : List ℕ) → RiseBy (λ (g : ℕ). g) low gs →
+      ((g : ℕ) → has g gs ≡ true → has g (receiving_groups s receivers own) ≡ true) →
+      ((g : ℕ) → has g gs ≡ true → least ≤ stand g) →
+      RiseBy (λ (r : GroupRow). r.group) least (group_copies (stand_in own new s.last_group (receiving_groups s receivers own)) s gs)
+  stands_rise low least [] rises among above_least = tt
+  stands_rise low least (g ∷ gs) rises among above_least = (
+    above_least g (or_left (eqb g g) (has g gs) (eq-eqb g g refl)),
+    stands_rise (g + 1) (stand g + 1) gs rises.1 (λ h e. among h (or_right (eqb h g) (has h gs) e)) next,
+  )
+    where
+      first : has g (receiving_groups s receivers own) ≡ true
+      first = among g (or_left (eqb g g) (has g gs) (eq-eqb g g refl))
+
+      next : (h : ℕ) → has h gs ≡ true → stand g + 1 ≤ stand h
+      next h e =
+          let there : has h (receiving_groups s receivers own) ≡ true = among h (or_right (eqb h g) (has h gs) e) in
+          let higher : g + 1 ≤ h = all_above (g + 1) gs rises.1 h e in
+          let less : rank g (receiving_groups s receivers own) < rank h (receiving_groups s receivers own) = rank_less g h (omega arith) (receiving_groups s receivers own) first in
+          subst (λ (x : ℕ). stand g + 1 ≤ x) (sym (stand_other h (not_own h there)))
+          (subst (λ (x : ℕ). x + 1 ≤ s.last_group + 1 + rank h (receiving_groups s receivers own)) (sym (stand_other g (not_own g first))) (omega arith))
+
+  copied_groups_rising : RiseBy (λ (r : GroupRow). r.group) 0 (s.groups ++ made)
+  copied_groups_rising =
+      groups_follow 0 (s.last_group + 1) s.groups made sound.orderly.groups_rising (omega arith)
+      (λ h is_group. let le : h ≤ s.last_group = sound.orderly.fresh h is_group in omega arith)
+      (stands_rise 0 (s.last_group + 1) (receiving_groups s receivers own)
+      (RiseBy-filter (λ (g : ℕ). g) (λ g. not (g == own) && has_receiver s receivers g) 0 (map (λ row. row.group) s.groups) (numbers_rise 0 s.groups sound.orderly.groups_rising))
+      (λ g e. e)
+      (λ g e. subst (λ (x : ℕ). s.last_group + 1 ≤ x) (sym (stand_other g (not_own g e))) (omega arith)))
+
   row_found : (m : ℕ) (r : MemberRow) → member_row rows m ≡ Some r → ((r.group ≡ Some new) × (r.master ≡ None)) ⊎ ((x : ℕ) × (has x receivers ≡ true) × (n : ℕ) × (r ≡ copy_row stand n (group_of s x) (slave_in (member_row s.members x))))
   row_found m r e = go (number == m) e
     where
@@ -274,6 +324,7 @@ module _ (s : PeerGroups) (sound : IsSound s) (b own : ℕ) (in_own : group_of s
   copied_well : NamesWell s rows made last
   copied_well = record {
     rising = copied_rising;
+    groups_rising = copied_groups_rising;
     row_group = λ m g r found e. ⊎_elim
         (λ first. subst (λ (x : ℕ). IsGroup (added rows made last s) x) (some_same (sym first.0 ∙ e)) (old_is_group s rows made last new new_there))
         (λ copy.

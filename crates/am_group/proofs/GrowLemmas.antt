@@ -6,7 +6,7 @@ use Rattle.am_names.specs.declared.row.MemberRow.{MemberRow}
 use Rattle.am_names.specs.declared.row.GroupRow.{GroupRow}
 use Rattle.am_names.specs.PeerGroups.{PeerGroups}
 use Rattle.am_group.specs.Propagation.{member_row, group_row, group_in, slave_in, master_in, group_of, master_of_group}
-use Rattle.am_group.specs.Invariant.{RiseFrom, IsGroup, IsMaster, HasMembers, IsOrderly, IsSound, AddsNoReceivers}
+use Rattle.am_group.specs.Invariant.{RiseFrom, RiseBy, IsGroup, IsMaster, HasMembers, IsOrderly, IsSound, AddsNoReceivers}
 use Rattle.am_group.proofs.ReceiveLemmas.{LeadsUp, home_where, home_of}
 use Rattle.am_group.proofs.LawLemmas.{BringsNoneUnder, law_from_under}
 use Rattle.am_group.proofs.ChangeLemmas.{KeepsLaw}
@@ -18,6 +18,7 @@ has_of (Some r) p e = refl
 -- what comes names groups that are there, with lower masters that have members
 pub record NamesWell (s t : PeerGroups) (new_row : ℕ → Option MemberRow) (new_group : ℕ → Option GroupRow) : Type 0 where
   pub rising : RiseFrom 0 t.members
+  pub groups_rising : RiseBy (λ (r : GroupRow). r.group) 0 t.groups
   pub row_group : (m g : ℕ) (r : MemberRow) → new_row m ≡ Some r → r.group ≡ Some g → IsGroup t g
   pub row_master : (m g : ℕ) (r : MemberRow) → new_row m ≡ Some r → r.master ≡ Some g → IsGroup t g × HasMembers t g
   pub group_master : (h g : ℕ) (r : GroupRow) → new_group h ≡ Some r → r.master ≡ Some g → (g < h) × IsGroup t g × HasMembers t g
@@ -117,6 +118,7 @@ module _ (s t : PeerGroups) (new_row : ℕ → Option MemberRow) (new_group : �
     sound = record {
       orderly = record {
         rising = well.rising;
+        groups_rising = well.groups_rising;
         group_named = λ m g e. ⊎_elim
             (λ old. old_is_group g (sound.orderly.group_named m g (sym (ap group_in old.1) ∙ e)))
             (λ new. let row = group_in_some (new_row m) g (sym (ap group_in new) ∙ e) in well.row_group m g row.0 row.1 row.2)

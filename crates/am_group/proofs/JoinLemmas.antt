@@ -12,7 +12,7 @@ use Rattle.am_group.specs.Members.{may_be_master}
 use Rattle.am_group.specs.Copies.{added}
 use Rattle.am_group.specs.Invariant.{RiseFrom, IsGroup, IsMaster, HasMembers, IsSound}
 use Rattle.am_group.proofs.ChangeLemmas.{KeepsLaw}
-use Rattle.am_group.proofs.LookupLemmas.{members_from_test}
+use Rattle.am_group.proofs.LookupLemmas.{members_from_test, groups_follow}
 use Rattle.am_group.proofs.CopyLemmas.{members_follow}
 use Rattle.am_group.proofs.AddLemmas.{added_keeps, old_member, old_is_group}
 
@@ -30,6 +30,11 @@ one_found row r h e = go (row.group == h) refl e
 pub with_group_keeps : (s : PeerGroups) → IsSound s → (master : Option ℕ) → ((g : ℕ) → master ≡ Some g → HasMembers s g) → KeepsLaw s (with_group master s)
 with_group_keeps s sound master known = subst (λ (xs : List MemberRow). KeepsLaw s (record { members = xs; groups = s.groups ++ (record { group = s.last_group + 1; master = master }) ∷ []; last_group = s.last_group + 1 })) (append-nil s.members) (added_keeps s [] ((record { group = s.last_group + 1; master = master }) ∷ []) (s.last_group + 1) sound (record {
   rising = rw append-nil sound.orderly.rising;
+  groups_rising =
+      groups_follow 0 (s.last_group + 1) s.groups ((record { group = s.last_group + 1; master = master }) ∷ [])
+      sound.orderly.groups_rising (omega arith)
+      (λ h is_group. let le : h ≤ s.last_group = sound.orderly.fresh h is_group in omega arith)
+      (omega arith, tt);
   row_group = λ m g r found e. absurd cc;
   row_master = λ m g r found e. absurd cc;
   group_master = λ h g r found e.
@@ -53,6 +58,7 @@ pub joined_keeps : (s : PeerGroups) → IsSound s → (ms : List MemberRow) (num
     KeepsLaw s (added ms [] s.last_group s)
 joined_keeps s sound ms number rises above grouped mastered = added_keeps s ms [] s.last_group sound (record {
   rising = members_follow 0 number s.members ms sound.orderly.rising (omega arith) above rises;
+  groups_rising = rw append-nil sound.orderly.groups_rising;
   row_group = λ m g r found e. let member = grouped m g r found e in old_is_group s ms [] s.last_group g (sound.orderly.group_named member.0 g member.1);
   row_master = λ m g r found e. ⊎_elim
       (λ member. (old_is_group s ms [] s.last_group g (sound.orderly.group_named member.0 g member.1), old_member s ms [] s.last_group g member))

@@ -1,11 +1,11 @@
 -- The lift, a step at a time.
 use Rattle.std.proofs.Common.{◌≡◌, ◌<◌, ℕ, zero, suc, true, false, List, [], ◌∷◌, Option, Some, None, refl, sym, ap, ◌∙◌, arith}
-use Rattle.std.specs.Prelude.{find, map}
+use Rattle.std.specs.Prelude.{find, map, filter}
 use Rattle.am_names.specs.declared.row.MemberRow.{MemberRow}
 use Rattle.am_names.specs.declared.row.GroupRow.{GroupRow}
 use Rattle.am_names.specs.PeerGroups.{PeerGroups}
 use Rattle.am_group.specs.Propagation.{master_of_group}
-use Rattle.am_group.specs.Changes.{has_members, up_within, up, lifted, lifted_member, lifted_group, settled}
+use Rattle.am_group.specs.Changes.{has_members, up_within, up, lifted, lifted_member, lifted_group, settled, is_kept, left}
 use Rattle.am_group.specs.Invariant.{IsOrderly}
 
 abbrev pub height : Option ℕ → ℕ
@@ -48,6 +48,9 @@ height_falls s orderly g = go (master_of_group s g) refl
 -- lifted rows put together
 pub put_together : (raw : PeerGroups) (members : List MemberRow) (groups : List GroupRow) → members ≡ map (lifted_member raw) raw.members → groups ≡ map (lifted_group raw) raw.groups → (record { members = members; groups = groups; last_group = raw.last_group }) ≡ settled raw
 put_together raw members groups a b = rw (a, b) refl
+
+pub left_together : (old raw : PeerGroups) (members : List MemberRow) (lifted kept : List GroupRow) → members ≡ map (lifted_member raw) raw.members → lifted ≡ map (lifted_group raw) raw.groups → kept ≡ filter (λ row. is_kept old.members members row.group) lifted → (record { members = members; groups = kept; last_group = raw.last_group }) ≡ left old raw
+left_together old raw members lifted kept a b e = rw (e, b, a) refl
 
 -- rows that are those of a state
 pub same_state : (s : PeerGroups) (members : List MemberRow) (groups : List GroupRow) (last : ℕ) → members ≡ s.members → groups ≡ s.groups → last ≡ s.last_group → (record { members = members; groups = groups; last_group = last }) ≡ s

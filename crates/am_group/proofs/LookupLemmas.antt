@@ -1,12 +1,13 @@
 -- Look-ups by number after rows are mapped, filtered or pushed.
-use Rattle.std.proofs.Common.{◌≡◌, ◌≤◌, ◌<◌, ◌+◌, ℕ, Bool, true, false, ◌||◌, cond, List, [], ◌∷◌, Option, Some, None, refl, ap, subst, arith}
-use Rattle.std.specs.Prelude.{find, filter, map, option_map, ◌==◌}
-use Rattle.std.proofs.lemmas.Bool.{eqb-true}
+use Rattle.std.proofs.Common.{◌≡◌, ◌≤◌, ◌<◌, ◌+◌, ℕ, Bool, true, false, ◌||◌, cond, List, [], ◌∷◌, ◌++◌, Option, Some, None, refl, ap, subst, arith}
+use Rattle.std.specs.Prelude.{find, filter, map, option_map, is_some, ◌==◌}
+use Rattle.std.proofs.lemmas.Bool.{eqb-true, eq-eqb}
 use Rattle.am_names.specs.declared.row.MemberRow.{MemberRow}
+use Rattle.am_names.specs.declared.row.GroupRow.{GroupRow}
 use Rattle.am_names.specs.PeerGroups.{PeerGroups}
-use Rattle.am_group.specs.Propagation.{member_row, group_in}
+use Rattle.am_group.specs.Propagation.{member_row, group_row, group_in}
 use Rattle.am_group.specs.Changes.{is_just, has_members}
-use Rattle.am_group.specs.Invariant.{RiseFrom, HasMembers}
+use Rattle.am_group.specs.Invariant.{RiseFrom, RiseBy, HasMembers}
 
 -- rows mapped by what keeps their number
 pub find_map_same : {R : Type 0} (key : R → ℕ) (k : ℕ) (f : R → R) → ((r : R) → key (f r) ≡ key r) → (rows : List R) → find (λ r. key r == k) (map f rows) ≡ option_map f (find (λ r. key r == k) rows)
@@ -65,6 +66,57 @@ RiseFrom-filter keeps low (row ∷ rows) rises = go (keeps row) (RiseFrom-filter
     go : (b : Bool) → RiseFrom (row.mount + 1) (filter keeps rows) → RiseFrom low (cond b (row ∷ filter keeps rows) (filter keeps rows))
     go true ih = (rises.0, ih)
     go false ih = let first : low ≤ row.mount = rises.0 in RiseFrom-lower low (row.mount + 1) (filter keeps rows) (omega arith) ih
+
+-- the same of any rows and their numbers
+pub RiseBy-map :
+    {R : Type 0} (number : R → ℕ) (f : R → R) → ((r : R) → number (f r) ≡ number r) →
+    (low : ℕ) (rows : List R) → RiseBy number low rows → RiseBy number low (map f rows)
+RiseBy-map number f same low [] rises = tt
+RiseBy-map number f same low (row ∷ rows) rises =
+    (rw (same row) rises.0, rw (same row) (RiseBy-map number f same (number row + 1) rows rises.1))
+
+pub RiseBy-lower :
+    {R : Type 0} (number : R → ℕ) (low high : ℕ) (rows : List R) →
+    low ≤ high → RiseBy number high rows → RiseBy number low rows
+RiseBy-lower number low high [] le rises = tt
+RiseBy-lower number low high (row ∷ rows) le rises =
+    let first : high ≤ number row = rises.0 in
+    (omega arith, rises.1)
+
+pub RiseBy-filter :
+    {R : Type 0} (number : R → ℕ) (keeps : R → Bool) (low : ℕ) (rows : List R) →
+    RiseBy number low rows → RiseBy number low (filter keeps rows)
+RiseBy-filter number keeps low [] rises = tt
+RiseBy-filter {R} number keeps low (row ∷ rows) rises =
+    go (keeps row) (RiseBy-filter number keeps (number row + 1) rows rises.1)
+  where
+    go :
+        (b : Bool) → RiseBy number (number row + 1) (filter keeps rows) →
+        RiseBy number low (cond b (row ∷ filter keeps rows) (filter keeps rows))
+    go true ih = (rises.0, ih)
+    go false ih =
+        let first : low ≤ number row = rises.0 in
+        RiseBy-lower number low (number row + 1) (filter keeps rows) (omega arith) ih
+
+-- rows that follow rise too
+pub groups_follow :
+    (low c : ℕ) (xs ys : List GroupRow) → RiseBy (λ (r : GroupRow). r.group) low xs → low ≤ c →
+    ((h : ℕ) → is_some (group_row xs h) ≡ true → h < c) →
+    RiseBy (λ (r : GroupRow). r.group) c ys → RiseBy (λ (r : GroupRow). r.group) low (xs ++ ys)
+groups_follow low c [] ys rises le below more =
+    RiseBy-lower (λ (r : GroupRow). r.group) low c ys le more
+groups_follow low c (x ∷ xs) ys rises le below more =
+    let here : x.group < c = below x.group (rw (eq-eqb x.group x.group refl) refl) in (
+      rises.0,
+      groups_follow (x.group + 1) c xs ys rises.1 (omega arith)
+          (λ h e. below h (later h (x.group == h) e)) more,
+    )
+  where
+    later :
+        (h : ℕ) (b : Bool) → is_some (group_row xs h) ≡ true →
+        is_some (cond b (Some x) (group_row xs h)) ≡ true
+    later h true e = refl
+    later h false e = e
 
 -- a row in the group is that of a member
 pub is_just_same : (g : ℕ) (o : Option ℕ) → is_just g o ≡ true → o ≡ Some g

@@ -168,6 +168,7 @@ module _ (s : PeerGroups) (sound : IsSound s) (m : ℕ) (membership : Membership
   pub member_keeps : KeepsLaw s (with_member (row_with membership m) s)
   member_keeps = grown_keeps s (with_member (row_with membership m) s) (new_row (row_with membership m)) (λ h. None) rows_or groups_or sound (record {
     rising = between_rises (row_with membership m) 0 s.members (omega arith) sound.orderly.rising;
+    groups_rising = sound.orderly.groups_rising;
     row_group = λ c g r found e. old_group g (group_there membership g may (sym (ap (λ (x : MemberRow). x.group) (is_new c r found)) ∙ e));
     row_master = λ c g r found e.
         let member = master_peopled membership g may (sym (ap (λ (x : MemberRow). x.master) (is_new c r found)) ∙ e) in

@@ -8,7 +8,7 @@ use Rattle.am_group.specs.Propagation.{member_row, group_row, group_in, slave_in
 use Rattle.am_group.specs.Changes.{has_members, up_within, up, lifted, lifted_member, lifted_group, settled}
 use Rattle.am_group.specs.Invariant.{IsMaster, IsOrderly, IsSound}
 use Rattle.am_group.proofs.ReceiveLemmas.{LeadsUp, home_where, IsUnder}
-use Rattle.am_group.proofs.LookupLemmas.{find_map_same, found_passes, RiseFrom-map, members_from_test}
+use Rattle.am_group.proofs.LookupLemmas.{find_map_same, found_passes, RiseFrom-map, RiseBy-map, members_from_test}
 
 pub leads_append : (s : PeerGroups) (way more : List ℕ) (h n g : ℕ) → LeadsUp s way h n → LeadsUp s more n g → LeadsUp s (way ++ more) h g
 leads_append s [] more h n g here there = subst (λ (x : ℕ). LeadsUp s more x g) (sym here) there
@@ -123,6 +123,7 @@ pub settled_sound : (s : PeerGroups) → IsOrderly s → IsSound (settled s)
 settled_sound s orderly = record {
   orderly = record {
     rising = RiseFrom-map (lifted_member s) (λ r. refl) 0 s.members orderly.rising;
+    groups_rising = RiseBy-map (λ (r : GroupRow). r.group) (lifted_group s) (λ r. refl) 0 s.groups orderly.groups_rising;
     group_named = λ m g e. IsGroup-settled s g ∙ orderly.group_named m g (sym (group_of-settled s m) ∙ e);
     master_named = λ g is_master. IsGroup-settled s g ∙ orderly.master_named g (master-settled-has s g is_master).0;
     down = λ h g e.

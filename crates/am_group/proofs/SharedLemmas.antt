@@ -1,5 +1,5 @@
 -- The law of receivers for make-shared: a fresh group above which stands what stood above its one member.
-use Rattle.std.proofs.Common.{◌≡◌, ◌≤◌, ◌+◌, ◌⊎◌, ℕ, true, false, List, [], ◌∷◌, Option, Some, None, refl, sym, ap, subst, inl, inr, ⊎_elim, ◌∙◌, arith}
+use Rattle.std.proofs.Common.{◌≡◌, ◌≤◌, ◌<◌, ◌+◌, ◌⊎◌, ℕ, true, false, List, [], ◌∷◌, Option, Some, None, refl, sym, ap, subst, inl, inr, ⊎_elim, ◌∙◌, arith}
 use Rattle.std.specs.Prelude.{option_map, is_some, ◌==◌}
 use Rattle.std.specs.Option.{option_or}
 use Rattle.std.proofs.lemmas.List.Folds.{find-append}
@@ -11,7 +11,7 @@ use Rattle.am_group.specs.Propagation.{member_row, group_row, group_in, slave_in
 use Rattle.am_group.specs.Changes.{settled, at_row, with_row, with_group, shared_from, shared_row, shared_where, made_shared}
 use Rattle.am_group.specs.Invariant.{IsGroup, IsMaster, IsOrderly, IsSound}
 use Rattle.am_group.proofs.ReceiveLemmas.{LeadsUp, home_where, home_of, IsUnder}
-use Rattle.am_group.proofs.LookupLemmas.{found_passes, RiseFrom-map}
+use Rattle.am_group.proofs.LookupLemmas.{found_passes, RiseFrom-map, groups_follow}
 use Rattle.am_group.proofs.SettleLemmas.{settled_sound}
 use Rattle.am_group.proofs.LawLemmas.{BringsNoneUnder, law_from_under, none_under-settled}
 use Rattle.am_group.proofs.ChangeLemmas.{KeepsLaw, member_row-map, at_row_mount}
@@ -114,6 +114,11 @@ module _ (s : PeerGroups) (orderly : IsOrderly s) (m : ℕ) (row : MemberRow) (i
   pub shared_orderly : IsOrderly (after s m row)
   shared_orderly = record {
     rising = RiseFrom-map (at_row (shared_row (s.last_group + 1)) m) (at_row_mount (shared_row (s.last_group + 1)) m (shared_mount (s.last_group + 1))) 0 s.members orderly.rising;
+    groups_rising =
+        groups_follow 0 (s.last_group + 1) s.groups ((record { group = s.last_group + 1; master = row.master }) ∷ [])
+        orderly.groups_rising (omega arith)
+        (λ h is_group. let le : h ≤ s.last_group = orderly.fresh h is_group in omega arith)
+        (omega arith, tt);
     group_named = λ c g e. ⊎_elim
         (λ same. fresh_is_group g (some_of (sym e ∙ own_group c same)))
         (λ other. old_is_group g (orderly.group_named c g (sym (ap group_in (other_row c other)) ∙ e)))

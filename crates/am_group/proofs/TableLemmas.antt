@@ -3,16 +3,18 @@ use Rattle.std.proofs.Common.{◌≡◌, ◌<◌, ◌+◌, ℕ, Bool, true, fals
 use Rattle.std.specs.Prelude.{map, not, option_map, ◌==◌, Result, Ok, Err, OnOk}
 use Rattle.std.proofs.lemmas.Bool.{eqb-true, eq-eqb, ne_eqb}
 use Rattle.am_names.specs.declared.row.MemberRow.{MemberRow}
+use Rattle.am_names.specs.declared.row.GroupRow.{GroupRow}
 use Rattle.am_names.specs.PeerGroups.{PeerGroups}
 use Rattle.am_group.specs.declared.kind.Kind.{Kind}
 use Rattle.am_group.specs.declared.kind.Kind.TheVariants.{Shared, Slave, SharedSlave, Private, Unbindable}
 use Rattle.am_group.specs.declared.kind.Change.{Change}
 use Rattle.am_group.specs.declared.kind.Change.TheVariants.{MakeShared, MakeSlave, MakePrivate, MakeUnbindable}
-use Rattle.am_group.specs.Propagation.{member_row, group_in, slave_in, group_of, master_of_group}
-use Rattle.am_group.specs.Changes.{is_just, has_members, lifted, lifted_member, settled, slave_from, slave_row, private_row, unbindable_row, shared_row, shared_where, at_row, with_row, made_shared, changed}
+use Rattle.am_group.specs.Propagation.{member_row, group_in, slave_in, master_in, group_of, master_of_group}
+use Rattle.am_group.specs.Changes.{is_just, has_members, lifted, lifted_member, settled, cleared, left, slave_from, slave_row, private_row, unbindable_row, shared_row, shared_where, at_row, with_row, made_shared, changed}
 use Rattle.am_group.specs.Kinds.{shared_kind, lone_kind, kind_where, kind_of_row, kind_of, has_others, alone_in, is_alone, kind_after}
 use Rattle.am_group.specs.Invariant.{IsMaster, IsOrderly, IsSound}
 use Rattle.am_group.proofs.LookupLemmas.{found_passes}
+use Rattle.am_group.proofs.ClearLemmas.{test_from_member, kept_row}
 use Rattle.am_group.proofs.SettleLemmas.{member_row-settled, master-settled}
 use Rattle.am_group.proofs.LiftLemmas.{lifted_here, lifted_step}
 use Rattle.am_group.proofs.ChangeLemmas.{slave_row_thins, row_thins, thin_orderly, member_row-map, at_row_mount}
@@ -70,6 +72,25 @@ not_lifted : (raw : PeerGroups) (o : Option ℕ) → ((h : ℕ) → o ≡ Some h
 not_lifted raw None has = refl
 not_lifted raw (Some h) has = lifted_here raw h (has h refl)
 
+-- where groups go that lost their last member, each mount's state is as it was
+kind_cleared : (old s : PeerGroups) (m : ℕ) → kind_of (cleared old s) m ≡ kind_of s m
+kind_cleared old s m = go (member_row s.members m) refl
+  where
+    same_kind :
+        (row : MemberRow) (o : Option ℕ) → row.group ≡ o → member_row s.members m ≡ Some row →
+        kind_where (cleared old s) o row.master row.unbindable ≡
+        kind_where s o row.master row.unbindable
+    same_kind row None e found = refl
+    same_kind row (Some g) e found =
+        let has = test_from_member s.members m g (ap group_in found ∙ e) in
+        ap (λ (r : Option GroupRow). shared_kind (master_in r)) (kept_row old s g has)
+
+    go :
+        (o : Option MemberRow) → member_row s.members m ≡ o →
+        option_map (kind_of_row (cleared old s)) o ≡ option_map (kind_of_row s) o
+    go None e = refl
+    go (Some row) e = ap Some (same_kind row row.group refl e)
+
 module _ (s : PeerGroups) (sound : IsSound s) (m : ℕ) (row : MemberRow) (is_row : member_row s.members m ≡ Some row) where
   at : row.mount ≡ m
   at = eqb-true row.mount m (found_passes (λ (x : MemberRow). x.mount == m) s.members row is_row)
@@ -82,6 +103,10 @@ module _ (s : PeerGroups) (sound : IsSound s) (m : ℕ) (row : MemberRow) (is_ro
   kind_settled raw f same rows =
       ap (λ (o : Option MemberRow). option_map (kind_of_row (settled raw)) o) (member_row-settled raw m ∙ ap (λ (ms : List MemberRow). option_map (lifted_member raw) (member_row ms m)) rows ∙ ap (option_map (lifted_member raw)) (member_row-map (at_row f m) (at_row_mount f m same) s.members m)) ∙
       rw (is_row, eq-eqb row.mount m at) refl
+
+  -- that a group is gone which lost its last member changes no mount's state
+  kind_left : (raw : PeerGroups) → kind_of (left s raw) m ≡ kind_of (settled raw) m
+  kind_left raw = kind_cleared s (settled raw) m
 
   group_is : (o : Option ℕ) → row.group ≡ o → group_of s m ≡ o
   group_is o e = ap group_in is_row ∙ e
@@ -120,8 +145,8 @@ module _ (s : PeerGroups) (sound : IsSound s) (m : ℕ) (row : MemberRow) (is_ro
   slave_row_kind (Some g) e = slave_kind (has_others s.members m g) (master_of_group s g) g e refl refl
   slave_row_kind None e = rw (e, not_lifted (with_row slave_row m s) row.master (λ h f. others_stay slave_row m h s.members (own_master e h f))) (lone_slave row.master row.unbindable)
 
-  slave_table : kind_of (settled (with_row slave_row m s)) m ≡ Some (kind_after MakeSlave (is_alone s m) (kind_of_row s row))
-  slave_table = kind_settled (with_row slave_row m s) slave_row slave_row_thins.same_mount refl ∙ ap Some (slave_row_kind row.group refl ∙ ap (λ (o : Option ℕ). kind_after MakeSlave (alone_in s m o) (kind_of_row s row)) (sym (group_is row.group refl)))
+  slave_table : kind_of (left s (with_row slave_row m s)) m ≡ Some (kind_after MakeSlave (is_alone s m) (kind_of_row s row))
+  slave_table = kind_left (with_row slave_row m s) ∙ kind_settled (with_row slave_row m s) slave_row slave_row_thins.same_mount refl ∙ ap Some (slave_row_kind row.group refl ∙ ap (λ (o : Option ℕ). kind_after MakeSlave (alone_in s m o) (kind_of_row s row)) (sym (group_is row.group refl)))
 
   -- private and unbindable, whatever it was
   becomes_private : (alone : Bool) (k : Kind) → Private ≡ kind_after MakePrivate alone k
@@ -138,11 +163,11 @@ module _ (s : PeerGroups) (sound : IsSound s) (m : ℕ) (row : MemberRow) (is_ro
   becomes_unbindable alone Private = refl
   becomes_unbindable alone Unbindable = refl
 
-  private_table : kind_of (settled (with_row private_row m s)) m ≡ Some (kind_after MakePrivate (is_alone s m) (kind_of_row s row))
-  private_table = kind_settled (with_row private_row m s) private_row (λ r. refl) refl ∙ ap Some (becomes_private (is_alone s m) (kind_of_row s row))
+  private_table : kind_of (left s (with_row private_row m s)) m ≡ Some (kind_after MakePrivate (is_alone s m) (kind_of_row s row))
+  private_table = kind_left (with_row private_row m s) ∙ kind_settled (with_row private_row m s) private_row (λ r. refl) refl ∙ ap Some (becomes_private (is_alone s m) (kind_of_row s row))
 
-  unbindable_table : kind_of (settled (with_row unbindable_row m s)) m ≡ Some (kind_after MakeUnbindable (is_alone s m) (kind_of_row s row))
-  unbindable_table = kind_settled (with_row unbindable_row m s) unbindable_row (λ r. refl) refl ∙ ap Some (becomes_unbindable (is_alone s m) (kind_of_row s row))
+  unbindable_table : kind_of (left s (with_row unbindable_row m s)) m ≡ Some (kind_after MakeUnbindable (is_alone s m) (kind_of_row s row))
+  unbindable_table = kind_left (with_row unbindable_row m s) ∙ kind_settled (with_row unbindable_row m s) unbindable_row (λ r. refl) refl ∙ ap Some (becomes_unbindable (is_alone s m) (kind_of_row s row))
 
   -- shared: it stays so, or its fresh group has the master that it had
   stays_shared : (alone : Bool) (up : Option ℕ) → shared_kind up ≡ kind_after MakeShared alone (shared_kind up)
@@ -177,8 +202,9 @@ none_mapped : {A B : Type 0} (f : A → B) (o : Option A) → o ≡ None → opt
 none_mapped f o e = rw e refl
 
 -- a mount that isn't there is not there afterwards
-none_settled : (s : PeerGroups) (m : ℕ) (f : MemberRow → MemberRow) → ((r : MemberRow) → (f r).mount ≡ r.mount) → member_row s.members m ≡ None → kind_of (settled (with_row f m s)) m ≡ None
+none_settled : (s : PeerGroups) (m : ℕ) (f : MemberRow → MemberRow) → ((r : MemberRow) → (f r).mount ≡ r.mount) → member_row s.members m ≡ None → kind_of (left s (with_row f m s)) m ≡ None
 none_settled s m f same none =
+    kind_cleared s (settled (with_row f m s)) m ∙
     ap (λ (o : Option MemberRow). option_map (kind_of_row (settled (with_row f m s))) o) (member_row-settled (with_row f m s) m ∙ ap (option_map (lifted_member (with_row f m s))) (member_row-map (at_row f m) (at_row_mount f m same) s.members m ∙ none_mapped (at_row f m) (member_row s.members m) none))
 
 table_none : (s : PeerGroups) (m : ℕ) → member_row s.members m ≡ None → (change : Change) → kind_of (changed change m s) m ≡ None

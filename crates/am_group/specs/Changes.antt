@@ -1,6 +1,6 @@
 -- Changes of a mount's propagation (sharedsubtree.rst, 5a and 8), and what an emptied peer
 -- group leaves.
-use Rattle.std.specs.Prelude.{◌==◌, ◌+◌, ℕ, zero, suc, Bool, true, false, not, List, [], ◌∷◌, ◌++◌, map, filter, find, Option, Some, None, if◌then◌else◌}
+use Rattle.std.specs.Prelude.{◌==◌, ◌||◌, ◌+◌, ℕ, zero, suc, Bool, true, false, not, List, [], ◌∷◌, ◌++◌, map, filter, find, Option, Some, None, if◌then◌else◌}
 use Rattle.std.specs.List.{list_any}
 use Rattle.am_names.specs.declared.row.MemberRow.{MemberRow}
 use Rattle.am_names.specs.declared.row.GroupRow.{GroupRow}
@@ -90,18 +90,33 @@ shared_where (Some row) (Some group) m s = s
 shared_where (Some row) None m s =
     settled (with_row (shared_row (s.last_group + 1)) m (with_group row.master s))
 
+-- own (docs/DECISIONS.md, "A group without members is gone"):
+-- a peer group stays where it has members, or where it had none before
+abbrev pub is_kept : List MemberRow → List MemberRow → ℕ → Bool
+is_kept old new g = has_members new g || not (has_members old g)
+
+-- the peer groups that lost their last member go
+abbrev pub cleared : PeerGroups → PeerGroups → PeerGroups
+cleared old s =
+    record s { groups = filter (λ row. is_kept old.members s.members row.group) s.groups }
+
+-- the rows of a state that comes after the old one: every master is lifted, and the peer groups
+-- that lost their last member go
+abbrev pub left : PeerGroups → PeerGroups → PeerGroups
+left old raw = cleared old (settled raw)
+
 -- the four changes: the mount's row, then the masters that it leaves without members
 abbrev pub made_shared : ℕ → PeerGroups → PeerGroups
 made_shared m s = shared_where (member_row s.members m) (group_of s m) m s
 
 abbrev pub made_slave : ℕ → PeerGroups → PeerGroups
-made_slave m s = settled (with_row slave_row m s)
+made_slave m s = left s (with_row slave_row m s)
 
 abbrev pub made_private : ℕ → PeerGroups → PeerGroups
-made_private m s = settled (with_row private_row m s)
+made_private m s = left s (with_row private_row m s)
 
 abbrev pub made_unbindable : ℕ → PeerGroups → PeerGroups
-made_unbindable m s = settled (with_row unbindable_row m s)
+made_unbindable m s = left s (with_row unbindable_row m s)
 
 abbrev pub changed : Change → ℕ → PeerGroups → PeerGroups
 changed MakeShared = made_shared
@@ -118,8 +133,4 @@ abbrev pub with_only : (ℕ → Bool) → PeerGroups → PeerGroups
 with_only keeps s = record s { members = filter (λ row. keeps row.mount) s.members }
 
 abbrev pub without : (ℕ → Bool) → PeerGroups → PeerGroups
-without gone s = settled (with_only (λ m. not (gone m)) s)
-
--- the peer groups that have members are left
-abbrev pub cleared : PeerGroups → PeerGroups
-cleared s = record s { groups = filter (λ row. has_members s.members row.group) s.groups }
+without gone s = left s (with_only (λ m. not (gone m)) s)

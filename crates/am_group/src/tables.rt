@@ -1,8 +1,8 @@
 //! The rows of a change before the masters are lifted.
 
-ghost use Rattle.std.specs.Prelude.{◌≡◌, map, IfOk};
+ghost use Rattle.std.specs.Prelude.{◌≡◌, map, filter, IfOk};
 ghost use Rattle.am_group.specs.Propagation.{member_row, group_row, master_of_group};
-ghost use Rattle.am_group.specs.Changes.{is_just, has_members, lifted, lifted_member, lifted_group};
+ghost use Rattle.am_group.specs.Changes.{is_just, has_members, is_kept, lifted, lifted_member, lifted_group};
 ghost use Rattle.am_group.specs.Invariant.{RiseFrom, IsOrderly};
 ghost use Rattle.am_group.specs.Tables.{state_of};
 
@@ -44,6 +44,23 @@ pub fn has_members(members: &[MemberRow], group: GroupId) -> bool
     ensures { result ≡ has_members members.now group }
 {
     members.iter().copied().any(|row| is_just(group, row.group))
+}
+
+/// Whether the peer group stays: it has members, or it had none before.
+pub fn is_kept(old: &[MemberRow], new: &[MemberRow], group: GroupId) -> bool
+    ensures { result ≡ is_kept old.now new.now group }
+{
+    if has_members(new, group) {
+        return true;
+    }
+    !has_members(old, group)
+}
+
+/// The peer groups that lost their last member go.
+pub fn clear(groups: &mut Vec<GroupRow>, old: &[MemberRow], new: &[MemberRow])
+    ensures { groups.new.items ≡ filter (λ row. is_kept old.now new.now row.group) groups.old.items }
+{
+    groups.retain(|row| is_kept(old, new, row.group));
 }
 
 /// The peer group with its master.

@@ -2,7 +2,7 @@
 
 ghost use Rattle.std.specs.Prelude.{◌≡◌, true, not, None, IfOk, OnOk, OnErr};
 ghost use Rattle.am_names.specs.Errno.{RefusedAs};
-ghost use Rattle.am_group.specs.Changes.{settled, with_row, made_shared, made_slave, made_private, made_unbindable, changed, is_among, with_only, without};
+ghost use Rattle.am_group.specs.Changes.{settled, left, with_row, made_shared, made_slave, made_private, made_unbindable, changed, is_among, with_only, without};
 ghost use Rattle.am_group.specs.Invariant.{IsOrderly, AddsNoReceivers};
 ghost use Rattle.am_group.specs.Kinds.{FollowsTable};
 ghost use Rattle.am_group.specs.Members.{change_refusal};
@@ -10,7 +10,7 @@ ghost use Rattle.am_group.specs.Tables.{state_of, row_of, gives_up};
 
 use crate::groups::Groups;
 use crate::kind::{Change, asked, row_as};
-use crate::tables::Tables;
+use crate::tables::{Tables, clear};
 use am_names::{Errno, GroupId, GroupRow, MemberRow, MountId};
 use std::alloc::{AllocError, Global};
 
@@ -68,10 +68,25 @@ impl Groups {
         Ok(())
     }
 
+    /// Takes these rows as `settle` does, and the peer groups that lose their last member go.
+    fn settle_left(&mut self, alloc: Global, raw: Tables) -> Result<(), AllocError>
+        requires { IsOrderly (state_of raw) }
+        ensures ok { OnOk result (self.new ≡ left self.old (state_of raw)) }
+        ensures err { OnErr result (self.new ≡ self.old) }
+    {
+        let members = raw.settled_members(alloc)?;
+        let mut groups = raw.settled_groups(alloc)?;
+        clear(&mut groups, self.members.as_slice(), members.as_slice());
+        self.members = members;
+        self.groups = groups;
+        self.last_group = raw.last_group;
+        Ok(())
+    }
+
     fn give_up(&mut self, alloc: Global, change: Change, mount: MountId) -> Result<(), Errno>
         requires { gives_up change ≡ true }
         ensures refusal { RefusedAs (change_refusal change mount self.old) result }
-        ensures ok { OnOk result (self.new ≡ settled (with_row (row_of change 0) mount self.old)) }
+        ensures ok { OnOk result (self.new ≡ left self.old (with_row (row_of change 0) mount self.old)) }
         ensures err { OnErr result (self.new ≡ self.old) }
         ensures law { AddsNoReceivers self.old self.new }
     {
@@ -80,7 +95,7 @@ impl Groups {
             return Err(Errno::EINVAL);
         }
         let raw = self.with_row(alloc, change, GroupId(0), mount)?;
-        self.settle(alloc, raw)?;
+        self.settle_left(alloc, raw)?;
         Ok(())
     }
 
@@ -171,7 +186,7 @@ impl Groups {
     {
         let _members = &self.members;
         let raw = self.with_only(alloc, gone)?;
-        self.settle(alloc, raw)?;
+        self.settle_left(alloc, raw)?;
         Ok(())
     }
 

@@ -57,6 +57,7 @@ enum Call {
     IsIn(u64, u64),
     IsUnder(u64, Option<u64>),
     LastGroup(u64),
+    AreGroups(&'static [u64]),
     Members(usize),
 }
 
@@ -140,6 +141,14 @@ fn is_under(groups: &Groups, group: u64, master: Option<u64>) -> bool {
     }
 }
 
+fn are_groups(groups: &Groups, expected: &[u64]) -> bool {
+    groups
+        .groups()
+        .iter()
+        .map(|row| row.group.0)
+        .eq(expected.iter().copied())
+}
+
 /// Peer group 1 with the mounts 10 and 11, and under it peer group 2 with 20.
 fn make_two_groups(groups: &mut Groups) -> Result<(), Errno> {
     fresh(groups, None)?;
@@ -215,6 +224,7 @@ impl Table {
             Call::IsIn(mount, group) => Ok(is_in(&self.0, mount, group)),
             Call::IsUnder(group, master) => Ok(is_under(&self.0, group, master)),
             Call::LastGroup(group) => Ok(self.0.last_group() == GroupId(group)),
+            Call::AreGroups(expected) => Ok(are_groups(&self.0, expected)),
             Call::Members(count) => Ok(self.0.members().len() == count),
             _ => Ok(false),
         }

@@ -124,14 +124,17 @@ static SLAVES_OF_SLAVES: [Step<Call>; 6] = [
     Step::Does(Call::Adds(5, Part::SlaveOf(SECOND))),
 ];
 
-static ACROSS_SLAVES: [Step<Call>; 15] = [
+static ACROSS_SLAVES: [Step<Call>; 18] = [
     Step::Does(Call::Receive(2, &[3, 4, 5])),
     Step::Does(Call::Receive(4, &[5])),
     Step::Does(Call::Receive(5, &[])),
     Step::Does(Call::Receive(9, &[])),
-    // The group of 4 has lost its last member.
+    Step::Does(Call::AreGroups(&[FIRST, SECOND])),
+    // The group of 4 has lost its last member: it is gone.
     Step::Does(Call::Makes(4, Change::MakePrivate)),
-    Step::Does(Call::IsUnder(SECOND, Some(FIRST))),
+    Step::Does(Call::IsUnder(SECOND, None)),
+    Step::Does(Call::AreGroups(&[FIRST])),
+    Step::Refused(Call::Adds(6, Part::InGroup(SECOND)), Errno::EINVAL),
     Step::Does(Call::IsMember(5, Part::SlaveOf(FIRST))),
     Step::Does(Call::HasState(4, Some(Kind::Private))),
     Step::Does(Call::Receive(4, &[])),
@@ -166,17 +169,20 @@ static CHAIN: [Step<Call>; 12] = [
     Step::Does(Call::Adds(41, Part::InGroup(4))),
 ];
 
-static ALONG_THE_CHAIN: [Step<Call>; 10] = [
+static ALONG_THE_CHAIN: [Step<Call>; 13] = [
     Step::Does(Call::Receive(30, &[31, 40, 41])),
     Step::Does(Call::Receive(11, &[10, 20, 21, 30, 31, 40, 41])),
     Step::Does(Call::Receive(41, &[40])),
-    // Without the third group the fourth is under the second.
+    // Without the third group the fourth is under the second; a fresh group stays.
+    Step::Does(Call::Fresh(Some(4), 5)),
     Step::Does(Call::Leave(&[31, 7, 30])),
+    Step::Does(Call::AreGroups(&[FIRST, SECOND, 4, 5])),
     Step::Does(Call::IsUnder(4, Some(SECOND))),
     Step::Does(Call::Receive(20, &[21, 40, 41])),
     Step::Does(Call::HasState(31, None)),
     // Without the first two it has no master.
     Step::Does(Call::Leave(&[10, 11, 20, 21])),
+    Step::Does(Call::AreGroups(&[4, 5])),
     Step::Does(Call::HasState(40, Some(Kind::Shared))),
     Step::Does(Call::Members(2)),
 ];

@@ -1,0 +1,10 @@
+use Rattle.std.proofs.Common.{rules, tests}
+use Rattle.std.proofs.lemmas.Fn.{filter_same}
+use Rattle.am_names.specs.declared.row.GroupRow.{GroupRow}
+use Rattle.am_group.specs.Changes.{is_kept}
+use Rattle.am_group.proofs.tables.clear.Goals as goal
+
+pub returns : goal.returns
+returns c =
+    filter_same _ (λ (row : GroupRow). is_kept c.args.old.now c.args.new.now row.group) _
+    (λ x b q k. search (rules, tests)) _ _ c.retain.ensures.filtered
