@@ -44,7 +44,7 @@ rises_behind low (row ∷ rows) more rises =
     (λ h. rest.0 h.1, λ h. (rises.0, rest.1 h))
 
 -- what is found is not below the first number
-found_above : (low : ℕ) (rows : List MountRow) → RiseFrom low rows → (m : ℕ) (row : MountRow) → mount_row rows m ≡ Some row → low ≤ m
+pub found_above : (low : ℕ) (rows : List MountRow) → RiseFrom low rows → (m : ℕ) (row : MountRow) → mount_row rows m ≡ Some row → low ≤ m
 found_above low [] rises m row e = absurd cc
 found_above low (r ∷ rows) rises m row e = go (r.mount == m) refl e (found_above (r.mount + 1) rows rises.1 m row)
   where
@@ -169,7 +169,7 @@ position_decides m place (Some p) = (there, back)
         let same : p.place ≡ place = cc in
         and_from (p.mount == m) (pointwise bytes_eq p.place place) (eq-eqb p.mount m mount) ((pointwise_decides bytes_decides p.place place).1 same)
 
-at_decides : (m : ℕ) (place : List (List ℕ)) (row : MountRow) → Decides (is_at m place row) (IsAt m place row)
+pub at_decides : (m : ℕ) (place : List (List ℕ)) (row : MountRow) → Decides (is_at m place row) (IsAt m place row)
 at_decides m place row = position_decides m place row.mountpoint
 
 on_decides : (m : ℕ) (o : Option Position) → Decides (is_position_on m o) ((place : List (List ℕ)) × (o ≡ Some (record { mount = m; place = place })))
@@ -234,7 +234,7 @@ where_more test (r ∷ rows) (suc i) d h = rw (add-one) (go (test r) (where_more
     go true ih = ap (λ (xs : List ℕ). r.mount ∷ xs) (rw (add-one) at ih)
     go false ih = rw (add-one) at ih
 
-last_of_append : (xs : List ℕ) (b : Bool) (x : ℕ) → last_of (xs ++ cond b (x ∷ []) []) ≡ cond b (Some x) (last_of xs)
+pub last_of_append : (xs : List ℕ) (b : Bool) (x : ℕ) → last_of (xs ++ cond b (x ∷ []) []) ≡ cond b (Some x) (last_of xs)
 last_of_append xs true x = last_of_more x xs
 last_of_append xs false x = ap last_of (append-nil xs)
 

@@ -1,6 +1,9 @@
 //! Mount rows: which mounts there are, where they are mounted, and which is the top at a place.
 #![tactic(auto)]
 
+mod buckets;
+mod index;
+mod indexes;
 pub mod tree;
 
 pub use tree::Tree;

@@ -1,12 +1,17 @@
 //! The rows of all mounts.
 
-ghost use Rattle.std.specs.Prelude.{◌≡◌, ◌≤◌, ◌-◌, ◌++◌, ◌↔◌, ℕ, [], take, length, filter, not, option_map, IsTrue, IfOk, IfSome, IfNone, OnOk, OnErr};
+ghost use Rattle.std.specs.Prelude.{◌≡◌, ◌≤◌, ◌-◌, ◌++◌, ◌↔◌, ℕ, [], take, length, filter, not, option_map, find, ◌∷◌, IsTrue, IfOk, IfSome, IfNone, OnOk, OnErr};
 ghost use Rattle.std.specs.List.{Contains, slice_get};
 ghost use Rattle.std.specs.List.Sorted.{IsStrictlyIncreasing};
 ghost use Rattle.std.specs.Option.{option_copied};
+ghost use Rattle.std.specs.List.{list_any};
 ghost use Rattle.am_names.specs.Path.{IsCanonical, names_of};
-ghost use Rattle.am_mount.specs.Rows.{IsRising, next_of, mount_row, is_among, mounts_where, is_in, is_child, is_at, top_of, root_of, HasRow, IsIn, IsOn, IsTop, IsFree};
+ghost use Rattle.am_mount.specs.Found.{stands_at, stands_alone};
+ghost use Rattle.am_mount.specs.Index.{AreIndexed};
+ghost use Rattle.am_mount.specs.Rows.{last_of, IsRising, next_of, mount_row, is_among, mounts_where, is_in, is_child, is_at, top_of, root_of, HasRow, IsIn, IsOn, IsTop, IsFree};
 
+use crate::buckets::bucket;
+use crate::indexes::Indexes;
 use am_names::{MountId, MountRow, NsId};
 use std::alloc::{AllocError, Global};
 use std::marker::Model;
@@ -15,33 +20,25 @@ use std::marker::Model;
 #[derive(Drop)]
 pub struct Tree {
     rows: Vec<MountRow>,
+    indexes: Indexes,
 }
 
 impl Model for Tree {
     ghost use Rattle.std.specs.Prelude.{List};
     ghost use Rattle.am_names.specs.declared.row.MountRow.{MountRow};
-    ghost use Rattle.am_mount.specs.Rows.{IsRising};
+    ghost use Rattle.am_mount.specs.Inside.{IsOrdered};
 
     ghost Value = { List MountRow };
 
     ghost view = { λ t. t.rows.items };
 
-    ghost invariant = { λ t. IsRising t.rows.items };
+    ghost invariant = { IsOrdered };
 }
 
 fn is_among(mount: MountId, mounts: &[MountId]) -> bool
     ensures { result ≡ is_among mounts.now mount }
 {
     mounts.iter().copied().any(|other| other == mount)
-}
-
-fn is_child(mount: MountId, row: &MountRow) -> bool
-    ensures { result ≡ is_child mount row.now }
-{
-    match &row.mountpoint {
-        Some(position) => position.mount == mount,
-        None => false,
-    }
 }
 
 fn is_at(mount: MountId, place: &[u8], row: &MountRow) -> bool
@@ -84,6 +81,70 @@ fn mount_row(rows: &[MountRow], mount: MountId) -> Option<&MountRow>
     }
 }
 
+/// Whether the mount is mounted at this place of that one.
+fn stands_at(rows: &[MountRow], parent: MountId, place: &[u8], mount: MountId) -> bool
+    requires rising { IsRising rows.now }
+    requires canonical { IsCanonical place.now }
+    ensures { result ≡ stands_at rows.now parent (names_of place.now) mount }
+{
+    match mount_row(rows, mount) {
+        Some(row) => is_at(parent, place, row),
+        None => false,
+    }
+}
+
+/// The last of these mounts that is mounted at this place of that one.
+fn last_at(rows: &[MountRow], parent: MountId, place: &[u8], mounts: &[MountId]) -> Option<MountId>
+    requires rising { IsRising rows.now }
+    requires canonical { IsCanonical place.now }
+    ensures { result ≡ last_of (filter (λ m. stands_at rows.now parent (names_of place.now) m) mounts.now) }
+{
+    let mut left = mounts.len();
+    while left > 0 {
+        left -= 1;
+        let mount = mounts[left];
+        if stands_at(rows, parent, place, mount) {
+            return Some(mount);
+        }
+    }
+    None
+}
+
+/// Whether the mount is mounted nowhere.
+fn stands_alone(rows: &[MountRow], mount: MountId) -> bool
+    requires { IsRising rows.now }
+    ensures { result ≡ stands_alone rows.now mount }
+{
+    match mount_row(rows, mount) {
+        Some(row) => row.mountpoint.is_none(),
+        None => false,
+    }
+}
+
+/// The first of these mounts that is mounted nowhere.
+fn first_alone(rows: &[MountRow], mounts: &[MountId]) -> Option<MountId>
+    requires { IsRising rows.now }
+    ensures { result ≡ find (λ m. stands_alone rows.now m) mounts.now }
+{
+    mounts
+        .iter()
+        .copied()
+        .find(|mount| stands_alone(rows, *mount))
+}
+
+/// Takes the rows of these mounts out of the indexes.
+fn unlist(rows: &[MountRow], indexes: &mut Indexes, gone: &[MountId])
+    requires rising { IsRising rows.now }
+    requires indexed { AreIndexed rows.now indexes.old }
+    ensures { AreIndexed (filter (λ row. not (is_among gone.now row.mount)) rows.now) indexes.new }
+{
+    for mount in gone {
+        if let Some(row) = mount_row(rows, *mount) {
+            indexes.remove(row);
+        }
+    }
+}
+
 impl Tree {
     /// No mount.
     pub fn new(alloc: Global) -> Tree
@@ -91,6 +152,7 @@ impl Tree {
     {
         Tree {
             rows: Vec::new(alloc),
+            indexes: Indexes::new(alloc),
         }
     }
 
@@ -123,13 +185,43 @@ impl Tree {
         true
     }
 
+    /// Adds a mount whose number is above all that are there.
+    fn add(&mut self, row: MountRow) -> Result<(), AllocError>
+        requires { IsRising (self.old ++ row ∷ []) }
+        ensures ok { OnOk result (self.new ≡ self.old ++ row ∷ []) }
+        ensures err { OnErr result (self.new ≡ self.old) }
+    {
+        self.rows.reserve(1)?;
+        self.indexes.make_room(&row)?;
+        self.indexes.add(&row);
+        self.rows.push_reserved(row);
+        Ok(())
+    }
+
+    /// Takes the newest mount back.
+    fn take_one_back(&mut self)
+        ensures { self.new ≡ take (length self.old - 1) self.old }
+    {
+        if let Some(row) = self.rows.pop() {
+            self.indexes.remove(&row);
+        }
+    }
+
     /// Adds new mounts, all or none. Their numbers are above all that are there: `can_add` tells.
-    pub fn add_all(&mut self, mut rows: Vec<MountRow>) -> Result<(), AllocError>
+    pub fn add_all(&mut self, rows: Vec<MountRow>) -> Result<(), AllocError>
         requires { IsRising (self.old ++ rows.items) }
         ensures ok { OnOk result (self.new ≡ self.old ++ rows.items) }
         ensures err { OnErr result (self.new ≡ self.old) }
     {
-        self.rows.append(&mut rows)
+        let before = self.rows.len();
+        for row in rows {
+            if let Err(error) = self.add(row) {
+                let added = self.rows.len().saturating_sub(before);
+                self.take_back(added);
+                return Err(error);
+            }
+        }
+        Ok(())
     }
 
     /// Takes the newest mounts back, so many of them: those that `add_all` added last, where a
@@ -137,14 +229,16 @@ impl Tree {
     pub fn take_back(&mut self, count: usize)
         ensures { self.new ≡ take (length self.old - count) self.old }
     {
-        let left = self.rows.len().saturating_sub(count);
-        self.rows.truncate(left);
+        for _ in 0..count.min(self.rows.len()) {
+            self.take_one_back();
+        }
     }
 
     /// Removes these mounts. Of the numbers that are no mount's, nothing comes.
     pub fn remove_all(&mut self, gone: &[MountId])
         ensures { self.new ≡ filter (λ row. not (is_among gone.now row.mount)) self.old }
     {
+        unlist(self.rows.as_slice(), &mut self.indexes, gone);
         self.rows.retain(|row| !is_among(row.mount, gone));
     }
 
@@ -156,23 +250,29 @@ impl Tree {
         ensures greatest { IfSome result (IsTop self.now mount (names_of place.now)) }
         ensures free { IfNone result (IsFree self.now mount (names_of place.now)) }
     {
-        let mut top = None;
-        for row in self.rows.iter() {
-            if is_at(mount, place, row) {
-                top = Some(row.mount);
-            }
-        }
-        top
+        let mounts = self.indexes.by_place.list(bucket(mount, place));
+        last_at(self.rows.as_slice(), mount, place, mounts)
     }
 
     /// The root mount of the namespace.
     pub fn root_of(&self, ns: NsId) -> Option<MountId>
         ensures { result ≡ root_of self.now ns }
     {
-        self.rows
-            .iter()
-            .find(|row| row.ns == ns && row.mountpoint.is_none())
-            .map(|row| row.mount)
+        first_alone(self.rows.as_slice(), self.indexes.by_ns.list(ns.0 as u64))
+    }
+
+    /// Whether a mount is mounted on this one.
+    pub fn has_children(&self, mount: MountId) -> bool
+        ensures { result ≡ list_any (is_child mount) self.now }
+    {
+        !self.indexes.by_parent.list(mount.0).is_empty()
+    }
+
+    /// Whether the namespace has mounts.
+    pub fn has_mounts(&self, ns: NsId) -> bool
+        ensures { result ≡ list_any (is_in ns) self.now }
+    {
+        !self.indexes.by_ns.list(ns.0 as u64).is_empty()
     }
 
     /// The mounts that are mounted on this one, at any place.
@@ -181,13 +281,7 @@ impl Tree {
         ensures every { IfOk result (λ v. (m : ℕ) → Contains v.items m ↔ HasRow (IsOn mount) self.now m) }
         ensures rising { IfOk result (λ v. IsStrictlyIncreasing v.items) }
     {
-        let mut mounts = Vec::new(alloc);
-        for row in self.rows.iter() {
-            if is_child(mount, row) {
-                mounts.push(row.mount)?;
-            }
-        }
-        Ok(mounts)
+        Vec::from_slice(alloc, self.indexes.by_parent.list(mount.0))
     }
 
     /// The mounts of the namespace.
@@ -196,12 +290,6 @@ impl Tree {
         ensures every { IfOk result (λ v. (m : ℕ) → Contains v.items m ↔ HasRow (IsIn ns) self.now m) }
         ensures rising { IfOk result (λ v. IsStrictlyIncreasing v.items) }
     {
-        let mut mounts = Vec::new(alloc);
-        for row in self.rows.iter() {
-            if row.ns == ns {
-                mounts.push(row.mount)?;
-            }
-        }
-        Ok(mounts)
+        Vec::from_slice(alloc, self.indexes.by_ns.list(ns.0 as u64))
     }
 }

@@ -28,6 +28,10 @@ enum Call {
     RootOf(u32, Option<u64>),
     Children(u64, &'static [u64]),
     MountsOf(u32, &'static [u64]),
+    /// Whether something is mounted on the mount.
+    HasChildren(u64, bool),
+    /// Whether the namespace has mounts.
+    HasMounts(u32, bool),
 }
 
 /// The place of a path.
@@ -157,6 +161,10 @@ impl Stage for Table {
             Call::RootOf(ns, root) => Ok(is_mount(self.0.root_of(NsId(ns)), root)),
             Call::Children(mount, expected) => are_children(alloc, &self.0, mount, expected),
             Call::MountsOf(ns, expected) => are_mounts_of(alloc, &self.0, ns, expected),
+            Call::HasChildren(mount, expected) => {
+                Ok(self.0.has_children(MountId(mount)) == expected)
+            }
+            Call::HasMounts(ns, expected) => Ok(self.0.has_mounts(NsId(ns)) == expected),
         }
     }
 }
@@ -253,7 +261,7 @@ fn root_of_each_namespace(rt: HostRuntime) {
     plays(&rt, rt.alloc(), &mut table, &ROOTS);
 }
 
-static SETS: [Step<Call>; 8] = [
+static SETS: [Step<Call>; 22] = [
     Step::Does(Call::AddAll(TWO_NAMESPACES)),
     Step::Does(Call::Children(1, &[2, 3, 5, 8])),
     Step::Does(Call::Children(3, &[6])),
@@ -262,6 +270,20 @@ static SETS: [Step<Call>; 8] = [
     Step::Does(Call::MountsOf(1, &[4, 7])),
     Step::Does(Call::MountsOf(2, &[])),
     Step::Does(Call::Row(7, Some(1))),
+    Step::Does(Call::HasChildren(3, true)),
+    Step::Does(Call::HasChildren(6, false)),
+    Step::Does(Call::HasMounts(1, true)),
+    Step::Does(Call::HasMounts(2, false)),
+    Step::Does(Call::RemoveAll(&[2, 6, 7])),
+    Step::Does(Call::Children(1, &[3, 5, 8])),
+    Step::Does(Call::HasChildren(3, false)),
+    Step::Does(Call::MountsOf(0, &[1, 3, 5, 8])),
+    Step::Does(Call::MountsOf(1, &[4])),
+    Step::Does(Call::RemoveAll(&[4])),
+    Step::Does(Call::HasMounts(1, false)),
+    Step::Does(Call::TakeBack(2)),
+    Step::Does(Call::Children(1, &[3])),
+    Step::Does(Call::MountsOf(0, &[1, 3])),
 ];
 
 #[test]

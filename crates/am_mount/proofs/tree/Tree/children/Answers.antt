@@ -1,26 +1,43 @@
-use Rattle.std.proofs.Common.{◌≡◌, ◌↔◌, ℕ, List, length, sym, ap, subst, ◌∙◌, arith}
+use Rattle.std.proofs.Common.{◌≡◌, ◌↔◌, ℕ, List, sym, ap, subst, ◌∙◌}
 use Rattle.std.specs.List.{Contains}
 use Rattle.std.specs.List.Sorted.{IsStrictlyIncreasing}
-use Rattle.std.proofs.lemmas.List.{take_all}
 use Rattle.am_names.specs.declared.row.MountRow.{MountRow}
 use Rattle.am_mount.specs.Rows.{IsRising, mounts_where, is_child, HasRow, IsOn}
 use Rattle.am_mount.proofs.RowLemmas.{child_every, where_rises}
+use Rattle.am_mount.proofs.IndexLemmas.{ok_copy}
 use Rattle.am_mount.proofs.tree.Tree.children.Goals as goal
+
+pub returns-clause-exact : goal.returns-clause-exact
+returns-clause-exact c =
+    let rows = c.args.self.now in
+    let listed : c.list.result.now ≡ mounts_where (is_child c.args.mount) rows =
+    c.list.ensures ∙ c.self.invariant.indexed.by_parent c.mount.inside.0 ∙
+    ap (λ (n : ℕ). mounts_where (is_child n) c.self.inside.rows.items) c.mount.view_is ∙
+    ap (mounts_where (is_child c.args.mount)) c.self.view_is in
+    ok_copy (λ ys. ys ≡ mounts_where (is_child c.args.mount) rows) c.list.result.now c.from_slice.result
+    (listed)
+    c.from_slice.ensures.items
 
 pub returns-clause-every : goal.returns-clause-every
 returns-clause-every c =
     let rows = c.args.self.now in
-    let rises : IsRising rows = subst (λ (xs : List MountRow). IsRising xs) c.self.view_is c.self.invariant in
-    let items : c.deref-row-items.result.now ≡ rows = c.deref-row-items.ensures.value ∙ c.self.view_is in
-    let long : length c.deref-row-items.result.now ≡ length rows = ap length items in
-    let all : c.loop-row.mounts.items ≡ mounts_where (is_child c.args.mount) rows = c.loop-row.invariant ∙ ap (mounts_where (is_child c.args.mount)) (take_all c.loop-row.row-index rows (omega arith)) in
-    λ m. subst (λ (xs : List ℕ). Contains xs m ↔ HasRow (IsOn c.args.mount) rows m) (sym all) (child_every c.args.mount rows rises m)
+    let listed : c.list.result.now ≡ mounts_where (is_child c.args.mount) rows =
+    c.list.ensures ∙ c.self.invariant.indexed.by_parent c.mount.inside.0 ∙
+    ap (λ (n : ℕ). mounts_where (is_child n) c.self.inside.rows.items) c.mount.view_is ∙
+    ap (mounts_where (is_child c.args.mount)) c.self.view_is in
+    let rises : IsRising rows = subst (λ (xs : List MountRow). IsRising xs) c.self.view_is c.self.invariant.rising in
+    ok_copy (λ ys. (m : ℕ) → Contains ys m ↔ HasRow (IsOn c.args.mount) rows m) c.list.result.now c.from_slice.result
+    (λ m. subst (λ (xs : List ℕ). Contains xs m ↔ HasRow (IsOn c.args.mount) rows m) (sym listed) (child_every c.args.mount rows rises m))
+    c.from_slice.ensures.items
 
 pub returns-clause-rising : goal.returns-clause-rising
 returns-clause-rising c =
     let rows = c.args.self.now in
-    let rises : IsRising rows = subst (λ (xs : List MountRow). IsRising xs) c.self.view_is c.self.invariant in
-    let items : c.deref-row-items.result.now ≡ rows = c.deref-row-items.ensures.value ∙ c.self.view_is in
-    let long : length c.deref-row-items.result.now ≡ length rows = ap length items in
-    let all : c.loop-row.mounts.items ≡ mounts_where (is_child c.args.mount) rows = c.loop-row.invariant ∙ ap (mounts_where (is_child c.args.mount)) (take_all c.loop-row.row-index rows (omega arith)) in
-    subst (λ (xs : List ℕ). IsStrictlyIncreasing xs) (sym all) (where_rises (is_child c.args.mount) rows rises)
+    let listed : c.list.result.now ≡ mounts_where (is_child c.args.mount) rows =
+    c.list.ensures ∙ c.self.invariant.indexed.by_parent c.mount.inside.0 ∙
+    ap (λ (n : ℕ). mounts_where (is_child n) c.self.inside.rows.items) c.mount.view_is ∙
+    ap (mounts_where (is_child c.args.mount)) c.self.view_is in
+    let rises : IsRising rows = subst (λ (xs : List MountRow). IsRising xs) c.self.view_is c.self.invariant.rising in
+    ok_copy (λ ys. IsStrictlyIncreasing ys) c.list.result.now c.from_slice.result
+    (subst (λ (xs : List ℕ). IsStrictlyIncreasing xs) (sym listed) (where_rises (is_child c.args.mount) rows rises))
+    c.from_slice.ensures.items

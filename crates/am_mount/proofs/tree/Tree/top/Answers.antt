@@ -1,43 +1,67 @@
-use Rattle.std.proofs.Common.{◌≡◌, ℕ, Bool, cond, List, length, take, get_or, Option, Some, sym, ap, subst, ◌∙◌, arith}
-use Rattle.std.proofs.lemmas.List.{take_all}
-use Rattle.am_names.specs.Path.{names_of}
+use Rattle.std.proofs.Common.{◌≡◌, ℕ, List, Option, sym, ap, subst, ◌∙◌}
+use Rattle.std.specs.Prelude.{filter}
+use Rattle.am_names.specs.Path.{names_of, text_of}
 use Rattle.am_names.specs.declared.row.MountRow.{MountRow}
-use Rattle.am_mount.specs.Rows.{IsRising, top_of}
-use Rattle.am_mount.proofs.RowLemmas.{IsTopOf, top_is, top_more, some_greatest, none_free}
+use Rattle.am_mount.specs.Buckets.{bucket, is_in_bucket}
+use Rattle.am_mount.specs.Found.{stands_at}
+use Rattle.am_mount.specs.Rows.{IsRising, mounts_where, last_of, top_of}
+use Rattle.am_mount.proofs.IndexLemmas.{top_in_bucket}
+use Rattle.am_mount.proofs.RowLemmas.{IsTopOf, top_is, some_greatest, none_free}
 use Rattle.am_mount.proofs.tree.Tree.top.Goals as goal
-use Rattle.am_mount.proofs.tree.Tree.top.Goals.{then-is_at, else-is_at}
 
-pub loop-row-preserved : goal.loop-row-preserved
-loop-row-preserved c =
-    let rows = c.args.self.now in
+pub returns-clause-exact : goal.returns-clause-exact
+returns-clause-exact c =
+    let rows = c.self.inside.rows.items in
     let place = names_of c.args.place.now in
-    let items : c.deref-row-items.result.now ≡ rows = c.deref-row-items.ensures.value ∙ c.self.view_is in
-    let long : length c.deref-row-items.result.now ≡ length rows = ap length items in
-    let i = c.loop-row.row-index in
-    let row = c.row-item.result in
-    let before = top_of (take i rows) c.args.mount place in
-    let more = top_more rows c.args.mount place i row (omega arith) (c.row-item.is ∙ ap (λ (xs : List MountRow). get_or xs i row) items) in
-    elim c.if-is_at.branch [
-      | then-is_at w ↦ w.top-is ∙ sym (more ∙ ap (λ (b : Bool). cond b (Some row.mount) before) (sym c.is_at.ensures ∙ w.if-is_at.true))
-      | else-is_at w ↦ w.top-is ∙ c.loop-row.invariant ∙ sym (more ∙ ap (λ (b : Bool). cond b (Some row.mount) before) (sym c.is_at.ensures ∙ w.if-is_at.false))
-    ]
+    let mount = c.args.mount in
+    let mounts = c.list-mounts.result.now in
+    let own : mounts ≡ mounts_where (is_in_bucket (bucket mount (text_of place))) rows =
+    c.list-mounts.ensures ∙ c.self.invariant.indexed.by_place c.bucket.result ∙
+    ap (λ (b : ℕ). mounts_where (is_in_bucket b) rows) (c.bucket.ensures ∙ ap (bucket mount) c.requires.spelled) in
+    let top : c.last_at.result ≡ top_of rows mount place =
+    c.last_at.ensures ∙
+    ap (λ (xs : List MountRow). last_of (filter (λ m. stands_at xs mount place m) mounts)) c.as_slice.ensures.value ∙
+    top_in_bucket rows c.self.invariant.rising mount place mounts own in
+    let exact : c.last_at.result ≡ top_of c.args.self.now mount place =
+    top ∙ ap (λ (xs : List MountRow). top_of xs mount place) c.self.view_is in
+    exact
 
 pub returns-clause-greatest : goal.returns-clause-greatest
 returns-clause-greatest c =
-    let rows = c.args.self.now in
+    let rows = c.self.inside.rows.items in
     let place = names_of c.args.place.now in
-    let items : c.deref-row-items.result.now ≡ rows = c.deref-row-items.ensures.value ∙ c.self.view_is in
-    let long : length c.deref-row-items.result.now ≡ length rows = ap length items in
-    let rises : IsRising rows = subst (λ (xs : List MountRow). IsRising xs) c.self.view_is c.self.invariant in
-    let all : c.loop-row.top ≡ top_of rows c.args.mount place = c.loop-row.invariant ∙ ap (λ (xs : List MountRow). top_of xs c.args.mount place) (take_all c.loop-row.row-index rows (omega arith)) in
-    some_greatest rows c.args.mount place c.loop-row.top (subst (λ (o : Option ℕ). IsTopOf rows c.args.mount place o) (sym all) (top_is rows rises c.args.mount place))
+    let mount = c.args.mount in
+    let mounts = c.list-mounts.result.now in
+    let own : mounts ≡ mounts_where (is_in_bucket (bucket mount (text_of place))) rows =
+    c.list-mounts.ensures ∙ c.self.invariant.indexed.by_place c.bucket.result ∙
+    ap (λ (b : ℕ). mounts_where (is_in_bucket b) rows) (c.bucket.ensures ∙ ap (bucket mount) c.requires.spelled) in
+    let top : c.last_at.result ≡ top_of rows mount place =
+    c.last_at.ensures ∙
+    ap (λ (xs : List MountRow). last_of (filter (λ m. stands_at xs mount place m) mounts)) c.as_slice.ensures.value ∙
+    top_in_bucket rows c.self.invariant.rising mount place mounts own in
+    let exact : c.last_at.result ≡ top_of c.args.self.now mount place =
+    top ∙ ap (λ (xs : List MountRow). top_of xs mount place) c.self.view_is in
+    let rises : IsRising c.args.self.now = subst (λ (xs : List MountRow). IsRising xs) c.self.view_is c.self.invariant.rising in
+    let is : IsTopOf c.args.self.now mount place c.last_at.result =
+    subst (λ (o : Option ℕ). IsTopOf c.args.self.now mount place o) (sym exact) (top_is c.args.self.now rises mount place) in
+    some_greatest c.args.self.now mount place c.last_at.result is
 
 pub returns-clause-free : goal.returns-clause-free
 returns-clause-free c =
-    let rows = c.args.self.now in
+    let rows = c.self.inside.rows.items in
     let place = names_of c.args.place.now in
-    let items : c.deref-row-items.result.now ≡ rows = c.deref-row-items.ensures.value ∙ c.self.view_is in
-    let long : length c.deref-row-items.result.now ≡ length rows = ap length items in
-    let rises : IsRising rows = subst (λ (xs : List MountRow). IsRising xs) c.self.view_is c.self.invariant in
-    let all : c.loop-row.top ≡ top_of rows c.args.mount place = c.loop-row.invariant ∙ ap (λ (xs : List MountRow). top_of xs c.args.mount place) (take_all c.loop-row.row-index rows (omega arith)) in
-    none_free rows c.args.mount place c.loop-row.top (subst (λ (o : Option ℕ). IsTopOf rows c.args.mount place o) (sym all) (top_is rows rises c.args.mount place))
+    let mount = c.args.mount in
+    let mounts = c.list-mounts.result.now in
+    let own : mounts ≡ mounts_where (is_in_bucket (bucket mount (text_of place))) rows =
+    c.list-mounts.ensures ∙ c.self.invariant.indexed.by_place c.bucket.result ∙
+    ap (λ (b : ℕ). mounts_where (is_in_bucket b) rows) (c.bucket.ensures ∙ ap (bucket mount) c.requires.spelled) in
+    let top : c.last_at.result ≡ top_of rows mount place =
+    c.last_at.ensures ∙
+    ap (λ (xs : List MountRow). last_of (filter (λ m. stands_at xs mount place m) mounts)) c.as_slice.ensures.value ∙
+    top_in_bucket rows c.self.invariant.rising mount place mounts own in
+    let exact : c.last_at.result ≡ top_of c.args.self.now mount place =
+    top ∙ ap (λ (xs : List MountRow). top_of xs mount place) c.self.view_is in
+    let rises : IsRising c.args.self.now = subst (λ (xs : List MountRow). IsRising xs) c.self.view_is c.self.invariant.rising in
+    let is : IsTopOf c.args.self.now mount place c.last_at.result =
+    subst (λ (o : Option ℕ). IsTopOf c.args.self.now mount place o) (sym exact) (top_is c.args.self.now rises mount place) in
+    none_free c.args.self.now mount place c.last_at.result is

@@ -1,0 +1,539 @@
+-- Rows by a number that they share: one row more, one row less, and what is found of them.
+use Rattle.std.proofs.Common.{◌≡◌, ◌≤◌, ◌<◌, ◌+◌, ◌-◌, length-append, ℕ, Bool, true, false, cond, not, ◌&&◌, ◌||◌, List, [], ◌∷◌, ◌++◌, length, take, get_or, Option, Some, None, refl, sym, ap, subst, ◌∙◌, arith}
+use Rattle.std.specs.Prelude.{map, filter, find, ◌==◌, option_map, is_none, Result, Ok, Err, IfOk, Vec}
+use Rattle.std.specs.List.{list_any}
+use Rattle.std.proofs.lemmas.Bool.{eqb-true, eq-eqb, ne_eqb}
+use Rattle.std.proofs.lemmas.Bool.Decides.{nat_tests}
+use Rattle.std.proofs.lemmas.List.{take_more, take-take, length-take-le}
+use Rattle.am_names.specs.Path.{text_of}
+use Rattle.am_names.specs.declared.row.MountRow.{MountRow}
+use Rattle.am_mount.specs.Rows.{RiseFrom, IsRising, mount_row, is_among, mounts_where, is_in, is_child, is_at, last_of, top_of, root_of}
+use Rattle.am_mount.specs.Buckets.{bucket, is_position_in, is_in_bucket}
+use Rattle.am_mount.specs.Found.{passes, stands_at, stands_alone}
+use Rattle.am_mount.specs.Index.{listed, but, AreWith, AreWithout, HaveSameLists, AreIndexed}
+use Rattle.am_mount.specs.declared.indexes.Indexes.{Indexes}
+use Rattle.am_mount.proofs.RowLemmas.{found_above, at_decides, last_of_append}
+
+and_true : (b : Bool) → (b && true) ≡ b
+and_true true = refl
+and_true false = refl
+
+and_false : (b : Bool) → (b && false) ≡ false
+and_false true = refl
+and_false false = refl
+
+where_cons :
+    (t : MountRow → Bool) (r : MountRow) (rows : List MountRow) →
+    mounts_where t (r ∷ rows) ≡ cond (t r) (r.mount ∷ mounts_where t rows) (mounts_where t rows)
+where_cons t r rows = go (t r)
+  where
+    go :
+        (b : Bool) →
+        map (λ (x : MountRow). x.mount) (cond b (r ∷ filter t rows) (filter t rows)) ≡
+        cond b (r.mount ∷ mounts_where t rows) (mounts_where t rows)
+    go true = refl
+    go false = refl
+
+-- two tests that agree
+where_same :
+    (t u : MountRow → Bool) → ((r : MountRow) → t r ≡ u r) → (rows : List MountRow) →
+    mounts_where t rows ≡ mounts_where u rows
+where_same t u same [] = refl
+where_same t u same (r ∷ rows) =
+    where_cons t r rows ∙
+    ap (λ (b : Bool). cond b (r.mount ∷ mounts_where t rows) (mounts_where t rows)) (same r) ∙
+    ap (λ (xs : List ℕ). cond (u r) (r.mount ∷ xs) xs) (where_same t u same rows) ∙
+    sym (where_cons u r rows)
+
+-- a test after another
+where_both :
+    (k t : MountRow → Bool) (rows : List MountRow) →
+    mounts_where t (filter k rows) ≡ mounts_where (λ r. k r && t r) rows
+where_both k t [] = refl
+where_both k t (r ∷ rows) = go (k r) (where_both k t rows) ∙ sym (where_cons (λ x. k x && t x) r rows)
+  where
+    both : List ℕ
+    both = mounts_where (λ x. k x && t x) rows
+
+    go :
+        (b : Bool) → mounts_where t (filter k rows) ≡ both →
+        mounts_where t (cond b (r ∷ filter k rows) (filter k rows)) ≡ cond (b && t r) (r.mount ∷ both) both
+    go true ih =
+        where_cons t r (filter k rows) ∙ ap (λ (xs : List ℕ). cond (t r) (r.mount ∷ xs) xs) ih
+    go false ih = ih
+
+-- one row more
+where_snoc :
+    (t : MountRow → Bool) (rows : List MountRow) (row : MountRow) →
+    mounts_where t (rows ++ row ∷ []) ≡
+    cond (t row) (mounts_where t rows ++ row.mount ∷ []) (mounts_where t rows)
+where_snoc t [] row = where_cons t row []
+where_snoc t (r ∷ rows) row =
+    where_cons t r (rows ++ row ∷ []) ∙
+    go (t r) (t row) (mounts_where t (rows ++ row ∷ [])) (where_snoc t rows row) ∙
+    ap (λ (xs : List ℕ). cond (t row) (xs ++ row.mount ∷ []) xs) (sym (where_cons t r rows))
+  where
+    here : List ℕ
+    here = mounts_where t rows
+
+    go :
+        (b c : Bool) (xs : List ℕ) → xs ≡ cond c (here ++ row.mount ∷ []) here →
+        cond b (r.mount ∷ xs) xs ≡
+        cond c (cond b (r.mount ∷ here) here ++ row.mount ∷ []) (cond b (r.mount ∷ here) here)
+    go true true xs e = ap (λ (ys : List ℕ). r.mount ∷ ys) e
+    go true false xs e = ap (λ (ys : List ℕ). r.mount ∷ ys) e
+    go false true xs e = e
+    go false false xs e = e
+
+-- no row has the number: nothing is taken out
+but_none :
+    (x : ℕ) (t : MountRow → Bool) (rows : List MountRow) → mount_row rows x ≡ None →
+    but x (mounts_where t rows) ≡ mounts_where t rows
+but_none x t [] e = refl
+but_none x t (r ∷ rows) e = go (r.mount == x) refl e (but_none x t rows)
+  where
+    here : List ℕ
+    here = mounts_where t rows
+
+    put :
+        (r.mount == x) ≡ false → but x here ≡ here → (b : Bool) →
+        but x (cond b (r.mount ∷ here) here) ≡ cond b (r.mount ∷ here) here
+    put f ih true = rw f (ap (λ (xs : List ℕ). r.mount ∷ xs) ih)
+    put f ih false = ih
+
+    go :
+        (b : Bool) → (r.mount == x) ≡ b → cond b (Some r) (mount_row rows x) ≡ None →
+        (mount_row rows x ≡ None → but x here ≡ here) →
+        but x (mounts_where t (r ∷ rows)) ≡ mounts_where t (r ∷ rows)
+    go true f e ih = absurd cc
+    go false f e ih = ap (but x) (where_cons t r rows) ∙ put f (ih e) (t r) ∙ sym (where_cons t r rows)
+
+-- above the last number of rows that rise there is no row
+above_none :
+    (x low : ℕ) (rows : List MountRow) → RiseFrom low rows → x < low → mount_row rows x ≡ None
+above_none x low rows rises less = go (mount_row rows x) refl
+  where
+    go : (o : Option MountRow) → mount_row rows x ≡ o → mount_row rows x ≡ None
+    go None e = e
+    go (Some row) e =
+        let le : low ≤ x = found_above low rows rises x row e in
+        absurd (omega arith)
+
+-- one row less of those that are kept
+module _ (x : ℕ) (k l t : MountRow → Bool) (less : (r : MountRow) → l r ≡ (k r && not (x == r.mount))) where
+  abbrev kt : MountRow → Bool
+  kt r = k r && t r
+
+  abbrev lt : MountRow → Bool
+  lt r = l r && t r
+
+  same_kept : (r : MountRow) → (r.mount == x) ≡ false → l r ≡ k r
+  same_kept r f =
+      let other : (x == r.mount) ≡ false =
+      ne_eqb x r.mount (λ e. let same : (r.mount == x) ≡ true = eq-eqb r.mount x (sym e) in absurd cc) in
+      less r ∙ ap (λ (b : Bool). k r && not b) other ∙ and_true (k r)
+
+  not_kept : (r : MountRow) → (r.mount == x) ≡ true → l r ≡ false
+  not_kept r f =
+      let same : (x == r.mount) ≡ true = eq-eqb x r.mount (sym (eqb-true r.mount x f)) in
+      less r ∙ ap (λ (b : Bool). k r && not b) same ∙ and_false (k r)
+
+  none_less_both :
+      (rows : List MountRow) → mount_row rows x ≡ None → mounts_where lt rows ≡ mounts_where kt rows
+  none_less_both [] e = refl
+  none_less_both (r ∷ rows) e = go (r.mount == x) refl e (none_less_both rows)
+    where
+      go :
+          (b : Bool) → (r.mount == x) ≡ b → cond b (Some r) (mount_row rows x) ≡ None →
+          (mount_row rows x ≡ None → mounts_where lt rows ≡ mounts_where kt rows) →
+          mounts_where lt (r ∷ rows) ≡ mounts_where kt (r ∷ rows)
+      go true f e ih = absurd cc
+      go false f e ih =
+          where_cons lt r rows ∙
+          ap (λ (b : Bool). cond (b && t r) (r.mount ∷ mounts_where lt rows) (mounts_where lt rows)) (same_kept r f) ∙
+          ap (λ (xs : List ℕ). cond (k r && t r) (r.mount ∷ xs) xs) (ih e) ∙
+          sym (where_cons kt r rows)
+
+  some_less_both :
+      (low : ℕ) (rows : List MountRow) → RiseFrom low rows → (row : MountRow) → mount_row rows x ≡ Some row →
+      mounts_where lt rows ≡ cond (t row) (but x (mounts_where kt rows)) (mounts_where kt rows)
+  some_less_both low [] rises row e = absurd cc
+  some_less_both low (r ∷ rows) rises row e =
+      go (r.mount == x) refl e (some_less_both (r.mount + 1) rows rises.1 row)
+    where
+      here : List ℕ
+      here = mounts_where kt rows
+
+      gone :
+          (r.mount == x) ≡ true → but x here ≡ here → (b c : Bool) →
+          cond b (but x (cond (c && b) (r.mount ∷ here) here)) (cond (c && b) (r.mount ∷ here) here) ≡ here
+      gone f none true true = rw f none
+      gone f none true false = none
+      gone f none false true = refl
+      gone f none false false = refl
+
+      left :
+          (r.mount == x) ≡ false → (b c : Bool) (xs : List ℕ) → xs ≡ cond c (but x here) here →
+          cond b (r.mount ∷ xs) xs ≡
+          cond c (but x (cond b (r.mount ∷ here) here)) (cond b (r.mount ∷ here) here)
+      left f true true xs e = rw f (ap (λ (ys : List ℕ). r.mount ∷ ys) e)
+      left f true false xs e = ap (λ (ys : List ℕ). r.mount ∷ ys) e
+      left f false true xs e = e
+      left f false false xs e = e
+
+      go :
+          (b : Bool) → (r.mount == x) ≡ b → cond b (Some r) (mount_row rows x) ≡ Some row →
+          (mount_row rows x ≡ Some row → mounts_where lt rows ≡ cond (t row) (but x here) here) →
+          mounts_where lt (r ∷ rows) ≡
+          cond (t row) (but x (mounts_where kt (r ∷ rows))) (mounts_where kt (r ∷ rows))
+      go true f e ih =
+          let same : r ≡ row = cc in
+          let number : r.mount ≡ x = eqb-true r.mount x f in
+          let none : mount_row rows x ≡ None = above_none x (r.mount + 1) rows rises.1 (omega arith) in
+          where_cons lt r rows ∙
+          ap (λ (b : Bool). cond (b && t r) (r.mount ∷ mounts_where lt rows) (mounts_where lt rows)) (not_kept r f) ∙
+          none_less_both rows none ∙
+          sym (gone f (but_none x kt rows none) (t r) (k r)) ∙
+          ap (λ (xs : List ℕ). cond (t r) (but x xs) xs) (sym (where_cons kt r rows)) ∙
+          ap (λ (y : MountRow). cond (t y) (but x (mounts_where kt (r ∷ rows))) (mounts_where kt (r ∷ rows))) same
+      go false f e ih =
+          where_cons lt r rows ∙
+          ap (λ (b : Bool). cond (b && t r) (r.mount ∷ mounts_where lt rows) (mounts_where lt rows)) (same_kept r f) ∙
+          left f (k r && t r) (t row) (mounts_where lt rows) (ih e) ∙
+          ap (λ (xs : List ℕ). cond (t row) (but x xs) xs) (sym (where_cons kt r rows))
+
+  none_less :
+      (rows : List MountRow) → mount_row rows x ≡ None →
+      mounts_where t (filter l rows) ≡ mounts_where t (filter k rows)
+  none_less rows e = where_both l t rows ∙ none_less_both rows e ∙ sym (where_both k t rows)
+
+  some_less :
+      (rows : List MountRow) → IsRising rows → (row : MountRow) → mount_row rows x ≡ Some row →
+      mounts_where t (filter l rows) ≡
+      cond (t row) (but x (mounts_where t (filter k rows))) (mounts_where t (filter k rows))
+  some_less rows rises row e =
+      where_both l t rows ∙
+      some_less_both 0 rows rises row e ∙
+      ap (λ (xs : List ℕ). cond (t row) (but x xs) xs) (sym (where_both k t rows))
+
+number_found : (rows : List MountRow) (x : ℕ) (row : MountRow) → mount_row rows x ≡ Some row → row.mount ≡ x
+number_found [] x row e = absurd cc
+number_found (r ∷ rows) x row e = go (r.mount == x) refl e (number_found rows x row)
+  where
+    go :
+        (b : Bool) → (r.mount == x) ≡ b → cond b (Some r) (mount_row rows x) ≡ Some row →
+        (mount_row rows x ≡ Some row → row.mount ≡ x) → row.mount ≡ x
+    go true f e ih =
+        let same : r ≡ row = cc in
+        ap (λ (y : MountRow). y.mount) (sym same) ∙ eqb-true r.mount x f
+    go false f e ih = ih e
+
+-- the three indexes
+pub indexed_same :
+    (rows : List MountRow) (old new : Indexes) → HaveSameLists old new → AreIndexed rows old → AreIndexed rows new
+indexed_same rows old new same o = record {
+  by_ns = λ n. same.by_ns n ∙ o.by_ns n;
+  by_parent = λ n. same.by_parent n ∙ o.by_parent n;
+  by_place = λ n. same.by_place n ∙ o.by_place n;
+}
+
+pub indexed_more :
+    (rows : List MountRow) (row : MountRow) (old new : Indexes) →
+    AreWith row old new → AreIndexed rows old → AreIndexed (rows ++ row ∷ []) new
+indexed_more rows row old new more o = record {
+  by_ns = λ n. more.by_ns n ∙ next (is_in n) (listed old.by_ns n) (o.by_ns n);
+  by_parent = λ n. more.by_parent n ∙ next (is_child n) (listed old.by_parent n) (o.by_parent n);
+  by_place = λ n. more.by_place n ∙ next (is_in_bucket n) (listed old.by_place n) (o.by_place n);
+}
+  where
+    next :
+        (t : MountRow → Bool) (xs : List ℕ) → xs ≡ mounts_where t rows →
+        cond (t row) (xs ++ row.mount ∷ []) xs ≡ mounts_where t (rows ++ row ∷ [])
+    next t xs e =
+        ap (λ (ys : List ℕ). cond (t row) (ys ++ row.mount ∷ []) ys) e ∙ sym (where_snoc t rows row)
+
+module _ (x : ℕ) (k l : MountRow → Bool) (less : (r : MountRow) → l r ≡ (k r && not (x == r.mount))) (rows : List MountRow) where
+  pub indexed_none :
+      (t : Indexes) → mount_row rows x ≡ None → AreIndexed (filter k rows) t → AreIndexed (filter l rows) t
+  indexed_none t e o = record {
+    by_ns = λ n. o.by_ns n ∙ sym (none_less x k l (is_in n) less rows e);
+    by_parent = λ n. o.by_parent n ∙ sym (none_less x k l (is_child n) less rows e);
+    by_place = λ n. o.by_place n ∙ sym (none_less x k l (is_in_bucket n) less rows e);
+  }
+
+  pub indexed_less :
+      (rises : IsRising rows) (row : MountRow) (old new : Indexes) → mount_row rows x ≡ Some row →
+      AreWithout row old new → AreIndexed (filter k rows) old → AreIndexed (filter l rows) new
+  indexed_less rises row old new e w o = record {
+    by_ns = λ n. w.by_ns n ∙ next (is_in n) (listed old.by_ns n) (o.by_ns n);
+    by_parent = λ n. w.by_parent n ∙ next (is_child n) (listed old.by_parent n) (o.by_parent n);
+    by_place = λ n. w.by_place n ∙ next (is_in_bucket n) (listed old.by_place n) (o.by_place n);
+  }
+    where
+      next :
+          (t : MountRow → Bool) (xs : List ℕ) → xs ≡ mounts_where t (filter k rows) →
+          cond (t row) (but row.mount xs) xs ≡ mounts_where t (filter l rows)
+      next t xs f =
+          ap (λ (ys : List ℕ). cond (t row) (but row.mount ys) ys) f ∙
+          ap (λ (m : ℕ). cond (t row) (but m (mounts_where t (filter k rows))) (mounts_where t (filter k rows))) (number_found rows x row e) ∙
+          sym (some_less x k l t less rows rises row e)
+
+-- the last row less
+last_above : (low : ℕ) (rows : List MountRow) (row : MountRow) → RiseFrom low (rows ++ row ∷ []) → low ≤ row.mount
+last_above low [] row rises = rises.0
+last_above low (r ∷ rows) row rises =
+    let first : low ≤ r.mount = rises.0 in
+    let rest : r.mount + 1 ≤ row.mount = last_above (r.mount + 1) rows row rises.1 in
+    omega arith
+
+last_none : (low : ℕ) (rows : List MountRow) (row : MountRow) → RiseFrom low (rows ++ row ∷ []) → mount_row rows row.mount ≡ None
+last_none low [] row rises = refl
+last_none low (r ∷ rows) row rises =
+    let rest : r.mount + 1 ≤ row.mount = last_above (r.mount + 1) rows row rises.1 in
+    rw (ne_eqb r.mount row.mount (λ same. omega arith)) (last_none (r.mount + 1) rows row rises.1)
+
+but_last : (m : ℕ) (xs : List ℕ) → but m (xs ++ m ∷ []) ≡ but m xs
+but_last m [] = rw (eq-eqb m m refl) refl
+but_last m (y ∷ xs) = go (y == m) (but_last m xs)
+  where
+    go :
+        (b : Bool) → but m (xs ++ m ∷ []) ≡ but m xs →
+        cond (not b) (y ∷ but m (xs ++ m ∷ [])) (but m (xs ++ m ∷ [])) ≡ cond (not b) (y ∷ but m xs) (but m xs)
+    go true ih = ih
+    go false ih = ap (λ (ys : List ℕ). y ∷ ys) ih
+
+pub indexed_back :
+    (rows : List MountRow) (row : MountRow) (old new : Indexes) → IsRising (rows ++ row ∷ []) →
+    AreWithout row old new → AreIndexed (rows ++ row ∷ []) old → AreIndexed rows new
+indexed_back rows row old new rises w o = record {
+  by_ns = λ n. w.by_ns n ∙ next (is_in n) (listed old.by_ns n) (o.by_ns n);
+  by_parent = λ n. w.by_parent n ∙ next (is_child n) (listed old.by_parent n) (o.by_parent n);
+  by_place = λ n. w.by_place n ∙ next (is_in_bucket n) (listed old.by_place n) (o.by_place n);
+}
+  where
+    next :
+        (t : MountRow → Bool) (xs : List ℕ) → xs ≡ mounts_where t (rows ++ row ∷ []) →
+        cond (t row) (but row.mount xs) xs ≡ mounts_where t rows
+    next t xs e = ap (λ (ys : List ℕ). cond (t row) (but row.mount ys) ys) (e ∙ where_snoc t rows row) ∙ go (t row)
+      where
+        here : List ℕ
+        here = mounts_where t rows
+
+        go :
+            (b : Bool) →
+            cond b (but row.mount (cond b (here ++ row.mount ∷ []) here)) (cond b (here ++ row.mount ∷ []) here) ≡ here
+        go true = but_last row.mount here ∙ but_none row.mount t rows (last_none 0 rows row rises)
+        go false = refl
+
+-- each of these rows is found among all
+abbrev Stand : List MountRow → List MountRow → Type 0
+Stand rows [] = Unit {0}
+Stand rows (r ∷ part) = (mount_row rows r.mount ≡ Some r) × Stand rows part
+
+stand_more :
+    (low : ℕ) (r : MountRow) (rows part : List MountRow) → r.mount < low → RiseFrom low part →
+    Stand rows part → Stand (r ∷ rows) part
+stand_more low r rows [] less rises stand = tt
+stand_more low r rows (p ∷ part) less rises stand =
+    let le : low ≤ p.mount = rises.0 in
+    (rw (ne_eqb r.mount p.mount (λ same. omega arith)) (stand.0), stand_more (p.mount + 1) r rows part (omega arith) rises.1 stand.1)
+
+stand_all : (low : ℕ) (rows : List MountRow) → RiseFrom low rows → Stand rows rows
+stand_all low [] rises = tt
+stand_all low (r ∷ rows) rises =
+    (rw (eq-eqb r.mount r.mount refl) refl, stand_more (r.mount + 1) r rows rows (omega arith) rises.1 (stand_all (r.mount + 1) rows rises.1))
+
+module _ (rows : List MountRow) (p t : MountRow → Bool) where
+  passing :
+      (part : List MountRow) → Stand rows part →
+      filter (λ m. passes p rows m) (mounts_where t part) ≡ mounts_where (λ r. t r && p r) part
+  passing [] stand = refl
+  passing (r ∷ part) stand =
+      ap (filter (λ m. passes p rows m)) (where_cons t r part) ∙
+      go (t r) (passing part stand.1) ∙
+      sym (where_cons (λ x. t x && p x) r part)
+    where
+      both : List ℕ
+      both = mounts_where (λ x. t x && p x) part
+
+      rest : List ℕ
+      rest = filter (λ m. passes p rows m) (mounts_where t part)
+
+      put :
+          (a b : Bool) → a ≡ b → rest ≡ both → cond a (r.mount ∷ rest) rest ≡ cond b (r.mount ∷ both) both
+      put a b e ih =
+          ap (λ (c : Bool). cond c (r.mount ∷ rest) rest) e ∙ ap (λ (xs : List ℕ). cond b (r.mount ∷ xs) xs) ih
+
+      go :
+          (b : Bool) → rest ≡ both →
+          filter (λ m. passes p rows m) (cond b (r.mount ∷ mounts_where t part) (mounts_where t part)) ≡
+          cond (b && p r) (r.mount ∷ both) both
+      go true ih = put (passes p rows r.mount) (p r) (rw (stand.0) refl) ih
+      go false ih = ih
+
+  first_passing :
+      (part : List MountRow) → Stand rows part →
+      find (λ m. passes p rows m) (mounts_where t part) ≡
+      option_map (λ row. row.mount) (find (λ r. t r && p r) part)
+  first_passing [] stand = refl
+  first_passing (r ∷ part) stand = ap (find (λ m. passes p rows m)) (where_cons t r part) ∙ go (t r) (first_passing part stand.1)
+    where
+      rest : Option ℕ
+      rest = find (λ m. passes p rows m) (mounts_where t part)
+
+      both : Option MountRow
+      both = find (λ x. t x && p x) part
+
+      put :
+          (a b : Bool) → a ≡ b → rest ≡ option_map (λ row. row.mount) both →
+          cond a (Some r.mount) rest ≡ option_map (λ row. row.mount) (cond b (Some r) both)
+      put a true e ih = ap (λ (c : Bool). cond c (Some r.mount) rest) e
+      put a false e ih = ap (λ (c : Bool). cond c (Some r.mount) rest) e ∙ ih
+
+      go :
+          (b : Bool) → rest ≡ option_map (λ row. row.mount) both →
+          find (λ m. passes p rows m) (cond b (r.mount ∷ mounts_where t part) (mounts_where t part)) ≡
+          option_map (λ row. row.mount) (cond (b && p r) (Some r) both)
+      go true ih = put (passes p rows r.mount) (p r) (rw (stand.0) refl) ih
+      go false ih = ih
+
+-- a mount at a place is in the place's bucket
+in_bucket :
+    (m : ℕ) (place : List (List ℕ)) (r : MountRow) →
+    (is_in_bucket (bucket m (text_of place)) r && is_at m place r) ≡ is_at m place r
+in_bucket m place r = go (is_at m place r) refl
+  where
+    b : ℕ
+    b = bucket m (text_of place)
+
+    go : (at : Bool) → is_at m place r ≡ at → (is_in_bucket b r && is_at m place r) ≡ is_at m place r
+    go true e =
+        let there : r.mountpoint ≡ Some (record { mount = m; place = place }) = (at_decides m place r).0 e in
+        let own : is_in_bucket b r ≡ true = ap (is_position_in b) there ∙ eq-eqb b b refl in
+        ap (λ (c : Bool). c && is_at m place r) own
+    go false e = ap (λ (c : Bool). is_in_bucket b r && c) e ∙ and_false (is_in_bucket b r) ∙ sym e
+
+-- the top is the last mount of the bucket that stands at the place
+pub top_in_bucket :
+    (rows : List MountRow) → IsRising rows → (m : ℕ) (place : List (List ℕ)) (mounts : List ℕ) →
+    mounts ≡ mounts_where (is_in_bucket (bucket m (text_of place))) rows →
+    last_of (filter (λ x. stands_at rows m place x) mounts) ≡ top_of rows m place
+top_in_bucket rows rises m place mounts e =
+    let t = is_in_bucket (bucket m (text_of place)) in
+    ap (λ (xs : List ℕ). last_of (filter (λ x. stands_at rows m place x) xs)) e ∙
+    ap last_of (passing rows (is_at m place) t rows (stand_all 0 rows rises)) ∙
+    ap last_of (where_same (λ r. t r && is_at m place r) (is_at m place) (in_bucket m place) rows)
+
+-- the root is the first mount of the namespace that is mounted nowhere
+pub root_in_ns :
+    (rows : List MountRow) → IsRising rows → (ns : ℕ) (mounts : List ℕ) → mounts ≡ mounts_where (is_in ns) rows →
+    find (λ x. stands_alone rows x) mounts ≡ root_of rows ns
+root_in_ns rows rises ns mounts e =
+    ap (find (λ x. stands_alone rows x)) e ∙
+    first_passing rows (λ row. is_none row.mountpoint) (is_in ns) rows (stand_all 0 rows rises)
+
+-- a list is empty where no row passes
+pub any_where :
+    (t : MountRow → Bool) (rows : List MountRow) → not (length (mounts_where t rows) == 0) ≡ list_any t rows
+any_where t [] = refl
+any_where t (r ∷ rows) = ap (λ (xs : List ℕ). not (length xs == 0)) (where_cons t r rows) ∙ go (t r) (any_where t rows)
+  where
+    go :
+        (b : Bool) → not (length (mounts_where t rows) == 0) ≡ list_any t rows →
+        not (length (cond b (r.mount ∷ mounts_where t rows) (mounts_where t rows)) == 0) ≡ (b || list_any t rows)
+    go true ih = grind (arith, nat_tests)
+    go false ih = ih
+
+filter_snoc :
+    (f : ℕ → Bool) (xs : List ℕ) (x : ℕ) → filter f (xs ++ x ∷ []) ≡ filter f xs ++ cond (f x) (x ∷ []) []
+filter_snoc f [] x = refl
+filter_snoc f (y ∷ ys) x = go (f y) (filter_snoc f ys x)
+  where
+    go :
+        (b : Bool) → filter f (ys ++ x ∷ []) ≡ filter f ys ++ cond (f x) (x ∷ []) [] →
+        cond b (y ∷ filter f (ys ++ x ∷ [])) (filter f (ys ++ x ∷ [])) ≡
+        cond b (y ∷ filter f ys) (filter f ys) ++ cond (f x) (x ∷ []) []
+    go true ih = ap (λ (zs : List ℕ). y ∷ zs) ih
+    go false ih = ih
+
+-- the last that passes, one item more
+pub last_passing :
+    (f : ℕ → Bool) (xs : List ℕ) (i x : ℕ) → i < length xs → x ≡ get_or xs i x →
+    last_of (filter f (take (i + 1) xs)) ≡ cond (f x) (Some x) (last_of (filter f (take i xs)))
+last_passing f xs i x h is =
+    ap (λ (ys : List ℕ). last_of (filter f ys)) (take_more xs i x h ∙ ap (λ (y : ℕ). take i xs ++ y ∷ []) (sym is)) ∙
+    ap last_of (filter_snoc f (take i xs) x) ∙
+    last_of_append (filter f (take i xs)) (f x) x
+
+-- what holds of a list holds of its copy
+pub ok_copy :
+    {Z E : Type 0} (Q : List ℕ → Type 0) (xs : List ℕ) (r : Result (Vec ℕ Z) E) → Q xs →
+    IfOk r (λ v. v.items ≡ xs) → IfOk r (λ v. Q v.items)
+ok_copy Q xs (Ok v) q e = subst Q (sym e) q
+ok_copy Q xs (Err e) q h = tt
+
+among_append : (ys : List ℕ) (x m : ℕ) → is_among (ys ++ x ∷ []) m ≡ (is_among ys m || (x == m))
+among_append [] x m = go (x == m)
+  where
+    go : (b : Bool) → (b || false) ≡ b
+    go true = refl
+    go false = refl
+among_append (y ∷ ys) x m = go (y == m) (among_append ys x m)
+  where
+    go :
+        (b : Bool) → is_among (ys ++ x ∷ []) m ≡ (is_among ys m || (x == m)) →
+        (b || is_among (ys ++ x ∷ []) m) ≡ ((b || is_among ys m) || (x == m))
+    go true ih = refl
+    go false ih = ih
+
+among_more :
+    (gone : List ℕ) (i x : ℕ) → i < length gone → x ≡ get_or gone i x → (m : ℕ) →
+    is_among (take (i + 1) gone) m ≡ (is_among (take i gone) m || (x == m))
+among_more gone i x h is m =
+    ap (λ (ys : List ℕ). is_among ys m) (take_more gone i x h ∙ ap (λ (y : ℕ). take i gone ++ y ∷ []) (sym is)) ∙
+    among_append (take i gone) x m
+
+-- one more of those that go
+pub gone_more :
+    (gone : List ℕ) (i x : ℕ) → i < length gone → x ≡ get_or gone i x → (r : MountRow) →
+    not (is_among (take (i + 1) gone) r.mount) ≡ (not (is_among (take i gone) r.mount) && not (x == r.mount))
+gone_more gone i x h is r =
+    ap not (among_more gone i x h is r.mount) ∙ go (is_among (take i gone) r.mount) (x == r.mount)
+  where
+    go : (a b : Bool) → not (a || b) ≡ (not a && not b)
+    go true b = refl
+    go false b = refl
+
+pub all_kept : (rows : List MountRow) → filter (λ r. true) rows ≡ rows
+all_kept [] = refl
+all_kept (r ∷ rows) = ap (λ (xs : List MountRow). r ∷ xs) (all_kept rows)
+
+-- one more is taken back
+pub back_more :
+    (xs ys : List MountRow) (i : ℕ) → ys ≡ take (length xs - i) xs →
+    take (length ys - 1) ys ≡ take (length xs - (i + 1)) xs
+back_more xs ys i e =
+    let long : length ys ≡ length xs - i = ap length e ∙ length-take-le (length xs - i) xs (omega arith) in
+    ap (λ (n : ℕ). take (n - 1) ys) long ∙
+    ap (take (length xs - i - 1)) e ∙
+    take-take (length xs - i - 1) (length xs - i) xs (omega arith) ∙
+    ap (λ (n : ℕ). take n xs) (omega arith)
+
+take_front : (xs more : List MountRow) → take (length xs) (xs ++ more) ≡ xs
+take_front [] more = refl
+take_front (x ∷ xs) more = ap (λ (ys : List MountRow). x ∷ ys) (take_front xs more)
+
+-- what was added is taken back
+pub back_all :
+    (old more : List MountRow) (n : ℕ) → n ≡ length (old ++ more) - length old →
+    take (length (old ++ more) - n) (old ++ more) ≡ old
+back_all old more n e =
+    let long : length (old ++ more) ≡ length old + length more = length-append old more in
+    ap (λ (k : ℕ). take k (old ++ more)) (omega arith) ∙ take_front old more
+
+-- rising rows rise as far as they go
+pub rises_first :
+    (low : ℕ) (rows : List MountRow) (row : MountRow) (more : List MountRow) →
+    RiseFrom low (rows ++ row ∷ more) → RiseFrom low (rows ++ row ∷ [])
+rises_first low [] row more rises = (rises.0, tt)
+rises_first low (r ∷ rows) row more rises = (rises.0, rises_first (r.mount + 1) rows row more rises.1)

@@ -1,0 +1,16 @@
+use Rattle.std.proofs.Common.{ℕ, List, length, not, ap, ◌∙◌}
+use Rattle.std.specs.Prelude.{◌==◌}
+use Rattle.std.specs.List.{list_any}
+use Rattle.am_mount.specs.Rows.{is_in}
+use Rattle.am_mount.proofs.IndexLemmas.{any_where}
+use Rattle.am_mount.proofs.tree.Tree.has_mounts.Goals as goal
+
+pub returns : goal.returns
+returns c =
+    let number = c.ns.inside.0 in
+    let rows = c.self.inside.rows.items in
+    ap not c.is_empty.ensures ∙
+    ap (λ (xs : List ℕ). not (length xs == 0)) (c.list.ensures ∙ c.self.invariant.indexed.by_ns number) ∙
+    any_where (is_in number) rows ∙
+    ap (λ (n : ℕ). list_any (is_in n) rows) c.ns.view_is ∙
+    ap (list_any (is_in c.args.ns)) c.self.view_is

@@ -1,0 +1,15 @@
+use Rattle.std.proofs.Common.{◌≡◌, ◌≤◌, length, take}
+use Rattle.std.specs.Prelude.{filter}
+use Rattle.am_names.specs.Path.{names_of}
+use Rattle.am_mount.specs.Found.{stands_at}
+use Rattle.am_mount.specs.Rows.{last_of}
+use Rattle.am_mount.proofs.tree.last_at.Given as goal
+
+abbrev pub invariant-loop-left : goal.invariant-loop-left
+invariant-loop-left l =
+    (l.left ≤ length l.fn.mounts) ×
+    (last_of (filter (λ m. stands_at l.fn.rows l.fn.parent (names_of l.fn.place) m) l.fn.mounts) ≡
+    last_of (filter (λ m. stands_at l.fn.rows l.fn.parent (names_of l.fn.place) m) (take l.left l.fn.mounts)))
+
+abbrev pub decreases-loop-left : goal.decreases-loop-left
+decreases-loop-left l = l.left

@@ -1,0 +1,80 @@
+-- The mounts that share a number: a namespace, a parent, or a bucket of places.
+use Rattle.std.specs.Prelude.{◌≡◌, ◌<◌, ◌==◌, ℕ, Bool, nat_eq, not, List, [], ◌∷◌, ◌++◌, filter, Option, Some, None, Vec, if◌then◌else◌}
+use Rattle.std.specs.Vec.{vec_len, vec_capacity}
+use Rattle.indexmap.specs.IndexMap.{get}
+use Rattle.am_names.specs.declared.row.MountRow.{MountRow}
+use Rattle.am_names.specs.declared.row.Position.{Position}
+use Rattle.am_names.specs.Path.{text_of}
+use Rattle.am_mount.specs.declared.index.Index.{Index}
+use Rattle.am_mount.specs.declared.indexes.Indexes.{Indexes}
+use Rattle.am_mount.specs.Rows.{mounts_where, is_in, is_child}
+use Rattle.am_mount.specs.Buckets.{bucket, is_in_bucket}
+
+abbrev pub listed_in : {Z : Type 0} → Option (Vec ℕ Z) → List ℕ
+listed_in None = []
+listed_in (Some list) = list.items
+
+-- the mounts that have the number
+abbrev pub listed : Index → ℕ → List ℕ
+listed index n = listed_in (get nat_eq index.lists n)
+
+abbrev pub RoomIn : {Z : Type 0} → Option (Vec ℕ Z) → Type 0
+RoomIn None = ⊥
+RoomIn (Some list) = vec_len list < vec_capacity list
+
+-- there is room for one more mount that has the number
+abbrev pub HasRoom : Index → ℕ → Type 0
+HasRoom index n = RoomIn (get nat_eq index.lists n)
+
+-- the mounts but for this one
+abbrev pub but : ℕ → List ℕ → List ℕ
+but m mounts = filter (λ x. not (x == m)) mounts
+
+-- both have the same lists
+abbrev pub SameLists : Index → Index → Type 0
+SameLists old new = (n : ℕ) → listed new n ≡ listed old n
+
+-- the mount stands last in the lists of the numbers that it has
+abbrev pub AddsTo : (ℕ → Bool) → ℕ → Index → Index → Type 0
+AddsTo has m old new = (n : ℕ) → listed new n ≡ (if has n then listed old n ++ m ∷ [] else listed old n)
+
+-- the mount is in no list of the numbers that it has
+abbrev pub TakesFrom : (ℕ → Bool) → ℕ → Index → Index → Type 0
+TakesFrom has m old new = (n : ℕ) → listed new n ≡ (if has n then but m (listed old n) else listed old n)
+
+-- all three have the same lists
+pub record HaveSameLists (old new : Indexes) : Type 0 where
+  pub by_ns : SameLists old.by_ns new.by_ns
+  pub by_parent : SameLists old.by_parent new.by_parent
+  pub by_place : SameLists old.by_place new.by_place
+
+abbrev pub RoomAt : Option Position → Indexes → Type 0
+RoomAt None t = Unit {0}
+RoomAt (Some position) t =
+    HasRoom t.by_parent position.mount × HasRoom t.by_place (bucket position.mount (text_of position.place))
+
+-- there is room for the row
+abbrev pub HaveRoom : MountRow → Indexes → Type 0
+HaveRoom row t = HasRoom t.by_ns row.ns × RoomAt row.mountpoint t
+
+-- the row is in all three
+pub record AreWith (row : MountRow) (old new : Indexes) : Type 0 where
+  pub by_ns : AddsTo (λ n. is_in n row) row.mount old.by_ns new.by_ns
+  pub by_parent : AddsTo (λ n. is_child n row) row.mount old.by_parent new.by_parent
+  pub by_place : AddsTo (λ n. is_in_bucket n row) row.mount old.by_place new.by_place
+
+-- the row is in none of them
+pub record AreWithout (row : MountRow) (old new : Indexes) : Type 0 where
+  pub by_ns : TakesFrom (λ n. is_in n row) row.mount old.by_ns new.by_ns
+  pub by_parent : TakesFrom (λ n. is_child n row) row.mount old.by_parent new.by_parent
+  pub by_place : TakesFrom (λ n. is_in_bucket n row) row.mount old.by_place new.by_place
+
+-- each number has the list of the mounts whose rows pass its test
+abbrev pub IsIndex : (ℕ → MountRow → Bool) → List MountRow → Index → Type 0
+IsIndex test rows index = (n : ℕ) → listed index n ≡ mounts_where (test n) rows
+
+-- the rows by namespace, by parent and by bucket
+pub record AreIndexed (rows : List MountRow) (t : Indexes) : Type 0 where
+  pub by_ns : IsIndex is_in rows t.by_ns
+  pub by_parent : IsIndex is_child rows t.by_parent
+  pub by_place : IsIndex is_in_bucket rows t.by_place
