@@ -1,2 +1,3 @@
 pub mod UseLemmas
+pub mod IndexLemmas
 pub mod PickLemmas

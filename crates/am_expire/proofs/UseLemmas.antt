@@ -12,16 +12,16 @@ abbrev or_else : Option ℕ → Option ℕ → Option ℕ
 or_else (Some m) other = Some m
 or_else None other = other
 
-abbrev unless_at : Bool → Use → Option ℕ → Option ℕ
+abbrev pub unless_at : Bool → Use → Option ℕ → Option ℕ
 unless_at b row other = cond b (Some row.mount) other
 
-first_of : (row : Use) (rows : List Use) (w : ℕ) → mount_of (row ∷ rows) w ≡ unless_at (row.walker == w) row (mount_of rows w)
+pub first_of : (row : Use) (rows : List Use) (w : ℕ) → mount_of (row ∷ rows) w ≡ unless_at (row.walker == w) row (mount_of rows w)
 first_of row rows w = elim (row.walker == w) as (λ b. option_map (λ (r : Use). r.mount) (cond b (Some row) (find (λ (r : Use). r.walker == w) rows)) ≡ unless_at b row (mount_of rows w)) [ true ↦ refl | false ↦ refl ]
 
 zero_plus : (n : ℕ) → 0 + n ≡ n
 zero_plus n = omega arith
 
-count_first : (row : Use) (rows : List Use) (m : ℕ) → use_count (row ∷ rows) m ≡ cond (row.mount == m) 1 0 + use_count rows m
+pub count_first : (row : Use) (rows : List Use) (m : ℕ) → use_count (row ∷ rows) m ≡ cond (row.mount == m) 1 0 + use_count rows m
 count_first row rows m =
     sum_by-append (λ (r : Use). cond (r.mount == m) 1 0) (row ∷ []) rows
     ∙ ap (λ (n : ℕ). n + use_count rows m) (zero_plus (cond (row.mount == m) 1 0))
@@ -90,7 +90,7 @@ leaves [] walker w = elim (walker == w) as (λ b. ◌≡◌ {A = Option ℕ} Non
 leaves (r ∷ rows) walker w = left_first r rows walker w (r.walker == walker) (r.walker == w) refl refl (leaves rows walker w)
 
 -- nobody of these leaves
-stays_all : (rows : List Use) (walker : ℕ) → mount_of rows walker ≡ None → left walker rows ≡ rows
+pub stays_all : (rows : List Use) (walker : ℕ) → mount_of rows walker ≡ None → left walker rows ≡ rows
 stays_all [] walker none = refl
 stays_all (r ∷ rows) walker none = by_test (r.walker == walker) refl (sym (first_of r rows walker) ∙ none) (stays_all rows walker)
   where

@@ -1,4 +1,5 @@
 pub mod Uses
+pub mod Counts
 pub mod Inside
 pub mod Pick
 pub mod Scan

@@ -1,11 +1,14 @@
 //! Which walkers are inside which mounts.
 
-ghost use Rattle.std.specs.Prelude.{◌≡◌, Some, IfOk, OnOk, OnErr};
+ghost use Rattle.std.specs.Prelude.{◌≡◌, ◌<◌, ◌^◌, Some, IfOk, OnOk, OnErr};
 ghost use Rattle.am_names.specs.Errno.{RefusedAs, RefusedOnlyAs};
 ghost use Rattle.am_expire.specs.Uses.{no_uses, mount_of, use_count, is_used, enter_refusal, entered, IsInToo, HasOneMore, leave_refusal, left, IsInNoMore};
+ghost use Rattle.am_expire.specs.Counts.{counted, CountsOneMore};
+ghost use Rattle.indexmap.specs.IndexMap.{spare};
 
 use am_names::{Errno, MountId, WalkerId};
 use am_propagate::InUse;
+use indexmap::IndexMap;
 use std::alloc::Global;
 use std::marker::Model;
 
@@ -19,7 +22,10 @@ pub struct Use {
 /// The walkers that are inside mounts, each inside one, in order of entering.
 #[derive(Debug, Drop)]
 pub struct Uses {
-    rows: Vec<Use>,
+    /// The mount of each walker, by the walker's number.
+    mounts: IndexMap<u32, MountId>,
+    /// How many walkers are inside each mount, by the mount's number; none has no entry.
+    counts: IndexMap<u64, usize>,
 }
 
 impl Model for Uses {
@@ -28,11 +34,41 @@ impl Model for Uses {
 
     ghost Value = { List Row };
 
-    ghost use Rattle.am_expire.specs.Inside.{rows_of, IsSingle};
+    ghost use Rattle.am_expire.specs.Inside.{rows_of, IsKept};
 
     ghost view = { rows_of };
 
-    ghost invariant = { λ u. IsSingle (rows_of u) };
+    ghost invariant = { IsKept };
+}
+
+/// How many walkers are inside the mount.
+fn counted(counts: &IndexMap<u64, usize>, mount: MountId) -> usize
+    ensures { result ≡ counted counts.now.entries mount }
+{
+    counts.get(&mount.0).copied().unwrap_or(0)
+}
+
+/// One walker more is inside the mount, and there is room to count it.
+fn count_up(counts: &mut IndexMap<u64, usize>, mount: MountId)
+    requires room { 0 < spare counts.old }
+    requires small { counted counts.old.entries mount < 2 ^ 63 }
+    ensures { CountsOneMore mount counts.old.entries counts.new.entries }
+{
+    let count = counted(counts, mount) + 1;
+    let _counted = counts.insert(mount.0, count);
+}
+
+/// One walker less is inside the mount.
+fn count_down(counts: &mut IndexMap<u64, usize>, mount: MountId)
+    requires { 0 < counted counts.old.entries mount }
+    ensures { CountsOneMore mount counts.new.entries counts.old.entries }
+{
+    let count = counted(counts, mount);
+    if count == 1 {
+        let _last = counts.swap_remove(&mount.0);
+    } else if let Some(others) = counts.get_mut(&mount.0) {
+        *others = count - 1;
+    }
 }
 
 impl Uses {
@@ -41,7 +77,8 @@ impl Uses {
         ensures { result ≡ no_uses }
     {
         Uses {
-            rows: Vec::new(alloc),
+            mounts: IndexMap::new(alloc),
+            counts: IndexMap::new(alloc),
         }
     }
 
@@ -49,15 +86,14 @@ impl Uses {
     pub fn mount_of(&self, walker: WalkerId) -> Option<MountId>
         ensures { result ≡ mount_of self.now walker }
     {
-        let row = self.rows.iter().find(|row| row.walker == walker)?;
-        Some(row.mount)
+        self.mounts.get(&walker.0).copied()
     }
 
     /// How many walkers are inside the mount.
     pub fn count(&self, mount: MountId) -> usize
         ensures { result ≡ use_count self.now mount }
     {
-        self.rows.iter().filter(|row| row.mount == mount).count()
+        counted(&self.counts, mount)
     }
 
     /// The walker enters the mount.
@@ -71,7 +107,12 @@ impl Uses {
         if self.mount_of(walker).is_some() {
             return Err(Errno::EINVAL);
         }
-        self.rows.push(Use { walker, mount })?;
+        self.mounts.reserve(1)?;
+        self.counts.reserve(1)?;
+        // A count is no greater than the number of walkers.
+        let _walkers = self.mounts.len();
+        let _entered = self.mounts.insert(walker.0, mount);
+        count_up(&mut self.counts, mount);
         Ok(())
     }
 
@@ -87,7 +128,8 @@ impl Uses {
         let Some(mount) = self.mount_of(walker) else {
             return Err(Errno::EINVAL);
         };
-        self.rows.retain(|row| row.walker != walker);
+        let _left = self.mounts.shift_remove(&walker.0);
+        count_down(&mut self.counts, mount);
         Ok(mount)
     }
 }
@@ -96,6 +138,6 @@ impl InUse for Uses {
     ghost uses = { is_used };
 
     fn in_use(&self, mount: MountId) -> bool {
-        self.rows.iter().any(|row| row.mount == mount)
+        0 < self.count(mount)
     }
 }

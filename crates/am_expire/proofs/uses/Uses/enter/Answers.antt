@@ -1,23 +1,59 @@
-use Rattle.std.proofs.Common.{◌≡◌, List, None, sym, ap, ◌∙◌}
-use Rattle.std.specs.Prelude.{is_some}
+use Rattle.std.proofs.Common.{◌≡◌, ◌<◌, ℕ, nat_eq, List, None, sym, ap, subst, ◌∙◌, arith}
+use Rattle.std.specs.Prelude.{map, is_some}
+use Rattle.am_names.proofs.SameTriggers.{when_ok}
+use Rattle.indexmap.specs.IndexMap.{insert_entry, spare}
 use Rattle.am_expire.specs.declared.uses.Use.{Use}
-use Rattle.am_expire.specs.Uses.{mount_of}
+use Rattle.am_expire.specs.Uses.{mount_of, entered, IsInToo, HasOneMore}
+use Rattle.am_expire.specs.Counts.{CountsOneMore}
+use Rattle.am_expire.specs.Inside.{use_of, IsSingle, AreCounts}
 use Rattle.am_expire.proofs.UseLemmas.{nowhere, enters, enters_count, enters_single}
+use Rattle.am_expire.proofs.IndexLemmas.{inserted_last, counts_entered}
 use Rattle.am_expire.proofs.uses.Uses.enter.Goals as goal
+
+pub returns-clause-ok : goal.returns-clause-ok
+returns-clause-ok c =
+    let walker = c.walker.inside.0 in
+    let entries = c.self.inside.mounts.entries in
+    let none : mount_of c.args.self.now c.args.walker ≡ None =
+    nowhere _ (ap is_some (sym c.mount_of.ensures) ∙ sym c.is_some.ensures ∙ c.if-is_some.false) in
+    let free : mount_of (map use_of entries) walker ≡ None =
+    ap (mount_of (map use_of entries)) c.walker.view_is
+    ∙ ap (λ (u : List Use). mount_of u c.args.walker) c.self.view_is ∙ none in
+    let room : 0 < spare c.reserve.new.self = omega (arith, c.in_ok-reserve.ensures.ok) in
+    let made : c.insert-entered.new.self.entries ≡ insert_entry nat_eq c.reserve.new.self.entries walker c.args.mount =
+    when_ok c.insert-entered.result (c.insert-entered.ensures.succeeds room) c.insert-entered.ensures.entries in
+    rw (← c.walker.view_is)
+    (ap (map use_of) (made ∙ ap (λ (es : List (ℕ × ℕ)). insert_entry nat_eq es walker c.args.mount) c.in_ok-reserve.ensures.entries)
+    ∙ inserted_last walker c.args.mount entries free
+    ∙ ap (entered walker c.args.mount) c.self.view_is)
 
 pub returns-clause-map : goal.returns-clause-map
 returns-clause-map c =
     let row : Use = record { walker = c.args.walker; mount = c.args.mount } in
-    let none : mount_of c.args.self.now c.args.walker ≡ None = nowhere _ (ap is_some (sym c.mount_of.ensures) ∙ sym c.is_some.ensures ∙ c.if-is_some.false) in
-    rw (c.in_ok-push.ensures.items, c.self.view_is) (enters c.args.self.now row none)
+    let none : mount_of c.args.self.now c.args.walker ≡ None =
+    nowhere _ (ap is_some (sym c.mount_of.ensures) ∙ sym c.is_some.ensures ∙ c.if-is_some.false) in
+    subst (λ (rows : List Use). IsInToo c.args.walker c.args.mount c.args.self.now rows)
+    (sym (returns-clause-ok c)) (enters c.args.self.now row none)
 
 pub returns-clause-count : goal.returns-clause-count
 returns-clause-count c =
     let row : Use = record { walker = c.args.walker; mount = c.args.mount } in
-    rw (c.in_ok-push.ensures.items, c.self.view_is) (enters_count c.args.self.now row)
+    subst (λ (rows : List Use). HasOneMore c.args.mount c.args.self.now rows)
+    (sym (returns-clause-ok c)) (enters_count c.args.self.now row)
 
 pub invariant_of-self-2 : goal.invariant_of-self-2
 invariant_of-self-2 c =
     let row : Use = record { walker = c.args.walker; mount = c.args.mount } in
-    let none : mount_of c.args.self.now c.args.walker ≡ None = nowhere _ (ap is_some (sym c.mount_of.ensures) ∙ sym c.is_some.ensures ∙ c.if-is_some.false) in
-    rw c.in_ok-push.ensures.items (enters_single c.self.inside.rows.items row c.self.invariant (ap (λ (u : List Use). mount_of u c.args.walker) c.self.view_is ∙ none))
+    let none : mount_of c.args.self.now c.args.walker ≡ None =
+    nowhere _ (ap is_some (sym c.mount_of.ensures) ∙ sym c.is_some.ensures ∙ c.if-is_some.false) in
+    let single : IsSingle c.args.self.now = subst IsSingle c.self.view_is c.self.invariant.single in
+    let agree : AreCounts c.self.inside.counts.entries c.args.self.now =
+    subst (AreCounts c.self.inside.counts.entries) c.self.view_is c.self.invariant.counts in
+    let up : CountsOneMore c.args.mount c.self.inside.counts.entries c.count_up.new.counts.entries =
+    subst (λ (es : List (ℕ × ℕ)). CountsOneMore c.args.mount es c.count_up.new.counts.entries)
+    c.in_ok-reserve-2.ensures.entries c.count_up.ensures in
+    record {
+      single = subst IsSingle (sym (returns-clause-ok c)) (enters_single c.args.self.now row single none);
+      counts = subst (AreCounts c.count_up.new.counts.entries) (sym (returns-clause-ok c))
+          (counts_entered c.args.walker c.args.mount c.args.self.now c.self.inside.counts.entries c.count_up.new.counts.entries agree up);
+    }
