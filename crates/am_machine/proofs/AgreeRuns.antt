@@ -3,7 +3,9 @@ use Rattle.std.proofs.Common.{ℕ}
 use Rattle.am_kernel.specs.State.{KernelState}
 use Rattle.am_daemon.specs.State.{DaemonState}
 use Rattle.am_machine.specs.State.{State, opening_of}
+use Rattle.am_machine.specs.Invariant.Walks.{WalksFit}
 use Rattle.am_machine.specs.Invariant.Tokens.{TokensAgree}
+use Rattle.am_machine.specs.Invariant.Planned.{ArePlanned}
 use Rattle.am_machine.specs.Invariant.Places.{PlacesAgree}
 use Rattle.am_machine.specs.Invariant.Books.{IsServed, BookAgrees}
 use Rattle.am_machine.specs.Invariant.Records.{AreOfTheirTokens}
@@ -13,22 +15,25 @@ use Rattle.am_machine.specs.Agreement.{AgreeOn, Agree, RunsAgree}
 use Rattle.am_machine.proofs.AgreeMounts.{mounted_here, nothing_here}
 use Rattle.am_machine.proofs.AgreeTokens.{pending_here, tokens_here}
 use Rattle.am_machine.proofs.SafetyLemmas.{initial_consistent, run_consistent}
+use Rattle.am_machine.proofs.NameTheorems.{initial_named, run_named}
 
 -- what the parts of the invariant come to, of a file system that the daemon serves
-pub agree_on : (k : KernelState) (d : DaemonState) → TokensAgree k d.jobs → PlacesAgree k → BookAgrees k d → AreOfTheirTokens k.waits d.book → AreWritten k d → (fs attach : ℕ) → IsServed k d fs attach → AgreeOn k d fs attach
-agree_on k d tokens places book records settled fs attach served = record {
+pub agree_on : (k : KernelState) (d : DaemonState) → TokensAgree k d.jobs → ArePlanned d.jobs → WalksFit k → PlacesAgree k → BookAgrees k d → AreOfTheirTokens k.waits d.book → AreWritten k d → (fs attach : ℕ) → IsServed k d fs attach → AgreeOn k d fs attach
+agree_on k d tokens planned named places book records settled fs attach served = record {
   mounted = mounted_here k d settled fs attach served places;
-  pending = pending_here k d tokens fs attach served book records;
+  pending = pending_here k d tokens fs attach served book records named;
   unrecorded = nothing_here k d settled fs attach served;
-  tokens = tokens_here k d tokens fs attach served;
+  tokens = tokens_here k d tokens fs attach served planned;
 }
 
 -- of every such file system
-pub agrees : (s : State) → IsConsistent s → Agree s
-agrees s h fs attach served =
+pub agrees : (s : State) → IsConsistent s → WalksFit s.kernel → Agree s
+agrees s h named fs attach served =
     let halves = h.agreed in
-    agree_on s.kernel s.daemon halves.tokens halves.places halves.book halves.records halves.stands.settled fs attach served
+    agree_on s.kernel s.daemon halves.tokens halves.planned named halves.places halves.book halves.records halves.stands.settled fs attach served
 
 -- after every run
 pub runs_agree : RunsAgree
-runs_agree opening events answers s run = agrees s (run_consistent (opening_of opening) events answers s run (initial_consistent opening))
+runs_agree opening events answers s along run =
+    let old = opening_of opening in
+    agrees s (run_consistent old events answers s run (initial_consistent opening)) (run_named old events answers s run along (initial_named opening))

@@ -18,8 +18,9 @@ use Rattle.am_daemon.specs.State.{DaemonState, JobPlan}
 use Rattle.am_daemon.specs.Deliveries.{job_of}
 use Rattle.am_names.proofs.SameTriggers.{is_one}
 use Rattle.am_laws.proofs.Packets.{nat_is}
+use Rattle.am_machine.specs.Invariant.Walks.{is_named, WalksFit}
 use Rattle.am_machine.specs.Invariant.Tokens.{IsInPipe, IsAtWork, HasToken, TokensAgree}
-use Rattle.am_machine.specs.Invariant.Planned.{has_record_left}
+use Rattle.am_machine.specs.Invariant.Planned.{has_record_left, IsPlanned, ArePlanned}
 use Rattle.am_machine.specs.Invariant.Books.{IsServed, is_pending_for, is_to_record, BookAgrees}
 use Rattle.am_machine.specs.Invariant.Records.{IsOfItsToken, AreOfTheirTokens}
 use Rattle.am_machine.specs.Agreement.{IsPending, IsToDeliver, IsToAnswer}
@@ -44,13 +45,17 @@ record IsJobOn (attach : ℕ) (g : Trigger) (o : Option JobPlan) : Type 0 where
   job : JobPlan
   is_job : o ≡ Some job
   current : job.attach ≡ attach
-  trigger : same_trigger job.trigger g ≡ true
+  trigger : job.trigger ≡ g
 
 job_on : (attach : ℕ) (g : Trigger) (o : Option JobPlan) → is_to_record attach g o ≡ true → IsJobOn attach g o
 job_on attach g None e = absurd cc
 job_on attach g (Some job) e =
     let both = first_two (job.attach == attach) (same_trigger job.trigger g) (has_record_left job.plan) e in
-    record { job = job; is_job = refl; current = nat_is job.attach attach both.0; trigger = both.1 }
+    record { job = job; is_job = refl; current = nat_is job.attach attach both.0; trigger = is_one job.trigger g both.1 }
+
+-- an open token asks for a trigger that has a name
+pub token_named : (k : KernelState) → WalksFit k → (token : ℕ) (row : OpenToken) → token_of k.waits.tokens token ≡ Some row → is_named row.trigger ≡ true
+token_named k named token row is = all_found (λ (r : OpenToken). is_named r.trigger ≡ true) (λ (r : OpenToken). r.token == token) k.waits.tokens row named.tokens is
 
 -- a job whose attachment the file system still has, has its open token
 token_at_work : (k : KernelState) (d : DaemonState) → TokensAgree k d.jobs → (token : ℕ) (job : JobPlan) → job_of d.jobs token ≡ Some job → attach_of k job.trigger.fs ≡ Some job.attach → HasToken k job
@@ -90,10 +95,10 @@ unqueued k d h token job is = by (queued_of k.queue token) refl
 
 module _ (k : KernelState) (d : DaemonState) (tokens : TokensAgree k d.jobs) (fs attach : ℕ) (served : IsServed k d fs attach) where
   -- where the book says that a mount or an unmount goes on, a job is at work
-  pub pending_here : BookAgrees k d → AreOfTheirTokens k.waits d.book → (g : Trigger) (entry : Record) (token : ℕ) → g.fs ≡ fs → record_of d.book g ≡ Some entry → is_pending_for token (Some entry) ≡ true → IsPending k d attach g entry token
-  pending_here book records g entry token same found e =
+  pub pending_here : BookAgrees k d → AreOfTheirTokens k.waits d.book → WalksFit k → (g : Trigger) (entry : Record) (token : ℕ) → g.fs ≡ fs → record_of d.book g ≡ Some entry → is_pending_for token (Some entry) ≡ true → IsPending k d attach g entry token
+  pending_here book records named g entry token same found e =
       let j = job_on attach g (job_of d.jobs token) (sym (book.pending fs attach served g same token) ∙ ap (is_pending_for token) found ∙ e) in
-      let system : j.job.trigger.fs ≡ g.fs = ap (λ (t : Trigger). t.fs) (is_one j.job.trigger g j.trigger) in
+      let system : j.job.trigger.fs ≡ g.fs = ap (λ (t : Trigger). t.fs) j.trigger in
       let lasts : attach_of k j.job.trigger.fs ≡ Some j.job.attach = ap (attach_of k) (system ∙ same) ∙ served.current ∙ ap (λ (n : ℕ). Some n) (sym j.current) in
       let has = token_at_work k d tokens token j.job j.is_job lasts in
       let number : j.job.token ≡ token = nat_is j.job.token token (found_passes (λ (row : JobPlan). row.token == token) d.jobs j.job j.is_job) in
@@ -105,9 +110,8 @@ module _ (k : KernelState) (d : DaemonState) (tokens : TokensAgree k d.jobs) (fs
         trigger = j.trigger;
         row = has.token;
         is_open = is_open;
-        fs = sym has.fs ∙ system;
+        asks = sym (has.trigger (token_named k named token has.token is_open)) ∙ j.trigger;
         kind = (its_token k.waits d.book g entry records found).kind token has.token is_open e;
-        asked = λ named. sym (has.trigger named) ∙ is_one j.job.trigger g j.trigger;
       }
 
   -- an open token whose packet is in the pipe is to be delivered
@@ -125,21 +129,22 @@ module _ (k : KernelState) (d : DaemonState) (tokens : TokensAgree k d.jobs) (fs
       }
 
   -- an open token that a job has is to be answered
-  to_answer : (token : ℕ) (row : OpenToken) → token_of k.waits.tokens token ≡ Some row → row.trigger.fs ≡ fs → job_of d.jobs token ≡ job_of d.jobs row.token → IsAtWork k d.jobs row → IsToAnswer k d attach token
-  to_answer token row is same number work =
+  to_answer : ArePlanned d.jobs → (token : ℕ) (row : OpenToken) → token_of k.waits.tokens token ≡ Some row → row.trigger.fs ≡ fs → job_of d.jobs token ≡ job_of d.jobs row.token → IsAtWork k d.jobs row → IsToAnswer k d attach token
+  to_answer planned token row is same number work =
       let taken : job_of d.jobs token ≡ Some work.job = number ∙ work.is_job in
       record {
         job = work.job;
         is_job = taken;
         attach = same_number (sym work.current ∙ ap (attach_of k) same ∙ served.current);
+        left = (all_found IsPlanned (λ (r : JobPlan). r.token == token) d.jobs work.job planned taken).last;
         unqueued = unqueued k d tokens token work.job taken;
       }
 
   -- each open token is one or the other
-  pub tokens_here : (token : ℕ) (row : OpenToken) → token_of k.waits.tokens token ≡ Some row → row.trigger.fs ≡ fs → IsToDeliver k d attach token ⊎ IsToAnswer k d attach token
-  tokens_here token row is same =
+  pub tokens_here : ArePlanned d.jobs → (token : ℕ) (row : OpenToken) → token_of k.waits.tokens token ≡ Some row → row.trigger.fs ≡ fs → IsToDeliver k d attach token ⊎ IsToAnswer k d attach token
+  tokens_here planned token row is same =
       let number : row.token ≡ token = nat_is row.token token (found_passes (λ (r : OpenToken). r.token == token) k.waits.tokens row is) in
       ⊎_elim
       (λ waits. inl (to_deliver token row is same waits))
-      (λ work. inr (to_answer token row is same (ap (job_of d.jobs) (sym number)) work))
+      (λ work. inr (to_answer planned token row is same (ap (job_of d.jobs) (sym number)) work))
       (tokens.open_tokens token row is)

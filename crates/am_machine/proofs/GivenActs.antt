@@ -68,6 +68,7 @@ given_taken k d row p h =
       attached = h.attached;
       autofs = h.autofs;
       known = h.known;
+      familiar = h.familiar;
       jobs = All-push (IsOld k) d.jobs (job_for row.attach row.packet d) h.jobs (both.0, fs);
       book = told_by k.last_fs (is_reply (plan_of_packet d row.packet)) (trigger_of row.packet) (pending_of d row.packet) d.book fs h.book;
     }
@@ -91,6 +92,7 @@ given_finished k d row outcome is planned differ h =
       attached = h.attached;
       autofs = h.autofs;
       known = h.known;
+      familiar = h.familiar;
       jobs = finished_all (IsOld k) (IsOld k) row.token outcome row (λ r other old. old) (λ old ended. old) d.jobs is differ h.jobs;
       book = subst (λ (o : Option JobPlan). All (Below k.last_fs) (book_after (writes (next_in o)) d.book)) (sym is)
           (after_by k.last_fs (next_of row.plan) d.book (λ g entry e. subst (λ (t : Trigger). t.fs ≤ k.last_fs) (sym (left_written row.trigger row.plan outcome g entry e planned.rest).trigger_is) its.1) h.book);

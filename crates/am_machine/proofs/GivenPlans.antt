@@ -39,13 +39,11 @@ act_left done made failed (act.Record t entry) outcome h e = left_by done made f
 act_left done made failed (act.Reply status) outcome h e = absurd cc
 
 -- a job goes on after each act but an acknowledgement
-pub goes_after : (plan : Plan) (outcome : Outcome) (a : Act) → IsLawful plan → next_of plan ≡ Some a → acknowledges a ≡ false → not (is_some (next_of (rest_of outcome plan))) ≡ false
-goes_after Ended outcome a h e r = absurd cc
-goes_after (Next b done made failed) outcome a h e r = by h.acknowledges (let same : b ≡ a = cc in ap acknowledges same ∙ r)
-  where
-    by : IsEnded (Next b done made failed) ⊎ AcknowledgesLast (Next b done made failed) → acknowledges b ≡ false → not (is_some (next_of (rest_of outcome (Next b done made failed)))) ≡ false
-    by (inl f) g = absurd f
-    by (inr l) g = act_left done made failed b outcome l g
+pub goes_after : (plan : Plan) (outcome : Outcome) (a : Act) → AcknowledgesLast plan → next_of plan ≡ Some a → acknowledges a ≡ false → not (is_some (next_of (rest_of outcome plan))) ≡ false
+goes_after Ended outcome a h e r = absurd h
+goes_after (Next b done made failed) outcome a h e r =
+    let same : b ≡ a = cc in
+    act_left done made failed b outcome h (ap acknowledges same ∙ r)
 
 ended_by : (done : Plan) → IsEnded done → not (is_some (next_of done)) ≡ true
 ended_by Ended h = refl
@@ -60,22 +58,34 @@ reply_ended done made failed (act.Record t entry) status e l = absurd cc
 reply_ended done made failed (act.Reply other) status e l = l.0
 
 -- and ends with that
-pub ends_after : (plan : Plan) (status : Status) → IsLawful plan → next_of plan ≡ Some (act.Reply status) → not (is_some (next_of (rest_of Done plan))) ≡ true
-ends_after Ended status h e = absurd cc
-ends_after (Next b done made failed) status h e = by h.acknowledges
-  where
-    by : IsEnded (Next b done made failed) ⊎ AcknowledgesLast (Next b done made failed) → not (is_some (next_of (rest_of Done (Next b done made failed)))) ≡ true
-    by (inl f) = absurd f
-    by (inr l) = let same : b ≡ act.Reply status = cc in ended_by done (reply_ended done made failed b status same l)
+pub ends_after : (plan : Plan) (status : Status) → AcknowledgesLast plan → next_of plan ≡ Some (act.Reply status) → not (is_some (next_of (rest_of Done plan))) ≡ true
+ends_after Ended status h e = absurd h
+ends_after (Next b done made failed) status h e =
+    let same : b ≡ act.Reply status = cc in
+    ended_by done (reply_ended done made failed b status same h)
 
 -- ---- the jobs
 
-pub walked_planned : (row : JobPlan) (outcome : Outcome) → IsPlanned row → IsPlanned (walked outcome row)
-walked_planned row outcome h = record { lawful = rest_lawful row.plan outcome h.lawful; rest = goes_on_rest row.trigger row.plan outcome h.rest }
+-- a plan that hasn't ended has still to acknowledge
+still_last : (plan : Plan) → not (is_some (next_of plan)) ≡ false → IsEnded plan ⊎ AcknowledgesLast plan → AcknowledgesLast plan
+still_last plan going (inr last) = last
+still_last Ended going (inl ended) = absurd cc
+still_last (Next a done made failed) going (inl ended) = absurd ended
 
-going_planned : (ended : Bool) (row : JobPlan) (jobs : List JobPlan) → IsPlanned row → ArePlanned jobs → ArePlanned (if ended then jobs else row ∷ jobs)
+walked_planned : (row : JobPlan) (outcome : Outcome) → IsPlanned row → is_ended (walked outcome row) ≡ false → IsPlanned (walked outcome row)
+walked_planned row outcome h going =
+    let plan = rest_of outcome row.plan in
+    let lawful = rest_lawful row.plan outcome (record { acknowledges = inr h.last; claims_right = h.claims_right }) in
+    record {
+      last = still_last plan going lawful.acknowledges;
+      claims_right = lawful.claims_right;
+      rest = goes_on_rest row.trigger row.plan outcome h.rest;
+    }
+
+-- a job that has ended is gone
+going_planned : (ended : Bool) (row : JobPlan) (jobs : List JobPlan) → (ended ≡ false → IsPlanned row) → ArePlanned jobs → ArePlanned (if ended then jobs else row ∷ jobs)
 going_planned true row jobs p h = h
-going_planned false row jobs p h = All-cons IsPlanned row jobs p h
+going_planned false row jobs p h = All-cons IsPlanned row jobs (p refl) h
 
 planned_by : (outcome : Outcome) (row : JobPlan) (jobs left : List JobPlan) (b : Bool) → IsPlanned row → ArePlanned jobs → ArePlanned left → ArePlanned (if b then going (walked outcome row) jobs else row ∷ left)
 planned_by outcome row jobs left true p h later = going_planned (is_ended (walked outcome row)) (walked outcome row) jobs (walked_planned row outcome p) h

@@ -1,12 +1,13 @@
 -- What kernel and daemon have stays below the numbers that were given.
 use Rattle.std.proofs.Common.{◌≡◌, ℕ, ◌+◌, ◌≤◌, ◌==◌, Bool, true, false, List, [], ◌∷◌, ◌++◌, map, Option, Some, None, refl, sym, ap, subst, arith}
-use Rattle.std.specs.Prelude.{not, if◌then◌else◌}
+use Rattle.std.specs.Prelude.{not, is_some, if◌then◌else◌}
 use Rattle.std.specs.List.{All, list_any, flat_map}
 use Rattle.std.proofs.lemmas.List.Elements.{All-nil, All-cons, All-head, All-tail, All-append, All-push, All-weaker, All-map, All-filter}
 use Rattle.am_names.specs.Trigger.{same_trigger}
 use Rattle.am_names.specs.declared.trigger.Trigger.{Trigger}
 use Rattle.am_names.specs.declared.row.MountRow.{MountRow}
 use Rattle.am_names.specs.declared.row.Position.{Position}
+use Rattle.am_state.specs.declared.daemon_row.HeldRow.{HeldRow}
 use Rattle.am_state.specs.declared.daemon_row.KnownRow.{KnownRow}
 use Rattle.am_state.specs.declared.daemon_row.Record.{Record}
 use Rattle.am_state.specs.declared.daemon_row.Record.TheVariants.{Mounted}
@@ -24,7 +25,8 @@ use Rattle.am_kernel.specs.Walks.{closed}
 use Rattle.am_job.specs.Book.{record_row, with_record, recorded, without_fs}
 use Rattle.am_daemon.specs.State.{DaemonState, JobPlan}
 use Rattle.am_daemon.specs.Attachments.{with_attachment, all_mounted, reattached}
-use Rattle.am_machine.specs.Invariant.Attachments.{RiseTo, AreGiven}
+use Rattle.am_machine.specs.Invariant.Attachments.{RiseTo, AreKnown, AreGiven}
+use Rattle.am_machine.proofs.KnownRows.{autofs_is, known_marked, known_changed, known_more, known_again}
 use Rattle.am_machine.proofs.TokenLists.{all_found}
 use Rattle.am_machine.proofs.GivenSites.{rise_push, rise_map, rise_more, piped_fs, timeout_keeps}
 
@@ -38,18 +40,26 @@ pub record IsGiven (k made : KernelState) : Type 0 where
   pub more_fs : k.last_fs ≤ made.last_fs
   pub more_attach : k.last_attach ≤ made.last_attach
 
-pub given_kernel : (k made : KernelState) (d : DaemonState) → IsGiven k made → AreGiven k d → AreGiven made d
-given_kernel k made d g h =
+-- so is what the daemon has
+record DaemonGiven (k : KernelState) (d : DaemonState) : Type 0 where
+  known : All (λ (row : KnownRow). row.fs ≤ k.last_fs) d.known
+  jobs : All (λ (row : JobPlan). (row.attach ≤ k.last_attach) × (row.trigger.fs ≤ k.last_fs)) d.jobs
+  book : All (λ (row : RecordRow). row.trigger.fs ≤ k.last_fs) d.book
+
+given_daemon : (k made : KernelState) (d : DaemonState) → IsGiven k made → AreGiven k d → DaemonGiven made d
+given_daemon k made d g h =
     let fs = g.more_fs in
     let attach = g.more_attach in
     record {
-      rise = g.rise;
-      attached = g.attached;
-      autofs = g.autofs;
       known = All-weaker (λ (row : KnownRow). row.fs ≤ k.last_fs) (λ (row : KnownRow). row.fs ≤ made.last_fs) (λ row le. omega (arith, le, fs)) d.known h.known;
       jobs = All-weaker (λ (row : JobPlan). (row.attach ≤ k.last_attach) × (row.trigger.fs ≤ k.last_fs)) (λ (row : JobPlan). (row.attach ≤ made.last_attach) × (row.trigger.fs ≤ made.last_fs)) (λ row le. (omega (arith, le.0, attach), omega (arith, le.1, fs))) d.jobs h.jobs;
       book = All-weaker (λ (row : RecordRow). row.trigger.fs ≤ k.last_fs) (λ (row : RecordRow). row.trigger.fs ≤ made.last_fs) (λ row le. omega (arith, le, fs)) d.book h.book;
     }
+
+pub given_kernel : (k made : KernelState) (d : DaemonState) → IsGiven k made → AreKnown made.triggers.autofs made.attached d.known d.held → AreGiven k d → AreGiven made d
+given_kernel k made d g familiar h =
+    let daemon = given_daemon k made d g h in
+    record { rise = g.rise; attached = g.attached; autofs = g.autofs; known = daemon.known; jobs = daemon.jobs; book = daemon.book; familiar = familiar }
 
 -- only the number of file systems rises, if any
 pub given_more : (k made : KernelState) (d : DaemonState) → made.attached ≡ k.attached → made.triggers.autofs ≡ k.triggers.autofs → made.last_attach ≡ k.last_attach → k.last_fs ≤ made.last_fs → AreGiven k d → AreGiven made d
@@ -60,7 +70,9 @@ given_more k made d attached autofs last le h =
       autofs = subst (All (λ (row : Autofs). row.fs ≤ made.last_fs)) (sym autofs) (All-weaker (λ (row : Autofs). row.fs ≤ k.last_fs) (λ (row : Autofs). row.fs ≤ made.last_fs) (λ row m. omega (arith, m, le)) k.triggers.autofs h.autofs);
       more_fs = le;
       more_attach = omega (arith, last);
-    }) h
+    })
+    (subst (λ (rows : List Attached). AreKnown made.triggers.autofs rows d.known d.held) (sym attached)
+    (subst (λ (rows : List Autofs). AreKnown rows k.attached d.known d.held) (sym autofs) h.familiar)) h
 
 catatonic_by : (b c : Bool) (row : Autofs) → (if c then record row { catatonic = b } else row).fs ≡ row.fs
 catatonic_by b true row = refl
@@ -73,7 +85,8 @@ catatonic_all fs last b rows h =
 
 pub given_closed : (k : KernelState) (d : DaemonState) (fs : ℕ) → AreGiven k d → AreGiven (closed fs k) d
 given_closed k d fs h =
-    given_kernel k (closed fs k) d (record { rise = h.rise; attached = h.attached; autofs = catatonic_all fs k.last_fs true k.triggers.autofs h.autofs; more_fs = omega arith; more_attach = omega arith }) h
+    given_kernel k (closed fs k) d (record { rise = h.rise; attached = h.attached; autofs = catatonic_all fs k.last_fs true k.triggers.autofs h.autofs; more_fs = omega arith; more_attach = omega arith })
+    (known_marked k.triggers.autofs k.attached d.known d.held h.familiar (catatonic_row fs true) (λ row. catatonic_by true (row.fs == fs) row)) h
 
 pub given_timeout : (k : KernelState) (d : DaemonState) (fs n : ℕ) → AreGiven k d → AreGiven (with_timeout fs n k) d
 given_timeout k d fs n h =
@@ -84,7 +97,8 @@ given_timeout k d fs n h =
       autofs = h.autofs;
       more_fs = omega arith;
       more_attach = omega arith;
-    }) h
+    })
+    (known_changed k.triggers.autofs k.attached d.known d.held h.familiar (timeout_row fs n) (λ row. (timeout_keeps fs n row).0)) h
 
 -- ---- attachments begin
 
@@ -94,32 +108,38 @@ piped_most last row false le = omega (arith, le)
 
 given_pipe : (k : KernelState) (d : DaemonState) (fs : ℕ) → AreGiven k d → AreGiven (with_pipe fs k) d
 given_pipe k d fs h =
-    given_kernel k (with_pipe fs k) d (record {
+    let made = with_pipe fs k in
+    given_kernel k made d (record {
       rise = rise_map k.last_fs 0 (piped.attached_row fs (k.last_attach + 1)) k.attached (piped_fs fs (k.last_attach + 1)) h.rise;
       attached = All-map (λ (row : Attached). row.attach ≤ k.last_attach + 1) (piped.attached_row fs (k.last_attach + 1)) k.attached
           (All-weaker (λ (row : Attached). row.attach ≤ k.last_attach) (λ (row : Attached). (piped.attached_row fs (k.last_attach + 1) row).attach ≤ k.last_attach + 1) (λ row le. piped_most k.last_attach row (row.fs == fs) le) k.attached h.attached);
       autofs = catatonic_all fs k.last_fs false k.triggers.autofs h.autofs;
       more_fs = omega arith;
       more_attach = omega arith;
-    }) h
+    })
+    (known_marked k.triggers.autofs made.attached d.known d.held
+    (known_changed k.triggers.autofs k.attached d.known d.held h.familiar (piped.attached_row fs (k.last_attach + 1)) (piped_fs fs (k.last_attach + 1)))
+    (catatonic_row fs false) (λ row. catatonic_by false (row.fs == fs) row)) h
 
 pub given_attached : (direct : Bool) (timeout : ℕ) (k : KernelState) (at : Position) (path : List (List ℕ)) (d : DaemonState) → AreGiven k d → AreGiven (attached_at direct timeout k at) (with_attachment (k.last_fs + 1) (k.last_attach + 1) path d)
 given_attached direct timeout k at path d h =
     let made = attached_at direct timeout k at in
-    let g = given_kernel k made d (record {
+    let g : IsGiven k made = record {
       rise = rise_push k.last_fs 0 k.attached _ (omega arith) refl h.rise;
       attached = All-push (λ (row : Attached). row.attach ≤ k.last_attach + 1) k.attached _ (All-weaker (λ (row : Attached). row.attach ≤ k.last_attach) (λ (row : Attached). row.attach ≤ k.last_attach + 1) (λ row le. omega (arith, le)) k.attached h.attached) (omega arith);
       autofs = All-push (λ (row : Autofs). row.fs ≤ k.last_fs + 1) k.triggers.autofs _ (All-weaker (λ (row : Autofs). row.fs ≤ k.last_fs) (λ (row : Autofs). row.fs ≤ k.last_fs + 1) (λ row le. omega (arith, le)) k.triggers.autofs h.autofs) (omega arith);
       more_fs = omega arith;
       more_attach = omega arith;
-    }) h in
+    } in
+    let daemon = given_daemon k made d g h in
     record {
       rise = g.rise;
       attached = g.attached;
       autofs = g.autofs;
-      known = All-push (λ (row : KnownRow). row.fs ≤ k.last_fs + 1) d.known _ g.known (omega arith);
-      jobs = g.jobs;
-      book = g.book;
+      known = All-push (λ (row : KnownRow). row.fs ≤ k.last_fs + 1) d.known _ daemon.known (omega arith);
+      jobs = daemon.jobs;
+      book = daemon.book;
+      familiar = known_more k.triggers.autofs k.attached d.known d.held h.familiar _ _ _ _ refl refl refl;
     }
 
 -- ---- the book
@@ -186,9 +206,10 @@ standing_below : (k : KernelState) (last fs : ℕ) (o : Option Autofs) → autof
 standing_below k last fs None e h = All-nil (IsBelow last)
 standing_below k last fs (Some autofs) e h = all_standing k last autofs k.table.rows (all_found (λ (row : Autofs). row.fs ≤ last) (λ (row : Autofs). row.fs == fs) k.triggers.autofs autofs h e)
 
-pub given_reattached : (k : KernelState) (d : DaemonState) (fs : ℕ) → AreGiven k d → AreGiven (with_pipe fs k) (reattached fs (k.last_attach + 1) (standing k fs) d)
-given_reattached k d fs h =
+pub given_reattached : (k : KernelState) (d : DaemonState) (fs : ℕ) → is_some (autofs_of k.triggers fs) ≡ true → AreGiven k d → AreGiven (with_pipe fs k) (reattached fs (k.last_attach + 1) (standing k fs) d)
+given_reattached k d fs there h =
     let g = given_pipe k d fs h in
+    let is = (autofs_is k.triggers.autofs k.attached d.known d.held h.familiar fs there).0 in
     record {
       rise = g.rise;
       attached = g.attached;
@@ -196,4 +217,5 @@ given_reattached k d fs h =
       known = g.known;
       jobs = g.jobs;
       book = book_mounted k.last_fs (standing k fs) (without_fs fs d.book) (standing_below k k.last_fs fs (autofs_of k.triggers fs) refl h.autofs) (All-filter (λ (row : RecordRow). not (row.trigger.fs == fs)) (Below k.last_fs) d.book h.book);
+      familiar = known_again _ _ d.known d.held g.familiar (λ (row : HeldRow). not (row.fs == fs)) (record { fs = fs; attach = k.last_attach + 1 }) is;
     }

@@ -17,6 +17,7 @@ pub mod TraceFollows
 pub mod TraceEvents
 pub mod TraceActs
 pub mod TokenLists
+pub mod KnownRows
 pub mod GivenSites
 pub mod TokenStays
 pub mod TokenClose
@@ -90,4 +91,5 @@ pub mod AgreeTokens
 pub mod InStep
 pub mod InStepRuns
 pub mod AgreeRuns
+pub mod StepTheorems
 pub mod Histories

@@ -47,14 +47,15 @@ use Rattle.am_machine.specs.Events.Walkers.{leave_outcome, goes}
 use Rattle.am_machine.specs.Events.Requests as requests
 use Rattle.am_machine.specs.Events.Deliveries as deliveries
 use Rattle.am_machine.specs.Events.Acts as acts
-use Rattle.am_machine.specs.Invariant.Names.{GoesAlongNames, AreNamed}
+use Rattle.am_machine.specs.Paths.{HasPaths}
+use Rattle.am_machine.specs.Invariant.Walks.{WalksFit}
 use Rattle.am_machine.proofs.NameRows.{same_rows, closed_named, acknowledged_named}
 use Rattle.am_machine.proofs.NameBegins as begins
 use Rattle.am_machine.proofs.NameBegins.{LeavesNamed}
 
 -- where names are names they are so after the outcome
 record Keeps (s : State) (o : Outcome) : Type 0 where
-  names : AreNamed s.kernel → AreNamed o.state.kernel
+  names : WalksFit s.kernel → WalksFit o.state.kernel
 
 told : (s : State) (answer : Answer) → Keeps s (record { answer = answer; seen = []; state = s })
 told s answer = record { names = λ h. h }
@@ -72,7 +73,7 @@ unless_refused None s done h = h
 
 -- the kernel goes from k to made
 record Stays (k made : KernelState) : Type 0 where
-  names : AreNamed k → AreNamed made
+  names : WalksFit k → WalksFit made
 
 itself : (k : KernelState) → Stays k k
 itself k = record { names = λ h. h }
@@ -148,7 +149,7 @@ admin_catatonic s fs =
 
 -- ---- walkers
 
-goes_on : (o : kernel.Outcome) (s : State) (moment : ℕ) → (AreNamed s.kernel → LeavesNamed o) → Keeps s (goes o s moment)
+goes_on : (o : kernel.Outcome) (s : State) (moment : ℕ) → (WalksFit s.kernel → LeavesNamed o) → Keeps s (goes o s moment)
 goes_on (kernel.Goes begun shown made) s moment h = record { names = λ named. (h named).well }
 goes_on (kernel.Fails e) s moment h = refuses s e
 
@@ -250,7 +251,7 @@ acted_at (Some row) s ok = acted (next_of row.plan) s row ok
 
 -- ---- every event
 
-outcome_keeps : (s : State) (event : Event) → GoesAlongNames event → Keeps s (outcome_of s event)
+outcome_keeps : (s : State) (event : Event) → HasPaths event → Keeps s (outcome_of s event)
 outcome_keeps s (events.Attach path) along = attached_as (point_of s.daemon path) s path
 outcome_keeps s (events.Mount ns path) along = mount s ns path
 outcome_keeps s (events.Bind ns source target) along = bind s ns source target
@@ -273,5 +274,5 @@ outcome_keeps s events.Die along = record { names = λ h. h }
 outcome_keeps s (events.Reattach fs) along = reattach s fs
 outcome_keeps s (events.Record trigger) along = read_record s trigger
 
-pub outcome_names : (s : State) (event : Event) → GoesAlongNames event → AreNamed s.kernel → AreNamed (outcome_of s event).state.kernel
+pub outcome_names : (s : State) (event : Event) → HasPaths event → WalksFit s.kernel → WalksFit (outcome_of s event).state.kernel
 outcome_names s event along h = (outcome_keeps s event along).names h

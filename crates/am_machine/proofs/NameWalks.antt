@@ -23,7 +23,7 @@ use Rattle.am_walk.specs.Scene.{Scene, autofs_at, has_names}
 use Rattle.am_walk.specs.Meet.{if_open, if_mounted, if_entered, at_directory, at_trap, at_trigger, at_plain, at_autofs, at_site, next_at}
 use Rattle.am_walk.specs.Walks.{Visit, Stands, Stops, followed, settled_within, settled, onward, after, visit_from, visit_of, Walked, ended, walk_of}
 use Rattle.am_laws.proofs.Bools.{and_both, and_of}
-use Rattle.am_machine.specs.Invariant.Names.{is_named}
+use Rattle.am_machine.specs.Invariant.Walks.{is_named}
 
 abbrev pub IsNamed : Trigger → Type 0
 IsNamed trigger = is_named trigger ≡ true

@@ -1,4 +1,4 @@
--- What the daemon does keeps the agreement on places.
+-- What the daemon does keeps the agreement on places and the law of receivers.
 use Rattle.std.proofs.Common.{◌≡◌, ℕ, ◌+◌, ◌==◌, ◌&&◌, Bool, true, false, List, [], ◌∷◌, Option, Some, None, refl, ◌∙◌, ap, subst, inl, ⊎_elim, arith}
 use Rattle.std.specs.Prelude.{not, is_some, IfNone, IfSome, if◌then◌else◌}
 use Rattle.std.specs.List.{list_any}
@@ -14,6 +14,8 @@ use Rattle.am_group.specs.declared.membership.Membership.TheVariants.{Private}
 use Rattle.am_mount.specs.Rows.{IsTop, IsFree}
 use Rattle.am_mount.proofs.RowLemmas.{top_is, some_greatest, none_free}
 use Rattle.am_propagate.specs.MountTable.{mountpoint_in, mountpoint_of}
+use Rattle.am_propagate.proofs.AdditionLemmas.{mounted_law}
+use Rattle.am_propagate.proofs.RemovalLemmas.{removed_law}
 use Rattle.am_trigger.specs.declared.autofs.Autofs.{Autofs}
 use Rattle.am_trigger.specs.Rows.{autofs_of}
 use Rattle.am_trigger.specs.Sites.{place_of}
@@ -46,11 +48,10 @@ use Rattle.am_machine.specs.Events.Acts as acts
 use Rattle.am_machine.specs.Events.Requests as requests
 use Rattle.am_machine.specs.Invariant.Places.{PlacesAgree}
 use Rattle.am_machine.proofs.SiteKeeps.{Keeps, keeps_all, marked_sites}
-use Rattle.am_machine.proofs.PlaceKeeps.{kept_places}
 use Rattle.am_machine.proofs.Quiet.{closes}
 use Rattle.am_machine.proofs.PlaceGrown.{mounted_here}
 use Rattle.am_machine.proofs.PlaceUmounts.{daemons_places}
-use Rattle.am_machine.proofs.PlaceEvents.{Holds, either, refuses, says, unless_refused, quietly, else_none, not_false, umount_bare}
+use Rattle.am_machine.proofs.PlaceEvents.{Placed, placed_same, placed_kept, Holds, either, refuses, says, unless_refused, quietly, else_none, not_false, umount_bare}
 
 -- ---- what the daemon asks, and how a walker leaves
 
@@ -76,12 +77,12 @@ pub set_timeout : (s : State) (attach fs timeout : ℕ) → Holds s (requests.ti
 set_timeout s attach fs timeout = unless_refused (timeout_refusal s.kernel attach fs) s _ (λ may. quietly s _ _ _ (record { table = refl; last_fs = refl; sites = λ fs. refl }))
 
 pub die : (s : State) → Holds s (requests.die_outcome s)
-die s = record { holds = λ h. h }
+die s = record { holds = placed_same s.kernel }
 
 pub reattach : (s : State) (fs : ℕ) → Holds s (requests.reattach_outcome s fs)
 reattach s fs =
     let o = requests.reattaches s fs in
-    unless_refused (requests.reattach_refused s fs) s o (λ may. record { holds = kept_places s.kernel o.state.kernel (record { table = refl; last_fs = refl; sites = marked_sites fs false s.kernel.triggers }) })
+    unless_refused (requests.reattach_refused s fs) s o (λ may. record { holds = placed_kept s.kernel o.state.kernel (record { table = refl; last_fs = refl; sites = marked_sites fs false s.kernel.triggers }) })
 
 pub read_record : (s : State) (trigger : Trigger) → Holds s (requests.record_outcome s trigger)
 read_record s trigger = either s (not (is_trigger s.kernel trigger)) _ _ (refuses s _) (says _ s)
@@ -89,7 +90,7 @@ read_record s trigger = either s (not (is_trigger s.kernel trigger)) _ _ (refuse
 -- ---- deliver
 
 takes : (s : State) (row : QueuedRow) → Holds s (deliveries.takes s row)
-takes s row = let o = deliveries.takes s row in record { holds = kept_places s.kernel o.state.kernel (record { table = refl; last_fs = refl; sites = λ fs. refl }) }
+takes s row = let o = deliveries.takes s row in record { holds = placed_kept s.kernel o.state.kernel (record { table = refl; last_fs = refl; sites = λ fs. refl }) }
 
 delivered_at : (row : Option QueuedRow) (s : State) (bytes : Option (List ℕ)) → Holds s (deliveries.delivered_at row s bytes)
 delivered_at None s bytes = refuses s _
@@ -101,7 +102,7 @@ deliver s token bytes = delivered_at (queued_of s.kernel.queue token) s bytes
 -- ---- a job goes on
 
 goes_on : (s : State) (row : JobPlan) (outcome : job.Outcome) (answer : Answer) (shown : List Obs) (k : KernelState) → Keeps s.kernel k → Holds s (acts.goes_on s row outcome answer shown k)
-goes_on s row outcome answer shown k keeps = record { holds = kept_places s.kernel k keeps }
+goes_on s row outcome answer shown k keeps = record { holds = placed_kept s.kernel k keeps }
 
 mkdir : (e : Option Errno) (s : State) (row : JobPlan) (trigger : Trigger) → Holds s (acts.mkdir_by e s row trigger)
 mkdir None s row trigger = goes_on s row came.Done _ [] (with_directory trigger s.kernel) (record { table = refl; last_fs = refl; sites = λ fs. refl })
@@ -138,7 +139,7 @@ none_of : (o : Option ℕ) → is_some o ≡ false → o ≡ None
 none_of None h = refl
 none_of (Some x) h = absurd cc
 
-mount_on : (k : KernelState) (attach : ℕ) (trigger : Trigger) → mount_on_refusal k attach trigger ≡ None → PlacesAgree k → PlacesAgree (with_mount_on trigger k)
+mount_on : (k : KernelState) (attach : ℕ) (trigger : Trigger) → mount_on_refusal k attach trigger ≡ None → PlacesAgree k → Placed k (with_mount_on trigger k)
 mount_on k attach trigger may h =
     let first = else_none (not (is_current k trigger.fs attach)) _ _ may in
     let second = else_none (not (is_there k trigger)) _ _ first.1 in
@@ -146,7 +147,10 @@ mount_on k attach trigger may h =
     let autofs = current_autofs k trigger.fs attach first.0 in
     let location = location_of k trigger.fs in
     let free : IsFree k.table.rows location (place_of trigger) = subst (λ (o : Option ℕ). IfNone o (IsFree k.table.rows location (place_of trigger))) (none_of (mounted_on k trigger) third.0) (none_free k.table.rows location (place_of trigger) (mounted_on k trigger) (top_is k.table.rows h.whole.rising location (place_of trigger))) in
-    mounted_here k (trigger_position k trigger) (k.last_fs + 1) (k.last_fs + 1) Private h trigger.fs autofs.0 autofs.1 (ap location_in autofs.1) free (inl refl) (omega arith) (omega arith)
+    record {
+      places = mounted_here k (trigger_position k trigger) (k.last_fs + 1) (k.last_fs + 1) Private h trigger.fs autofs.0 autofs.1 (ap location_in autofs.1) free (inl refl) (omega arith) (omega arith);
+      law = mounted_law k.table h.whole (trigger_position k trigger) (k.last_fs + 1) Private;
+    }
 
 mount_fails : (s : State) (row : JobPlan) → Holds s (acts.mount_fails s row)
 mount_fails s row = goes_on s row came.Failed _ [] s.kernel (keeps_all s.kernel)
@@ -162,13 +166,16 @@ mount_act s row trigger ok =
 
 -- ---- an unmount from a trigger
 
-umount_from : (mounted : Option ℕ) (k : KernelState) (trigger : Trigger) → mounted_on k trigger ≡ mounted → (b : Autofs) → autofs_of k.triggers trigger.fs ≡ Some b → umount_tests mounted k ≡ None → PlacesAgree k → PlacesAgree (without_mounts (gone_with k mounted) k)
+umount_from : (mounted : Option ℕ) (k : KernelState) (trigger : Trigger) → mounted_on k trigger ≡ mounted → (b : Autofs) → autofs_of k.triggers trigger.fs ≡ Some b → umount_tests mounted k ≡ None → PlacesAgree k → Placed k (without_mounts (gone_with k mounted) k)
 umount_from None k trigger is b is_b may h = absurd cc
 umount_from (Some m) k trigger is b is_b may h =
     let location = location_of k trigger.fs in
     let top : IsTop k.table.rows location (place_of trigger) m = subst (λ (o : Option ℕ). IfSome o (IsTop k.table.rows location (place_of trigger))) is (some_greatest k.table.rows location (place_of trigger) (mounted_on k trigger) (top_is k.table.rows h.whole.rising location (place_of trigger))) in
     let at : mountpoint_of k.table m ≡ Some (trigger_position k trigger) = ap mountpoint_in top.is_there.1 ∙ top.is_there.2 in
-    daemons_places k h m (trigger_position k trigger) at (umount_bare (is_used k.uses) m k.table may) trigger.fs b is_b (ap location_in is_b)
+    record {
+      places = daemons_places k h m (trigger_position k trigger) at (umount_bare (is_used k.uses) m k.table may) trigger.fs b is_b (ap location_in is_b);
+      law = removed_law k.table h.whole (gone_with k (Some m));
+    }
 
 umount_fails : (s : State) (row : JobPlan) → Holds s (acts.umount_fails s row)
 umount_fails s row = goes_on s row came.Failed _ [] s.kernel (keeps_all s.kernel)
@@ -194,7 +201,7 @@ record_act s row trigger entry =
 
 reply : (e : Option Errno) (s : State) (row : JobPlan) (status : Status) → Holds s (acts.reply_by e s row status)
 reply (Some e) s row status = refuses s e
-reply None s row status = let o = acts.reply_by None s row status in record { holds = kept_places s.kernel o.state.kernel (record { table = refl; last_fs = refl; sites = λ fs. refl }) }
+reply None s row status = let o = acts.reply_by None s row status in record { holds = placed_kept s.kernel o.state.kernel (record { table = refl; last_fs = refl; sites = λ fs. refl }) }
 
 acted : (next : Option Act) (s : State) (row : JobPlan) (ok : Bool) → Holds s (acts.acted next s row ok)
 acted None s row ok = refuses s _

@@ -1,4 +1,4 @@
--- What the administrator and walkers do keeps the agreement on places.
+-- What the administrator and walkers do keeps the agreement on places and the law of receivers.
 use Rattle.std.proofs.Common.{◌≡◌, ◌≢◌, ◌≤◌, ℕ, ◌+◌, ◌||◌, Bool, true, false, List, Option, Some, None, refl, sym, ◌∙◌, ap, subst, inl, inr, arith}
 use Rattle.std.specs.Prelude.{◌==◌, not, is_some, is_none, Result, Ok, Err, if◌then◌else◌}
 use Rattle.std.proofs.lemmas.Bool.{eq-eqb}
@@ -8,13 +8,17 @@ use Rattle.am_state.specs.declared.obs.Obs.{Obs}
 use Rattle.am_group.specs.declared.kind.Change.{Change}
 use Rattle.am_group.specs.declared.kind.Kind.{Kind}
 use Rattle.am_group.specs.declared.membership.Membership.TheVariants.{Private}
+use Rattle.am_group.specs.Invariant.{AddsNoReceivers}
 use Rattle.am_mount.specs.Rows.{mount_row}
 use Rattle.am_propagate.specs.MountTable.{MountTable, is_mount, mountpoint_of}
 use Rattle.am_propagate.specs.Added as added
 use Rattle.am_propagate.specs.Added.{fs_in, membership_of}
 use Rattle.am_propagate.specs.Namespaces.{copy_refusal}
-use Rattle.am_propagate.specs.Removed.{is_bare, unmounted, umount_refusal, drop_refusal}
-use Rattle.am_propagate.proofs.RemovalLemmas.{some_of}
+use Rattle.am_propagate.specs.Removed.{is_bare, unmounted, umount_refusal, drop_refusal, mounts_in}
+use Rattle.am_propagate.proofs.AdditionLemmas.{mounted_law}
+use Rattle.am_propagate.proofs.RemovalLemmas.{some_of, removed_law}
+use Rattle.am_propagate.proofs.NamespaceLemmas.{with_copy_law}
+use Rattle.am_propagate.proofs.KindLemmas.{changed_keeps}
 use Rattle.am_expire.specs.Uses.{is_used}
 use Rattle.am_kernel.specs.State.{KernelState}
 use Rattle.am_kernel.specs.Outcome as kernel
@@ -41,30 +45,44 @@ use Rattle.am_machine.proofs.PlaceAttached.{attached_places}
 
 -- ---- outcomes
 
--- the outcome leaves the agreement on places
+-- the agreement on places is left, and no mount receives more
+pub record Placed (k made : KernelState) : Type 0 where
+  pub places : PlacesAgree made
+  pub law : AddsNoReceivers k.table.groups made.table.groups
+
+pub placed_same : (k : KernelState) → PlacesAgree k → Placed k k
+placed_same k h = record { places = h; law = λ b c there other r. r }
+
+pub placed_kept : (k made : KernelState) → Keeps k made → PlacesAgree k → Placed k made
+placed_kept k made keeps h = record {
+  places = kept_places k made keeps h;
+  law = subst (λ (t : MountTable). AddsNoReceivers k.table.groups t.groups) (sym keeps.table) (λ b c there other r. r);
+}
+
+-- so does the outcome
 pub record Holds (s : State) (o : Outcome) : Type 0 where
-  pub holds : PlacesAgree s.kernel → PlacesAgree o.state.kernel
+  pub holds : PlacesAgree s.kernel → Placed s.kernel o.state.kernel
 
 pub either : (s : State) (b : Bool) (first second : Outcome) → Holds s first → Holds s second → Holds s (if b then first else second)
 either s true first second h g = h
 either s false first second h g = g
 
 pub refuses : (s : State) (e : Errno) → Holds s (refused s e)
-refuses s e = record { holds = λ h. h }
+refuses s e = record { holds = placed_same s.kernel }
 
 pub says : (answer : Answer) (s : State) → Holds s (told answer s)
-says answer s = record { holds = λ h. h }
+says answer s = record { holds = placed_same s.kernel }
 
 pub unless_refused : (e : Option Errno) (s : State) (done : Outcome) → (e ≡ None → Holds s done) → Holds s (unless e s done)
 unless_refused (Some e) s done h = refuses s e
 unless_refused None s done h = h refl
 
 pub quietly : (s : State) (answer : Answer) (shown : List Obs) (k : KernelState) → Keeps s.kernel k → Holds s (with_kernel answer shown k s)
-quietly s answer shown k keeps = record { holds = kept_places s.kernel k keeps }
+quietly s answer shown k keeps = record { holds = placed_kept s.kernel k keeps }
 
 -- what the kernel makes of a walk
 pub walks : (o : kernel.Outcome) (s : State) (moment : ℕ) → Quiet s.kernel o → Holds s (goes o s moment)
-walks (kernel.Goes begun shown made) s moment q = record { holds = kept_places s.kernel made q.quiet }
+walks (kernel.Goes begun shown made) s moment q = record { holds = placed_kept s.kernel made q.quiet }
 walks (kernel.Fails e) s moment q = refuses s e
 
 -- ---- tests that passed
@@ -96,10 +114,12 @@ some_at (Some at) h = (at, refl)
 
 -- ---- mounts come
 
-attach_at : (at : Result Position Errno) (k : KernelState) (path : List (List ℕ)) (direct : Bool) (timeout : ℕ) → position_at k 0 path ≡ at → tested at (attach_tests k) ≡ None → PlacesAgree k → PlacesAgree (from_position at k (attached_at direct timeout k))
-attach_at (Err e) k path direct timeout is may h = h
-attach_at (Ok at) k path direct timeout is may h =
-    attached_places k h at (position_inside k h.whole 0 path at is) (else_none (is_on_autofs k at.mount) _ (or_else (attach_refusal k) (new_fs_refusal k at.mount)) may).0 direct timeout
+attach_at : (at : Result Position Errno) (k : KernelState) (path : List (List ℕ)) (direct : Bool) (timeout : ℕ) → position_at k 0 path ≡ at → tested at (attach_tests k) ≡ None → PlacesAgree k → Placed k (from_position at k (attached_at direct timeout k))
+attach_at (Err e) k path direct timeout is may h = placed_same k h
+attach_at (Ok at) k path direct timeout is may h = record {
+  places = attached_places k h at (position_inside k h.whole 0 path at is) (else_none (is_on_autofs k at.mount) _ (or_else (attach_refusal k) (new_fs_refusal k at.mount)) may).0 direct timeout;
+  law = mounted_law k.table h.whole at (k.last_fs + 1) Private;
+}
 
 attaches : (s : State) (path : List (List ℕ)) (point : Served) → administration.attach_refusal s path ≡ None → Holds s (administration.attaches s path point)
 attaches s path point may = record {
@@ -116,16 +136,19 @@ attach s path = attached_as (point_of s.daemon path) s path
 mount_there : (t : MountTable) (m : ℕ) → added.mount_refusal m t ≡ None → is_mount t m ≡ true
 mount_there t m may = not_false (is_mount t m) (else_none (not (is_mount t m)) _ _ may).0
 
-mount_at : (at : Result Position Errno) (k : KernelState) → tested at (mount_tests k) ≡ None → PlacesAgree k → PlacesAgree (from_position at k (λ at. with_mount at k))
-mount_at (Err e) k may h = h
+mount_at : (at : Result Position Errno) (k : KernelState) → tested at (mount_tests k) ≡ None → PlacesAgree k → Placed k (from_position at k (λ at. with_mount at k))
+mount_at (Err e) k may h = placed_same k h
 mount_at (Ok at) k may h =
     let tests = else_none (is_on_autofs k at.mount) _ (new_fs_refusal k at.mount) may in
-    mounted_places k at (k.last_fs + 1) (k.last_fs + 1) Private h (mount_there k.table at.mount (others_none (fs_refusal k) _ tests.1)) tests.0 (inl refl) (omega arith) (omega arith)
+    record {
+      places = mounted_places k at (k.last_fs + 1) (k.last_fs + 1) Private h (mount_there k.table at.mount (others_none (fs_refusal k) _ tests.1)) tests.0 (inl refl) (omega arith) (omega arith);
+      law = mounted_law k.table h.whole at (k.last_fs + 1) Private;
+    }
 
 pub mount : (s : State) (ns : ℕ) (path : List (List ℕ)) → Holds s (administration.mount_outcome s ns path)
 mount s ns path = unless_refused (mount_refusal s.kernel ns path) s _ (λ may. record { holds = mount_at (position_at s.kernel ns path) s.kernel may })
 
-bind_to : (k : KernelState) (source at : Position) → bind_tests k source at ≡ None → PlacesAgree k → PlacesAgree (bound_at k source at)
+bind_to : (k : KernelState) (source at : Position) → bind_tests k source at ≡ None → PlacesAgree k → Placed k (bound_at k source at)
 bind_to k source at may h =
     let sited = others_none (source_refusal k source.mount) _ (others_none (root_refusal source) _ may) in
     let tests = else_none (is_on_autofs k at.mount) _ (added.bind_refusal source.mount at.mount k.table) sited in
@@ -134,12 +157,15 @@ bind_to k source at may h =
     let third = else_none (not (is_mount k.table at.mount)) _ _ second.1 in
     let row = some_of (mount_row k.table.rows source.mount) (not_false (is_mount k.table source.mount) first.0) in
     let fs : row.0.fs ≡ fs_in (mount_row k.table.rows source.mount) = sym (ap fs_in row.1) in
-    mounted_places k at (fs_in (mount_row k.table.rows source.mount)) k.last_fs (membership_of k.table source.mount) h (not_false (is_mount k.table at.mount) third.0) tests.0
-    (inr (source.mount, row.0, row.1, fs, refl)) (subst (λ (n : ℕ). n ≤ k.last_fs) fs (h.given_fs source.mount row.0 row.1)) (omega arith)
+    record {
+      places = mounted_places k at (fs_in (mount_row k.table.rows source.mount)) k.last_fs (membership_of k.table source.mount) h (not_false (is_mount k.table at.mount) third.0) tests.0
+          (inr (source.mount, row.0, row.1, fs, refl)) (subst (λ (n : ℕ). n ≤ k.last_fs) fs (h.given_fs source.mount row.0 row.1)) (omega arith);
+      law = mounted_law k.table h.whole at (fs_in (mount_row k.table.rows source.mount)) (membership_of k.table source.mount);
+    }
 
-bind_at : (from to : Result Position Errno) (k : KernelState) → tested from (λ source. tested to (bind_tests k source)) ≡ None → PlacesAgree k → PlacesAgree (from_position from k (λ source. from_position to k (bound_at k source)))
-bind_at (Err e) to k may h = h
-bind_at (Ok source) (Err e) k may h = h
+bind_at : (from to : Result Position Errno) (k : KernelState) → tested from (λ source. tested to (bind_tests k source)) ≡ None → PlacesAgree k → Placed k (from_position from k (λ source. from_position to k (bound_at k source)))
+bind_at (Err e) to k may h = placed_same k h
+bind_at (Ok source) (Err e) k may h = placed_same k h
 bind_at (Ok source) (Ok at) k may h = bind_to k source at may h
 
 pub bind : (s : State) (ns : ℕ) (from to : List (List ℕ)) → Holds s (administration.bind_outcome s ns from to)
@@ -154,7 +180,7 @@ umount_bare uses m t may =
     let second = else_none (not (is_some (mountpoint_of t m))) _ _ first.1 in
     not_false (is_bare t m) (else_none (not (is_bare t m)) _ _ second.1).0
 
-umount_at : (at : Result Position Errno) (k : KernelState) → tested at (umount_tests k) ≡ None → PlacesAgree k → PlacesAgree (without_mounts (gone_at k at) k)
+umount_at : (at : Result Position Errno) (k : KernelState) → tested at (umount_tests k) ≡ None → PlacesAgree k → Placed k (without_mounts (gone_at k at) k)
 umount_at (Err e) k may h = absurd cc
 umount_at (Ok at) k may h =
     let m = at.mount in
@@ -163,16 +189,19 @@ umount_at (Ok at) k may h =
     let tests = else_none (is_none (mountpoint_of k.table m)) _ _ (first_none (site_refusal k m) _ sited) in
     let mounted = some_at (mountpoint_of k.table m) tests.0 in
     let daemons = later_false (is_on_autofs k m) (is_parent_on_autofs k (mountpoint_of k.table m)) (is_any_on_autofs k (unmounted k.table m)) (else_none (is_daemons k m) _ None tests.1).0 in
-    plain_places k h m mounted.0 mounted.1 bare (ap (is_parent_on_autofs k) (sym mounted.1) ∙ daemons.0) daemons.1
+    record {
+      places = plain_places k h m mounted.0 mounted.1 bare (ap (is_parent_on_autofs k) (sym mounted.1) ∙ daemons.0) daemons.1;
+      law = removed_law k.table h.whole (gone_at k (Ok at));
+    }
 
 pub umount : (s : State) (ns : ℕ) (path : List (List ℕ)) → Holds s (administration.umount_outcome s ns path)
 umount s ns path = unless_refused (plain_umount_refusal s.kernel ns path) s _ (λ may. record { holds = umount_at (position_at s.kernel ns path) s.kernel may })
 
 -- ---- mounts change, and are looked at
 
-change_at : (at : Result Position Errno) (k : KernelState) (change : Change) → PlacesAgree k → PlacesAgree (from_position at k (changed_at change k))
-change_at (Err e) k change h = h
-change_at (Ok at) k change h = changed_places k h change at.mount
+change_at : (at : Result Position Errno) (k : KernelState) (change : Change) → PlacesAgree k → Placed k (from_position at k (changed_at change k))
+change_at (Err e) k change h = placed_same k h
+change_at (Ok at) k change h = record { places = changed_places k h change at.mount; law = (changed_keeps change at.mount k.table.groups h.whole.sound).law }
 
 pub change_mount : (s : State) (ns : ℕ) (path : List (List ℕ)) (change : Change) → Holds s (administration.change_outcome s ns path change)
 change_mount s ns path change = unless_refused (plain_change_refusal change s.kernel ns path) s _ (λ may. record { holds = change_at (position_at s.kernel ns path) s.kernel change })
@@ -187,11 +216,11 @@ kind s ns path = unless_refused (kind_refusal s.kernel ns path) s _ (λ may. kin
 -- ---- namespaces
 
 pub copy_namespace : (s : State) (ns : ℕ) → Holds s (administration.copy_outcome s ns)
-copy_namespace s ns = unless_refused (copy_refusal ns s.kernel.table) s _ (λ may. record { holds = λ h. copied_places s.kernel h ns })
+copy_namespace s ns = unless_refused (copy_refusal ns s.kernel.table) s _ (λ may. record { holds = λ h. record { places = copied_places s.kernel h ns; law = with_copy_law s.kernel.table h.whole ns } })
 
 other_ns : (ns : ℕ) → (ns == 0) ≡ false → ns ≢ 0
 other_ns ns h same = let no : true ≡ false = sym (eq-eqb ns 0 same) ∙ h in cc
 
 pub drop_namespace : (s : State) (ns : ℕ) → Holds s (administration.drop_outcome s ns)
 drop_namespace s ns =
-    unless_refused (drop_refusal (is_used s.kernel.uses) ns s.kernel.table) s _ (λ may. record { holds = λ h. dropped_places s.kernel h ns (other_ns ns (else_none (ns == 0) _ _ may).0) })
+    unless_refused (drop_refusal (is_used s.kernel.uses) ns s.kernel.table) s _ (λ may. record { holds = λ h. record { places = dropped_places s.kernel h ns (other_ns ns (else_none (ns == 0) _ _ may).0); law = removed_law s.kernel.table h.whole (mounts_in s.kernel.table ns) } })

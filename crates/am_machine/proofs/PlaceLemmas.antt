@@ -1,10 +1,10 @@
--- Every world keeps the agreement on places.
+-- Every world keeps the agreement on places, and no step adds receivers.
 use Rattle.std.proofs.Common.{◌≡◌, ℕ, ◌==◌, Bool, true, false, cond, [], ◌∷◌, Some, None, refl, sym, ◌∙◌, ap, inl, inr, arith}
 use Rattle.std.proofs.lemmas.Bool.{eqb-true}
 use Rattle.am_names.specs.declared.row.MountRow.{MountRow}
 use Rattle.am_names.specs.PeerGroups.{PeerGroups}
 use Rattle.am_group.specs.declared.membership.Membership.TheVariants.{Private}
-use Rattle.am_group.specs.Invariant.{IsGroup, IsMaster, IsSound}
+use Rattle.am_group.specs.Invariant.{IsGroup, IsMaster, IsSound, AddsNoReceivers}
 use Rattle.am_group.specs.Members.{no_mounts, row_with, with_member}
 use Rattle.am_group.proofs.MemberLemmas.{member_keeps}
 use Rattle.am_mount.specs.Rows.{mount_row, IsOn}
@@ -49,7 +49,11 @@ outcome_holds s (events.Record trigger) = acts.read_record s trigger
 
 -- an outcome leaves the agreement on places
 pub outcome_places : (s : State) (event : Event) → PlacesAgree s.kernel → PlacesAgree (after s (outcome_of s event)).kernel
-outcome_places s event h = (outcome_holds s event).holds h
+outcome_places s event h = ((outcome_holds s event).holds h).places
+
+-- no mount receives more
+pub outcome_receivers : (s : State) (event : Event) → PlacesAgree s.kernel → AddsNoReceivers s.kernel.table.groups (after s (outcome_of s event)).kernel.table.groups
+outcome_receivers s event h = ((outcome_holds s event).holds h).law
 
 -- ---- the initial world
 

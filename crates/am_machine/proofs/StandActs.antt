@@ -66,7 +66,7 @@ goes_kept k d row outcome j none still book h = record {
       let system : row.trigger.fs ≡ fs = ap (λ (r : JobPlan). r.trigger.fs) (sym is) ∙ same in
       let attached : row.attach ≡ attach = ap (λ (r : JobPlan). r.attach) (sym is) ∙ under in
       subst (λ (r : JobPlan). mounted_on k r.trigger ≡ claims r.plan) (sym is)
-      (h.at_work fs attach was row.token row j.found system attached first ∙ sym (claims_kept row.trigger row.plan outcome still rests j.planned.lawful.claims_right rest)))
+      (h.at_work fs attach was row.token row j.found system attached first ∙ sym (claims_kept row.trigger row.plan outcome still rests j.planned.claims_right rest)))
       (λ other there left. h.at_work fs attach was job new there same under left);
   settled = λ fs attach s g same.
       subst (λ (rows : List RecordRow). is_pending (record_of rows g) ≡ false → mounted_on k g ≡ mounted_in (record_of rows g)) (sym (book_is d row None j none))

@@ -126,7 +126,7 @@ mounts_on s row trigger entry w e may = record {
       let free : IsFree k.table.rows (location_of k trigger.fs) (place_of trigger) = none_there k.table.rows (location_of k trigger.fs) (place_of trigger) w.places.whole.rising (none_of (mounted_on k trigger) third.0) in
       let current : attach_of k trigger.fs ≡ Some row.attach = attach_from_current k trigger.fs row.attach w.rise (not_false (is_current k trigger.fs row.attach) first.0) in
       let b = attached_autofs k trigger.fs row.attach current in
-      let p = mounts row.trigger trigger entry (k.table.last_mount + 1) row.plan e w.its_job.planned.rest w.its_job.planned.lawful.claims_right in
+      let p = mounts row.trigger trigger entry (k.table.last_mount + 1) row.plan e w.its_job.planned.rest w.its_job.planned.claims_right in
       goes_moved k made s.daemon row (came.Made (k.table.last_mount + 1)) w.its_job (ap writes e) (record {
         narrows = same_attachments k made (λ fs. refl) (omega arith);
         others = λ g a is other. mounted_others k w.places trigger b.0 b.1 g a is (subst (λ (t : Trigger). same_trigger t g ≡ false) (sym p.on) other);
@@ -158,7 +158,7 @@ unmounts_from (Some m) s row trigger is may live w e h =
     let made = without_mounts (gone_with k (Some m)) k in
     let current : attach_of k trigger.fs ≡ Some row.attach = attach_from_current k trigger.fs row.attach w.rise live in
     let b = attached_autofs k trigger.fs row.attach current in
-    let p = unmounts row.trigger trigger row.plan e w.its_job.planned.rest w.its_job.planned.lawful.claims_right in
+    let p = unmounts row.trigger trigger row.plan e w.its_job.planned.rest w.its_job.planned.claims_right in
     goes_moved k made s.daemon row came.Done w.its_job (ap writes e) (record {
       narrows = same_attachments k made (λ fs. refl) (omega arith);
       others = λ g a is_a other. unmounted_others k w.places trigger b.0 b.1 m is g a is_a (subst (λ (t : Trigger). same_trigger t g ≡ false) (sym p.on) other);

@@ -178,6 +178,11 @@ die s = record {
       known = h.given.known;
       jobs = h.given.jobs;
       book = All-nil _;
+      familiar = record {
+        autofs_known = h.given.familiar.autofs_known;
+        autofs_attached = h.given.familiar.autofs_attached;
+        held_known = All-nil _;
+      };
     };
     tokens = h.tokens;
     planned = h.planned;
@@ -193,15 +198,20 @@ not_then : (b : Bool) (e : Errno) (rest : Option Errno) → (if b then Some e el
 not_then true e rest h = absurd cc
 not_then false e rest h = refl
 
+yes : (b : Bool) → not b ≡ false → b ≡ true
+yes true h = refl
+yes false h = absurd cc
+
 pub reattach : (s : State) (fs : ℕ) → Keeps s (requests.reattach_outcome s fs)
 reattach s fs =
     let k = s.kernel in
     unless_refused (requests.reattach_refused s fs) s (requests.reattaches s fs) (λ e.
     let may = first_none (pipe_refusal k fs) (reattach_refusal fs s.daemon) e in
+    let there = yes (is_some (autofs_of k.triggers fs)) (not_then (not (is_some (autofs_of k.triggers fs))) EINVAL (if is_live k fs then Some EBUSY else attach_refusal k) may) in
     let dead = not_then (is_live k fs) EBUSY (attach_refusal k) (then_none (not (is_some (autofs_of k.triggers fs))) EINVAL (if is_live k fs then Some EBUSY else attach_refusal k) may) in
     record {
       keeps = λ n h. record {
-        given = given_reattached k s.daemon fs h.given;
+        given = given_reattached k s.daemon fs there h.given;
         tokens = stays_agree k (with_pipe fs k) s.daemon.jobs (record { tokens = λ t. refl; queue = refl; grows = λ other. pipe_grows k fs other dead }) (old_jobs k s.daemon h.given) h.tokens;
         planned = h.planned;
         records = mounted_fits k.waits (standing k fs) (without_fs fs s.daemon.book) (All-filter (λ (row : RecordRow). not (row.trigger.fs == fs)) (λ (row : RecordRow). IsOfItsToken k.waits row.entry) s.daemon.book h.records);

@@ -12,7 +12,7 @@ use Rattle.am_wire.specs.declared.packet.Packet.{Packet}
 use Rattle.am_laws.specs.OneObservation as laws
 use Rattle.am_daemon.specs.Packets.{name_in, trigger_of}
 use Rattle.am_machine.specs.Invariant.Traces.{Asked, asked_in, asked_by}
-use Rattle.am_machine.specs.Invariant.Names.{is_name_if_any, is_named}
+use Rattle.am_machine.specs.Invariant.Walks.{is_name_if_any, is_named}
 
 -- a name isn't too long
 short_enough : (a b c d : Bool) → (not a && not b && c && d) ≡ true → b ≡ false

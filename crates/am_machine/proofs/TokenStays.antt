@@ -15,7 +15,7 @@ use Rattle.am_kernel.specs.Requests.{queued_of}
 use Rattle.am_daemon.specs.State.{JobPlan}
 use Rattle.am_daemon.specs.Deliveries.{job_of}
 use Rattle.am_machine.specs.Invariant.Traces.{AreDifferent, asked_by}
-use Rattle.am_machine.specs.Invariant.Names.{is_named}
+use Rattle.am_machine.specs.Invariant.Walks.{is_named}
 use Rattle.am_machine.specs.Invariant.Tokens.{IsInPipe, IsAtWork, HasToken, TokensAgree}
 use Rattle.am_machine.proofs.GivenSites.{Grows}
 use Rattle.am_machine.proofs.TokenLists.{mapped_some}

@@ -19,7 +19,7 @@ use Rattle.am_job.specs.declared.act.Act.TheVariants as act
 use Rattle.am_job.specs.declared.act.Outcome as job
 use Rattle.am_job.specs.declared.act.Outcome.TheVariants as came
 use Rattle.am_job.specs.Plans.{next_of}
-use Rattle.am_job.proofs.PlanLemmas.{plan_lawful}
+use Rattle.am_job.proofs.PlanLemmas.{plan_acknowledges, plan_lawful}
 use Rattle.am_daemon.specs.State.{DaemonState, JobPlan}
 use Rattle.am_daemon.specs.Packets.{trigger_of, mounted_for}
 use Rattle.am_daemon.specs.Points.{entry_of}
@@ -49,7 +49,8 @@ job_planned : (attach : ℕ) (row : QueuedRow) (d : DaemonState) → IsPlanned (
 job_planned attach row d =
     let g = trigger_of row.packet in
     record {
-      lawful = plan_lawful (token_kind row.packet.kind) g (mounted_for d row.packet) (entry_of d g);
+      last = plan_acknowledges (token_kind row.packet.kind) g (mounted_for d row.packet) (entry_of d g);
+      claims_right = (plan_lawful (token_kind row.packet.kind) g (mounted_for d row.packet) (entry_of d g)).claims_right;
       rest = plan_rest (token_kind row.packet.kind) g (mounted_for d row.packet) (entry_of d g);
     }
 
@@ -88,7 +89,7 @@ goes_keeps s row a outcome answer shown k i other q = record {
       let its = all_found IsPlanned (λ (r : JobPlan). r.token == row.token) jobs row h.planned i.is in
       record {
         given = given_finished k s.daemon row outcome i.is its h.tokens.numbers now.given;
-        tokens = goes_agree k jobs row.token outcome row i.is (goes_after row.plan outcome a its.lawful i.next other) now.tokens;
+        tokens = goes_agree k jobs row.token outcome row i.is (goes_after row.plan outcome a its.last i.next other) now.tokens;
         planned = finished_planned row.token outcome jobs h.planned;
         records = finished_fits k.waits s.daemon row outcome i.is its now.records;
       };
@@ -147,7 +148,7 @@ reply None s row status i = record {
       let its = all_found IsPlanned (λ (r : JobPlan). r.token == row.token) jobs row h.planned i.is in
       record {
         given = given_finished k s.daemon row came.Done i.is its h.tokens.numbers (given_more s.kernel k s.daemon refl refl refl (omega arith) h.given);
-        tokens = ends_agree s.kernel jobs row.token status came.Done row i.is (ends_after row.plan status its.lawful i.next) h.tokens;
+        tokens = ends_agree s.kernel jobs row.token status came.Done row i.is (ends_after row.plan status its.last i.next) h.tokens;
         planned = finished_planned row.token came.Done jobs h.planned;
         records = finished_fits k.waits s.daemon row came.Done i.is its (later_records s.kernel.waits k.waits s.daemon.book (answered_later row.token status s.kernel.waits) h.records);
       };

@@ -20,7 +20,7 @@ use Rattle.am_machine.proofs.TokenSteps as steps
 -- ---- in the initial world
 
 pub initial_given : (opening : Opening) → AreGiven (opening_of opening).kernel (opening_of opening).daemon
-initial_given opening = record { rise = tt; attached = All-nil _; autofs = All-nil _; known = All-nil _; jobs = All-nil _; book = All-nil _ }
+initial_given opening = record { rise = tt; attached = All-nil _; autofs = All-nil _; known = All-nil _; jobs = All-nil _; book = All-nil _; familiar = record { autofs_known = All-nil _; autofs_attached = All-nil _; held_known = All-nil _ } }
 
 pub initial_tokens : (opening : Opening) → TokensAgree (opening_of opening).kernel (opening_of opening).daemon.jobs
 initial_tokens opening = record {

@@ -1,6 +1,5 @@
 -- What kernel and daemon agree on, of each file system that the daemon serves.
 use Rattle.std.specs.Prelude.{◌≡◌, ◌⊎◌, ◌<◌, ℕ, true, List, Some, None}
-use Rattle.am_names.specs.Trigger.{same_trigger}
 use Rattle.am_names.specs.declared.trigger.Trigger.{Trigger}
 use Rattle.am_names.specs.declared.row.OpenToken.{OpenToken}
 use Rattle.am_group.specs.Propagation.{Receives}
@@ -13,15 +12,16 @@ use Rattle.am_kernel.specs.State.{KernelState}
 use Rattle.am_kernel.specs.DaemonMounts.{location_of, mounted_on}
 use Rattle.am_kernel.specs.Requests.{queued_of}
 use Rattle.am_job.specs.Book.{record_of}
+use Rattle.am_job.specs.Laws.{AcknowledgesLast}
 use Rattle.am_daemon.specs.State.{DaemonState, JobPlan}
 use Rattle.am_daemon.specs.Deliveries.{job_of}
 use Rattle.am_machine.specs.declared.event.Event.{Event}
 use Rattle.am_machine.specs.declared.answer.Answer.{Answer}
 use Rattle.am_machine.specs.State.{Opening, State, opening_of}
+use Rattle.am_machine.specs.Paths.{HavePaths}
 use Rattle.am_machine.specs.Machine.{Run}
 use Rattle.am_machine.specs.Invariant.Books.{IsServed, is_pending_for}
 use Rattle.am_machine.specs.Invariant.Places.{HasCopy}
-use Rattle.am_machine.specs.Invariant.Names.{is_named}
 use Rattle.am_machine.specs.Invariant.Records.{is_of_kind}
 
 -- The mount stands on the trigger at the daemon's mount, and a copy of it on each older mount that
@@ -31,18 +31,17 @@ pub record IsMounted (k : KernelState) (g : Trigger) (m : ℕ) : Type 0 where
   pub copied : (y : ℕ) → Receives k.table.groups (location_of k g.fs) y → y < m →
       HasCopy k.table.rows y (place_of g) m
 
--- A job of this attachment is at work on the trigger. Its token is open, of the kind that the record
--- tells, and asks for the trigger, where the daemon can read its name.
+-- A job of this attachment is at work on the trigger. Its token is open, asks for the trigger, and is
+-- of the kind that the record tells.
 pub record IsPending (k : KernelState) (d : DaemonState) (current : ℕ) (g : Trigger) (entry : Record) (token : ℕ) : Type 0 where
   pub job : JobPlan
   pub is_job : job_of d.jobs token ≡ Some job
   pub attach : job.attach ≡ current
-  pub trigger : same_trigger job.trigger g ≡ true
+  pub trigger : job.trigger ≡ g
   pub row : OpenToken
   pub is_open : token_of k.waits.tokens token ≡ Some row
-  pub fs : row.trigger.fs ≡ g.fs
+  pub asks : row.trigger ≡ g
   pub kind : is_of_kind row.kind entry ≡ true
-  pub asked : is_named row.trigger ≡ true → row.trigger ≡ g
 
 -- The token's packet is in the pipe of this attachment, and no job has taken it up.
 pub record IsToDeliver (k : KernelState) (d : DaemonState) (current token : ℕ) : Type 0 where
@@ -51,11 +50,12 @@ pub record IsToDeliver (k : KernelState) (d : DaemonState) (current token : ℕ)
   pub attach : row.attach ≡ current
   pub untaken : job_of d.jobs token ≡ None
 
--- A job of this attachment has the token, whose packet is in no pipe.
+-- A job of this attachment has the token, and has still to acknowledge it. The packet is in no pipe.
 pub record IsToAnswer (k : KernelState) (d : DaemonState) (current token : ℕ) : Type 0 where
   pub job : JobPlan
   pub is_job : job_of d.jobs token ≡ Some job
   pub attach : job.attach ≡ current
+  pub left : AcknowledgesLast job.plan
   pub unqueued : queued_of k.queue token ≡ None
 
 -- A file system that the daemon serves under this attachment.
@@ -81,4 +81,4 @@ Agree s = (fs attach : ℕ) → IsServed s.kernel s.daemon fs attach →
 -- every run from an initial world leaves kernel and daemon agreed
 abbrev pub RunsAgree : Type 0
 RunsAgree = (opening : Opening) (events : List Event) (answers : List Answer) (s : State) →
-    Run (opening_of opening) events answers s → Agree s
+    HavePaths events → Run (opening_of opening) events answers s → Agree s

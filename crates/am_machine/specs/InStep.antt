@@ -1,17 +1,26 @@
--- Kernel and daemon are in step, where each walk goes along names.
-use Rattle.std.specs.Prelude.{◌≡◌, ℕ, true, List, Some}
-use Rattle.std.specs.List.{All}
+-- Kernel and daemon are in step: what the one tells the other finds it ready.
+use Rattle.std.specs.Prelude.{◌≡◌, ◌&&◌, ℕ, true, is_some, List, Option, Some}
 use Rattle.am_names.specs.declared.row.OpenToken.{OpenToken}
-use Rattle.am_wait.specs.Rows.{token_of}
+use Rattle.am_names.specs.declared.row.TokenKind.TheVariants.{Missing}
+use Rattle.am_names.specs.declared.row.WaitRow.{WaitRow}
+use Rattle.am_trigger.specs.Rows.{autofs_of}
+use Rattle.am_wait.specs.Rows.{token_of, wait_of}
 use Rattle.am_state.specs.declared.kernel_row.QueuedRow.{QueuedRow}
+use Rattle.am_kernel.specs.Sites.{latest_attach}
 use Rattle.am_kernel.specs.Requests.{queued_of}
+use Rattle.am_kernel.specs.Attachments.{pipe_refusal}
+use Rattle.am_kernel.specs.Resumes.{walk_in}
 use Rattle.am_daemon.specs.declared.fault.DaemonFault.TheVariants.{Busy}
+use Rattle.am_daemon.specs.Attachments.{knows, holds}
 use Rattle.am_daemon.specs.Deliveries.{delivery_fault}
 use Rattle.am_machine.specs.declared.event.Event.{Event}
 use Rattle.am_machine.specs.declared.answer.Answer.{Answer}
 use Rattle.am_machine.specs.State.{Opening, State, opening_of}
+use Rattle.am_machine.specs.Events.Deliveries.{has_bytes, may_take}
+use Rattle.am_machine.specs.Events.Requests.{reattach_refused}
+use Rattle.am_machine.specs.Paths.{HavePaths}
 use Rattle.am_machine.specs.Machine.{Run}
-use Rattle.am_machine.specs.Invariant.Names.{is_named, GoesAlongNames}
+use Rattle.am_machine.specs.Invariant.Walks.{is_named}
 
 -- the daemon is not busy when a packet that is in a pipe comes to it
 abbrev pub IsNeverBusy : State → Type 0
@@ -19,13 +28,41 @@ IsNeverBusy s = (token : ℕ) (row : QueuedRow) → queued_of s.kernel.queue tok
     delivery_fault row.attach row.packet s.daemon ≡ Some Busy → ⊥
 
 pub record AreInStep (s : State) : Type 0 where
-  -- the daemon can read the name of each trigger that it is asked for, so that a pending record's
-  -- token asks for just the record's trigger
+  -- the daemon can read the name of each trigger that it is asked for
   pub named : (token : ℕ) (row : OpenToken) → token_of s.kernel.waits.tokens token ≡ Some row →
       is_named row.trigger ≡ true
   pub free : IsNeverBusy s
+  -- it knows each autofs, and what it holds
+  pub known : (fs : ℕ) → is_some (autofs_of s.kernel.triggers fs) ≡ true → knows s.daemon fs ≡ true
+  pub held : (fs attach : ℕ) → holds s.daemon fs attach ≡ true → knows s.daemon fs ≡ true
+  -- each autofs was given an attachment
+  pub attached : (fs : ℕ) → is_some (autofs_of s.kernel.triggers fs) ≡ true →
+      is_some (latest_attach s.kernel.attached fs) ≡ true
+  -- who waits on a mount has the walk that led there
+  pub walks : (walker : ℕ) (row : WaitRow) → wait_of s.kernel.waits.waits walker ≡ Some row →
+      row.kind ≡ Missing → is_some (walk_in s.kernel.walks row.walker) ≡ true
 
--- every run from an initial world whose walks go along names leaves them so
+-- A step refuses no more than it says in words, since some tests never fail.
+pub record RefusesInStep (s : State) : Type 0 where
+  -- a daemon that attaches again is refused by the kernel alone: it knows each autofs
+  pub reattach : (fs : ℕ) → reattach_refused s fs ≡ pipe_refusal s.kernel fs
+  -- the queued packet, by its bytes, is taken up just where the daemon holds its attachment
+  pub deliver : (token : ℕ) (row : QueuedRow) (bytes : Option (List ℕ)) →
+      queued_of s.kernel.queue token ≡ Some row →
+      may_take s row bytes ≡ (has_bytes bytes row && holds s.daemon row.packet.dev row.attach)
+  -- a walker that waits on a mount goes on with its walk
+  pub resume : (walker : ℕ) (row : WaitRow) → wait_of s.kernel.waits.waits walker ≡ Some row →
+      row.kind ≡ Missing → is_some (walk_in s.kernel.walks row.walker) ≡ true
+
+-- every run from an initial world leaves them so
 abbrev pub RunsAreInStep : Type 0
 RunsAreInStep = (opening : Opening) (events : List Event) (answers : List Answer) (s : State) →
-    All GoesAlongNames events → Run (opening_of opening) events answers s → AreInStep s
+    HavePaths events → Run (opening_of opening) events answers s → AreInStep s
+
+abbrev pub RunsAreNeverBusy : Type 0
+RunsAreNeverBusy = (opening : Opening) (events : List Event) (answers : List Answer) (s : State) →
+    HavePaths events → Run (opening_of opening) events answers s → IsNeverBusy s
+
+abbrev pub RunsRefuseInStep : Type 0
+RunsRefuseInStep = (opening : Opening) (events : List Event) (answers : List Answer) (s : State) →
+    HavePaths events → Run (opening_of opening) events answers s → RefusesInStep s

@@ -1,6 +1,6 @@
 -- What every world keeps: its trace is lawful, and kernel and daemon agree.
 pub mod Traces
-pub mod Names
+pub mod Walks
 pub mod Attachments
 pub mod Tokens
 pub mod Planned

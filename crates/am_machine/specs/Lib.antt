@@ -1,5 +1,6 @@
 pub mod State
 pub mod Outcome
+pub mod Paths
 pub mod Events
 pub mod History
 pub mod Machine

@@ -1,12 +1,41 @@
 -- What each step keeps, and what it adds to the trace.
-use Rattle.std.specs.Prelude.{◌≡◌, ◌≤◌, List, ◌++◌}
+use Rattle.std.specs.Prelude.{◌≡◌, ◌≤◌, ℕ, true, List, [], ◌∷◌, ◌++◌}
 use Rattle.std.specs.List.{count_by}
 use Rattle.am_state.specs.declared.obs.Obs.{Obs}
+use Rattle.am_group.specs.Propagation.{Receives}
+use Rattle.am_propagate.specs.MountTable.{is_mount}
 use Rattle.am_laws.specs.OneObservation.{is_queued}
-use Rattle.am_machine.specs.State.{State, opening_in}
+use Rattle.am_machine.specs.declared.event.Event.{Event}
+use Rattle.am_machine.specs.declared.answer.Answer.{Answer}
+use Rattle.am_machine.specs.State.{Opening, State, opening_in, opening_of}
+use Rattle.am_machine.specs.Machine.{Step, Run}
 
 -- The opening stays, the trace grows by what was seen, and one packet at most is queued.
 pub record IsLawful (old : State) (seen : List Obs) (new : State) : Type 0 where
   pub opening : opening_in new ≡ opening_in old
   pub trace : new.trace ≡ old.trace ++ seen
   pub once : count_by is_queued seen ≤ 1
+
+abbrev pub StepsAreLawful : Type 0
+StepsAreLawful = (old : State) (event : Event) (answer : Answer) (seen : List Obs) (new : State) →
+    Step old event answer seen new → IsLawful old seen new
+
+-- The law of receivers (sharedsubtree.rst, 5a): no step makes one of two mounts that stood before it
+-- receive from the other, unless it did already.
+abbrev pub AddsNoReceivers : State → State → Type 0
+AddsNoReceivers old new = (b c : ℕ) →
+    is_mount old.kernel.table b ≡ true → is_mount old.kernel.table c ≡ true →
+    Receives new.kernel.table.groups b c → Receives old.kernel.table.groups b c
+
+abbrev pub StepsAddNoReceivers : Type 0
+StepsAddNoReceivers = (opening : Opening) (events : List Event) (answers : List Answer) (old : State) →
+    Run (opening_of opening) events answers old →
+    (event : Event) (answer : Answer) (seen : List Obs) (new : State) →
+    Step old event answer seen new → AddsNoReceivers old new
+
+-- a run goes on by a step
+abbrev pub RunsGoOn : Type 0
+RunsGoOn = (old : State) (events : List Event) (answers : List Answer) (mid : State) →
+    Run old events answers mid →
+    (event : Event) (answer : Answer) (seen : List Obs) (new : State) → Step mid event answer seen new →
+    Run old (events ++ event ∷ []) (answers ++ answer ∷ []) new

@@ -1,21 +1,49 @@
-//! What is true of every run, said of the definitions alone.
+//! What is true of every run and of every step, said of the definitions alone.
 
 ghost use Rattle.am_machine.specs.Agreement.{RunsAgree};
-ghost use Rattle.am_machine.specs.InStep.{RunsAreInStep};
+ghost use Rattle.am_machine.specs.InStep.{RunsAreInStep, RunsAreNeverBusy, RunsRefuseInStep};
 ghost use Rattle.am_machine.specs.Safety.{RunsAreLawful};
+ghost use Rattle.am_machine.specs.StepLaws.{StepsAreLawful, StepsAddNoReceivers, RunsGoOn};
 
-/// A law of the definitions: the trace of every run from an initial world is lawful.
+/// The trace of every run from an initial world is lawful.
 pub fn runs_are_lawful()
     ensures { RunsAreLawful }
 {}
 
-/// A law of the definitions: after every run from an initial world kernel and daemon agree.
+/// After every run from an initial world kernel and daemon agree.
 pub fn runs_agree()
     ensures { RunsAgree }
 {}
 
-/// A law of the definitions: after every run whose walks go along names, as paths do, each packet in a
-/// pipe finds the daemon free, and the daemon can read what it asks for.
+/// After every run from an initial world the daemon is ready for what the kernel tells it, and knows
+/// what it is asked about.
 pub fn runs_are_in_step()
     ensures { RunsAreInStep }
+{}
+
+/// After every run from an initial world the daemon is not busy on what a packet in a pipe asks for.
+pub fn runs_are_never_busy()
+    ensures { RunsAreNeverBusy }
+{}
+
+/// After every run from an initial world some tests of an event never fail.
+pub fn runs_refuse_in_step()
+    ensures { RunsRefuseInStep }
+{}
+
+/// A step keeps what the world began with, adds what was seen to the trace, and queues one packet at
+/// most.
+pub fn steps_are_lawful()
+    ensures { StepsAreLawful }
+{}
+
+/// The law of receivers: no step of a run makes one of two mounts that stood before it receive from
+/// the other, unless it did already.
+pub fn steps_add_no_receivers()
+    ensures { StepsAddNoReceivers }
+{}
+
+/// A run goes on by a step.
+pub fn runs_go_on()
+    ensures { RunsGoOn }
 {}

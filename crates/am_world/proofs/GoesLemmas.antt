@@ -16,7 +16,8 @@ use Rattle.am_machine.specs.declared.answer.Answer.TheVariants as answers
 use Rattle.am_machine.specs.declared.event.Event.{Event}
 use Rattle.am_machine.specs.Machine.{after, outcome_of, Step}
 use Rattle.am_machine.specs.Invariant.Consistent.{IsConsistent}
-use Rattle.am_machine.specs.Invariant.Names.{GoesAlongNames, AreNamed}
+use Rattle.am_machine.specs.Paths.{HasPaths}
+use Rattle.am_machine.specs.Invariant.Walks.{WalksFit}
 use Rattle.am_machine.proofs.SafetyLemmas.{outcome_consistent}
 use Rattle.am_machine.proofs.NameTheorems.{outcome_named}
 use Rattle.am_machine.specs.Events.Walkers.{answer_of, goes}
@@ -74,6 +75,6 @@ pub goes_consistent : (s : State) (event : Event) (came : Result Answer Errno) (
 goes_consistent s event (Ok answer) new k h = subst IsConsistent (sym h.1) (outcome_consistent s event k)
 goes_consistent s event (Err e) new k h = subst IsConsistent (sym h.0) k
 
-pub goes_named : (s : State) (event : Event) (came : Result Answer Errno) (new : State) → GoesAlongNames event → AreNamed s.kernel → Goes (outcome_of s event) s came new → AreNamed new.kernel
-goes_named s event (Ok answer) new along k h = subst (λ (x : State). AreNamed x.kernel) (sym h.1) (outcome_named s event along k)
-goes_named s event (Err e) new along k h = subst (λ (x : State). AreNamed x.kernel) (sym h.0) k
+pub goes_named : (s : State) (event : Event) (came : Result Answer Errno) (new : State) → HasPaths event → WalksFit s.kernel → Goes (outcome_of s event) s came new → WalksFit new.kernel
+goes_named s event (Ok answer) new along k h = subst (λ (x : State). WalksFit x.kernel) (sym h.1) (outcome_named s event along k)
+goes_named s event (Err e) new along k h = subst (λ (x : State). WalksFit x.kernel) (sym h.0) k

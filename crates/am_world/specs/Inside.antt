@@ -1,6 +1,6 @@
 -- What a world stands for, and what it keeps.
 use Rattle.am_machine.specs.Invariant.Consistent.{IsConsistent}
-use Rattle.am_machine.specs.Invariant.Names.{AreNamed}
+use Rattle.am_machine.specs.Invariant.Walks.{WalksFit}
 use Rattle.am_world.specs.Table.{WorldTable}
 use Rattle.am_world.specs.Halves.{table_of, state_of}
 use Rattle.am_world.specs.declared.world.World.TheInside.{Inside}
@@ -8,7 +8,7 @@ use Rattle.am_world.specs.declared.world.World.TheInside.{Inside}
 abbrev pub view_of : Inside → WorldTable
 view_of w = table_of w.halves
 
--- it is consistent, and its triggers have names, since paths have
+-- it is consistent, and what walkers left fits, since paths are names
 pub record IsSound (w : Inside) : Type 0 where
   pub consistent : IsConsistent (state_of w.halves)
-  pub named : AreNamed w.halves.kernel
+  pub walks : WalksFit w.halves.kernel

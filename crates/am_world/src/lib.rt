@@ -7,11 +7,11 @@ mod administration;
 mod copies;
 mod deliveries;
 mod halves;
+pub mod laws;
 mod requests;
 mod walkers;
 pub mod world;
 
-pub use am_laws as laws;
 pub use am_machine::{Answer, Event};
 pub use am_state::{Obs, Record};
 pub use world::{Ran, World, run};

@@ -13,7 +13,7 @@ ghost use Rattle.am_daemon.specs.Acts.{next_act_of};
 ghost use Rattle.am_daemon.specs.State.{rows_of};
 ghost use Rattle.am_machine.specs.Agreement.{Agree};
 ghost use Rattle.am_machine.specs.InStep.{AreInStep};
-ghost use Rattle.am_machine.specs.Invariant.Names.{GoesAlongNames};
+ghost use Rattle.am_machine.specs.Paths.{HasPaths};
 ghost use Rattle.am_machine.specs.State.{opening_of};
 ghost use Rattle.am_machine.specs.History.{entry, entries};
 ghost use Rattle.am_machine.specs.Machine.{Step, Run, GoesOnBy};
@@ -63,12 +63,34 @@ fn told(came: Result<Answer, Errno>) -> Answer
     }
 }
 
-/// Makes known that a walk goes along names, which is so of each path.
-fn know_names(event: &Event)
-    ensures { GoesAlongNames event.now }
+/// Makes known that the paths of an event are names.
+fn know_paths(event: &Event)
+    ensures { HasPaths event.now }
 {
-    if let Event::Walk { path, .. } = event {
-        path.text();
+    match event {
+        Event::Attach { path } => {
+            path.text();
+        }
+        Event::Mount { path, .. } => {
+            path.text();
+        }
+        Event::Bind { from, to, .. } => {
+            from.text();
+            to.text();
+        }
+        Event::Umount { path, .. } => {
+            path.text();
+        }
+        Event::Change { path, .. } => {
+            path.text();
+        }
+        Event::Kind { path, .. } => {
+            path.text();
+        }
+        Event::Walk { path, .. } => {
+            path.text();
+        }
+        _ => {}
     }
 }
 
@@ -140,7 +162,7 @@ impl World {
     pub fn step(&mut self, alloc: Global, event: &Event) -> Answer
         ensures { (seen : List Obs) × Step (state_of self.old) event.now result seen (state_of self.new) }
     {
-        know_names(event);
+        know_paths(event);
         told(self.halves.handle(alloc, event))
     }
 

@@ -5,7 +5,7 @@ use Rattle.am_names.specs.declared.trigger.Trigger.{Trigger}
 use Rattle.am_job.specs.declared.act.Act.{Act}
 use Rattle.am_job.specs.declared.act.Act.TheVariants as act
 use Rattle.am_job.specs.Plans.{Plan, Ended, Next}
-use Rattle.am_job.specs.Laws.{IsEnded, IsLawful}
+use Rattle.am_job.specs.Laws.{IsEnded, AcknowledgesLast, ClaimsRight}
 use Rattle.am_daemon.specs.State.{JobPlan}
 use Rattle.am_daemon.specs.Packets.{is_pending}
 
@@ -39,10 +39,11 @@ IsRest g (Next a done made failed) =
     × ((mount : ℕ) → Precedes g a (made mount) × IsRest g (made mount))
     × (Precedes g a failed × IsRest g failed)
 
--- The notification is acknowledged once, last of all; what is left claims what is mounted, and is the
--- rest of a plan for the job's trigger.
+-- The notification is still to be acknowledged, once, last of all, so that no job in the list has
+-- ended; what is left claims what is mounted, and is the rest of a plan for the job's trigger.
 pub record IsPlanned (row : JobPlan) : Type 0 where
-  pub lawful : IsLawful row.plan
+  pub last : AcknowledgesLast row.plan
+  pub claims_right : ClaimsRight row.plan
   pub rest : IsRest row.trigger row.plan
 
 abbrev pub ArePlanned : List JobPlan → Type 0

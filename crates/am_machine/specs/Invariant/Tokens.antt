@@ -11,7 +11,7 @@ use Rattle.am_kernel.specs.Requests.{queued_of}
 use Rattle.am_daemon.specs.State.{JobPlan}
 use Rattle.am_daemon.specs.Deliveries.{job_of}
 use Rattle.am_machine.specs.Invariant.Traces.{AreDifferent, asked_in, asked_by}
-use Rattle.am_machine.specs.Invariant.Names.{is_named}
+use Rattle.am_machine.specs.Invariant.Walks.{is_named}
 
 -- A packet in the pipe: it asks for what its token does, which is open and no job's, and the file
 -- system's daemon is attached as it was when the packet was queued.

@@ -10,7 +10,7 @@ invariant_of-result c =
     let opening : Opening = record { limits = c.args.limits; master = c.args.master; maps = c.args.maps.items } in
     record {
       consistent = rw (c.in_ok-kernel.ensures.ok, c.new-daemon.ensures, c.new-2.ensures.items) (initial_consistent opening);
-      named = rw (c.in_ok-kernel.ensures.ok) (initial_named opening);
+      walks = rw (c.in_ok-kernel.ensures.ok) (initial_named opening);
     }
 
 pub returns-clause-ok : goal.returns-clause-ok

@@ -15,7 +15,7 @@ invariant_of-self c =
     let event = c.args.event.now in
     record {
       consistent = goes_consistent old event c.handle.result (state_of c.handle.new.self) c.self.invariant.consistent c.handle.ensures;
-      named = goes_named old event c.handle.result (state_of c.handle.new.self) c.know_names.ensures c.self.invariant.named c.handle.ensures;
+      walks = goes_named old event c.handle.result (state_of c.handle.new.self) c.know_paths.ensures c.self.invariant.walks c.handle.ensures;
     }
 
 pub returns : goal.returns

@@ -13,10 +13,10 @@ pub returns-clause-agree : goal.returns-clause-agree
 returns-clause-agree c =
     subst (λ (t : WorldTable). Agree (table.state_of t)) c.self.view_is
     (subst Agree (sym (state_is (table_of c.self.inside.halves)))
-    (agrees (state_of c.self.inside.halves) c.self.invariant.consistent))
+    (agrees (state_of c.self.inside.halves) c.self.invariant.consistent c.self.invariant.walks))
 
 pub returns-clause-in_step : goal.returns-clause-in_step
 returns-clause-in_step c =
     subst (λ (t : WorldTable). AreInStep (table.state_of t)) c.self.view_is
     (subst AreInStep (sym (state_is (table_of c.self.inside.halves)))
-    (in_step (state_of c.self.inside.halves) c.self.invariant.consistent c.self.invariant.named))
+    (in_step (state_of c.self.inside.halves) c.self.invariant.consistent c.self.invariant.walks))

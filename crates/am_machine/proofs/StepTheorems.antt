@@ -1,0 +1,34 @@
+-- What every step keeps.
+use Rattle.std.proofs.Common.{◌≡◌, ℕ, true, List, refl, sym, subst, inl, inr, ◌∙◌}
+use Rattle.am_state.specs.declared.obs.Obs.{Obs}
+use Rattle.am_group.specs.Propagation.{Receives}
+use Rattle.am_propagate.specs.MountTable.{is_mount}
+use Rattle.am_propagate.proofs.RemovalLemmas.{same_there}
+use Rattle.am_machine.specs.declared.event.Event.{Event}
+use Rattle.am_machine.specs.declared.answer.Answer.{Answer}
+use Rattle.am_machine.specs.State.{State, opening_of}
+use Rattle.am_machine.specs.Machine.{Step, after, outcome_of}
+use Rattle.am_machine.specs.Invariant.Places.{PlacesAgree}
+use Rattle.am_machine.specs.StepLaws.{StepsAreLawful, AddsNoReceivers, StepsAddNoReceivers, RunsGoOn}
+use Rattle.am_machine.proofs.Runs.{run_more}
+use Rattle.am_machine.proofs.PlaceLemmas.{outcome_receivers}
+use Rattle.am_machine.proofs.SafetyLemmas.{step_lawful, initial_consistent, run_consistent}
+
+pub steps_lawful : StepsAreLawful
+steps_lawful old event answer seen new step = step_lawful old event answer seen new step
+
+pub run_goes_on : RunsGoOn
+run_goes_on old events answers mid run event answer seen new step = run_more old events answers mid event answer new run (seen, step)
+
+outcome_adds : (s : State) (event : Event) → PlacesAgree s.kernel → AddsNoReceivers s (after s (outcome_of s event))
+outcome_adds s event h b c there other r =
+    let whole = h.whole in
+    outcome_receivers s event h b c (sym (same_there s.kernel.table whole b) ∙ there) (sym (same_there s.kernel.table whole c) ∙ other) r
+
+step_adds : (old : State) (event : Event) (answer : Answer) (seen : List Obs) (new : State) → PlacesAgree old.kernel → Step old event answer seen new → AddsNoReceivers old new
+step_adds old event answer seen new h (inl out) = subst (AddsNoReceivers old) (sym out.same) (λ b c there other r. r)
+step_adds old event answer seen new h (inr comes) = subst (AddsNoReceivers old) (sym comes.left) (outcome_adds old event h)
+
+pub steps_add_none : StepsAddNoReceivers
+steps_add_none opening events answers old run event answer seen new step =
+    step_adds old event answer seen new (run_consistent (opening_of opening) events answers old run (initial_consistent opening)).agreed.places step
