@@ -33,7 +33,7 @@ free_walker walker w h = first_passed (still_waits (wait_of w.waits walker)) _ h
 
 -- ---- a walker that has no wait
 
-all_kept : {X : Type 0} (test : X → Bool) (xs : List X) → find test xs ≡ None → filter (λ x. not (test x)) xs ≡ xs
+pub all_kept : {X : Type 0} (test : X → Bool) (xs : List X) → find test xs ≡ None → filter (λ x. not (test x)) xs ≡ xs
 all_kept test [] h = refl
 all_kept test (x ∷ xs) h = by_test (test x) h (all_kept test xs)
   where

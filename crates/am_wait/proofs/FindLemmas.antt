@@ -60,34 +60,40 @@ module _ {X : Type 0} (test : X → Bool) where
 
 -- ---- waits
 
-lower : (n k : ℕ) (row : WaitRow) → k < n → (row.walker == k) ≡ true → nat_lt row.walker n ≡ true
-lower n k row less e = grind (arith, nat_tests, e)
+lower : (n k a : ℕ) → k < n → (a == k) ≡ true → nat_lt a n ≡ true
+lower n k a less e = grind (arith, nat_tests, e)
 
-not_lower : (n k : ℕ) (row : WaitRow) → n ≤ k → (row.walker == k) ≡ true → nat_lt row.walker n ≡ false
-not_lower n k row more e = grind (arith, nat_tests, e)
+not_lower : (n k a : ℕ) → n ≤ k → (a == k) ≡ true → nat_lt a n ≡ false
+not_lower n k a more e = grind (arith, nat_tests, e)
 
-higher : (n k : ℕ) (row : WaitRow) → n < k → (row.walker == k) ≡ true → nat_lt n row.walker ≡ true
-higher n k row more e = grind (arith, nat_tests, e)
+higher : (n k a : ℕ) → n < k → (a == k) ≡ true → nat_lt n a ≡ true
+higher n k a more e = grind (arith, nat_tests, e)
 
-not_higher : (n k : ℕ) (row : WaitRow) → k ≤ n → (row.walker == k) ≡ true → nat_lt n row.walker ≡ false
-not_higher n k row less e = grind (arith, nat_tests, e)
+not_higher : (n k a : ℕ) → k ≤ n → (a == k) ≡ true → nat_lt n a ≡ false
+not_higher n k a less e = grind (arith, nat_tests, e)
+
+module _ {X : Type 0} (key : X → ℕ) where
+  -- the row that is put is found, and each other one as before
+  pub row_put : (row : X) (rows : List X) (k : ℕ) (b : Bool) → (key row == k) ≡ b →
+      find (λ r. key r == k) (filter (λ other. nat_lt (key other) (key row)) rows ++ row ∷ filter (λ other. nat_lt (key row) (key other)) rows) ≡ cond b (Some row) (find (λ r. key r == k) rows)
+  row_put row rows k true e =
+      let same : key row ≡ k = (Decides-eqb (key row) k).0 e in
+      find_append (λ (r : X). key r == k) _ _
+      ∙ ap (λ (o : Option X). or_first o (find (λ (r : X). key r == k) (row ∷ filter (λ other. nat_lt (key row) (key other)) rows))) (find_gone (λ (r : X). key r == k) (λ other. nat_lt (key other) (key row)) (λ r t. not_lower (key row) k (key r) (omega arith) t) rows)
+      ∙ (rw e refl)
+  row_put row rows k false e =
+      let differs : key row ≢ k = λ same. cc (sym e ∙ (Decides-eqb (key row) k).1 same) in
+      let parts = find_append (λ (r : X). key r == k) (filter (λ other. nat_lt (key other) (key row)) rows) (row ∷ filter (λ other. nat_lt (key row) (key other)) rows) in
+      elim (cases_lt k (key row)) [
+        | inl less ↦
+            parts ∙ (rw (e, find_kept (λ (r : X). key r == k) (λ other. nat_lt (key other) (key row)) (λ r t. lower (key row) k (key r) less t) rows, find_gone (λ (r : X). key r == k) (λ other. nat_lt (key row) (key other)) (λ r t. not_higher (key row) k (key r) (omega arith) t) rows) (or_none (find (λ r. key r == k) rows)))
+        | inr more ↦
+            parts ∙ (rw (e, find_gone (λ (r : X). key r == k) (λ other. nat_lt (key other) (key row)) (λ r t. not_lower (key row) k (key r) more t) rows, find_kept (λ (r : X). key r == k) (λ other. nat_lt (key row) (key other)) (λ r t. higher (key row) k (key r) (omega (arith, differs, more)) t) rows) refl)
+      ]
 
 -- the wait that is put is found, and each other one as before
 pub wait_put : (row : WaitRow) (waits : List WaitRow) (k : ℕ) (b : Bool) → (row.walker == k) ≡ b → wait_of (with_wait row waits) k ≡ cond b (Some row) (wait_of waits k)
-wait_put row waits k true e =
-    let same : row.walker ≡ k = (Decides-eqb row.walker k).0 e in
-    find_append (λ (r : WaitRow). r.walker == k) _ _
-    ∙ ap (λ (o : Option WaitRow). or_first o (find (λ (r : WaitRow). r.walker == k) (row ∷ filter (λ other. nat_lt row.walker other.walker) waits))) (find_gone (λ (r : WaitRow). r.walker == k) (λ other. nat_lt other.walker row.walker) (λ r t. not_lower row.walker k r (omega arith) t) waits)
-    ∙ (rw e refl)
-wait_put row waits k false e =
-    let differs : row.walker ≢ k = λ same. cc (sym e ∙ (Decides-eqb row.walker k).1 same) in
-    let parts = find_append (λ (r : WaitRow). r.walker == k) (filter (λ other. nat_lt other.walker row.walker) waits) (row ∷ filter (λ other. nat_lt row.walker other.walker) waits) in
-    elim (cases_lt k row.walker) [
-      | inl less ↦
-          parts ∙ (rw (e, find_kept (λ (r : WaitRow). r.walker == k) (λ other. nat_lt other.walker row.walker) (λ r t. lower row.walker k r less t) waits, find_gone (λ (r : WaitRow). r.walker == k) (λ other. nat_lt row.walker other.walker) (λ r t. not_higher row.walker k r (omega arith) t) waits) (or_none (wait_of waits k)))
-      | inr more ↦
-          parts ∙ (rw (e, find_gone (λ (r : WaitRow). r.walker == k) (λ other. nat_lt other.walker row.walker) (λ r t. not_lower row.walker k r more t) waits, find_kept (λ (r : WaitRow). r.walker == k) (λ other. nat_lt row.walker other.walker) (λ r t. higher row.walker k r (omega (arith, differs, more)) t) waits) refl)
-    ]
+wait_put row waits k b e = row_put (λ (r : WaitRow). r.walker) row waits k b e
 
 both_ways : (a n k : ℕ) → (a == k) ≡ true → (n == k) ≡ false → not (a == n) ≡ true
 both_ways a n k e d = grind (arith, nat_tests, e, d)

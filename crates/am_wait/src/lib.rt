@@ -2,7 +2,9 @@
 //! (autofs.rst, "Communicating with autofs: the event pipe").
 #![tactic(auto)]
 
-mod rows;
+mod held;
+mod keys;
+mod seats;
 pub mod waits;
 
 pub use waits::Waits;

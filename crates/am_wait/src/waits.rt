@@ -1,14 +1,17 @@
 //! Open tokens, and the walkers that wait on them.
 
 ghost use Rattle.std.specs.Prelude.{◌≡◌, ◌+◌, Some, IfOk, OnOk, OnErr};
-ghost use Rattle.std.specs.Option.{option_map, option_copied};
+ghost use Rattle.std.specs.Option.{option_map};
 ghost use Rattle.am_names.specs.Errno.{RefusedAs, RefusedOnlyAs};
 ghost use Rattle.am_wait.specs.Rows.{no_waits, open_on, token_of, wait_of, waiters_of, tokens_of};
 ghost use Rattle.am_wait.specs.Invariant.{IsSound};
 ghost use Rattle.am_wait.specs.Calls.{is_exhausted, is_full, open_refusal, waiting_on, opened, join_refusal, joined, answer_refusal, answered, fs_released, collect_refusal, status_of, collected};
 
-use crate::rows::{fail_waits_of, is_open_on, release, take_token, take_tokens_of, take_wait};
-use am_names::{Errno, FsId, OpenToken, Status, Token, TokenKind, Trigger, WaitRow, WalkerId};
+use crate::held;
+use crate::held::{HeldToken, held_of, take_token, take_tokens_of};
+use crate::seats::{Seat, fail_waits_of, key_of, set_statuses, take_wait, walkers_at};
+use am_names::{Errno, FsId, Status, Token, TokenKind, Trigger, WaitRow, WalkerId};
+use slab::Slab;
 use std::alloc::{AllocError, Global};
 use std::marker::Model;
 
@@ -18,8 +21,9 @@ mod again;
 /// status yet, its wait (Linux: the wait queues of an autofs).
 #[derive(Debug, Drop)]
 pub struct Waits {
-    tokens: Vec<OpenToken>,
-    waits: Vec<WaitRow>,
+    tokens: Vec<HeldToken>,
+    seats: Vec<Seat>,
+    slab: Slab<WaitRow>,
     last_token: u32,
     most_waits: u32,
     most_tokens: u32,
@@ -30,23 +34,22 @@ impl Model for Waits {
 
     ghost Value = { WaitRows };
 
-    ghost use Rattle.am_wait.specs.Invariant.{IsSound};
-    ghost use Rattle.am_wait.specs.Inside.{rows_of};
+    ghost use Rattle.am_wait.specs.Inside.{rows_of, IsKept};
 
     ghost view = { rows_of };
 
-    ghost invariant = { λ w. IsSound (rows_of w) };
+    ghost invariant = { IsKept };
 }
 
 /// The wait of a walker on an open token.
-fn waiting_on(token: Token, row: &OpenToken, walker: WalkerId) -> WaitRow
-    ensures { result ≡ waiting_on token row.now.trigger row.now.kind walker }
+fn waiting_on(token: Token, trigger: Trigger, kind: TokenKind, walker: WalkerId) -> WaitRow
+    ensures { result ≡ waiting_on token trigger kind walker }
 {
     WaitRow {
         walker,
         token,
-        trigger: row.trigger,
-        kind: row.kind,
+        trigger,
+        kind,
         status: None,
     }
 }
@@ -58,35 +61,26 @@ impl Waits {
     {
         Waits {
             tokens: Vec::new(alloc),
-            waits: Vec::new(alloc),
+            seats: Vec::new(alloc),
+            slab: Slab::new(alloc),
             last_token: 0,
             most_waits: waiters,
             most_tokens: tokens,
         }
     }
 
-    /// The row of a token, if it is open.
-    fn token_row(&self, token: Token) -> Option<&OpenToken>
-        ensures { option_copied result ≡ token_of self.now.tokens token }
-    {
-        self.tokens.iter().find(|row| row.token == token)
-    }
-
     /// The open token of this kind for a trigger.
     pub fn open_on(&self, kind: TokenKind, trigger: &Trigger) -> Option<Token>
         ensures { result ≡ open_on self.now.tokens kind trigger.now }
     {
-        self.tokens
-            .iter()
-            .find(|row| is_open_on(row, kind, trigger))
-            .map(|row| row.token)
+        held::open_on(&self.tokens, kind, trigger)
     }
 
     /// The trigger of a token; none if it isn't open.
     pub fn trigger_of(&self, token: Token) -> Option<Trigger>
         ensures { result ≡ option_map (λ row. row.trigger) (token_of self.now.tokens token) }
     {
-        match self.token_row(token) {
+        match held_of(&self.tokens, token) {
             Some(row) => Some(row.trigger),
             None => None,
         }
@@ -97,15 +91,19 @@ impl Waits {
         ensures wait { result ≡ wait_of self.now.waits walker }
         ensures sound { IsSound self.now }
     {
-        self.waits.iter().copied().find(|row| row.walker == walker)
+        let _tokens = &self.tokens;
+        let Some(key) = key_of(&self.seats, walker) else {
+            return None;
+        };
+        self.slab.get(key).copied()
     }
 
     /// The waiters of a token, in the order in which they joined; none if it isn't open.
     pub fn waiters_of(&self, alloc: Global, token: Token) -> Result<Vec<WalkerId>, AllocError>
         ensures { IfOk result (λ v. v.items ≡ waiters_of self.now.tokens token) }
     {
-        match self.token_row(token) {
-            Some(row) => Vec::from_slice(alloc, row.waiters.as_slice()),
+        match held_of(&self.tokens, token) {
+            Some(row) => walkers_at(alloc, &self.slab, row.keys.as_slice()),
             None => Ok(Vec::new(alloc)),
         }
     }
@@ -114,13 +112,7 @@ impl Waits {
     pub fn tokens_of(&self, alloc: Global, fs: FsId) -> Result<Vec<Token>, AllocError>
         ensures { IfOk result (λ v. v.items ≡ tokens_of self.now.tokens fs) }
     {
-        let mut tokens = Vec::new(alloc);
-        for row in self.tokens.iter() {
-            if row.trigger.fs == fs {
-                tokens.push(row.token)?;
-            }
-        }
-        Ok(tokens)
+        held::tokens_of(alloc, &self.tokens, fs)
     }
 
     fn is_exhausted(&self) -> bool
@@ -132,7 +124,7 @@ impl Waits {
     fn is_full(&self) -> bool
         ensures { result ≡ is_full self.now }
     {
-        self.waits.len() >= self.most_waits as usize
+        self.seats.len() >= self.most_waits as usize
     }
 
     /// Why `open` would refuse this walker, if it would.
@@ -188,11 +180,11 @@ impl Waits {
         ensures ok { OnOk result (self.new ≡ answered token status self.old) }
         ensures err { OnErr result (self.new ≡ self.old) }
     {
-        if self.trigger_of(token).is_none() {
+        let Some(row) = held_of(&self.tokens, token) else {
             return Err(Errno::EINVAL);
-        }
+        };
+        set_statuses(&mut self.slab, row.keys.as_slice(), status);
         take_token(&mut self.tokens, token);
-        release(&mut self.waits, token, status);
         Ok(())
     }
 
@@ -201,8 +193,8 @@ impl Waits {
     pub fn release_fs(&mut self, fs: FsId)
         ensures { self.new ≡ fs_released fs self.old }
     {
+        fail_waits_of(&mut self.slab, &self.seats, fs);
         take_tokens_of(&mut self.tokens, fs);
-        fail_waits_of(&mut self.waits, fs);
     }
 
     /// The status with which the walker was released. Its wait counts no more.
@@ -218,7 +210,7 @@ impl Waits {
         let Some(status) = row.status else {
             return Err(Errno::NotReleased);
         };
-        take_wait(&mut self.waits, walker);
+        take_wait(&mut self.seats, &mut self.slab, walker);
         Ok(status)
     }
 }

@@ -5,6 +5,7 @@ use crate::tests::trap::Trap;
 use am_names::{Errno, FsId, Name, Status, Token, TokenKind, Trigger, WalkerId};
 use am_wait::Waits;
 use std::alloc::Global;
+use std::process::Abort;
 
 const HOME: Trap = Trap(2, b"home");
 
@@ -349,4 +350,28 @@ static JOINING_AGAIN: [Step<Call>; 9] = [
 fn a_released_walker_joins_again(rt: HostRuntime) {
     let mut table = Table(Waits::new(rt.alloc(), 2, 9));
     plays(&rt, rt.alloc(), &mut table, &JOINING_AGAIN);
+}
+
+/// The call is done, and answers what it says.
+fn step(rt: &impl Abort, alloc: Global, table: &mut Table, call: Call) {
+    plays(rt, alloc, table, &[Step::Does(call)]);
+}
+
+#[test]
+fn a_thousand_waiters_collect_in_reverse(rt: HostRuntime) {
+    let alloc = rt.alloc();
+    let mut table = Table(Waits::new(alloc, 1000, 1));
+    step(&rt, alloc, &mut table, Call::Open(HOME, MISSING, 1, 1));
+    for walker in 2..1001 {
+        step(&rt, alloc, &mut table, Call::Join(1, walker));
+    }
+    step(&rt, alloc, &mut table, Call::Answer(1, Status::Ready));
+    for collected in 0..1000_u32 {
+        step(
+            &rt,
+            alloc,
+            &mut table,
+            Call::Collect(1000 - collected, Status::Ready),
+        );
+    }
 }

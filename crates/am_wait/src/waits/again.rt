@@ -5,9 +5,10 @@ ghost use Rattle.am_names.specs.Errno.{RefusedAs};
 ghost use Rattle.am_wait.specs.Rows.{wait_of};
 ghost use Rattle.am_wait.specs.Calls.{is_full, collected, still_waits, reopen_refusal, reopened, rejoin_refusal, rejoined};
 
-use crate::rows::{add_waiter, renew_wait, waits_of_others};
+use crate::held::{add_key, held_of, open_token};
+use crate::seats::{make_room, next_key, put_wait, take_wait, waits_of_others};
 use crate::waits::{Waits, waiting_on};
-use am_names::{Errno, OpenToken, Token, TokenKind, Trigger, Waiters, WalkerId};
+use am_names::{Errno, Token, TokenKind, Trigger, WalkerId};
 use std::alloc::Global;
 
 impl Waits {
@@ -25,7 +26,7 @@ impl Waits {
     pub fn is_full_for(&self, walker: WalkerId) -> bool
         ensures { result ≡ is_full (collected walker self.now) }
     {
-        waits_of_others(&self.waits, walker) >= self.most_waits as usize
+        waits_of_others(&self.seats, walker) >= self.most_waits as usize
     }
 
     /// Why `reopen` would refuse this walker, if it would.
@@ -62,16 +63,12 @@ impl Waits {
         }
         let number = self.last_token + 1;
         let token = Token(number);
-        let row = OpenToken {
-            token,
-            trigger,
-            kind,
-            waiters: Waiters::one(alloc, walker)?,
-        };
-        let wait = waiting_on(token, &row, walker);
-        self.waits.reserve(1)?;
-        self.tokens.push(row)?;
-        renew_wait(&mut self.waits, wait);
+        let wait = waiting_on(token, trigger, kind, walker);
+        let key = next_key(&self.seats, &self.slab, walker);
+        make_room(&mut self.seats, &mut self.slab)?;
+        open_token(alloc, &mut self.tokens, &wait, key)?;
+        take_wait(&mut self.seats, &mut self.slab, walker);
+        put_wait(&mut self.seats, &mut self.slab, wait);
         self.last_token = number;
         Ok(token)
     }
@@ -86,16 +83,18 @@ impl Waits {
         if self.still_waits(walker) {
             return Err(Errno::EINVAL);
         }
-        let Some(row) = self.token_row(token) else {
+        let Some(row) = held_of(&self.tokens, token) else {
             return Err(Errno::EINVAL);
         };
+        let wait = waiting_on(token, row.trigger, row.kind, walker);
         if self.is_full_for(walker) {
             return Err(Errno::ENOSPC);
         }
-        let wait = waiting_on(token, row, walker);
-        self.waits.reserve(1)?;
-        add_waiter(&mut self.tokens, token, walker)?;
-        renew_wait(&mut self.waits, wait);
+        let key = next_key(&self.seats, &self.slab, walker);
+        make_room(&mut self.seats, &mut self.slab)?;
+        add_key(&mut self.tokens, token, key)?;
+        take_wait(&mut self.seats, &mut self.slab, walker);
+        put_wait(&mut self.seats, &mut self.slab, wait);
         Ok(())
     }
 }

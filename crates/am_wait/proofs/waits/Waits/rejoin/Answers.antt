@@ -1,18 +1,139 @@
-use Rattle.std.proofs.Common.{◌≡◌, List, false, Some, sym, ap, ◌∙◌}
-use Rattle.std.specs.Option.{option_copied}
+use Rattle.std.proofs.Common.{◌≡◌, List, true, false, not, ◌==◌, Some, None, option_copied, refl, sym, ap, subst, ◌∙◌}
 use Rattle.am_names.specs.declared.row.WaitRow.{WaitRow}
-use Rattle.am_wait.specs.Rows.{WaitRows, token_of, wait_of, with_wait, without_wait, with_waiter}
-use Rattle.am_wait.specs.Calls.{waiting_on, still_waits}
+use Rattle.am_wait.specs.declared.held.HeldToken.{HeldToken}
+use Rattle.am_wait.specs.declared.waits.Waits.TheInside.{Inside}
+use Rattle.am_wait.specs.Rows.{WaitRows, wait_of, token_of}
+use Rattle.am_wait.specs.Calls.{is_full, waiting_on, still_waits, collected, rejoined}
+use Rattle.am_wait.specs.Invariant.{RiseBy}
+use Rattle.am_wait.specs.Seats.{key_of, next_key, without_seat}
+use Rattle.am_wait.specs.declared.seats.Seat.{Seat}
+use Rattle.am_wait.proofs.RowLemmas.{rises_filter}
+use Rattle.am_wait.specs.Held.{held_of, token_in}
 use Rattle.am_wait.specs.Inside.{rows_of}
-use Rattle.am_wait.proofs.AgreeLemmas.{rejoined_sound, with_rows}
+use Rattle.am_wait.proofs.SameLemmas.{same_slots, same_kept}
+use Rattle.am_wait.proofs.RenewLemmas.{Renews, no_seat_left, rejoins}
+use Rattle.am_wait.proofs.ViewLemmas.{tokens_rise, found_open}
 use Rattle.am_wait.proofs.waits.Waits.rejoin.Goals as goal
+
+pub held_of-requires : goal.held_of-requires
+held_of-requires c = record { rising = rw c.deref.ensures.value (tokens_rise c.self.inside c.self.invariant) }
+
+pub add_key-requires : goal.add_key-requires
+add_key-requires c = record { rising = tokens_rise c.self.inside c.self.invariant }
+
+pub returns-in_default-clause-refusal : goal.returns-in_default-clause-refusal
+returns-in_default-clause-refusal c =
+    let i = c.self.inside in
+    let none : held_of i.tokens.items c.args.token ≡ None = ap (λ (tokens : List HeldToken). held_of tokens c.args.token) (sym c.deref.ensures.value) ∙ sym c.held_of.ensures ∙ ap (λ o. option_copied o) c.in_default.is in
+    let closed : token_of c.args.self.now.tokens c.args.token ≡ None = ap (λ (x : WaitRows). token_of x.tokens c.args.token) (sym c.self.view_is) ∙ found_open i c.args.token None none in
+    let free : still_waits (wait_of c.args.self.now.waits c.args.walker) ≡ false = sym c.still_waits.ensures ∙ c.if-still_waits.false in
+    rw (free, closed) refl
+
+pub returns-then-is_full_for-clause-refusal : goal.returns-then-is_full_for-clause-refusal
+returns-then-is_full_for-clause-refusal c =
+    let i = c.self.inside in
+    let its = c.in-Some.row.now in
+    let there : held_of i.tokens.items c.args.token ≡ Some its = ap (λ (tokens : List HeldToken). held_of tokens c.args.token) (sym c.deref.ensures.value) ∙ sym c.held_of.ensures ∙ ap (λ o. option_copied o) c.in-Some.is in
+    let is_open : token_of c.args.self.now.tokens c.args.token ≡ Some (token_in i.slab its) = ap (λ (x : WaitRows). token_of x.tokens c.args.token) (sym c.self.view_is) ∙ found_open i c.args.token (Some its) there in
+    let free : still_waits (wait_of c.args.self.now.waits c.args.walker) ≡ false = sym c.still_waits.ensures ∙ c.if-still_waits.false in
+    let full : is_full (collected c.args.walker c.args.self.now) ≡ true = sym c.is_full_for.ensures ∙ c.if-is_full_for.true in
+    rw (free, is_open, full) refl
+
+pub returns-clause-refusal : goal.returns-clause-refusal
+returns-clause-refusal c =
+    let i = c.self.inside in
+    let its = c.in-Some.row.now in
+    let there : held_of i.tokens.items c.args.token ≡ Some its = ap (λ (tokens : List HeldToken). held_of tokens c.args.token) (sym c.deref.ensures.value) ∙ sym c.held_of.ensures ∙ ap (λ o. option_copied o) c.in-Some.is in
+    let is_open : token_of c.args.self.now.tokens c.args.token ≡ Some (token_in i.slab its) = ap (λ (x : WaitRows). token_of x.tokens c.args.token) (sym c.self.view_is) ∙ found_open i c.args.token (Some its) there in
+    let free : still_waits (wait_of c.args.self.now.waits c.args.walker) ≡ false = sym c.still_waits.ensures ∙ c.if-still_waits.false in
+    let room : is_full (collected c.args.walker c.args.self.now) ≡ false = sym c.is_full_for.ensures ∙ c.if-is_full_for.false in
+    rw (free, is_open, room) refl
+
+pub invariant_of-self : goal.invariant_of-self
+invariant_of-self c =
+    let i = c.self.inside in
+    let j : Inside = record { tokens = i.tokens; seats = c.make_room.new.seats; slab = c.make_room.new.slab; last_token = i.last_token; most_waits = i.most_waits; most_tokens = i.most_tokens } in
+    same_kept i j c.self.invariant (record { tokens = refl; seats = c.make_room.ensures.seats; slab = same_slots i.slab c.make_room.new.slab c.make_room.ensures.slots; last = refl; waiters = refl; numbers = refl })
+
+pub invariant_of-self-in_err-add_key : goal.invariant_of-self-in_err-add_key
+invariant_of-self-in_err-add_key c =
+    let i = c.self.inside in
+    let j : Inside = record { tokens = c.add_key.new.tokens; seats = c.make_room.new.seats; slab = c.make_room.new.slab; last_token = i.last_token; most_waits = i.most_waits; most_tokens = i.most_tokens } in
+    same_kept i j c.self.invariant (record { tokens = c.in_err-add_key.ensures.err; seats = c.make_room.ensures.seats; slab = same_slots i.slab c.make_room.new.slab c.make_room.ensures.slots; last = refl; waiters = refl; numbers = refl })
+
+pub put_wait-requires-clause-rising : goal.put_wait-requires-clause-rising
+put_wait-requires-clause-rising c =
+    let i = c.self.inside in
+    subst (λ (seats : List Seat). RiseBy (λ s. s.walker) 0 seats) (sym (c.take_wait.ensures.seats ∙ ap (without_seat c.args.walker) c.make_room.ensures.seats))
+    (rises_filter (λ (s : Seat). s.walker) (λ s. not (s.walker == c.args.walker)) 0 i.seats.items c.self.invariant.linked.rising)
+
+pub put_wait-requires-clause-none : goal.put_wait-requires-clause-none
+put_wait-requires-clause-none c =
+    ap (λ (w : WaitRow). key_of c.take_wait.new.seats.items w.walker) c.waiting_on-wait.ensures
+    ∙ ap (λ (seats : List Seat). key_of seats c.args.walker) c.take_wait.ensures.seats ∙ no_seat_left c.args.walker c.make_room.new.seats.items
 
 pub invariant_of-self-2 : goal.invariant_of-self-2
 invariant_of-self-2 c =
-    let w = rows_of c.self.inside in
+    let i = c.self.inside in
+    let j : Inside = record { tokens = i.tokens; seats = c.take_wait.new.seats; slab = c.take_wait.new.slab; last_token = i.last_token; most_waits = i.most_waits; most_tokens = i.most_tokens } in
+    let k : Inside = record { tokens = c.add_key.new.tokens; seats = c.put_wait.new.seats; slab = c.put_wait.new.slab; last_token = i.last_token; most_waits = i.most_waits; most_tokens = i.most_tokens } in
+    let wait = c.waiting_on-wait.result in
+    let key = c.next_key-key.result in
     let its = c.in-Some.row.now in
-    let wait = waiting_on c.args.token its.trigger its.kind c.args.walker in
-    let free : still_waits (wait_of w.waits c.args.walker) ≡ false = ap (λ (x : WaitRows). still_waits (wait_of x.waits c.args.walker)) c.self.view_is ∙ sym c.still_waits.ensures ∙ c.if-still_waits.false in
-    let there : token_of w.tokens c.args.token ≡ Some its = ap (λ (x : WaitRows). token_of x.tokens c.args.token) c.self.view_is ∙ sym c.token_row.ensures ∙ ap (λ o. option_copied o) c.in-Some.is in
-    let waits : c.renew_wait.new.rows.items ≡ with_wait wait (without_wait c.args.walker w.waits) = c.renew_wait.ensures ∙ ap (λ (rows : List WaitRow). with_wait c.waiting_on-wait.result (without_wait c.waiting_on-wait.result.walker rows)) c.reserve.ensures.items ∙ ap (λ (row : WaitRow). with_wait row (without_wait row.walker w.waits)) c.waiting_on-wait.ensures in
-    with_rows w c.add_waiter.new.rows.items (with_waiter c.args.token c.args.walker w.tokens) c.renew_wait.new.rows.items (with_wait wait (without_wait c.args.walker w.waits)) w.last_token c.in_ok-add_waiter.ensures.ok waits (rejoined_sound w c.args.token c.args.walker its c.self.invariant free there)
+    let there : held_of i.tokens.items c.args.token ≡ Some its = ap (λ (tokens : List HeldToken). held_of tokens c.args.token) (sym c.deref.ensures.value) ∙ sym c.held_of.ensures ∙ ap (λ o. option_copied o) c.in-Some.is in
+    let is : wait ≡ waiting_on c.args.token its.trigger its.kind c.args.walker = c.waiting_on-wait.ensures in
+    let free : still_waits (wait_of (rows_of i).waits c.args.walker) ≡ false = ap (λ (x : WaitRows). still_waits (wait_of x.waits c.args.walker)) c.self.view_is ∙ sym c.still_waits.ensures ∙ c.if-still_waits.false in
+    let first : key ≡ next_key i.seats.items i.slab c.args.walker = rw c.deref-2.ensures.value at c.next_key-key.ensures in
+    let renews : Renews i j k c.make_room.new.seats.items c.make_room.new.slab c.args.walker key wait = record {
+      whose = ap (λ (w : WaitRow). w.walker) is;
+      first = first;
+      rows = c.make_room.ensures.seats;
+      slots = c.make_room.ensures.slots;
+      vacated = c.make_room.ensures.next;
+      taken = c.take_wait.ensures.seats;
+      freed = c.take_wait.ensures.freed;
+      next = c.take_wait.ensures.next;
+      seats = c.put_wait.ensures.seats;
+      vacant = c.put_wait.ensures.vacant;
+      put = c.put_wait.ensures.put;
+      tokens = refl;
+      last = refl;
+      waiters_taken = refl;
+      numbers_taken = refl;
+      waiters_put = refl;
+      numbers_put = refl;
+    } in
+    (rejoins i j k c.make_room.new.seats.items c.make_room.new.slab c.args.walker key wait c.self.invariant free renews c.args.token its there is c.in_ok-add_key.ensures.ok refl).1
+
+pub returns-clause-ok : goal.returns-clause-ok
+returns-clause-ok c =
+    let i = c.self.inside in
+    let j : Inside = record { tokens = i.tokens; seats = c.take_wait.new.seats; slab = c.take_wait.new.slab; last_token = i.last_token; most_waits = i.most_waits; most_tokens = i.most_tokens } in
+    let k : Inside = record { tokens = c.add_key.new.tokens; seats = c.put_wait.new.seats; slab = c.put_wait.new.slab; last_token = i.last_token; most_waits = i.most_waits; most_tokens = i.most_tokens } in
+    let wait = c.waiting_on-wait.result in
+    let key = c.next_key-key.result in
+    let its = c.in-Some.row.now in
+    let there : held_of i.tokens.items c.args.token ≡ Some its = ap (λ (tokens : List HeldToken). held_of tokens c.args.token) (sym c.deref.ensures.value) ∙ sym c.held_of.ensures ∙ ap (λ o. option_copied o) c.in-Some.is in
+    let is : wait ≡ waiting_on c.args.token its.trigger its.kind c.args.walker = c.waiting_on-wait.ensures in
+    let free : still_waits (wait_of (rows_of i).waits c.args.walker) ≡ false = ap (λ (x : WaitRows). still_waits (wait_of x.waits c.args.walker)) c.self.view_is ∙ sym c.still_waits.ensures ∙ c.if-still_waits.false in
+    let first : key ≡ next_key i.seats.items i.slab c.args.walker = rw c.deref-2.ensures.value at c.next_key-key.ensures in
+    let renews : Renews i j k c.make_room.new.seats.items c.make_room.new.slab c.args.walker key wait = record {
+      whose = ap (λ (w : WaitRow). w.walker) is;
+      first = first;
+      rows = c.make_room.ensures.seats;
+      slots = c.make_room.ensures.slots;
+      vacated = c.make_room.ensures.next;
+      taken = c.take_wait.ensures.seats;
+      freed = c.take_wait.ensures.freed;
+      next = c.take_wait.ensures.next;
+      seats = c.put_wait.ensures.seats;
+      vacant = c.put_wait.ensures.vacant;
+      put = c.put_wait.ensures.put;
+      tokens = refl;
+      last = refl;
+      waiters_taken = refl;
+      numbers_taken = refl;
+      waiters_put = refl;
+      numbers_put = refl;
+    } in
+    (rejoins i j k c.make_room.new.seats.items c.make_room.new.slab c.args.walker key wait c.self.invariant free renews c.args.token its there is c.in_ok-add_key.ensures.ok refl).0 ∙ ap (rejoined c.args.token c.args.walker) c.self.view_is

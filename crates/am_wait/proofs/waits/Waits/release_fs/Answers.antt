@@ -1,12 +1,21 @@
-use Rattle.std.proofs.Common.{◌==◌, not, map}
-use Rattle.std.specs.Prelude.{filter}
-use Rattle.am_names.specs.declared.row.OpenToken.{OpenToken}
-use Rattle.am_wait.specs.Calls.{failed_row}
-use Rattle.am_wait.specs.Inside.{rows_of}
-use Rattle.am_wait.proofs.AgreeLemmas.{released_sound, with_rows}
+use Rattle.std.proofs.Common.{List, refl, ap, subst, ◌∙◌}
+use Rattle.am_wait.specs.declared.seats.Seat.{Seat}
+use Rattle.am_wait.specs.declared.waits.Waits.TheInside.{Inside}
+use Rattle.am_wait.specs.Rows.{WaitRows}
+use Rattle.am_wait.specs.Calls.{fs_released}
+use Rattle.am_wait.proofs.FailLemmas.{FailsAll, failed_is, failed_kept}
 use Rattle.am_wait.proofs.waits.Waits.release_fs.Goals as goal
 
 pub invariant_of-self : goal.invariant_of-self
 invariant_of-self c =
-    let w = rows_of c.self.inside in
-    with_rows w c.take_tokens_of.new.rows.items (filter (λ (row : OpenToken). not (row.trigger.fs == c.args.fs)) w.tokens) c.fail_waits_of.new.rows.items (map (failed_row c.args.fs) w.waits) w.last_token c.take_tokens_of.ensures c.fail_waits_of.ensures (released_sound w c.args.fs c.self.invariant)
+    let i = c.self.inside in
+    let j : Inside = record { tokens = c.take_tokens_of.new.tokens; seats = i.seats; slab = c.fail_waits_of.new.slab; last_token = i.last_token; most_waits = i.most_waits; most_tokens = i.most_tokens } in
+    let slab = subst (λ (seats : List Seat). FailsAll i.slab c.fail_waits_of.new.slab c.args.fs seats) c.deref.ensures.value c.fail_waits_of.ensures in
+    failed_kept i j c.args.fs c.self.invariant (record { tokens = c.take_tokens_of.ensures; seats = refl; slab = slab; last = refl; waiters = refl; numbers = refl })
+
+pub returns : goal.returns
+returns c =
+    let i = c.self.inside in
+    let j : Inside = record { tokens = c.take_tokens_of.new.tokens; seats = i.seats; slab = c.fail_waits_of.new.slab; last_token = i.last_token; most_waits = i.most_waits; most_tokens = i.most_tokens } in
+    let slab = subst (λ (seats : List Seat). FailsAll i.slab c.fail_waits_of.new.slab c.args.fs seats) c.deref.ensures.value c.fail_waits_of.ensures in
+    failed_is i j c.args.fs c.self.invariant (record { tokens = c.take_tokens_of.ensures; seats = refl; slab = slab; last = refl; waiters = refl; numbers = refl }) ∙ ap (λ (x : WaitRows). fs_released c.args.fs x) c.self.view_is

@@ -1,20 +1,102 @@
-use Rattle.std.proofs.Common.{◌≡◌, ◌+◌, ◌∷◌, ◌++◌, [], ℕ, List, false, sym, ap, ◌∙◌}
-use Rattle.am_names.specs.declared.row.OpenToken.{OpenToken}
+use Rattle.std.proofs.Common.{◌≡◌, ◌+◌, ◌∷◌, ◌++◌, [], List, false, not, ◌==◌, refl, sym, ap, subst, ◌∙◌}
 use Rattle.am_names.specs.declared.row.WaitRow.{WaitRow}
-use Rattle.am_wait.specs.Rows.{WaitRows, wait_of, with_wait, without_wait}
-use Rattle.am_wait.specs.Calls.{waiting_on, still_waits}
+use Rattle.am_wait.specs.declared.waits.Waits.TheInside.{Inside}
+use Rattle.am_wait.specs.Rows.{WaitRows, wait_of}
+use Rattle.am_wait.specs.Calls.{waiting_on, still_waits, reopened}
+use Rattle.am_wait.specs.Invariant.{RiseBy}
+use Rattle.am_wait.specs.Seats.{key_of, next_key, without_seat}
+use Rattle.am_wait.specs.declared.seats.Seat.{Seat}
+use Rattle.am_wait.proofs.RowLemmas.{rises_filter}
+use Rattle.am_wait.specs.Held.{held_row}
 use Rattle.am_wait.specs.Inside.{rows_of}
 use Rattle.am_wait.proofs.CallLemmas.{free_walker}
-use Rattle.am_wait.proofs.AgreeLemmas.{reopened_sound, with_rows}
+use Rattle.am_wait.proofs.SameLemmas.{same_slots, same_kept}
+use Rattle.am_wait.proofs.RenewLemmas.{Renews, no_seat_left, reopens}
 use Rattle.am_wait.proofs.waits.Waits.reopen.Goals as goal
+
+pub invariant_of-self : goal.invariant_of-self
+invariant_of-self c =
+    let i = c.self.inside in
+    let j : Inside = record { tokens = i.tokens; seats = c.make_room.new.seats; slab = c.make_room.new.slab; last_token = i.last_token; most_waits = i.most_waits; most_tokens = i.most_tokens } in
+    same_kept i j c.self.invariant (record { tokens = refl; seats = c.make_room.ensures.seats; slab = same_slots i.slab c.make_room.new.slab c.make_room.ensures.slots; last = refl; waiters = refl; numbers = refl })
+
+pub invariant_of-self-in_err-open_token : goal.invariant_of-self-in_err-open_token
+invariant_of-self-in_err-open_token c =
+    let i = c.self.inside in
+    let j : Inside = record { tokens = c.open_token.new.tokens; seats = c.make_room.new.seats; slab = c.make_room.new.slab; last_token = i.last_token; most_waits = i.most_waits; most_tokens = i.most_tokens } in
+    same_kept i j c.self.invariant (record { tokens = c.in_err-open_token.ensures.err; seats = c.make_room.ensures.seats; slab = same_slots i.slab c.make_room.new.slab c.make_room.ensures.slots; last = refl; waiters = refl; numbers = refl })
+
+pub put_wait-requires-clause-rising : goal.put_wait-requires-clause-rising
+put_wait-requires-clause-rising c =
+    let i = c.self.inside in
+    subst (λ (seats : List Seat). RiseBy (λ s. s.walker) 0 seats) (sym (c.take_wait.ensures.seats ∙ ap (without_seat c.args.walker) c.make_room.ensures.seats))
+    (rises_filter (λ (s : Seat). s.walker) (λ s. not (s.walker == c.args.walker)) 0 i.seats.items c.self.invariant.linked.rising)
+
+pub put_wait-requires-clause-none : goal.put_wait-requires-clause-none
+put_wait-requires-clause-none c =
+    ap (λ (w : WaitRow). key_of c.take_wait.new.seats.items w.walker) c.waiting_on-wait.ensures
+    ∙ ap (λ (seats : List Seat). key_of seats c.args.walker) c.take_wait.ensures.seats ∙ no_seat_left c.args.walker c.make_room.new.seats.items
 
 pub invariant_of-self-2 : goal.invariant_of-self-2
 invariant_of-self-2 c =
-    let w = rows_of c.self.inside in
-    let number : ℕ = w.last_token + 1 in
-    let wait = waiting_on number c.args.trigger c.args.kind c.args.walker in
-    let token : List ℕ → OpenToken = λ waiters. record { token = number; trigger = c.args.trigger; kind = c.args.kind; waiters = waiters } in
-    let free : still_waits (wait_of w.waits c.args.walker) ≡ false = ap (λ (x : WaitRows). still_waits (wait_of x.waits c.args.walker)) c.self.view_is ∙ free_walker c.args.walker c.args.self.now (sym c.reopen_refusal.ensures ∙ c.in_default.is) in
-    let tokens : c.push.new.self.items ≡ w.tokens ++ token (c.args.walker ∷ []) ∷ [] = c.in_ok-push.ensures.items ∙ ap (λ (waiters : List ℕ). w.tokens ++ token waiters ∷ []) c.in_ok-one.ensures in
-    let waits : c.renew_wait.new.rows.items ≡ with_wait wait (without_wait c.args.walker w.waits) = c.renew_wait.ensures ∙ ap (λ (rows : List WaitRow). with_wait c.waiting_on-wait.result (without_wait c.waiting_on-wait.result.walker rows)) c.reserve.ensures.items ∙ ap (λ (row : WaitRow). with_wait row (without_wait row.walker w.waits)) c.waiting_on-wait.ensures in
-    with_rows w c.push.new.self.items (w.tokens ++ token (c.args.walker ∷ []) ∷ []) c.renew_wait.new.rows.items (with_wait wait (without_wait c.args.walker w.waits)) number tokens waits (reopened_sound w c.args.trigger c.args.kind c.args.walker c.self.invariant free)
+    let i = c.self.inside in
+    let j : Inside = record { tokens = i.tokens; seats = c.take_wait.new.seats; slab = c.take_wait.new.slab; last_token = i.last_token; most_waits = i.most_waits; most_tokens = i.most_tokens } in
+    let k : Inside = record { tokens = c.open_token.new.tokens; seats = c.put_wait.new.seats; slab = c.put_wait.new.slab; last_token = i.last_token + 1; most_waits = i.most_waits; most_tokens = i.most_tokens } in
+    let wait = c.waiting_on-wait.result in
+    let key = c.next_key-key.result in
+    let is : wait ≡ waiting_on (i.last_token + 1) c.args.trigger c.args.kind c.args.walker = c.waiting_on-wait.ensures in
+    let free : still_waits (wait_of (rows_of i).waits c.args.walker) ≡ false = ap (λ (x : WaitRows). still_waits (wait_of x.waits c.args.walker)) c.self.view_is ∙ free_walker c.args.walker c.args.self.now (sym c.reopen_refusal.ensures ∙ c.in_default.is) in
+    let first : key ≡ next_key i.seats.items i.slab c.args.walker = rw c.deref.ensures.value at c.next_key-key.ensures in
+    let renews : Renews i j k c.make_room.new.seats.items c.make_room.new.slab c.args.walker key wait = record {
+      whose = ap (λ (w : WaitRow). w.walker) is;
+      first = first;
+      rows = c.make_room.ensures.seats;
+      slots = c.make_room.ensures.slots;
+      vacated = c.make_room.ensures.next;
+      taken = c.take_wait.ensures.seats;
+      freed = c.take_wait.ensures.freed;
+      next = c.take_wait.ensures.next;
+      seats = c.put_wait.ensures.seats;
+      vacant = c.put_wait.ensures.vacant;
+      put = c.put_wait.ensures.put;
+      tokens = refl;
+      last = refl;
+      waiters_taken = refl;
+      numbers_taken = refl;
+      waiters_put = refl;
+      numbers_put = refl;
+    } in
+    let tokens : c.open_token.new.tokens.items ≡ i.tokens.items ++ held_row (i.last_token + 1) c.args.trigger c.args.kind key ∷ [] = c.in_ok-open_token.ensures.ok ∙ ap (λ (w : WaitRow). i.tokens.items ++ held_row w.token w.trigger w.kind key ∷ []) is in
+    (reopens i j k c.make_room.new.seats.items c.make_room.new.slab c.args.walker key wait c.self.invariant free renews c.args.trigger c.args.kind (i.last_token + 1) refl is tokens refl).1
+
+pub returns-clause-ok : goal.returns-clause-ok
+returns-clause-ok c =
+    let i = c.self.inside in
+    let j : Inside = record { tokens = i.tokens; seats = c.take_wait.new.seats; slab = c.take_wait.new.slab; last_token = i.last_token; most_waits = i.most_waits; most_tokens = i.most_tokens } in
+    let k : Inside = record { tokens = c.open_token.new.tokens; seats = c.put_wait.new.seats; slab = c.put_wait.new.slab; last_token = i.last_token + 1; most_waits = i.most_waits; most_tokens = i.most_tokens } in
+    let wait = c.waiting_on-wait.result in
+    let key = c.next_key-key.result in
+    let is : wait ≡ waiting_on (i.last_token + 1) c.args.trigger c.args.kind c.args.walker = c.waiting_on-wait.ensures in
+    let free : still_waits (wait_of (rows_of i).waits c.args.walker) ≡ false = ap (λ (x : WaitRows). still_waits (wait_of x.waits c.args.walker)) c.self.view_is ∙ free_walker c.args.walker c.args.self.now (sym c.reopen_refusal.ensures ∙ c.in_default.is) in
+    let first : key ≡ next_key i.seats.items i.slab c.args.walker = rw c.deref.ensures.value at c.next_key-key.ensures in
+    let renews : Renews i j k c.make_room.new.seats.items c.make_room.new.slab c.args.walker key wait = record {
+      whose = ap (λ (w : WaitRow). w.walker) is;
+      first = first;
+      rows = c.make_room.ensures.seats;
+      slots = c.make_room.ensures.slots;
+      vacated = c.make_room.ensures.next;
+      taken = c.take_wait.ensures.seats;
+      freed = c.take_wait.ensures.freed;
+      next = c.take_wait.ensures.next;
+      seats = c.put_wait.ensures.seats;
+      vacant = c.put_wait.ensures.vacant;
+      put = c.put_wait.ensures.put;
+      tokens = refl;
+      last = refl;
+      waiters_taken = refl;
+      numbers_taken = refl;
+      waiters_put = refl;
+      numbers_put = refl;
+    } in
+    let tokens : c.open_token.new.tokens.items ≡ i.tokens.items ++ held_row (i.last_token + 1) c.args.trigger c.args.kind key ∷ [] = c.in_ok-open_token.ensures.ok ∙ ap (λ (w : WaitRow). i.tokens.items ++ held_row w.token w.trigger w.kind key ∷ []) is in
+    (reopens i j k c.make_room.new.seats.items c.make_room.new.slab c.args.walker key wait c.self.invariant free renews c.args.trigger c.args.kind (i.last_token + 1) refl is tokens refl).0 ∙ ap (reopened c.args.trigger c.args.kind c.args.walker) c.self.view_is

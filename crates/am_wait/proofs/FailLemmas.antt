@@ -1,0 +1,130 @@
+-- All that wait on the tokens of a file system fail.
+use Rattle.std.proofs.Common.{◌≡◌, ℕ, zero, suc, ◌<◌, Bool, true, false, cond, not, ◌==◌, ◌&&◌, ◌||◌, List, [], ◌∷◌, ◌++◌, length, get_or, Option, Some, None, refl, sym, ap, subst, ◌∙◌, arith}
+use Rattle.std.specs.Prelude.{filter, map, All, is_none}
+use Rattle.std.specs.Option.{option_map}
+use Rattle.std.proofs.lemmas.Bool.Decides.{nat_tests, Decides-eqb}
+use Rattle.std.proofs.lemmas.List.Elements.{All-filter, All-weaker}
+use Rattle.slab.specs.Slab.{Slab, get}
+use Rattle.am_names.specs.declared.row.WaitRow.{WaitRow}
+use Rattle.am_names.specs.declared.trigger.Status.TheVariants.{Fail}
+use Rattle.am_names.specs.declared.row.OpenToken.{OpenToken}
+use Rattle.am_wait.specs.declared.seats.Seat.{Seat}
+use Rattle.am_wait.specs.declared.held.HeldToken.{HeldToken}
+use Rattle.am_wait.specs.declared.waits.Waits.TheInside.{Inside}
+use Rattle.am_wait.specs.Rows.{WaitRows}
+use Rattle.am_wait.specs.Calls.{failed_row, fs_released}
+use Rattle.am_wait.specs.Invariant.{RiseBy, IsSound}
+use Rattle.am_wait.specs.Seats.{key_of, row_at, row_in, waits_in, sits_at, IsSeat}
+use Rattle.am_wait.specs.Held.{token_in, tokens_in, HasKeys}
+use Rattle.am_wait.specs.Inside.{rows_of, IsSettled, IsKept}
+use Rattle.am_wait.proofs.AgreeLemmas.{released_sound}
+use Rattle.am_wait.proofs.CallLemmas.{failed_walker}
+use Rattle.am_wait.proofs.KeptLemmas.{filter_mapped, map_same, map_twice}
+use Rattle.am_wait.proofs.SettledLemmas.{failed_settled}
+
+sits_last : (seats : List Seat) (seat : Seat) (k : ℕ) → sits_at (seats ++ seat ∷ []) k ≡ (sits_at seats k || (seat.key == k))
+sits_last [] seat k = elim (seat.key == k) as (λ b. (b || false) ≡ (false || b)) [ true ↦ refl | false ↦ refl ]
+sits_last (s ∷ seats) seat k =
+    ap (λ (b : Bool). (s.key == k) || b) (sits_last seats seat k) ∙ elim (s.key == k) as (λ b. (b || (sits_at seats k || (seat.key == k))) ≡ ((b || sits_at seats k) || (seat.key == k))) [ true ↦ refl | false ↦ refl ]
+
+or_true : (a : Bool) → (a || true) ≡ true
+or_true true = refl
+or_true false = refl
+
+sits : (seats : List Seat) (n : ℕ) (d : Seat) → n < length seats → sits_at seats (get_or seats n d).key ≡ true
+sits [] n d less = absurd (omega arith)
+sits (s ∷ seats) zero d less = rw ((Decides-eqb s.key s.key).1 refl) refl
+sits (s ∷ seats) (suc n) d less = ap (λ (b : Bool). (s.key == (get_or seats n d).key) || b) (sits seats n d (omega arith)) ∙ or_true (s.key == (get_or seats n d).key)
+
+-- the waits at the keys of these seats have failed
+abbrev pub FailsAll : Slab WaitRow → Slab WaitRow → ℕ → List Seat → Type 0
+FailsAll old new fs seats = (key : ℕ) → get new key ≡ cond (sits_at seats key) (option_map (failed_row fs) (get old key)) (get old key)
+
+either : (b : Bool) (row : WaitRow) → cond b row row ≡ row
+either true row = refl
+either false row = refl
+
+failed_by : (fs : ℕ) (row : WaitRow) (b : Bool) → (row.trigger.fs == fs && is_none row.status) ≡ b → failed_row fs (failed_row fs row) ≡ failed_row fs row
+failed_by fs row true e = rw e (either (row.trigger.fs == fs && false) (record row { status = Some Fail }))
+failed_by fs row false e = rw e (rw e refl)
+
+twice : (fs : ℕ) (o : Option WaitRow) → option_map (failed_row fs) (option_map (failed_row fs) o) ≡ option_map (failed_row fs) o
+twice fs None = refl
+twice fs (Some row) = ap (λ r. Some r) (failed_by fs row (row.trigger.fs == fs && is_none row.status) refl)
+
+more_by : (fs : ℕ) (was now next : Option WaitRow) (b e : Bool) → now ≡ cond b (option_map (failed_row fs) was) was → (e ≡ true → next ≡ option_map (failed_row fs) now) → (e ≡ false → next ≡ now) →
+    next ≡ cond (b || e) (option_map (failed_row fs) was) was
+more_by fs was now next true true h this other = this refl ∙ ap (option_map (failed_row fs)) h ∙ twice fs was
+more_by fs was now next true false h this other = other refl ∙ h
+more_by fs was now next false true h this other = this refl ∙ ap (option_map (failed_row fs)) h
+more_by fs was now next false false h this other = other refl ∙ h
+
+flipped : (a b : ℕ) → (a == b) ≡ false → (b == a) ≡ false
+flipped a b e = grind (arith, nat_tests, e)
+
+pub fails_more : (old mid new : Slab WaitRow) (fs : ℕ) (seats : List Seat) (seat : Seat) → FailsAll old mid fs seats → get new seat.key ≡ option_map (failed_row fs) (get mid seat.key) → ((other : ℕ) → (other == seat.key) ≡ false → get new other ≡ get mid other) →
+    FailsAll old new fs (seats ++ seat ∷ [])
+fails_more old mid new fs seats seat h this others k =
+    rw (sits_last seats seat k) (more_by fs (get old k) (get mid k) (get new k) (sits_at seats k) (seat.key == k) (h k)
+    (λ e. let same : seat.key ≡ k = (Decides-eqb seat.key k).0 e in subst (λ (i : ℕ). get new i ≡ option_map (failed_row fs) (get mid i)) same this)
+    (λ e. others k (flipped seat.key k e)))
+
+walker_kept : (fs : ℕ) (b : Bool) (o : Option WaitRow) → (row_in (cond b (option_map (failed_row fs) o) o)).walker ≡ (row_in o).walker
+walker_kept fs true None = refl
+walker_kept fs true (Some row) = failed_walker fs row
+walker_kept fs false o = refl
+
+-- the same but for the tokens of the file system and the statuses
+pub record Fails (i j : Inside) (fs : ℕ) : Type 0 where
+  pub tokens : j.tokens.items ≡ filter (λ row. not (row.trigger.fs == fs)) i.tokens.items
+  pub seats : j.seats.items ≡ i.seats.items
+  pub slab : FailsAll i.slab j.slab fs i.seats.items
+  pub last : j.last_token ≡ i.last_token
+  pub waiters : j.most_waits ≡ i.most_waits
+  pub numbers : j.most_tokens ≡ i.most_tokens
+
+module _ (i j : Inside) (fs : ℕ) (kept : IsKept i) (h : Fails i j fs) where
+  same_walker : (key : ℕ) → (row_at j.slab key).walker ≡ (row_at i.slab key).walker
+  same_walker key = ap (λ (o : Option WaitRow). (row_in o).walker) (h.slab key) ∙ walker_kept fs (sits_at i.seats.items key) (get i.slab key)
+
+  same_token : (row : HeldToken) → token_in j.slab row ≡ token_in i.slab row
+  same_token row =
+      ap (λ (walkers : List ℕ). record { token = row.token; trigger = row.trigger; kind = row.kind; waiters = walkers }) (map_same (λ key. (row_at j.slab key).walker) (λ key. (row_at i.slab key).walker) row.keys (λ n d less. same_walker (get_or row.keys n d)))
+
+  same_keys : (row : HeldToken) → HasKeys i.slab i.seats.items row → HasKeys j.slab i.seats.items row
+  same_keys row has = All-weaker (λ key. key_of i.seats.items (row_at i.slab key).walker ≡ Some key) (λ key. key_of i.seats.items (row_at j.slab key).walker ≡ Some key) (λ key e. ap (key_of i.seats.items) (same_walker key) ∙ e) row.keys has
+
+  seat_by : (seat : Seat) (b : Bool) → sits_at i.seats.items seat.key ≡ b → IsSeat i.slab seat → IsSeat j.slab seat
+  seat_by seat true e is = (failed_row fs is.0, h.slab seat.key ∙ (rw (e, is.1) refl), failed_walker fs is.0 ∙ is.2)
+  seat_by seat false e is = (is.0, h.slab seat.key ∙ (rw (e, is.1) refl), is.2)
+
+  row_failed : (seat : Seat) → sits_at i.seats.items seat.key ≡ true → IsSeat i.slab seat → row_at j.slab seat.key ≡ failed_row fs (row_at i.slab seat.key)
+  row_failed seat e is = ap row_in (h.slab seat.key) ∙ (rw (e, is.1) refl)
+
+  failed_waits : waits_in j.slab i.seats.items ≡ map (failed_row fs) (waits_in i.slab i.seats.items)
+  failed_waits =
+      map_same (λ (s : Seat). row_at j.slab s.key) (λ (s : Seat). failed_row fs (row_at i.slab s.key)) i.seats.items
+      (λ n d less. row_failed (get_or i.seats.items n d) (sits i.seats.items n d less) (kept.linked.seated n d less))
+      ∙ sym (map_twice (λ (s : Seat). row_at i.slab s.key) (failed_row fs) i.seats.items)
+
+  pub failed_is : rows_of j ≡ fs_released fs (rows_of i)
+  failed_is =
+      let tokens : tokens_in j.slab j.tokens.items ≡ filter (λ row. not (row.trigger.fs == fs)) (tokens_in i.slab i.tokens.items) =
+      ap (tokens_in j.slab) h.tokens ∙ map_same (token_in j.slab) (token_in i.slab) (filter (λ row. not (row.trigger.fs == fs)) i.tokens.items) (λ n d less. same_token (get_or (filter (λ row. not (row.trigger.fs == fs)) i.tokens.items) n d))
+      ∙ filter_mapped (token_in i.slab) (λ (r : HeldToken). not (r.trigger.fs == fs)) (λ (r : OpenToken). not (r.trigger.fs == fs)) i.tokens.items (λ n d less. refl) in
+      let waits : waits_in j.slab j.seats.items ≡ map (failed_row fs) (waits_in i.slab i.seats.items) = ap (waits_in j.slab) h.seats ∙ failed_waits in
+      rw (tokens, waits, h.last, h.waiters, h.numbers) refl
+
+  pub failed_kept : IsKept j
+  failed_kept =
+      let is : fs_released fs (rows_of i) ≡ rows_of j = sym failed_is in
+      record {
+        sound = subst (λ (w : WaitRows). IsSound w) is (released_sound (rows_of i) fs kept.sound);
+        settled = subst (λ (w : WaitRows). All (IsSettled w) w.waits) is (failed_settled (rows_of i) fs kept.sound kept.settled);
+        linked = record {
+          rising = subst (λ (seats : List Seat). RiseBy (λ s. s.walker) 0 seats) (sym h.seats) kept.linked.rising;
+          seated = subst (λ (seats : List Seat). All (IsSeat j.slab) seats) (sym h.seats) (All-weaker (IsSeat i.slab) (IsSeat j.slab) (λ seat is. seat_by seat (sits_at i.seats.items seat.key) refl is) i.seats.items kept.linked.seated);
+          held = subst (λ (seats : List Seat). All (HasKeys j.slab seats) j.tokens.items) (sym h.seats) (subst (λ (tokens : List HeldToken). All (HasKeys j.slab i.seats.items) tokens) (sym h.tokens)
+              (All-filter (λ (r : HeldToken). not (r.trigger.fs == fs)) (HasKeys j.slab i.seats.items) i.tokens.items (All-weaker (HasKeys i.slab i.seats.items) (HasKeys j.slab i.seats.items) same_keys i.tokens.items kept.linked.held)));
+        };
+      }

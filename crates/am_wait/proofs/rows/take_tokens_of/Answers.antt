@@ -1,8 +1,0 @@
-use Rattle.std.proofs.Common.{eqb, rules, tests}
-use Rattle.std.specs.Prelude.{not}
-use Rattle.std.proofs.lemmas.Fn.{filter_same}
-use Rattle.am_names.specs.declared.row.OpenToken.{OpenToken}
-use Rattle.am_wait.proofs.rows.take_tokens_of.Goals as goal
-
-pub returns : goal.returns
-returns c = filter_same _ (λ (row : OpenToken). not (eqb row.trigger.fs c.args.fs)) _ (λ x b q k. search (rules, tests)) _ _ c.retain.ensures.filtered

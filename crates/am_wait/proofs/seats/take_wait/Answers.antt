@@ -1,0 +1,12 @@
+use Rattle.std.proofs.Common.{◌≡◌, ◌==◌, None, sym, ◌∙◌}
+use Rattle.am_wait.specs.declared.seats.Seat.{Seat}
+use Rattle.am_wait.specs.Seats.{key_of}
+use Rattle.am_wait.proofs.SeatLemmas.{no_key}
+use Rattle.am_wait.proofs.CallLemmas.{all_kept}
+use Rattle.am_wait.proofs.seats.take_wait.Goals as goal
+
+pub returns-in_default-clause-seats : goal.returns-in_default-clause-seats
+returns-in_default-clause-seats c =
+    let seats = c.args.seats.now.items in
+    let none : key_of seats c.args.walker ≡ None = rw c.deref.ensures.value at (sym c.key_of.ensures ∙ c.in_default.is) in
+    sym (all_kept (λ (s : Seat). s.walker == c.args.walker) seats (no_key seats c.args.walker none))
