@@ -5,7 +5,7 @@ use Rattle.std.specs.declared.cmp.Ordering.TheVariants.{Less, Equal, Greater}
 use Rattle.std.specs.Ordering.{is_lt, nat_cmp}
 use Rattle.std.specs.Prelude.{Contains, find, not}
 use Rattle.std.specs.Ordering.{ordering_reverse}
-use Rattle.std.specs.Option.{option_map}
+use Rattle.std.specs.Option.{option_map, unwrap_or}
 use Rattle.std.specs.Cmp.{IsTotalOrder, tied_itself}
 use Rattle.std.specs.Cmp.Lexicographic.{slice_cmp, nat_list_cmp_total, options_total}
 use Rattle.std.specs.Option.{option_cmp}
@@ -131,6 +131,48 @@ passed_over e index row best at later is = by_test (is_eligible e row) refl
         subst (λ (rows : List (Trigger × ℕ)). IsBest rows best)
         (sym (one_more e index row true at eligible))
         (best_stays (candidates_before index e) best row later is)
+
+-- a row that isn't due may not expire
+pub not_due :
+    (e : Expiry) (row : Trigger × ℕ) → is_due e.timeout e.moment e.immediate row.1 ≡ false →
+    is_eligible e row ≡ false
+not_due e row due =
+    by_both (row.0.fs == e.fs) (is_due e.timeout e.moment e.immediate row.1)
+    (not (is_open e.waits row.0)) (may_go e.table e.uses (mount_on e row.0)) due
+  where
+    by_both : (one due shut may : Bool) → due ≡ false → (one && due && shut && may) ≡ false
+    by_both true true shut may e = absurd cc
+    by_both true false shut may e = refl
+    by_both false due shut may e = refl
+
+-- no last use is at this index
+no_row : {X Y : Type 0} (f : X → Y) (o : Option X) → option_map f o ≡ None → o ≡ None
+no_row f None h = refl
+no_row f (Some x) h = absurd cc
+
+pub none_here :
+    (e : Expiry) (index : ℕ) (best : Option (Trigger × ℕ)) →
+    option_map (λ (row : Trigger × ℕ). row.1) (slice_get e.triggers.uses index) ≡ None →
+    IsBest (candidates_before index e) best → IsBest (candidates_before (index + 1) e) best
+none_here e index best none is =
+    none_at e index best (no_row (λ (row : Trigger × ℕ). row.1) (slice_get e.triggers.uses index) none) is
+
+-- the last use at this index isn't due
+pub undue_here :
+    (e : Expiry) (index last : ℕ) (best : Option (Trigger × ℕ)) →
+    option_map (λ (row : Trigger × ℕ). row.1) (slice_get e.triggers.uses index) ≡ Some last →
+    is_due e.timeout e.moment e.immediate last ≡ false →
+    IsBest (candidates_before index e) best → IsBest (candidates_before (index + 1) e) best
+undue_here e index last best at due is = by_row (slice_get e.triggers.uses index) refl at
+  where
+    last_is : (x y : ℕ) → Some x ≡ Some y → x ≡ y
+    last_is x y h = ap (λ (o : Option ℕ). unwrap_or o 0) h
+
+    by_row : (o : Option (Trigger × ℕ)) → slice_get e.triggers.uses index ≡ o → option_map (λ (row : Trigger × ℕ). row.1) o ≡ Some last → IsBest (candidates_before (index + 1) e) best
+    by_row None here h = absurd cc
+    by_row (Some row) here h =
+        left_out e index row best here
+        (not_due e row (ap (is_due e.timeout e.moment e.immediate) (last_is row.1 last h) ∙ due)) is
 
 pub all_seen : (e : Expiry) (index : ℕ) (best : Option (Trigger × ℕ)) → length e.triggers.uses ≤ index → IsBest (candidates_before index e) best → IsBest (candidates e) best
 all_seen e index best le is = subst (λ (rows : List (Trigger × ℕ)). IsBest rows best) (past_end e index le) is

@@ -130,6 +130,13 @@ impl View<'_> {
         ensures refusal { RefusedAs None result }
         ensures ok { IfOk result (λ best. IsBest (candidates_before (index + 1) (expiry_in self.now)) best) }
     {
+        let Some(last) = self.triggers.last_use_at(index) else {
+            return Ok(*best);
+        };
+        // Most are not due, and their triggers are long.
+        if !self.is_due(last) {
+            return Ok(*best);
+        }
         let Some(row) = self.triggers.use_at(index) else {
             return Ok(*best);
         };

@@ -165,6 +165,13 @@ fn is_use(found: Option<(Trigger, Seconds)>, trap: Trap, moment: u64) -> bool {
     }
 }
 
+/// There are no more last uses than so many.
+fn ends_at(triggers: &Triggers, count: usize) -> bool {
+    triggers.use_count() == count
+        && triggers.use_at(count).is_none()
+        && triggers.last_use_at(count).is_none()
+}
+
 /// These are the last uses, and there are no more.
 fn are_uses(triggers: &Triggers, uses: &[(Trap, u64)]) -> bool {
     let mut index = 0_usize;
@@ -172,9 +179,12 @@ fn are_uses(triggers: &Triggers, uses: &[(Trap, u64)]) -> bool {
         if !is_use(triggers.use_at(index), *trap, *moment) {
             return false;
         }
+        if triggers.last_use_at(index) != Some(Seconds(*moment)) {
+            return false;
+        }
         index = index.saturating_add(1);
     }
-    triggers.use_count() == uses.len() && triggers.use_at(uses.len()).is_none()
+    ends_at(triggers, uses.len())
 }
 
 /// The autofs of this number is so, or there is none.

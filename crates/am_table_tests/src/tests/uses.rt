@@ -85,3 +85,25 @@ fn a_mount_has_as_many_uses_as_walkers(rt: HostRuntime) {
     let mut table = Table(Uses::new(rt.alloc()));
     plays(&rt, rt.alloc(), &mut table, &THREE_WALKERS);
 }
+
+static THREE_WALKERS_AGAIN: [Step<Call>; 13] = [
+    Step::Does(Call::Enter(7, 3)),
+    Step::Does(Call::Enter(8, 3)),
+    Step::Does(Call::Leave(7, 3)),
+    Step::Does(Call::Count(3, 1)),
+    Step::Does(Call::Enter(7, 4)),
+    Step::Does(Call::Enter(9, 4)),
+    Step::Does(Call::Leave(8, 3)),
+    Step::Does(Call::Count(3, 0)),
+    Step::Does(Call::Count(4, 2)),
+    Step::Does(Call::Enter(8, 3)),
+    Step::Does(Call::MountOf(8, Some(3))),
+    Step::Does(Call::Count(3, 1)),
+    Step::Does(Call::InUse(3, true)),
+];
+
+#[test]
+fn a_mount_that_all_have_left_is_entered_again(rt: HostRuntime) {
+    let mut table = Table(Uses::new(rt.alloc()));
+    plays(&rt, rt.alloc(), &mut table, &THREE_WALKERS_AGAIN);
+}

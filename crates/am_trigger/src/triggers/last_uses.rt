@@ -2,6 +2,7 @@
 
 ghost use Rattle.std.specs.Prelude.{◌≡◌, length};
 ghost use Rattle.std.specs.List.{slice_get};
+ghost use Rattle.std.specs.Option.{option_map};
 
 use crate::triggers::Triggers;
 use am_names::{Name, Seconds, Trigger};
@@ -21,5 +22,13 @@ impl Triggers {
         let (trigger, moment) = self.uses.get_index(index)?;
         let _name: Option<Name> = trigger.name;
         Some((*trigger, *moment))
+    }
+
+    /// When the trigger at this index in order of first use was last used. The trigger isn't read.
+    pub fn last_use_at(&self, index: usize) -> Option<Seconds>
+        ensures { result ≡ option_map (λ row. row.1) (slice_get self.now.rows.uses index) }
+    {
+        let (_, moment) = self.uses.get_index(index)?;
+        Some(*moment)
     }
 }
