@@ -8,7 +8,7 @@ use Rattle.am_job.specs.declared.act.Act.TheVariants as act
 use Rattle.am_job.specs.declared.act.Outcome.{Outcome}
 use Rattle.am_job.specs.declared.act.Outcome.TheVariants.{Done, Made, Failed}
 use Rattle.am_job.specs.Plans.{Plan, Ended, Next, next_of, rest_of}
-use Rattle.am_job.specs.Laws.{IsEnded, AcknowledgesLast, IsLawful}
+use Rattle.am_job.specs.Laws.{IsEnded, AcknowledgesLast}
 use Rattle.am_job.proofs.PlanLemmas.{rest_lawful}
 use Rattle.am_daemon.specs.State.{JobPlan}
 use Rattle.am_daemon.specs.Acts.{walked, is_ended, going, finished_in}

@@ -6,11 +6,10 @@ use Rattle.am_names.specs.declared.errno.Errno.{Errno}
 use Rattle.am_names.specs.declared.errno.Errno.TheVariants.{ENOENT, EBUSY, EINVAL}
 use Rattle.am_names.specs.Trigger.{same_trigger}
 use Rattle.am_names.specs.declared.trigger.Trigger.{Trigger}
-use Rattle.am_names.specs.declared.row.OpenToken.{OpenToken}
 use Rattle.am_names.specs.declared.row.TokenKind.TheVariants.{Missing}
 use Rattle.am_names.specs.declared.row.WaitRow.{WaitRow}
 use Rattle.am_trigger.specs.Rows.{autofs_of}
-use Rattle.am_wait.specs.Rows.{token_of, wait_of}
+use Rattle.am_wait.specs.Rows.{wait_of}
 use Rattle.am_state.specs.declared.daemon_row.Record.{Record}
 use Rattle.am_state.specs.declared.daemon_row.Record.TheVariants.{Mounting, Mounted, Unmounting}
 use Rattle.am_state.specs.declared.kernel_row.QueuedRow.{QueuedRow}

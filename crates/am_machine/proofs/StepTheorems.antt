@@ -1,8 +1,6 @@
 -- What every step keeps.
-use Rattle.std.proofs.Common.{◌≡◌, ℕ, true, List, refl, sym, subst, inl, inr, ◌∙◌}
+use Rattle.std.proofs.Common.{List, sym, subst, inl, inr, ◌∙◌}
 use Rattle.am_state.specs.declared.obs.Obs.{Obs}
-use Rattle.am_group.specs.Propagation.{Receives}
-use Rattle.am_propagate.specs.MountTable.{is_mount}
 use Rattle.am_propagate.proofs.RemovalLemmas.{same_there}
 use Rattle.am_machine.specs.declared.event.Event.{Event}
 use Rattle.am_machine.specs.declared.answer.Answer.{Answer}
