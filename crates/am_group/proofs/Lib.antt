@@ -11,6 +11,7 @@ pub mod CopyLemmas
 pub mod LiftLemmas
 pub mod KindLemmas
 pub mod ClearLemmas
+pub mod AmongLemmas
 pub mod JoinLemmas
 pub mod GrowLemmas
 pub mod MemberLemmas
