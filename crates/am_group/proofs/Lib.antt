@@ -18,4 +18,4 @@ pub mod MemberLemmas
 pub mod TableLemmas
 pub mod ReceiverLemmas
 pub mod EarlyLemmas
-pub mod SenderLemmas
+pub mod UnderLemmas

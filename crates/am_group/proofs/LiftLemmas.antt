@@ -25,7 +25,7 @@ up_same s orderly (suc j) (suc k) m a b = ap (λ (xs : List ℕ). m ∷ xs) (go 
     go None e ih = up_none j s ∙ sym (up_none k s)
     go (Some n) e ih = let lower : n < m = orderly.down m n e in ih n (omega arith) (omega arith)
 
-up_master : (s : PeerGroups) → IsOrderly s → (g : ℕ) → up_within g s (master_of_group s g) ≡ up s (master_of_group s g)
+pub up_master : (s : PeerGroups) → IsOrderly s → (g : ℕ) → up_within g s (master_of_group s g) ≡ up s (master_of_group s g)
 up_master s orderly g = go (master_of_group s g) refl
   where
     go : (o : Option ℕ) → master_of_group s g ≡ o → up_within g s o ≡ up s o
