@@ -38,7 +38,7 @@ rows_rise low (row ∷ rows) rises (suc i) (suc j) d less h =
     rows_rise (row.mount + 1) rows rises.1 i j d (omega arith) (omega arith)
 
 -- the row with the number is the one that is looked up
-found_at :
+pub found_at :
     (low : ℕ) (rows : List MemberRow) → RiseFrom low rows →
     (i m : ℕ) (d : MemberRow) → i < length rows → mount_at rows i d ≡ m →
     member_row rows m ≡ Some (get_or rows i d)

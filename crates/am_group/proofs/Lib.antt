@@ -11,10 +11,11 @@ pub mod CopyLemmas
 pub mod LiftLemmas
 pub mod KindLemmas
 pub mod ClearLemmas
+pub mod AmongLemmas
 pub mod JoinLemmas
 pub mod GrowLemmas
 pub mod MemberLemmas
 pub mod TableLemmas
 pub mod ReceiverLemmas
 pub mod EarlyLemmas
-pub mod SenderLemmas
+pub mod UnderLemmas

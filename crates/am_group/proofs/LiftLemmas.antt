@@ -25,7 +25,7 @@ up_same s orderly (suc j) (suc k) m a b = ap (λ (xs : List ℕ). m ∷ xs) (go 
     go None e ih = up_none j s ∙ sym (up_none k s)
     go (Some n) e ih = let lower : n < m = orderly.down m n e in ih n (omega arith) (omega arith)
 
-up_master : (s : PeerGroups) → IsOrderly s → (g : ℕ) → up_within g s (master_of_group s g) ≡ up s (master_of_group s g)
+pub up_master : (s : PeerGroups) → IsOrderly s → (g : ℕ) → up_within g s (master_of_group s g) ≡ up s (master_of_group s g)
 up_master s orderly g = go (master_of_group s g) refl
   where
     go : (o : Option ℕ) → master_of_group s g ≡ o → up_within g s o ≡ up s o
@@ -49,7 +49,7 @@ height_falls s orderly g = go (master_of_group s g) refl
 pub put_together : (raw : PeerGroups) (members : List MemberRow) (groups : List GroupRow) → members ≡ map (lifted_member raw) raw.members → groups ≡ map (lifted_group raw) raw.groups → (record { members = members; groups = groups; last_group = raw.last_group }) ≡ settled raw
 put_together raw members groups a b = rw (a, b) refl
 
-pub left_together : (old raw : PeerGroups) (members : List MemberRow) (lifted kept : List GroupRow) → members ≡ map (lifted_member raw) raw.members → lifted ≡ map (lifted_group raw) raw.groups → kept ≡ filter (λ row. is_kept old.members members row.group) lifted → (record { members = members; groups = kept; last_group = raw.last_group }) ≡ left old raw
+pub left_together : (old raw : PeerGroups) (members : List MemberRow) (lifted kept : List GroupRow) → members ≡ map (lifted_member raw) raw.members → lifted ≡ map (lifted_group raw) raw.groups → kept ≡ filter (λ row. is_kept old.members (map (lifted_member raw) raw.members) row.group) lifted → (record { members = members; groups = kept; last_group = raw.last_group }) ≡ left old raw
 left_together old raw members lifted kept a b e = rw (e, b, a) refl
 
 -- rows that are those of a state

@@ -37,7 +37,7 @@ among_within s orderly g (suc steps) m fits (n ∷ way) leads =
     let lower : n < m = orderly.down m n leads.0 in
     or_right (m == g) _ (rw (leads.0) (among_within s orderly g steps n (omega arith) way leads.1))
 
-under_test : (s : PeerGroups) (home : Option ℕ) (g : ℕ) → is_among (up s home) g ≡ true → (m : ℕ) × (home ≡ Some m) × (way : List ℕ) × LeadsUp s way m g
+pub under_test : (s : PeerGroups) (home : Option ℕ) (g : ℕ) → is_among (up s home) g ≡ true → (m : ℕ) × (home ≡ Some m) × (way : List ℕ) × LeadsUp s way m g
 under_test s None g e = absurd cc
 under_test s (Some m) g e = among_above s g (suc m) (Some m) e
 
@@ -72,44 +72,8 @@ module _ (s : PeerGroups) (sound : IsSound s) where
       (rw (ne_eqb c b all.0) refl)
       (rw (all.2) (under_found s sound.orderly (home_group s c) under.home (home_is c ∙ under.is_home) under.way all.1 under.leads))
 
-  -- of a list of mounts all that receive
-  same_bool : (a b : Bool) → (a ≡ true → b ≡ true) → (b ≡ true → a ≡ true) → a ≡ b
-  same_bool true true f g = refl
-  same_bool false false f g = refl
-  same_bool true false f g = absurd (let no : false ≡ true = f refl in cc)
-  same_bool false true f g = absurd (let no : false ≡ true = g refl in cc)
-
-same_filter : (p q : ℕ → Bool) (xs : List ℕ) → ((c : ℕ) → has c xs ≡ true → p c ≡ q c) → filter p xs ≡ filter q xs
-same_filter p q [] same = refl
-same_filter p q (x ∷ xs) same =
-    rw (same x (or_left (eqb x x) (has x xs) (eq-eqb x x refl))) (go (q x) (same_filter p q xs (λ c h. same c (or_right (eqb c x) (has c xs) h))))
-  where
-    go : (b : Bool) → filter p xs ≡ filter q xs → cond b (x ∷ filter p xs) (filter p xs) ≡ cond b (x ∷ filter q xs) (filter q xs)
-    go true ih = ap (λ (ys : List ℕ). x ∷ ys) ih
-    go false ih = ih
-
-both_filters : (p q : ℕ → Bool) (xs : List ℕ) → filter p (filter q xs) ≡ filter (λ x. q x && p x) xs
-both_filters p q [] = refl
-both_filters p q (x ∷ xs) = go (q x) (p x) refl (both_filters p q xs)
-  where
-    go : (a b : Bool) → p x ≡ b → filter p (filter q xs) ≡ filter (λ y. q y && p y) xs → filter p (cond a (x ∷ filter q xs) (filter q xs)) ≡ cond (a && p x) (x ∷ filter (λ y. q y && p y) xs) (filter (λ y. q y && p y) xs)
-    go true true e ih = rw e (ap (λ (ys : List ℕ). x ∷ ys) ih)
-    go true false e ih = rw e ih
-    go false b e ih = ih
-
 pub has_from_Contains : (c : ℕ) (xs : List ℕ) → Contains xs c → has c xs ≡ true
 has_from_Contains c xs h = list_any-from_Contains {eq = eqb} nat_eq_equiv c xs h
 
 pub Contains_from_has : (c : ℕ) (xs : List ℕ) → has c xs ≡ true → Contains xs c
 Contains_from_has c xs h = Contains-from_any {eq = eqb} eqb-true c xs h
-
--- what is left of the mounts, where it is just the receivers, is the list of receivers
-pub listed_from : (s : PeerGroups) → IsSound s → (b : ℕ) (p q : ℕ → Bool) → ((c : ℕ) → Contains (filter p (filter q (numbers s.members))) c ↔ Receives s b c) → filter p (filter q (numbers s.members)) ≡ receivers_of s b
-listed_from s sound b p q exact =
-    both_filters p q (numbers s.members) ∙ same_filter (λ x. q x && p x) (receives s b) (numbers s.members) (λ c h. same_bool s sound (q c && p c) (receives s b c)
-    (λ e.
-    let parts = and_parts (q c) (p c) e in
-    receives_found s sound b c ((exact c).0 (Contains_from_has c _ (has-filter p (filter q (numbers s.members)) c (has-filter q (numbers s.members) c h parts.0) parts.1))))
-    (λ e.
-    let there = has-from_filter p (filter q (numbers s.members)) c (has_from_Contains c _ ((exact c).1 (receives_test s sound b c e))) in
-    and_from (q c) (p c) (has-from_filter q (numbers s.members) c there.0).1 there.1))

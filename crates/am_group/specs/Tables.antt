@@ -1,16 +1,26 @@
 -- The rows of a change before the masters are lifted.
-use Rattle.std.specs.Prelude.{ℕ, Bool, true, false}
+use Rattle.std.specs.Prelude.{◌≡◌, ◌||◌, ℕ, Bool, true, false, not, List, filter}
 use Rattle.am_names.specs.declared.row.MemberRow.{MemberRow}
+use Rattle.am_names.specs.declared.row.GroupRow.{GroupRow}
 use Rattle.am_names.specs.PeerGroups.{PeerGroups}
 use Rattle.am_group.specs.declared.tables.Tables.{Tables}
 use Rattle.am_group.specs.declared.kind.Kind.{Kind}
 use Rattle.am_group.specs.declared.kind.Kind.TheVariants.{Shared, Slave, SharedSlave, Private, Unbindable}
 use Rattle.am_group.specs.declared.kind.Change.{Change}
 use Rattle.am_group.specs.declared.kind.Change.TheVariants.{MakeShared, MakeSlave, MakePrivate, MakeUnbindable}
-use Rattle.am_group.specs.Changes.{shared_row, slave_row, private_row, unbindable_row}
+use Rattle.am_group.specs.Changes.{has_members, is_among, shared_row, slave_row, private_row, unbindable_row}
 
 abbrev pub state_of : Tables → PeerGroups
 state_of t = record { members = t.members.items; groups = t.groups.items; last_group = t.last_group }
+
+-- these are the peer groups that have members
+abbrev pub AreLive : List MemberRow → List ℕ → Type 0
+AreLive members live = (g : ℕ) → is_among live g ≡ has_members members g
+
+-- of these rows those are left whose group is among the new ones, or isn't among the old
+abbrev pub left_among : List ℕ → List ℕ → List GroupRow → List GroupRow
+left_among old new rows =
+    filter (λ row. is_among new row.group || not (is_among old row.group)) rows
 
 -- what a change makes of a row
 abbrev pub row_of : Change → ℕ → MemberRow → MemberRow

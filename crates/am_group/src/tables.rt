@@ -1,10 +1,11 @@
 //! The rows of a change before the masters are lifted.
 
-ghost use Rattle.std.specs.Prelude.{◌≡◌, map, filter, IfOk};
+ghost use Rattle.std.specs.List.Sorted.{IsNonDecreasing};
+ghost use Rattle.std.specs.Prelude.{◌≡◌, ◌||◌, not, map, IfOk};
 ghost use Rattle.am_group.specs.Propagation.{member_row, group_row, master_of_group};
-ghost use Rattle.am_group.specs.Changes.{is_just, has_members, is_kept, lifted, lifted_member, lifted_group};
+ghost use Rattle.am_group.specs.Changes.{is_just, has_members, is_among, lifted, lifted_member, lifted_group};
 ghost use Rattle.am_group.specs.Invariant.{RiseFrom, IsOrderly};
-ghost use Rattle.am_group.specs.Tables.{state_of};
+ghost use Rattle.am_group.specs.Tables.{state_of, AreLive, left_among};
 
 use am_names::{GroupId, GroupRow, MemberRow, MountId};
 use std::alloc::{AllocError, Global};
@@ -46,19 +47,57 @@ pub fn has_members(members: &[MemberRow], group: GroupId) -> bool
     members.iter().copied().any(|row| is_just(group, row.group))
 }
 
-/// Whether the peer group stays: it has members, or it had none before.
-pub fn is_kept(old: &[MemberRow], new: &[MemberRow], group: GroupId) -> bool
-    ensures { result ≡ is_kept old.now new.now group }
+/// The peer groups of these mounts.
+fn groups_of(alloc: Global, members: &[MemberRow]) -> Result<Vec<GroupId>, AllocError>
+    ensures { IfOk result (λ v. AreLive members.now v.items) }
 {
-    if has_members(new, group) {
-        return true;
+    let mut groups = Vec::new(alloc);
+    for row in members {
+        if let Some(group) = row.group {
+            groups.push(group)?;
+        }
     }
-    !has_members(old, group)
+    Ok(groups)
 }
 
-/// The peer groups that lost their last member go.
-pub fn clear(groups: &mut Vec<GroupRow>, old: &[MemberRow], new: &[MemberRow])
-    ensures { groups.new.items ≡ filter (λ row. is_kept old.now new.now row.group) groups.old.items }
+/// The peer groups that have members, in order of number, for `is_among`.
+pub fn live_groups(alloc: Global, members: &[MemberRow]) -> Result<Vec<GroupId>, AllocError>
+    ensures ordered { IfOk result (λ v. IsNonDecreasing v.items) }
+    ensures exact { IfOk result (λ v. AreLive members.now v.items) }
+{
+    let mut live = groups_of(alloc, members)?;
+    live.sort_unstable_by_key(|group| group.0);
+    Ok(live)
+}
+
+/// Whether the peer group is one of these, which stand in order of number.
+pub fn is_among(groups: &[GroupId], group: GroupId) -> bool
+    requires { IsNonDecreasing groups.now }
+    ensures { result ≡ is_among groups.now group }
+{
+    let number = group.0;
+    groups
+        .binary_search_by_key(&number, |other| other.0)
+        .is_ok()
+}
+
+/// Whether the peer group stays: it has members, or it had none before.
+fn is_kept(old: &[GroupId], new: &[GroupId], group: GroupId) -> bool
+    requires old { IsNonDecreasing old.now }
+    requires new { IsNonDecreasing new.now }
+    ensures { result ≡ (is_among new.now group || not (is_among old.now group)) }
+{
+    if is_among(new, group) {
+        return true;
+    }
+    !is_among(old, group)
+}
+
+/// The peer groups that lost their last member go: those that are among the old and not the new.
+pub fn clear(groups: &mut Vec<GroupRow>, old: &[GroupId], new: &[GroupId])
+    requires old { IsNonDecreasing old.now }
+    requires new { IsNonDecreasing new.now }
+    ensures { groups.new.items ≡ left_among old.now new.now groups.old.items }
 {
     groups.retain(|row| is_kept(old, new, row.group));
 }
@@ -80,13 +119,15 @@ impl Tables {
         }
     }
 
-    fn lifted(&self, master: Option<GroupId>) -> Option<GroupId>
-        requires { IsOrderly (state_of self.now) }
+    fn lifted(&self, live: &[GroupId], master: Option<GroupId>) -> Option<GroupId>
+        requires orderly { IsOrderly (state_of self.now) }
+        requires ordered { IsNonDecreasing live.now }
+        requires exact { AreLive (state_of self.now).members live.now }
         ensures { result ≡ lifted (state_of self.now) master }
     {
         let mut current = master;
         while let Some(group) = current {
-            if has_members(self.members.as_slice(), group) {
+            if is_among(live, group) {
                 return Some(group);
             }
             current = self.master_of_group(group);
@@ -95,26 +136,38 @@ impl Tables {
     }
 
     /// The mounts, with their masters lifted.
-    pub fn settled_members(&self, alloc: Global) -> Result<Vec<MemberRow>, AllocError>
-        requires { IsOrderly (state_of self.now) }
+    pub fn settled_members(
+        &self,
+        alloc: Global,
+        live: &[GroupId],
+    ) -> Result<Vec<MemberRow>, AllocError>
+        requires orderly { IsOrderly (state_of self.now) }
+        requires ordered { IsNonDecreasing live.now }
+        requires exact { AreLive (state_of self.now).members live.now }
         ensures { IfOk result (λ v. v.items ≡ map (lifted_member (state_of self.now)) (state_of self.now).members) }
     {
         let mut rows = Vec::new(alloc);
         for row in self.members.iter() {
-            let master = self.lifted(row.master);
+            let master = self.lifted(live, row.master);
             rows.push(MemberRow { master, ..*row })?;
         }
         Ok(rows)
     }
 
     /// The peer groups, with their masters lifted.
-    pub fn settled_groups(&self, alloc: Global) -> Result<Vec<GroupRow>, AllocError>
-        requires { IsOrderly (state_of self.now) }
+    pub fn settled_groups(
+        &self,
+        alloc: Global,
+        live: &[GroupId],
+    ) -> Result<Vec<GroupRow>, AllocError>
+        requires orderly { IsOrderly (state_of self.now) }
+        requires ordered { IsNonDecreasing live.now }
+        requires exact { AreLive (state_of self.now).members live.now }
         ensures { IfOk result (λ v. v.items ≡ map (lifted_group (state_of self.now)) (state_of self.now).groups) }
     {
         let mut rows = Vec::new(alloc);
         for row in self.groups.iter() {
-            let master = self.lifted(row.master);
+            let master = self.lifted(live, row.master);
             rows.push(GroupRow { master, ..*row })?;
         }
         Ok(rows)

@@ -10,7 +10,7 @@ ghost use Rattle.am_group.specs.Tables.{state_of, row_of, gives_up};
 
 use crate::groups::Groups;
 use crate::kind::{Change, asked, row_as};
-use crate::tables::{Tables, clear};
+use crate::tables::{Tables, clear, live_groups};
 use am_names::{Errno, GroupId, GroupRow, MemberRow, MountId};
 use std::alloc::{AllocError, Global};
 
@@ -60,8 +60,9 @@ impl Groups {
         ensures ok { OnOk result (self.new ≡ settled (state_of raw)) }
         ensures err { OnErr result (self.new ≡ self.old) }
     {
-        let members = raw.settled_members(alloc)?;
-        let groups = raw.settled_groups(alloc)?;
+        let live = live_groups(alloc, raw.members.as_slice())?;
+        let members = raw.settled_members(alloc, live.as_slice())?;
+        let groups = raw.settled_groups(alloc, live.as_slice())?;
         self.members = members;
         self.groups = groups;
         self.last_group = raw.last_group;
@@ -74,9 +75,11 @@ impl Groups {
         ensures ok { OnOk result (self.new ≡ left self.old (state_of raw)) }
         ensures err { OnErr result (self.new ≡ self.old) }
     {
-        let members = raw.settled_members(alloc)?;
-        let mut groups = raw.settled_groups(alloc)?;
-        clear(&mut groups, self.members.as_slice(), members.as_slice());
+        let old = live_groups(alloc, self.members.as_slice())?;
+        let live = live_groups(alloc, raw.members.as_slice())?;
+        let members = raw.settled_members(alloc, live.as_slice())?;
+        let mut groups = raw.settled_groups(alloc, live.as_slice())?;
+        clear(&mut groups, old.as_slice(), live.as_slice());
         self.members = members;
         self.groups = groups;
         self.last_group = raw.last_group;

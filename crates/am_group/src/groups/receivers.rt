@@ -1,102 +1,95 @@
-//! Which mounts receive propagation from another: all are scanned again until nothing new comes.
+//! Which mounts receive propagation from another: the members and slaves of its peer group and of
+//! the groups under that one.
 
-ghost use Rattle.std.specs.Prelude.{◌≡◌, ◌↔◌, ℕ, None, filter, IfOk, OnOk};
+ghost use Rattle.std.specs.Prelude.{◌≡◌, ◌↔◌, ◌==◌, ◌||◌, ◌&&◌, ℕ, not, None, IfOk};
 ghost use Rattle.std.specs.List.{Contains};
-ghost use Rattle.std.specs.List.Sorted.{IsStrictlyIncreasing};
+ghost use Rattle.std.specs.List.Sorted.{IsStrictlyIncreasing, IsNonDecreasing};
 ghost use Rattle.am_names.specs.Errno.{RefusedAs};
-ghost use Rattle.am_group.specs.Propagation.{Receives, master_of};
-ghost use Rattle.am_group.specs.Changes.{is_among};
-ghost use Rattle.am_group.specs.Scan.{numbers, is_reached, is_one_of, HasToo, AreGroupsOf, is_under_one, is_reached_by};
-ghost use Rattle.am_group.specs.Receivers.{receivers_of};
+ghost use Rattle.am_group.specs.Propagation.{Receives};
+ghost use Rattle.am_group.specs.Scan.{is_one_of};
+ghost use Rattle.am_group.specs.Receivers.{home_in, groups_under, under_these, receivers_of};
 
 use crate::groups::Groups;
-use am_names::{Errno, GroupId, MountId};
+use crate::tables::is_among;
+use am_names::{Errno, GroupId, GroupRow, MemberRow, MountId};
 use std::alloc::{AllocError, Global};
 
-fn is_among(group: GroupId, groups: &[GroupId]) -> bool
-    ensures { result ≡ is_among groups.now group }
-{
-    groups.iter().copied().any(|other| other == group)
-}
-
+/// Whether there is a peer group, and it is one of these, which stand in order of number.
 fn is_one_of(group: Option<GroupId>, groups: &[GroupId]) -> bool
+    requires { IsNonDecreasing groups.now }
     ensures { result ≡ is_one_of groups.now group }
 {
     match group {
-        Some(group) => is_among(group, groups),
+        Some(group) => is_among(groups, group),
         None => false,
     }
 }
 
-/// Puts the peer group to the others, if it isn't there.
-fn add_group(groups: &mut Vec<GroupId>, group: Option<GroupId>) -> Result<(), AllocError>
-    ensures { OnOk result (HasToo group groups.old.items groups.new.items) }
+/// The peer group of the mount, else the one of which it is a slave.
+fn home(row: &MemberRow) -> Option<GroupId>
+    ensures { result ≡ home_in row.now }
 {
-    let Some(group) = group else {
-        return Ok(());
-    };
-    if is_among(group, groups.as_slice()) {
-        return Ok(());
+    match row.group {
+        Some(group) => Some(group),
+        None => row.master,
     }
-    groups.push(group)?;
-    Ok(())
+}
+
+/// Whether the row is that of the peer group, or its master is one of those under it.
+fn is_next(row: &GroupRow, own: GroupId, under: &[GroupId]) -> bool
+    requires { IsNonDecreasing under.now }
+    ensures { result ≡ ((row.now.group == own) || is_one_of under.now row.now.master) }
+{
+    if row.group == own {
+        return true;
+    }
+    is_one_of(row.master, under)
+}
+
+/// Whether it is another mount, and its home is one of these peer groups.
+fn is_under(row: &MemberRow, mount: MountId, groups: &[GroupId]) -> bool
+    requires { IsNonDecreasing groups.now }
+    ensures { result ≡ (not (row.now.mount == mount) && is_one_of groups.now (home_in row.now)) }
+{
+    if row.mount == mount {
+        return false;
+    }
+    is_one_of(home(row), groups)
 }
 
 impl Groups {
-    fn master_of(&self, mount: MountId) -> Option<GroupId>
-        ensures { result ≡ master_of self.now mount }
+    /// The peer group and those under it, in rising order. A master has a lower number than its
+    /// groups, so that one look is enough.
+    fn groups_under(&self, alloc: Global, own: GroupId) -> Result<Vec<GroupId>, AllocError>
+        ensures { IfOk result (λ v. v.items ≡ groups_under self.now own) }
     {
-        match self.member(mount) {
-            Some(row) => match row.group {
-                Some(group) => self.master_of_group(group),
-                None => row.master,
-            },
-            None => None,
+        let _members = &self.members;
+        let mut under = Vec::new(alloc);
+        for row in self.groups.iter() {
+            if is_next(row, own, under.as_slice()) {
+                under.push(row.group)?;
+            }
         }
+        Ok(under)
     }
 
-    /// The peer groups of these mounts.
-    fn groups_of(&self, alloc: Global, mounts: &[MountId]) -> Result<Vec<GroupId>, AllocError>
-        ensures { IfOk result (λ v. AreGroupsOf self.now mounts.now v.items) }
-    {
-        let mut groups = Vec::new(alloc);
-        for mount in mounts {
-            add_group(&mut groups, self.group_of(*mount))?;
-        }
-        Ok(groups)
-    }
-
-    fn is_under_one(&self, groups: &[GroupId], to: MountId) -> bool
-        ensures { result ≡ is_under_one self.now groups.now to }
-    {
-        if is_one_of(self.group_of(to), groups) {
-            return true;
-        }
-        is_one_of(self.master_of(to), groups)
-    }
-
-    fn is_reached(&self, mount: MountId, groups: &[GroupId], to: MountId) -> bool
-        ensures { result ≡ is_reached_by self.now mount groups.now to }
-    {
-        to == mount || self.is_under_one(groups, to)
-    }
-
-    fn scan(
+    /// The other mounts whose home is one of these peer groups.
+    fn homed(
         &self,
         alloc: Global,
         mount: MountId,
-        reached: &[MountId],
+        groups: &[GroupId],
     ) -> Result<Vec<MountId>, AllocError>
-        ensures { IfOk result (λ v. v.items ≡ filter (is_reached self.now mount reached.now) (numbers self.now.members)) }
+        requires { IsNonDecreasing groups.now }
+        ensures { IfOk result (λ v. v.items ≡ under_these groups.now mount self.now.members) }
     {
-        let groups = self.groups_of(alloc, reached)?;
-        let mut next = Vec::new(alloc);
+        let mut homed = Vec::new(alloc);
         for row in self.members.iter() {
-            if self.is_reached(mount, &groups, row.mount) {
-                next.push(row.mount)?;
+            if is_under(row, mount, groups) {
+                homed.push(row.mount)?;
             }
         }
-        Ok(next)
+        Ok(homed)
     }
 
     /// The mounts that receive propagation from this one (sharedsubtree.rst, 5a).
@@ -107,16 +100,11 @@ impl Groups {
         ensures listed { IfOk result (λ v. v.items ≡ receivers_of self.now mount) }
     {
         let _members = &self.members;
-        let Some(_) = self.group_of(mount) else {
+        let Some(own) = self.group_of(mount) else {
             return Ok(Vec::new(alloc));
         };
-        let mut reached = Vec::new(alloc);
-        let mut next = self.scan(alloc, mount, &reached)?;
-        while reached.len() < next.len() {
-            reached = next;
-            next = self.scan(alloc, mount, &reached)?;
-        }
-        reached.retain(|other| *other != mount);
-        Ok(reached)
+        let under = self.groups_under(alloc, own)?;
+        let homed = self.homed(alloc, mount, under.as_slice())?;
+        Ok(homed)
     }
 }

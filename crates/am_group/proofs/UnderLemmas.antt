@@ -1,0 +1,312 @@
+-- The peer groups under another, by one look over rising rows, and the mounts whose home they are.
+use Rattle.std.proofs.Common.{◌≡◌, ◌≢◌, ◌≤◌, ◌<◌, ◌+◌, ◌↔◌, ℕ, zero, suc, Bool, true, false, cond, ◌||◌, ◌&&◌, List, [], ◌∷◌, ◌++◌, length, take, get_or, Option, Some, None, refl, sym, ap, subst, inl, inr, ◌∙◌, arith}
+use Rattle.std.specs.Prelude.{filter, map, not, is_some, ◌==◌}
+use Rattle.std.specs.List.{Contains}
+use Rattle.std.specs.List.Sorted.{IsNonDecreasing, IsStrictlyIncreasing}
+use Rattle.std.specs.Option.{option_or}
+use Rattle.std.proofs.lemmas.Bool.{eqb-true, eq-eqb, ne_eqb, and_parts}
+use Rattle.std.proofs.lemmas.List.{take_more}
+use Rattle.std.proofs.lemmas.List.Kept.{IsStrictlyIncreasing-filter}
+use Rattle.am_names.specs.declared.row.MemberRow.{MemberRow}
+use Rattle.am_names.specs.declared.row.GroupRow.{GroupRow}
+use Rattle.am_names.specs.PeerGroups.{PeerGroups}
+use Rattle.am_group.specs.Propagation.{member_row, group_row, group_in, slave_in, master_in, group_of, master_of_group, Receives}
+use Rattle.am_group.specs.Changes.{up_within, up, is_among}
+use Rattle.am_group.specs.Invariant.{RiseBy, RiseFrom, IsGroup, IsOrderly, IsSound}
+use Rattle.am_group.specs.Scan.{numbers, is_one_of}
+use Rattle.am_group.specs.Receivers.{home_group, is_under, receives, receivers_of, home_in, is_at_or_under, group_numbers, groups_under, under_these}
+use Rattle.am_group.proofs.LookupLemmas.{RiseBy-lower, RiseBy-filter}
+use Rattle.am_group.proofs.FindLemmas.{found_at}
+use Rattle.am_group.proofs.LiftLemmas.{up_master}
+use Rattle.am_group.proofs.ScanLemmas.{has, or_left, or_right, has-filter, has-from_filter, has_number, numbers_rise}
+use Rattle.am_group.proofs.ReceiverLemmas.{under_test, receives_test, receives_found, has_from_Contains, Contains_from_has}
+
+-- ---- rising rows
+
+RiseBy-take :
+    {R : Type 0} (number : R → ℕ) (low i : ℕ) (rows : List R) → RiseBy number low rows →
+    RiseBy number low (take i rows)
+RiseBy-take number low zero rows rises = tt
+RiseBy-take number low (suc i) [] rises = tt
+RiseBy-take number low (suc i) (row ∷ rows) rises =
+    (rises.0, RiseBy-take number (number row + 1) i rows rises.1)
+
+all_at_least :
+    (low : ℕ) (rows : List GroupRow) → RiseBy (λ (r : GroupRow). r.group) low rows →
+    (i d : ℕ) → i < length rows → low ≤ get_or (group_numbers rows) i d
+all_at_least low [] rises i d within = absurd (omega arith)
+all_at_least low (r ∷ rows) rises zero d within = rises.0
+all_at_least low (r ∷ rows) rises (suc i) d within =
+    let first : low ≤ r.group = rises.0 in
+    let next = r.group + 1 in
+    let rest : next ≤ get_or (group_numbers rows) i d = all_at_least next rows rises.1 i d (omega arith) in
+    omega arith
+
+as_many : (rows : List GroupRow) → length (group_numbers rows) ≡ length rows
+as_many [] = refl
+as_many (r ∷ rows) = ap suc (as_many rows)
+
+ordered :
+    (low : ℕ) (rows : List GroupRow) → RiseBy (λ (r : GroupRow). r.group) low rows →
+    (i j d : ℕ) → i ≤ j → j < length rows →
+    get_or (group_numbers rows) i d ≤ get_or (group_numbers rows) j d
+ordered low [] rises i j d le within = absurd (omega arith)
+ordered low (r ∷ rows) rises zero zero d le within = omega arith
+ordered low (r ∷ rows) rises (suc i) zero d le within = absurd (omega arith)
+ordered low (r ∷ rows) rises zero (suc j) d le within =
+    let next = r.group + 1 in
+    let rest : next ≤ get_or (group_numbers rows) j d = all_at_least next rows rises.1 j d (omega arith) in
+    omega arith
+ordered low (r ∷ rows) rises (suc i) (suc j) d le within =
+    ordered (r.group + 1) rows rises.1 i j d (omega arith) (omega arith)
+
+-- the numbers of rising rows don't fall
+numbers_ordered :
+    (low : ℕ) (rows : List GroupRow) → RiseBy (λ (r : GroupRow). r.group) low rows →
+    IsNonDecreasing (group_numbers rows)
+numbers_ordered low rows rises =
+    λ i j d le within.
+    let long : length (group_numbers rows) ≡ length rows = as_many rows in
+    ordered low rows rises i j d le (omega arith)
+
+-- the row at a place is that which its number finds
+row_at :
+    (low : ℕ) (rows : List GroupRow) → RiseBy (λ (r : GroupRow). r.group) low rows →
+    (i : ℕ) (d : GroupRow) → i < length rows →
+    (low ≤ (get_or rows i d).group) × (group_row rows (get_or rows i d).group ≡ Some (get_or rows i d))
+row_at low [] rises i d within = absurd (omega arith)
+row_at low (r ∷ rows) rises zero d within = (rises.0, rw (eq-eqb r.group r.group refl) refl)
+row_at low (r ∷ rows) rises (suc i) d within =
+    let rest = row_at (r.group + 1) rows rises.1 i d (omega arith) in
+    let first : low ≤ r.group = rises.0 in
+    let higher : r.group + 1 ≤ (get_or rows i d).group = rest.0 in (
+      omega arith,
+      rw (ne_eqb r.group (get_or rows i d).group (λ same. omega arith)) rest.1,
+    )
+
+none_below :
+    (low : ℕ) (rows : List GroupRow) → RiseBy (λ (r : GroupRow). r.group) low rows →
+    (n : ℕ) → n < low → is_some (group_row rows n) ≡ true → ⊥
+none_below low [] rises n less e = cc
+none_below low (r ∷ rows) rises n less e =
+    let first : low ≤ r.group = rises.0 in
+    none_below (r.group + 1) rows rises.1 n (omega arith)
+    (rw (ne_eqb r.group n (λ same. omega arith)) at e)
+
+-- a lower number stands before the place
+stands_before :
+    (low : ℕ) (rows : List GroupRow) → RiseBy (λ (r : GroupRow). r.group) low rows →
+    (i n : ℕ) (d : GroupRow) → i < length rows → n < (get_or rows i d).group →
+    is_some (group_row rows n) ≡ true → is_some (group_row (take i rows) n) ≡ true
+stands_before low [] rises i n d within less e = absurd (omega arith)
+stands_before low (r ∷ rows) rises zero n d within less e =
+    absurd (none_below (r.group) (r ∷ rows) (omega arith, rises.1) n less e)
+stands_before low (r ∷ rows) rises (suc i) n d within less e =
+    go (r.group == n) e (stands_before (r.group + 1) rows rises.1 i n d (omega arith) less)
+  where
+    go :
+        (b : Bool) → is_some (cond b (Some r) (group_row rows n)) ≡ true →
+        (is_some (group_row rows n) ≡ true → is_some (group_row (take i rows) n) ≡ true) →
+        is_some (cond b (Some r) (group_row (take i rows) n)) ≡ true
+    go true e ih = refl
+    go false e ih = ih e
+
+-- of rows that are kept by their number it is among them where it stands and passes
+kept_among :
+    (p : ℕ → Bool) (rows : List GroupRow) (n : ℕ) → is_some (group_row rows n) ≡ true →
+    is_among (group_numbers (filter (λ row. p row.group) rows)) n ≡ p n
+kept_among p rows n e = all rows ∙ rw e refl
+  where
+    all : (rows : List GroupRow) → is_among (group_numbers (filter (λ row. p row.group) rows)) n ≡ (is_some (group_row rows n) && p n)
+    all [] = refl
+    all (r ∷ rows) = go (p r.group) (r.group == n) refl refl (all rows)
+      where
+        or_self : (a : Bool) → (a && true) ≡ a
+        or_self true = refl
+        or_self false = refl
+
+        go :
+            (a b : Bool) → p r.group ≡ a → (r.group == n) ≡ b →
+            is_among (group_numbers (filter (λ row. p row.group) rows)) n ≡ (is_some (group_row rows n) && p n) →
+            is_among (group_numbers (cond a (r ∷ filter (λ row. p row.group) rows) (filter (λ row. p row.group) rows))) n ≡
+            (is_some (cond b (Some r) (group_row rows n)) && p n)
+        go true true e f ih =
+            let here : p n ≡ true = subst (λ (x : ℕ). p x ≡ true) (eqb-true r.group n f) e in
+            or_left (r.group == n) _ f ∙ sym here
+        go true false e f ih = rw f ih
+        go false true e f ih =
+            let here : p n ≡ false = subst (λ (x : ℕ). p x ≡ false) (eqb-true r.group n f) e in
+            rw (here) (ih ∙ rw here (and_none (is_some (group_row rows n))))
+          where
+            and_none : (a : Bool) → (a && false) ≡ false
+            and_none true = refl
+            and_none false = refl
+        go false false e f ih = ih
+
+-- one row more
+pub numbers_more :
+    (p : ℕ → Bool) (rows : List GroupRow) (i : ℕ) (d : GroupRow) → i < length rows →
+    group_numbers (filter (λ row. p row.group) (take (i + 1) rows)) ≡
+    group_numbers (filter (λ row. p row.group) (take i rows)) ++
+    cond (p (get_or rows i d).group) ((get_or rows i d).group ∷ []) []
+numbers_more p rows i d within =
+    let row = get_or rows i d in
+    ap (λ (xs : List GroupRow). group_numbers (filter (λ r. p r.group) xs)) (take_more rows i d within) ∙
+    more (take i rows) row
+  where
+    one :
+        (row : GroupRow) (b : Bool) →
+        group_numbers (cond b (row ∷ []) []) ≡ cond b (row.group ∷ []) []
+    one row true = refl
+    one row false = refl
+
+    more :
+        (xs : List GroupRow) (row : GroupRow) →
+        group_numbers (filter (λ r. p r.group) (xs ++ row ∷ [])) ≡
+        group_numbers (filter (λ r. p r.group) xs) ++ cond (p row.group) (row.group ∷ []) []
+    more [] row = one row (p row.group)
+    more (x ∷ xs) row = go (p x.group) (more xs row)
+      where
+        go :
+            (b : Bool) →
+            group_numbers (filter (λ r. p r.group) (xs ++ row ∷ [])) ≡
+            group_numbers (filter (λ r. p r.group) xs) ++ cond (p row.group) (row.group ∷ []) [] →
+            group_numbers (cond b (x ∷ filter (λ r. p r.group) (xs ++ row ∷ [])) (filter (λ r. p r.group) (xs ++ row ∷ []))) ≡
+            group_numbers (cond b (x ∷ filter (λ r. p r.group) xs) (filter (λ r. p r.group) xs)) ++ cond (p row.group) (row.group ∷ []) []
+        go true ih = ap (λ (ys : List ℕ). x.group ∷ ys) ih
+        go false ih = ih
+
+-- ---- one look over the groups
+
+module _ (s : PeerGroups) (orderly : IsOrderly s) (own : ℕ) where
+  -- a group that stands is under where it passes, and so is none
+  under_among :
+      (rows : List GroupRow) (o : Option ℕ) →
+      ((n : ℕ) → o ≡ Some n → is_some (group_row rows n) ≡ true) →
+      is_one_of (group_numbers (filter (λ row. is_at_or_under s own row.group) rows)) o ≡
+      is_among (up s o) own
+  under_among rows None there = refl
+  under_among rows (Some n) there = kept_among (is_at_or_under s own) rows n (there n refl)
+
+  -- the test of a row, by those before it
+  pub row_test :
+      (i : ℕ) (d : GroupRow) → i < length s.groups →
+      ((get_or s.groups i d).group == own ||
+      is_one_of (group_numbers (filter (λ row. is_at_or_under s own row.group) (take i s.groups))) (get_or s.groups i d).master) ≡
+      is_at_or_under s own (get_or s.groups i d).group
+  row_test i d within =
+      let row = get_or s.groups i d in
+      let found = row_at 0 s.groups orderly.groups_rising i d within in
+      let master : master_of_group s row.group ≡ row.master = ap master_in found.1 in
+      ap (λ (b : Bool). row.group == own || b)
+      (under_among (take i s.groups) row.master (λ n e.
+      stands_before 0 s.groups orderly.groups_rising i n d within (orderly.down row.group n (master ∙ e))
+      (orderly.master_named n (inr (row.group, master ∙ e)))) ∙
+      ap (λ (o : Option ℕ). is_among (up s o) own) (sym master) ∙
+      ap (λ (xs : List ℕ). is_among xs own) (sym (up_master s orderly row.group)))
+
+  -- so one row more comes to those that were taken before
+  pub next_under :
+      (i : ℕ) (row : GroupRow) → i < length s.groups → get_or s.groups i row ≡ row →
+      (before after : List ℕ) →
+      before ≡ group_numbers (filter (λ r. is_at_or_under s own r.group) (take i s.groups)) →
+      (passes : Bool) → passes ≡ (row.group == own || is_one_of before row.master) →
+      after ≡ before ++ cond passes (row.group ∷ []) [] →
+      after ≡ group_numbers (filter (λ r. is_at_or_under s own r.group) (take (i + 1) s.groups))
+  next_under i row within at before after were passes tested is =
+      let taken = group_numbers (filter (λ (r : GroupRow). is_at_or_under s own r.group) (take i s.groups)) in
+      let test : (row.group == own || is_one_of taken row.master) ≡ is_at_or_under s own row.group =
+      subst (λ (r : GroupRow). (r.group == own || is_one_of taken r.master) ≡ is_at_or_under s own r.group) at (row_test i row within) in
+      let more : group_numbers (filter (λ (r : GroupRow). is_at_or_under s own r.group) (take (i + 1) s.groups)) ≡ taken ++ cond (is_at_or_under s own row.group) (row.group ∷ []) [] =
+      subst (λ (r : GroupRow). group_numbers (filter (λ (x : GroupRow). is_at_or_under s own x.group) (take (i + 1) s.groups)) ≡ taken ++ cond (is_at_or_under s own r.group) (r.group ∷ []) []) at (numbers_more (is_at_or_under s own) s.groups i row within) in
+      let same : passes ≡ is_at_or_under s own row.group =
+      tested ∙ ap (λ (xs : List ℕ). row.group == own || is_one_of xs row.master) were ∙ test in
+      is ∙
+      ap (λ (xs : List ℕ). xs ++ cond passes (row.group ∷ []) []) were ∙
+      ap (λ (b : Bool). taken ++ cond b (row.group ∷ []) []) same ∙
+      sym more
+
+  pub before_ordered :
+      (i : ℕ) →
+      IsNonDecreasing (group_numbers (filter (λ row. is_at_or_under s own row.group) (take i s.groups)))
+  before_ordered i =
+      numbers_ordered 0 (filter (λ row. is_at_or_under s own row.group) (take i s.groups))
+      (RiseBy-filter (λ (r : GroupRow). r.group) (λ row. is_at_or_under s own row.group) 0 (take i s.groups)
+      (RiseBy-take (λ (r : GroupRow). r.group) 0 i s.groups orderly.groups_rising))
+
+  pub under_ordered : IsNonDecreasing (groups_under s own)
+  under_ordered =
+      numbers_ordered 0 (filter (λ row. is_at_or_under s own row.group) s.groups)
+      (RiseBy-filter (λ (r : GroupRow). r.group) (λ row. is_at_or_under s own row.group) 0 s.groups orderly.groups_rising)
+
+-- ---- one look over the mounts
+
+module _ (s : PeerGroups) (sound : IsSound s) (b own : ℕ) (in_own : group_of s b ≡ Some own) where
+  home_named : (row : MemberRow) → member_row s.members row.mount ≡ Some row → (n : ℕ) → home_in row ≡ Some n → IsGroup s n
+  home_named row found n e = go row.group refl e
+    where
+      go : (o : Option ℕ) → row.group ≡ o → option_or o row.master ≡ Some n → IsGroup s n
+      go (Some g) f e = sound.orderly.group_named row.mount n (ap group_in found ∙ f ∙ e)
+      go None f e = sound.orderly.master_named n (inl (row.mount, ap slave_in found ∙ e))
+
+  mount_test :
+      (row : MemberRow) → member_row s.members row.mount ≡ Some row →
+      (not (row.mount == b) && is_one_of (groups_under s own) (home_in row)) ≡ receives s b row.mount
+  mount_test row found =
+      let home : home_group s row.mount ≡ home_in row = ap (λ (o : Option MemberRow). option_or (group_in o) (slave_in o)) found in
+      ap (λ (x : Bool). not (row.mount == b) && x)
+      (under_among s sound.orderly own s.groups (home_in row) (home_named row found) ∙
+      ap (λ (o : Option ℕ). is_among (up s o) own) (sym home) ∙
+      ap (λ (o : Option ℕ). is_under s o row.mount) (sym in_own))
+
+  rows_test :
+      (rows : List MemberRow) →
+      ((i : ℕ) (d : MemberRow) → i < length rows → member_row s.members (get_or rows i d).mount ≡ Some (get_or rows i d)) →
+      under_these (groups_under s own) b rows ≡ filter (receives s b) (numbers rows)
+  rows_test [] found = refl
+  rows_test (row ∷ rows) found =
+      rw (mount_test row (found 0 row (omega arith)))
+      (go (receives s b row.mount) (rows_test rows (λ i d within. found (suc i) d (omega arith))))
+    where
+      go :
+          (t : Bool) → under_these (groups_under s own) b rows ≡ filter (receives s b) (numbers rows) →
+          numbers (cond t (row ∷ filter (λ r. not (r.mount == b) && is_one_of (groups_under s own) (home_in r)) rows)
+          (filter (λ r. not (r.mount == b) && is_one_of (groups_under s own) (home_in r)) rows)) ≡
+          cond t (row.mount ∷ filter (receives s b) (numbers rows)) (filter (receives s b) (numbers rows))
+      go true ih = ap (λ (xs : List ℕ). row.mount ∷ xs) ih
+      go false ih = ih
+
+  pub homed_listed : under_these (groups_under s own) b s.members ≡ receivers_of s b
+  homed_listed =
+      rows_test s.members
+      (λ i d within. found_at 0 s.members sound.orderly.rising i (get_or s.members i d).mount d within refl)
+
+-- ---- the list of receivers
+
+has_home : (s : PeerGroups) (c m : ℕ) → home_group s c ≡ Some m → has c (numbers s.members) ≡ true
+has_home s c m e = go (member_row s.members c) refl e
+  where
+    go :
+        (o : Option MemberRow) → member_row s.members c ≡ o →
+        option_or (group_in o) (slave_in o) ≡ Some m → has c (numbers s.members) ≡ true
+    go (Some r) f e = has_number s.members c r f
+    go None f e = absurd cc
+
+pub receivers_exact :
+    (s : PeerGroups) → IsSound s → (b c : ℕ) → Contains (receivers_of s b) c ↔ Receives s b c
+receivers_exact s sound b c = (
+  λ h. receives_test s sound b c (has-from_filter (receives s b) (numbers s.members) c (has_from_Contains c _ h)).1,
+  λ r.
+      let passes = receives_found s sound b c r in
+      let both = and_parts (not (c == b)) (is_under s (group_of s b) c) passes in
+      Contains_from_has c _ (has-filter (receives s b) (numbers s.members) c (stands (group_of s b) both.1) passes),
+)
+  where
+    stands : (o : Option ℕ) → is_under s o c ≡ true → has c (numbers s.members) ≡ true
+    stands None e = absurd cc
+    stands (Some g) e = let up = under_test s (home_group s c) g e in has_home s c up.0 up.1
+
+pub receivers_rise : (s : PeerGroups) → IsSound s → (b : ℕ) → IsStrictlyIncreasing (receivers_of s b)
+receivers_rise s sound b =
+    IsStrictlyIncreasing-filter (receives s b) (numbers s.members)
+    (numbers_rise 0 s.members sound.orderly.rising)
