@@ -5,6 +5,7 @@ each bound, zero bytes, long lines, broken sections, and heads and events of all
 usage: bench/hostile.py FIRST COUNT     plays the scripts of these seeds
        bench/hostile.py SEED            writes the script of a seed
        bench/hostile.py long            plays scripts of 64 MiB, and tells the memory that they take
+       bench/hostile.py digits          changes each of the 608 digits of a packet that is delivered
 
 PROGRAM in the environment is the path of the program; else it is the one that tools/program.sh
 prints. Each run must end in 20 seconds with status 0 and nothing on standard error, or with status 1
@@ -15,6 +16,7 @@ which is one of the lines that answers may be, and nothing else may be written.
 import os
 import random
 import re
+import struct
 import subprocess
 import sys
 import tempfile
@@ -365,6 +367,26 @@ def play_long(program):
     return 0
 
 
+def play_digits(program):
+    """No packet with another digit is taken up, and then the packet itself is."""
+    head = b"master\n/auto m\nend\nmap m\nhome srv:/home\nend\nevents\nattach /auto\nwalk 7 0 /auto/home 5 room\n"
+    numbers = struct.pack("<IIIIQIIIII", 5, 3, 1, 2, 1, 0, 0, 7, 7, 4)
+    digits = (numbers + b"home").ljust(304, b"\0").hex()
+    script, wanted = head, b"fs 2 attach 1 mount 2\nwait 1\n"
+    for at in range(len(digits)):
+        other = "0" if digits[at] != "0" else "1"
+        script += f"deliver 1 {digits[:at]}{other}{digits[at + 1:]}\n".encode()
+        wanted += b"err 12\n"
+    script += f"deliver 1 {digits}\n".encode()
+    wanted += b"job 1\n"
+    run = subprocess.run([program, "script"], input=script, capture_output=True, timeout=SECONDS, check=False)
+    if (run.returncode, run.stdout, run.stderr) != (0, wanted, b""):
+        print("hostile: a packet with another digit is taken up, or the packet isn't", file=sys.stderr)
+        return 1
+    print(f"{len(digits)} packets with another digit are refused, and the packet is taken up")
+    return 0
+
+
 def program_of():
     if "PROGRAM" in os.environ:
         return os.path.abspath(os.environ["PROGRAM"])
@@ -374,9 +396,9 @@ def program_of():
 
 def main(words):
     numbers = [int(it) for it in words[1:] if it.isdecimal()]
-    is_long = words[1:] == ["long"]
-    if not is_long and not (len(numbers) == len(words) - 1 and len(numbers) in (1, 2)):
-        print("hostile: expected a first seed and a count, one seed, or long", file=sys.stderr)
+    play = {"long": play_long, "digits": play_digits}.get(" ".join(words[1:]))
+    if not play and not (len(numbers) == len(words) - 1 and len(numbers) in (1, 2)):
+        print("hostile: expected a first seed and a count, one seed, long, or digits", file=sys.stderr)
         return 2
     if len(numbers) == 1:
         sys.stdout.buffer.write(Script(numbers[0]).bytes())
@@ -385,7 +407,7 @@ def main(words):
     if not os.access(program, os.X_OK):
         print("hostile: expected a program that is built: make build", file=sys.stderr)
         return 2
-    return play_long(program) if is_long else play_all(program, *numbers)
+    return play(program) if play else play_all(program, *numbers)
 
 
 if __name__ == "__main__":
