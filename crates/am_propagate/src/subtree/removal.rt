@@ -24,20 +24,11 @@ pub fn is_among(mount: MountId, mounts: &[MountId]) -> bool
     mounts.iter().copied().any(|other| other == mount)
 }
 
-fn is_child(mount: MountId, row: &MountRow) -> bool
-    ensures { result ≡ is_child mount row.now }
-{
-    match &row.mountpoint {
-        Some(position) => position.mount == mount,
-        None => false,
-    }
-}
-
 impl Subtree {
     fn has_children(&self, mount: MountId) -> bool
         ensures { result ≡ list_any (is_child mount) self.now.rows }
     {
-        self.tree.rows().iter().any(|row| is_child(mount, row))
+        self.tree.has_children(mount)
     }
 
     /// Whether nothing is mounted on the mount.
@@ -216,10 +207,11 @@ impl Subtree {
         Ok(gone)
     }
 
+    /// Whether the namespace is there: it is as long as it has mounts.
     pub fn is_namespace(&self, ns: NsId) -> bool
         ensures { result ≡ is_namespace self.now ns }
     {
-        self.tree.rows().iter().any(|row| row.ns == ns)
+        self.tree.has_mounts(ns)
     }
 
     /// Drops a namespace: its mounts go, and nothing propagates. The answer tells them, in
