@@ -18,10 +18,16 @@ use crate::subtree::Subtree;
 use am_names::{Errno, MountId, MountRow, NsId, Position};
 use std::alloc::{AllocError, Global};
 
+/// Whether the mount is one of these, which rise: halves of them are left out at a time.
 pub fn is_among(mount: MountId, mounts: &[MountId]) -> bool
+    requires { IsStrictlyIncreasing mounts.now }
     ensures { result ≡ is_among mounts.now mount }
 {
-    mounts.iter().copied().any(|other| other == mount)
+    let number = mount.0;
+    match mounts.binary_search_by_key(&number, |other| other.0) {
+        Ok(_) => true,
+        Err(_) => false,
+    }
 }
 
 impl Subtree {
@@ -40,7 +46,8 @@ impl Subtree {
 
     /// Whether this is the top at the place of one of these mounts.
     fn is_top_on(&self, mounts: &[MountId], place: &[u8], row: &MountRow) -> bool
-        requires { IsCanonical place.now }
+        requires canonical { IsCanonical place.now }
+        requires rising { IsStrictlyIncreasing mounts.now }
         ensures { result ≡ is_top_on self.now mounts.now (names_of place.now) row.now }
     {
         let Some(position) = &row.mountpoint else {
@@ -63,7 +70,8 @@ impl Subtree {
         position: &Position,
         row: &MountRow,
     ) -> bool
-        requires { receivers.now ≡ receivers_of self.now.groups position.now.mount }
+        requires receivers { receivers.now ≡ receivers_of self.now.groups position.now.mount }
+        requires rising { IsStrictlyIncreasing receivers.now }
         ensures { result ≡ goes_with self.now mount (Some position.now) row.now }
     {
         if row.mount == mount {
