@@ -1,9 +1,10 @@
-pub mod RemovalLemmas
-pub mod GrowthLemmas
-pub mod LoopLemmas
-pub mod StandLemmas
 pub mod AdditionLemmas
-pub mod NumberLemmas
-pub mod NamespaceLemmas
-pub mod KindLemmas
 pub mod CameLemmas
+pub mod GrowthLemmas
+pub mod KindLemmas
+pub mod LoopLemmas
+pub mod NamespaceLemmas
+pub mod NumberLemmas
+pub mod RemovalLemmas
+pub mod SearchLemmas
+pub mod StandLemmas

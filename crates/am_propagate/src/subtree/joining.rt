@@ -157,7 +157,7 @@ impl Subtree {
     }
 
     /// The groups, beside that of the mount `at`, in which mounts are that receive from it.
-    pub fn others(
+    pub(crate) fn others(
         &self,
         alloc: Global,
         at: MountId,
@@ -172,7 +172,7 @@ impl Subtree {
     }
 
     /// The rows for the peer groups of a mount on the mount `at`, and of its copies.
-    pub fn joining(
+    pub(crate) fn joining(
         &self,
         alloc: Global,
         at: MountId,

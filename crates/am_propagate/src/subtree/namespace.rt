@@ -1,6 +1,7 @@
 //! Copies of namespaces.
 
 ghost use Rattle.std.specs.Prelude.{◌≡◌, ◌+◌, ◌^◌, ◌<◌, ◌≤◌, ◌++◌, map, filter, length, IfOk, OnOk, OnErr};
+ghost use Rattle.std.specs.List.Sorted.{IsStrictlyIncreasing};
 ghost use Rattle.am_names.specs.Errno.{RefusedAs};
 ghost use Rattle.am_group.specs.Invariant.{AddsNoReceivers};
 ghost use Rattle.am_mount.specs.Rows.{is_among, is_in};
@@ -23,16 +24,23 @@ pub struct NewNamespace {
     pub mounts: Vec<MountId>,
 }
 
+/// How many of these mounts, which rise, have no higher number.
 fn count_up_to(mount: MountId, mounts: &[MountId]) -> usize
+    requires { IsStrictlyIncreasing mounts.now }
     ensures count { result ≡ count_up_to mount mounts.now }
     ensures within { result ≤ length mounts.now }
 {
-    mounts.iter().filter(|other| **other <= mount).count()
+    let number = mount.0;
+    match mounts.binary_search_by_key(&number, |other| other.0) {
+        Ok(at) => at + 1,
+        Err(at) => at,
+    }
 }
 
 /// The copies of these mounts have the numbers behind `last`, in their order.
 fn copy_number(last: u64, mounts: &[MountId], mount: MountId) -> MountId
-    requires { last + length mounts.now < 2 ^ 64 }
+    requires numbers { last + length mounts.now < 2 ^ 64 }
+    requires rising { IsStrictlyIncreasing mounts.now }
     ensures { result ≡ copy_number last mounts.now mount }
 {
     MountId(last + count_up_to(mount, mounts) as u64)
@@ -46,7 +54,8 @@ impl Subtree {
         ns: NsId,
         to: NsId,
     ) -> Result<Vec<MountRow>, AllocError>
-        requires { self.now.last_mount + length mounts.now < 2 ^ 64 }
+        requires numbers { self.now.last_mount + length mounts.now < 2 ^ 64 }
+        requires rising { IsStrictlyIncreasing mounts.now }
         ensures { IfOk result (λ v. v.items ≡ map (row_in (copy_number self.now.last_mount mounts.now) to) (filter (is_in ns) self.now.rows)) }
     {
         let mut rows = Vec::new(alloc);
@@ -65,7 +74,8 @@ impl Subtree {
         row: &MountRow,
         to: NsId,
     ) -> Result<MountRow, AllocError>
-        requires { self.now.last_mount + length mounts.now < 2 ^ 64 }
+        requires numbers { self.now.last_mount + length mounts.now < 2 ^ 64 }
+        requires rising { IsStrictlyIncreasing mounts.now }
         ensures { IfOk result (λ copy. copy ≡ row_in (copy_number self.now.last_mount mounts.now) to row.now) }
     {
         let mountpoint = match &row.mountpoint {
@@ -85,7 +95,8 @@ impl Subtree {
     }
 
     fn members_in(&self, alloc: Global, mounts: &[MountId]) -> Result<Vec<MemberRow>, AllocError>
-        requires { self.now.last_mount + length mounts.now < 2 ^ 64 }
+        requires numbers { self.now.last_mount + length mounts.now < 2 ^ 64 }
+        requires rising { IsStrictlyIncreasing mounts.now }
         ensures { IfOk result (λ v. v.items ≡ map (member_in (copy_number self.now.last_mount mounts.now)) (filter (λ row. is_among mounts.now row.mount) self.now.groups.members)) }
     {
         let mut members = Vec::new(alloc);

@@ -18,18 +18,15 @@ use crate::subtree::Subtree;
 use am_names::{Errno, MountId, MountRow, NsId, Position};
 use std::alloc::{AllocError, Global};
 
+/// Whether the mount is one of these, which rise: halves of them are left out at a time.
 pub fn is_among(mount: MountId, mounts: &[MountId]) -> bool
+    requires { IsStrictlyIncreasing mounts.now }
     ensures { result ≡ is_among mounts.now mount }
 {
-    mounts.iter().copied().any(|other| other == mount)
-}
-
-fn is_child(mount: MountId, row: &MountRow) -> bool
-    ensures { result ≡ is_child mount row.now }
-{
-    match &row.mountpoint {
-        Some(position) => position.mount == mount,
-        None => false,
+    let number = mount.0;
+    match mounts.binary_search_by_key(&number, |other| other.0) {
+        Ok(_) => true,
+        Err(_) => false,
     }
 }
 
@@ -37,7 +34,7 @@ impl Subtree {
     fn has_children(&self, mount: MountId) -> bool
         ensures { result ≡ list_any (is_child mount) self.now.rows }
     {
-        self.tree.rows().iter().any(|row| is_child(mount, row))
+        self.tree.has_children(mount)
     }
 
     /// Whether nothing is mounted on the mount.
@@ -49,7 +46,8 @@ impl Subtree {
 
     /// Whether this is the top at the place of one of these mounts.
     fn is_top_on(&self, mounts: &[MountId], place: &[u8], row: &MountRow) -> bool
-        requires { IsCanonical place.now }
+        requires canonical { IsCanonical place.now }
+        requires rising { IsStrictlyIncreasing mounts.now }
         ensures { result ≡ is_top_on self.now mounts.now (names_of place.now) row.now }
     {
         let Some(position) = &row.mountpoint else {
@@ -72,7 +70,8 @@ impl Subtree {
         position: &Position,
         row: &MountRow,
     ) -> bool
-        requires { receivers.now ≡ receivers_of self.now.groups position.now.mount }
+        requires receivers { receivers.now ≡ receivers_of self.now.groups position.now.mount }
+        requires rising { IsStrictlyIncreasing receivers.now }
         ensures { result ≡ goes_with self.now mount (Some position.now) row.now }
     {
         if row.mount == mount {
@@ -216,10 +215,11 @@ impl Subtree {
         Ok(gone)
     }
 
+    /// Whether the namespace is there: it is as long as it has mounts.
     pub fn is_namespace(&self, ns: NsId) -> bool
         ensures { result ≡ is_namespace self.now ns }
     {
-        self.tree.rows().iter().any(|row| row.ns == ns)
+        self.tree.has_mounts(ns)
     }
 
     /// Drops a namespace: its mounts go, and nothing propagates. The answer tells them, in

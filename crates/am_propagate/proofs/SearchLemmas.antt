@@ -1,0 +1,132 @@
+-- What a search by halves tells of mounts that rise.
+use Rattle.std.proofs.Common.{◌≡◌, ◌≢◌, ◌≤◌, ◌<◌, ◌+◌, ℕ, zero, suc, Bool, true, false, ◌||◌, List, [], ◌∷◌, length, get_or, eqb, Ok, Err, refl, sym, ap, ◌∙◌, arith, add-one}
+use Rattle.std.specs.Prelude.{filter, nat_le}
+use Rattle.std.specs.List.Sorted.{IsBinarySearchResult, IsNonDecreasingBy, IsStrictlyIncreasing}
+use Rattle.std.specs.Ordering.{nat_cmp, ordering_index}
+use Rattle.std.proofs.lemmas.Cmp.{ranked}
+use Rattle.std.proofs.lemmas.Bool.{eq-eqb, ne_eqb}
+use Rattle.std.proofs.lemmas.Bool.Decides.{nat_tests}
+use Rattle.am_mount.specs.Rows.{is_among}
+use Rattle.am_propagate.specs.Namespaces.{count_up_to}
+
+-- numbers in rising order, from this one on
+abbrev RiseOn : ℕ → List ℕ → Type 0
+RiseOn low [] = Unit {0}
+RiseOn low (n ∷ xs) = (low ≤ n) × RiseOn (n + 1) xs
+
+rise_lower : (low high : ℕ) (xs : List ℕ) → low ≤ high → RiseOn high xs → RiseOn low xs
+rise_lower low high [] le rises = tt
+rise_lower low high (n ∷ xs) le rises = let first : high ≤ n = rises.0 in (omega arith, rises.1)
+
+rise_from : (n : ℕ) (xs : List ℕ) → IsStrictlyIncreasing (n ∷ xs) → RiseOn n (n ∷ xs)
+rise_from n [] steps = (omega arith, tt)
+rise_from n (m ∷ xs) steps =
+    let first : n < m = steps 0 (omega arith) in
+    let rest : RiseOn m (m ∷ xs) = rise_from m xs (λ k h. rw (add-one) (rw (add-one) at (steps (suc k) (omega arith)))) in
+    (omega arith, rise_lower (n + 1) m (m ∷ xs) (omega arith) rest)
+
+rise_all : (xs : List ℕ) → IsStrictlyIncreasing xs → RiseOn 0 xs
+rise_all [] steps = tt
+rise_all (n ∷ xs) steps = rise_lower 0 n (n ∷ xs) (omega arith) (rise_from n xs steps)
+
+at_least : (low : ℕ) (xs : List ℕ) → RiseOn low xs → (i d : ℕ) → i < length xs → low ≤ get_or xs i d
+at_least low [] rises i d h = absurd (omega arith)
+at_least low (n ∷ xs) rises zero d h = rises.0
+at_least low (n ∷ xs) rises (suc i) d h =
+    let first : low ≤ n = rises.0 in
+    let next = n + 1 in
+    let rest : next ≤ get_or xs i d = at_least next xs rises.1 i d (omega arith) in
+    omega arith
+
+pairs_rise :
+    (low : ℕ) (xs : List ℕ) → RiseOn low xs → (i j d : ℕ) → i < j → j < length xs →
+    get_or xs i d < get_or xs j d
+pairs_rise low [] rises i j d less h = absurd (omega arith)
+pairs_rise low (n ∷ xs) rises i zero d less h = absurd (omega arith)
+pairs_rise low (n ∷ xs) rises zero (suc j) d less h =
+    let next = n + 1 in
+    let rest : next ≤ get_or xs j d = at_least next xs rises.1 j d (omega arith) in
+    omega arith
+pairs_rise low (n ∷ xs) rises (suc i) (suc j) d less h =
+    pairs_rise (n + 1) xs rises.1 i j d (omega arith) (omega arith)
+
+or_true : (b : Bool) → (b || true) ≡ true
+or_true true = refl
+or_true false = refl
+
+among_at : (xs : List ℕ) (i m : ℕ) → i < length xs → get_or xs i 0 ≡ m → is_among xs m ≡ true
+among_at [] i m h e = absurd (omega arith)
+among_at (x ∷ xs) zero m h e = rw (eq-eqb x m e) refl
+among_at (x ∷ xs) (suc i) m h e =
+    ap (λ (b : Bool). (eqb x m) || b) (among_at xs i m (omega arith) e) ∙ or_true (eqb x m)
+
+among_none :
+    (xs : List ℕ) (m : ℕ) → ((i : ℕ) → i < length xs → get_or xs i 0 ≢ m) → is_among xs m ≡ false
+among_none [] m others = refl
+among_none (x ∷ xs) m others =
+    rw (ne_eqb x m (others 0 (omega arith))) (among_none xs m (λ i h. others (suc i) (omega arith)))
+
+count_split :
+    (xs : List ℕ) (i m : ℕ) → i ≤ length xs → ((j : ℕ) → j < i → get_or xs j 0 ≤ m) →
+    ((j : ℕ) → i ≤ j → j < length xs → m < get_or xs j 0) → count_up_to m xs ≡ i
+count_split [] zero m h before after = refl
+count_split [] (suc i) m h before after = absurd (omega arith)
+count_split (x ∷ xs) zero m h before after =
+    let above : m < x = after 0 (omega arith) (omega arith) in
+    let test : nat_le x m ≡ false = grind (arith, nat_tests) in
+    rw test (count_split xs zero m (omega arith) (λ j less. absurd (omega arith)) (λ j le k. after (suc j) (omega arith) (omega arith)))
+count_split (x ∷ xs) (suc i) m h before after =
+    let up : x ≤ m = before 0 (omega arith) in
+    let test : nat_le x m ≡ true = grind (arith, nat_tests) in
+    rw test (ap suc (count_split xs i m (omega arith) (λ j less. before (suc j) (omega arith)) (λ j le k. after (suc j) (omega arith) (omega arith))))
+
+module _ (xs : List ℕ) (steps : IsStrictlyIncreasing xs) (m : ℕ) where
+  comparisons_rise : IsNonDecreasingBy (λ (x : ℕ). ordering_index (nat_cmp x m)) xs
+  comparisons_rise i j d le h =
+      let up = pairs_rise 0 xs (rise_all xs steps) i j d in
+      grind (arith, nat_tests, up, λ (same : i ≡ j). ap (λ (k : ℕ). get_or xs k d) same)
+
+  here : (i : ℕ) → IsBinarySearchResult (λ (x : ℕ). nat_cmp x m) xs (Ok i) → get_or xs i 0 ≡ m
+  here i equal = ranked _ m _ (sym (equal 0))
+
+  before : (i : ℕ) → IsBinarySearchResult (λ (x : ℕ). nat_cmp x m) xs (Err i) → (j : ℕ) → j < length xs → j < i → get_or xs j 0 < m
+  before i parted j h lt = ranked _ m _ (sym ((parted comparisons_rise).0 j 0 (omega arith) lt))
+
+  after : (i : ℕ) → IsBinarySearchResult (λ (x : ℕ). nat_cmp x m) xs (Err i) → (j : ℕ) → j < length xs → i ≤ j → m < get_or xs j 0
+  after i parted j h le = ranked _ m _ (sym ((parted comparisons_rise).1 j 0 le h))
+
+  pub among_found :
+      (i : ℕ) → i < length xs → IsBinarySearchResult (λ (x : ℕ). nat_cmp x m) xs (Ok i) → is_among xs m ≡ true
+  among_found i h equal = among_at xs i m h (here i equal)
+
+  pub among_absent : (i : ℕ) → IsBinarySearchResult (λ (x : ℕ). nat_cmp x m) xs (Err i) → is_among xs m ≡ false
+  among_absent i parted = among_none xs m (λ j h same. grind (arith, before i parted j h, after i parted j h))
+
+  pub count_found :
+      (i : ℕ) → i < length xs → IsBinarySearchResult (λ (x : ℕ). nat_cmp x m) xs (Ok i) → count_up_to m xs ≡ i + 1
+  count_found i h equal = count_split xs (i + 1) m (omega arith) low high
+    where
+      rise : RiseOn 0 xs
+      rise = rise_all xs steps
+
+      low : (j : ℕ) → j < i + 1 → get_or xs j 0 ≤ m
+      low j lt =
+          let own : get_or xs i 0 ≡ m = here i equal in
+          let up = pairs_rise 0 xs rise j i 0 in
+          grind (arith, up, λ (same : j ≡ i). ap (λ (k : ℕ). get_or xs k 0) same)
+
+      high : (j : ℕ) → i + 1 ≤ j → j < length xs → m < get_or xs j 0
+      high j le k =
+          let own : get_or xs i 0 ≡ m = here i equal in
+          let up : get_or xs i 0 < get_or xs j 0 = pairs_rise 0 xs rise i j 0 (omega arith) k in
+          omega arith
+
+  pub count_absent :
+      (i : ℕ) → i ≤ length xs → IsBinarySearchResult (λ (x : ℕ). nat_cmp x m) xs (Err i) → count_up_to m xs ≡ i
+  count_absent i h parted = count_split xs i m h low high
+    where
+      low : (j : ℕ) → j < i → get_or xs j 0 ≤ m
+      low j lt = let less : get_or xs j 0 < m = before i parted j (omega arith) lt in omega arith
+
+      high : (j : ℕ) → i ≤ j → j < length xs → m < get_or xs j 0
+      high j le k = after i parted j k le
