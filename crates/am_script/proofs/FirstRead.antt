@@ -1,5 +1,5 @@
 -- The first of two readings that says an event.
-use Rattle.std.proofs.Common.{◌≡◌, true, is_some, Option, Some, None, Result, Ok, Err}
+use Rattle.std.proofs.Common.{◌≡◌, true, is_some, Option, Some, None}
 use Rattle.std.specs.Option.{option_or}
 use Rattle.am_machine.specs.declared.event.Event.{Event}
 

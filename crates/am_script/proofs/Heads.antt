@@ -1,5 +1,5 @@
 -- A script whose head is read line by line.
-use Rattle.std.proofs.Common.{◌≡◌, ◌⊎◌, ◌≤◌, ◌+◌, ℕ, List, [], ◌∷◌, length, drop, Option, Some, None, Result, Ok, Err, IfOk, IfErr, refl, sym, ap, subst, ◌∙◌, inl, inr, arith}
+use Rattle.std.proofs.Common.{◌≡◌, ◌≤◌, ◌+◌, ℕ, List, [], ◌∷◌, length, drop, Option, Some, None, Result, Ok, Err, IfOk, IfErr, refl, sym, ap, subst, ◌∙◌, inl, inr, arith}
 use Rattle.std.specs.Io.KnownBytes.{Appends}
 use Rattle.std.proofs.lemmas.List.{drop-drop}
 use Rattle.am_machine.specs.State.{State, Opening, opening_in, opening_of}
@@ -50,18 +50,19 @@ faulty : (count : ℕ) (fault : ScriptFault) (script : Script) (old new : Option
 faulty count fault script old new e kept =
     subst (λ (s : Script). IsStopped count s old new fault) (sym e) (inr (record { found = refl; written = kept_none old new kept }))
 
-ran_out : (count number : ℕ) (fault : ScriptFault) (script : Script) (old new : Option (List ℕ)) → fault ≡ fault_at number NoMemory → number ≤ count → new ≡ old → IsStopped count script old new fault
-ran_out count number fault script old new e fits kept =
+ran_out : (count number : ℕ) (fault : ScriptFault) (script : Script) (old new : Option (List ℕ)) → fault ≡ fault_at number NoMemory → 1 ≤ number → number ≤ count → new ≡ old → IsStopped count script old new fault
+ran_out count number fault script old new e first fits kept =
     let line : fault.line ≡ number = ap (λ (f : ScriptFault). f.line) e in
     inl (record {
       kind = ap (λ (f : ScriptFault). f.kind) e;
+      first = omega (arith, line, first);
       line = omega (arith, line, fits);
       written = kept_none old new kept;
     })
 
 -- a script has more lines than were taken
 more_lines : (few many : ℕ) (script : Script) (old new : Option (List ℕ)) (fault : ScriptFault) → few ≤ many → IsStopped few script old new fault → IsStopped many script old new fault
-more_lines few many script old new fault fits (inl none) = inl (record { kind = none.kind; line = omega (arith, none.line, fits); written = none.written })
+more_lines few many script old new fault fits (inl none) = inl (record { kind = none.kind; first = none.first; line = omega (arith, none.line, fits); written = none.written })
 more_lines few many script old new fault fits (inr stops) = inr stops
 
 stops_in_more : (few many : ℕ) (script : Script) (old new : Option (List ℕ)) (r : Result Summary ScriptFault) → few ≤ many → IfErr r (IsStopped few script old new) → IfErr r (IsStopped many script old new)
@@ -77,7 +78,7 @@ pub head_stops : (broke : Option ScriptFaultKind) (all : List (List ℕ)) (head 
 head_stops broke all head number rest line lines fault old new left e (inl t) kept =
     faulty (length all) fault (script_from broke all) old new (ap (script_by broke all) (went all head number rest line lines (Stops fault) left e t)) kept
 head_stops broke all head number rest line lines fault old new left e (inr none) kept =
-    ran_out (length all) (number + 1) fault (script_from broke all) old new none (taken_within all head number rest line lines left e) kept
+    ran_out (length all) (number + 1) fault (script_from broke all) old new none (omega arith) (taken_within all head number rest line lines left e) kept
 
 -- ---- the events begin
 
@@ -88,9 +89,9 @@ begun broke all head next number rest line lines left e t =
     let starts = went all head number rest line lines (EventsBegin next) left e t in
     ap (script_by broke all) starts ∙ ap (λ (ls : List (List ℕ)). begun_by (opening_read next.said) (events_from broke (number + 1) ls)) (behind_more all head number rest line lines left e)
 
-pub begin_fails : (before : ℕ) (read : Result Opening ScriptFault) (told : Told) (fault : ScriptFault) (old : Option (List ℕ)) → IsFaultOr before fault read → IsStopped before (begun_by read told) old old fault
-begin_fails before read told fault old (inl f) = faulty before fault (begun_by read told) old old (ap (λ (r : Result Opening ScriptFault). begun_by r told) f) refl
-begin_fails before read told fault old (inr none) = ran_out before before fault (begun_by read told) old old none (omega arith) refl
+pub begin_fails : (before : ℕ) (read : Result Opening ScriptFault) (told : Told) (fault : ScriptFault) (old : Option (List ℕ)) → 1 ≤ before → IsFaultOr before fault read → IsStopped before (begun_by read told) old old fault
+begin_fails before read told fault old first (inl f) = faulty before fault (begun_by read told) old old (ap (λ (r : Result Opening ScriptFault). begun_by r told) f) refl
+begin_fails before read told fault old first (inr none) = ran_out before before fault (begun_by read told) old old none first (omega arith) refl
 
 pub begun_played : (read : Result Opening ScriptFault) (told : Told) (world : State) (old new : Option (List ℕ)) (r : Result Summary ScriptFault) → read ≡ Ok (opening_in world) → world ≡ opening_of (opening_in world) →
     IfOk r (AllAnswered world told old new) → IfOk r (IsPlayed (begun_by read told) old new)
@@ -99,13 +100,12 @@ begun_played read told world old new (Ok summary) e w h =
 begun_played read told world old new (Err fault) e w h = tt
 
 stopped_from : (before : ℕ) (read : Result Opening ScriptFault) (told : Told) (world : State) (old new : Option (List ℕ)) (fault : ScriptFault) → read ≡ Ok (opening_in world) → world ≡ opening_of (opening_in world) →
-    played.RanOut before old new fault ⊎ played.Stops world told old new fault → IsStopped before (begun_by read told) old new fault
-stopped_from before read told world old new fault e w (inl none) = inl none
-stopped_from before read told world old new fault e w (inr stops) =
+    played.Stops world told old new fault → IsStopped before (begun_by read told) old new fault
+stopped_from before read told world old new fault e w stops =
     subst (λ (r : Result Opening ScriptFault). IsStopped before (begun_by r told) old new fault) (sym e) (inr (subst (λ (s : State). played.Stops s told old new fault) w stops))
 
 pub begun_stopped : (before : ℕ) (read : Result Opening ScriptFault) (told : Told) (world : State) (old new : Option (List ℕ)) (r : Result Summary ScriptFault) → read ≡ Ok (opening_in world) → world ≡ opening_of (opening_in world) →
-    IfErr r (λ fault. played.RanOut before old new fault ⊎ played.Stops world told old new fault) → IfErr r (IsStopped before (begun_by read told) old new)
+    IfErr r (played.Stops world told old new) → IfErr r (IsStopped before (begun_by read told) old new)
 begun_stopped before read told world old new (Ok summary) e w h = tt
 begun_stopped before read told world old new (Err fault) e w h = stopped_from before read told world old new fault e w h
 

@@ -7,7 +7,9 @@ pub mod IndexLemmas
 pub mod Inputs
 pub mod LineAnswers
 pub mod LineWordsLemmas
+pub mod Lost
 pub mod MapsLemmas
 pub mod Numerals
+pub mod OwedLemmas
 pub mod Pieces
 pub mod Writes

@@ -1,31 +1,34 @@
 -- What a line comes to, by what it says.
-use Rattle.std.proofs.Common.{ℕ, Bool, List, Option, Some, None, Result, Ok, Err}
+use Rattle.std.proofs.Common.{◌≡◌, ◌++◌, ℕ, Bool, List, Option, Some, None, Result, Ok, Err, subst}
 use Rattle.am_machine.specs.declared.event.Event.{Event}
 use Rattle.am_machine.specs.declared.answer.Answer.{Answer}
 use Rattle.am_machine.specs.State.{State}
 use Rattle.am_script.specs.declared.fault.ScriptFaultKind.{ScriptFaultKind}
-use Rattle.am_script.specs.Turns.{LineAnswered, IsWritten, IsCut, TurnDone, TurnStopped}
+use Rattle.am_script.specs.declared.output.Output.{Output}
+use Rattle.am_script.specs.Answers.{answer_line, is_refused}
+use Rattle.am_script.specs.Outputs.{owed_by, Stands, Settles, Puts}
+use Rattle.am_script.specs.Turns.{LineAnswered, TurnDone, TurnStopped}
 
--- its answer is written, or not to the end
-pub told : (s next : State) (said : Result (Option Event) ScriptFaultKind) (answer : Answer) (old new : Option (List ℕ)) (refused : Bool) → LineAnswered s said next (Ok (Some answer)) → IsWritten answer old new refused → TurnDone s said next old new (Some refused)
-told s next (Ok None) answer old new refused h w = absurd h
-told s next (Ok (Some event)) answer old new refused h w = record {
+-- its answer is put out
+pub told : (s next : State) (said : Result (Option Event) ScriptFaultKind) (answer : Answer) (number : ℕ) (kept mid keeps : Output) (old now new : Option (List ℕ)) (refused : Bool) → LineAnswered s said next (Ok (Some answer)) → Settles kept mid old now → mid.line ≡ number → Puts mid keeps (answer_line answer) now new → refused ≡ is_refused answer → TurnDone s said next number kept keeps old new (Some refused)
+told s next (Ok None) answer number kept mid keeps old now new refused h begun line put test = absurd h
+told s next (Ok (Some event)) answer number kept mid keeps old now new refused h begun line put test = record {
   answer = answer;
   seen = h.0;
   step = h.1;
-  written = w.written;
-  test = w.test;
+  puts = λ all start stands. subst (λ (n : ℕ). Stands keeps (all ++ owed_by n (answer_line answer)) start new) line (put.puts all start (begun all start stands));
+  test = test;
 }
-told s next (Err kind) answer old new refused h w = absurd h
+told s next (Err kind) answer number kept mid keeps old now new refused h begun line put test = absurd h
 
-pub cut : (s next : State) (said : Result (Option Event) ScriptFaultKind) (answer : Answer) (old new : Option (List ℕ)) (kind : ScriptFaultKind) → LineAnswered s said next (Ok (Some answer)) → IsCut answer old new kind → TurnStopped s said next old new kind
-cut s next (Ok None) answer old new kind h w = absurd h
-cut s next (Ok (Some event)) answer old new kind h w = record {
-  answer = answer;
-  seen = h.0;
-  step = h.1;
-  taken = w.taken;
-  written = w.written;
-  loss = w.loss;
-}
-cut s next (Err fault) answer old new kind h w = absurd h
+-- it says no event
+pub idle : (s next : State) (said : Result (Option Event) ScriptFaultKind) (number : ℕ) (kept : Output) (old : Option (List ℕ)) → LineAnswered s said next (Ok None) → TurnDone s said next number kept kept old old None
+idle s next (Ok None) number kept old h = record { same = h; settles = λ all start stands. stands }
+idle s next (Ok (Some event)) number kept old h = absurd h
+idle s next (Err kind) number kept old h = absurd h
+
+-- it has a fault
+pub stopped : (s next : State) (said : Result (Option Event) ScriptFaultKind) (kept : Output) (old : Option (List ℕ)) (kind : ScriptFaultKind) → LineAnswered s said next (Err kind) → TurnStopped s said next kept kept old old kind
+stopped s next (Ok None) kept old kind h = absurd h
+stopped s next (Ok (Some event)) kept old kind h = absurd h
+stopped s next (Err fault) kept old kind h = (record { same = h.0; settles = λ all start stands. stands }, h.1)

@@ -1,8 +1,7 @@
 -- What a writer took so far.
-use Rattle.std.proofs.Common.{◌≡◌, ℕ, List, [], ◌∷◌, ◌++◌, length, take, drop, Option, Some, None, refl, sym, ap, ◌∙◌, append_assoc, subst}
+use Rattle.std.proofs.Common.{◌≡◌, ◌-◌, ℕ, List, [], ◌++◌, length, take, drop, Option, Some, None, refl, sym, ap, ◌∙◌, append_assoc, subst, length-append, arith}
 use Rattle.std.specs.Io.KnownBytes.{Appends, Keeps}
 use Rattle.std.proofs.lemmas.List.{take-append-drop, append-nil, take_at}
-use Rattle.am_script.specs.Written.{AppendsFront}
 
 -- a front of the bytes was taken, and this is left of them
 pub record Took (old new : Option (List ℕ)) (bytes rest : List ℕ) : Type 0 where
@@ -16,7 +15,7 @@ appends_more (Some a) (Some b) (Some c) xs ys h g = g ∙ ap (λ (t : List ℕ).
 appends_more (Some a) None new xs ys h g = absurd h
 appends_more (Some a) (Some b) None xs ys h g = absurd g
 
-keeps_appends : (old new : Option (List ℕ)) → Keeps old new → Appends old new []
+pub keeps_appends : (old new : Option (List ℕ)) → Keeps old new → Appends old new []
 keeps_appends None new h = tt
 keeps_appends (Some a) (Some b) h = h ∙ sym (append-nil a)
 keeps_appends (Some a) None h = absurd h
@@ -32,19 +31,18 @@ took_more old mid new bytes rest n t g = record {
   taken = appends_more old mid new t.front (take n rest) t.taken g;
 }
 
-pub took_kept : (old mid new : Option (List ℕ)) (bytes rest : List ℕ) → Took old mid bytes rest → Keeps mid new → Took old new bytes rest
-took_kept old mid new bytes rest t g = record {
-  front = t.front;
-  parts = t.parts;
-  taken = subst (λ (f : List ℕ). Appends old new f) (append-nil t.front) (appends_more old mid new t.front [] t.taken (keeps_appends mid new g));
-}
+-- the bytes that were taken, by their number
+pub took_count : (old new : Option (List ℕ)) (bytes rest : List ℕ) → Took old new bytes rest → Appends old new (take (length bytes - length rest) bytes)
+took_count old new bytes rest t =
+    let n : length bytes - length rest ≡ length t.front = omega (arith, ap (λ (b : List ℕ). length b) t.parts, length-append t.front rest) in
+    subst (λ (f : List ℕ). Appends old new f) (sym (ap (λ (i : ℕ). take i bytes) n ∙ ap (take (length t.front)) t.parts ∙ take_at t.front rest (length t.front) refl)) t.taken
 
-pub took_all : (old new : Option (List ℕ)) (bytes rest : List ℕ) → length rest ≡ 0 → Took old new bytes rest → Appends old new bytes
-took_all old new bytes [] e t = subst (λ (f : List ℕ). Appends old new f) (sym (t.parts ∙ append-nil t.front)) t.taken
-took_all old new bytes (x ∷ rest) e t = absurd cc
+-- none of them was taken
+pub took_none : (old mid new : Option (List ℕ)) (bytes rest : List ℕ) (n : ℕ) → n ≡ 0 → Took old mid bytes rest → Appends mid new (take n rest) → Took old new bytes rest
+took_none old mid new bytes rest n e t g = subst (λ (k : ℕ). Took old new bytes (drop k rest)) e (took_more old mid new bytes rest n t g)
 
-pub took_front : (old new : Option (List ℕ)) (bytes rest : List ℕ) → Took old new bytes rest → AppendsFront old new bytes
-took_front old new bytes rest t = record {
-  taken = length t.front;
-  written = subst (λ (f : List ℕ). Appends old new f) (sym (ap (take (length t.front)) t.parts ∙ take_at t.front rest (length t.front) refl)) t.taken;
-}
+pub took_first : (old : Option (List ℕ)) (bytes : List ℕ) → Took old old bytes bytes
+took_first old bytes = record { front = []; parts = refl; taken = appends_none old }
+
+pub took_all : (old new : Option (List ℕ)) (bytes rest : List ℕ) → length rest ≡ 0 → Took old new bytes rest → Appends old new (take (length bytes) bytes)
+took_all old new bytes rest e t = subst (λ (n : ℕ). Appends old new (take n bytes)) (omega (arith, e)) (took_count old new bytes rest t)

@@ -12,10 +12,10 @@ pub mod LineWords
 pub mod Lines
 pub mod Maps
 pub mod Numbers
+pub mod Outputs
 pub mod Played
 pub mod Read
 pub mod Script
 pub mod Sections
 pub mod Turns
 pub mod WalkerLines
-pub mod Written

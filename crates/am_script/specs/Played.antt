@@ -1,6 +1,6 @@
 -- How a script is played: its answers are those of a run from its world, and their lines are
 -- what is written.
-use Rattle.std.specs.Prelude.{◌≡◌, ◌⊎◌, ◌≤◌, ℕ, List, [], ◌∷◌, ◌++◌, length, take, count_by, Option, None, Some, Result, Ok, Err}
+use Rattle.std.specs.Prelude.{◌≡◌, ◌⊎◌, ◌<◌, ◌≤◌, ℕ, List, [], ◌∷◌, ◌++◌, length, take, count_by, Option, None, Some, Result, Ok, Err}
 use Rattle.std.specs.List.{flat_map}
 use Rattle.std.specs.Io.KnownBytes.{Appends, Consumes, IsAtEnd}
 use Rattle.am_machine.specs.declared.answer.Answer.{Answer}
@@ -39,13 +39,9 @@ pub record StopsAtFault (start : State) (told : Told) (old new : Option (List �
   pub run : Run start (events_in told.events) answers last
   pub written : Appends old new (lines_for answers)
 
--- an answer isn't written, or not to its end
-abbrev pub IsLoss : ScriptFaultKind → Type 0
-IsLoss kind = (kind ≡ WriteFailed) ⊎ (kind ≡ NoMemory)
-
--- the line of an answer is lost, but for a beginning; all before it are written
+-- the line of an answer isn't taken whole, but for a beginning; all before it are written
 pub record StopsAtEvent (start : State) (told : Told) (old new : Option (List ℕ)) (fault : ScriptFault) : Type 0 where
-  pub loss : IsLoss fault.kind
+  pub loss : fault.kind ≡ WriteFailed
   pub done : List Numbered
   pub here : Numbered
   pub others : List Numbered
@@ -56,6 +52,7 @@ pub record StopsAtEvent (start : State) (told : Told) (old new : Option (List �
   pub last : State
   pub run : Run start (events_in (done ++ here ∷ [])) (answers ++ answer ∷ []) last
   pub taken : ℕ
+  pub short : taken < length (answer_line answer)
   pub written : Appends old new (lines_for answers ++ take taken (answer_line answer))
 
 abbrev pub Stops : State → Told → Option (List ℕ) → Option (List ℕ) → ScriptFault → Type 0
@@ -92,6 +89,7 @@ StoppedFrom (Some opening) told old new fault = Stops (opening_of opening) told 
 -- lines
 pub record RanOut (lines : ℕ) (old new : Option (List ℕ)) (fault : ScriptFault) : Type 0 where
   pub kind : fault.kind ≡ NoMemory
+  pub first : 1 ≤ fault.line
   pub line : fault.line ≤ lines
   pub written : Appends old new []
 

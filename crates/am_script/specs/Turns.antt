@@ -1,5 +1,5 @@
 -- One line of events is played.
-use Rattle.std.specs.Prelude.{⊤, ◌≡◌, ℕ, ◌+◌, Bool, cond, List, [], take, Option, None, Some, Result, Ok, Err}
+use Rattle.std.specs.Prelude.{⊤, ◌≡◌, ◌⊎◌, ℕ, ◌+◌, Bool, cond, List, Option, None, Some, Result, Ok, Err}
 use Rattle.std.specs.Io.KnownBytes.{Appends}
 use Rattle.am_machine.specs.declared.event.Event.{Event}
 use Rattle.am_machine.specs.declared.answer.Answer.{Answer}
@@ -7,10 +7,13 @@ use Rattle.am_state.specs.declared.obs.Obs.{Obs}
 use Rattle.am_machine.specs.State.{State}
 use Rattle.am_machine.specs.Machine.{Step}
 use Rattle.am_script.specs.declared.fault.ScriptFaultKind.{ScriptFaultKind}
-use Rattle.am_script.specs.declared.fault.ScriptFaultKind.TheVariants.{NoMemory}
+use Rattle.am_script.specs.declared.fault.ScriptFault.{ScriptFault}
+use Rattle.am_script.specs.declared.fault.ScriptFaultKind.TheVariants.{NoMemory, WriteFailed}
+use Rattle.am_script.specs.declared.output.Output.{Output}
 use Rattle.am_script.specs.declared.play.Summary.{Summary}
 use Rattle.am_script.specs.Answers.{answer_line, is_refused}
-use Rattle.am_script.specs.Played.{IsLoss}
+use Rattle.am_script.specs.Fault.{fault_at}
+use Rattle.am_script.specs.Outputs.{Owed, owed_by, bytes_of, IsLost, Stands, Settles, PutsOut}
 
 -- the line says an event
 abbrev pub SaysEvent : Result (Option Event) ScriptFaultKind → Type 0
@@ -31,52 +34,50 @@ LineAnswered s (Ok (Some event)) next (Ok (Some answer)) = (seen : List Obs) × 
 LineAnswered s (Err kind) next (Err fault) = (next ≡ s) × (fault ≡ kind)
 LineAnswered s said next answer = ⊥
 
--- the line of the answer is written
-pub record IsWritten (answer : Answer) (old new : Option (List ℕ)) (refused : Bool) : Type 0 where
-  pub written : Appends old new (answer_line answer)
-  pub test : refused ≡ is_refused answer
-
--- only a beginning of the answer's line is written
-pub record IsCut (answer : Answer) (old new : Option (List ℕ)) (kind : ScriptFaultKind) : Type 0 where
-  pub taken : ℕ
-  pub written : Appends old new (take taken (answer_line answer))
-  pub loss : IsLoss kind
-
--- the event is answered, and the answer's line is written
-pub record IsAnswered (s : State) (event : Event) (next : State) (old new : Option (List ℕ)) (refused : Bool) : Type 0 where
+-- the event is answered, and the answer's line is put out
+pub record IsAnswered (s : State) (event : Event) (next : State) (number : ℕ) (kept keeps : Output) (old new : Option (List ℕ)) (refused : Bool) : Type 0 where
   pub answer : Answer
   pub seen : List Obs
   pub step : Step s event answer seen next
-  pub written : Appends old new (answer_line answer)
+  pub puts : PutsOut kept keeps (owed_by number (answer_line answer)) old new
   pub test : refused ≡ is_refused answer
-
--- the event is answered, and only a beginning of the answer's line is written
-pub record IsLost (s : State) (event : Event) (next : State) (old new : Option (List ℕ)) (kind : ScriptFaultKind) : Type 0 where
-  pub answer : Answer
-  pub seen : List Obs
-  pub step : Step s event answer seen next
-  pub taken : ℕ
-  pub written : Appends old new (take taken (answer_line answer))
-  pub loss : IsLoss kind
 
 -- nothing happens
-pub record IsIdle (s next : State) (old new : Option (List ℕ)) : Type 0 where
+pub record IsIdle (s next : State) (kept keeps : Output) (old new : Option (List ℕ)) : Type 0 where
   pub same : next ≡ s
-  pub written : Appends old new []
+  pub settles : Settles kept keeps old new
 
 -- what a line says is done, and whether its event was refused
-abbrev pub TurnDone : State → Result (Option Event) ScriptFaultKind → State → Option (List ℕ) → Option (List ℕ) → Option Bool → Type 0
-TurnDone s (Ok None) next old new None = IsIdle s next old new
-TurnDone s (Ok None) next old new (Some refused) = ⊥
-TurnDone s (Ok (Some event)) next old new None = ⊥
-TurnDone s (Ok (Some event)) next old new (Some refused) = IsAnswered s event next old new refused
-TurnDone s (Err kind) next old new played = ⊥
+abbrev pub TurnDone : State → Result (Option Event) ScriptFaultKind → State → ℕ → Output → Output → Option (List ℕ) → Option (List ℕ) → Option Bool → Type 0
+TurnDone s (Ok None) next number kept keeps old new None = IsIdle s next kept keeps old new
+TurnDone s (Ok None) next number kept keeps old new (Some refused) = ⊥
+TurnDone s (Ok (Some event)) next number kept keeps old new None = ⊥
+TurnDone s (Ok (Some event)) next number kept keeps old new (Some refused) =
+    IsAnswered s event next number kept keeps old new refused
+TurnDone s (Err kind) next number kept keeps old new played = ⊥
 
--- the line has a fault, or its answer is lost
-abbrev pub TurnStopped : State → Result (Option Event) ScriptFaultKind → State → Option (List ℕ) → Option (List ℕ) → ScriptFaultKind → Type 0
-TurnStopped s (Ok None) next old new kind = ⊥
-TurnStopped s (Ok (Some event)) next old new kind = IsLost s event next old new kind
-TurnStopped s (Err fault) next old new kind = IsIdle s next old new × (kind ≡ fault)
+-- the line has a fault. An event is always answered: where it finds no memory, as refused.
+abbrev pub TurnStopped : State → Result (Option Event) ScriptFaultKind → State → Output → Output → Option (List ℕ) → Option (List ℕ) → ScriptFaultKind → Type 0
+TurnStopped s (Ok event) next kept keeps old new kind = ⊥
+TurnStopped s (Err fault) next kept keeps old new kind = IsIdle s next kept keeps old new × (kind ≡ fault)
+
+-- ---- what is kept goes to the writer, and then this is how a script ends
+
+-- all that was put out is written
+pub record IsWhole (ended result : Result Summary ScriptFault) (all : List Owed) (old new : Option (List ℕ)) : Type 0 where
+  pub same : result ≡ ended
+  pub written : Appends old new (bytes_of all)
+
+-- it is written as far as the writer takes it, which isn't to its end
+pub record IsShort (result : Result Summary ScriptFault) (all : List Owed) (old new : Option (List ℕ)) : Type 0 where
+  pub line : ℕ
+  pub told : result ≡ Err (fault_at line WriteFailed)
+  pub lost : IsLost all line old new
+
+abbrev pub Closes : Output → Result Summary ScriptFault → Option (List ℕ) → Option (List ℕ) → Result Summary ScriptFault → Type 0
+Closes output ended held holds result =
+    (all : List Owed) → (start : Option (List ℕ)) → Stands output all start held
+    → IsWhole ended result all start holds ⊎ IsShort result all start holds
 
 -- one more line, if there is one
 abbrev pub counted : Summary → Option Bool → Summary

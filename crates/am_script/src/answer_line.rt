@@ -3,20 +3,37 @@
 ghost use Rattle.std.specs.Prelude.{◌≡◌, ◌++◌, decimal, OnOk};
 ghost use Rattle.am_names.specs.Errno.{errno_number};
 ghost use Rattle.am_script.specs.Answers.{answer_text, answer_line, kind_text, mounts_text, entry_text, record_text, place_text, is_refused};
+ghost use Rattle.am_script.specs.Outputs.{Puts};
 
+use crate::output::Output;
 use am_group::Kind;
 use am_machine::Answer;
 use am_names::{Errno, Mounts, Place};
 use am_state::Record;
 use itoa::Buffer;
 use std::alloc::AllocError;
+use std::io::Write;
 
 /// Writes an answer and a line feed behind what the buffer has.
 pub fn push_answer(line: &mut Vec<u8>, answer: &Answer) -> Result<(), AllocError>
     ensures { OnOk result (line.new.items ≡ line.old.items ++ answer_line answer.now) }
 {
-    push_text(line, answer)?;
-    line.extend_from_slice(b"\n")
+    let mut output = Output::new();
+    put_answer(&mut output, answer, line);
+    output.flush(line);
+    match output.lost {
+        None => Ok(()),
+        Some(_) => Err(AllocError),
+    }
+}
+
+/// Puts the line of an answer behind what the output keeps.
+#[tactic(auto, using(crate::proofs::Pieces::puts_two))]
+pub(crate) fn put_answer<W: Write>(output: &mut Output, answer: &Answer, writer: &mut W)
+    ensures { Puts output.old output.new (answer_line answer.now) (W.contents writer.old) (W.contents writer.new) }
+{
+    put_text(output, answer, writer);
+    put_word(output, b"\n", writer);
 }
 
 /// Whether nothing was done.
@@ -29,117 +46,130 @@ pub fn is_refused(answer: &Answer) -> bool
     }
 }
 
-#[tactic(auto, using(crate::proofs::Pieces::three))]
-fn push_text(line: &mut Vec<u8>, answer: &Answer) -> Result<(), AllocError>
-    ensures { OnOk result (line.new.items ≡ line.old.items ++ answer_text answer.now) }
+#[tactic(auto, using(crate::proofs::Pieces::puts_two, crate::proofs::Pieces::puts_three))]
+fn put_text<W: Write>(output: &mut Output, answer: &Answer, writer: &mut W)
+    ensures { Puts output.old output.new (answer_text answer.now) (W.contents writer.old) (W.contents writer.new) }
 {
     match answer {
         Answer::Attached { fs, attach, mount } => {
-            push_number(line, b"fs ", u64::from(fs.0))?;
-            push_number(line, b" attach ", u64::from(attach.0))?;
-            push_number(line, b" mount ", mount.0)
+            put_number(output, b"fs ", u64::from(fs.0), writer);
+            put_number(output, b" attach ", u64::from(attach.0), writer);
+            put_number(output, b" mount ", mount.0, writer)
         }
-        Answer::Mount { mount } => push_number(line, b"mount ", mount.0),
+        Answer::Mount { mount } => put_number(output, b"mount ", mount.0, writer),
         Answer::Gone { mounts } => {
-            line.extend_from_slice(b"gone")?;
-            push_mounts(line, mounts)
+            put_word(output, b"gone", writer);
+            put_mounts(output, mounts, writer)
         }
-        Answer::Done => line.extend_from_slice(b"ok"),
+        Answer::Done => put_word(output, b"ok", writer),
         Answer::Kind { kind } => {
-            line.extend_from_slice(b"kind ")?;
-            push_kind(line, *kind)
+            put_word(output, b"kind ", writer);
+            put_kind(output, *kind, writer)
         }
-        Answer::Namespace { ns } => push_number(line, b"ns ", u64::from(ns.0)),
+        Answer::Namespace { ns } => put_number(output, b"ns ", u64::from(ns.0), writer),
         Answer::At { position } => {
-            push_number(line, b"at ", position.mount.0)?;
-            line.extend_from_slice(b" ")?;
-            push_place(line, &position.place)
+            put_number(output, b"at ", position.mount.0, writer);
+            put_word(output, b" ", writer);
+            put_place(output, &position.place, writer)
         }
-        Answer::Wait { token } => push_number(line, b"wait ", u64::from(token.0)),
-        Answer::Expired => line.extend_from_slice(b"expired"),
-        Answer::Job { job } => push_number(line, b"job ", u64::from(job.0)),
-        Answer::DidMkdir => line.extend_from_slice(b"did mkdir"),
-        Answer::DidMount { mount } => push_number(line, b"did mount ", mount.0),
-        Answer::DidUmount => line.extend_from_slice(b"did umount"),
-        Answer::DidRmdir => line.extend_from_slice(b"did rmdir"),
-        Answer::DidRecord => line.extend_from_slice(b"did record"),
-        Answer::DidReply => line.extend_from_slice(b"did reply"),
-        Answer::FailedMount => line.extend_from_slice(b"failed mount"),
-        Answer::FailedUmount => line.extend_from_slice(b"failed umount"),
-        Answer::Reattached { attach } => push_number(line, b"attach ", u64::from(attach.0)),
+        Answer::Wait { token } => put_number(output, b"wait ", u64::from(token.0), writer),
+        Answer::Expired => put_word(output, b"expired", writer),
+        Answer::Job { job } => put_number(output, b"job ", u64::from(job.0), writer),
+        Answer::DidMkdir => put_word(output, b"did mkdir", writer),
+        Answer::DidMount { mount } => put_number(output, b"did mount ", mount.0, writer),
+        Answer::DidUmount => put_word(output, b"did umount", writer),
+        Answer::DidRmdir => put_word(output, b"did rmdir", writer),
+        Answer::DidRecord => put_word(output, b"did record", writer),
+        Answer::DidReply => put_word(output, b"did reply", writer),
+        Answer::FailedMount => put_word(output, b"failed mount", writer),
+        Answer::FailedUmount => put_word(output, b"failed umount", writer),
+        Answer::Reattached { attach } => put_number(
+            output,
+            b"attach ",
+            u64::from(attach.0),
+            writer,
+        ),
         Answer::Record { entry } => {
-            line.extend_from_slice(b"record ")?;
-            push_entry(line, entry)
+            put_word(output, b"record ", writer);
+            put_entry(output, entry, writer)
         }
-        Answer::Refused { errno } => push_errno(line, b"err ", *errno),
-        Answer::Failed { errno } => push_errno(line, b"fail ", *errno),
+        Answer::Refused { errno } => put_errno(output, b"err ", *errno, writer),
+        Answer::Failed { errno } => put_errno(output, b"fail ", *errno, writer),
     }
 }
 
-fn push_number(line: &mut Vec<u8>, word: &[u8], number: u64) -> Result<(), AllocError>
-    ensures { OnOk result (line.new.items ≡ line.old.items ++ (word.now ++ decimal number)) }
+fn put_word<W: Write>(output: &mut Output, word: &[u8], writer: &mut W)
+    ensures { Puts output.old output.new word.now (W.contents writer.old) (W.contents writer.new) }
 {
-    let mut buffer = Buffer::new();
-    line.extend_from_slice(word)?;
-    line.extend_from_slice(buffer.format(number).as_bytes())
+    output.put(word, writer);
 }
 
-fn push_errno(line: &mut Vec<u8>, word: &[u8], errno: Errno) -> Result<(), AllocError>
-    ensures { OnOk result (line.new.items ≡ line.old.items ++ (word.now ++ decimal (errno_number errno))) }
+#[tactic(auto, using(crate::proofs::Pieces::puts_two))]
+fn put_number<W: Write>(output: &mut Output, word: &[u8], number: u64, writer: &mut W)
+    ensures { Puts output.old output.new (word.now ++ decimal number) (W.contents writer.old) (W.contents writer.new) }
 {
-    push_number(line, word, u64::from(errno.number()))
+    let mut digits = Buffer::new();
+    put_word(output, word, writer);
+    put_word(output, digits.format(number).as_bytes(), writer);
 }
 
-fn push_mounts(line: &mut Vec<u8>, mounts: &Mounts) -> Result<(), AllocError>
-    ensures { OnOk result (line.new.items ≡ line.old.items ++ mounts_text mounts.now) }
+fn put_errno<W: Write>(output: &mut Output, word: &[u8], errno: Errno, writer: &mut W)
+    ensures { Puts output.old output.new (word.now ++ decimal (errno_number errno)) (W.contents writer.old) (W.contents writer.new) }
+{
+    put_number(output, word, u64::from(errno.number()), writer)
+}
+
+#[tactic(auto, using(crate::proofs::Pieces::puts_none))]
+fn put_mounts<W: Write>(output: &mut Output, mounts: &Mounts, writer: &mut W)
+    ensures { Puts output.old output.new (mounts_text mounts.now) (W.contents writer.old) (W.contents writer.new) }
 {
     for mount in mounts.as_slice() {
-        push_number(line, b" ", mount.0)?;
+        put_number(output, b" ", mount.0, writer);
     }
-    Ok(())
 }
 
-fn push_kind(line: &mut Vec<u8>, kind: Kind) -> Result<(), AllocError>
-    ensures { OnOk result (line.new.items ≡ line.old.items ++ kind_text kind) }
+fn put_kind<W: Write>(output: &mut Output, kind: Kind, writer: &mut W)
+    ensures { Puts output.old output.new (kind_text kind) (W.contents writer.old) (W.contents writer.new) }
 {
     match kind {
-        Kind::Shared => line.extend_from_slice(b"shared"),
-        Kind::Slave => line.extend_from_slice(b"slave"),
-        Kind::SharedSlave => line.extend_from_slice(b"shared-slave"),
-        Kind::Private => line.extend_from_slice(b"private"),
-        Kind::Unbindable => line.extend_from_slice(b"unbindable"),
+        Kind::Shared => put_word(output, b"shared", writer),
+        Kind::Slave => put_word(output, b"slave", writer),
+        Kind::SharedSlave => put_word(output, b"shared-slave", writer),
+        Kind::Private => put_word(output, b"private", writer),
+        Kind::Unbindable => put_word(output, b"unbindable", writer),
     }
 }
 
-fn push_place(line: &mut Vec<u8>, place: &Place) -> Result<(), AllocError>
-    ensures { OnOk result (line.new.items ≡ line.old.items ++ place_text place.now) }
+fn put_place<W: Write>(output: &mut Output, place: &Place, writer: &mut W)
+    ensures { Puts output.old output.new (place_text place.now) (W.contents writer.old) (W.contents writer.new) }
 {
     let text = place.text();
     if text.is_empty() {
-        return line.extend_from_slice(b"/");
+        put_word(output, b"/", writer);
+        return;
     }
-    line.extend_from_slice(text)
+    put_word(output, text, writer);
 }
 
-fn push_entry(line: &mut Vec<u8>, entry: &Option<Record>) -> Result<(), AllocError>
-    ensures { OnOk result (line.new.items ≡ line.old.items ++ entry_text entry.now) }
+fn put_entry<W: Write>(output: &mut Output, entry: &Option<Record>, writer: &mut W)
+    ensures { Puts output.old output.new (entry_text entry.now) (W.contents writer.old) (W.contents writer.new) }
 {
     match entry {
-        None => line.extend_from_slice(b"none"),
-        Some(entry) => push_record(line, entry),
+        None => put_word(output, b"none", writer),
+        Some(entry) => put_record(output, entry, writer),
     }
 }
 
-#[tactic(auto, using(crate::proofs::Pieces::two))]
-fn push_record(line: &mut Vec<u8>, entry: &Record) -> Result<(), AllocError>
-    ensures { OnOk result (line.new.items ≡ line.old.items ++ record_text entry.now) }
+#[tactic(auto, using(crate::proofs::Pieces::puts_two))]
+fn put_record<W: Write>(output: &mut Output, entry: &Record, writer: &mut W)
+    ensures { Puts output.old output.new (record_text entry.now) (W.contents writer.old) (W.contents writer.new) }
 {
     match entry {
-        Record::Mounting { token } => push_number(line, b"mounting ", u64::from(token.0)),
-        Record::Mounted { mount } => push_number(line, b"mounted ", mount.0),
+        Record::Mounting { token } => put_number(output, b"mounting ", u64::from(token.0), writer),
+        Record::Mounted { mount } => put_number(output, b"mounted ", mount.0, writer),
         Record::Unmounting { token, mount } => {
-            push_number(line, b"unmounting ", u64::from(token.0))?;
-            push_number(line, b" ", mount.0)
+            put_number(output, b"unmounting ", u64::from(token.0), writer);
+            put_number(output, b" ", mount.0, writer)
         }
     }
 }

@@ -6,7 +6,7 @@ ghost use Rattle.am_script.specs.Read.{IsReadFault};
 
 use crate::fault::ScriptFaultKind;
 use std::alloc::Global;
-use std::io::{ErrorKind, Read};
+use std::io::Read;
 
 /// What a reader gave, and why it didn't come to its end.
 #[derive(Debug, Drop)]
@@ -16,8 +16,7 @@ pub struct Input {
     pub broke: Option<ScriptFaultKind>,
 }
 
-/// Reads to the end. The reader is asked at most 4,294,967,295 times, and is asked again when it
-/// was interrupted. No byte that it gave is lost.
+/// Reads to the end. The reader is asked at most 4,294,967,295 times. No byte that it gave is lost.
 pub fn read_all<R: Read>(alloc: Global, reader: &mut R) -> Input
     ensures read { Consumes (R.remaining reader.old) (R.remaining reader.new) result.text.items }
     ensures end { IfNone result.broke (IsAtEnd (R.remaining reader.new)) }
@@ -44,13 +43,11 @@ pub fn read_all<R: Read>(alloc: Global, reader: &mut R) -> Input
                     };
                 }
             }
-            Err(e) => {
-                if e.kind() != ErrorKind::Interrupted {
-                    return Input {
-                        text,
-                        broke: Some(ScriptFaultKind::ReadFailed),
-                    };
-                }
+            Err(_) => {
+                return Input {
+                    text,
+                    broke: Some(ScriptFaultKind::ReadFailed),
+                };
             }
         }
     }

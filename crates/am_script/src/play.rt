@@ -1,18 +1,19 @@
 //! A script is played.
 
-ghost use Rattle.std.specs.Prelude.{◌≡◌, ◌⊎◌, ◌+◌, ◌<◌, ◌≤◌, ◌^◌, length, option_copied, None, IfOk, IfErr, OnOk};
+ghost use Rattle.std.specs.Prelude.{◌≡◌, ◌+◌, ◌<◌, ◌≤◌, ◌^◌, length, option_copied, None, IfOk, IfErr, OnOk};
 ghost use Rattle.am_script.specs.Lines.{lines_of, lines_in, size_in};
 ghost use Rattle.am_script.specs.Maps.{opening_read};
 ghost use Rattle.am_script.specs.Read.{cut_kind};
 ghost use Rattle.am_script.specs.Script.{script_from, events_from, begun_by};
-ghost use Rattle.am_script.specs.Played.{AllAnswered, Stops, RanOut, IsPlayed, IsStopped, PlaysInput, StopsInput, end_of_head};
+ghost use Rattle.am_script.specs.Played.{AllAnswered, Stops, IsPlayed, IsStopped, PlaysInput, StopsInput, end_of_head};
 ghost use Rattle.am_world.specs.Table.{state_of};
 
 use crate::fault::{ScriptFault, ScriptFaultKind};
 use crate::heading::Heading;
 use crate::input::{Input, read_all};
 use crate::line::{cut_line, is_long, split_line};
-use crate::turn::{counted, play_line};
+use crate::output::Output;
+use crate::turn::{close, counted, play_line};
 use am_world::World;
 use std::alloc::Global;
 use std::io::{Read, Write};
@@ -98,7 +99,8 @@ fn play_behind<W: Write>(
     broke: Option<ScriptFaultKind>,
     writer: &mut W,
 ) -> Result<Summary, ScriptFault>
-    requires { before + size_in (option_copied text) ≤ 2 ^ 63 }
+    requires first { 1 ≤ before }
+    requires fits { before + size_in (option_copied text) ≤ 2 ^ 63 }
     ensures whole { OnOk result (broke ≡ None) }
     ensures ok { IfOk result (IsPlayed (begun_by (opening_read heading.said) (events_from broke before (lines_in (option_copied text.entry)))) (W.contents writer.old) (W.contents writer.new)) }
     ensures err { IfErr result (IsStopped before (begun_by (opening_read heading.said) (events_from broke before (lines_in (option_copied text.entry)))) (W.contents writer.old) (W.contents writer.new)) }
@@ -121,14 +123,9 @@ fn play_events<W: Write>(
     requires { before + size_in (option_copied text) ≤ 2 ^ 63 }
     ensures whole { OnOk result (broke ≡ None) }
     ensures ok { IfOk result (AllAnswered (state_of world.old) (events_from broke before (lines_in (option_copied text.entry))) (W.contents writer.old) (W.contents writer.new)) }
-    ensures err { IfErr result (λ fault. RanOut before (W.contents writer.old) (W.contents writer.new) fault ⊎ Stops (state_of world.old) (events_from broke before (lines_in (option_copied text.entry))) (W.contents writer.old) (W.contents writer.new) fault) }
+    ensures err { IfErr result (λ fault. Stops (state_of world.old) (events_from broke before (lines_in (option_copied text.entry))) (W.contents writer.old) (W.contents writer.new) fault) }
 {
-    let Ok(mut buffer) = Vec::with_capacity(alloc, 8192) else {
-        return Err(ScriptFault {
-            line: before,
-            kind: ScriptFaultKind::NoMemory,
-        });
-    };
+    let mut output = Output::new();
     let mut rest = text;
     let mut number = before;
     let mut summary = Summary {
@@ -138,15 +135,22 @@ fn play_events<W: Write>(
     while let Some(here) = rest {
         let (line, after) = split_line(here);
         number += 1;
-        match play_line(alloc, world, line, &mut buffer, writer) {
+        match play_line(alloc, world, number, line, &mut output, writer) {
             Ok(played) => summary = counted(summary, played),
-            Err(kind) => return Err(ScriptFault { line: number, kind }),
+            Err(kind) => {
+                let fault = ScriptFault { line: number, kind };
+                return close(&mut output, Err(fault), writer);
+            }
+        }
+        if let Some(line) = output.lost {
+            let kind = ScriptFaultKind::WriteFailed;
+            return Err(ScriptFault { line, kind });
         }
         rest = after;
     }
     match broke {
-        None => Ok(summary),
-        Some(kind) => Err(ScriptFault { line: number, kind }),
+        None => close(&mut output, Ok(summary), writer),
+        Some(kind) => close(&mut output, Err(ScriptFault { line: number, kind }), writer),
     }
 }
 

@@ -1,40 +1,41 @@
 //! One line of events is played.
 
 ghost use Rattle.std.specs.Prelude.{◌≡◌, ◌+◌, ◌<◌, ◌≤◌, ◌^◌, IfOk, IfErr, OnOk};
-ghost use Rattle.am_script.specs.Answers.{answer_line};
 ghost use Rattle.am_script.specs.Script.{line_read, event_or_fault};
-ghost use Rattle.am_script.specs.Turns.{LineReadAs, LineAnswered, IsWritten, IsCut, TurnDone, TurnStopped, counted};
+ghost use Rattle.am_script.specs.Turns.{LineReadAs, LineAnswered, TurnDone, TurnStopped, Closes, counted};
 ghost use Rattle.am_world.specs.Table.{state_of};
 
-use crate::answer_line::{is_refused, push_answer};
+use crate::answer_line::{is_refused, put_answer};
 use crate::event_line::read_event;
-use crate::fault::ScriptFaultKind;
+use crate::fault::{ScriptFault, ScriptFaultKind};
 use crate::line::{is_long, is_skipped};
-use crate::output::write_bytes;
+use crate::output::Output;
 use crate::play::Summary;
 use am_names::Errno;
 use am_world::{Answer, Event, World};
-use std::alloc::{AllocError, Global};
+use std::alloc::Global;
 use std::io::Write;
 
-/// Plays a line of events. It answers whether the event was refused, or none where the line is
-/// skipped.
-#[tactic(auto, using(crate::proofs::LineAnswers::told, crate::proofs::LineAnswers::cut))]
+/// Plays the line of events with this number. It answers whether the event was refused, or none
+/// where the line is skipped.
+#[tactic(auto, using(crate::proofs::LineAnswers::told, crate::proofs::LineAnswers::idle, crate::proofs::LineAnswers::stopped))]
 pub(crate) fn play_line<W: Write>(
     alloc: Global,
     world: &mut World,
+    number: u64,
     line: &[u8],
-    buffer: &mut Vec<u8>,
+    output: &mut Output,
     writer: &mut W,
 ) -> Result<Option<bool>, ScriptFaultKind>
-    ensures ok { IfOk result (TurnDone (state_of world.old) (line_read line.now) (state_of world.new) (W.contents writer.old) (W.contents writer.new)) }
-    ensures err { IfErr result (TurnStopped (state_of world.old) (line_read line.now) (state_of world.new) (W.contents writer.old) (W.contents writer.new)) }
+    ensures ok { IfOk result (TurnDone (state_of world.old) (line_read line.now) (state_of world.new) number output.old output.new (W.contents writer.old) (W.contents writer.new)) }
+    ensures err { IfErr result (TurnStopped (state_of world.old) (line_read line.now) (state_of world.new) output.old output.new (W.contents writer.old) (W.contents writer.new)) }
 {
     let Some(answer) = answer_event(alloc, world, line)? else {
         return Ok(None);
     };
-    let refused = tell(&answer, buffer, writer)?;
-    Ok(Some(refused))
+    output.begin(number, writer);
+    put_answer(output, &answer, writer);
+    Ok(Some(is_refused(&answer)))
 }
 
 /// Makes the step of a line's event, if the line has one.
@@ -73,31 +74,24 @@ pub fn read_line(alloc: Global, line: &[u8]) -> Result<Option<Event>, ScriptFaul
     }
 }
 
-/// The line of an answer, in place of what the buffer has.
-fn write_line(buffer: &mut Vec<u8>, answer: &Answer) -> Result<(), AllocError>
-    ensures { OnOk result (buffer.new.items ≡ answer_line answer.now) }
-{
-    buffer.clear();
-    push_answer(buffer, answer)
-}
-
-/// Writes the line of an answer, in one call of the writer where that takes it whole. It answers
-/// whether nothing was done.
-fn tell<W: Write>(
-    answer: &Answer,
-    buffer: &mut Vec<u8>,
+/// Gives to the writer what is kept, and answers how the script ends: as it says, but where the
+/// writer doesn't take all, at the first answer that it didn't take whole.
+pub(crate) fn close<W: Write>(
+    output: &mut Output,
+    ended: Result<Summary, ScriptFault>,
     writer: &mut W,
-) -> Result<bool, ScriptFaultKind>
-    ensures ok { IfOk result (IsWritten answer.now (W.contents writer.old) (W.contents writer.new)) }
-    ensures err { IfErr result (IsCut answer.now (W.contents writer.old) (W.contents writer.new)) }
+) -> Result<Summary, ScriptFault>
+    ensures closes { Closes output.old ended (W.contents writer.old) (W.contents writer.new) result }
+    ensures whole { OnOk result (result ≡ ended) }
 {
-    if let Err(_) = write_line(buffer, answer) {
-        return Err(ScriptFaultKind::NoMemory);
+    output.flush(writer);
+    match output.lost {
+        None => ended,
+        Some(line) => Err(ScriptFault {
+            line,
+            kind: ScriptFaultKind::WriteFailed,
+        }),
     }
-    if let Err(_) = write_bytes(writer, buffer.as_slice()) {
-        return Err(ScriptFaultKind::WriteFailed);
-    }
-    Ok(is_refused(answer))
 }
 
 /// Counts one more line, if there is one.

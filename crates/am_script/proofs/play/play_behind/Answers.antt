@@ -22,4 +22,4 @@ pub returns-in-Err-clause-err : goal.returns-in-Err-clause-err
 returns-in-Err-clause-err g c =
     let contents = g.W.Write.contents in
     let told : Told = events_from c.args.broke c.args.before (lines_in (option_copied c.args.text)) in
-    begin_fails c.args.before (opening_read c.args.heading.said) told c.in-Err.fault (contents c.args.writer.now) c.in-Err.ensures.err
+    begin_fails c.args.before (opening_read c.args.heading.said) told c.in-Err.fault (contents c.args.writer.now) c.requires.first c.in-Err.ensures.err
