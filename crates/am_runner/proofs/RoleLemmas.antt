@@ -210,8 +210,8 @@ break_calls fs r s t a b c d dies catatonic reattaches =
       are_breaks = ([], dies.made ++ catatonic.made ++ reattaches.made, refl, refl, one);
     }
 
-pub breaks_none : (fs : ℕ) (a : List Receipt) → Breaks fs 0 a a
-breaks_none fs a = record { made = []; behind = sym (append-nil a); are_breaks = refl }
+pub no_breaks : (fs : ℕ) (a : List Receipt) → Breaks fs 0 a a
+no_breaks fs a = record { made = []; behind = sym (append-nil a); are_breaks = refl }
 
 are_breaks_more : (fs n : ℕ) (before last : List Receipt) → AreBreaks fs n before → AreBreaks fs 1 last → AreBreaks fs (n + 1) (before ++ last)
 are_breaks_more fs n before last many one =

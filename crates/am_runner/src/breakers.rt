@@ -21,7 +21,7 @@ fn break_once<L: Opened, R: Wait>(rt: &R, alloc: Global, caller: &mut Caller<L>,
 
 /// Makes rounds: lets the daemon die, makes a file system catatonic, and attaches to it again. Gives
 /// its caller back.
-#[tactic(auto, using(crate::proofs::RoleLemmas::breaks_none, crate::proofs::RoleLemmas::breaks_more))]
+#[tactic(auto, using(crate::proofs::RoleLemmas::no_breaks, crate::proofs::RoleLemmas::breaks_more))]
 pub fn breaker<L: Opened, R: Wait>(
     rt: &R,
     alloc: Global,
