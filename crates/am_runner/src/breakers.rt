@@ -19,8 +19,8 @@ fn break_once<L: Opened, R: Wait>(rt: &R, alloc: Global, caller: &mut Caller<L>,
     call(rt, alloc, caller, &Event::Reattach { fs });
 }
 
-/// Makes rounds: lets the daemon die, makes a file system catatonic, and attaches to it again. Gives
-/// its caller back.
+/// Makes rounds: lets the daemon die, makes a file system catatonic, and attaches to it again.
+/// Gives its caller back.
 #[tactic(auto, using(crate::proofs::RoleLemmas::no_breaks, crate::proofs::RoleLemmas::breaks_more))]
 pub fn breaker<L: Opened, R: Wait>(
     rt: &R,
