@@ -1,5 +1,5 @@
 -- What a role adds, and what it adds to that.
-use Rattle.std.proofs.Common.{◌≡◌, ◌⊎◌, ℕ, ◌+◌, List, [], ◌∷◌, ◌++◌, Some, length, refl, sym, ap, ◌∙◌, subst, append_assoc, inl, inr, arith, true, All, Any}
+use Rattle.std.proofs.Common.{◌≡◌, ◌⊎◌, ℕ, suc, ◌+◌, List, [], ◌∷◌, ◌++◌, Some, length, refl, sym, ap, ◌∙◌, subst, append_assoc, inl, inr, arith, true, All, Any}
 use Rattle.std.proofs.lemmas.Grind.{common_steps}
 use Rattle.std.proofs.lemmas.List.{append-nil}
 use Rattle.std.proofs.lemmas.List.Elements.{All-nil, All-append, All-weaker}
@@ -11,7 +11,7 @@ use Rattle.am_pipe.specs.declared.note.Note.{Note}
 use Rattle.am_shared.specs.declared.caller.Receipt.{Receipt}
 use Rattle.am_runner.specs.declared.calls.Reply.{Reply}
 use Rattle.am_runner.specs.declared.calls.Reply.TheVariants as replies
-use Rattle.am_runner.specs.Roles.{Adds, IsOf, Resumes, IsOfRound, IsOfExpirer, IsDelivery, IsActOf, IsActOfJob, Serves, Calls, Tells}
+use Rattle.am_runner.specs.Roles.{Adds, IsOf, Resumes, IsOfRound, IsOfExpirer, IsDelivery, IsActOf, IsActOfJob, Serves, Calls, Tells, IsBreak, AreBreaks, Breaks}
 
 pub any_left : {X : Type 0} (P : X → Type 0) (xs ys : List X) → Any P xs → Any P (xs ++ ys)
 any_left P xs ys (k, x, within, is, holds) =
@@ -190,3 +190,38 @@ adds_expiry walker fs reply a b c d before asked settled =
     (adds_as (IsOf (events.Expire walker fs 0 true Room)) (IsOfExpirer walker fs) b c
     (λ r is. inl is) (adds_calls (events.Expire walker fs 0 true Room) reply b c asked))
     (adds_as (Resumes walker) (IsOfExpirer walker fs) c d (λ r is. inr is) settled))
+
+-- one round of a breaker, by its three calls
+pub break_calls : (fs : ℕ) (r s t : Reply) (a b c d : List Receipt) → Calls events.Die r a b
+    → Calls (events.AdminCatatonic fs) s b c → Calls (events.Reattach fs) t c d → Breaks fs 1 a d
+break_calls fs r s t a b c d dies catatonic reattaches =
+    let one : IsBreak fs (dies.made ++ catatonic.made ++ reattaches.made) = record {
+      deaths = dies.made;
+      catatonics = catatonic.made;
+      reattachments = reattaches.made;
+      in_turn = refl;
+      dies = dies.each;
+      is_catatonic = catatonic.each;
+      reattaches = reattaches.each;
+    } in
+    record {
+      made = dies.made ++ catatonic.made ++ reattaches.made;
+      behind = reattaches.behind ∙ ap (λ xs. xs ++ reattaches.made) (catatonic.behind ∙ ap (λ xs. xs ++ catatonic.made) dies.behind ∙ append_assoc a dies.made catatonic.made) ∙ append_assoc a (dies.made ++ catatonic.made) reattaches.made;
+      are_breaks = ([], dies.made ++ catatonic.made ++ reattaches.made, refl, refl, one);
+    }
+
+pub no_breaks : (fs : ℕ) (a : List Receipt) → Breaks fs 0 a a
+no_breaks fs a = record { made = []; behind = sym (append-nil a); are_breaks = refl }
+
+are_breaks_more : (fs n : ℕ) (before last : List Receipt) → AreBreaks fs n before → AreBreaks fs 1 last → AreBreaks fs (n + 1) (before ++ last)
+are_breaks_more fs n before last many one =
+    let next : n + 1 ≡ suc n = omega arith in
+    let is : last ≡ one.1 = one.2 ∙ ap (λ xs. xs ++ one.1) one.3 in
+    subst (λ k. AreBreaks fs k (before ++ last)) (sym next) (before, last, refl, many, subst (λ xs. IsBreak fs xs) (sym is) one.4)
+
+pub breaks_more : (fs n : ℕ) (a b c : List Receipt) → Breaks fs n a b → Breaks fs 1 b c → Breaks fs (n + 1) a c
+breaks_more fs n a b c first last = record {
+  made = first.made ++ last.made;
+  behind = last.behind ∙ ap (λ xs. xs ++ last.made) first.behind ∙ append_assoc a first.made last.made;
+  are_breaks = are_breaks_more fs n first.made last.made first.are_breaks last.are_breaks;
+}

@@ -1,5 +1,5 @@
 -- What each role of a run makes: the receipts of the caller that comes back.
-use Rattle.std.specs.Prelude.{◌≡◌, ◌⊎◌, ⊤, ℕ, Bool, true, List, ◌++◌, All, Any, Some}
+use Rattle.std.specs.Prelude.{◌≡◌, ◌⊎◌, ⊤, ℕ, Bool, true, List, [], ◌++◌, suc, All, Any, Some}
 use Rattle.am_names.specs.declared.trigger.PipeState.TheVariants.{Room}
 use Rattle.am_machine.specs.declared.event.Event.{Event}
 use Rattle.am_machine.specs.declared.event.Event.TheVariants as events
@@ -37,6 +37,30 @@ IsOfWalker walker path receipt = IsOfRound (events.Walk walker 0 path 0 Room) wa
 abbrev pub IsOfExpirer : ℕ → ℕ → Receipt → Type 0
 IsOfExpirer walker fs receipt =
     IsOf (events.Expire walker fs 0 true Room) receipt ⊎ Resumes walker receipt
+
+-- A round of a breaker: the daemon dies, the file system becomes catatonic, and the daemon attaches
+-- to it again, each again and again where memory runs out.
+pub record IsBreak (fs : ℕ) (made : List Receipt) : Type 0 where
+  pub deaths : List Receipt
+  pub catatonics : List Receipt
+  pub reattachments : List Receipt
+  pub in_turn : made ≡ deaths ++ catatonics ++ reattachments
+  pub dies : All (IsOf events.Die) deaths
+  pub is_catatonic : All (IsOf (events.AdminCatatonic fs)) catatonics
+  pub reattaches : All (IsOf (events.Reattach fs)) reattachments
+
+-- these are so many rounds of a breaker, one behind the other
+abbrev pub AreBreaks : ℕ → ℕ → List Receipt → Type 0
+AreBreaks fs 0 made = made ≡ []
+AreBreaks fs (suc rounds) made =
+    (before : List Receipt) × (last : List Receipt) × (made ≡ before ++ last)
+    × AreBreaks fs rounds before × IsBreak fs last
+
+-- a breaker makes so many rounds
+pub record Breaks (fs rounds : ℕ) (old new : List Receipt) : Type 0 where
+  pub made : List Receipt
+  pub behind : new ≡ old ++ made
+  pub are_breaks : AreBreaks fs rounds made
 
 -- the packet of one of these notes is delivered, byte for byte
 abbrev pub IsDelivery : List (ℕ × Note) → Receipt → Type 0

@@ -1,12 +1,14 @@
-//! Walkers, an expirer and workers of a daemon, as threads over one shared world.
+//! Walkers, an expirer, workers of a daemon and who breaks it, as threads over one shared world.
 #![tactic(auto)]
 
+mod breakers;
 mod calls;
 mod run;
 mod tally;
 mod walkers;
 mod workers;
 
+pub use breakers::breaker;
 pub use run::run_threads;
 pub use tally::Tally;
 pub use walkers::{expirer, walker};

@@ -12,5 +12,6 @@ mod played;
 mod positions;
 mod stage;
 mod streams;
+mod sweeps;
 mod traces;
 mod worlds;

@@ -2,6 +2,7 @@
 
 mod callers;
 mod crowds;
+mod deaths;
 mod ends;
 mod releases;
 mod rows;
