@@ -61,6 +61,7 @@ no_mounts_sound : IsSound no_mounts
 no_mounts_sound = record {
   orderly = record {
     rising = tt;
+    groups_rising = tt;
     group_named = λ m g e. absurd cc;
     master_named = λ g named. none_named g named;
     down = λ h g e. absurd cc;
