@@ -206,20 +206,26 @@ break_calls fs r s t a b c d dies catatonic reattaches =
     } in
     record {
       made = dies.made ++ catatonic.made ++ reattaches.made;
-      behind = reattaches.behind ∙ ap (λ xs. xs ++ reattaches.made) (catatonic.behind ∙ ap (λ xs. xs ++ catatonic.made) dies.behind ∙ append_assoc a dies.made catatonic.made) ∙ append_assoc a (dies.made ++ catatonic.made) reattaches.made;
+      behind = reattaches.behind
+          ∙ ap (λ xs. xs ++ reattaches.made) (catatonic.behind
+          ∙ ap (λ xs. xs ++ catatonic.made) dies.behind ∙ append_assoc a dies.made catatonic.made)
+          ∙ append_assoc a (dies.made ++ catatonic.made) reattaches.made;
       are_breaks = ([], dies.made ++ catatonic.made ++ reattaches.made, refl, refl, one);
     }
 
 pub no_breaks : (fs : ℕ) (a : List Receipt) → Breaks fs 0 a a
 no_breaks fs a = record { made = []; behind = sym (append-nil a); are_breaks = refl }
 
-are_breaks_more : (fs n : ℕ) (before last : List Receipt) → AreBreaks fs n before → AreBreaks fs 1 last → AreBreaks fs (n + 1) (before ++ last)
+are_breaks_more : (fs n : ℕ) (before last : List Receipt) → AreBreaks fs n before
+    → AreBreaks fs 1 last → AreBreaks fs (n + 1) (before ++ last)
 are_breaks_more fs n before last many one =
     let next : n + 1 ≡ suc n = omega arith in
     let is : last ≡ one.1 = one.2 ∙ ap (λ xs. xs ++ one.1) one.3 in
-    subst (λ k. AreBreaks fs k (before ++ last)) (sym next) (before, last, refl, many, subst (λ xs. IsBreak fs xs) (sym is) one.4)
+    subst (λ k. AreBreaks fs k (before ++ last)) (sym next)
+    (before, last, refl, many, subst (λ xs. IsBreak fs xs) (sym is) one.4)
 
-pub breaks_more : (fs n : ℕ) (a b c : List Receipt) → Breaks fs n a b → Breaks fs 1 b c → Breaks fs (n + 1) a c
+pub breaks_more : (fs n : ℕ) (a b c : List Receipt) → Breaks fs n a b → Breaks fs 1 b c
+    → Breaks fs (n + 1) a c
 breaks_more fs n a b c first last = record {
   made = first.made ++ last.made;
   behind = last.behind ∙ ap (λ xs. xs ++ last.made) first.behind ∙ append_assoc a first.made last.made;

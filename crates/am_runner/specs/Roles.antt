@@ -1,5 +1,5 @@
 -- What each role of a run makes: the receipts of the caller that comes back.
-use Rattle.std.specs.Prelude.{◌≡◌, ◌⊎◌, ⊤, ℕ, Bool, true, List, [], ◌++◌, suc, All, Any, Some}
+use Rattle.std.specs.Prelude.{◌≡◌, ◌⊎◌, ⊤, ℕ, Bool, true, zero, suc, List, [], ◌++◌, All, Any, Some}
 use Rattle.am_names.specs.declared.trigger.PipeState.TheVariants.{Room}
 use Rattle.am_machine.specs.declared.event.Event.{Event}
 use Rattle.am_machine.specs.declared.event.Event.TheVariants as events
@@ -51,7 +51,7 @@ pub record IsBreak (fs : ℕ) (made : List Receipt) : Type 0 where
 
 -- these are so many rounds of a breaker, one behind the other
 abbrev pub AreBreaks : ℕ → ℕ → List Receipt → Type 0
-AreBreaks fs 0 made = made ≡ []
+AreBreaks fs zero made = made ≡ []
 AreBreaks fs (suc rounds) made =
     (before : List Receipt) × (last : List Receipt) × (made ≡ before ++ last)
     × AreBreaks fs rounds before × IsBreak fs last

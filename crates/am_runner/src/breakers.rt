@@ -10,7 +10,6 @@ use std::alloc::Global;
 use std::sync::Wait;
 
 /// The daemon dies, its file system becomes catatonic, and it attaches to that again.
-#[tactic(auto, using(crate::proofs::RoleLemmas::break_calls))]
 fn break_once<L: Opened, R: Wait>(rt: &R, alloc: Global, caller: &mut Caller<L>, fs: FsId)
     ensures { Breaks fs 1 caller.old caller.new }
 {
@@ -21,7 +20,6 @@ fn break_once<L: Opened, R: Wait>(rt: &R, alloc: Global, caller: &mut Caller<L>,
 
 /// Makes rounds: lets the daemon die, makes a file system catatonic, and attaches to it again.
 /// Gives its caller back.
-#[tactic(auto, using(crate::proofs::RoleLemmas::no_breaks, crate::proofs::RoleLemmas::breaks_more))]
 pub fn breaker<L: Opened, R: Wait>(
     rt: &R,
     alloc: Global,
