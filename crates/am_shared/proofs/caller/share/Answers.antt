@@ -1,8 +1,17 @@
-use Rattle.std.proofs.Common.{◌≡◌, [], rules}
+use Rattle.std.proofs.Common.{◌≡◌, [], length, ap, arith, rules}
 use Rattle.std.specs.Prelude.{List}
 use Rattle.am_shared.specs.declared.caller.Receipt.{Receipt}
 use Rattle.std.proofs.lemmas.List.Elements.{All-push}
 use Rattle.am_shared.proofs.caller.share.Goals as goal
+
+pub loop-made-init : goal.loop-made-init
+loop-made-init g c = record {
+  parts = search rules;
+  amount = search rules;
+  len = search rules;
+  fits = search rules;
+  each = search rules;
+}
 
 pub loop-made-preserved : goal.loop-made-preserved
 loop-made-preserved g c = record {
