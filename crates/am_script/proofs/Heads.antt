@@ -27,12 +27,12 @@ pub record IsLeft (all : List (List ℕ)) (head : HeadSoFar) (number : ℕ) (res
 pub none_taken : (all : List (List ℕ)) → IsLeft all no_lines 0 all
 none_taken all = record { goes = refl; behind = refl; counted = omega arith }
 
-went : (all : List (List ℕ)) (head : HeadSoFar) (number : ℕ) (rest : List (List ℕ)) (line : List ℕ) (lines : List (List ℕ)) (taken : Taken) →
+pub went : (all : List (List ℕ)) (head : HeadSoFar) (number : ℕ) (rest : List (List ℕ)) (line : List ℕ) (lines : List (List ℕ)) (taken : Taken) →
     IsLeft all head number rest → rest ≡ line ∷ lines → line_taken head (number + 1) line ≡ taken → head_of (parts_of_lines all) ≡ follows taken (number + 1) (λ next. head_left next (number + 1) lines)
 went all head number rest line lines taken left e t =
     left.goes ∙ ap (head_left head number) e ∙ head_step head number line lines ∙ ap (λ (x : Taken). follows x (number + 1) (λ (next : HeadSoFar). head_left next (number + 1) lines)) t
 
-behind_more : (all : List (List ℕ)) (head : HeadSoFar) (number : ℕ) (rest : List (List ℕ)) (line : List ℕ) (lines : List (List ℕ)) → IsLeft all head number rest → rest ≡ line ∷ lines → drop (number + 1) all ≡ lines
+pub behind_more : (all : List (List ℕ)) (head : HeadSoFar) (number : ℕ) (rest : List (List ℕ)) (line : List ℕ) (lines : List (List ℕ)) → IsLeft all head number rest → rest ≡ line ∷ lines → drop (number + 1) all ≡ lines
 behind_more all head number rest line lines left e = sym (drop-drop 1 number all) ∙ ap (drop 1) (left.behind ∙ e)
 
 pub one_taken : (all : List (List ℕ)) (head next : HeadSoFar) (number : ℕ) (rest : List (List ℕ)) (line : List ℕ) (lines : List (List ℕ)) →
@@ -69,7 +69,7 @@ stops_in_more : (few many : ℕ) (script : Script) (old new : Option (List ℕ))
 stops_in_more few many script old new (Ok summary) fits h = tt
 stops_in_more few many script old new (Err fault) fits h = more_lines few many script old new fault fits h
 
-taken_within : (all : List (List ℕ)) (head : HeadSoFar) (number : ℕ) (rest : List (List ℕ)) (line : List ℕ) (lines : List (List ℕ)) → IsLeft all head number rest → rest ≡ line ∷ lines → number + 1 ≤ length all
+pub taken_within : (all : List (List ℕ)) (head : HeadSoFar) (number : ℕ) (rest : List (List ℕ)) (line : List ℕ) (lines : List (List ℕ)) → IsLeft all head number rest → rest ≡ line ∷ lines → number + 1 ≤ length all
 taken_within all head number rest line lines left e = omega (arith, left.counted, ap (λ (ls : List (List ℕ)). length ls) e)
 
 -- a line of the head stops the script, or there is no memory for it
@@ -83,7 +83,7 @@ head_stops broke all head number rest line lines fault old new left e (inr none)
 -- ---- the events begin
 
 -- the script is what the lines that are left say of the world that the head opens
-begun : (broke : Option ScriptFaultKind) (all : List (List ℕ)) (head next : HeadSoFar) (number : ℕ) (rest : List (List ℕ)) (line : List ℕ) (lines : List (List ℕ)) →
+pub begun : (broke : Option ScriptFaultKind) (all : List (List ℕ)) (head next : HeadSoFar) (number : ℕ) (rest : List (List ℕ)) (line : List ℕ) (lines : List (List ℕ)) →
     IsLeft all head number rest → rest ≡ line ∷ lines → line_taken head (number + 1) line ≡ EventsBegin next → script_from broke all ≡ begun_by (opening_read next.said) (events_from broke (number + 1) lines)
 begun broke all head next number rest line lines left e t =
     let starts = went all head number rest line lines (EventsBegin next) left e t in
@@ -126,7 +126,7 @@ begins_stopped broke all head next number rest line lines old mid new r left e t
 
 -- ---- the head ends
 
-ended : (broke : Option ScriptFaultKind) (all : List (List ℕ)) (head : HeadSoFar) (number : ℕ) (rest : List (List ℕ)) → IsLeft all head number rest → rest ≡ [] → script_from broke all ≡ head_ends broke (first_open head.within) number
+pub ended : (broke : Option ScriptFaultKind) (all : List (List ℕ)) (head : HeadSoFar) (number : ℕ) (rest : List (List ℕ)) → IsLeft all head number rest → rest ≡ [] → script_from broke all ≡ head_ends broke (first_open head.within) number
 ended broke all head number rest left e =
     let count : length all ≡ number = omega (arith, left.counted, ap (λ (ls : List (List ℕ)). length ls) e) in
     ap (script_by broke all) (left.goes ∙ ap (head_left head number) e ∙ head_ends_so head number) ∙ ap (head_ends broke (first_open head.within)) count

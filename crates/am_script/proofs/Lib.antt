@@ -11,5 +11,6 @@ pub mod Lost
 pub mod MapsLemmas
 pub mod Numerals
 pub mod OwedLemmas
+pub mod Openings
 pub mod Pieces
 pub mod Writes

@@ -12,6 +12,7 @@ pub mod LineWords
 pub mod Lines
 pub mod Maps
 pub mod Numbers
+pub mod Opened
 pub mod Outputs
 pub mod Played
 pub mod Read

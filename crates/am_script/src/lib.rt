@@ -19,6 +19,7 @@ mod output;
 pub mod play;
 mod section;
 mod turn;
+pub mod visit;
 mod walker_line;
 
 pub use fault::{ScriptFault, ScriptFaultKind};

@@ -55,7 +55,7 @@ pub fn run_script<R: Read, W: Write>(
 }
 
 /// A line that is too long is told before the fault that cuts it.
-fn cut_kind(cut: &[u8], kind: ScriptFaultKind) -> ScriptFaultKind
+pub(crate) fn cut_kind(cut: &[u8], kind: ScriptFaultKind) -> ScriptFaultKind
     ensures { result ≡ cut_kind cut.now kind }
 {
     if is_long(cut) {

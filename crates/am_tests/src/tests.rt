@@ -10,6 +10,7 @@ mod heads;
 mod memory;
 mod played;
 mod positions;
+mod sights;
 mod stage;
 mod streams;
 mod sweeps;

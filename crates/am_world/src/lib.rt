@@ -9,9 +9,13 @@ mod deliveries;
 mod halves;
 pub mod laws;
 mod requests;
+mod views;
 mod walkers;
 pub mod world;
 
+pub use am_job::{Act, Job};
+pub use am_kernel::{Attached, WalkRow};
 pub use am_machine::{Answer, Event};
-pub use am_state::{Obs, Record};
+pub use am_state::{Obs, QueuedRow, Record};
+pub use am_trigger::Autofs;
 pub use world::{Ran, World, run};

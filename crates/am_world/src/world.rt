@@ -38,7 +38,7 @@ use std::marker::Model;
 /// A world: the kernel's half and the daemon's, and the trace of what was observed.
 #[derive(Drop)]
 pub struct World {
-    halves: Halves,
+    pub(crate) halves: Halves,
 }
 
 impl Model for World {

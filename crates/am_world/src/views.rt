@@ -1,0 +1,136 @@
+//! What a world has, lent to those who look at it.
+
+ghost use Rattle.std.specs.Prelude.{◌≡◌, IfOk};
+ghost use Rattle.std.specs.Option.{option_map, option_copied};
+ghost use Rattle.am_daemon.specs.State.{job_plan, rows_of};
+ghost use Rattle.am_daemon.specs.Deliveries.{job_of};
+ghost use Rattle.am_expire.specs.Uses.{mount_of};
+ghost use Rattle.am_group.specs.Propagation.{member_row, master_of_group};
+ghost use Rattle.am_job.specs.Book.{record_of};
+ghost use Rattle.am_mount.specs.Rows.{mount_row};
+ghost use Rattle.am_trigger.specs.Rows.{autofs_of};
+ghost use Rattle.am_wait.specs.Rows.{token_of, tokens_of, wait_of, waiters_of};
+
+use crate::world::World;
+use am_job::Job;
+use am_kernel::{Attached, WalkRow};
+use am_names::{
+    FsId, GroupId, JobId, MemberRow, MountId, MountRow, Token, Trigger, WaitRow, WalkerId,
+};
+use am_state::{QueuedRow, Record};
+use am_trigger::Autofs;
+use std::alloc::{AllocError, Global};
+
+impl World {
+    /// The mounts of all namespaces, in rising order of number.
+    pub fn mounts(&self) -> &[MountRow]
+        ensures { result.now ≡ self.now.kernel.table.rows }
+    {
+        self.halves.kernel.subtree().tree().rows()
+    }
+
+    /// The row of a mount, if it is there.
+    pub fn mount_row(&self, mount: MountId) -> Option<&MountRow>
+        ensures { option_copied result ≡ mount_row self.now.kernel.table.rows mount }
+    {
+        self.halves.kernel.subtree().tree().row(mount)
+    }
+
+    /// How a mount takes part in propagation.
+    pub fn member(&self, mount: MountId) -> Option<MemberRow>
+        ensures { result ≡ member_row self.now.kernel.table.groups.members mount }
+    {
+        self.halves.kernel.subtree().groups().member(mount)
+    }
+
+    /// How all mounts take part in propagation, in rising order of number.
+    pub fn members(&self) -> &[MemberRow]
+        ensures { result.now ≡ self.now.kernel.table.groups.members }
+    {
+        self.halves.kernel.subtree().groups().members()
+    }
+
+    /// The master of a peer group.
+    pub fn master_of_group(&self, group: GroupId) -> Option<GroupId>
+        ensures { result ≡ master_of_group self.now.kernel.table.groups group }
+    {
+        self.halves.kernel.subtree().groups().master_of_group(group)
+    }
+
+    /// The autofs of this number.
+    pub fn autofs(&self, fs: FsId) -> Option<Autofs>
+        ensures { result ≡ autofs_of self.now.kernel.triggers fs }
+    {
+        self.halves.kernel.triggers().autofs(fs)
+    }
+
+    /// The timeout and the latest attachment of each autofs, in order of attaching.
+    pub fn attached(&self) -> &[Attached]
+        ensures { result.now ≡ self.now.kernel.attached }
+    {
+        self.halves.kernel.attached()
+    }
+
+    /// The open tokens of a file system, in rising order.
+    pub fn tokens_of(&self, alloc: Global, fs: FsId) -> Result<Vec<Token>, AllocError>
+        ensures { IfOk result (λ v. v.items ≡ tokens_of self.now.kernel.waits.tokens fs) }
+    {
+        self.halves.kernel.waits().tokens_of(alloc, fs)
+    }
+
+    /// The trigger of a token; none if it isn't open.
+    pub fn trigger_of(&self, token: Token) -> Option<Trigger>
+        ensures { result ≡ option_map (λ row. row.trigger) (token_of self.now.kernel.waits.tokens token) }
+    {
+        self.halves.kernel.waits().trigger_of(token)
+    }
+
+    /// The waiters of a token, in the order in which they joined; none if it isn't open.
+    pub fn waiters_of(&self, alloc: Global, token: Token) -> Result<Vec<WalkerId>, AllocError>
+        ensures { IfOk result (λ v. v.items ≡ waiters_of self.now.kernel.waits.tokens token) }
+    {
+        self.halves.kernel.waits().waiters_of(alloc, token)
+    }
+
+    /// The wait of a walker, with what it waits for and the status with which it was released.
+    pub fn wait_of(&self, walker: WalkerId) -> Option<WaitRow>
+        ensures { result ≡ wait_of self.now.kernel.waits.waits walker }
+    {
+        self.halves.kernel.waits().wait_of(walker)
+    }
+
+    /// The walk that each waiting walker began, in order of waiting.
+    pub fn walks(&self) -> &[WalkRow]
+        ensures { result.now ≡ self.now.kernel.walks }
+    {
+        self.halves.kernel.walks()
+    }
+
+    /// The mount that a walker is inside of.
+    pub fn mount_of(&self, walker: WalkerId) -> Option<MountId>
+        ensures { result ≡ mount_of self.now.kernel.uses walker }
+    {
+        self.halves.kernel.uses().mount_of(walker)
+    }
+
+    /// The packets in the pipes, in order.
+    pub fn packets(&self) -> &[QueuedRow]
+        ensures { result.now ≡ self.now.kernel.queue }
+    {
+        self.halves.kernel.packets()
+    }
+
+    /// What the daemon's book says of a trigger.
+    pub fn record(&self, trigger: &Trigger) -> Option<Record>
+        ensures { result ≡ record_of self.now.daemon.book trigger.now }
+    {
+        self.halves.daemon.record(trigger)
+    }
+
+    /// A job that has not ended.
+    pub fn job(&self, job: JobId) -> Option<&Job>
+        ensures { option_map job_plan (option_copied result) ≡ job_of (rows_of self.now.daemon).jobs job }
+    {
+        self.halves.daemon.job(job)
+    }
+}
