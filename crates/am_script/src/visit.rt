@@ -11,7 +11,6 @@ use crate::fault::{ScriptFault, ScriptFaultKind};
 use crate::heading::Heading;
 pub use crate::input::{Input, read_all};
 use crate::line::{cut_line, split_line};
-pub use crate::output::write_bytes;
 use crate::play::cut_kind;
 use crate::turn::read_line;
 use am_world::{Event, World};
