@@ -2,7 +2,6 @@
 
 mod callers;
 mod crowds;
-mod deaths;
 mod ends;
 mod releases;
 mod rows;
