@@ -13,6 +13,5 @@ mod positions;
 mod sights;
 mod stage;
 mod streams;
-mod sweeps;
 mod traces;
 mod worlds;

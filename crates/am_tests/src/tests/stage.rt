@@ -29,13 +29,6 @@ pub struct Stage {
     line: Vec<u8>,
 }
 
-impl Stage {
-    /// The line of the last answer.
-    pub fn line(&self) -> &[u8] {
-        self.line.as_slice()
-    }
-}
-
 /// A world of these lines of a master and of their maps, which are as many.
 fn world_of(alloc: Global, master: Master, maps: Vec<Map>) -> Result<World, Errno> {
     if !LIMITS.is_in_range() || maps.len() != master.entries().len() {
