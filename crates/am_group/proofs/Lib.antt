@@ -12,6 +12,7 @@ pub mod LiftLemmas
 pub mod KindLemmas
 pub mod ClearLemmas
 pub mod AmongLemmas
+pub mod LostLemmas
 pub mod JoinLemmas
 pub mod GrowLemmas
 pub mod MemberLemmas

@@ -1,6 +1,6 @@
 -- The receivers by chains of masters are those by chains of mounts.
-use Rattle.std.proofs.Common.{◌≡◌, ◌≢◌, ◌<◌, ◌↔◌, ℕ, zero, suc, Bool, true, false, cond, eqb, ◌||◌, ◌&&◌, List, [], ◌∷◌, Option, Some, None, refl, sym, ap, subst, ◌∙◌, arith}
-use Rattle.std.specs.Prelude.{filter, not, ◌==◌}
+use Rattle.std.proofs.Common.{◌≡◌, ◌≢◌, ◌<◌, ℕ, zero, suc, Bool, true, false, eqb, ◌||◌, List, [], ◌∷◌, Option, Some, None, refl, sym, subst, ◌∙◌, arith}
+use Rattle.std.specs.Prelude.{not, ◌==◌}
 use Rattle.std.specs.List.{Contains}
 use Rattle.std.specs.Option.{option_or}
 use Rattle.std.proofs.lemmas.Bool.{eqb-true, eq-eqb, ne_eqb, and_parts, and_from}
@@ -10,10 +10,9 @@ use Rattle.am_names.specs.PeerGroups.{PeerGroups}
 use Rattle.am_group.specs.Propagation.{member_row, slave_in, group_of, master_of_group, Receives}
 use Rattle.am_group.specs.Changes.{up_within, up, is_among}
 use Rattle.am_group.specs.Invariant.{IsOrderly, IsSound}
-use Rattle.am_group.specs.Scan.{numbers}
-use Rattle.am_group.specs.Receivers.{home_group, is_under, receives, receivers_of}
+use Rattle.am_group.specs.Receivers.{home_group, is_under, receives}
 use Rattle.am_group.proofs.ReceiveLemmas.{LeadsUp, home_where, home_of, IsUnder, receives_iff}
-use Rattle.am_group.proofs.ScanLemmas.{has, or_left, or_right, has-filter, has-from_filter}
+use Rattle.am_group.proofs.ScanLemmas.{has, or_left, or_right}
 
 same_home : (o p : Option ℕ) → option_or o p ≡ home_where o p
 same_home None p = refl

@@ -1,6 +1,6 @@
 -- The peer groups under another, by one look over rising rows, and the mounts whose home they are.
-use Rattle.std.proofs.Common.{◌≡◌, ◌≢◌, ◌≤◌, ◌<◌, ◌+◌, ◌↔◌, ℕ, zero, suc, Bool, true, false, cond, ◌||◌, ◌&&◌, List, [], ◌∷◌, ◌++◌, length, take, get_or, Option, Some, None, refl, sym, ap, subst, inl, inr, ◌∙◌, arith}
-use Rattle.std.specs.Prelude.{filter, map, not, is_some, ◌==◌}
+use Rattle.std.proofs.Common.{◌≡◌, ◌≤◌, ◌<◌, ◌+◌, ◌↔◌, ℕ, zero, suc, Bool, true, false, cond, ◌||◌, ◌&&◌, List, [], ◌∷◌, ◌++◌, length, take, get_or, Option, Some, None, refl, sym, ap, subst, inl, inr, ◌∙◌, arith}
+use Rattle.std.specs.Prelude.{filter, not, is_some, ◌==◌}
 use Rattle.std.specs.List.{Contains}
 use Rattle.std.specs.List.Sorted.{IsNonDecreasing, IsStrictlyIncreasing}
 use Rattle.std.specs.Option.{option_or}
@@ -11,14 +11,14 @@ use Rattle.am_names.specs.declared.row.MemberRow.{MemberRow}
 use Rattle.am_names.specs.declared.row.GroupRow.{GroupRow}
 use Rattle.am_names.specs.PeerGroups.{PeerGroups}
 use Rattle.am_group.specs.Propagation.{member_row, group_row, group_in, slave_in, master_in, group_of, master_of_group, Receives}
-use Rattle.am_group.specs.Changes.{up_within, up, is_among}
-use Rattle.am_group.specs.Invariant.{RiseBy, RiseFrom, IsGroup, IsOrderly, IsSound}
+use Rattle.am_group.specs.Changes.{up, is_among}
+use Rattle.am_group.specs.Invariant.{RiseBy, IsGroup, IsOrderly, IsSound}
 use Rattle.am_group.specs.Scan.{numbers, is_one_of}
 use Rattle.am_group.specs.Receivers.{home_group, is_under, receives, receivers_of, home_in, is_at_or_under, group_numbers, groups_under, under_these}
-use Rattle.am_group.proofs.LookupLemmas.{RiseBy-lower, RiseBy-filter}
+use Rattle.am_group.proofs.LookupLemmas.{RiseBy-filter}
 use Rattle.am_group.proofs.FindLemmas.{found_at}
 use Rattle.am_group.proofs.LiftLemmas.{up_master}
-use Rattle.am_group.proofs.ScanLemmas.{has, or_left, or_right, has-filter, has-from_filter, has_number, numbers_rise}
+use Rattle.am_group.proofs.ScanLemmas.{has, or_left, has-filter, has-from_filter, has_number, numbers_rise}
 use Rattle.am_group.proofs.ReceiverLemmas.{under_test, receives_test, receives_found, has_from_Contains, Contains_from_has}
 
 -- ---- rising rows

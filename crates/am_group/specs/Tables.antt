@@ -1,5 +1,6 @@
 -- The rows of a change before the masters are lifted.
-use Rattle.std.specs.Prelude.{◌≡◌, ◌||◌, ℕ, Bool, true, false, not, List, filter}
+use Rattle.std.specs.Prelude.{◌≡◌, ◌||◌, ◌&&◌, ℕ, Bool, true, false, not, List, filter}
+use Rattle.std.specs.List.{list_all}
 use Rattle.am_names.specs.declared.row.MemberRow.{MemberRow}
 use Rattle.am_names.specs.declared.row.GroupRow.{GroupRow}
 use Rattle.am_names.specs.PeerGroups.{PeerGroups}
@@ -8,6 +9,7 @@ use Rattle.am_group.specs.declared.kind.Kind.{Kind}
 use Rattle.am_group.specs.declared.kind.Kind.TheVariants.{Shared, Slave, SharedSlave, Private, Unbindable}
 use Rattle.am_group.specs.declared.kind.Change.{Change}
 use Rattle.am_group.specs.declared.kind.Change.TheVariants.{MakeShared, MakeSlave, MakePrivate, MakeUnbindable}
+use Rattle.am_group.specs.Scan.{is_one_of}
 use Rattle.am_group.specs.Changes.{has_members, is_among, shared_row, slave_row, private_row, unbindable_row}
 
 abbrev pub state_of : Tables → PeerGroups
@@ -16,6 +18,36 @@ state_of t = record { members = t.members.items; groups = t.groups.items; last_g
 -- these are the peer groups that have members
 abbrev pub AreLive : List MemberRow → List ℕ → Type 0
 AreLive members live = (g : ℕ) → is_among live g ≡ has_members members g
+
+-- these are those of some peer groups that have members
+abbrev pub AreLiveAmong : List ℕ → List MemberRow → List ℕ → Type 0
+AreLiveAmong groups members live =
+    (g : ℕ) → is_among live g ≡ (is_among groups g && has_members members g)
+
+-- these are some peer groups without others
+abbrev pub AreOthers : List ℕ → List ℕ → List ℕ → Type 0
+AreOthers groups these others =
+    (g : ℕ) → is_among others g ≡ (is_among groups g && not (is_among these g))
+
+-- these are the peer groups that had members, and have none among the new rows
+abbrev pub AreLost : List MemberRow → List MemberRow → List ℕ → Type 0
+AreLost old new lost =
+    (g : ℕ) → is_among lost g ≡ (has_members old g && not (has_members new g))
+
+-- the peer group is lost, or its master isn't
+abbrev pub is_free_group : List ℕ → GroupRow → Bool
+is_free_group lost row = is_among lost row.group || not (is_one_of lost row.master)
+
+-- no mount's master is lost, and none of a peer group that stays
+abbrev pub is_free_of : List ℕ → PeerGroups → Bool
+is_free_of lost s =
+    list_all (λ row. not (is_one_of lost row.master)) s.members &&
+    list_all (is_free_group lost) s.groups
+
+-- these peer groups go, and nothing else changes
+abbrev pub without_groups : List ℕ → PeerGroups → PeerGroups
+without_groups lost s =
+    record s { groups = filter (λ row. not (is_among lost row.group)) s.groups }
 
 -- of these rows those are left whose group is among the new ones, or isn't among the old
 abbrev pub left_among : List ℕ → List ℕ → List GroupRow → List GroupRow

@@ -1,6 +1,7 @@
 //! Mount rows: which mounts there are, where they are mounted, and which is the top at a place.
 #![tactic(auto)]
 
+mod among;
 mod buckets;
 mod index;
 mod indexes;

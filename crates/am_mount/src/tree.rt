@@ -10,6 +10,7 @@ ghost use Rattle.am_mount.specs.Found.{stands_at, stands_alone};
 ghost use Rattle.am_mount.specs.Index.{AreIndexed};
 ghost use Rattle.am_mount.specs.Rows.{last_of, IsRising, next_of, mount_row, is_among, mounts_where, is_in, is_child, is_at, top_of, root_of, HasRow, IsIn, IsOn, IsTop, IsFree};
 
+use crate::among::leave_out;
 use crate::buckets::bucket;
 use crate::indexes::Indexes;
 use am_names::{MountId, MountRow, NsId};
@@ -33,12 +34,6 @@ impl Model for Tree {
     ghost view = { λ t. t.rows.items };
 
     ghost invariant = { IsOrdered };
-}
-
-fn is_among(mount: MountId, mounts: &[MountId]) -> bool
-    ensures { result ≡ is_among mounts.now mount }
-{
-    mounts.iter().copied().any(|other| other == mount)
 }
 
 fn is_at(mount: MountId, place: &[u8], row: &MountRow) -> bool
@@ -239,7 +234,7 @@ impl Tree {
         ensures { self.new ≡ filter (λ row. not (is_among gone.now row.mount)) self.old }
     {
         unlist(self.rows.as_slice(), &mut self.indexes, gone);
-        self.rows.retain(|row| !is_among(row.mount, gone));
+        leave_out(&mut self.rows, gone);
     }
 
     /// The top at a place of the mount: of the mounts there the most recently mounted. The

@@ -4,3 +4,4 @@ pub mod Puts
 pub mod PathLemmas
 pub mod SameTriggers
 pub mod PathFaultLemmas
+pub mod SearchLemmas

@@ -1,16 +1,18 @@
 //! The changes of a mount's state, and mounts that leave.
 
-ghost use Rattle.std.specs.Prelude.{◌≡◌, true, not, None, IfOk, OnOk, OnErr};
+ghost use Rattle.std.specs.Prelude.{◌≡◌, true, not, filter, None, IfOk, OnOk, OnErr};
+ghost use Rattle.std.specs.Bool.{OnTrue};
+ghost use Rattle.std.specs.List.Sorted.{IsNonDecreasing};
 ghost use Rattle.am_names.specs.Errno.{RefusedAs};
 ghost use Rattle.am_group.specs.Changes.{settled, left, with_row, made_shared, made_slave, made_private, made_unbindable, changed, is_among, with_only, without};
-ghost use Rattle.am_group.specs.Invariant.{IsOrderly, AddsNoReceivers};
+ghost use Rattle.am_group.specs.Invariant.{IsOrderly, IsSound, AddsNoReceivers};
 ghost use Rattle.am_group.specs.Kinds.{FollowsTable};
 ghost use Rattle.am_group.specs.Members.{change_refusal};
-ghost use Rattle.am_group.specs.Tables.{state_of, row_of, gives_up};
+ghost use Rattle.am_group.specs.Tables.{state_of, AreLost, without_groups, row_of, gives_up};
 
 use crate::groups::Groups;
 use crate::kind::{Change, asked, row_as};
-use crate::tables::{Tables, clear, live_groups};
+use crate::tables::{Tables, clear, live_among, live_groups, without_these};
 use am_names::{Errno, GroupId, GroupRow, MemberRow, MountId};
 use std::alloc::{AllocError, Global};
 
@@ -18,6 +20,45 @@ fn is_among(mount: MountId, mounts: &[MountId]) -> bool
     ensures { result ≡ is_among mounts.now mount }
 {
     mounts.iter().copied().any(|other| other == mount)
+}
+
+/// Whether the mount is one of these, which stand in order of number.
+fn is_found(mount: MountId, mounts: &[MountId]) -> bool
+    requires { IsNonDecreasing mounts.now }
+    ensures { result ≡ is_among mounts.now mount }
+{
+    let number = mount.0;
+    mounts
+        .binary_search_by_key(&number, |other| other.0)
+        .is_ok()
+}
+
+fn are_ordered(mounts: &[MountId]) -> bool
+    ensures { OnTrue result (IsNonDecreasing mounts.now) }
+{
+    mounts.is_sorted()
+}
+
+/// Leaves out the rows of these mounts. In mounts that stand in order it looks by halves.
+fn leave_out(members: &mut Vec<MemberRow>, gone: &[MountId])
+    ensures { members.new.items ≡ filter (λ row. not (is_among gone.now row.mount)) members.old.items }
+{
+    if are_ordered(gone) {
+        members.retain(|row| !is_found(row.mount, gone));
+    } else {
+        members.retain(|row| !is_among(row.mount, gone));
+    }
+}
+
+/// Leaves only the rows of these mounts.
+fn keep_only(members: &mut Vec<MemberRow>, mounts: &[MountId])
+    ensures { members.new.items ≡ filter (λ row. is_among mounts.now row.mount) members.old.items }
+{
+    if are_ordered(mounts) {
+        members.retain(|row| is_found(row.mount, mounts));
+    } else {
+        members.retain(|row| is_among(row.mount, mounts));
+    }
 }
 
 impl Groups {
@@ -179,6 +220,38 @@ impl Groups {
         }
     }
 
+    /// The peer groups that lose their last member where only these mounts are kept.
+    fn lost(
+        &self,
+        alloc: Global,
+        kept: &[MemberRow],
+        gone: &[MountId],
+    ) -> Result<Vec<GroupId>, AllocError>
+        requires { kept.now ≡ filter (λ row. not (is_among gone.now row.mount)) self.now.members }
+        ensures ordered { IfOk result (λ v. IsNonDecreasing v.items) }
+        ensures exact { IfOk result (λ v. AreLost self.now.members kept.now v.items) }
+    {
+        let mut leaving = Vec::from_slice(alloc, self.members.as_slice())?;
+        keep_only(&mut leaving, gone);
+        let left = live_groups(alloc, leaving.as_slice())?;
+        let still = live_among(alloc, left.as_slice(), kept)?;
+        let lost = without_these(alloc, left.as_slice(), still.as_slice())?;
+        Ok(lost)
+    }
+
+    /// Takes these rows, where no master of theirs has lost its last member: the peer groups that
+    /// did go, and none is lifted.
+    fn settle_free(&mut self, mut raw: Tables, lost: &[GroupId])
+        requires ordered { IsNonDecreasing lost.now }
+        requires sound { IsSound (without_groups lost.now (state_of raw)) }
+        ensures { self.new ≡ without_groups lost.now (state_of raw) }
+    {
+        raw.drop_groups(lost);
+        self.members = raw.members;
+        self.groups = raw.groups;
+        self.last_group = raw.last_group;
+    }
+
     /// Takes these mounts away, as an unmount does. Of the numbers that are no mount's, nothing
     /// comes. Masters that are left without members are lifted once, at the end.
     pub fn leave(&mut self, alloc: Global, gone: &[MountId]) -> Result<(), Errno>
@@ -189,6 +262,11 @@ impl Groups {
     {
         let _members = &self.members;
         let raw = self.with_only(alloc, gone)?;
+        let lost = self.lost(alloc, raw.members.as_slice(), gone)?;
+        if raw.is_free_of(lost.as_slice()) {
+            self.settle_free(raw, lost.as_slice());
+            return Ok(());
+        }
         self.settle_left(alloc, raw)?;
         Ok(())
     }
@@ -196,12 +274,8 @@ impl Groups {
     fn with_only(&self, alloc: Global, gone: &[MountId]) -> Result<Tables, AllocError>
         ensures { IfOk result (λ t. state_of t ≡ with_only (λ m. not (is_among gone.now m)) self.now) }
     {
-        let mut members = Vec::new(alloc);
-        for row in self.members.iter() {
-            if !is_among(row.mount, gone) {
-                members.push(*row)?;
-            }
-        }
+        let mut members = Vec::from_slice(alloc, self.members.as_slice())?;
+        leave_out(&mut members, gone);
         let groups = Vec::from_slice(alloc, self.groups.as_slice())?;
         Ok(Tables {
             members,

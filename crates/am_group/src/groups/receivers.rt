@@ -10,20 +10,9 @@ ghost use Rattle.am_group.specs.Scan.{is_one_of};
 ghost use Rattle.am_group.specs.Receivers.{home_in, groups_under, under_these, receivers_of};
 
 use crate::groups::Groups;
-use crate::tables::is_among;
+use crate::tables::is_one_of;
 use am_names::{Errno, GroupId, GroupRow, MemberRow, MountId};
 use std::alloc::{AllocError, Global};
-
-/// Whether there is a peer group, and it is one of these, which stand in order of number.
-fn is_one_of(group: Option<GroupId>, groups: &[GroupId]) -> bool
-    requires { IsNonDecreasing groups.now }
-    ensures { result ≡ is_one_of groups.now group }
-{
-    match group {
-        Some(group) => is_among(groups, group),
-        None => false,
-    }
-}
 
 /// The peer group of the mount, else the one of which it is a slave.
 fn home(row: &MemberRow) -> Option<GroupId>

@@ -1,14 +1,15 @@
 //! The peer groups of a new mount and of its copies.
 
 ghost use Rattle.std.specs.Prelude.{◌≡◌, ◌==◌, ◌&&◌, ◌+◌, ◌^◌, ◌<◌, ◌∷◌, ◌++◌, not, [], length, IfOk};
+ghost use Rattle.std.specs.List.Sorted.{IsNonDecreasing};
 ghost use Rattle.std.specs.Option.{option_to_list};
 ghost use Rattle.am_group.specs.declared.membership.Membership.TheVariants.{InGroup};
-ghost use Rattle.am_group.specs.Changes.{is_just};
+ghost use Rattle.am_group.specs.Changes.{is_among};
 ghost use Rattle.am_group.specs.Propagation.{member_row, slave_in, group_of};
-ghost use Rattle.am_group.specs.Copies.{has_receiver, receiving_groups, copy_row, copies_from, group_copies};
+ghost use Rattle.am_group.specs.Copies.{receiving_groups, copy_row, copies_from, group_copies};
 ghost use Rattle.am_group.specs.Receivers.{receivers_of};
 ghost use Rattle.am_group.specs.Members.{row_with};
-ghost use Rattle.am_propagate.specs.Joining.{stand_of, others_of, group_copy, AreNew};
+ghost use Rattle.am_propagate.specs.Joining.{stand_of, AreOfReceivers, others_of, group_copy, AreNew};
 ghost use Rattle.am_propagate.specs.Added.{groups_made};
 
 use crate::subtree::Subtree;
@@ -24,13 +25,19 @@ pub struct Joining {
     pub groups: Vec<GroupRow>,
 }
 
-fn is_just(group: GroupId, of: Option<GroupId>) -> bool
-    ensures { result ≡ is_just group of }
+/// Whether the group is another than the mount's own, and one of these, which stand in order of
+/// number.
+fn is_receiving(receiving: &[GroupId], own: GroupId, group: GroupId) -> bool
+    requires { IsNonDecreasing receiving.now }
+    ensures { result ≡ (not (group == own) && is_among receiving.now group) }
 {
-    match of {
-        Some(other) => other == group,
-        None => false,
+    if group == own {
+        return false;
     }
+    let number = group.0;
+    receiving
+        .binary_search_by_key(&number, |other| other.0)
+        .is_ok()
 }
 
 impl Joining {
@@ -54,22 +61,30 @@ impl Joining {
 }
 
 impl Subtree {
-    fn has_receiver(&self, receivers: &[MountId], group: GroupId) -> bool
-        ensures { result ≡ has_receiver self.now.groups receivers.now group }
+    fn groups_of(&self, alloc: Global, receivers: &[MountId]) -> Result<Vec<GroupId>, AllocError>
+        ensures { IfOk result (λ v. AreOfReceivers self.now.groups receivers.now v.items) }
     {
-        receivers
-            .iter()
-            .copied()
-            .any(|receiver| is_just(group, self.groups.group_of(receiver)))
+        let mut groups = Vec::new(alloc);
+        for receiver in receivers {
+            if let Some(group) = self.groups.group_of(*receiver) {
+                groups.push(group)?;
+            }
+        }
+        Ok(groups)
     }
 
-    fn is_receiving(&self, receivers: &[MountId], own: GroupId, group: GroupId) -> bool
-        ensures { result ≡ (not (group == own) && has_receiver self.now.groups receivers.now group) }
+    /// The peer groups that receivers are in, in order of number, for `is_receiving`.
+    fn groups_in_order(
+        &self,
+        alloc: Global,
+        receivers: &[MountId],
+    ) -> Result<Vec<GroupId>, AllocError>
+        ensures ordered { IfOk result (λ v. IsNonDecreasing v.items) }
+        ensures exact { IfOk result (λ v. AreOfReceivers self.now.groups receivers.now v.items) }
     {
-        if group == own {
-            return false;
-        }
-        self.has_receiver(receivers, group)
+        let mut groups = self.groups_of(alloc, receivers)?;
+        groups.sort_unstable_by_key(|group| group.0);
+        Ok(groups)
     }
 
     fn receiving_groups(
@@ -80,9 +95,10 @@ impl Subtree {
     ) -> Result<Vec<GroupId>, AllocError>
         ensures { IfOk result (λ v. v.items ≡ receiving_groups self.now.groups receivers.now own) }
     {
+        let receiving = self.groups_in_order(alloc, receivers)?;
         let mut groups = Vec::new(alloc);
         for row in self.groups.groups() {
-            if self.is_receiving(receivers, own, row.group) {
+            if is_receiving(receiving.as_slice(), own, row.group) {
                 groups.push(row.group)?;
             }
         }

@@ -1,6 +1,6 @@
 use Rattle.std.proofs.Common.{ℕ, rules, ◌∙◌}
 use Rattle.std.proofs.lemmas.List.Sorted.{answers_always}
-use Rattle.am_group.proofs.AmongLemmas.{found_among}
+use Rattle.am_names.proofs.SearchLemmas.{found_among}
 use Rattle.am_group.proofs.tables.is_among.Goals as goal
 
 pub returns : goal.returns

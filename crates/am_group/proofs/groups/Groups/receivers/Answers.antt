@@ -4,7 +4,7 @@ use Rattle.std.specs.List.Sorted.{IsNonDecreasing, IsStrictlyIncreasing}
 use Rattle.am_names.specs.PeerGroups.{PeerGroups}
 use Rattle.am_group.specs.Propagation.{group_of, Receives}
 use Rattle.am_group.specs.Invariant.{IsSound}
-use Rattle.am_group.specs.Receivers.{groups_under, under_these, receivers_of}
+use Rattle.am_group.specs.Receivers.{under_these, receivers_of}
 use Rattle.am_group.proofs.EarlyLemmas.{none_exact, none_listed}
 use Rattle.am_group.proofs.UnderLemmas.{under_ordered, homed_listed, receivers_exact, receivers_rise}
 use Rattle.am_group.proofs.groups.Groups.receivers.Goals as goal

@@ -1,6 +1,5 @@
-use Rattle.std.proofs.Common.{rules, tests, ◌≡◌, List, sym, ap, subst, ◌∙◌}
+use Rattle.std.proofs.Common.{◌≡◌, List, sym, ap, subst, ◌∙◌}
 use Rattle.std.specs.Prelude.{filter, not}
-use Rattle.std.proofs.lemmas.Fn.{filter_same}
 use Rattle.am_names.specs.declared.row.MountRow.{MountRow}
 use Rattle.am_mount.specs.Index.{AreIndexed}
 use Rattle.am_mount.specs.Rows.{IsRising, is_among}
@@ -9,7 +8,7 @@ use Rattle.am_mount.proofs.tree.Tree.remove_all.Goals as goal
 
 pub invariant_of-self : goal.invariant_of-self
 invariant_of-self c =
-    let left : c.retain.new.self.items ≡ filter (λ row. not (is_among c.args.gone.now row.mount)) c.self.inside.rows.items = filter_same _ (λ (row : MountRow). not (is_among c.args.gone.now row.mount)) _ (λ x b q k. search (rules, tests)) _ _ c.retain.ensures.filtered in
+    let left = c.leave_out.ensures in
     record {
       rising = subst (λ (rows : List MountRow). IsRising rows) (sym left) (RiseFrom-filter (λ row. not (is_among c.args.gone.now row.mount)) 0 c.self.inside.rows.items c.self.invariant.rising);
       indexed = subst (λ (rows : List MountRow). AreIndexed rows c.unlist.new.indexes) (ap (filter (λ row. not (is_among c.args.gone.now row.mount))) c.as_slice.ensures.value ∙ sym left) c.unlist.ensures;
@@ -17,5 +16,4 @@ invariant_of-self c =
 
 pub returns : goal.returns
 returns c =
-    let left : c.retain.new.self.items ≡ filter (λ row. not (is_among c.args.gone.now row.mount)) c.self.inside.rows.items = filter_same _ (λ (row : MountRow). not (is_among c.args.gone.now row.mount)) _ (λ x b q k. search (rules, tests)) _ _ c.retain.ensures.filtered in
-    left ∙ ap (filter (λ row. not (is_among c.args.gone.now row.mount))) c.self.view_is
+    c.leave_out.ensures ∙ ap (filter (λ row. not (is_among c.args.gone.now row.mount))) c.self.view_is
