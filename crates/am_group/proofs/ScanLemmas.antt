@@ -76,3 +76,13 @@ numbers_rise low (r ∷ x ∷ rows) rises = go (numbers_rise (r.mount + 1) (x �
     go : IsStrictlyIncreasing (numbers (x ∷ rows)) → IsStrictlyIncreasing (numbers (r ∷ x ∷ rows))
     go ih zero h = let lower : r.mount + 1 ≤ x.mount = rises.1.0 in omega arith
     go ih (suc k) h = rw (add-one) (rw (add-one) at (ih k (omega arith)))
+
+-- the same numbers stay by tests that are the same
+pub kept_same :
+    (p q : ℕ → Bool) → ((g : ℕ) → p g ≡ q g) → (xs : List ℕ) → filter p xs ≡ filter q xs
+kept_same p q same [] = refl
+kept_same p q same (x ∷ xs) = rw (same x) (go (q x) (kept_same p q same xs))
+  where
+    go : {ys zs : List ℕ} (b : Bool) → ys ≡ zs → cond b (x ∷ ys) ys ≡ cond b (x ∷ zs) zs
+    go true e = ap (λ (ws : List ℕ). x ∷ ws) e
+    go false e = e

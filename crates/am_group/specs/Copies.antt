@@ -1,12 +1,12 @@
 -- What a mount on a shared mount adds: a copy on each receiver (sharedsubtree.rst, 5b and 5e).
 -- Their peer groups: own (docs/DECISIONS.md, "Copies in groups").
-use Rattle.std.specs.Prelude.{◌==◌, ◌&&◌, ◌+◌, ℕ, Bool, false, not, nat_lt, List, [], ◌∷◌, ◌++◌, map, filter, length, Option, Some, None, option_map, if◌then◌else◌}
+use Rattle.std.specs.Prelude.{◌≡◌, ◌==◌, ◌&&◌, ◌+◌, ℕ, Bool, false, not, nat_lt, List, [], ◌∷◌, ◌++◌, map, filter, length, Option, Some, None, option_map, if◌then◌else◌}
 use Rattle.std.specs.List.{list_any}
 use Rattle.am_names.specs.declared.row.MemberRow.{MemberRow}
 use Rattle.am_names.specs.declared.row.GroupRow.{GroupRow}
 use Rattle.am_names.specs.PeerGroups.{PeerGroups}
 use Rattle.am_group.specs.Propagation.{member_row, slave_in, group_of, master_of_group}
-use Rattle.am_group.specs.Changes.{is_just}
+use Rattle.am_group.specs.Changes.{is_just, is_among}
 
 -- these rows and groups are added, and nothing else changes
 abbrev pub added : List MemberRow → List GroupRow → ℕ → PeerGroups → PeerGroups
@@ -20,6 +20,10 @@ all_added ms gs s = added ms gs (s.last_group + length gs) s
 -- one of the receivers is in the peer group
 abbrev pub has_receiver : PeerGroups → List ℕ → ℕ → Bool
 has_receiver s receivers g = list_any (λ r. is_just g (group_of s r)) receivers
+
+-- these are the peer groups that the receivers are in
+abbrev pub AreOfReceivers : PeerGroups → List ℕ → List ℕ → Type 0
+AreOfReceivers s receivers groups = (g : ℕ) → is_among groups g ≡ has_receiver s receivers g
 
 -- the peer groups that the receivers are in, without the one of the mount at the place
 abbrev pub receiving_groups : PeerGroups → List ℕ → ℕ → List ℕ

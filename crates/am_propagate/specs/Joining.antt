@@ -4,8 +4,7 @@ use Rattle.am_names.specs.declared.row.GroupRow.{GroupRow}
 use Rattle.am_names.specs.PeerGroups.{PeerGroups}
 use Rattle.am_group.specs.declared.membership.Membership.{Membership}
 use Rattle.am_group.specs.Propagation.{master_of_group}
-use Rattle.am_group.specs.Changes.{is_among}
-use Rattle.am_group.specs.Copies.{has_receiver, receiving_groups, rank}
+use Rattle.am_group.specs.Copies.{receiving_groups, rank}
 use Rattle.am_propagate.specs.declared.subtree.joining.Joining.{Joining}
 use Rattle.am_propagate.specs.declared.subtree.stand_ins.StandIns.{StandIns}
 use Rattle.am_propagate.specs.Added.{new_members, new_groups}
@@ -23,11 +22,6 @@ stand_of stands g =
 pub record AreNew (membership : Membership) (own : Option ℕ) (receivers : List ℕ) (number : ℕ) (s : PeerGroups) (joining : Joining) : Type 0 where
   pub members_are : joining.members.items ≡ new_members membership own receivers number s
   pub groups_are : joining.groups.items ≡ new_groups membership own receivers s
-
--- these are the peer groups that receivers are in
-abbrev pub AreOfReceivers : PeerGroups → List ℕ → List ℕ → Type 0
-AreOfReceivers s receivers groups =
-    (g : ℕ) → is_among groups g ≡ has_receiver s receivers g
 
 -- the peer groups beside that of the place that receivers are in; none, where it isn't shared
 abbrev pub others_of : PeerGroups → List ℕ → Option ℕ → List ℕ

@@ -1,16 +1,18 @@
 //! Which mounts receive propagation from another: the members and slaves of its peer group and of
 //! the groups under that one.
 
-ghost use Rattle.std.specs.Prelude.{◌≡◌, ◌↔◌, ◌==◌, ◌||◌, ◌&&◌, ℕ, not, None, IfOk};
+ghost use Rattle.std.specs.Prelude.{◌≡◌, ◌↔◌, ◌==◌, ◌||◌, ◌&&◌, ℕ, not, map, filter, None, IfOk};
 ghost use Rattle.std.specs.List.{Contains};
 ghost use Rattle.std.specs.List.Sorted.{IsStrictlyIncreasing, IsNonDecreasing};
 ghost use Rattle.am_names.specs.Errno.{RefusedAs};
+ghost use Rattle.am_group.specs.Changes.{is_among};
+ghost use Rattle.am_group.specs.Copies.{AreOfReceivers, receiving_groups};
 ghost use Rattle.am_group.specs.Propagation.{Receives};
 ghost use Rattle.am_group.specs.Scan.{is_one_of};
 ghost use Rattle.am_group.specs.Receivers.{home_in, groups_under, under_these, receivers_of};
 
 use crate::groups::Groups;
-use crate::tables::is_one_of;
+use crate::tables::{is_among, is_one_of};
 use am_names::{Errno, GroupId, GroupRow, MemberRow, MountId};
 use std::alloc::{AllocError, Global};
 
@@ -33,6 +35,26 @@ fn is_next(row: &GroupRow, own: GroupId, under: &[GroupId]) -> bool
         return true;
     }
     is_one_of(row.master, under)
+}
+
+/// Those of the peer groups, without the mount's own, that are among these, which stand in order
+/// of number.
+fn others_among(
+    alloc: Global,
+    rows: &[GroupRow],
+    own: GroupId,
+    groups: &[GroupId],
+) -> Result<Vec<GroupId>, AllocError>
+    requires { IsNonDecreasing groups.now }
+    ensures { IfOk result (λ v. v.items ≡ filter (λ g. not (g == own) && is_among groups.now g) (map (λ row. row.group) rows.now)) }
+{
+    let mut others = Vec::new(alloc);
+    for row in rows {
+        if row.group != own && is_among(groups, row.group) {
+            others.push(row.group)?;
+        }
+    }
+    Ok(others)
 }
 
 /// Whether it is another mount, and its home is one of these peer groups.
@@ -95,5 +117,48 @@ impl Groups {
         let under = self.groups_under(alloc, own)?;
         let homed = self.homed(alloc, mount, under.as_slice())?;
         Ok(homed)
+    }
+
+    fn groups_of(&self, alloc: Global, receivers: &[MountId]) -> Result<Vec<GroupId>, AllocError>
+        ensures { IfOk result (λ v. AreOfReceivers self.now receivers.now v.items) }
+    {
+        let _members = &self.members;
+        let mut groups = Vec::new(alloc);
+        for receiver in receivers {
+            if let Some(group) = self.group_of(*receiver) {
+                groups.push(group)?;
+            }
+        }
+        Ok(groups)
+    }
+
+    /// The peer groups that the receivers are in, in order of number, for `others_among`.
+    fn groups_in_order(
+        &self,
+        alloc: Global,
+        receivers: &[MountId],
+    ) -> Result<Vec<GroupId>, AllocError>
+        ensures ordered { IfOk result (λ v. IsNonDecreasing v.items) }
+        ensures exact { IfOk result (λ v. AreOfReceivers self.now receivers.now v.items) }
+    {
+        let _members = &self.members;
+        let mut groups = self.groups_of(alloc, receivers)?;
+        groups.sort_unstable_by_key(|group| group.0);
+        Ok(groups)
+    }
+
+    /// The peer groups that these mounts, receivers of one, are in, without that one's own, in
+    /// order of making: those for which a mount on it makes fresh groups.
+    pub fn receiving_groups(
+        &self,
+        alloc: Global,
+        receivers: &[MountId],
+        own: GroupId,
+    ) -> Result<Vec<GroupId>, AllocError>
+        ensures { IfOk result (λ v. v.items ≡ receiving_groups self.now receivers.now own) }
+    {
+        let receiving = self.groups_in_order(alloc, receivers)?;
+        let others = others_among(alloc, self.groups.as_slice(), own, receiving.as_slice())?;
+        Ok(others)
     }
 }

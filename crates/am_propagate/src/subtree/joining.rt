@@ -1,15 +1,13 @@
 //! The peer groups of a new mount and of its copies.
 
-ghost use Rattle.std.specs.Prelude.{◌≡◌, ◌==◌, ◌&&◌, ◌+◌, ◌^◌, ◌<◌, ◌∷◌, ◌++◌, not, [], length, IfOk};
-ghost use Rattle.std.specs.List.Sorted.{IsNonDecreasing};
+ghost use Rattle.std.specs.Prelude.{◌≡◌, ◌+◌, ◌^◌, ◌<◌, ◌∷◌, ◌++◌, [], length, IfOk};
 ghost use Rattle.std.specs.Option.{option_to_list};
 ghost use Rattle.am_group.specs.declared.membership.Membership.TheVariants.{InGroup};
-ghost use Rattle.am_group.specs.Changes.{is_among};
 ghost use Rattle.am_group.specs.Propagation.{member_row, slave_in, group_of};
-ghost use Rattle.am_group.specs.Copies.{receiving_groups, copy_row, copies_from, group_copies};
+ghost use Rattle.am_group.specs.Copies.{copy_row, copies_from, group_copies};
 ghost use Rattle.am_group.specs.Receivers.{receivers_of};
 ghost use Rattle.am_group.specs.Members.{row_with};
-ghost use Rattle.am_propagate.specs.Joining.{stand_of, AreOfReceivers, others_of, group_copy, AreNew};
+ghost use Rattle.am_propagate.specs.Joining.{stand_of, others_of, group_copy, AreNew};
 ghost use Rattle.am_propagate.specs.Added.{groups_made};
 
 use crate::subtree::Subtree;
@@ -23,21 +21,6 @@ use std::alloc::{AllocError, Global};
 pub struct Joining {
     pub members: Vec<MemberRow>,
     pub groups: Vec<GroupRow>,
-}
-
-/// Whether the group is another than the mount's own, and one of these, which stand in order of
-/// number.
-fn is_receiving(receiving: &[GroupId], own: GroupId, group: GroupId) -> bool
-    requires { IsNonDecreasing receiving.now }
-    ensures { result ≡ (not (group == own) && is_among receiving.now group) }
-{
-    if group == own {
-        return false;
-    }
-    let number = group.0;
-    receiving
-        .binary_search_by_key(&number, |other| other.0)
-        .is_ok()
 }
 
 impl Joining {
@@ -61,50 +44,6 @@ impl Joining {
 }
 
 impl Subtree {
-    fn groups_of(&self, alloc: Global, receivers: &[MountId]) -> Result<Vec<GroupId>, AllocError>
-        ensures { IfOk result (λ v. AreOfReceivers self.now.groups receivers.now v.items) }
-    {
-        let mut groups = Vec::new(alloc);
-        for receiver in receivers {
-            if let Some(group) = self.groups.group_of(*receiver) {
-                groups.push(group)?;
-            }
-        }
-        Ok(groups)
-    }
-
-    /// The peer groups that receivers are in, in order of number, for `is_receiving`.
-    fn groups_in_order(
-        &self,
-        alloc: Global,
-        receivers: &[MountId],
-    ) -> Result<Vec<GroupId>, AllocError>
-        ensures ordered { IfOk result (λ v. IsNonDecreasing v.items) }
-        ensures exact { IfOk result (λ v. AreOfReceivers self.now.groups receivers.now v.items) }
-    {
-        let mut groups = self.groups_of(alloc, receivers)?;
-        groups.sort_unstable_by_key(|group| group.0);
-        Ok(groups)
-    }
-
-    fn receiving_groups(
-        &self,
-        alloc: Global,
-        receivers: &[MountId],
-        own: GroupId,
-    ) -> Result<Vec<GroupId>, AllocError>
-        ensures { IfOk result (λ v. v.items ≡ receiving_groups self.now.groups receivers.now own) }
-    {
-        let receiving = self.groups_in_order(alloc, receivers)?;
-        let mut groups = Vec::new(alloc);
-        for row in self.groups.groups() {
-            if is_receiving(receiving.as_slice(), own, row.group) {
-                groups.push(row.group)?;
-            }
-        }
-        Ok(groups)
-    }
-
     fn copy_row(&self, stands: &StandIns, mount: MountId, receiver: MountId) -> MemberRow
         ensures { result ≡ copy_row (stand_of stands.now) mount (group_of self.now.groups receiver) (slave_in (member_row self.now.groups.members receiver)) }
     {
@@ -182,7 +121,7 @@ impl Subtree {
         ensures { IfOk result (λ v. v.items ≡ others_of self.now.groups receivers.now (group_of self.now.groups at)) }
     {
         match self.groups.group_of(at) {
-            Some(own) => self.receiving_groups(alloc, receivers, own),
+            Some(own) => self.groups.receiving_groups(alloc, receivers, own),
             None => Ok(Vec::new(alloc)),
         }
     }
