@@ -94,6 +94,10 @@ impl Subtree {
         ensures rising { IfOk result (λ v. IsStrictlyIncreasing v.items) }
     {
         let receivers = self.groups.receivers(alloc, position.mount)?;
+        if receivers.is_empty() {
+            let alone = self.itself(alloc, mount)?;
+            return Ok(alone);
+        }
         let mut gone = Vec::new(alloc);
         for row in self.tree.rows() {
             if self.goes_with(mount, receivers.as_slice(), position, row) {
