@@ -14,4 +14,5 @@ mod sights;
 mod stage;
 mod streams;
 mod traces;
+mod twins;
 mod worlds;
