@@ -1,6 +1,6 @@
 #!/bin/sh
 # tools/refuse_each.sh CRATE TEST: runs a test of a crate with each of its allocations refused in
-# turn, on the program that `rt test CRATE` or the gate has built. It needs a C compiler.
+# turn, on the program that `rt test CRATE` or the gate has built.
 set -u
 . "$(dirname "$0")/common.sh"
 [ $# -eq 2 ] || refuse "expected two words, a crate and the whole path of a test"
@@ -8,9 +8,12 @@ cd "$(dirname "$0")/.."
 [ -d "crates/$1/src" ] || refuse "expected a crate, and there is none named $1"
 program=crates/$1/out/$1_tests
 [ -x "$program" ] || refuse "expected tests that are built: rt test in crates/$1"
+rt=$(command -v rt) || refuse "expected a machine with the toolchain, and there is no rt"
+tools=$(dirname "$(dirname "$(readlink -f "$rt")")")/toolchain/bin
 room=$(mktemp -d)
 trap 'rm -rf "$room"' EXIT
-cc -shared -fPIC -O1 -o "$room/refuse.so" tools/refuse.c -ldl || exit 2
+"$tools/clang" --target=x86_64-unknown-linux-gnu --ld-path="$tools/ld.lld" -shared -fPIC -nostdlib -O1 \
+    -o "$room/refuse.so" tools/refuse.c || exit 2
 count=0
 failed=0
 while :; do

@@ -1,6 +1,8 @@
 //! Scripts, lines, worlds and traces as tables, and small functions that play them.
 
 mod answer_lines;
+mod cuts;
+mod digits;
 mod event_lines;
 mod events;
 mod examples;
@@ -8,6 +10,7 @@ mod faults;
 mod head_faults;
 mod heads;
 mod memory;
+mod opened;
 mod played;
 mod positions;
 mod sights;
