@@ -1,7 +1,8 @@
 //! Readers and writers that fail.
 
 use crate::tests::played::{HEAD, Played, behind, is_told};
-use am_script::{ScriptFault, run_script};
+use am_script::visit::read_at_most;
+use am_script::{ScriptFault, ScriptFaultKind, run_script};
 use std::alloc::Global;
 use std::io::{self, ErrorKind, Read, Write};
 use std::process::Abort;
@@ -109,6 +110,70 @@ fn a_reader_that_fails(rt: HostRuntime) -> Result<(), Fail> {
 #[test]
 fn a_reader_that_is_interrupted(rt: HostRuntime) -> Result<(), Fail> {
     play_all_broken(&rt, rt.alloc(), ErrorKind::Interrupted)
+}
+
+/// How often a reader of three bytes is asked that gives one at a time, how many of them are read, and
+/// whether it comes to its end.
+static ASKED: [(u32, usize, bool); 6] = [
+    (0, 0, false),
+    (1, 1, false),
+    (2, 2, false),
+    (3, 3, false),
+    (4, 3, true),
+    (5, 3, true),
+];
+
+fn is_read(alloc: Global, most: u32, len: usize, is_ended: bool) -> bool {
+    let text = b"abc";
+    let mut reader = Breaks { text, fault: None };
+    let input = read_at_most(alloc, &mut reader, most);
+    let failed = input.broke == Some(ScriptFaultKind::ReadFailed);
+    input.text.as_slice() == &text[..len.min(3)] && failed != is_ended
+}
+
+fn are_read(rt: &impl Abort, alloc: Global) {
+    for (most, len, is_ended) in &ASKED {
+        let is_read = is_read(alloc, *most, *len, *is_ended);
+        assert!(rt; is_read, "asked {most} times");
+    }
+}
+
+#[test]
+fn a_reader_is_asked_so_often_and_no_more(rt: HostRuntime) {
+    are_read(&rt, rt.alloc());
+}
+
+/// The events of a long script.
+const MANY: usize = 100_000;
+
+/// A text, so many times behind another.
+fn many(alloc: Global, before: &[u8], text: &[u8]) -> Result<Vec<u8>, Fail> {
+    let mut whole = Vec::from_slice(alloc, before)?;
+    for _ in 0..MANY {
+        whole.extend_from_slice(text)?;
+    }
+    Ok(whole)
+}
+
+fn play_bytes(alloc: Global, text: &[u8], output: &mut Vec<u8>) -> Option<ScriptFault> {
+    let fault = None;
+    run_script(alloc, &mut Breaks { text, fault }, output).err()
+}
+
+fn is_long_script_played(alloc: Global) -> Result<bool, Fail> {
+    let script = many(alloc, b"events\n", b"kind 0 /\n")?;
+    let answers = many(alloc, b"", b"kind private\n")?;
+    let mut output = Vec::new(alloc);
+    let fault = play_bytes(alloc, script.as_slice(), &mut output);
+    Ok(fault.is_none() && output.as_slice() == answers.as_slice())
+}
+
+/// It is read in some 900,000 pieces, and written in some hundred.
+#[test]
+fn a_long_script_byte_by_byte(rt: HostRuntime) -> Result<(), Fail> {
+    let is_played = is_long_script_played(rt.alloc())?;
+    assert!(rt; is_played);
+    Ok(())
 }
 
 /// What a writer does, and what comes of it.
