@@ -40,7 +40,6 @@ fn is_cause(before: &[Obs], cause: &Obs, token: Token, status: Status) -> bool
 }
 
 /// These end in a row of releases, behind what closed the token with this status.
-
 fn ends_in_row(seen: &[Obs], token: Token, status: Status) -> bool
     ensures { result ≡ ends_in_row [] seen.now token status }
 {
