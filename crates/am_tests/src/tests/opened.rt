@@ -1,132 +1,13 @@
-//! Scripts that are opened, and whose events are taken and made one by one.
+//! Scripts that are played event by event.
 
+use crate::by_event::play_by_event;
 use crate::tests::memory::room_in_the_end;
 use crate::tests::played::{HEAD, Played, behind, is_told};
-use crate::tests::stage::{is_out_of_memory, step_in_the_end};
-use am_script::answer_line::push_answer;
-use am_script::visit::{Found, Input, Opened, next_event, open_script, read_all};
-use am_script::{ScriptFault, ScriptFaultKind};
-use am_world::World;
+use am_script::ScriptFaultKind;
+use am_script::visit::{Input, read_all};
 use std::alloc::Global;
 use std::process::Abort;
 use std::test::Fail;
-
-/// More bytes and lines than the scripts have.
-const MANY: usize = 1 << 32;
-
-/// The fault of a script that has more, which is none of these.
-const TOO_LONG: ScriptFault = ScriptFault {
-    line: 0,
-    kind: ScriptFaultKind::LongLine,
-};
-
-fn open(alloc: Global, input: &Input) -> Result<Option<Opened<'_>>, ScriptFault> {
-    if input.text.len() > MANY {
-        return Err(TOO_LONG);
-    }
-    open_script(alloc, input)
-}
-
-/// The same, tried again where it found no memory.
-fn open_in_the_end(alloc: Global, input: &Input) -> Result<Option<Opened<'_>>, ScriptFault> {
-    match open(alloc, input) {
-        Err(fault) if fault.kind == ScriptFaultKind::NoMemory && fault.line > 0 => {
-            open(alloc, input)
-        }
-        opened => opened,
-    }
-}
-
-/// What is left of a script: its lines behind the one with this number, and the fault behind them.
-#[derive(Clone, Copy)]
-struct Left<'a> {
-    rest: Option<&'a [u8]>,
-    line: u64,
-    broke: Option<ScriptFaultKind>,
-}
-
-fn next<'a>(alloc: Global, left: &Left<'a>) -> Result<Option<Found<'a>>, ScriptFault> {
-    let Left { rest, line, broke } = *left;
-    if line > u64::from(u32::MAX) {
-        return Err(TOO_LONG);
-    }
-    match rest {
-        None => next_event(alloc, None, line, broke),
-        Some(text) => {
-            if text.len() > MANY {
-                return Err(TOO_LONG);
-            }
-            next_event(alloc, Some(text), line, broke)
-        }
-    }
-}
-
-/// The same, tried again where it found no memory, which is told at a line behind those before.
-fn next_in_the_end<'a>(alloc: Global, left: &Left<'a>) -> Result<Option<Found<'a>>, ScriptFault> {
-    match next(alloc, left) {
-        Err(fault) if fault.kind == ScriptFaultKind::NoMemory && fault.line > left.line => {
-            next(alloc, left)
-        }
-        found => found,
-    }
-}
-
-/// Makes the event, and writes its answer. Where it stood, and what is left behind it.
-fn make<'a>(
-    alloc: Global,
-    world: &mut World,
-    found: &Found<'a>,
-    output: &mut Vec<u8>,
-) -> Option<Left<'a>> {
-    let answer = step_in_the_end(world, alloc, &found.event);
-    if is_out_of_memory(&answer) || push_answer(output, &answer).is_err() {
-        return None;
-    }
-    Some(Left {
-        rest: found.rest,
-        line: found.line,
-        broke: None,
-    })
-}
-
-/// Makes the events that are left, and tells the fault behind them.
-fn make_all(
-    alloc: Global,
-    world: &mut World,
-    first: Left<'_>,
-    output: &mut Vec<u8>,
-) -> Option<ScriptFault> {
-    let mut left = first;
-    for _ in 0..MANY {
-        match next_in_the_end(alloc, &left) {
-            Ok(None) => return None,
-            Ok(Some(found)) => {
-                let behind = make(alloc, world, &found, output)?;
-                left.rest = behind.rest;
-                left.line = behind.line;
-            }
-            Err(fault) => return Some(fault),
-        }
-    }
-    None
-}
-
-/// Plays what was read, event by event, and tells the fault in which it ends.
-fn play_opened(alloc: Global, input: &Input, output: &mut Vec<u8>) -> Option<ScriptFault> {
-    match open_in_the_end(alloc, input) {
-        Ok(None) => None,
-        Ok(Some(opened)) => {
-            let Opened {
-                mut world,
-                rest,
-                line,
-                broke,
-            } = opened;
-            make_all(alloc, &mut world, Left { rest, line, broke }, output)
-        }
-        Err(fault) => Some(fault),
-    }
-}
 
 /// Reads a text to its end, or, where it ends so, to where reading broke off.
 fn read(alloc: Global, script: &[u8], broke: Option<ScriptFaultKind>) -> Input {
@@ -148,7 +29,7 @@ fn goes_opened(
     let script = behind(alloc, before, row.0)?;
     let input = read(alloc, script.as_slice(), broke);
     let mut output = Vec::new(alloc);
-    let fault = play_opened(alloc, &input, &mut output);
+    let fault = play_by_event(alloc, &input, &mut output);
     if output.as_slice() != row.2 {
         return Ok(false);
     }
@@ -247,7 +128,7 @@ fn read_in_the_end(alloc: Global) -> Input {
 }
 
 fn is_played(alloc: Global, input: &Input, output: &mut Vec<u8>) -> bool {
-    let fault = play_opened(alloc, input, output);
+    let fault = play_by_event(alloc, input, output);
     fault.is_none() && output.as_slice() == ANSWERS
 }
 

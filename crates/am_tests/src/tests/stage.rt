@@ -66,8 +66,7 @@ pub fn stage_in_the_end(alloc: Global) -> Result<Stage, Fail> {
     Ok(Stage { world, line })
 }
 
-/// Whether the event was refused for want of memory.
-pub fn is_out_of_memory(answer: &Answer) -> bool {
+fn is_out_of_memory(answer: &Answer) -> bool {
     match answer {
         Answer::Refused { errno } => *errno == Errno::NoMemory,
         _ => false,
@@ -75,7 +74,7 @@ pub fn is_out_of_memory(answer: &Answer) -> bool {
 }
 
 /// Makes a step, and makes it again where it found no memory.
-pub fn step_in_the_end(world: &mut World, alloc: Global, event: &Event) -> Answer {
+fn step_in_the_end(world: &mut World, alloc: Global, event: &Event) -> Answer {
     let before = world.trace().len();
     let answer = world.step(alloc, event);
     if is_out_of_memory(&answer) && world.trace().len() == before {

@@ -2,10 +2,9 @@
 //! each allocation refused in turn: an event that finds no memory leaves its world as the other is,
 //! which has had the events before it alone.
 
+use crate::by_event::{found_none, make_in_the_end};
 use crate::tests::memory::room_in_the_end;
-use crate::tests::stage::{
-    Step, event_in_the_end, is_out_of_memory, step_in_the_end, world_in_the_end, write,
-};
+use crate::tests::stage::{Step, event_in_the_end, world_in_the_end, write};
 use am_names::{FsId, GroupId, JobId, MountRow, Name, Position, Token, Trigger, WalkerId};
 use am_world::{Answer, Attached, Event, Job, QueuedRow, WalkRow, World};
 use std::alloc::Global;
@@ -183,7 +182,7 @@ fn twins_in_the_end(alloc: Global) -> Result<Twins, Fail> {
 /// are, and it is made again; else there is no answer.
 fn make_first(twins: &mut Twins, alloc: Global, event: &Event) -> Option<Answer> {
     let answer = twins.one.step(alloc, event);
-    if !is_out_of_memory(&answer) {
+    if !found_none(&answer) {
         return Some(answer);
     }
     if !are_same(&twins.one, &twins.other) {
@@ -194,7 +193,7 @@ fn make_first(twins: &mut Twins, alloc: Global, event: &Event) -> Option<Answer>
 
 /// Whether the other of two worlds answers the event so too, and then both are the same.
 fn follows(twins: &mut Twins, alloc: Global, event: &Event, answer: &Answer) -> bool {
-    let other = step_in_the_end(&mut twins.other, alloc, event);
+    let other = make_in_the_end(&mut twins.other, alloc, event);
     other.is_same(answer) && are_same(&twins.one, &twins.other)
 }
 
