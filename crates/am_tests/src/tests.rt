@@ -9,6 +9,7 @@ mod examples;
 mod faults;
 mod head_faults;
 mod heads;
+mod lent;
 mod memory;
 mod opened;
 mod played;
