@@ -123,7 +123,8 @@ struct Before {
 /// Whether a script goes so that ends in this line, of which so many bytes are left.
 fn goes_cut(alloc: Global, before: &Before, cut: &Cut, len: usize) -> Result<bool, Fail> {
     let (fault, answer) = cut.at(len);
-    let left = &cut.line()[..len.min(cut.line().len())];
+    let line = cut.line();
+    let left = &line[..len.min(line.len())];
     let script = behind(alloc, before.script.as_slice(), left)?;
     let answers = behind(alloc, before.answers.as_slice(), answer)?;
     goes(alloc, script.as_slice(), fault, answers.as_slice())
