@@ -28,6 +28,6 @@ build:
 pages:
 	@tools/check_pages
 
-# the merge gate, the examples and the pages
+# the merge gate, refused allocations, the examples and the pages
 test:
 	@tools/test.sh

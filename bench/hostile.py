@@ -8,7 +8,7 @@ usage: bench/hostile.py FIRST COUNT     plays the scripts of these seeds
        bench/hostile.py digits          changes each of the 608 digits of a packet that is delivered
 
 PROGRAM in the environment is the path of the program; else it is the one that tools/program.sh
-prints. Each run must end in 20 seconds with status 0 and nothing on standard error, or with status 1
+prints. Each run must end in 20 seconds of processor time with status 0 and nothing on standard error, or with status 1
 and one line there that tells a fault and its line; each event before that line must have an answer,
 which is one of the lines that answers may be, and nothing else may be written.
 """
@@ -16,6 +16,8 @@ which is one of the lines that answers may be, and nothing else may be written.
 import os
 import random
 import re
+import resource
+import signal
 import struct
 import subprocess
 import sys
@@ -24,7 +26,9 @@ import time
 from concurrent.futures import ThreadPoolExecutor
 
 HERE = os.path.dirname(os.path.abspath(__file__))
+# Of processor time, and then on the clock: other programs may want the processors too.
 SECONDS = 20
+PATIENCE = 600
 LONGEST = 8192
 MANY = 64 << 20
 
@@ -304,16 +308,26 @@ def problem(text, status, wrote, said):
     return None
 
 
+def ran(program, text):
+    """The status of a run on a script, and what it wrote to each of its two outputs."""
+    pipes = {"stdin": subprocess.PIPE, "stdout": subprocess.PIPE, "stderr": subprocess.PIPE}
+    with subprocess.Popen([program, "script"], **pipes) as run:
+        resource.prlimit(run.pid, resource.RLIMIT_CPU, (SECONDS, SECONDS))
+        try:
+            wrote, said = run.communicate(text, timeout=PATIENCE)
+        except subprocess.TimeoutExpired:
+            run.kill()
+            wrote, said = run.communicate()
+    return run.returncode, wrote, said
+
+
 def play(program, seed):
     text = Script(seed).bytes()
-    try:
-        ran = subprocess.run(
-            [program, "script"], input=text, capture_output=True, timeout=SECONDS, check=False
-        )
-    except subprocess.TimeoutExpired:
+    status, wrote, said = ran(program, text)
+    if status in (-signal.SIGXCPU, -signal.SIGKILL):
         return seed, 0, "it hangs"
-    wrong = problem(text, ran.returncode, ran.stdout, ran.stderr)
-    return seed, ran.returncode, wrong and wrong[:300]
+    wrong = problem(text, status, wrote, said)
+    return seed, status, wrong and wrong[:300]
 
 
 def play_all(program, first, count):
@@ -379,8 +393,7 @@ def play_digits(program):
         wanted += b"err 12\n"
     script += f"deliver 1 {digits}\n".encode()
     wanted += b"job 1\n"
-    run = subprocess.run([program, "script"], input=script, capture_output=True, timeout=SECONDS, check=False)
-    if (run.returncode, run.stdout, run.stderr) != (0, wanted, b""):
+    if ran(program, script) != (0, wanted, b""):
         print("hostile: a packet with another digit is taken up, or the packet isn't", file=sys.stderr)
         return 1
     print(f"{len(digits)} packets with another digit are refused, and the packet is taken up")

@@ -1,13 +1,19 @@
 /* Loaded before a program's own libraries (LD_PRELOAD), makes its REFUSE-th call of malloc or
    realloc fail, and says at its end how many calls there were and whether one was refused. A
-   program with threads ends by _exit, where no destructor runs. */
-#define _GNU_SOURCE
-#include <dlfcn.h>
-#include <errno.h>
-#include <stdio.h>
-#include <stdlib.h>
-#include <sys/syscall.h>
-#include <unistd.h>
+   program with threads ends by _exit, where no destructor runs. It is built without the C library's
+   headers, which a machine with the toolchain may lack. */
+
+typedef unsigned long size_t;
+enum { ENOMEM = 12, SYS_exit_group = 231 };
+#define NULL ((void *)0)
+#define RTLD_NEXT ((void *)-1l)
+
+void *dlsym(void *handle, const char *name);
+int *__errno_location(void);
+char *getenv(const char *name);
+long atol(const char *text);
+int dprintf(int file, const char *form, ...);
+long syscall(long number, ...);
 
 static long calls, chosen = -1;
 static int refused;
@@ -21,21 +27,21 @@ static int is_refused(void) {
     if (chosen == 0 || calls != chosen)
         return 0;
     refused = 1;
-    errno = ENOMEM;
+    *__errno_location() = ENOMEM;
     return 1;
 }
 
 void *malloc(size_t size) {
     static void *(*real)(size_t);
     if (!real)
-        real = dlsym(RTLD_NEXT, "malloc");
+        real = (void *(*)(size_t))dlsym(RTLD_NEXT, "malloc");
     return is_refused() ? NULL : real(size);
 }
 
 void *realloc(void *old, size_t size) {
     static void *(*real)(void *, size_t);
     if (!real)
-        real = dlsym(RTLD_NEXT, "realloc");
+        real = (void *(*)(void *, size_t))dlsym(RTLD_NEXT, "realloc");
     return is_refused() ? NULL : real(old, size);
 }
 
@@ -44,11 +50,11 @@ __attribute__((destructor)) static void say(void) {
     if (said)
         return;
     said = 1;
-    fprintf(stderr, "calls=%ld refused=%d\n", calls, refused);
+    dprintf(2, "calls=%ld refused=%d\n", calls, refused);
 }
 
 void _exit(int status) {
     say();
-    syscall(SYS_exit_group, status);
+    syscall(SYS_exit_group, (long)status);
     __builtin_unreachable();
 }

@@ -19,10 +19,10 @@ use Rattle.am_script.proofs.Heads.{IsLeft, went, begun, taken_within, ended}
 use Rattle.am_script.proofs.Going.{events_step}
 use Rattle.am_script.proofs.Inputs.{cut_script, cut_text}
 
-no_room : (count number : ℕ) (fault : ScriptFault) → fault ≡ fault_at number NoMemory → number ≤ count → NoRoom count fault
-no_room count number fault e fits =
+no_room : (count number : ℕ) (fault : ScriptFault) → fault ≡ fault_at number NoMemory → 1 ≤ number → number ≤ count → NoRoom count fault
+no_room count number fault e first fits =
     let line : fault.line ≡ number = ap (λ (f : ScriptFault). f.line) e in
-    record { kind = ap (λ (f : ScriptFault). f.kind) e; line = omega (arith, line, fits) }
+    record { kind = ap (λ (f : ScriptFault). f.kind) e; first = omega (arith, line, first); line = omega (arith, line, fits) }
 
 -- a line of the head stops the script, or there is no memory for it
 pub head_stops_it : (broke : Option ScriptFaultKind) (all : List (List ℕ)) (head : HeadSoFar) (number : ℕ) (rest : List (List ℕ)) (line : List ℕ) (lines : List (List ℕ)) (fault : ScriptFault) →
@@ -30,15 +30,15 @@ pub head_stops_it : (broke : Option ScriptFaultKind) (all : List (List ℕ)) (he
 head_stops_it broke all head number rest line lines fault left e (inl t) =
     inl (ap (script_by broke all) (went all head number rest line lines (Stops fault) left e t))
 head_stops_it broke all head number rest line lines fault left e (inr none) =
-    inr (no_room (length all) (number + 1) fault none (taken_within all head number rest line lines left e))
+    inr (no_room (length all) (number + 1) fault none (omega arith) (taken_within all head number rest line lines left e))
 
 more_room : (few many : ℕ) (script : Script) (fault : ScriptFault) → few ≤ many → NotOpened few script fault → NotOpened many script fault
 more_room few many script fault fits (inl e) = inl e
-more_room few many script fault fits (inr none) = inr (record { kind = none.kind; line = omega (arith, none.line, fits) })
+more_room few many script fault fits (inr none) = inr (record { kind = none.kind; first = none.first; line = omega (arith, none.line, fits) })
 
-pub begin_fails_it : (before : ℕ) (read : Result Opening ScriptFault) (told : Told) (fault : ScriptFault) → IsFaultOr before fault read → NotOpened before (begun_by read told) fault
-begin_fails_it before read told fault (inl f) = inl (ap (λ (r : Result Opening ScriptFault). begun_by r told) f)
-begin_fails_it before read told fault (inr none) = inr (no_room before before fault none (omega arith))
+pub begin_fails_it : (before : ℕ) (read : Result Opening ScriptFault) (told : Told) (fault : ScriptFault) → 1 ≤ before → IsFaultOr before fault read → NotOpened before (begun_by read told) fault
+begin_fails_it before read told fault first (inl f) = inl (ap (λ (r : Result Opening ScriptFault). begun_by r told) f)
+begin_fails_it before read told fault first (inr none) = inr (no_room before before fault none first (omega arith))
 
 -- what is opened behind the head is the whole script
 pub begins_opened : (broke : Option ScriptFaultKind) (all : List (List ℕ)) (head next : HeadSoFar) (number : ℕ) (rest : List (List ℕ)) (line : List ℕ) (lines : List (List ℕ)) (r : Result (Option Opened) ScriptFault) →

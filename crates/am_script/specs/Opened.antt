@@ -28,6 +28,7 @@ OpenedAs broke script (Some opened) = IsOpened broke script opened
 -- memory ran out, which is told at one of so many lines
 pub record NoRoom (lines : ℕ) (fault : ScriptFault) : Type 0 where
   pub kind : fault.kind ≡ NoMemory
+  pub first : 1 ≤ fault.line
   pub line : fault.line ≤ lines
 
 -- the head of the script, of so many lines, has this fault, or memory ran out

@@ -1,6 +1,6 @@
 //! What is read.
 
-ghost use Rattle.std.specs.Prelude.{◌<◌, ◌^◌, IfNone, IfSome, vec_len};
+ghost use Rattle.std.specs.Prelude.{◌<◌, ◌≤◌, ◌*◌, ◌^◌, IfNone, IfSome, vec_len};
 ghost use Rattle.std.specs.Io.KnownBytes.{Consumes, IsAtEnd};
 ghost use Rattle.am_script.specs.Read.{IsReadFault};
 
@@ -21,11 +21,22 @@ pub fn read_all<R: Read>(alloc: Global, reader: &mut R) -> Input
     ensures read { Consumes (R.remaining reader.old) (R.remaining reader.new) result.text.items }
     ensures end { IfNone result.broke (IsAtEnd (R.remaining reader.new)) }
     ensures kind { IfSome result.broke IsReadFault }
+    ensures most { vec_len result.text ≤ 4096 * 4294967295 }
     ensures short { vec_len result.text < 2 ^ 62 }
+{
+    read_at_most(alloc, reader, u32::MAX)
+}
+
+/// The same, but the reader is asked at most so many times, for 4,096 bytes each time.
+pub fn read_at_most<R: Read>(alloc: Global, reader: &mut R, most: u32) -> Input
+    ensures read { Consumes (R.remaining reader.old) (R.remaining reader.new) result.text.items }
+    ensures end { IfNone result.broke (IsAtEnd (R.remaining reader.new)) }
+    ensures kind { IfSome result.broke IsReadFault }
+    ensures most { vec_len result.text ≤ 4096 * most }
 {
     let mut text = Vec::new(alloc);
     let mut buffer = [0; 4096];
-    for _ in 0..u32::MAX {
+    for _ in 0..most {
         // Room comes first, so that nothing is read that can't be kept.
         if let Err(_) = text.reserve(4096) {
             return Input {

@@ -9,7 +9,7 @@ ghost use Rattle.am_script.specs.Script.{script_from, script_of, events_from, be
 
 use crate::fault::{ScriptFault, ScriptFaultKind};
 use crate::heading::Heading;
-pub use crate::input::{Input, read_all};
+pub use crate::input::{Input, read_all, read_at_most};
 use crate::line::{cut_line, split_line};
 use crate::play::cut_kind;
 use crate::turn::read_line;
@@ -92,7 +92,8 @@ fn begin_behind<'a>(
     line: u64,
     broke: Option<ScriptFaultKind>,
 ) -> Result<Option<Opened<'a>>, ScriptFault>
-    requires { line + size_in (option_copied rest) ≤ 2 ^ 63 }
+    requires first { 1 ≤ line }
+    requires fits { line + size_in (option_copied rest) ≤ 2 ^ 63 }
     ensures ok { IfOk result (OpenedAs broke (begun_by (opening_read heading.said) (events_from broke line (lines_in (option_copied rest.entry))))) }
     ensures err { IfErr result (NotOpened line (begun_by (opening_read heading.said) (events_from broke line (lines_in (option_copied rest.entry))))) }
 {

@@ -2,9 +2,22 @@
 //! finds no memory has changed nothing, and all goes on when it is made again.
 
 use crate::tests::stage::{Stage, Step, holds, plays, stage_in_the_end};
+use crate::tests::twins::plays_twice;
 use std::alloc::Global;
 use std::process::Abort;
 use std::test::Fail;
+
+static ONE_KEY: [Step; 9] = [
+    Step(b"attach /auto", b"fs 2 attach 1 mount 2\n"),
+    Step(b"walk 7 0 /auto/home 100 room", b"wait 1\n"),
+    Step(b"resume 7 100 room", b"err 11\n"),
+    Step(b"deliver 1", b"job 1\n"),
+    Step(b"act 1 ok", b"did mkdir\n"),
+    Step(b"act 1 ok", b"did mount 3\n"),
+    Step(b"act 1 ok", b"did record\n"),
+    Step(b"act 1 ok", b"did reply\n"),
+    Step(b"resume 7 101 room", b"at 3 /\n"),
+];
 
 pub static ONE_MOUNT_FOR_TWO_NAMESPACES: [Step; 12] = [
     Step(b"change 0 / shared", b"ok\n"),
@@ -78,31 +91,29 @@ static A_SLAVE_ON_A_SHARED_MOUNT: [Step; 12] = [
     Step(b"umount 0 /a/y", b"gone 8 9 10 11\n"),
 ];
 
-/// The events are answered so on a new world.
-fn plays_anew(rt: &impl Abort, alloc: Global, steps: &[Step]) -> Result<(), Fail> {
-    let mut stage = stage_in_the_end(alloc)?;
-    plays(rt, alloc, &mut stage, steps);
-    Ok(())
+#[test]
+fn one_key(rt: HostRuntime) -> Result<(), Fail> {
+    plays_twice(&rt, rt.alloc(), &ONE_KEY)
 }
 
 #[test]
 fn one_mount_for_two_namespaces(rt: HostRuntime) -> Result<(), Fail> {
-    plays_anew(&rt, rt.alloc(), &ONE_MOUNT_FOR_TWO_NAMESPACES)
+    plays_twice(&rt, rt.alloc(), &ONE_MOUNT_FOR_TWO_NAMESPACES)
 }
 
 #[test]
 fn an_expiry_beside_a_walk(rt: HostRuntime) -> Result<(), Fail> {
-    plays_anew(&rt, rt.alloc(), &AN_EXPIRY_BESIDE_A_WALK)
+    plays_twice(&rt, rt.alloc(), &AN_EXPIRY_BESIDE_A_WALK)
 }
 
 #[test]
 fn a_death_and_reattachment(rt: HostRuntime) -> Result<(), Fail> {
-    plays_anew(&rt, rt.alloc(), &A_DEATH_AND_REATTACHMENT)
+    plays_twice(&rt, rt.alloc(), &A_DEATH_AND_REATTACHMENT)
 }
 
 #[test]
 fn a_slave_on_a_shared_mount(rt: HostRuntime) -> Result<(), Fail> {
-    plays_anew(&rt, rt.alloc(), &A_SLAVE_ON_A_SHARED_MOUNT)
+    plays_twice(&rt, rt.alloc(), &A_SLAVE_ON_A_SHARED_MOUNT)
 }
 
 /// One mount for two namespaces is left and expires, and a walk waits for that.
