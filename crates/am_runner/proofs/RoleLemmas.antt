@@ -128,6 +128,13 @@ tries_more role reply a b c first last = record {
   told = tells_more reply first.made last.made (accepted_goes_on role first.made first.each) last.told;
 }
 
+-- an event that found no memory each time
+pub tries_end : (role : Receipt → Type 0) (a b : List Receipt) → Adds (Accepted role) a b
+    → Tries role replies.NoMemory a b
+tries_end role a b adds =
+    tries_more role replies.NoMemory a b b adds
+    (tries_none role replies.NoMemory b (All-nil GoesOn))
+
 -- an act that is done, behind others
 pub acts_more : (job : ℕ) (reply : Reply) (a b c : List Receipt) → is_done reply ≡ true
     → Adds (Accepted (IsActOf job)) a b → Tries (IsActOf job) reply b c
@@ -205,9 +212,13 @@ services_more : (taken : List (ℕ × Note)) (x : ℕ × Note) (m n : List Recei
     → IsService x n → AreServices (taken ++ x ∷ []) (m ++ n)
 services_more [] x m n none one =
     (n, [], ap (λ xs. xs ++ n) none ∙ sym (append-nil n), one, refl)
-services_more (y ∷ taken) x m n (first, rest, is, service, more) one =
-    (first, rest ++ n, ap (λ xs. xs ++ n) is ∙ append_assoc first rest n, service,
-    services_more taken x rest n more one)
+services_more (y ∷ taken) x m n (first, rest, is, service, more) one = (
+  first,
+  rest ++ n,
+  ap (λ xs. xs ++ n) is ∙ append_assoc first rest n,
+  service,
+  services_more taken x rest n more one,
+)
 
 pub serves_more : (got got' got'' : List (ℕ × Note)) (x : ℕ × Note) (a b c : List Receipt)
     → Serves got got' a b → got'' ≡ got' ++ x ∷ [] → Makes (IsService x) b c → Serves got got'' a c

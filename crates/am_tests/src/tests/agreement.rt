@@ -1,8 +1,6 @@
 //! Whether kernel and daemon agree on a file system, judged by what a world lends.
 
-use am_names::{
-    Attach, FsId, JobId, MemberRow, MountId, MountRow, Name, Token, Trigger,
-};
+use am_names::{Attach, FsId, JobId, MemberRow, MountId, MountRow, Name, Token, Trigger};
 use am_state::Obs;
 use am_world::{Autofs, Record, World};
 use std::alloc::{AllocError, Global};

@@ -17,8 +17,8 @@ use std::process::Abort;
 use std::sync::Wait;
 use std::sync::ledger::Blank;
 use std::test::*;
-use std::thread::Threads;
 use std::thread;
+use std::thread::Threads;
 
 /// Every key is mounted from one place.
 const ANY: &[u8] = b"* srv:/any";

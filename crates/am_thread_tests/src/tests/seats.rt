@@ -28,7 +28,10 @@ pub fn seats_of<L: Opened>(
 }
 
 /// The callers that are back in their seats.
-pub fn callers_of<L: Opened>(alloc: Global, seats: Vec<Seat<L>>) -> Result<Vec<Caller<L>>, AllocError> {
+pub fn callers_of<L: Opened>(
+    alloc: Global,
+    seats: Vec<Seat<L>>,
+) -> Result<Vec<Caller<L>>, AllocError> {
     let mut back = Vec::with_capacity(alloc, seats.len())?;
     for seat in seats {
         let Seat { caller, taker: _ } = seat;
