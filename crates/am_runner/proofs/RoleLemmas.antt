@@ -1,5 +1,5 @@
 -- What a role adds, and what it adds to that.
-use Rattle.std.proofs.Common.{◌≡◌, ◌⊎◌, ℕ, suc, ◌+◌, List, [], ◌∷◌, ◌++◌, Some, length, refl, sym, ap, ◌∙◌, subst, append_assoc, inl, inr, arith, true, false, All, Any}
+use Rattle.std.proofs.Common.{◌≡◌, ℕ, suc, ◌+◌, List, [], ◌∷◌, ◌++◌, Some, length, refl, sym, ap, ◌∙◌, subst, append_assoc, inl, inr, arith, true, All, Any}
 use Rattle.std.proofs.lemmas.Bool.{false≢true}
 use Rattle.std.proofs.lemmas.Grind.{common_steps}
 use Rattle.std.proofs.lemmas.List.{append-nil}
@@ -12,23 +12,11 @@ use Rattle.am_pipe.specs.declared.note.Note.{Note}
 use Rattle.am_shared.specs.declared.caller.Receipt.{Receipt}
 use Rattle.am_runner.specs.declared.calls.Reply.{Reply}
 use Rattle.am_runner.specs.declared.calls.Reply.TheVariants as replies
-use Rattle.am_runner.specs.Roles.{Adds, Makes, IsOf, Resumes, IsOfRound, IsOfExpirer, GoesOn, EndAtRefusal, IsDelivery, IsActOf, AreActs, IsService, AreServices, Serves, Tries, Calls, Tells, is_done, IsBreak, AreBreaks, Breaks}
-
-pub any_left : {X : Type 0} (P : X → Type 0) (xs ys : List X) → Any P xs → Any P (xs ++ ys)
-any_left P xs ys (k, x, within, is, holds) =
-    (k, x, grind (arith, common_steps), grind (arith, common_steps), holds)
+use Rattle.am_runner.specs.Roles.{Adds, Makes, IsOf, Resumes, IsOfRound, IsOfExpirer, GoesOn, EndAtRefusal, IsActOf, AreActs, IsService, AreServices, Serves, Tries, Calls, Tells, is_done, IsBreak, AreBreaks, Breaks}
 
 pub any_right : {X : Type 0} (P : X → Type 0) (xs ys : List X) → Any P ys → Any P (xs ++ ys)
 any_right P xs ys (k, x, within, is, holds) =
     (length xs + k, x, grind (arith, common_steps), grind (arith, common_steps), holds)
-
-pub any_as : {X : Type 0} (P Q : X → Type 0) (xs : List X) → ((x : X) → P x → Q x) → Any P xs
-    → Any Q xs
-any_as P Q xs f (k, x, within, is, holds) = (k, x, within, is, f x holds)
-
-pub any_of_all : {X : Type 0} (P Q : X → Type 0) (xs : List X) → All P xs → Any Q xs
-    → Any (λ x. P x × Q x) xs
-any_of_all P Q xs all (k, x, within, is, holds) = (k, x, within, is, (subst P is (all k x within), holds))
 
 pub adds_none : (P : Receipt → Type 0) (a : List Receipt) → Adds P a a
 adds_none P a = record { made = []; behind = sym (append-nil a); each = All-nil P }

@@ -9,6 +9,6 @@ pub returns-in-NoMemory : goal.returns-in-NoMemory
 returns-in-NoMemory g c =
     service_call c.args.taken.now c.call.result c.args.caller.now c.call.new.caller c.call.ensures
 
-pub returns-in_default : goal.returns-in_default
-returns-in_default g c =
+pub returns : goal.returns
+returns g c =
     service_call c.args.taken.now c.call.result c.args.caller.now c.call.new.caller c.call.ensures
