@@ -50,6 +50,20 @@ impl Daemon {
         }
     }
 
+    /// What is mounted on each trigger, in order of making.
+    pub fn book(&self) -> &Book
+        ensures { result.now.rows ≡ self.now.book }
+    {
+        &self.book
+    }
+
+    /// The jobs that have not ended, in order of delivery.
+    pub fn jobs(&self) -> &[Job]
+        ensures { result.now ≡ self.now.jobs }
+    {
+        self.jobs.as_slice()
+    }
+
     /// What the book says of a trigger.
     pub fn record(&self, trigger: &Trigger) -> Option<Record>
         ensures { result ≡ record_of self.now.book trigger.now }

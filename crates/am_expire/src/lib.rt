@@ -6,4 +6,4 @@ pub mod expiry;
 pub mod uses;
 
 pub use expiry::pick;
-pub use uses::Uses;
+pub use uses::{Use, Uses};

@@ -1,6 +1,6 @@
 //! Which walkers are inside which mounts.
 
-ghost use Rattle.std.specs.Prelude.{◌≡◌, ◌<◌, ◌^◌, Some, IfOk, OnOk, OnErr};
+ghost use Rattle.std.specs.Prelude.{◌≡◌, ◌<◌, ◌^◌, length, slice_get, Some, IfOk, OnOk, OnErr};
 ghost use Rattle.am_names.specs.Errno.{RefusedAs, RefusedOnlyAs};
 ghost use Rattle.am_expire.specs.Uses.{no_uses, mount_of, use_count, is_used, enter_refusal, entered, IsInToo, HasOneMore, leave_refusal, left, IsInNoMore};
 ghost use Rattle.am_expire.specs.Counts.{counted, CountsOneMore};
@@ -87,6 +87,24 @@ impl Uses {
         ensures { result ≡ mount_of self.now walker }
     {
         self.mounts.get(&walker.0).copied()
+    }
+
+    /// How many walkers are inside mounts.
+    pub fn len(&self) -> usize
+        ensures { result ≡ length self.now }
+    {
+        self.mounts.len()
+    }
+
+    /// The walker at this place, in order of entering, and the mount that it is inside of.
+    pub fn row(&self, index: usize) -> Option<Use>
+        ensures { result ≡ slice_get self.now index }
+    {
+        let (walker, mount) = self.mounts.get_index(index)?;
+        Some(Use {
+            walker: WalkerId(*walker),
+            mount: *mount,
+        })
     }
 
     /// How many walkers are inside the mount.

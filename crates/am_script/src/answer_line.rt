@@ -29,7 +29,7 @@ pub fn push_answer(line: &mut Vec<u8>, answer: &Answer) -> Result<(), AllocError
 
 /// Puts the line of an answer behind what the output keeps.
 #[tactic(auto, using(crate::proofs::Pieces::puts_two))]
-pub(crate) fn put_answer<W: Write>(output: &mut Output, answer: &Answer, writer: &mut W)
+pub fn put_answer<W: Write>(output: &mut Output, answer: &Answer, writer: &mut W)
     ensures { Puts output.old output.new (answer_line answer.now) (W.contents writer.old) (W.contents writer.new) }
 {
     put_text(output, answer, writer);
@@ -98,14 +98,16 @@ fn put_text<W: Write>(output: &mut Output, answer: &Answer, writer: &mut W)
     }
 }
 
-fn put_word<W: Write>(output: &mut Output, word: &[u8], writer: &mut W)
+/// Puts a text out.
+pub fn put_word<W: Write>(output: &mut Output, word: &[u8], writer: &mut W)
     ensures { Puts output.old output.new word.now (W.contents writer.old) (W.contents writer.new) }
 {
     output.put(word, writer);
 }
 
+/// Puts a text and a number out.
 #[tactic(auto, using(crate::proofs::Pieces::puts_two))]
-fn put_number<W: Write>(output: &mut Output, word: &[u8], number: u64, writer: &mut W)
+pub fn put_number<W: Write>(output: &mut Output, word: &[u8], number: u64, writer: &mut W)
     ensures { Puts output.old output.new (word.now ++ decimal number) (W.contents writer.old) (W.contents writer.new) }
 {
     let mut digits = Buffer::new();
@@ -119,8 +121,9 @@ fn put_errno<W: Write>(output: &mut Output, word: &[u8], errno: Errno, writer: &
     put_number(output, word, u64::from(errno.number()), writer)
 }
 
+/// Puts numbers of mounts out, each behind a blank.
 #[tactic(auto, using(crate::proofs::Pieces::puts_none))]
-fn put_mounts<W: Write>(output: &mut Output, mounts: &Mounts, writer: &mut W)
+pub fn put_mounts<W: Write>(output: &mut Output, mounts: &Mounts, writer: &mut W)
     ensures { Puts output.old output.new (mounts_text mounts.now) (W.contents writer.old) (W.contents writer.new) }
 {
     for mount in mounts.as_slice() {
@@ -140,7 +143,8 @@ fn put_kind<W: Write>(output: &mut Output, kind: Kind, writer: &mut W)
     }
 }
 
-fn put_place<W: Write>(output: &mut Output, place: &Place, writer: &mut W)
+/// Puts a path out: one slash for the root, else each name behind a slash.
+pub fn put_place<W: Write>(output: &mut Output, place: &Place, writer: &mut W)
     ensures { Puts output.old output.new (place_text place.now) (W.contents writer.old) (W.contents writer.new) }
 {
     let text = place.text();
@@ -151,7 +155,8 @@ fn put_place<W: Write>(output: &mut Output, place: &Place, writer: &mut W)
     put_word(output, text, writer);
 }
 
-fn put_entry<W: Write>(output: &mut Output, entry: &Option<Record>, writer: &mut W)
+/// Puts out what the book says of a trigger.
+pub fn put_entry<W: Write>(output: &mut Output, entry: &Option<Record>, writer: &mut W)
     ensures { Puts output.old output.new (entry_text entry.now) (W.contents writer.old) (W.contents writer.new) }
 {
     match entry {

@@ -15,7 +15,7 @@ mod line;
 mod line_words;
 mod maps;
 mod number;
-mod output;
+pub mod output;
 pub mod play;
 mod section;
 mod turn;

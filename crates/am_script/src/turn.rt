@@ -76,7 +76,7 @@ pub fn read_line(alloc: Global, line: &[u8]) -> Result<Option<Event>, ScriptFaul
 
 /// Gives to the writer what is kept, and answers how the script ends: as it says, but where the
 /// writer doesn't take all, at the first answer that it didn't take whole.
-pub(crate) fn close<W: Write>(
+pub fn close<W: Write>(
     output: &mut Output,
     ended: Result<Summary, ScriptFault>,
     writer: &mut W,

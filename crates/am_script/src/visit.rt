@@ -12,6 +12,7 @@ use crate::heading::Heading;
 pub use crate::input::{Input, read_all, read_at_most};
 use crate::line::{cut_line, split_line};
 use crate::play::cut_kind;
+pub use crate::turn::close;
 use crate::turn::read_line;
 use am_world::{Event, World};
 use std::alloc::Global;

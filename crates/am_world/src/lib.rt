@@ -13,7 +13,8 @@ mod views;
 mod walkers;
 pub mod world;
 
-pub use am_job::{Act, Job};
+pub use am_expire::{Use, Uses};
+pub use am_job::{Act, Book, Job};
 pub use am_kernel::{Attached, WalkRow};
 pub use am_machine::{Answer, Event};
 pub use am_state::{Obs, QueuedRow, Record};

@@ -12,7 +12,8 @@ ghost use Rattle.am_trigger.specs.Rows.{autofs_of};
 ghost use Rattle.am_wait.specs.Rows.{token_of, tokens_of, wait_of, waiters_of};
 
 use crate::world::World;
-use am_job::Job;
+use am_expire::Uses;
+use am_job::{Book, Job};
 use am_kernel::{Attached, WalkRow};
 use am_names::{
     FsId, GroupId, JobId, MemberRow, MountId, MountRow, Token, Trigger, WaitRow, WalkerId,
@@ -106,6 +107,13 @@ impl World {
         self.halves.kernel.walks()
     }
 
+    /// The walkers that are inside mounts, in order of entering.
+    pub fn uses(&self) -> &Uses
+        ensures { result.now ≡ self.now.kernel.uses }
+    {
+        self.halves.kernel.uses()
+    }
+
     /// The mount that a walker is inside of.
     pub fn mount_of(&self, walker: WalkerId) -> Option<MountId>
         ensures { result ≡ mount_of self.now.kernel.uses walker }
@@ -118,6 +126,20 @@ impl World {
         ensures { result.now ≡ self.now.kernel.queue }
     {
         self.halves.kernel.packets()
+    }
+
+    /// The daemon's book, in order of making.
+    pub fn book(&self) -> &Book
+        ensures { result.now.rows ≡ self.now.daemon.book }
+    {
+        self.halves.daemon.book()
+    }
+
+    /// The daemon's jobs that have not ended, in order of delivery.
+    pub fn jobs(&self) -> &[Job]
+        ensures { result.now ≡ self.now.daemon.jobs }
+    {
+        self.halves.daemon.jobs()
     }
 
     /// What the daemon's book says of a trigger.

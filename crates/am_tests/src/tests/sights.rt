@@ -2,7 +2,7 @@
 
 use crate::tests::stage::{Step, plays, stage_in_the_end};
 use am_names::{Errno, FsId, GroupId, JobId, MountId, Token, Trigger, WalkerId};
-use am_world::{Record, World};
+use am_world::{Record, Use, World};
 use std::alloc::{AllocError, Global};
 use std::process::Abort;
 use std::test::Fail;
@@ -60,12 +60,34 @@ fn is_inside(world: &World) -> bool {
     world.mount_of(WalkerId(7)) == Some(MountId(3)) && world.mount_of(WalkerId(8)).is_none()
 }
 
+fn is_seventh(row: &Use) -> bool {
+    row.walker == WalkerId(7) && row.mount == MountId(3)
+}
+
+fn has_uses(world: &World) -> bool {
+    let is_first = match world.uses().row(0) {
+        Some(row) => is_seventh(&row),
+        None => false,
+    };
+    is_first && world.uses().len() == 1 && world.uses().row(1).is_none()
+}
+
 fn has_queue(world: &World) -> bool {
     world.packets().len() == 1 && world.job(JobId(1)).is_none() && world.job(JobId(2)).is_none()
 }
 
 fn trigger_of(world: &World) -> Option<Trigger> {
     world.trigger_of(Token(2))
+}
+
+/// The daemon has ended its job, and its book says what is mounted.
+fn has_rows_of_the_daemon(world: &World) -> bool {
+    let is_mounted = match world.book().row(0) {
+        Some(row) => row.entry == Record::Mounted { mount: MountId(3) }
+            && row.trigger.fs == FsId(2),
+        None => false,
+    };
+    is_mounted && world.book().len() == 1 && world.jobs().is_empty()
 }
 
 /// The book has no record of what isn't mounted yet.
@@ -96,8 +118,8 @@ fn has_tokens_in_the_end(alloc: Global, world: &World) -> Result<bool, Errno> {
 
 fn lends(rt: &impl Abort, world: &World) {
     let mounts = has_mounts(world) && has_rows(world) && has_members(world);
-    let kernel = has_autofs(world) && has_walkers(world) && is_inside(world);
-    let daemon = has_queue(world) && has_book(world);
+    let kernel = has_autofs(world) && has_walkers(world) && is_inside(world) && has_uses(world);
+    let daemon = has_queue(world) && has_book(world) && has_rows_of_the_daemon(world);
     assert!(rt; mounts && kernel && daemon);
 }
 
