@@ -141,7 +141,7 @@ class World:
     def in_ns(self, ns):
         return sorted(m for m in self.rows if self.rows[m][0] == ns)
 
-    def copy(self, ns):
+    def copy(self, ns, reduced):
         mounts = self.in_ns(ns)
         if not mounts:
             return ENOENT
@@ -153,7 +153,11 @@ class World:
         for m in mounts:
             _, parent, place, fs, origin = self.rows[m]
             self.rows[copy[m]] = [self.last_ns, copy.get(parent), place, fs, origin]
-            self.members[copy[m]] = list(self.members[m])
+            group, master, unbindable = self.members[m]
+            if reduced and group is not None:
+                self.members[copy[m]] = [None, group, False]
+            else:
+                self.members[copy[m]] = [group, master, unbindable]
         self.last += len(mounts)
         return [100 + self.last_ns] + self.came(before)
 
@@ -172,6 +176,7 @@ def step(world, random):
     a = mounts[random.below(len(mounts))]
     b = mounts[random.below(len(mounts))]
     n = random.below(4)
+    reduced = random.below(2) == 1
     if op <= 1:
         return world.add(a, n % 2, 2, [None, None, False])
     if op <= 3:
@@ -181,7 +186,7 @@ def step(world, random):
     if op == 6:
         takes, answer = [100 + m for m in world.takes(a)], world.umount(a, b)
         return takes + (answer if isinstance(answer, list) else [answer])
-    return world.copy(n) if n % 2 == 0 else world.drop(n, b)
+    return world.copy(n, reduced) if n % 2 == 0 else world.drop(n, b)
 
 
 def main(words):

@@ -1,13 +1,14 @@
 -- Copies and drops of namespaces (sharedsubtree.rst, 5g). What walkers, daemons and tokens do belongs
 -- to file systems, and isn't copied.
 use Rattle.std.specs.Prelude.{ℕ}
+use Rattle.am_propagate.specs.declared.subtree.namespace.CopyForm.{CopyForm}
 use Rattle.am_propagate.specs.Namespaces.{with_copy}
 use Rattle.am_propagate.specs.Removed.{mounts_in}
 use Rattle.am_kernel.specs.State.{KernelState}
 use Rattle.am_kernel.specs.DaemonMounts.{without_mounts}
 
-abbrev pub with_namespace : ℕ → KernelState → KernelState
-with_namespace ns k = record k { table = with_copy ns k.table }
+abbrev pub with_namespace : CopyForm → ℕ → KernelState → KernelState
+with_namespace form ns k = record k { table = with_copy form ns k.table }
 
 abbrev pub without_namespace : ℕ → KernelState → KernelState
 without_namespace ns k = without_mounts (mounts_in k.table ns) k

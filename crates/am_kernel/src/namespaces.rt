@@ -11,21 +11,28 @@ ghost use Rattle.am_kernel.specs.Namespaces.{with_namespace, without_namespace};
 
 use crate::kernel::Kernel;
 use am_names::{Errno, MountId, Mounts, NsId};
+use am_propagate::CopyForm;
 use am_state::Obs;
 use std::alloc::Global;
 
 impl Kernel {
-    /// A new namespace with a copy of each mount of this one (sharedsubtree.rst, 5g).
-    pub fn ns_copy(&mut self, alloc: Global, ns: NsId, seen: &mut Vec<Obs>) -> Result<NsId, Errno>
+    /// A new namespace with a copy of each mount of this one (sharedsubtree.rst, 5g), in this form.
+    pub fn ns_copy(
+        &mut self,
+        alloc: Global,
+        ns: NsId,
+        form: CopyForm,
+        seen: &mut Vec<Obs>,
+    ) -> Result<NsId, Errno>
         ensures refusal { RefusedAs (copy_refusal ns self.old.table) result }
         ensures number { IfOk result (λ to. to ≡ self.old.table.last_ns + 1) }
-        ensures ok { OnOk result (self.new ≡ with_namespace ns self.old) }
+        ensures ok { OnOk result (self.new ≡ with_namespace form ns self.old) }
         ensures shown { OnOk result (seen.new.items ≡ seen.old.items ++ Mounted (new_mounts self.old.table (length (mounts_in self.old.table ns))) ∷ []) }
         ensures err { OnErr result (self.new ≡ self.old) }
         ensures unseen { OnErr result (seen.new.items ≡ seen.old.items) }
     {
         seen.reserve(1)?;
-        let made = self.subtree.copy_namespace(alloc, ns)?;
+        let made = self.subtree.copy_namespace(alloc, ns, form)?;
         let mounts = Mounts::of(made.mounts);
         seen.push_reserved(Obs::Mounted { mounts });
         Ok(made.ns)

@@ -11,6 +11,7 @@ use Rattle.am_state.specs.declared.kernel_row.QueuedRow.{QueuedRow}
 use Rattle.am_state.specs.declared.obs.Obs.{Obs}
 use Rattle.am_group.specs.declared.kind.Change.{Change}
 use Rattle.am_group.specs.declared.kind.Kind.{Kind}
+use Rattle.am_propagate.specs.declared.subtree.namespace.CopyForm.{CopyForm}
 use Rattle.am_propagate.specs.Namespaces.{copy_refusal}
 use Rattle.am_propagate.specs.Removed.{drop_refusal}
 use Rattle.am_wait.specs.Rows.{token_of}
@@ -131,9 +132,9 @@ kind_told (Some kind) s = told s _
 kind : (s : State) (ns : ℕ) (path : List (List ℕ)) → Keeps s (administration.kind_outcome s ns path)
 kind s ns path = unless_refused (kind_refusal s.kernel ns path) s _ (kind_told (kind_at s.kernel ns path) s)
 
-copy_namespace : (s : State) (ns : ℕ) → Keeps s (administration.copy_outcome s ns)
-copy_namespace s ns =
-    unless_refused (copy_refusal ns s.kernel.table) s _ (kernel_changes s _ _ (with_namespace ns s.kernel) (same s.kernel (with_namespace ns s.kernel) refl refl refl))
+copy_namespace : (s : State) (ns : ℕ) (form : CopyForm) → Keeps s (administration.copy_outcome s ns form)
+copy_namespace s ns form =
+    unless_refused (copy_refusal ns s.kernel.table) s _ (kernel_changes s _ _ (with_namespace form ns s.kernel) (same s.kernel (with_namespace form ns s.kernel) refl refl refl))
 
 drop_namespace : (s : State) (ns : ℕ) → Keeps s (administration.drop_outcome s ns)
 drop_namespace s ns =
@@ -258,7 +259,7 @@ outcome_keeps s (events.Bind ns source target) along = bind s ns source target
 outcome_keeps s (events.Umount ns path) along = umount s ns path
 outcome_keeps s (events.Change ns path change) along = change_mount s ns path change
 outcome_keeps s (events.Kind ns path) along = kind s ns path
-outcome_keeps s (events.CopyNamespace ns) along = copy_namespace s ns
+outcome_keeps s (events.CopyNamespace ns form) along = copy_namespace s ns form
 outcome_keeps s (events.DropNamespace ns) along = drop_namespace s ns
 outcome_keeps s (events.Walk walker ns path now pipe) along = goes_on _ s (moment_of s now) (λ h. begins.walk pipe s.kernel (first_begin walker ns path (moment_of s now)) along h)
 outcome_keeps s (events.Resume walker now pipe) along = goes_on _ s (moment_of s now) (λ h. begins.resume pipe s.kernel walker (moment_of s now) h)

@@ -6,6 +6,7 @@ use Rattle.std.proofs.lemmas.Bool.Decides.{nat_tests}
 use Rattle.am_names.specs.declared.row.MountRow.{MountRow}
 use Rattle.am_group.specs.declared.kind.Change.{Change}
 use Rattle.am_mount.specs.Rows.{RiseFrom, mount_row, is_among, is_in}
+use Rattle.am_propagate.specs.declared.subtree.namespace.CopyForm.{CopyForm}
 use Rattle.am_propagate.specs.MountTable.{MountTable}
 use Rattle.am_propagate.specs.Invariant.{IsWhole}
 use Rattle.am_propagate.specs.Removed.{mounts_in}
@@ -60,11 +61,11 @@ copied_from number ns to low (x ∷ rows) rises m row e = kept (is_in ns x) refl
     kept true k e ih = here (number x.mount == m) k e ih
     kept false k e ih = later (ih e)
 
-module _ (t : MountTable) (whole : IsWhole t) (ns : ℕ) where
+module _ (t : MountTable) (whole : IsWhole t) (ns : ℕ) (form : CopyForm) where
   abbrev number : ℕ → ℕ
   number = copy_number t.last_mount (mounts_in t ns)
 
-  copies : (m : ℕ) (row : MountRow) → mount_row (with_copy ns t).rows m ≡ Some row → (mount_row t.rows m ≡ Some row) ⊎ ((t.last_mount < m) × IsCopyOf t.rows (copy_number t.last_mount (mounts_in t ns)) ns (t.last_ns + 1) 0 row)
+  copies : (m : ℕ) (row : MountRow) → mount_row (with_copy form ns t).rows m ≡ Some row → (mount_row t.rows m ≡ Some row) ⊎ ((t.last_mount < m) × IsCopyOf t.rows (copy_number t.last_mount (mounts_in t ns)) ns (t.last_ns + 1) 0 row)
   copies m row e = ⊎_elim
       (λ old. inl old)
       (λ new.
@@ -75,25 +76,25 @@ module _ (t : MountTable) (whole : IsWhole t) (ns : ℕ) where
       inr (omega arith, from))
       (joined_row t.rows (map (row_in number (t.last_ns + 1)) (filter (is_in ns) t.rows)) m row e)
 
-  copy_grows : Grows t (with_copy ns t)
+  copy_grows : Grows t (with_copy form ns t)
   copy_grows = record {
     stays = first_stays t.rows (map (row_in number (t.last_ns + 1)) (filter (is_in ns) t.rows));
     came = λ m row e. ⊎_elim (λ old. inl old) (λ new. inr new.0) (copies m row e);
-    law = with_copy_law t whole ns;
+    law = with_copy_law t whole ns form;
   }
 
-  copy_above : (m : ℕ) (row : MountRow) → t.last_mount < m → mount_row (with_copy ns t).rows m ≡ Some row → IsCopyOf t.rows (copy_number t.last_mount (mounts_in t ns)) ns (t.last_ns + 1) 0 row
+  copy_above : (m : ℕ) (row : MountRow) → t.last_mount < m → mount_row (with_copy form ns t).rows m ≡ Some row → IsCopyOf t.rows (copy_number t.last_mount (mounts_in t ns)) ns (t.last_ns + 1) 0 row
   copy_above m row above e = ⊎_elim
       (λ old. let le : m ≤ t.last_mount = (whole.numbered m row old).0 in absurd (omega arith))
       (λ new. new.1)
       (copies m row e)
 
   -- a copy is in the new namespace, and so is the mount on which it is mounted
-  copy_free : (x : ℕ) (old : MountRow) → mount_row t.rows x ≡ Some old → StaysFree t (with_copy ns t) x
+  copy_free : (x : ℕ) (old : MountRow) → mount_row t.rows x ≡ Some old → StaysFree t (with_copy form ns t) x
   copy_free x old is_old = record {
     free = λ m row place above e at.
         let from = copy_above m row above e in
-        let parent = parent_row (with_copy ns t) (with_copy_whole t whole ns) m x row place e at in
+        let parent = parent_row (with_copy form ns t) (with_copy_whole t whole ns form) m x row place e at in
         let same : parent.0 ≡ old = same_row (sym parent.1 ∙ copy_grows.stays x old is_old) in
         let here : row.ns ≡ t.last_ns + 1 = ap (λ (r : MountRow). r.ns) from.is_row in
         let there : old.ns ≡ row.ns = ap (λ (r : MountRow). r.ns) (sym same) ∙ parent.2 in
@@ -101,16 +102,16 @@ module _ (t : MountTable) (whole : IsWhole t) (ns : ℕ) where
         omega arith;
   }
 
-pub copied_places : (k : KernelState) → PlacesAgree k → (ns : ℕ) → PlacesAgree (with_namespace ns k)
-copied_places k h ns = grown_places k (with_copy ns k.table) k.last_fs h (with_copy_whole k.table h.whole ns) (copy_grows k.table h.whole ns) (omega arith)
+pub copied_places : (k : KernelState) → PlacesAgree k → (ns : ℕ) (form : CopyForm) → PlacesAgree (with_namespace form ns k)
+copied_places k h ns form = grown_places k (with_copy form ns k.table) k.last_fs h (with_copy_whole k.table h.whole ns form) (copy_grows k.table h.whole ns form) (omega arith)
     (λ m row above e.
-    let from = copy_above k.table h.whole ns m row above e in
+    let from = copy_above k.table h.whole ns form m row above e in
     let same : row.fs ≡ from.source.fs = ap (λ (r : MountRow). r.fs) from.is_row in
     let le : from.source.fs ≤ k.last_fs = h.given_fs from.source.mount from.source from.is_source in
     omega arith)
     (λ g a is.
     let its = h.locations g a is in
-    free_alone k.table (with_copy ns k.table) a.location (copy_free k.table h.whole ns a.location its.row its.is_row))
+    free_alone k.table (with_copy form ns k.table) a.location (copy_free k.table h.whole ns form a.location its.row its.is_row))
 
 -- ---- a mount's state
 

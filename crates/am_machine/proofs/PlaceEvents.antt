@@ -10,6 +10,7 @@ use Rattle.am_group.specs.declared.kind.Kind.{Kind}
 use Rattle.am_group.specs.declared.membership.Membership.TheVariants.{Private}
 use Rattle.am_group.specs.Invariant.{AddsNoReceivers}
 use Rattle.am_mount.specs.Rows.{mount_row}
+use Rattle.am_propagate.specs.declared.subtree.namespace.CopyForm.{CopyForm}
 use Rattle.am_propagate.specs.MountTable.{MountTable, is_mount, mountpoint_of}
 use Rattle.am_propagate.specs.Added as added
 use Rattle.am_propagate.specs.Added.{fs_in, membership_of}
@@ -215,8 +216,8 @@ kind s ns path = unless_refused (kind_refusal s.kernel ns path) s _ (λ may. kin
 
 -- ---- namespaces
 
-pub copy_namespace : (s : State) (ns : ℕ) → Holds s (administration.copy_outcome s ns)
-copy_namespace s ns = unless_refused (copy_refusal ns s.kernel.table) s _ (λ may. record { holds = λ h. record { places = copied_places s.kernel h ns; law = with_copy_law s.kernel.table h.whole ns } })
+pub copy_namespace : (s : State) (ns : ℕ) (form : CopyForm) → Holds s (administration.copy_outcome s ns form)
+copy_namespace s ns form = unless_refused (copy_refusal ns s.kernel.table) s _ (λ may. record { holds = λ h. record { places = copied_places s.kernel h ns form; law = with_copy_law s.kernel.table h.whole ns form } })
 
 other_ns : (ns : ℕ) → (ns == 0) ≡ false → ns ≢ 0
 other_ns ns h same = let no : true ≡ false = sym (eq-eqb ns 0 same) ∙ h in cc

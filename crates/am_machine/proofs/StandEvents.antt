@@ -8,6 +8,7 @@ use Rattle.am_group.specs.declared.kind.Change.{Change}
 use Rattle.am_group.specs.declared.kind.Kind.{Kind}
 use Rattle.am_group.specs.declared.membership.Membership.TheVariants.{Private}
 use Rattle.am_mount.specs.Rows.{mount_row}
+use Rattle.am_propagate.specs.declared.subtree.namespace.CopyForm.{CopyForm}
 use Rattle.am_propagate.specs.MountTable.{is_mount, mountpoint_of}
 use Rattle.am_propagate.specs.Added as added
 use Rattle.am_propagate.specs.Added.{fs_in, membership_of}
@@ -156,9 +157,9 @@ kind s ns path = unless_refused (kind_refusal s.kernel ns path) s _ (λ e. kind_
 
 -- ---- namespaces
 
-pub copy_namespace : (s : State) (ns : ℕ) → PlacesAgree s.kernel → Stands s (administration.copy_outcome s ns)
-copy_namespace s ns p =
-    unless_refused (copy_refusal ns s.kernel.table) s _ (λ e. kernel_changes s _ _ (with_namespace ns s.kernel) (same_attachments s.kernel (with_namespace ns s.kernel) (λ fs. refl) (omega arith)) (copied_still s.kernel p ns))
+pub copy_namespace : (s : State) (ns : ℕ) (form : CopyForm) → PlacesAgree s.kernel → Stands s (administration.copy_outcome s ns form)
+copy_namespace s ns form p =
+    unless_refused (copy_refusal ns s.kernel.table) s _ (λ e. kernel_changes s _ _ (with_namespace form ns s.kernel) (same_attachments s.kernel (with_namespace form ns s.kernel) (λ fs. refl) (omega arith)) (copied_still s.kernel p ns form))
 
 other_ns : (ns : ℕ) → (ns == 0) ≡ false → ns ≢ 0
 other_ns ns h same = let no : true ≡ false = sym (eq-eqb ns 0 same) ∙ h in cc

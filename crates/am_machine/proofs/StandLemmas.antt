@@ -29,7 +29,7 @@ outcome_keeps s (events.Bind ns source target) given tokens planned places book 
 outcome_keeps s (events.Umount ns path) given tokens planned places book on = from.umount s ns path places
 outcome_keeps s (events.Change ns path change) given tokens planned places book on = from.change_mount s ns path change
 outcome_keeps s (events.Kind ns path) given tokens planned places book on = from.kind s ns path
-outcome_keeps s (events.CopyNamespace ns) given tokens planned places book on = from.copy_namespace s ns places
+outcome_keeps s (events.CopyNamespace ns form) given tokens planned places book on = from.copy_namespace s ns form places
 outcome_keeps s (events.DropNamespace ns) given tokens planned places book on = from.drop_namespace s ns places
 outcome_keeps s (events.Walk walker ns path now pipe) given tokens planned places book on =
     let begin = first_begin walker ns path (moment_of s now) in

@@ -8,6 +8,7 @@ use Rattle.am_group.specs.declared.membership.Membership.{Membership}
 use Rattle.am_group.specs.Propagation.{Receives}
 use Rattle.am_mount.specs.Rows.{mount_row, is_among, is_in, IsAt}
 use Rattle.am_mount.proofs.RowLemmas.{RiseFrom-filter}
+use Rattle.am_propagate.specs.declared.subtree.namespace.CopyForm.{CopyForm}
 use Rattle.am_propagate.specs.MountTable.{MountTable, is_mount, mountpoint_in, mountpoint_of}
 use Rattle.am_propagate.specs.Invariant.{IsWhole}
 use Rattle.am_propagate.specs.Added.{mounted, HasSource}
@@ -61,19 +62,19 @@ copied_ns number to (x ∷ rows) m row e = by (number x.mount == m) e (copied_ns
 abbrev copies_in : MountTable → ℕ → List MountRow
 copies_in t ns = map (row_in (copy_number t.last_mount (mounts_in t ns)) (t.last_ns + 1)) (filter (is_in ns) t.rows)
 
-pub copied_still : (k : KernelState) → PlacesAgree k → (ns : ℕ) → Still k (with_namespace ns k)
-copied_still k h ns = table_still k (with_namespace ns k) refl h.whole.rising whole.rising
+pub copied_still : (k : KernelState) → PlacesAgree k → (ns : ℕ) (form : CopyForm) → Still k (with_namespace form ns k)
+copied_still k h ns form = table_still k (with_namespace form ns k) refl h.whole.rising whole.rising
     (λ fs a is m row place e at. first_stays k.table.rows (copies_in k.table ns) m row e)
     (λ fs a is m row place e at. ⊎_elim (λ old. old) (λ new. absurd (apart fs a is m row place e at new)) (joined_row k.table.rows (copies_in k.table ns) m row e))
   where
-    whole : IsWhole (with_copy ns k.table)
-    whole = with_copy_whole k.table h.whole ns
+    whole : IsWhole (with_copy form ns k.table)
+    whole = with_copy_whole k.table h.whole ns form
 
     -- what comes is in the new namespace, and so is the mount on which it is mounted
-    apart : (fs : ℕ) (a : Autofs) → autofs_of k.triggers fs ≡ Some a → (m : ℕ) (row : MountRow) (place : List (List ℕ)) → mount_row (with_copy ns k.table).rows m ≡ Some row → IsAt a.location place row → mount_row (copies_in k.table ns) m ≡ Some row → ⊥
+    apart : (fs : ℕ) (a : Autofs) → autofs_of k.triggers fs ≡ Some a → (m : ℕ) (row : MountRow) (place : List (List ℕ)) → mount_row (with_copy form ns k.table).rows m ≡ Some row → IsAt a.location place row → mount_row (copies_in k.table ns) m ≡ Some row → ⊥
     apart fs a is m row place e at new =
         let its = h.locations fs a is in
-        let parent = parent_row (with_copy ns k.table) whole m a.location row place e at in
+        let parent = parent_row (with_copy form ns k.table) whole m a.location row place e at in
         let same : parent.0 ≡ its.row = same_row (sym parent.1 ∙ first_stays k.table.rows (copies_in k.table ns) a.location its.row its.is_row) in
         let here : row.ns ≡ k.table.last_ns + 1 = copied_ns _ (k.table.last_ns + 1) (filter (is_in ns) k.table.rows) m row new in
         let there : its.row.ns ≡ row.ns = ap (λ (r : MountRow). r.ns) (sym same) ∙ parent.2 in

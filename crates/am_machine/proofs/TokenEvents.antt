@@ -8,6 +8,7 @@ use Rattle.am_names.specs.declared.row.Position.{Position}
 use Rattle.am_names.specs.declared.trigger.Trigger.{Trigger}
 use Rattle.am_group.specs.declared.kind.Change.{Change}
 use Rattle.am_group.specs.declared.kind.Kind.{Kind}
+use Rattle.am_propagate.specs.declared.subtree.namespace.CopyForm.{CopyForm}
 use Rattle.am_propagate.specs.Namespaces.{copy_refusal}
 use Rattle.am_propagate.specs.Removed.{drop_refusal}
 use Rattle.am_trigger.specs.Rows.{autofs_of}
@@ -112,10 +113,10 @@ kind_told (Some kind) s = told s _
 pub kind : (s : State) (ns : ℕ) (path : List (List ℕ)) → Keeps s (administration.kind_outcome s ns path)
 kind s ns path = unless_refused (kind_refusal s.kernel ns path) s _ (λ e. kind_told (kind_at s.kernel ns path) s)
 
-pub copy_namespace : (s : State) (ns : ℕ) → Keeps s (administration.copy_outcome s ns)
-copy_namespace s ns =
+pub copy_namespace : (s : State) (ns : ℕ) (form : CopyForm) → Keeps s (administration.copy_outcome s ns form)
+copy_namespace s ns form =
     unless_refused (copy_refusal ns s.kernel.table) s _ (λ e.
-    changes_quietly s _ _ (with_namespace ns s.kernel) (record { tokens = refl; last_token = refl; queue = refl; attached = refl; autofs = refl; last_attach = refl; more_fs = omega arith }))
+    changes_quietly s _ _ (with_namespace form ns s.kernel) (record { tokens = refl; last_token = refl; queue = refl; attached = refl; autofs = refl; last_attach = refl; more_fs = omega arith }))
 
 pub drop_namespace : (s : State) (ns : ℕ) → Keeps s (administration.drop_outcome s ns)
 drop_namespace s ns =

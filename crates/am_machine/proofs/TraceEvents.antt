@@ -9,6 +9,7 @@ use Rattle.am_names.specs.declared.trigger.Trigger.{Trigger}
 use Rattle.am_state.specs.declared.obs.Obs.TheVariants as seen
 use Rattle.am_group.specs.declared.kind.Change.{Change}
 use Rattle.am_group.specs.declared.kind.Kind.{Kind}
+use Rattle.am_propagate.specs.declared.subtree.namespace.CopyForm.{CopyForm}
 use Rattle.am_propagate.specs.MountTable.{MountTable, is_mount, mountpoint_of}
 use Rattle.am_propagate.specs.Added.{new_mounts}
 use Rattle.am_propagate.specs.Namespaces.{copy_refusal}
@@ -121,11 +122,11 @@ kind s ns path = unless_refused (kind_refusal s.kernel ns path) s _ (λ e. kind_
 
 -- ---- namespaces
 
-pub copy_namespace : (s : State) (ns : ℕ) → Follows s (administration.copy_outcome s ns)
-copy_namespace s ns =
+pub copy_namespace : (s : State) (ns : ℕ) (form : CopyForm) → Follows s (administration.copy_outcome s ns form)
+copy_namespace s ns form =
     let made = new_mounts s.kernel.table (length (mounts_in s.kernel.table ns)) in
     unless_refused (copy_refusal ns s.kernel.table) s _ (λ e.
-    kernel_changes s _ (seen.Mounted made ∷ []) (with_namespace ns s.kernel) (mounted_plain made) (record { rows = λ jobs. refl; limits = refl }))
+    kernel_changes s _ (seen.Mounted made ∷ []) (with_namespace form ns s.kernel) (mounted_plain made) (record { rows = λ jobs. refl; limits = refl }))
 
 drop_free : (uses : ℕ → Bool) (ns : ℕ) (t : MountTable) → drop_refusal uses ns t ≡ None → list_any uses (mounts_in t ns) ≡ false
 drop_free uses ns t h =

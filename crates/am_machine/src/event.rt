@@ -7,6 +7,7 @@ use am_group::Change;
 use am_names::{
     Attach, FsId, JobId, NsId, PipeState, Place, Seconds, Status, Token, Trigger, WalkerId,
 };
+use am_propagate::CopyForm;
 use std::alloc::{AllocError, Global};
 
 /// One event. The moment is handed in with those that have one, and may go back.
@@ -43,9 +44,10 @@ pub enum Event {
         ns: NsId,
         path: Place,
     },
-    /// A namespace is copied.
+    /// A namespace is copied, in full or reduced.
     CopyNamespace {
         ns: NsId,
+        form: CopyForm,
     },
     /// A namespace is dropped.
     DropNamespace {
@@ -152,7 +154,10 @@ impl Event {
                 ns: *ns,
                 path: path.copy(alloc)?,
             },
-            Event::CopyNamespace { ns } => Event::CopyNamespace { ns: *ns },
+            Event::CopyNamespace { ns, form } => Event::CopyNamespace {
+                ns: *ns,
+                form: *form,
+            },
             Event::DropNamespace { ns } => Event::DropNamespace { ns: *ns },
             Event::Walk {
                 walker,
@@ -231,7 +236,7 @@ impl Event {
             Event::Umount { ns, path } => is_umount(*ns, path, other),
             Event::Change { ns, path, change } => is_change(*ns, path, *change, other),
             Event::Kind { ns, path } => is_kind(*ns, path, other),
-            Event::CopyNamespace { ns } => is_copy_namespace(*ns, other),
+            Event::CopyNamespace { ns, form } => is_copy_namespace(*ns, *form, other),
             Event::DropNamespace { ns } => is_drop_namespace(*ns, other),
             Event::Walk {
                 walker,
@@ -341,11 +346,14 @@ fn is_kind(ns: NsId, path: &Place, event: &Event) -> bool
     }
 }
 
-fn is_copy_namespace(ns: NsId, event: &Event) -> bool
-    ensures { IsTrue result ↔ (events.CopyNamespace ns ≡ event.now) }
+fn is_copy_namespace(ns: NsId, form: CopyForm, event: &Event) -> bool
+    ensures { IsTrue result ↔ (events.CopyNamespace ns form ≡ event.now) }
 {
     match event {
-        Event::CopyNamespace { ns: same_ns } => ns == *same_ns,
+        Event::CopyNamespace {
+            ns: same_ns,
+            form: same_form,
+        } => ns == *same_ns && form == *same_form,
         _ => false,
     }
 }

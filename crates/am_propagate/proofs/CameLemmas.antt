@@ -13,6 +13,7 @@ use Rattle.am_propagate.specs.MountTable.{MountTable, all_mounts}
 use Rattle.am_propagate.specs.Invariant.{IsWhole}
 use Rattle.am_propagate.specs.Added.{rows_at, numbers_after, new_mounts, mounts_made, mounted}
 use Rattle.am_propagate.specs.Removed.{mounts_in}
+use Rattle.am_propagate.specs.declared.subtree.namespace.CopyForm.{CopyForm}
 use Rattle.am_propagate.specs.Namespaces.{count_up_to, copy_number, row_in, with_copy}
 use Rattle.am_propagate.proofs.NamespaceLemmas.{row_keys, mounts_rise}
 
@@ -62,7 +63,7 @@ copies_are last low (x ∷ xs) rises =
     ap (λ (n : ℕ). n ∷ map (copy_number last (x ∷ xs)) xs) here ∙
     ap (λ (ns : List ℕ). (last + 1) ∷ ns) (one_more last x xs xs (x + 1) (omega arith) rises.1 ∙ copies_are (last + 1) (x + 1) xs rises.1)
 
-pub copied_came : (t : MountTable) → IsWhole t → (ns : ℕ) → all_mounts (with_copy ns t) ≡ all_mounts t ++ new_mounts t (length (mounts_in t ns))
-copied_came t whole ns =
+pub copied_came : (t : MountTable) → IsWhole t → (ns : ℕ) (form : CopyForm) → all_mounts (with_copy form ns t) ≡ all_mounts t ++ new_mounts t (length (mounts_in t ns))
+copied_came t whole ns form =
     map-append (λ (r : MountRow). r.mount) t.rows (map (row_in (copy_number t.last_mount (mounts_in t ns)) (t.last_ns + 1)) (filter (is_in ns) t.rows)) ∙
-    ap (λ (xs : List ℕ). all_mounts t ++ xs) (row_keys t whole ns ∙ copies_are t.last_mount 0 (mounts_in t ns) (mounts_rise t whole ns))
+    ap (λ (xs : List ℕ). all_mounts t ++ xs) (row_keys t whole ns form ∙ copies_are t.last_mount 0 (mounts_in t ns) (mounts_rise t whole ns form))

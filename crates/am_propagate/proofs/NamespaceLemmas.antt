@@ -1,5 +1,5 @@
 -- A copied namespace keeps the invariant.
-use Rattle.std.proofs.Common.{◌≡◌, ◌≢◌, ◌≤◌, ◌<◌, ◌+◌, ℕ, Bool, true, false, cond, eqb, ◌||◌, List, [], ◌∷◌, ◌++◌, length, Option, Some, None, refl, sym, ap, subst, inl, inr, ⊎_elim, ◌∙◌, arith}
+use Rattle.std.proofs.Common.{◌≡◌, ◌≢◌, ◌≤◌, ◌<◌, ◌+◌, ◌⊎◌, ℕ, Bool, true, false, cond, eqb, ◌||◌, List, [], ◌∷◌, ◌++◌, length, Option, Some, None, refl, sym, ap, subst, inl, inr, ⊎_elim, ◌∙◌, arith}
 use Rattle.std.specs.Prelude.{filter, find, map, nat_lt, nat_le, option_map, is_some, ◌==◌}
 use Rattle.std.proofs.lemmas.List.{length-map}
 use Rattle.std.proofs.lemmas.List.Folds.{find-append}
@@ -10,6 +10,7 @@ use Rattle.am_names.specs.declared.row.MemberRow.{MemberRow}
 use Rattle.am_names.specs.declared.row.GroupRow.{GroupRow}
 use Rattle.am_names.specs.declared.row.Position.{Position}
 use Rattle.am_group.specs.Propagation.{member_row, group_in, slave_in, group_of}
+use Rattle.am_group.specs.Changes.{slave_from}
 use Rattle.am_group.specs.Copies.{added, all_added}
 use Rattle.am_group.specs.Scan.{numbers}
 use Rattle.am_group.specs.Invariant.{RiseFrom, IsSound, AddsNoReceivers}
@@ -25,7 +26,9 @@ use Rattle.am_propagate.specs.MountTable.{MountTable}
 use Rattle.am_propagate.specs.Invariant.{IsWhole}
 use Rattle.am_propagate.specs.Removed.{mounts_in}
 use Rattle.am_propagate.specs.Grown.{grown}
-use Rattle.am_propagate.specs.Namespaces.{count_up_to, copy_number, position_in, row_in, member_in, with_copy}
+use Rattle.am_propagate.specs.declared.subtree.namespace.CopyForm.{CopyForm}
+use Rattle.am_propagate.specs.declared.subtree.namespace.CopyForm.TheVariants.{Full, Reduced}
+use Rattle.am_propagate.specs.Namespaces.{count_up_to, copy_number, position_in, row_in, in_form, member_in, with_copy}
 use Rattle.am_propagate.proofs.RemovalLemmas.{keys-filter, some_of, same_there, among_has}
 use Rattle.am_propagate.proofs.GrowthLemmas.{ComesWell, grown_whole}
 
@@ -192,7 +195,34 @@ same_bool false true f g = absurd (let no : false ≡ true = g refl in cc)
 row_same : {x y : MountRow} → Some x ≡ Some y → x ≡ y
 row_same e = cc
 
-module _ (t : MountTable) (whole : IsWhole t) (ns : ℕ) where
+-- a copy is in no peer group that its source isn't in
+form_group : (form : CopyForm) (x : MemberRow) (g : ℕ) → (in_form form x).group ≡ Some g → x.group ≡ Some g
+form_group Full x g e = e
+form_group Reduced x g e = go x.group refl e
+  where
+    go : (o : Option ℕ) → x.group ≡ o → (slave_from o x).group ≡ Some g → x.group ≡ Some g
+    go None f e = e
+    go (Some h) f e = absurd cc
+
+-- the master of a copy is that of its source, or the peer group that its source is in
+form_master : (form : CopyForm) (x : MemberRow) (g : ℕ) → (in_form form x).master ≡ Some g → (x.group ≡ Some g) ⊎ (x.master ≡ Some g)
+form_master Full x g e = inr e
+form_master Reduced x g e = go x.group refl e
+  where
+    go : (o : Option ℕ) → x.group ≡ o → (slave_from o x).master ≡ Some g → (x.group ≡ Some g) ⊎ (x.master ≡ Some g)
+    go None f e = inr e
+    go (Some h) f e = inl (f ∙ e)
+
+-- the home of a copy is that of its source
+form_home : (form : CopyForm) (x : MemberRow) → home_where (in_form form x).group (in_form form x).master ≡ home_where x.group x.master
+form_home Full x = refl
+form_home Reduced x = go x.group refl
+  where
+    go : (o : Option ℕ) → x.group ≡ o → home_where (slave_from o x).group (slave_from o x).master ≡ home_where x.group x.master
+    go None f = refl
+    go (Some h) f = ap (λ (o : Option ℕ). home_where o x.master) (sym f)
+
+module _ (t : MountTable) (whole : IsWhole t) (ns : ℕ) (form : CopyForm) where
   abbrev mounts : List ℕ
   mounts = mounts_in t ns
 
@@ -206,7 +236,7 @@ module _ (t : MountTable) (whole : IsWhole t) (ns : ℕ) where
   kept = filter (λ row. is_among (mounts_in t ns) row.mount) t.groups.members
 
   abbrev members : List MemberRow
-  members = map (member_in (copy_number t.last_mount (mounts_in t ns))) (filter (λ row. is_among (mounts_in t ns) row.mount) t.groups.members)
+  members = map (member_in form (copy_number t.last_mount (mounts_in t ns))) (filter (λ row. is_among (mounts_in t ns) row.mount) t.groups.members)
 
   among_is : (x : MountRow) → mount_row t.rows x.mount ≡ Some x → is_among (mounts_in t ns) x.mount ≡ is_in ns x
   among_is x e = same_bool (is_among (mounts_in t ns) x.mount) (is_in ns x)
@@ -256,10 +286,10 @@ module _ (t : MountTable) (whole : IsWhole t) (ns : ℕ) where
       ap (map (λ (r : MountRow). r.mount)) (same_rows (λ (r : MountRow). r.mount) (λ r. is_among (mounts_in t ns) r.mount) (is_in ns) 0 t.rows (rises_rows 0 t.rows whole.rising) among_is)
 
   member_keys : numbers members ≡ map (copy_number t.last_mount (mounts_in t ns)) (mounts_in t ns)
-  member_keys = map_keys (λ (r : MemberRow). r.mount) (member_in (copy_number t.last_mount (mounts_in t ns))) (copy_number t.last_mount (mounts_in t ns)) (λ x. refl) kept ∙ ap (map (copy_number t.last_mount (mounts_in t ns))) kept_keys
+  member_keys = map_keys (λ (r : MemberRow). r.mount) (member_in form (copy_number t.last_mount (mounts_in t ns))) (copy_number t.last_mount (mounts_in t ns)) (λ x. refl) kept ∙ ap (map (copy_number t.last_mount (mounts_in t ns))) kept_keys
 
-  member_from : (m : ℕ) (r : MemberRow) → member_row members m ≡ Some r → (x : MemberRow) × (0 ≤ x.mount) × (member_row t.groups.members x.mount ≡ Some x) × (is_among (mounts_in t ns) x.mount ≡ true) × (r ≡ member_in (copy_number t.last_mount (mounts_in t ns)) x)
-  member_from m r e = mapped_from (λ (x : MemberRow). x.mount) (member_in (copy_number t.last_mount (mounts_in t ns))) (λ x. is_among (mounts_in t ns) x.mount) 0 t.groups.members (rises_members 0 t.groups.members whole.sound.orderly.rising) m r e
+  member_from : (m : ℕ) (r : MemberRow) → member_row members m ≡ Some r → (x : MemberRow) × (0 ≤ x.mount) × (member_row t.groups.members x.mount ≡ Some x) × (is_among (mounts_in t ns) x.mount ≡ true) × (r ≡ member_in form (copy_number t.last_mount (mounts_in t ns)) x)
+  member_from m r e = mapped_from (λ (x : MemberRow). x.mount) (member_in form (copy_number t.last_mount (mounts_in t ns))) (λ x. is_among (mounts_in t ns) x.mount) 0 t.groups.members (rises_members 0 t.groups.members whole.sound.orderly.rising) m r e
 
   row_from : (m : ℕ) (r : MountRow) → mount_row rows m ≡ Some r → (x : MountRow) × (0 ≤ x.mount) × (mount_row t.rows x.mount ≡ Some x) × (is_in ns x ≡ true) × (r ≡ row_in (copy_number t.last_mount (mounts_in t ns)) (t.last_ns + 1) x)
   row_from m r e = mapped_from (λ (x : MountRow). x.mount) (row_in (copy_number t.last_mount (mounts_in t ns)) (t.last_ns + 1)) (is_in ns) 0 t.rows (rises_rows 0 t.rows whole.rising) m r e
@@ -275,10 +305,13 @@ module _ (t : MountTable) (whole : IsWhole t) (ns : ℕ) where
       (joined_keeps t.groups whole.sound members (t.last_mount + 1) (members_from (t.last_mount + 1) members (subst (λ (xs : List ℕ). RiseOn (t.last_mount + 1) xs) (sym member_keys) new_rise)) above
       (λ m g r found e.
       let x = member_from m r found in
-      (x.0.mount, ap group_in x.2 ∙ sym (ap (λ (y : MemberRow). y.group) x.4) ∙ e))
+      (x.0.mount, ap group_in x.2 ∙ form_group form x.0 g (sym (ap (λ (y : MemberRow). y.group) x.4) ∙ e)))
       (λ m g r found e.
       let x = member_from m r found in
-      inr (inl (x.0.mount, ap slave_in x.2 ∙ sym (ap (λ (y : MemberRow). y.master) x.4) ∙ e)))).sound
+      ⊎_elim
+      (λ own. inl (x.0.mount, ap group_in x.2 ∙ own))
+      (λ up. inr (inl (x.0.mount, ap slave_in x.2 ∙ up)))
+      (form_master form x.0 g (sym (ap (λ (y : MemberRow). y.master) x.4) ∙ e)))).sound
     where
       no_more : (n : ℕ) → n ≡ n + 0
       no_more n = omega arith
@@ -358,7 +391,7 @@ module _ (t : MountTable) (whole : IsWhole t) (ns : ℕ) where
           sym (ap (λ (z : MountRow). z.fs) x.4),
           record {
             home = h;
-            is_home = subst (λ (n : ℕ). home_where (group_of t.groups n) (slave_in (member_row t.groups.members n)) ≡ Some h) same (ap (λ (o : Option MemberRow). home_where (group_in o) (slave_in o)) y.2 ∙ subst (λ (z : MemberRow). home_where z.group z.master ≡ Some h) y.4 home);
+            is_home = subst (λ (n : ℕ). home_where (group_of t.groups n) (slave_in (member_row t.groups.members n)) ≡ Some h) same (ap (λ (o : Option MemberRow). home_where (group_in o) (slave_in o)) y.2 ∙ sym (form_home form y.0) ∙ subst (λ (z : MemberRow). home_where z.group z.master ≡ Some h) y.4 home);
             way = [];
             leads = refl;
           },
@@ -384,17 +417,17 @@ module _ (t : MountTable) (whole : IsWhole t) (ns : ℕ) where
   abbrev with_number : MountTable → ℕ → MountTable
   with_number x n = record x { last_mount = n }
 
-  pub copy_is : grown rows members [] (t.last_ns + 1) t ≡ with_copy ns t
+  pub copy_is : grown rows members [] (t.last_ns + 1) t ≡ with_copy form ns t
   copy_is =
       let long : length rows ≡ length (mounts_in t ns) = length-map (filter (is_in ns) t.rows) (row_in (copy_number t.last_mount (mounts_in t ns)) (t.last_ns + 1)) ∙ sym (length-map (filter (is_in ns) t.rows) (λ (r : MountRow). r.mount)) in
-      ap (λ (n : ℕ). with_number (with_copy ns t) (t.last_mount + n)) long
+      ap (λ (n : ℕ). with_number (with_copy form ns t) (t.last_mount + n)) long
 
-  pub with_copy_whole : IsWhole (with_copy ns t)
+  pub with_copy_whole : IsWhole (with_copy form ns t)
   with_copy_whole = subst (λ (x : MountTable). IsWhole x) copy_is copy_whole
 
-  pub with_copy_law : AddsNoReceivers t.groups (with_copy ns t).groups
+  pub with_copy_law : AddsNoReceivers t.groups (with_copy form ns t).groups
   with_copy_law = added_law t.groups members [] (t.groups.last_group + length {A = GroupRow} []) whole.sound
 
   -- rows that are just those, whatever they are called
-  pub copy_grown : (xs : List ℕ) (to : ℕ) (new_rows : List MountRow) (new_members : List MemberRow) (groups : List GroupRow) → xs ≡ mounts_in t ns → to ≡ t.last_ns + 1 → new_rows ≡ map (row_in (copy_number t.last_mount xs) to) (filter (is_in ns) t.rows) → new_members ≡ map (member_in (copy_number t.last_mount xs)) (filter (λ row. is_among xs row.mount) t.groups.members) → groups ≡ [] → grown new_rows new_members groups to t ≡ with_copy ns t
+  pub copy_grown : (xs : List ℕ) (to : ℕ) (new_rows : List MountRow) (new_members : List MemberRow) (groups : List GroupRow) → xs ≡ mounts_in t ns → to ≡ t.last_ns + 1 → new_rows ≡ map (row_in (copy_number t.last_mount xs) to) (filter (is_in ns) t.rows) → new_members ≡ map (member_in form (copy_number t.last_mount xs)) (filter (λ row. is_among xs row.mount) t.groups.members) → groups ≡ [] → grown new_rows new_members groups to t ≡ with_copy form ns t
   copy_grown xs to new_rows new_members groups xs_is to_is rows_are members_are groups_are = rw (rows_are, members_are, groups_are, xs_is, to_is) copy_is

@@ -1,12 +1,16 @@
--- A copy of a namespace (Linux: copy_mnt_ns; sharedsubtree.rst, 5g).
+-- A copy of a namespace (Linux: copy_mnt_ns; sharedsubtree.rst, 5g), in full or reduced
+-- (mount_namespaces(7), "Restrictions on mount namespaces"; Linux: CL_SHARED_TO_SLAVE).
 use Rattle.std.specs.Prelude.{◌==◌, ◌+◌, ℕ, Bool, not, nat_le, List, [], ◌++◌, map, filter, length, Option, Some, None, option_map, if◌then◌else◌}
 use Rattle.am_names.specs.declared.errno.Errno.{Errno}
 use Rattle.am_names.specs.declared.errno.Errno.TheVariants.{ENOENT, ENOSPC}
 use Rattle.am_names.specs.declared.row.MountRow.{MountRow}
 use Rattle.am_names.specs.declared.row.MemberRow.{MemberRow}
 use Rattle.am_names.specs.declared.row.Position.{Position}
+use Rattle.am_group.specs.Changes.{slave_row}
 use Rattle.am_group.specs.Copies.{all_added}
 use Rattle.am_mount.specs.Rows.{is_among, is_in}
+use Rattle.am_propagate.specs.declared.subtree.namespace.CopyForm.{CopyForm}
+use Rattle.am_propagate.specs.declared.subtree.namespace.CopyForm.TheVariants.{Full, Reduced}
 use Rattle.am_propagate.specs.MountTable.{MountTable, lacks_mounts}
 use Rattle.am_propagate.specs.Removed.{mounts_in, is_namespace}
 
@@ -29,9 +33,15 @@ row_in number ns row = record row {
   mountpoint = option_map (position_in number) row.mountpoint;
 }
 
--- the copy of a mount is its peer where it is shared, and else what the mount is
-abbrev pub member_in : (ℕ → ℕ) → MemberRow → MemberRow
-member_in number row = record row { mount = number row.mount }
+-- a full copy has the peer group or the master of its source; a reduced one is a slave of the peer
+-- group that its source is in, and has the master of a source that is in none
+abbrev pub in_form : CopyForm → MemberRow → MemberRow
+in_form Full row = row
+in_form Reduced row = slave_row row
+
+-- the propagation of the copy of a mount
+abbrev pub member_in : CopyForm → (ℕ → ℕ) → MemberRow → MemberRow
+member_in form number row = record (in_form form row) { mount = number row.mount }
 
 -- the numbers of namespaces are exhausted: they have 32 bits
 abbrev pub lacks_namespace : MountTable → Bool
@@ -45,15 +55,15 @@ copy_refusal ns t =
     else if lacks_namespace t then Some ENOSPC
     else None
 
--- a new namespace with a copy of each mount of this one
-abbrev pub with_copy : ℕ → MountTable → MountTable
-with_copy ns t =
+-- a new namespace with a copy of each mount of this one, in this form
+abbrev pub with_copy : CopyForm → ℕ → MountTable → MountTable
+with_copy form ns t =
     let mounts = mounts_in t ns in
     let number = copy_number t.last_mount mounts in
     let members = filter (λ row. is_among mounts row.mount) t.groups.members in
     record t {
       rows = t.rows ++ map (row_in number (t.last_ns + 1)) (filter (is_in ns) t.rows);
-      groups = all_added (map (member_in number) members) [] t.groups;
+      groups = all_added (map (member_in form number) members) [] t.groups;
       last_mount = t.last_mount + length mounts;
       last_ns = t.last_ns + 1;
     }

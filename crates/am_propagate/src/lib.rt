@@ -6,4 +6,4 @@ pub mod in_use;
 pub mod subtree;
 
 pub use in_use::InUse;
-pub use subtree::{NewNamespace, Subtree};
+pub use subtree::{CopyForm, NewNamespace, Subtree};

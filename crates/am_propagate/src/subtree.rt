@@ -23,7 +23,7 @@ mod namespace;
 mod removal;
 mod stand_ins;
 
-pub use crate::subtree::namespace::NewNamespace;
+pub use crate::subtree::namespace::{CopyForm, NewNamespace};
 
 /// The mounts of all namespaces, and how they take part in propagation (sharedsubtree.rst, 5).
 #[derive(Drop)]

@@ -3,7 +3,7 @@ use Rattle.std.proofs.Common.{◌≡◌, ℕ, false, List, [], ◌∷◌, None, 
 use Rattle.am_script.specs.LineWords.{is_one, are_two, are_three, are_five}
 use Rattle.am_script.specs.WalkerLines.{walk_read, resume_read, leave_read, expire_read}
 use Rattle.am_script.specs.DaemonLines.{attach_read, act_read, repeat_read, catatonic_read, timeout_read, reattach_read, record_read}
-use Rattle.am_script.specs.AdministratorLines.{mount_read, bind_read, umount_read, change_line_read, kind_read, nscopy_read, nsdrop_read, admincat_read}
+use Rattle.am_script.specs.AdministratorLines.{mount_read, bind_read, umount_read, change_line_read, kind_read, nsdrop_read, admincat_read}
 
 pub no_walk : (words : List (List ℕ)) → are_five words ≡ false → walk_read words ≡ None
 no_walk [] h = refl
@@ -108,11 +108,6 @@ no_kind [] h = refl
 no_kind (a ∷ []) h = refl
 no_kind (a ∷ b ∷ []) h = absurd cc
 no_kind (a ∷ b ∷ c ∷ words) h = refl
-
-pub no_nscopy : (words : List (List ℕ)) → is_one words ≡ false → nscopy_read words ≡ None
-no_nscopy [] h = refl
-no_nscopy (a ∷ []) h = absurd cc
-no_nscopy (a ∷ b ∷ words) h = refl
 
 pub no_nsdrop : (words : List (List ℕ)) → is_one words ≡ false → nsdrop_read words ≡ None
 no_nsdrop [] h = refl

@@ -3,10 +3,12 @@ use Rattle.std.specs.Prelude.{ℕ, List, [], ◌∷◌, codes, bytes_eq, Option,
 use Rattle.std.specs.Result.{result_ok}
 use Rattle.am_names.specs.Path.{path_read}
 use Rattle.am_group.specs.declared.kind.Change.{Change}
+use Rattle.am_propagate.specs.declared.subtree.namespace.CopyForm.{CopyForm}
+use Rattle.am_propagate.specs.declared.subtree.namespace.CopyForm.TheVariants.{Full}
 use Rattle.am_machine.specs.declared.event.Event.{Event}
 use Rattle.am_machine.specs.declared.event.Event.TheVariants as events
 use Rattle.am_script.specs.Numbers.{u32_read}
-use Rattle.am_script.specs.EventWords.{change_read}
+use Rattle.am_script.specs.EventWords.{change_read, form_read}
 
 abbrev pub mount_of : Option ℕ → Option (List (List ℕ)) → Option Event
 mount_of (Some ns) (Some path) = Some (events.Mount ns path)
@@ -71,9 +73,14 @@ kind_read words = None
 abbrev pub kind_event : ℕ × List (List ℕ) → Event
 kind_event words = events.Kind words.0 words.1
 
--- `nscopy NS`
+abbrev pub nscopy_of : Option ℕ → Option CopyForm → Option Event
+nscopy_of (Some ns) (Some form) = Some (events.CopyNamespace ns form)
+nscopy_of ns form = None
+
+-- `nscopy NS`, `nscopy NS reduced`
 abbrev pub nscopy_read : List (List ℕ) → Option Event
-nscopy_read (ns ∷ []) = option_map events.CopyNamespace (u32_read ns)
+nscopy_read (ns ∷ []) = nscopy_of (u32_read ns) (Some Full)
+nscopy_read (ns ∷ form ∷ []) = nscopy_of (u32_read ns) (form_read form)
 nscopy_read words = None
 
 -- `nsdrop NS`

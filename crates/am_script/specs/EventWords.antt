@@ -9,6 +9,8 @@ use Rattle.am_names.specs.declared.trigger.Status.{Status}
 use Rattle.am_names.specs.declared.trigger.Status.TheVariants.{Ready, Fail}
 use Rattle.am_group.specs.declared.kind.Change.{Change}
 use Rattle.am_group.specs.declared.kind.Change.TheVariants.{MakeShared, MakeSlave, MakePrivate, MakeUnbindable}
+use Rattle.am_propagate.specs.declared.subtree.namespace.CopyForm.{CopyForm}
+use Rattle.am_propagate.specs.declared.subtree.namespace.CopyForm.TheVariants as forms
 
 -- what the kernel meets at the pipe: `room`, `full` or `gone`
 abbrev pub pipe_read : List ℕ → Option PipeState
@@ -26,6 +28,10 @@ change_read word =
     else if bytes_eq word (codes "private") then Some MakePrivate
     else if bytes_eq word (codes "unbindable") then Some MakeUnbindable
     else None
+
+-- the form of a namespace's copy that isn't full: `reduced`
+abbrev pub form_read : List ℕ → Option CopyForm
+form_read word = if bytes_eq word (codes "reduced") then Some forms.Reduced else None
 
 -- whether an expiry is of anything that isn't busy: `idle` or `immediate`
 abbrev pub immediate_read : List ℕ → Option Bool

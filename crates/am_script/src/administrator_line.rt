@@ -5,12 +5,14 @@ ghost use Rattle.am_lines.specs.Words.{words_of};
 ghost use Rattle.am_script.specs.AdministratorLines.{administrator_read, mount_read, mount_event, bind_read, bind_event, umount_read, umount_event, change_line_read, change_event, kind_read, kind_event, nscopy_read, nsdrop_read, admincat_read};
 ghost use Rattle.am_script.specs.Events.{ReadAs};
 
-use crate::event_word::{is_word, read_change};
+use crate::event_word::{is_word, read_change, read_form};
 use crate::line_words::{only_word, three_words, two_words};
 use crate::number::read_u32;
 use am_group::Change;
+use am_lines::next_word;
 use am_machine::Event;
 use am_names::{AbsPath, FsId, NsId};
+use am_propagate::CopyForm;
 use std::alloc::{AllocError, Global};
 
 /// A line of an administrator, by its first word and what stands behind that.
@@ -145,13 +147,22 @@ fn read_kind(alloc: Global, words: &[u8]) -> Result<Option<Event>, AllocError>
     }))
 }
 
-#[tactic(auto, using(crate::proofs::LineWordsLemmas::no_nscopy))]
 fn read_nscopy(words: &[u8]) -> Option<Event>
     ensures { result ≡ nscopy_read (words_of words.now) }
 {
-    let ns = only_word(words)?;
+    let (ns, words) = next_word(words)?;
+    let Some((form, words)) = next_word(words) else {
+        return Some(Event::CopyNamespace {
+            ns: NsId(read_u32(ns)?),
+            form: CopyForm::Full,
+        });
+    };
+    if let Some(_) = next_word(words) {
+        return None;
+    }
     Some(Event::CopyNamespace {
         ns: NsId(read_u32(ns)?),
+        form: read_form(form)?,
     })
 }
 

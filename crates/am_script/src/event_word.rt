@@ -1,10 +1,11 @@
 //! The words of event lines that are neither numbers nor paths.
 
 ghost use Rattle.std.specs.Prelude.{◌≡◌, bytes_eq};
-ghost use Rattle.am_script.specs.EventWords.{pipe_read, change_read, immediate_read, outcome_read, status_read, trigger_name_read};
+ghost use Rattle.am_script.specs.EventWords.{pipe_read, change_read, form_read, immediate_read, outcome_read, status_read, trigger_name_read};
 
 use am_group::Change;
 use am_names::{Name, PipeState, Status};
+use am_propagate::CopyForm;
 
 pub(crate) fn is_word(word: &[u8], text: &[u8]) -> bool
     ensures { result ≡ bytes_eq word.now text.now }
@@ -43,6 +44,16 @@ pub(crate) fn read_change(word: &[u8]) -> Option<Change>
     }
     if is_word(word, b"unbindable") {
         return Some(Change::MakeUnbindable);
+    }
+    None
+}
+
+/// The form of a namespace's copy that isn't full.
+pub(crate) fn read_form(word: &[u8]) -> Option<CopyForm>
+    ensures { result ≡ form_read word.now }
+{
+    if is_word(word, b"reduced") {
+        return Some(CopyForm::Reduced);
     }
     None
 }

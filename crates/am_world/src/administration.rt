@@ -7,6 +7,7 @@ use crate::halves::Halves;
 use am_group::Change;
 use am_machine::Answer;
 use am_names::{Errno, Mounts, NsId, Place};
+use am_propagate::CopyForm;
 use std::alloc::Global;
 
 impl Halves {
@@ -97,11 +98,16 @@ impl Halves {
         Ok(Answer::Kind { kind })
     }
 
-    /// A namespace is copied.
-    pub fn copy_namespace(&mut self, alloc: Global, ns: NsId) -> Result<Answer, Errno>
-        ensures { Goes (copy_outcome (state_of self.old) ns) (state_of self.old) result (state_of self.new) }
+    /// A namespace is copied, in full or reduced.
+    pub fn copy_namespace(
+        &mut self,
+        alloc: Global,
+        ns: NsId,
+        form: CopyForm,
+    ) -> Result<Answer, Errno>
+        ensures { Goes (copy_outcome (state_of self.old) ns form) (state_of self.old) result (state_of self.new) }
     {
-        let ns = self.kernel.ns_copy(alloc, ns, &mut self.trace)?;
+        let ns = self.kernel.ns_copy(alloc, ns, form, &mut self.trace)?;
         Ok(Answer::Namespace { ns })
     }
 

@@ -47,7 +47,7 @@ impl Halves {
             Event::Umount { ns, path } => self.umount(alloc, *ns, path),
             Event::Change { ns, path, change } => self.change(alloc, *ns, path, *change),
             Event::Kind { ns, path } => self.kind(alloc, *ns, path),
-            Event::CopyNamespace { ns } => self.copy_namespace(alloc, *ns),
+            Event::CopyNamespace { ns, form } => self.copy_namespace(alloc, *ns, *form),
             Event::DropNamespace { ns } => self.drop_namespace(alloc, *ns),
             Event::Walk {
                 walker,

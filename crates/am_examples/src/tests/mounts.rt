@@ -2,7 +2,7 @@
 
 use am_group::Change;
 use am_names::{AbsPath, Errno, FsId, MountId, NsId, Position};
-use am_propagate::{InUse, Subtree};
+use am_propagate::{CopyForm, InUse, Subtree};
 use std::alloc::Global;
 use std::test::Fail;
 
@@ -27,7 +27,7 @@ impl InUse for Inside {
 fn two_namespaces(alloc: Global) -> Result<Subtree, Errno> {
     let mut subtree = Subtree::new(alloc, 1_000)?;
     subtree.change(alloc, Change::MakeShared, MountId(1))?;
-    subtree.copy_namespace(alloc, NsId(0))?;
+    subtree.copy_namespace(alloc, NsId(0), CopyForm::Full)?;
     Ok(subtree)
 }
 

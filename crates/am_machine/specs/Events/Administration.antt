@@ -5,6 +5,7 @@ use Rattle.am_names.specs.declared.errno.Errno.TheVariants.{ENOENT, EEXIST}
 use Rattle.am_state.specs.declared.obs.Obs.TheVariants as seen
 use Rattle.am_group.specs.declared.kind.Change.{Change}
 use Rattle.am_group.specs.declared.kind.Kind.{Kind}
+use Rattle.am_propagate.specs.declared.subtree.namespace.CopyForm.{CopyForm}
 use Rattle.am_propagate.specs.Added.{new_mounts}
 use Rattle.am_propagate.specs.Namespaces.{copy_refusal}
 use Rattle.am_propagate.specs.Removed.{drop_refusal, mounts_in}
@@ -81,12 +82,12 @@ kind_outcome s ns path = unless (kind_refusal s.kernel ns path) s (kind_told (ki
 
 -- ---- namespaces
 
-abbrev pub copy_outcome : State → ℕ → Outcome
-copy_outcome s ns =
+abbrev pub copy_outcome : State → ℕ → CopyForm → Outcome
+copy_outcome s ns form =
     let made = new_mounts s.kernel.table (length (mounts_in s.kernel.table ns)) in
     unless (copy_refusal ns s.kernel.table) s
     (with_kernel (answers.Namespace (s.kernel.table.last_ns + 1)) (seen.Mounted made ∷ [])
-    (with_namespace ns s.kernel) s)
+    (with_namespace form ns s.kernel) s)
 
 abbrev pub drop_outcome : State → ℕ → Outcome
 drop_outcome s ns =

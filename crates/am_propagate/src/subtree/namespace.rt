@@ -8,7 +8,7 @@ ghost use Rattle.am_mount.specs.Rows.{is_among, is_in};
 ghost use Rattle.am_propagate.specs.MountTable.{all_mounts};
 ghost use Rattle.am_propagate.specs.Added.{new_mounts};
 ghost use Rattle.am_propagate.specs.Removed.{mounts_in};
-ghost use Rattle.am_propagate.specs.Namespaces.{count_up_to, copy_number, row_in, member_in, copy_refusal, with_copy};
+ghost use Rattle.am_propagate.specs.Namespaces.{count_up_to, copy_number, row_in, in_form, member_in, copy_refusal, with_copy};
 
 use crate::subtree::Subtree;
 use crate::subtree::addition::numbers_after;
@@ -16,6 +16,33 @@ use crate::subtree::joining::Joining;
 use crate::subtree::removal::is_among;
 use am_names::{Errno, MemberRow, MountId, MountRow, NsId, Position};
 use std::alloc::{AllocError, Global};
+
+/// How the mounts of a namespace's copy are joined to those that they are copies of.
+#[derive(Clone, Copy, PartialEq, Eq)]
+pub enum CopyForm {
+    /// The copy of a shared mount is its peer (sharedsubtree.rst, 5g).
+    Full,
+    /// The copy of a shared mount is a slave of its peer group, so that nothing propagates back
+    /// (mount_namespaces(7), "Restrictions on mount namespaces").
+    Reduced,
+}
+
+impl CopyForm {
+    /// The row of a copy, from that of its source, but for its number.
+    fn of(self, row: MemberRow) -> MemberRow
+        ensures { result ≡ in_form self row }
+    {
+        match (self, row.group) {
+            (CopyForm::Reduced, Some(group)) => MemberRow {
+                group: None,
+                master: Some(group),
+                unbindable: false,
+                ..row
+            },
+            _ => row,
+        }
+    }
+}
 
 /// A namespace that was made, with its mounts in rising order.
 #[derive(Drop)]
@@ -94,29 +121,42 @@ impl Subtree {
         })
     }
 
-    fn members_in(&self, alloc: Global, mounts: &[MountId]) -> Result<Vec<MemberRow>, AllocError>
+    fn members_in(
+        &self,
+        alloc: Global,
+        mounts: &[MountId],
+        form: CopyForm,
+    ) -> Result<Vec<MemberRow>, AllocError>
         requires numbers { self.now.last_mount + length mounts.now < 2 ^ 64 }
         requires rising { IsStrictlyIncreasing mounts.now }
-        ensures { IfOk result (λ v. v.items ≡ map (member_in (copy_number self.now.last_mount mounts.now)) (filter (λ row. is_among mounts.now row.mount) self.now.groups.members)) }
+        ensures { IfOk result (λ v. v.items ≡ map (member_in form (copy_number self.now.last_mount mounts.now)) (filter (λ row. is_among mounts.now row.mount) self.now.groups.members)) }
     {
         let mut members = Vec::new(alloc);
         for row in self.groups.members() {
             if is_among(row.mount, mounts) {
                 let mount = copy_number(self.last_mount, mounts, row.mount);
-                members.push(MemberRow { mount, ..*row })?;
+                members.push(MemberRow {
+                    mount,
+                    ..form.of(*row)
+                })?;
             }
         }
         Ok(members)
     }
 
     /// A new namespace with a copy of each mount of this one, mounted alike (sharedsubtree.rst,
-    /// 5g). The answer tells it and the copies.
-    pub fn copy_namespace(&mut self, alloc: Global, ns: NsId) -> Result<NewNamespace, Errno>
+    /// 5g), in this form. The answer tells it and the copies.
+    pub fn copy_namespace(
+        &mut self,
+        alloc: Global,
+        ns: NsId,
+        form: CopyForm,
+    ) -> Result<NewNamespace, Errno>
         ensures refusal { RefusedAs (copy_refusal ns self.old) result }
         ensures number { IfOk result (λ made. made.ns ≡ self.old.last_ns + 1) }
         ensures made { IfOk result (λ made. made.mounts.items ≡ new_mounts self.old (length (mounts_in self.old ns))) }
         ensures came { IfOk result (λ made. all_mounts self.new ≡ all_mounts self.old ++ made.mounts.items) }
-        ensures ok { OnOk result (self.new ≡ with_copy ns self.old) }
+        ensures ok { OnOk result (self.new ≡ with_copy form ns self.old) }
         ensures err { OnErr result (self.new ≡ self.old) }
         ensures law { AddsNoReceivers self.old.groups self.new.groups }
     {
@@ -133,7 +173,7 @@ impl Subtree {
         let to = NsId(self.last_ns + 1);
         let copies = numbers_after(alloc, self.last_mount, mounts.len())?;
         let rows = self.rows_in(alloc, mounts.as_slice(), ns, to)?;
-        let members = self.members_in(alloc, mounts.as_slice())?;
+        let members = self.members_in(alloc, mounts.as_slice(), form)?;
         let joining = Joining {
             members,
             groups: Vec::new(alloc),

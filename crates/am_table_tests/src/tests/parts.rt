@@ -9,7 +9,7 @@ use am_names::{
     AbsPath, Errno, FsId, MountId, Name, NsId, Position, Seconds, Token, TokenKind, Trigger,
     WalkerId,
 };
-use am_propagate::Subtree;
+use am_propagate::{CopyForm, Subtree};
 use am_trigger::Triggers;
 use am_wait::Waits;
 use am_walk::{Stop, Walk, position, resolve};
@@ -181,7 +181,7 @@ impl Parts {
     }
 
     fn copy(&mut self, alloc: Global) -> Result<bool, Errno> {
-        self.subtree.copy_namespace(alloc, NsId(0))?;
+        self.subtree.copy_namespace(alloc, NsId(0), CopyForm::Full)?;
         Ok(true)
     }
 

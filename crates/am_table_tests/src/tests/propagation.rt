@@ -6,7 +6,7 @@ use crate::tests::twice::Compared;
 use am_group::{Change, Kind};
 use am_mount::Tree;
 use am_names::{AbsPath, Errno, FsId, MountId, NsId, Place, Position};
-use am_propagate::{InUse, NewNamespace, Subtree};
+use am_propagate::{CopyForm, InUse, Subtree};
 use std::alloc::Global;
 
 mod examples;
@@ -120,8 +120,10 @@ enum Call {
     Takes(u64, Told),
     /// Why an unmount would be refused, if it would.
     Preview(u64, u64, Option<Errno>),
-    /// A copy of a namespace, and the number of the copy.
+    /// A full copy of a namespace, and the number of the copy.
     Copy(u32, u32, Told),
+    /// The same, reduced.
+    Reduce(u32, u32, Told),
     Drop(u32, u64, Told),
     /// The last number that a mount had.
     Last(u64),
@@ -145,9 +147,16 @@ fn tells(mounts: Result<Vec<MountId>, Errno>, told: Told) -> Result<bool, Errno>
     Ok(are(mounts?.as_slice(), told))
 }
 
-fn tells_copy(made: Result<NewNamespace, Errno>, ns: u32, told: Told) -> Result<bool, Errno> {
-    let made = made?;
-    Ok(made.ns == NsId(ns) && are(made.mounts.as_slice(), told))
+fn copy(
+    alloc: Global,
+    subtree: &mut Subtree,
+    ns: u32,
+    form: CopyForm,
+    to: u32,
+    told: Told,
+) -> Result<bool, Errno> {
+    let made = subtree.copy_namespace(alloc, NsId(ns), form)?;
+    Ok(made.ns == NsId(to) && are(made.mounts.as_slice(), told))
 }
 
 fn change(alloc: Global, subtree: &mut Subtree, change: Change, mount: u64) -> Result<bool, Errno> {
@@ -200,7 +209,8 @@ fn act(alloc: Global, subtree: &mut Subtree, call: Call) -> Result<bool, Errno> 
         }
         Call::Change(to, mount) => change(alloc, subtree, to, mount),
         Call::Umount(mount, busy, told) => tells(umount(alloc, subtree, mount, busy), told),
-        Call::Copy(ns, to, told) => tells_copy(subtree.copy_namespace(alloc, NsId(ns)), to, told),
+        Call::Copy(ns, to, told) => copy(alloc, subtree, ns, CopyForm::Full, to, told),
+        Call::Reduce(ns, to, told) => copy(alloc, subtree, ns, CopyForm::Reduced, to, told),
         Call::Drop(ns, busy, told) => tells(drop_namespace(alloc, subtree, ns, busy), told),
         other => look(alloc, subtree, other),
     }

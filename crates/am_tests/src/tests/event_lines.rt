@@ -2,6 +2,7 @@
 
 use am_group::Change;
 use am_names::{Name, PipeState, Place, Status, Trigger};
+use am_propagate::CopyForm;
 use am_script::event_line::read_event;
 use am_world::Event;
 use std::alloc::Global;
@@ -10,7 +11,7 @@ use std::str;
 use std::test::Fail;
 
 /// Each line in the form in which it is spelled from its event.
-static LINES: [&str; 43] = [
+static LINES: [&str; 45] = [
     "attach /auto",
     "attach /",
     "mount 0 /a/b",
@@ -24,6 +25,8 @@ static LINES: [&str; 43] = [
     "kind 0 /a",
     "nscopy 0",
     "nscopy 4294967295",
+    "nscopy 0 reduced",
+    "nscopy 4294967295 reduced",
     "nsdrop 1",
     "walk 7 0 /auto/home 100 room",
     "walk 7 1 / 0 full",
@@ -57,7 +60,7 @@ static LINES: [&str; 43] = [
 ];
 
 /// Lines with too few words, with too many, with a bad number or with a bad word.
-static NO_LINES: [&[u8]; 104] = [
+static NO_LINES: [&[u8]; 107] = [
     b"",
     b" \t",
     b"events",
@@ -95,7 +98,10 @@ static NO_LINES: [&[u8]; 104] = [
     b"kind 0 ..",
     b"nscopy",
     b"nscopy 0 0",
-    b"nscopy 0 reduced",
+    b"nscopy 0 full",
+    b"nscopy 0 Reduced",
+    b"nscopy 0 reduced reduced",
+    b"nscopy reduced",
     b"nscopy 4294967296",
     b"nsdrop",
     b"nsdrop 1 2",
@@ -249,6 +255,13 @@ fn put_change(line: &mut String, ns: u32, path: &Place, change: Change) -> Resul
     put(line, change_text(change))
 }
 
+fn put_nscopy(line: &mut String, ns: u32, form: CopyForm) -> Result<(), Fail> {
+    match form {
+        CopyForm::Full => put_one(line, "nscopy", ns),
+        CopyForm::Reduced => put_with(line, "nscopy", ns, "reduced"),
+    }
+}
+
 /// The line of an event of an administrator, or nothing.
 fn put_administrator(line: &mut String, event: &Event) -> Result<(), Fail> {
     match event {
@@ -257,7 +270,7 @@ fn put_administrator(line: &mut String, event: &Event) -> Result<(), Fail> {
         Event::Umount { ns, path } => put_with(line, "umount", ns.0, path_text(path)),
         Event::Change { ns, path, change } => put_change(line, ns.0, path, *change),
         Event::Kind { ns, path } => put_with(line, "kind", ns.0, path_text(path)),
-        Event::CopyNamespace { ns } => put_one(line, "nscopy", ns.0),
+        Event::CopyNamespace { ns, form } => put_nscopy(line, ns.0, *form),
         Event::DropNamespace { ns } => put_one(line, "nsdrop", ns.0),
         Event::AdminCatatonic { fs } => put_one(line, "admincat", fs.0),
         _ => Ok(()),

@@ -91,6 +91,24 @@ static A_SLAVE_ON_A_SHARED_MOUNT: [Step; 12] = [
     Step(b"umount 0 /a/y", b"gone 8 9 10 11\n"),
 ];
 
+static A_REDUCED_COPY_OF_A_NAMESPACE: [Step; 15] = [
+    Step(b"change 0 / shared", b"ok\n"),
+    Step(b"attach /auto", b"fs 2 attach 1 mount 2\n"),
+    Step(b"nscopy 0 reduced", b"ns 1\n"),
+    Step(b"kind 1 /", b"kind slave\n"),
+    Step(b"kind 1 /auto", b"kind slave\n"),
+    Step(b"mount 1 /x", b"mount 5\n"),
+    Step(b"walk 7 0 /x 0 room", b"at 1 /x\n"),
+    Step(b"walk 8 1 /auto/home 100 room", b"wait 1\n"),
+    Step(b"deliver 1", b"job 1\n"),
+    Step(b"act 1 ok", b"did mkdir\n"),
+    Step(b"act 1 ok", b"did mount 6\n"),
+    Step(b"act 1 ok", b"did record\n"),
+    Step(b"act 1 ok", b"did reply\n"),
+    Step(b"resume 8 101 room", b"at 7 /\n"),
+    Step(b"record 2 home", b"record mounted 6\n"),
+];
+
 #[test]
 fn one_key(rt: HostRuntime) -> Result<(), Fail> {
     plays_twice(&rt, rt.alloc(), &ONE_KEY)
@@ -114,6 +132,11 @@ fn a_death_and_reattachment(rt: HostRuntime) -> Result<(), Fail> {
 #[test]
 fn a_slave_on_a_shared_mount(rt: HostRuntime) -> Result<(), Fail> {
     plays_twice(&rt, rt.alloc(), &A_SLAVE_ON_A_SHARED_MOUNT)
+}
+
+#[test]
+fn a_reduced_copy_of_a_namespace(rt: HostRuntime) -> Result<(), Fail> {
+    plays_twice(&rt, rt.alloc(), &A_REDUCED_COPY_OF_A_NAMESPACE)
 }
 
 /// One mount for two namespaces is left and expires, and a walk waits for that.

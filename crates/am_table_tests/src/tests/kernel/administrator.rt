@@ -156,10 +156,12 @@ fn change_and_kind_test_in_order(rt: HostRuntime) -> Result<(), Fail> {
 }
 
 /// Mounts have numbers up to 4.
-static NAMESPACES: [Step<Act>; 14] = [
+static NAMESPACES: [Step<Act>; 16] = [
     Step::Does(Act::Makes(Call::Copy(0), Answer::Copied(1), &[Sight::Mounted(&[3, 4])])),
     Step::Refused(Act::Calls(Call::Copy(7)), Errno::ENOENT),
     Step::Refused(Act::Calls(Call::Copy(0)), Errno::ENOSPC),
+    Step::Refused(Act::Calls(Call::Reduce(7)), Errno::ENOENT),
+    Step::Refused(Act::Calls(Call::Reduce(0)), Errno::ENOSPC),
     Step::Does(Act::Makes(
         Call::Walk(7, 1, b"/"),
         Answer::Arrived(3, b""),

@@ -7,6 +7,7 @@ use am_kernel::{Begun, Granted, Kernel, NewAutofs};
 use am_names::{
     AbsPath, Attach, Errno, FsId, MountId, Name, NsId, PipeState, Seconds, Status, Token, WalkerId,
 };
+use am_propagate::CopyForm;
 use am_state::Obs;
 use std::alloc::Global;
 
@@ -33,6 +34,8 @@ pub enum Call {
     Change(u32, &'static [u8], Change),
     Kind(u32, &'static [u8]),
     Copy(u32),
+    /// The same, reduced.
+    Reduce(u32),
     Drop(u32),
     Walk(u32, u32, &'static [u8]),
     Resume(u32),
@@ -108,6 +111,17 @@ fn umount_from(
     let _name: Option<Name> = trigger.name;
     let gone = kernel.umount_from(alloc, Attach(attach), &trigger, seen)?;
     Ok(Said::Went(gone))
+}
+
+fn copy(
+    alloc: Global,
+    kernel: &mut Kernel,
+    ns: u32,
+    form: CopyForm,
+    seen: &mut Vec<Obs>,
+) -> Result<Said, Errno> {
+    let made = kernel.ns_copy(alloc, NsId(ns), form, seen)?;
+    Ok(Said::Copied(made))
 }
 
 fn attach_autofs(
@@ -309,7 +323,8 @@ impl Call {
             Call::Change(ns, path, to) => change(alloc, kernel, ns, path, to),
             Call::Kind(ns, path) => kind(alloc, kernel, ns, path),
             Call::Request(asked) => request(alloc, kernel, asked, seen),
-            Call::Copy(ns) => Ok(Said::Copied(kernel.ns_copy(alloc, NsId(ns), seen)?)),
+            Call::Copy(ns) => copy(alloc, kernel, ns, CopyForm::Full, seen),
+            Call::Reduce(ns) => copy(alloc, kernel, ns, CopyForm::Reduced, seen),
             Call::Drop(ns) => Ok(Said::Went(kernel.ns_drop(alloc, NsId(ns), seen)?)),
             _ => self.ask(alloc, kernel, setting, seen),
         }

@@ -197,6 +197,32 @@ fn copies_of_namespaces(rt: HostRuntime) {
     plays(&rt, rt.alloc(), &mut table, &COPIES);
 }
 
+/// In a reduced copy, mounts 8 to 14, no mount is shared: what is mounted in the source comes to it,
+/// and what is mounted in it stays there.
+static REDUCED: [Step<Call>; 14] = [
+    Step::Refused(Call::Reduce(1, 1, Told::Any), Errno::ENOENT),
+    Step::Does(Call::Reduce(0, 1, Told::All(&[8, 9, 10, 11, 12, 13, 14]))),
+    Step::Does(Call::Is(8, Kind::Private)),
+    Step::Does(Call::Is(9, Kind::Slave)),
+    Step::Does(Call::Is(10, Kind::Slave)),
+    Step::Does(Call::Is(13, Kind::Slave)),
+    Step::Does(Call::Mount(2, b"/y", Told::All(&[15, 16, 17, 18, 19, 20, 21, 22]))),
+    Step::Does(Call::Top(9, b"/y", Some(19))),
+    Step::Does(Call::Top(13, b"/y", Some(21))),
+    Step::Does(Call::Mount(9, b"/z", Told::All(&[23]))),
+    Step::Does(Call::Mount(13, b"/z", Told::All(&[24]))),
+    Step::Does(Call::Mount(4, b"/w", Told::All(&[25, 26, 27, 28]))),
+    Step::Does(Call::Umount(15, 0, Told::All(&[15, 16, 17, 18, 19, 20, 21, 22]))),
+    Step::Does(Call::Drop(1, 0, Told::All(&[8, 9, 10, 11, 12, 13, 14, 23, 24, 27, 28]))),
+];
+
+#[test]
+fn reduced_copies_of_namespaces(rt: HostRuntime) {
+    let mut table = Table(None);
+    plays(&rt, rt.alloc(), &mut table, &SLAVE_AND_PEERS);
+    plays(&rt, rt.alloc(), &mut table, &REDUCED);
+}
+
 /// What an unmount would remove, also where it is refused: on 6 is 8, 1 is a root, and 99 is none.
 static TAKEN: [Step<Call>; 8] = [
     Step::Does(Call::Mount(2, b"/x", Told::All(&[5, 6, 7]))),

@@ -6,7 +6,7 @@ use crate::tests::script::{Step, plays};
 use crate::tests::twice::Twice;
 use am_group::{Change, Kind};
 
-static CALLS: [Step<Call>; 22] = [
+static CALLS: [Step<Call>; 24] = [
     Step::Does(Call::Opens(100)),
     Step::Does(Call::Mount(1, b"/a", Told::First(2))),
     Step::Does(Call::Change(Change::MakeShared, 2)),
@@ -19,6 +19,8 @@ static CALLS: [Step<Call>; 22] = [
     Step::Does(Call::Mount(2, b"/y", Told::First(8))),
     Step::Does(Call::Copy(0, 1, Told::Any)),
     Step::Does(Call::Drop(1, 0, Told::Any)),
+    Step::Does(Call::Reduce(0, 2, Told::Any)),
+    Step::Does(Call::Drop(2, 0, Told::Any)),
     Step::Does(Call::Takes(1, Told::Any)),
     Step::Does(Call::Takes(8, Told::Any)),
     Step::Does(Call::Preview(8, 0, None)),

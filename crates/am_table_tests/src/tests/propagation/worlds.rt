@@ -5,7 +5,7 @@ use crate::tests::propagation::{bind, drop_namespace, mount, umount};
 use crate::tests::script::{Stage, Step, plays};
 use am_group::{Change, Groups};
 use am_names::{Errno, GroupId, MountId, MountRow, NsId};
-use am_propagate::{NewNamespace, Subtree};
+use am_propagate::{CopyForm, NewNamespace, Subtree};
 use std::alloc::Global;
 
 /// A linear congruence, as in Knuth's MMIX.
@@ -154,7 +154,14 @@ fn change_of(number: u64) -> Change {
     }
 }
 
-/// A call, two mounts, a number below 4, and the path that goes with it.
+fn form_of(number: u64) -> CopyForm {
+    match number {
+        0 => CopyForm::Full,
+        _ => CopyForm::Reduced,
+    }
+}
+
+/// A call, two mounts, a number below 4 and the path that goes with it, and the form of a copy.
 #[derive(Clone, Copy)]
 struct Drawn {
     call: u64,
@@ -162,6 +169,7 @@ struct Drawn {
     second: u64,
     number: u64,
     path: &'static [u8],
+    form: CopyForm,
 }
 
 fn draw(subtree: &Subtree, random: &mut Random) -> Drawn {
@@ -170,12 +178,14 @@ fn draw(subtree: &Subtree, random: &mut Random) -> Drawn {
     let second = random.mount(subtree);
     let number = random.below(4);
     let path: &'static [u8] = if number % 2 == 0 { b"/0" } else { b"/1" };
+    let form = form_of(random.below(2));
     Drawn {
         call,
         first,
         second,
         number,
         path,
+        form,
     }
 }
 
@@ -191,9 +201,9 @@ impl Total {
 
     fn namespaces(&mut self, alloc: Global, subtree: &mut Subtree, by: Drawn) -> Result<(), Errno> {
         match by.number {
-            0 => self.copies(subtree.copy_namespace(alloc, NsId(0))),
+            0 => self.copies(subtree.copy_namespace(alloc, NsId(0), by.form)),
             1 => self.mounts(drop_namespace(alloc, subtree, 1, by.second)),
-            2 => self.copies(subtree.copy_namespace(alloc, NsId(2))),
+            2 => self.copies(subtree.copy_namespace(alloc, NsId(2), by.form)),
             _ => self.mounts(drop_namespace(alloc, subtree, 3, by.second)),
         }
     }
@@ -254,7 +264,7 @@ impl Stage for Nothing {
     }
 }
 
-static WORLDS: [Step<Worlds>; 1] = [Step::Does(Worlds(2000, 7_394_842_449_687_290_888))];
+static WORLDS: [Step<Worlds>; 1] = [Step::Does(Worlds(2000, 3_847_103_868_114_775_805))];
 
 #[test]
 fn worlds_of_the_slow_model(rt: HostRuntime) {

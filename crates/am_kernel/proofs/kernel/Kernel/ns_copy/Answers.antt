@@ -6,4 +6,4 @@ use Rattle.am_kernel.proofs.kernel.Kernel.ns_copy.Goals as goal
 
 pub returns-clause-ok : goal.returns-clause-ok
 returns-clause-ok c =
-    ap (with_table (kernel_of c.self.inside)) c.in_ok-made.ensures.ok ∙ ap (with_namespace c.args.ns) c.self.view_is
+    ap (with_table (kernel_of c.self.inside)) c.in_ok-made.ensures.ok ∙ ap (with_namespace c.args.form c.args.ns) c.self.view_is

@@ -18,10 +18,10 @@ grow-requires-clause-whole c =
     let items : c.in_ok-mounts.mounts.items ≡ mounts_in t c.args.ns = c.in_ok-mounts.ensures.exact ∙ ap (λ (x : MountTable). mounts_in x c.args.ns) c.self.view_is in
     let to : c.self.inside.last_ns + 1 ≡ t.last_ns + 1 = ap (λ (x : MountTable). x.last_ns + 1) c.self.view_is in
     let first : c.as_slice-2.result.now ≡ c.as_slice.result.now = c.as_slice-2.ensures.value ∙ sym c.as_slice.ensures.value in
-    let members : c.in_ok-members.members.items ≡ map (member_in (copy_number t.last_mount c.as_slice.result.now)) (filter (λ row. is_among c.as_slice.result.now row.mount) t.groups.members) = c.in_ok-members.ensures ∙ ap (λ (xs : List ℕ). map (member_in (copy_number t.last_mount xs)) (filter (λ row. is_among xs row.mount) t.groups.members)) first in
+    let members : c.in_ok-members.members.items ≡ map (member_in c.args.form (copy_number t.last_mount c.as_slice.result.now)) (filter (λ row. is_among c.as_slice.result.now row.mount) t.groups.members) = c.in_ok-members.ensures ∙ ap (λ (xs : List ℕ). map (member_in c.args.form (copy_number t.last_mount xs)) (filter (λ row. is_among xs row.mount) t.groups.members)) first in
     subst (λ (x : MountTable). IsWhole x)
-    (sym (copy_grown t whole c.args.ns c.as_slice.result.now (c.self.inside.last_ns + 1) c.in_ok-rows.rows.items c.in_ok-members.members.items c.new.result.items (c.as_slice.ensures.value ∙ items) to c.in_ok-rows.ensures members c.new.ensures.items))
-    (with_copy_whole t whole c.args.ns)
+    (sym (copy_grown t whole c.args.ns c.args.form c.as_slice.result.now (c.self.inside.last_ns + 1) c.in_ok-rows.rows.items c.in_ok-members.members.items c.new.result.items (c.as_slice.ensures.value ∙ items) to c.in_ok-rows.ensures members c.new.ensures.items))
+    (with_copy_whole t whole c.args.ns c.args.form)
 
 pub returns-clause-ok : goal.returns-clause-ok
 returns-clause-ok c =
@@ -30,8 +30,8 @@ returns-clause-ok c =
     let items : c.in_ok-mounts.mounts.items ≡ mounts_in t c.args.ns = c.in_ok-mounts.ensures.exact ∙ ap (λ (x : MountTable). mounts_in x c.args.ns) c.self.view_is in
     let to : c.self.inside.last_ns + 1 ≡ t.last_ns + 1 = ap (λ (x : MountTable). x.last_ns + 1) c.self.view_is in
     let first : c.as_slice-2.result.now ≡ c.as_slice.result.now = c.as_slice-2.ensures.value ∙ sym c.as_slice.ensures.value in
-    let members : c.in_ok-members.members.items ≡ map (member_in (copy_number t.last_mount c.as_slice.result.now)) (filter (λ row. is_among c.as_slice.result.now row.mount) t.groups.members) = c.in_ok-members.ensures ∙ ap (λ (xs : List ℕ). map (member_in (copy_number t.last_mount xs)) (filter (λ row. is_among xs row.mount) t.groups.members)) first in
-    c.in_ok-grow.ensures.ok ∙ copy_grown t whole c.args.ns c.as_slice.result.now (c.self.inside.last_ns + 1) c.in_ok-rows.rows.items c.in_ok-members.members.items c.new.result.items (c.as_slice.ensures.value ∙ items) to c.in_ok-rows.ensures members c.new.ensures.items
+    let members : c.in_ok-members.members.items ≡ map (member_in c.args.form (copy_number t.last_mount c.as_slice.result.now)) (filter (λ row. is_among c.as_slice.result.now row.mount) t.groups.members) = c.in_ok-members.ensures ∙ ap (λ (xs : List ℕ). map (member_in c.args.form (copy_number t.last_mount xs)) (filter (λ row. is_among xs row.mount) t.groups.members)) first in
+    c.in_ok-grow.ensures.ok ∙ copy_grown t whole c.args.ns c.args.form c.as_slice.result.now (c.self.inside.last_ns + 1) c.in_ok-rows.rows.items c.in_ok-members.members.items c.new.result.items (c.as_slice.ensures.value ∙ items) to c.in_ok-rows.ensures members c.new.ensures.items
 
 pub returns-clause-came : goal.returns-clause-came
 returns-clause-came c =
@@ -40,8 +40,8 @@ returns-clause-came c =
     let items : c.in_ok-mounts.mounts.items ≡ mounts_in t c.args.ns = c.in_ok-mounts.ensures.exact ∙ ap (λ (x : MountTable). mounts_in x c.args.ns) c.self.view_is in
     let to : c.self.inside.last_ns + 1 ≡ t.last_ns + 1 = ap (λ (x : MountTable). x.last_ns + 1) c.self.view_is in
     let first : c.as_slice-2.result.now ≡ c.as_slice.result.now = c.as_slice-2.ensures.value ∙ sym c.as_slice.ensures.value in
-    let members : c.in_ok-members.members.items ≡ map (member_in (copy_number t.last_mount c.as_slice.result.now)) (filter (λ row. is_among c.as_slice.result.now row.mount) t.groups.members) = c.in_ok-members.ensures ∙ ap (λ (xs : List ℕ). map (member_in (copy_number t.last_mount xs)) (filter (λ row. is_among xs row.mount) t.groups.members)) first in
-    let made : c.grow.new.self ≡ with_copy c.args.ns t = c.in_ok-grow.ensures.ok ∙ copy_grown t whole c.args.ns c.as_slice.result.now (c.self.inside.last_ns + 1) c.in_ok-rows.rows.items c.in_ok-members.members.items c.new.result.items (c.as_slice.ensures.value ∙ items) to c.in_ok-rows.ensures members c.new.ensures.items in
+    let members : c.in_ok-members.members.items ≡ map (member_in c.args.form (copy_number t.last_mount c.as_slice.result.now)) (filter (λ row. is_among c.as_slice.result.now row.mount) t.groups.members) = c.in_ok-members.ensures ∙ ap (λ (xs : List ℕ). map (member_in c.args.form (copy_number t.last_mount xs)) (filter (λ row. is_among xs row.mount) t.groups.members)) first in
+    let made : c.grow.new.self ≡ with_copy c.args.form c.args.ns t = c.in_ok-grow.ensures.ok ∙ copy_grown t whole c.args.ns c.args.form c.as_slice.result.now (c.self.inside.last_ns + 1) c.in_ok-rows.rows.items c.in_ok-members.members.items c.new.result.items (c.as_slice.ensures.value ∙ items) to c.in_ok-rows.ensures members c.new.ensures.items in
     let many : c.len-2.result ≡ length c.in_ok-mounts.mounts.items = search rules in
     let numbers : c.in_ok-copies.copies.items ≡ numbers_after c.self.inside.last_mount c.len-2.result = c.in_ok-copies.ensures in
     let told : c.in_ok-copies.copies.items ≡ new_mounts t (length (mounts_in t c.args.ns)) =
@@ -49,7 +49,7 @@ returns-clause-came c =
     ap (numbers_after t.last_mount) many ∙
     ap (λ (xs : List ℕ). numbers_after t.last_mount (length xs)) items
     in
-    ap all_mounts made ∙ copied_came t whole c.args.ns ∙ ap (λ (xs : List ℕ). all_mounts t ++ xs) (sym told)
+    ap all_mounts made ∙ copied_came t whole c.args.ns c.args.form ∙ ap (λ (xs : List ℕ). all_mounts t ++ xs) (sym told)
 
 pub returns-clause-law : goal.returns-clause-law
 returns-clause-law c =
@@ -58,6 +58,6 @@ returns-clause-law c =
     let items : c.in_ok-mounts.mounts.items ≡ mounts_in t c.args.ns = c.in_ok-mounts.ensures.exact ∙ ap (λ (x : MountTable). mounts_in x c.args.ns) c.self.view_is in
     let to : c.self.inside.last_ns + 1 ≡ t.last_ns + 1 = ap (λ (x : MountTable). x.last_ns + 1) c.self.view_is in
     let first : c.as_slice-2.result.now ≡ c.as_slice.result.now = c.as_slice-2.ensures.value ∙ sym c.as_slice.ensures.value in
-    let members : c.in_ok-members.members.items ≡ map (member_in (copy_number t.last_mount c.as_slice.result.now)) (filter (λ row. is_among c.as_slice.result.now row.mount) t.groups.members) = c.in_ok-members.ensures ∙ ap (λ (xs : List ℕ). map (member_in (copy_number t.last_mount xs)) (filter (λ row. is_among xs row.mount) t.groups.members)) first in
-    let made : c.grow.new.self ≡ with_copy c.args.ns t = c.in_ok-grow.ensures.ok ∙ copy_grown t whole c.args.ns c.as_slice.result.now (c.self.inside.last_ns + 1) c.in_ok-rows.rows.items c.in_ok-members.members.items c.new.result.items (c.as_slice.ensures.value ∙ items) to c.in_ok-rows.ensures members c.new.ensures.items in
-    subst (λ (x : MountTable). AddsNoReceivers t.groups x.groups) (sym made) (with_copy_law t whole c.args.ns)
+    let members : c.in_ok-members.members.items ≡ map (member_in c.args.form (copy_number t.last_mount c.as_slice.result.now)) (filter (λ row. is_among c.as_slice.result.now row.mount) t.groups.members) = c.in_ok-members.ensures ∙ ap (λ (xs : List ℕ). map (member_in c.args.form (copy_number t.last_mount xs)) (filter (λ row. is_among xs row.mount) t.groups.members)) first in
+    let made : c.grow.new.self ≡ with_copy c.args.form c.args.ns t = c.in_ok-grow.ensures.ok ∙ copy_grown t whole c.args.ns c.args.form c.as_slice.result.now (c.self.inside.last_ns + 1) c.in_ok-rows.rows.items c.in_ok-members.members.items c.new.result.items (c.as_slice.ensures.value ∙ items) to c.in_ok-rows.ensures members c.new.ensures.items in
+    subst (λ (x : MountTable). AddsNoReceivers t.groups x.groups) (sym made) (with_copy_law t whole c.args.ns c.args.form)
