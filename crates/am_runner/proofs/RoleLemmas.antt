@@ -1,8 +1,9 @@
 -- What a role adds, and what it adds to that.
-use Rattle.std.proofs.Common.{◌≡◌, ◌⊎◌, ℕ, suc, ◌+◌, List, [], ◌∷◌, ◌++◌, Some, length, refl, sym, ap, ◌∙◌, subst, append_assoc, inl, inr, arith, true, All, Any}
+use Rattle.std.proofs.Common.{◌≡◌, ℕ, suc, ◌+◌, List, [], ◌∷◌, ◌++◌, Some, length, refl, sym, ap, ◌∙◌, subst, append_assoc, inl, inr, arith, true, All, Any}
+use Rattle.std.proofs.lemmas.Bool.{false≢true}
 use Rattle.std.proofs.lemmas.Grind.{common_steps}
 use Rattle.std.proofs.lemmas.List.{append-nil}
-use Rattle.std.proofs.lemmas.List.Elements.{All-nil, All-append, All-weaker}
+use Rattle.std.proofs.lemmas.List.Elements.{All-nil, All-head, All-tail, All-append, All-weaker}
 use Rattle.am_names.specs.declared.trigger.PipeState.TheVariants.{Room}
 use Rattle.am_machine.specs.declared.event.Event.{Event}
 use Rattle.am_machine.specs.declared.event.Event.TheVariants as events
@@ -11,23 +12,11 @@ use Rattle.am_pipe.specs.declared.note.Note.{Note}
 use Rattle.am_shared.specs.declared.caller.Receipt.{Receipt}
 use Rattle.am_runner.specs.declared.calls.Reply.{Reply}
 use Rattle.am_runner.specs.declared.calls.Reply.TheVariants as replies
-use Rattle.am_runner.specs.Roles.{Adds, IsOf, Resumes, IsOfRound, IsOfExpirer, IsDelivery, IsActOf, IsActOfJob, Serves, Calls, Tells, IsBreak, AreBreaks, Breaks}
-
-pub any_left : {X : Type 0} (P : X → Type 0) (xs ys : List X) → Any P xs → Any P (xs ++ ys)
-any_left P xs ys (k, x, within, is, holds) =
-    (k, x, grind (arith, common_steps), grind (arith, common_steps), holds)
+use Rattle.am_runner.specs.Roles.{Adds, Makes, IsOf, Resumes, IsOfRound, IsOfExpirer, GoesOn, EndAtRefusal, IsActOf, AreActs, IsService, AreServices, Serves, Tries, Calls, Tells, is_done, IsBreak, AreBreaks, Breaks}
 
 pub any_right : {X : Type 0} (P : X → Type 0) (xs ys : List X) → Any P ys → Any P (xs ++ ys)
 any_right P xs ys (k, x, within, is, holds) =
     (length xs + k, x, grind (arith, common_steps), grind (arith, common_steps), holds)
-
-pub any_as : {X : Type 0} (P Q : X → Type 0) (xs : List X) → ((x : X) → P x → Q x) → Any P xs
-    → Any Q xs
-any_as P Q xs f (k, x, within, is, holds) = (k, x, within, is, f x holds)
-
-pub any_of_all : {X : Type 0} (P Q : X → Type 0) (xs : List X) → All P xs → Any Q xs
-    → Any (λ x. P x × Q x) xs
-any_of_all P Q xs all (k, x, within, is, holds) = (k, x, within, is, (subst P is (all k x within), holds))
 
 pub adds_none : (P : Receipt → Type 0) (a : List Receipt) → Adds P a a
 adds_none P a = record { made = []; behind = sym (append-nil a); each = All-nil P }
@@ -57,16 +46,146 @@ adds_calls event reply a b calls = record {
   each = calls.each;
 }
 
-pub calls_none : (event : Event) (a : List Receipt) → Calls event replies.NoMemory a a
-calls_none event a = record {
+pub tries_none : (role : Receipt → Type 0) (reply : Reply) (a : List Receipt) → Tells reply []
+    → Tries role reply a a
+tries_none role reply a told = record {
   made = [];
   behind = sym (append-nil a);
-  each = All-nil (IsOf event);
-  told = tt;
+  each = All-nil role;
+  end = tt;
+  told = told;
 }
 
-abbrev pub IsWork : List (ℕ × Note) → List Receipt → Receipt → Type 0
-IsWork taken made r = IsDelivery taken r ⊎ IsActOfJob taken made r
+pub tries_as : (P Q : Receipt → Type 0) (reply : Reply) (a b : List Receipt) → ((r : Receipt) → P r → Q r)
+    → Tries P reply a b → Tries Q reply a b
+tries_as P Q reply a b f tries = record {
+  made = tries.made;
+  behind = tries.behind;
+  each = All-weaker P Q f tries.made tries.each;
+  end = tries.end;
+  told = tries.told;
+}
+
+pub end_behind : (xs ys : List Receipt) → All GoesOn xs → EndAtRefusal ys → EndAtRefusal (xs ++ ys)
+end_behind [] ys go end = end
+end_behind (x ∷ xs) ys go end =
+    (inl (All-head GoesOn x xs go), end_behind xs ys (All-tail GoesOn x xs go) end)
+
+pub tells_more : (reply : Reply) (m n : List Receipt) → All GoesOn m → Tells reply n
+    → Tells reply (m ++ n)
+tells_more replies.NoMemory m n go told = All-append GoesOn m n go told
+tells_more replies.Wait m n go told = All-append GoesOn m n go told
+tells_more replies.Arrived m n go told = All-append GoesOn m n go told
+tells_more (replies.Job job) m n go told = any_right (λ r. r.answer ≡ answers.Job job) m n told
+tells_more replies.Refused m n go told = tt
+tells_more replies.Done m n go told = All-append GoesOn m n go told
+
+-- the receipts of a role that don't refuse
+abbrev pub Accepted : (Receipt → Type 0) → Receipt → Type 0
+Accepted role r = role r × GoesOn r
+
+accepted_role : (role : Receipt → Type 0) (xs : List Receipt) → All (Accepted role) xs → All role xs
+accepted_role role xs all = All-weaker (Accepted role) role (λ r both. both.0) xs all
+
+accepted_goes_on : (role : Receipt → Type 0) (xs : List Receipt) → All (Accepted role) xs
+    → All GoesOn xs
+accepted_goes_on role xs all = All-weaker (Accepted role) GoesOn (λ r both. both.1) xs all
+
+both_of : (role : Receipt → Type 0) (xs : List Receipt) → All role xs → All GoesOn xs
+    → All (Accepted role) xs
+both_of role xs all go = λ k d within. (all k d within, go k d within)
+
+-- an event that found no memory, behind others
+pub tries_again : (role : Receipt → Type 0) (a b c : List Receipt) → Adds (Accepted role) a b
+    → Tries role replies.NoMemory b c → Adds (Accepted role) a c
+tries_again role a b c first last =
+    adds_more (Accepted role) a b c first (record {
+      made = last.made;
+      behind = last.behind;
+      each = both_of role last.made last.each last.told;
+    })
+
+pub tries_more : (role : Receipt → Type 0) (reply : Reply) (a b c : List Receipt)
+    → Adds (Accepted role) a b → Tries role reply b c → Tries role reply a c
+tries_more role reply a b c first last = record {
+  made = first.made ++ last.made;
+  behind = last.behind ∙ ap (λ xs. xs ++ last.made) first.behind
+      ∙ append_assoc a first.made last.made;
+  each = All-append role first.made last.made (accepted_role role first.made first.each) last.each;
+  end = end_behind first.made last.made (accepted_goes_on role first.made first.each) last.end;
+  told = tells_more reply first.made last.made (accepted_goes_on role first.made first.each) last.told;
+}
+
+-- an event that found no memory each time
+pub tries_end : (role : Receipt → Type 0) (a b : List Receipt) → Adds (Accepted role) a b
+    → Tries role replies.NoMemory a b
+tries_end role a b adds =
+    tries_more role replies.NoMemory a b b adds
+    (tries_none role replies.NoMemory b (All-nil GoesOn))
+
+-- an act that is done, behind others
+pub acts_more : (job : ℕ) (reply : Reply) (a b c : List Receipt) → is_done reply ≡ true
+    → Adds (Accepted (IsActOf job)) a b → Tries (IsActOf job) reply b c
+    → Adds (Accepted (IsActOf job)) a c
+acts_more job replies.Done a b c is first last =
+    adds_more (Accepted (IsActOf job)) a b c first (record {
+      made = last.made;
+      behind = last.behind;
+      each = both_of (IsActOf job) last.made last.each last.told;
+    })
+acts_more job replies.NoMemory a b c is first last = absurd (false≢true is)
+acts_more job replies.Wait a b c is first last = absurd (false≢true is)
+acts_more job replies.Arrived a b c is first last = absurd (false≢true is)
+acts_more job (replies.Job j) a b c is first last = absurd (false≢true is)
+acts_more job replies.Refused a b c is first last = absurd (false≢true is)
+
+pub acts_of_tries : (job : ℕ) (reply : Reply) (a b : List Receipt) → Tries (IsActOf job) reply a b
+    → Makes (AreActs job) a b
+acts_of_tries job reply a b tries = record {
+  made = tries.made;
+  behind = tries.behind;
+  are = (tries.each, tries.end);
+}
+
+-- no act is behind those that were made
+pub acts_end : (job : ℕ) (a b : List Receipt) → Adds (Accepted (IsActOf job)) a b
+    → Makes (AreActs job) a b
+acts_end job a b adds =
+    acts_of_tries job replies.Refused a b
+    (tries_more (IsActOf job) replies.Refused a b b adds
+    (tries_none (IsActOf job) replies.Refused b tt))
+
+abbrev pub delivery : ℕ × Note → Event
+delivery x = events.Deliver x.1.token (Some x.1.bytes)
+
+pub service_call : (x : ℕ × Note) (reply : Reply) (a b : List Receipt) → Calls (delivery x) reply a b
+    → Makes (IsService x) a b
+service_call x reply a b calls = record {
+  made = calls.made;
+  behind = calls.behind;
+  are = record {
+    deliveries = calls.made;
+    acts = [];
+    in_turn = sym (append-nil calls.made);
+    delivers = calls.each;
+    works = inl refl;
+  };
+}
+
+pub service_job : (x : ℕ × Note) (job : ℕ) (a b c : List Receipt)
+    → Calls (delivery x) (replies.Job job) a b → Makes (AreActs job) b c → Makes (IsService x) a c
+service_job x job a b c calls acts = record {
+  made = calls.made ++ acts.made;
+  behind = acts.behind ∙ ap (λ xs. xs ++ acts.made) calls.behind
+      ∙ append_assoc a calls.made acts.made;
+  are = record {
+    deliveries = calls.made;
+    acts = acts.made;
+    in_turn = refl;
+    delivers = calls.each;
+    works = inr (job, calls.told, acts.are);
+  };
+}
 
 pub serves_none : (got : List (ℕ × Note)) (a : List Receipt) → Serves got got a a
 serves_none got a = record {
@@ -74,95 +193,30 @@ serves_none got a = record {
   takes = sym (append-nil got);
   made = [];
   behind = sym (append-nil a);
-  each = All-nil (IsWork [] []);
+  are_services = refl;
 }
 
-pub work_left : (t u : List (ℕ × Note)) (m n : List Receipt) (r : Receipt) → IsWork t m r
-    → IsWork (t ++ u) (m ++ n) r
-work_left t u m n r (inl delivered) = inl (any_left _ t u delivered)
-work_left t u m n r (inr (job, act, begun)) =
-    inr (job, act, any_left _ m n (any_as _ _ m (λ d e. (any_left _ t u e.0, e.1)) begun))
-
-pub work_right : (t u : List (ℕ × Note)) (m n : List Receipt) (r : Receipt) → IsWork u n r
-    → IsWork (t ++ u) (m ++ n) r
-work_right t u m n r (inl delivered) = inl (any_right _ t u delivered)
-work_right t u m n r (inr (job, act, begun)) =
-    inr (job, act, any_right _ m n (any_as _ _ n (λ d e. (any_right _ t u e.0, e.1)) begun))
+services_more : (taken : List (ℕ × Note)) (x : ℕ × Note) (m n : List Receipt) → AreServices taken m
+    → IsService x n → AreServices (taken ++ x ∷ []) (m ++ n)
+services_more [] x m n none one =
+    (n, [], ap (λ xs. xs ++ n) none ∙ sym (append-nil n), one, refl)
+services_more (y ∷ taken) x m n (first, rest, is, service, more) one = (
+  first,
+  rest ++ n,
+  ap (λ xs. xs ++ n) is ∙ append_assoc first rest n,
+  service,
+  services_more taken x rest n more one,
+)
 
 pub serves_more : (got got' got'' : List (ℕ × Note)) (x : ℕ × Note) (a b c : List Receipt)
-    → Serves got got' a b → got'' ≡ got' ++ x ∷ [] → Serves [] (x ∷ []) b c → Serves got got'' a c
+    → Serves got got' a b → got'' ≡ got' ++ x ∷ [] → Makes (IsService x) b c → Serves got got'' a c
 serves_more got got' got'' x a b c first takes last = record {
-  taken = first.taken ++ last.taken;
-  takes = takes ∙ ap (λ xs. got' ++ xs) last.takes ∙ ap (λ xs. xs ++ last.taken) first.takes
-      ∙ append_assoc got first.taken last.taken;
+  taken = first.taken ++ x ∷ [];
+  takes = takes ∙ ap (λ xs. xs ++ x ∷ []) first.takes ∙ append_assoc got first.taken (x ∷ []);
   made = first.made ++ last.made;
   behind = last.behind ∙ ap (λ xs. xs ++ last.made) first.behind
       ∙ append_assoc a first.made last.made;
-  each = All-append (IsWork (first.taken ++ last.taken) (first.made ++ last.made)) first.made last.made
-      (All-weaker _ _ (work_left first.taken last.taken first.made last.made) first.made first.each)
-      (All-weaker _ _ (work_right first.taken last.taken first.made last.made) last.made last.each);
-}
-
-abbrev pub delivery : ℕ × Note → Event
-delivery x = events.Deliver x.1.token (Some x.1.bytes)
-
-pub is_delivery : (x : ℕ × Note) (r : Receipt) → IsOf (delivery x) r → IsDelivery (x ∷ []) r
-is_delivery x r is = (0, x, omega arith, refl, is)
-
-pub serves_call : (x : ℕ × Note) (reply : Reply) (a b : List Receipt) → Calls (delivery x) reply a b
-    → Serves [] (x ∷ []) a b
-serves_call x reply a b calls = record {
-  taken = x ∷ [];
-  takes = refl;
-  made = calls.made;
-  behind = calls.behind;
-  each = All-weaker (IsOf (delivery x)) (IsWork (x ∷ []) calls.made)
-      (λ r is. inl (is_delivery x r is)) calls.made calls.each;
-}
-
-pub serves_job : (x : ℕ × Note) (job : ℕ) (a b c : List Receipt)
-    → Calls (delivery x) (replies.Job job) a b → Adds (IsActOf job) b c → Serves [] (x ∷ []) a c
-serves_job x job a b c calls acts =
-    let told : Any (λ begun. IsDelivery (x ∷ []) begun × (begun.answer ≡ answers.Job job)) calls.made =
-    any_as (λ begun. IsOf (delivery x) begun × (begun.answer ≡ answers.Job job))
-    (λ begun. IsDelivery (x ∷ []) begun × (begun.answer ≡ answers.Job job)) calls.made
-    (λ r e. (is_delivery x r e.0, e.1))
-    (any_of_all (IsOf (delivery x)) (λ begun. begun.answer ≡ answers.Job job) calls.made
-    calls.each calls.told) in
-    record {
-      taken = x ∷ [];
-      takes = refl;
-      made = calls.made ++ acts.made;
-      behind = acts.behind ∙ ap (λ xs. xs ++ acts.made) calls.behind
-          ∙ append_assoc a calls.made acts.made;
-      each = All-append (IsWork (x ∷ []) (calls.made ++ acts.made)) calls.made acts.made
-          (All-weaker (IsOf (delivery x)) (IsWork (x ∷ []) (calls.made ++ acts.made))
-          (λ r is. inl (is_delivery x r is)) calls.made calls.each)
-          (All-weaker (IsActOf job) (IsWork (x ∷ []) (calls.made ++ acts.made))
-          (λ r is. inr (
-            job,
-            is,
-            any_left (λ begun. IsDelivery (x ∷ []) begun
-                × (begun.answer ≡ answers.Job job)) calls.made acts.made told,
-          )) acts.made acts.each);
-    }
-
-pub tells_more : (reply : Reply) (m n : List Receipt) → Tells reply n → Tells reply (m ++ n)
-tells_more replies.NoMemory m n told = tt
-tells_more replies.Wait m n told = tt
-tells_more replies.Arrived m n told = tt
-tells_more (replies.Job job) m n told = any_right (λ r. r.answer ≡ answers.Job job) m n told
-tells_more replies.Refused m n told = tt
-tells_more replies.Done m n told = tt
-
-pub calls_more : (event : Event) (reply : Reply) (a b c : List Receipt) → Adds (IsOf event) a b
-    → Calls event reply b c → Calls event reply a c
-calls_more event reply a b c first last = record {
-  made = first.made ++ last.made;
-  behind = last.behind ∙ ap (λ xs. xs ++ last.made) first.behind
-      ∙ append_assoc a first.made last.made;
-  each = All-append (IsOf event) first.made last.made first.each last.each;
-  told = tells_more reply first.made last.made last.told;
+  are_services = services_more first.taken x first.made last.made first.are_services last.are;
 }
 
 pub adds_round : (walk : Event) (walker : ℕ) (reply : Reply) (a b c : List Receipt)

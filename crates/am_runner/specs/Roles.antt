@@ -1,5 +1,6 @@
 -- What each role of a run makes: the receipts of the caller that comes back.
-use Rattle.std.specs.Prelude.{◌≡◌, ◌⊎◌, ⊤, ℕ, Bool, true, zero, suc, List, [], ◌++◌, All, Any, Some}
+use Rattle.std.specs.Prelude.{◌≡◌, ◌⊎◌, ⊤, ℕ, Bool, true, false, zero, suc, List, [], ◌∷◌, ◌++◌, All, Any, Some}
+use Rattle.am_names.specs.declared.errno.Errno.TheVariants.{NoMemory}
 use Rattle.am_names.specs.declared.trigger.PipeState.TheVariants.{Room}
 use Rattle.am_machine.specs.declared.event.Event.{Event}
 use Rattle.am_machine.specs.declared.event.Event.TheVariants as events
@@ -15,6 +16,12 @@ pub record Adds (role : Receipt → Type 0) (old new : List Receipt) : Type 0 wh
   pub made : List Receipt
   pub behind : new ≡ old ++ made
   pub each : All role made
+
+-- the receipts that a caller came with, and behind them these
+pub record Makes (what : List Receipt → Type 0) (old new : List Receipt) : Type 0 where
+  pub made : List Receipt
+  pub behind : new ≡ old ++ made
+  pub are : what made
 
 -- it is a receipt of this event
 abbrev pub IsOf : Event → Receipt → Type 0
@@ -62,43 +69,89 @@ pub record Breaks (fs rounds : ℕ) (old new : List Receipt) : Type 0 where
   pub behind : new ≡ old ++ made
   pub are_breaks : AreBreaks fs rounds made
 
--- the packet of one of these notes is delivered, byte for byte
-abbrev pub IsDelivery : List (ℕ × Note) → Receipt → Type 0
-IsDelivery taken receipt =
-    Any (λ x. receipt.event ≡ events.Deliver x.1.token (Some x.1.bytes)) taken
+-- the event was refused, and not for want of memory
+abbrev pub is_refusal : Answer → Bool
+is_refusal (answers.Refused NoMemory) = false
+is_refusal (answers.Refused errno) = true
+is_refusal answer = false
+
+-- it is no receipt of a refusal
+abbrev pub GoesOn : Receipt → Type 0
+GoesOn receipt = is_refusal receipt.answer ≡ false
+
+-- a receipt of a refusal is the last of these
+abbrev pub EndAtRefusal : List Receipt → Type 0
+EndAtRefusal [] = ⊤
+EndAtRefusal (receipt ∷ rest) = (GoesOn receipt ⊎ (rest ≡ [])) × EndAtRefusal rest
+
+-- the packet of this note is delivered, byte for byte
+abbrev pub IsDelivery : ℕ × Note → Receipt → Type 0
+IsDelivery taken receipt = IsOf (events.Deliver taken.1.token (Some taken.1.bytes)) receipt
 
 -- an act of this job
 abbrev pub IsActOf : ℕ → Receipt → Type 0
-IsActOf job receipt = (ok : Bool) × (receipt.event ≡ events.Act job ok)
+IsActOf job receipt = (ok : Bool) × IsOf (events.Act job ok) receipt
 
--- an act of a job which such a delivery, one of these receipts, began
-abbrev pub IsActOfJob : List (ℕ × Note) → List Receipt → Receipt → Type 0
-IsActOfJob taken made receipt =
-    (job : ℕ) × IsActOf job receipt
-    × Any (λ begun. IsDelivery taken begun × (begun.answer ≡ answers.Job job)) made
+-- acts of this job, one by one, and none behind one that is refused
+abbrev pub AreActs : ℕ → List Receipt → Type 0
+AreActs job made = All (IsActOf job) made × EndAtRefusal made
 
--- A worker took notes out of the pipe, and each receipt that it added is of a delivery of one of them,
--- or of an act of a job which such a delivery began.
+-- these are acts of the job which one of these deliveries began
+abbrev pub IsWorkOf : List Receipt → List Receipt → Type 0
+IsWorkOf deliveries acts =
+    (job : ℕ) × Any (λ receipt. receipt.answer ≡ answers.Job job) deliveries × AreActs job acts
+
+-- A note is served: its packet is delivered, again and again where memory runs out, and then come
+-- the acts of the job which that began, if there are any.
+pub record IsService (taken : ℕ × Note) (made : List Receipt) : Type 0 where
+  pub deliveries : List Receipt
+  pub acts : List Receipt
+  pub in_turn : made ≡ deliveries ++ acts
+  pub delivers : All (IsDelivery taken) deliveries
+  pub works : (acts ≡ []) ⊎ IsWorkOf deliveries acts
+
+-- these are the services of the notes, one behind the other
+abbrev pub AreServices : List (ℕ × Note) → List Receipt → Type 0
+AreServices [] made = made ≡ []
+AreServices (x ∷ taken) made =
+    (first : List Receipt) × (rest : List Receipt) × (made ≡ first ++ rest)
+    × IsService x first × AreServices taken rest
+
+-- A worker took notes out of the pipe, and served them in turn: behind the delivery of a packet come
+-- acts of its job alone, and none behind one that is refused.
 pub record Serves (got_old got_new : List (ℕ × Note)) (old new : List Receipt) : Type 0 where
   pub taken : List (ℕ × Note)
   pub takes : got_new ≡ got_old ++ taken
   pub made : List Receipt
   pub behind : new ≡ old ++ made
-  pub each : All (λ receipt. IsDelivery taken receipt ⊎ IsActOfJob taken made receipt) made
+  pub are_services : AreServices taken made
 
--- where a job was begun, one of these receipts says so
+-- one of these receipts says that a job was begun, where the reply does; none is of a refusal,
+-- unless the reply says so
 abbrev pub Tells : Reply → List Receipt → Type 0
 Tells (replies.Job job) made = Any (λ receipt. receipt.answer ≡ answers.Job job) made
-Tells reply made = ⊤
+Tells replies.Refused made = ⊤
+Tells reply made = All GoesOn made
 
--- an event was made, again and again where memory ran out, and this is the reply
-pub record Calls (event : Event) (reply : Reply) (old new : List Receipt) : Type 0 where
+-- such events were made, none behind one that was refused, and this is the reply
+pub record Tries (role : Receipt → Type 0) (reply : Reply) (old new : List Receipt) : Type 0 where
   pub made : List Receipt
   pub behind : new ≡ old ++ made
-  pub each : All (IsOf event) made
+  pub each : All role made
+  pub end : EndAtRefusal made
   pub told : Tells reply made
+
+-- an event was made, again and again where memory ran out, and this is the reply
+abbrev pub Calls : Event → Reply → List Receipt → List Receipt → Type 0
+Calls event reply old new = Tries (IsOf event) reply old new
 
 -- the reply is that to this answer
 abbrev pub IsReplyTo : Answer → Reply → Type 0
 IsReplyTo answer (replies.Job job) = answer ≡ answers.Job job
-IsReplyTo answer reply = ⊤
+IsReplyTo answer replies.Refused = ⊤
+IsReplyTo answer reply = is_refusal answer ≡ false
+
+-- it is done
+abbrev pub is_done : Reply → Bool
+is_done replies.Done = true
+is_done reply = false

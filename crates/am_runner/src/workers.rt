@@ -1,7 +1,7 @@
 //! Who serves: the daemon's workers.
 
-ghost use Rattle.std.specs.Prelude.{◌≡◌, [], ◌∷◌};
-ghost use Rattle.am_runner.specs.Roles.{Adds, IsActOf, Serves};
+ghost use Rattle.std.specs.Prelude.{◌≡◌};
+ghost use Rattle.am_runner.specs.Roles.{AreActs, IsActOf, IsService, Makes, Serves, Tries, is_done};
 
 use crate::calls::{Reply, TRIES, call};
 use am_job::Act;
@@ -74,7 +74,7 @@ fn act<L: Opened, B: Backend, R: Wait>(
     job: JobId,
     backend: &mut B,
 ) -> Reply
-    ensures { Adds (IsActOf job) caller.old caller.new }
+    ensures { Tries (IsActOf job) result caller.old caller.new }
 {
     match next_act(rt, alloc, caller, job) {
         Ok(Some(act)) => {
@@ -87,7 +87,9 @@ fn act<L: Opened, B: Backend, R: Wait>(
 }
 
 /// Whether a job goes on behind this reply. Where memory ran out for good, nobody is to wait for it.
-fn goes_on<L: Opened, R: Wait>(rt: &R, caller: &Caller<L>, reply: Reply) -> bool {
+fn goes_on<L: Opened, R: Wait>(rt: &R, caller: &Caller<L>, reply: Reply) -> bool
+    ensures { result ≡ is_done reply }
+{
     match reply {
         Reply::Done => true,
         Reply::NoMemory => {
@@ -106,7 +108,7 @@ fn finish<L: Opened, B: Backend, R: Wait>(
     job: JobId,
     backend: &mut B,
 )
-    ensures { Adds (IsActOf job) caller.old caller.new }
+    ensures { Makes (AreActs job) caller.old caller.new }
 {
     for _ in rt.forever() {
         let reply = act(rt, alloc, caller, job, backend);
@@ -126,7 +128,7 @@ fn serve<L: Opened, G: Gate, B: Backend, R: Wait>(
     gate: &G,
     backend: &mut B,
 )
-    ensures { Serves [] (taken.now ∷ []) caller.old caller.new }
+    ensures { Makes (IsService taken.now) caller.old caller.new }
 {
     let note = &taken.1;
     let deliver = Event::Deliver {
