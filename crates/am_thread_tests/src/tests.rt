@@ -2,9 +2,12 @@
 
 mod callers;
 mod crowds;
+mod deaths;
 mod ends;
 mod releases;
 mod rows;
 mod runner;
+mod seats;
 mod shared;
+mod sizes;
 mod worlds;

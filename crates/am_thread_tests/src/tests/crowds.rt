@@ -2,6 +2,7 @@
 
 ghost use Rattle.std.specs.Prelude.{◌≡◌, ◌<◌, []};
 
+use crate::tests::sizes::number;
 use crate::tests::worlds::{Beginning, call, world_and_ends, world_of};
 use am_machine::Entry;
 use am_names::{JobId, Token, WalkerId};
@@ -16,8 +17,8 @@ use std::process::Abort;
 use std::sync::Wait;
 use std::sync::ledger::Blank;
 use std::test::*;
+use std::thread;
 use std::thread::Threads;
-use std::{env, thread};
 
 /// Every key is mounted from one place.
 const ANY: &[u8] = b"* srv:/any";
@@ -294,14 +295,6 @@ fn crowd<L: Opened + Send + Sync, R: Threads + Wait + Abort + Sync>(
     assert!(rt; end.is_replayed, "the history is one of a single thread");
     assert!(rt; end.is_lawful, "the trace is lawful");
     Ok(())
-}
-
-/// A number of the environment, or else this one.
-fn number(rt: &HostRuntime, name: &str, otherwise: u32) -> u32 {
-    match env::var(rt, name) {
-        Ok(text) => text.as_str().parse::<u32>().unwrap_or(otherwise),
-        Err(_) => otherwise,
-    }
 }
 
 fn size_of(rt: &HostRuntime) -> Size {

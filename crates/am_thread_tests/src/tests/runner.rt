@@ -2,6 +2,7 @@
 
 ghost use Rattle.std.specs.Prelude.{◌≡◌, ◌<◌, [], vec_len, IfOk};
 
+use crate::tests::seats::{Seat, callers_of, seats_of};
 use crate::tests::worlds::{Beginning, call, world_and_ends};
 use am_machine::{Answer, Entry};
 use am_map::Entry as MapEntry;
@@ -64,13 +65,6 @@ impl Backend for Succeeds {
     }
 }
 
-/// Where a thread sits that has a caller: a worker, if it has an end of the pipe, and else a walker.
-#[derive(Drop)]
-struct Seat<L: Opened> {
-    caller: Option<Caller<L>>,
-    taker: Option<TakeEnd>,
-}
-
 /// The last walker that comes back tells the workers to stop.
 fn comes_back(held: &Held) {
     held.arrived.store(true, Ordering::SeqCst);
@@ -119,33 +113,6 @@ fn acts<L: Opened, R: Wait>(rt: &R, alloc: Global, held: &Held, index: usize, se
         None => walks(rt, alloc, held, caller, index),
     };
     seat.caller = Some(back);
-}
-
-/// The first seats are those of workers.
-fn seats_of<L: Opened>(
-    alloc: Global,
-    callers: Vec<Caller<L>>,
-    mut takers: Vec<TakeEnd>,
-) -> Result<Vec<Seat<L>>, AllocError> {
-    let mut seats = Vec::with_capacity(alloc, callers.len())?;
-    for caller in callers {
-        seats.push(Seat {
-            caller: Some(caller),
-            taker: takers.pop(),
-        })?;
-    }
-    Ok(seats)
-}
-
-fn callers_of<L: Opened>(alloc: Global, seats: Vec<Seat<L>>) -> Result<Vec<Caller<L>>, AllocError> {
-    let mut back = Vec::with_capacity(alloc, seats.len())?;
-    for seat in seats {
-        let Seat { caller, taker: _ } = seat;
-        if let Some(caller) = caller {
-            back.push(caller)?;
-        }
-    }
-    Ok(back)
 }
 
 /// All four callers, when the walkers have walked and the workers have stopped.
