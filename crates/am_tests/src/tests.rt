@@ -1,5 +1,6 @@
 //! Scripts, lines, worlds and traces as tables, and small functions that play them.
 
+mod agreement;
 mod answer_lines;
 mod event_lines;
 mod events;
@@ -9,9 +10,9 @@ mod head_faults;
 mod heads;
 mod memory;
 mod played;
-mod positions;
 mod sights;
 mod stage;
 mod streams;
+mod sweeps;
 mod traces;
 mod worlds;
