@@ -199,11 +199,27 @@ fn is_old(world: &World, job: JobId) -> bool {
     }
 }
 
-/// Whether the event of a line is an act of such a job.
+/// The job of an act.
+fn job_of(event: &Event) -> Option<JobId> {
+    match event {
+        Event::Act { job, .. } => Some(*job),
+        _ => None,
+    }
+}
+
+/// Whether an event is an act of such a job.
+fn is_act_of_old(world: &World, event: &Event) -> bool {
+    match job_of(event) {
+        Some(job) => is_old(world, job),
+        None => false,
+    }
+}
+
+/// Whether the event of a line is one.
 fn is_old_act(stage: &Stage, alloc: Global, line: &[u8]) -> bool {
     match event_in_the_end(alloc, line) {
-        Some(Event::Act { job, .. }) => is_old(&stage.world, job),
-        _ => false,
+        Some(event) => is_act_of_old(&stage.world, &event),
+        None => false,
     }
 }
 
