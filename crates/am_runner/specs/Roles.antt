@@ -101,8 +101,8 @@ abbrev pub IsWorkOf : List Receipt → List Receipt → Type 0
 IsWorkOf deliveries acts =
     (job : ℕ) × Any (λ receipt. receipt.answer ≡ answers.Job job) deliveries × AreActs job acts
 
--- A note is served: its packet is delivered, again and again where memory runs out, and then come the
--- acts of the job which that began, if there are any.
+-- A note is served: its packet is delivered, again and again where memory runs out, and then come
+-- the acts of the job which that began, if there are any.
 pub record IsService (taken : ℕ × Note) (made : List Receipt) : Type 0 where
   pub deliveries : List Receipt
   pub acts : List Receipt
@@ -126,8 +126,8 @@ pub record Serves (got_old got_new : List (ℕ × Note)) (old new : List Receipt
   pub behind : new ≡ old ++ made
   pub are_services : AreServices taken made
 
--- one of these receipts says that a job was begun, where the reply does; none is of a refusal, unless
--- the reply says so
+-- one of these receipts says that a job was begun, where the reply does; none is of a refusal,
+-- unless the reply says so
 abbrev pub Tells : Reply → List Receipt → Type 0
 Tells (replies.Job job) made = Any (λ receipt. receipt.answer ≡ answers.Job job) made
 Tells replies.Refused made = ⊤

@@ -12,8 +12,8 @@ struct Serving {
     attach: Attach,
 }
 
-/// Whether the daemon holds an attachment behind this, where that can be told: it dies, or attaches to
-/// an autofs whose first mount is this.
+/// Whether the daemon holds an attachment behind this, where that can be told: it dies, or attaches
+/// to an autofs whose first mount is this.
 fn held_behind(obs: &Obs, location: MountId) -> Option<bool> {
     match obs {
         Obs::Died => Some(false),
@@ -177,8 +177,8 @@ fn trigger_of(fs: FsId, name: &[u8]) -> Trigger {
     }
 }
 
-/// Whether kernel and daemon agree on these triggers of a file system and on its tokens, if the daemon
-/// serves it.
+/// Whether kernel and daemon agree on these triggers of a file system and on its tokens, if the
+/// daemon serves it.
 pub fn agree(alloc: Global, world: &World, fs: FsId, names: &[&[u8]]) -> Result<bool, AllocError> {
     let Some(serving) = serving_of(world, fs) else {
         return Ok(true);

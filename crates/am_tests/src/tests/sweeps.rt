@@ -1,6 +1,6 @@
-//! The events of the examples, with a death, catatonic mode, a reattachment or another pipe at every
-//! position, and at every pair of positions of one of them. Whatever comes of it, the laws hold of the
-//! trace, kernel and daemon agree, and acts of an old attachment are refused.
+//! The events of the examples, with a death, catatonic mode, a reattachment or another pipe at
+//! every position, and at every pair of positions of one of them. Whatever comes of it, the laws
+//! hold of the trace, kernel and daemon agree, and acts of an old attachment are refused.
 
 use crate::tests::agreement::{agree, attach_of};
 use crate::tests::examples::{
@@ -128,8 +128,8 @@ static SLAVES_OF_SLAVES: [Step; 14] = [
     Step(b"walk 3 0 /b/x 0 room", b""),
 ];
 
-/// The number of events of `examples/expiry_while_busy.script`: they begin that of an expiry beside a
-/// walk.
+/// The number of events of `examples/expiry_while_busy.script`: they begin those of an expiry
+/// beside a walk.
 const EXPIRY_WHILE_BUSY: usize = 16;
 
 /// The examples of an autofs at /auto.
@@ -149,7 +149,8 @@ fn examples() -> [&'static [Step]; 10] {
     ]
 }
 
-/// What is changed at a position: events come before that which stands there, or it has another pipe.
+/// What is changed at a position: events come before that which stands there, or it has another
+/// pipe.
 #[derive(Clone, Copy)]
 enum Change {
     Puts(&'static [&'static [u8]]),
@@ -198,11 +199,27 @@ fn is_old(world: &World, job: JobId) -> bool {
     }
 }
 
-/// Whether the event of a line is an act of such a job.
+/// The job of an act.
+fn job_of(event: &Event) -> Option<JobId> {
+    match event {
+        Event::Act { job, .. } => Some(*job),
+        _ => None,
+    }
+}
+
+/// Whether an event is an act of such a job.
+fn is_act_of_old(world: &World, event: &Event) -> bool {
+    match job_of(event) {
+        Some(job) => is_old(world, job),
+        None => false,
+    }
+}
+
+/// Whether the event of a line is one.
 fn is_old_act(stage: &Stage, alloc: Global, line: &[u8]) -> bool {
     match event_in_the_end(alloc, line) {
-        Some(Event::Act { job, .. }) => is_old(&stage.world, job),
-        _ => false,
+        Some(event) => is_act_of_old(&stage.world, &event),
+        None => false,
     }
 }
 
@@ -305,8 +322,8 @@ static ACTS: [&[u8]; 6] = [
     b"act 3 fail",
 ];
 
-/// Whether all is well of an example with these changes: kernel and daemon agree, the acts of old jobs
-/// are refused, and the laws hold.
+/// Whether all is well of an example with these changes: kernel and daemon agree, the acts of old
+/// jobs are refused, and the laws hold.
 fn is_well(
     stage: &mut Stage,
     alloc: Global,

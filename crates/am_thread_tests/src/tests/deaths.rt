@@ -1,4 +1,5 @@
-//! The daemon dies, again and again, while walkers walk and workers serve. What is seen stays lawful.
+//! The daemon dies, again and again, while walkers walk and workers serve. What is seen stays
+//! lawful.
 
 ghost use Rattle.std.specs.Prelude.{◌≡◌, ◌<◌, [], vec_len, IfOk};
 
