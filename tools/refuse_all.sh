@@ -16,6 +16,7 @@ while read -r name; do
 done << 'TESTS'
 examples::one_key
 examples::one_mount_for_two_namespaces
+examples::a_reduced_copy_of_a_namespace
 examples::an_expiry_beside_a_walk
 examples::a_death_and_reattachment
 examples::a_slave_on_a_shared_mount
