@@ -1,6 +1,6 @@
 //! Plays each script that lies beside it and compares what it writes: `NAME.script` with the answer
-//! lines of `NAME.out` and, where it ends in a fault, the fault of `NAME.fault`. Given a name, it plays
-//! that script alone, event by event, and whatever finds no memory is done again.
+//! lines of `NAME.out` and, where it ends in a fault, the fault of `NAME.fault`. Given a name, it
+//! plays that script alone, event by event, and whatever finds no memory is done again.
 #![tactic(auto)]
 
 mod by_event;

@@ -1,4 +1,5 @@
-//! A packet that is handed in as digits, one of which is another: it isn't taken up, and then it is.
+//! A packet that is handed in as digits, one of which is another: it isn't taken up, and then it
+//! is.
 
 use crate::tests::played::goes;
 use std::alloc::Global;
@@ -10,8 +11,8 @@ const BEFORE: &[u8] = b"master\n/auto auto.home --timeout=10\nend\n\
     map auto.home\nhome -fstype=nfs srv:/home\nwork srv:/work\nend\nevents\n\
     attach /auto\nwalk 7 0 /auto/home 100 room\nresume 7 100 room\n";
 
-/// The first digits of the packet: version 5, type 3, token 1, the file system 2 and its root 1, uid
-/// and gid 0, walker 7 twice, and the 4 bytes of the name `home`. The others are 0.
+/// The first digits of the packet: version 5, type 3, token 1, the file system 2 and its root 1,
+/// uid and gid 0, walker 7 twice, and the 4 bytes of the name `home`. The others are 0.
 const DIGITS: &[u8] = b"05000000030000000100000002000000010000000000000000000000\
     00000000070000000700000004000000686f6d65";
 

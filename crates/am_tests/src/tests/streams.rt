@@ -112,8 +112,8 @@ fn a_reader_that_is_interrupted(rt: HostRuntime) -> Result<(), Fail> {
     play_all_broken(&rt, rt.alloc(), ErrorKind::Interrupted)
 }
 
-/// How often a reader of three bytes is asked that gives one at a time, how many of them are read, and
-/// whether it comes to its end.
+/// How often a reader of three bytes is asked that gives one at a time, how many of them are read,
+/// and whether it comes to its end.
 static ASKED: [(u32, usize, bool); 6] = [
     (0, 0, false),
     (1, 1, false),

@@ -1,6 +1,6 @@
-//! Two worlds to which the same happens, so that what an event leaves can be compared whole. Run with
-//! each allocation refused in turn: an event that finds no memory leaves its world as the other is,
-//! which has had the events before it alone.
+//! Two worlds to which the same happens, so that what an event leaves can be compared whole. Run
+//! with each allocation refused in turn: an event that finds no memory leaves its world as the
+//! other is, which has had the events before it alone.
 
 use crate::by_event::{found_none, make_in_the_end};
 use crate::tests::memory::room_in_the_end;
