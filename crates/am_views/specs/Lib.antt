@@ -1,0 +1,5 @@
+pub mod EventText
+pub mod Mountinfo
+pub mod ObsText
+pub mod Traced
+pub mod World
