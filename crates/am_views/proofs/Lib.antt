@@ -1,5 +1,6 @@
 pub mod FourPieces
 pub mod LostTraces
+pub mod MountLines
 pub mod Shows
-pub mod TracesSoFar
 pub mod TraceInputs
+pub mod TracesSoFar

@@ -46,9 +46,9 @@ fn trace_opened<W: Write>(
     writer: &mut W,
 ) -> Result<Summary, ScriptFault>
     requires { opened.line + size_in (option_copied opened.rest) ≤ 2 ^ 63 }
-    ensures whole { OnOk result (opened.broke ≡ None) }
-    ensures ok { IfOk result (AllTraced (state_of opened.world) (events_from opened.broke opened.line (lines_in (option_copied opened.rest))) (W.contents writer.old) (W.contents writer.new)) }
-    ensures err { IfErr result (TraceStops (state_of opened.world) (events_from opened.broke opened.line (lines_in (option_copied opened.rest))) (W.contents writer.old) (W.contents writer.new)) }
+    ensures whole { OnOk result (opened.entry.broke ≡ None) }
+    ensures ok { IfOk result (AllTraced (state_of opened.entry.world) (events_from opened.entry.broke opened.entry.line (lines_in (option_copied opened.entry.rest))) (W.contents writer.old) (W.contents writer.new)) }
+    ensures err { IfErr result (TraceStops (state_of opened.entry.world) (events_from opened.entry.broke opened.entry.line (lines_in (option_copied opened.entry.rest))) (W.contents writer.old) (W.contents writer.new)) }
 {
     let Opened {
         mut world,

@@ -44,9 +44,9 @@ fn tell_opened<W: Write>(
     writer: &mut W,
 ) -> Result<(), ScriptFault>
     requires { opened.line + size_in (option_copied opened.rest) ≤ 2 ^ 63 }
-    ensures whole { OnOk result (opened.broke ≡ None) }
-    ensures ok { OnOk result (WorldTold (state_of opened.world) (events_from opened.broke opened.line (lines_in (option_copied opened.rest))) only (W.contents writer.old) (W.contents writer.new)) }
-    ensures err { IfErr result (WorldFails (state_of opened.world) (events_from opened.broke opened.line (lines_in (option_copied opened.rest))) only (W.contents writer.old) (W.contents writer.new)) }
+    ensures whole { OnOk result (opened.entry.broke ≡ None) }
+    ensures ok { OnOk result (WorldTold (state_of opened.entry.world) (events_from opened.entry.broke opened.entry.line (lines_in (option_copied opened.entry.rest))) only (W.contents writer.old) (W.contents writer.new)) }
+    ensures err { IfErr result (WorldFails (state_of opened.entry.world) (events_from opened.entry.broke opened.entry.line (lines_in (option_copied opened.entry.rest))) only (W.contents writer.old) (W.contents writer.new)) }
 {
     let line = opened.line;
     let world = play_out(alloc, opened)?;
@@ -65,9 +65,9 @@ fn tell_opened<W: Write>(
 /// Plays the events behind a head.
 fn play_out(alloc: Global, opened: Opened<'_>) -> Result<World, ScriptFault>
     requires { opened.line + size_in (option_copied opened.rest) ≤ 2 ^ 63 }
-    ensures whole { OnOk result (opened.broke ≡ None) }
-    ensures ok { IfOk result (λ world. IsPlayedOut (state_of opened.world) (events_from opened.broke opened.line (lines_in (option_copied opened.rest))) (state_of world)) }
-    ensures err { IfErr result (IsCutShort (events_from opened.broke opened.line (lines_in (option_copied opened.rest)))) }
+    ensures whole { OnOk result (opened.entry.broke ≡ None) }
+    ensures ok { IfOk result (λ world. IsPlayedOut (state_of opened.entry.world) (events_from opened.entry.broke opened.entry.line (lines_in (option_copied opened.entry.rest))) (state_of world)) }
+    ensures err { IfErr result (IsCutShort (events_from opened.entry.broke opened.entry.line (lines_in (option_copied opened.entry.rest)))) }
 {
     let Opened {
         mut world,
