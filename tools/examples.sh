@@ -33,7 +33,12 @@ play() {
 
 # The script that a trace says: the head of the script that was played, and the events of the trace.
 read_back() {
-    sed -n '1,/^[ \t]*events[ \t]*$/p' "$1"
+    awk '
+        { print }
+        inside { if ($0 == "end") inside = 0; next }
+        $1 == "master" || $1 == "map" { inside = 1 }
+        $1 == "events" { exit }
+    ' < "$1"
     sed -n 's/^[0-9][0-9]*: //p' "$room/trace"
 }
 
@@ -78,13 +83,33 @@ END
 play world "$room/hostile.script"
 expect "hostile names, their world" "$room/world" "$room/expected"
 
+# In namespace 1 no mount is in the master peer group of /b, but /a is in that one's master.
+cat > "$room/above.script" << 'END'
+events
+mount 0 /a
+change 0 /a shared
+bind 0 /a /b
+change 0 /b slave
+change 0 /b shared
+nscopy 0
+change 1 /b slave
+change 1 / unbindable
+END
+cat > "$room/expected" << 'END'
+4 4 0:1 / / rw unbindable - plain none rw
+5 4 0:2 / /a rw shared:1 - plain none rw
+6 4 0:2 / /b rw master:2 propagate_from:1 - plain none rw
+END
+"$program" world --namespace 1 < "$room/above.script" > "$room/world" 2> "$room/said"
+expect "a peer group above the master" "$room/world" "$room/expected"
+
 # What findmnt reads of the mounts of a namespace: each with its target, its number, that of its parent,
 # its type and its propagation.
 mounts_of() {
     name=$(basename "$1" .script)
     cat > "$room/expected"
     "$program" world --namespace "$2" < "$1" > "$room/mounts" 2> "$room/said"
-    findmnt --tab-file "$room/mounts" --list --raw --noheadings \
+    findmnt --tab-file "$room/mounts" --raw --noheadings \
         -o TARGET,ID,PARENT,FSTYPE,PROPAGATION > "$room/read" 2>> "$room/said"
     sort -n -k 2 "$room/read" > "$room/sorted"
     expect "findmnt of $name, namespace $2" "$room/sorted" "$room/expected"
