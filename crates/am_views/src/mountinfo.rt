@@ -38,6 +38,7 @@ fn push_mount(
     world: &World,
     row: &MountRow,
 ) -> Result<(), AllocError>
+    requires { mount_row world.now.kernel.table.rows row.now.mount ≡ Some row.now }
     ensures { OnOk result ((line : List ℕ) × (text.new.items ≡ text.old.items ++ line) × IsMountLine world.now.kernel.table world.now.kernel.triggers row.now line) }
 {
     let path = path_to(alloc, world, row)?;
@@ -47,6 +48,7 @@ fn push_mount(
 
 /// The path from the root of its namespace to the root of a mount.
 fn path_to(alloc: Global, world: &World, row: &MountRow) -> Result<Vec<u8>, AllocError>
+    requires { mount_row world.now.kernel.table.rows row.now.mount ≡ Some row.now }
     ensures { IfOk result (λ path. IsPathOf world.now.kernel.table.rows row.now path.items) }
 {
     let _ = world.mounts();
