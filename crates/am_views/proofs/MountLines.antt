@@ -80,7 +80,7 @@ goes_nowhere rows row = λ front h. subst (IsPathOf rows row) (sym (append-nil f
 pub goes_up : (rows : List MountRow) (here parent row : MountRow) (position : Position) (path longer : List ℕ) → here.mountpoint ≡ Some position → mount_row rows position.mount ≡ Some parent → parent.mount ≡ position.mount → longer ≡ text_of position.place ++ path → GoesOn rows here row path → GoesOn rows parent row longer
 goes_up rows here parent row position path longer on found is e goes = λ front h.
     let below : IsPathOf rows here (front ++ text_of position.place) =
-        (parent ∷ h.0, position.place, front, on ∙ ap (λ (m : ℕ). Some (record { mount = m; place = position.place })) (sym is), ap (mount_row rows) is ∙ found, h.1, refl) in
+    (parent ∷ h.0, position.place, front, on ∙ ap (λ (m : ℕ). Some (record { mount = m; place = position.place })) (sym is), ap (mount_row rows) is ∙ found, h.1, refl) in
     subst (IsPathOf rows row) (append_assoc front (text_of position.place) path ∙ ap (λ (x : List ℕ). front ++ x) (sym e)) (goes (front ++ text_of position.place) below)
 
 pub goes_whole : (rows : List MountRow) (here row : MountRow) (path : List ℕ) → here.mountpoint ≡ None → GoesOn rows here row path → IsPathOf rows row path

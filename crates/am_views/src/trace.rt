@@ -11,7 +11,7 @@ use crate::event_text::put_event;
 use crate::obs_text::put_seen;
 use am_script::answer_line::{is_refused, put_answer, put_number, put_word};
 use am_script::output::Output;
-use am_script::visit::{Opened, close, next_event, open_script, read_all};
+use am_script::visit::{Found, Opened, close, next_event, open_script, read_all};
 use am_script::{ScriptFault, ScriptFaultKind, Summary};
 use am_world::{Answer, Event, Obs, World};
 use std::alloc::Global;
@@ -52,37 +52,77 @@ fn trace_opened<W: Write>(
 {
     let Opened {
         mut world,
-        mut rest,
-        mut line,
+        rest,
+        line,
         broke,
     } = opened;
+    trace_events(alloc, &mut world, rest, line, broke, writer)
+}
+
+/// Prints the trace of the events of these lines, of which the first is behind the line with this
+/// number.
+fn trace_events<W: Write>(
+    alloc: Global,
+    world: &mut World,
+    rest: Option<&[u8]>,
+    line: u64,
+    broke: Option<ScriptFaultKind>,
+    writer: &mut W,
+) -> Result<Summary, ScriptFault>
+    requires { line + size_in (option_copied rest) ≤ 2 ^ 63 }
+    ensures whole { OnOk result (broke ≡ None) }
+    ensures ok { IfOk result (AllTraced (state_of world.old) (events_from broke line (lines_in (option_copied rest.entry))) (W.contents writer.old) (W.contents writer.new)) }
+    ensures err { IfErr result (TraceStops (state_of world.old) (events_from broke line (lines_in (option_copied rest.entry))) (W.contents writer.old) (W.contents writer.new)) }
+{
     let mut output = Output::new();
     let mut summary = Summary {
         lines: 0,
         refused: 0,
     };
+    let mut rest = rest;
+    let mut number = line;
     loop {
-        match next_event(alloc, rest, line, broke) {
+        match next_event(alloc, rest, number, broke) {
             Ok(None) => return close(&mut output, Ok(summary), writer),
             Ok(Some(found)) => {
-                let refused = show(
-                    alloc,
-                    &mut world,
-                    found.line,
-                    &found.event,
-                    &mut output,
-                    writer,
-                );
+                let behind = show_found(alloc, world, found, &mut output, writer);
                 if let Some(line) = output.lost {
                     let kind = ScriptFaultKind::WriteFailed;
                     return Err(ScriptFault { line, kind });
                 }
-                summary = one_more(summary, refused);
-                rest = found.rest;
-                line = found.line;
+                summary = one_more(summary, behind.refused);
+                rest = behind.rest;
+                number = behind.line;
             }
             Err(fault) => return close(&mut output, Err(fault), writer),
         }
+    }
+}
+
+/// What is behind an event that was shown.
+struct Behind<'a> {
+    refused: bool,
+    line: u64,
+    rest: Option<&'a [u8]>,
+}
+
+/// Makes the step of an event that was found, and puts out what is printed of it.
+fn show_found<'a, W: Write>(
+    alloc: Global,
+    world: &mut World,
+    found: Found<'a>,
+    output: &mut Output,
+    writer: &mut W,
+) -> Behind<'a>
+    ensures shown { IsShown (state_of world.old) (record { line = found.entry.line; event = found.entry.event }) (state_of world.new) output.old output.new (W.contents writer.old) (W.contents writer.new) result.refused }
+    ensures line { result.line ≡ found.entry.line }
+    ensures rest { option_copied result.rest ≡ option_copied found.entry.rest }
+{
+    let refused = show(alloc, world, found.line, &found.event, output, writer);
+    Behind {
+        refused,
+        line: found.line,
+        rest: found.rest,
     }
 }
 
