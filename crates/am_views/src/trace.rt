@@ -100,6 +100,7 @@ fn trace_events<W: Write>(
 }
 
 /// What is behind an event that was shown.
+#[derive(Drop)]
 struct Behind<'a> {
     refused: bool,
     line: u64,
