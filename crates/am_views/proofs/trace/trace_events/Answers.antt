@@ -31,7 +31,8 @@ returns-in-Some-clause-err g c =
     let behind : Told = events_from c.args.broke c.in-Ok-Some.found.line (lines_in (option_copied c.in-Ok-Some.found.rest)) in
     let asked : Numbered = record { line = c.in-Ok-Some.found.line; event = c.in-Ok-Some.found.event } in
     let next : left ≡ told_by (Ok (Some asked.event)) asked.line behind = rw c.in-Ok-Some.field-0-is at c.in-Ok-Some.ensures.ok in
-    let more = tracing_more (state_of c.args.world.now) all left behind c.loop-output.output c.show_found-behind.new.output (contents c.args.writer.now) (contents c.loop-output.writer) (contents c.show_found-behind.new.writer) (state_of c.loop-output.world) (state_of c.show_found-behind.new.world) c.loop-output.summary asked c.show_found-behind.result.refused next c.loop-output.invariant.going c.show_found-behind.ensures.shown in
+    let shown = rw c.in-Ok-Some.field-0-is at c.show_found-behind.ensures.shown in
+    let more = tracing_more (state_of c.args.world.now) all left behind c.loop-output.output c.show_found-behind.new.output (contents c.args.writer.now) (contents c.loop-output.writer) (contents c.show_found-behind.new.writer) (state_of c.loop-output.world) (state_of c.show_found-behind.new.world) c.loop-output.summary asked c.show_found-behind.result.refused next c.loop-output.invariant.going shown in
     tracing_cut _ _ _ _ _ _ _ _ c.in-Some.line c.in-Some.is more
 
 pub loop-output-preserved : goal.loop-output-preserved
@@ -43,11 +44,14 @@ loop-output-preserved g c =
     let asked : Numbered = record { line = c.in-Ok-Some.found.line; event = c.in-Ok-Some.found.event } in
     let next : left ≡ told_by (Ok (Some asked.event)) asked.line behind = rw c.in-Ok-Some.field-0-is at c.in-Ok-Some.ensures.ok in
     let within = rw c.in-Ok-Some.field-0-is at c.in-Ok-Some.ensures.within in
-    let more = tracing_more (state_of c.args.world.now) all left behind c.loop-output.output c.show_found-behind.new.output (contents c.args.writer.now) (contents c.loop-output.writer) (contents c.show_found-behind.new.writer) (state_of c.loop-output.world) (state_of c.show_found-behind.new.world) c.loop-output.summary asked c.show_found-behind.result.refused next c.loop-output.invariant.going c.show_found-behind.ensures.shown in
+    let shown = rw c.in-Ok-Some.field-0-is at c.show_found-behind.ensures.shown in
+    let more = tracing_more (state_of c.args.world.now) all left behind c.loop-output.output c.show_found-behind.new.output (contents c.args.writer.now) (contents c.loop-output.writer) (contents c.show_found-behind.new.writer) (state_of c.loop-output.world) (state_of c.show_found-behind.new.world) c.loop-output.summary asked c.show_found-behind.result.refused next c.loop-output.invariant.going shown in
+    let line = rw c.in-Ok-Some.field-0-is at c.show_found-behind.ensures.line in
+    let rest = rw c.in-Ok-Some.field-0-is at c.show_found-behind.ensures.rest in
     record {
-      going = rw (c.show_found-behind.ensures.line, c.show_found-behind.ensures.rest, c.one_more-summary.ensures) more;
-      fits = rw (c.show_found-behind.ensures.line, c.show_found-behind.ensures.rest) (omega (arith, within.fits, c.loop-output.invariant.fits));
-      lines = rw (c.show_found-behind.ensures.rest, c.one_more-summary.ensures) (omega (arith, within.fewer, c.loop-output.invariant.lines));
+      going = rw (line, rest, c.one_more-summary.ensures) more;
+      fits = rw (line, rest) (omega (arith, within.fits, c.loop-output.invariant.fits));
+      lines = rw (rest, c.one_more-summary.ensures) (omega (arith, within.fewer, c.loop-output.invariant.lines));
       refused = rw c.one_more-summary.ensures (more_lines c.loop-output.summary c.show_found-behind.result.refused c.loop-output.invariant.refused);
     }
 

@@ -19,8 +19,8 @@ returns-in-Ok-Some-clause-err g c =
     let contents = g.W.Write.contents in
     stops_opened (reads c.args.reader.now) (reads c.read_all-input.new.reader) (contents c.args.writer.now) (contents c.trace_opened.new.writer) c.read_all-input.result.text.items c.read_all-input.result.broke c.in-Ok-Some.opened c.trace_opened.result c.read_all-input.ensures.read c.read_all-input.ensures.end c.read_all-input.ensures.kind (rw c.in-Ok-Some.field-0-is at c.in-Ok-Some.ensures.ok) c.trace_opened.ensures.err
 
-pub returns-in-Err-clause-err : goal.returns-in-Err-clause-err
-returns-in-Err-clause-err g c =
+pub returns-clause-err : goal.returns-clause-err
+returns-clause-err g c =
     let reads = g.R.Read.remaining in
     let contents = g.W.Write.contents in
     traces_head (reads c.args.reader.now) (reads c.read_all-input.new.reader) (contents c.args.writer.now) c.read_all-input.result.text.items c.read_all-input.result.broke c.in-Err.fault c.read_all-input.ensures.read c.read_all-input.ensures.end c.read_all-input.ensures.kind c.in-Err.ensures.err
