@@ -1,5 +1,3 @@
 pub mod EventText
-pub mod Mountinfo
 pub mod ObsText
 pub mod Traced
-pub mod World

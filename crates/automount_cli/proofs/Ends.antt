@@ -8,8 +8,7 @@ use Rattle.am_script.specs.declared.fault.ScriptFault.{ScriptFault}
 use Rattle.am_script.specs.declared.play.Summary.{Summary}
 use Rattle.automount_cli.specs.Args.{fault_number}
 use Rattle.am_views.specs.Traced.{TracesInput, StopsTrace}
-use Rattle.am_views.specs.World.{TellsInput, StopsTelling}
-use Rattle.automount_cli.specs.Program.{ExitsWith, Played, Stopped, Traced, TraceStopped, Told, NotTold, Ran, Untold, NotRun, Refused, rounds_line}
+use Rattle.automount_cli.specs.Program.{ExitsWith, Played, Stopped, Traced, TraceStopped, Ran, Untold, NotRun, Refused, rounds_line}
 use Rattle.automount_cli.specs.declared.args.ArgsFault.{ArgsFault}
 
 pub ends_played : (input rest old new quiet : Option (List ℕ)) (summary : Summary) → PlaysInput input rest old new summary → ExitsWith input rest old new quiet quiet 0
@@ -23,12 +22,6 @@ ends_traced input rest old new quiet summary traces = record { end = Traced summ
 
 pub ends_trace_stopped : (input rest old new quiet told : Option (List ℕ)) (fault : ScriptFault) (status : ℕ) → StopsTrace input rest old new fault → status ≡ 1 → ExitsWith input rest old new quiet told status
 ends_trace_stopped input rest old new quiet told fault status stops e = record { end = TraceStopped fault; status_is = e; streams = stops }
-
-pub ends_told : (only : Option ℕ) (input rest old new quiet : Option (List ℕ)) → TellsInput only input rest old new → ExitsWith input rest old new quiet quiet 0
-ends_told only input rest old new quiet tells = record { end = Told only; status_is = refl; streams = (tells, refl) }
-
-pub ends_not_told : (only : Option ℕ) (input rest old new quiet told : Option (List ℕ)) (fault : ScriptFault) (status : ℕ) → StopsTelling only input rest old new fault → status ≡ 1 → ExitsWith input rest old new quiet told status
-ends_not_told only input rest old new quiet told fault status stops e = record { end = NotTold only fault; status_is = e; streams = stops }
 
 pub ends_refused : (input old quiet told : Option (List ℕ)) (fault : ArgsFault) (status : ℕ) → status ≡ fault_number fault → ExitsWith input input old old quiet told status
 ends_refused input old quiet told fault status e = record { end = Refused fault; status_is = e; streams = (refl, refl) }

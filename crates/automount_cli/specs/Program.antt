@@ -7,7 +7,6 @@ use Rattle.am_script.specs.Played.{PlaysInput, StopsInput}
 use Rattle.am_script.specs.declared.fault.ScriptFault.{ScriptFault}
 use Rattle.am_script.specs.declared.play.Summary.{Summary}
 use Rattle.am_views.specs.Traced.{TracesInput, StopsTrace}
-use Rattle.am_views.specs.World.{TellsInput, StopsTelling}
 use Rattle.automount_cli.specs.Args.{fault_number}
 use Rattle.automount_cli.specs.declared.args.ArgsFault.{ArgsFault}
 
@@ -24,10 +23,6 @@ pub data End : Type 0 where
   Traced : Summary → End
   -- the trace stops at the script's fault
   TraceStopped : ScriptFault → End
-  -- the world that the script leaves, or one namespace of it, is told
-  Told : Option ℕ → End
-  -- it isn't, by this fault
-  NotTold : Option ℕ → ScriptFault → End
   -- threads have made their rounds, and the line that tells them is written
   Ran : Tally → End
   -- they have, but the writer didn't take the whole line
@@ -43,8 +38,6 @@ status_of (Played summary) = 0
 status_of (Stopped fault) = 1
 status_of (Traced summary) = 0
 status_of (TraceStopped fault) = 1
-status_of (Told only) = 0
-status_of (NotTold only fault) = 1
 status_of (Ran tally) = 0
 status_of (Untold tally) = 1
 status_of NotRun = 1
@@ -58,8 +51,6 @@ Leaves (Played summary) input rest old new quiet told = PlaysInput input rest ol
 Leaves (Stopped fault) input rest old new quiet told = StopsInput input rest old new fault
 Leaves (Traced summary) input rest old new quiet told = TracesInput input rest old new summary × (told ≡ quiet)
 Leaves (TraceStopped fault) input rest old new quiet told = StopsTrace input rest old new fault
-Leaves (Told only) input rest old new quiet told = TellsInput only input rest old new × (told ≡ quiet)
-Leaves (NotTold only fault) input rest old new quiet told = StopsTelling only input rest old new fault
 Leaves (Ran tally) input rest old new quiet told =
     IsTally tally × (rest ≡ input) × Appends old new (rounds_line tally.rounds) × (told ≡ quiet)
 Leaves (Untold tally) input rest old new quiet told = IsTally tally × (rest ≡ input)

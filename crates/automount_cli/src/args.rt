@@ -15,11 +15,6 @@ pub enum Args {
     Script,
     /// Prints the trace of the script on standard input.
     Trace,
-    /// Tells the world that the script on standard input leaves.
-    World {
-        /// The one namespace whose mounts are told, if one was asked for.
-        namespace: Option<u32>,
-    },
     /// Lets so many threads walk, each so many rounds, and so many serve them.
     Threads {
         /// 1 to 16.
@@ -73,20 +68,12 @@ fn threads(given: &ArgMatches<'_>) -> Result<Args, ArgsFault>
     })
 }
 
-fn world(given: &ArgMatches<'_>) -> Args
-    ensures { IsInRange result }
-{
-    let namespace = given.get_one::<u32>("namespace");
-    Args::World { namespace }
-}
-
 fn asked(matches: &ArgMatches<'_>) -> Result<Args, ArgsFault>
     ensures { IfOk result IsInRange }
 {
     match matches.subcommand() {
         Some(("script", _)) => Ok(Args::Script),
         Some(("trace", _)) => Ok(Args::Trace),
-        Some(("world", given)) => Ok(world(given)),
         Some(("threads", given)) => threads(given),
         _ => Err(ArgsFault::Usage),
     }
@@ -112,23 +99,18 @@ pub fn read_args(alloc: Global, words: &[&str]) -> Result<Args, ArgsFault>
     }
 }
 
-/// An option that is a number.
-fn number_option<'a>(alloc: Global, name: &'a str) -> Arg<'a> {
+/// An option that is a number, and has a default.
+fn option<'a>(alloc: Global, name: &'a str, default: &'a str) -> Arg<'a> {
     Arg::new(alloc, name)
         .long(name)
         .action(ArgAction::Set)
         .value_parser(value_parser!(u32))
-}
-
-/// An option that is a number, and has a default.
-fn option<'a>(alloc: Global, name: &'a str, default: &'a str) -> Arg<'a> {
-    number_option(alloc, name).default_value(default)
+        .default_value(default)
 }
 
 fn command<'a>(alloc: Global) -> Result<Command<'a>, AllocError> {
     let script = Command::new(alloc, "script");
     let trace = Command::new(alloc, "trace");
-    let world = Command::new(alloc, "world").arg(number_option(alloc, "namespace"))?;
     let threads = Command::new(alloc, "threads")
         .arg(option(alloc, "walkers", "4"))?
         .arg(option(alloc, "workers", "2"))?
@@ -137,6 +119,5 @@ fn command<'a>(alloc: Global) -> Result<Command<'a>, AllocError> {
         .subcommand_required(true)
         .subcommand(script)?
         .subcommand(trace)?
-        .subcommand(world)?
         .subcommand(threads)
 }

@@ -7,10 +7,9 @@ ghost use Rattle.automount_cli.specs.Program.{ExitsWith, rounds_line};
 ghost use Rattle.automount_cli.specs.Args.{fault_number};
 
 use crate::args::{Args, ArgsFault, read_args};
-use am_names::NsId;
 use am_runner::{Tally, run_threads};
 use am_script::{ScriptFault, run_script};
-use am_views::{tell_world, trace_script};
+use am_views::trace_script;
 use itoa::Buffer;
 use std::alloc::{AllocError, Global};
 use std::env;
@@ -33,7 +32,6 @@ pub fn run_program<T: Threads + Wait + Sync, R: Read, W: Write, E: Write>(
     match read_args(alloc, words) {
         Ok(Args::Script) => play(alloc, reader, writer, errors),
         Ok(Args::Trace) => trace(alloc, reader, writer, errors),
-        Ok(Args::World { namespace }) => tell_of(alloc, namespace, reader, writer, errors),
         Ok(
             Args::Threads {
                 walkers,
@@ -71,23 +69,6 @@ fn trace<R: Read, W: Write, E: Write>(
 {
     match trace_script(alloc, reader, writer) {
         Ok(_traced) => 0,
-        Err(fault) => stop(errors, fault),
-    }
-}
-
-/// Tells the world that the script leaves which the reader gives, or one namespace of it.
-fn tell_of<R: Read, W: Write, E: Write>(
-    alloc: Global,
-    namespace: Option<u32>,
-    reader: &mut R,
-    writer: &mut W,
-    errors: &mut E,
-) -> u8
-    ensures { ExitsWith (R.remaining reader.old) (R.remaining reader.new) (W.contents writer.old) (W.contents writer.new) (E.contents errors.old) (E.contents errors.new) result }
-{
-    let only = namespace.map(|ns| NsId(ns));
-    match tell_world(alloc, only, reader, writer) {
-        Ok(()) => 0,
         Err(fault) => stop(errors, fault),
     }
 }

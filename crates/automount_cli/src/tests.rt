@@ -26,29 +26,14 @@ fn script_takes_no_words(rt: HostRuntime) {
     assert_eq!(rt; read_args(alloc, &[]), Err(ArgsFault::Usage));
 }
 
-fn world(namespace: Option<u32>) -> Result<Args, ArgsFault> {
-    Ok(Args::World { namespace })
-}
-
 #[test]
-fn trace_and_world(rt: HostRuntime) {
+fn trace_takes_no_words(rt: HostRuntime) {
     let alloc = rt.alloc();
     assert_eq!(rt; read_args(alloc, &["cli", "trace"]), Ok(Args::Trace));
     assert_eq!(rt;
         read_args(alloc, &["cli", "trace", "x"]),
         Err(ArgsFault::Usage)
     );
-    assert_eq!(rt; read_args(alloc, &["cli", "world"]), world(None));
-    assert_eq!(rt;
-        read_args(alloc, &["cli", "world", "--namespace", "7"]),
-        world(Some(7))
-    );
-    for number in ["-1", "x", "4294967296"] {
-        assert_eq!(rt;
-            read_args(alloc, &["cli", "world", "--namespace", number]),
-            Err(ArgsFault::Usage)
-        );
-    }
 }
 
 fn threads(walkers: u32, workers: u32, rounds: u32) -> Result<Args, ArgsFault> {
@@ -136,33 +121,18 @@ fn statuses_and_faults(rt: HostRuntime) -> Result<(), Fail> {
     Ok(())
 }
 
-/// Namespace 0 has its root and one more mount, whose name has a backslash.
-static TWO_MOUNTS: &[u8] = b"events\nmount 0 /a\\b\n";
-
 #[test]
-fn a_trace_and_a_world_are_told(rt: HostRuntime) -> Result<(), Fail> {
+fn a_trace_is_printed(rt: HostRuntime) -> Result<(), Fail> {
     let alloc = rt.alloc();
-    let (status, output, errors) = run(&rt, alloc, &["cli", "trace"], TWO_MOUNTS)?;
+    let (status, output, errors) = run(&rt, alloc, &["cli", "trace"], b"events\nmount 0 /a\\b\n")?;
     assert_eq!(rt; (status, errors.len()), (0, 0));
     assert_eq!(rt;
         output.as_slice(),
         b"2: mount 0 /a\\b\n= mount 2\n  mounted 2\n".as_slice()
     );
-    let (status, output, errors) = run(&rt, alloc, &["cli", "world"], TWO_MOUNTS)?;
-    assert_eq!(rt; (status, errors.len()), (0, 0));
-    assert_eq!(rt;
-        output.as_slice(),
-        b"# namespace 0\n1 1 0:1 / / rw - plain none rw\n2 1 0:2 / /a\\134b rw - plain none rw\n".as_slice()
-    );
-    let words = ["cli", "world", "--namespace", "1"];
-    let (status, output, errors) = run(&rt, alloc, &words, TWO_MOUNTS)?;
-    assert_eq!(rt; (status, output.len(), errors.len()), (0, 0, 0));
-    for command in ["trace", "world"] {
-        let words = ["cli", command];
-        let (status, output, errors) = run(&rt, alloc, &words, b"events\nx\n")?;
-        assert_eq!(rt; (status, output.len()), (1, 0));
-        assert_eq!(rt; errors.as_slice(), b"fault: line 2: BadEvent\n".as_slice());
-    }
+    let (status, output, errors) = run(&rt, alloc, &["cli", "trace"], b"events\nx\n")?;
+    assert_eq!(rt; (status, output.len()), (1, 0));
+    assert_eq!(rt; errors.as_slice(), b"fault: line 2: BadEvent\n".as_slice());
     Ok(())
 }
 
