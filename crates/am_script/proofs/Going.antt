@@ -53,7 +53,7 @@ going_none start all output old e f g = record {
   refused = refl;
 }
 
-count_more : (p : Answer → Bool) (answers : List Answer) (answer : Answer) → count_by p (answers ++ answer ∷ []) ≡ count_by p answers + cond (p answer) 1 0
+pub count_more : (p : Answer → Bool) (answers : List Answer) (answer : Answer) → count_by p (answers ++ answer ∷ []) ≡ count_by p answers + cond (p answer) 1 0
 count_more p answers answer = rw (sum_by-append (λ (a : Answer). cond (p a) 1 0) answers (answer ∷ [])) (omega arith)
 
 asked_push : (rows : List Answered) (row : Answered) → asked_in (rows ++ row ∷ []) ≡ asked_in rows ++ row.asked ∷ []
@@ -130,7 +130,7 @@ pub going_lost : (start : State) (all left : Told) (output : Output) (old mid ne
 going_lost start all left output old mid new now summary line h lost =
     lost_event start all left h.rows line lost.front lost.first old new now h.parted h.run lost.line_is lost.written (within_some h.rows lost.front lost.first lost.others lost.parts)
 
-lost_by : (lost : Option ℕ) (line : ℕ) (owed all : List Owed) (old new : Option (List ℕ)) → lost ≡ Some line → StandsBy lost owed all old new → IsLost all line old new
+pub lost_by : (lost : Option ℕ) (line : ℕ) (owed all : List Owed) (old new : Option (List ℕ)) → lost ≡ Some line → StandsBy lost owed all old new → IsLost all line old new
 lost_by lost line owed all old new e h = subst (λ (l : Option ℕ). StandsBy l owed all old new) e h
 
 pub going_cut : (start : State) (all left : Told) (output : Output) (old new : Option (List ℕ)) (now : State) (summary : Summary) (line : ℕ) → output.lost ≡ Some line → Going start all left output old new now summary → Stops start all old new (fault_at line WriteFailed)

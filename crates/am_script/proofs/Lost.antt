@@ -33,7 +33,7 @@ pub bytes_by : (line : ℕ) (text : List ℕ) → bytes_of (owed_by line text) �
 bytes_by line [] = refl
 bytes_by line (b ∷ text) = ap (λ (t : List ℕ). b ∷ t) (bytes_by line text)
 
-bytes_more : (xs ys : List Owed) → bytes_of (xs ++ ys) ≡ bytes_of xs ++ bytes_of ys
+pub bytes_more : (xs ys : List Owed) → bytes_of (xs ++ ys) ≡ bytes_of xs ++ bytes_of ys
 bytes_more xs ys = map-append (λ (o : Owed). o.byte) xs ys
 
 pub bytes_for : (rows : List Answered) → bytes_of (owed_for rows) ≡ lines_for (answers_in rows)
@@ -49,19 +49,19 @@ first_or d [] = d
 first_or d (o ∷ owed) = o
 
 -- it is one of this text
-record InText (line : ℕ) (text : List ℕ) (front : List Owed) (first : Owed) : Type 0 where
-  taken : ℕ
-  short : taken < length text
-  line_is : first.line ≡ line
-  bytes : bytes_of front ≡ take taken text
+pub record InText (line : ℕ) (text : List ℕ) (front : List Owed) (first : Owed) : Type 0 where
+  pub taken : ℕ
+  pub short : taken < length text
+  pub line_is : first.line ≡ line
+  pub bytes : bytes_of front ≡ take taken text
 
 -- it comes behind this text
-record Behind (line : ℕ) (text : List ℕ) (rest front : List Owed) (first : Owed) (others : List Owed) : Type 0 where
-  left : List Owed
-  front_is : front ≡ owed_by line text ++ left
-  rest_is : rest ≡ left ++ first ∷ others
+pub record Behind (line : ℕ) (text : List ℕ) (rest front : List Owed) (first : Owed) (others : List Owed) : Type 0 where
+  pub left : List Owed
+  pub front_is : front ≡ owed_by line text ++ left
+  pub rest_is : rest ≡ left ++ first ∷ others
 
-split_owed : (line : ℕ) (text : List ℕ) (rest front : List Owed) (first : Owed) (others : List Owed) → owed_by line text ++ rest ≡ front ++ first ∷ others → InText line text front first ⊎ Behind line text rest front first others
+pub split_owed : (line : ℕ) (text : List ℕ) (rest front : List Owed) (first : Owed) (others : List Owed) → owed_by line text ++ rest ≡ front ++ first ∷ others → InText line text front first ⊎ Behind line text rest front first others
 split_owed line [] rest front first others e = inr (record { left = front; front_is = refl; rest_is = e })
 split_owed line (b ∷ text) rest [] first others e = inl (record {
   taken = 0;

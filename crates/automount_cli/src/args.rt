@@ -13,6 +13,8 @@ use thiserror::Error;
 pub enum Args {
     /// Plays the script on standard input.
     Script,
+    /// Prints the trace of the script on standard input.
+    Trace,
     /// Lets so many threads walk, each so many rounds, and so many serve them.
     Threads {
         /// 1 to 16.
@@ -71,6 +73,7 @@ fn asked(matches: &ArgMatches<'_>) -> Result<Args, ArgsFault>
 {
     match matches.subcommand() {
         Some(("script", _)) => Ok(Args::Script),
+        Some(("trace", _)) => Ok(Args::Trace),
         Some(("threads", given)) => threads(given),
         _ => Err(ArgsFault::Usage),
     }
@@ -107,6 +110,7 @@ fn option<'a>(alloc: Global, name: &'a str, default: &'a str) -> Arg<'a> {
 
 fn command<'a>(alloc: Global) -> Result<Command<'a>, AllocError> {
     let script = Command::new(alloc, "script");
+    let trace = Command::new(alloc, "trace");
     let threads = Command::new(alloc, "threads")
         .arg(option(alloc, "walkers", "4"))?
         .arg(option(alloc, "workers", "2"))?
@@ -114,5 +118,6 @@ fn command<'a>(alloc: Global) -> Result<Command<'a>, AllocError> {
     Command::new(alloc, "automount_cli")
         .subcommand_required(true)
         .subcommand(script)?
+        .subcommand(trace)?
         .subcommand(threads)
 }

@@ -9,6 +9,7 @@ ghost use Rattle.automount_cli.specs.Args.{fault_number};
 use crate::args::{Args, ArgsFault, read_args};
 use am_runner::{Tally, run_threads};
 use am_script::{ScriptFault, run_script};
+use am_views::trace_script;
 use itoa::Buffer;
 use std::alloc::{AllocError, Global};
 use std::env;
@@ -30,6 +31,7 @@ pub fn run_program<T: Threads + Wait + Sync, R: Read, W: Write, E: Write>(
 {
     match read_args(alloc, words) {
         Ok(Args::Script) => play(alloc, reader, writer, errors),
+        Ok(Args::Trace) => trace(alloc, reader, writer, errors),
         Ok(
             Args::Threads {
                 walkers,
@@ -52,6 +54,21 @@ fn play<R: Read, W: Write, E: Write>(
 {
     match run_script(alloc, reader, writer) {
         Ok(_) => 0,
+        Err(fault) => stop(errors, fault),
+    }
+}
+
+/// Prints the trace of the script that the reader gives.
+fn trace<R: Read, W: Write, E: Write>(
+    alloc: Global,
+    reader: &mut R,
+    writer: &mut W,
+    errors: &mut E,
+) -> u8
+    ensures { ExitsWith (R.remaining reader.old) (R.remaining reader.new) (W.contents writer.old) (W.contents writer.new) (E.contents errors.old) (E.contents errors.new) result }
+{
+    match trace_script(alloc, reader, writer) {
+        Ok(_traced) => 0,
         Err(fault) => stop(errors, fault),
     }
 }

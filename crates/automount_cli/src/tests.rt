@@ -26,6 +26,16 @@ fn script_takes_no_words(rt: HostRuntime) {
     assert_eq!(rt; read_args(alloc, &[]), Err(ArgsFault::Usage));
 }
 
+#[test]
+fn trace_takes_no_words(rt: HostRuntime) {
+    let alloc = rt.alloc();
+    assert_eq!(rt; read_args(alloc, &["cli", "trace"]), Ok(Args::Trace));
+    assert_eq!(rt;
+        read_args(alloc, &["cli", "trace", "x"]),
+        Err(ArgsFault::Usage)
+    );
+}
+
 fn threads(walkers: u32, workers: u32, rounds: u32) -> Result<Args, ArgsFault> {
     Ok(Args::Threads {
         walkers,
@@ -108,6 +118,21 @@ fn statuses_and_faults(rt: HostRuntime) -> Result<(), Fail> {
     let (status, output, errors) = run(&rt, alloc, &["cli", "--help"], b"")?;
     assert_eq!(rt; (status, output.len()), (2, 0));
     assert_eq!(rt; errors.as_slice(), b"fault: Usage\n".as_slice());
+    Ok(())
+}
+
+#[test]
+fn a_trace_is_printed(rt: HostRuntime) -> Result<(), Fail> {
+    let alloc = rt.alloc();
+    let (status, output, errors) = run(&rt, alloc, &["cli", "trace"], b"events\nmount 0 /a\\b\n")?;
+    assert_eq!(rt; (status, errors.len()), (0, 0));
+    assert_eq!(rt;
+        output.as_slice(),
+        b"2: mount 0 /a\\b\n= mount 2\n  mounted 2\n".as_slice()
+    );
+    let (status, output, errors) = run(&rt, alloc, &["cli", "trace"], b"events\nx\n")?;
+    assert_eq!(rt; (status, output.len()), (1, 0));
+    assert_eq!(rt; errors.as_slice(), b"fault: line 2: BadEvent\n".as_slice());
     Ok(())
 }
 

@@ -1,0 +1,93 @@
+-- How events are written: as a line of a script says them.
+use Rattle.std.specs.Prelude.{ℕ, Bool, true, false, List, [], ◌++◌, codes, decimal, Option, None, Some}
+use Rattle.hex.specs.Hex.{encode_lower}
+use Rattle.am_names.specs.declared.trigger.PipeState.{PipeState}
+use Rattle.am_names.specs.declared.trigger.PipeState.TheVariants.{Room, Full, Gone}
+use Rattle.am_names.specs.declared.trigger.Status.{Status}
+use Rattle.am_names.specs.declared.trigger.Status.TheVariants.{Ready, Fail}
+use Rattle.am_group.specs.declared.kind.Change.{Change}
+use Rattle.am_group.specs.declared.kind.Change.TheVariants.{MakeShared, MakeSlave, MakePrivate, MakeUnbindable}
+use Rattle.am_machine.specs.declared.event.Event.{Event}
+use Rattle.am_machine.specs.declared.event.Event.TheVariants as events
+use Rattle.am_script.specs.Answers.{place_text}
+
+-- ---- the words of a line, each behind a blank
+
+abbrev pub pipe_part : PipeState → List ℕ
+pipe_part Room = codes " room"
+pipe_part Full = codes " full"
+pipe_part Gone = codes " gone"
+
+abbrev pub change_part : Change → List ℕ
+change_part MakeShared = codes " shared"
+change_part MakeSlave = codes " slave"
+change_part MakePrivate = codes " private"
+change_part MakeUnbindable = codes " unbindable"
+
+abbrev pub status_part : Status → List ℕ
+status_part Ready = codes " ready"
+status_part Fail = codes " fail"
+
+-- whether an expiry is of anything that isn't busy
+abbrev pub how_part : Bool → List ℕ
+how_part false = codes " idle"
+how_part true = codes " immediate"
+
+-- whether an act is made
+abbrev pub outcome_part : Bool → List ℕ
+outcome_part true = codes " ok"
+outcome_part false = codes " fail"
+
+abbrev pub path_part : List (List ℕ) → List ℕ
+path_part path = codes " " ++ place_text path
+
+-- a path in a namespace
+abbrev pub site_part : ℕ → List (List ℕ) → List ℕ
+site_part ns path = codes " " ++ decimal ns ++ path_part path
+
+-- a moment, and what the kernel meets at the pipe
+abbrev pub moment_part : ℕ → PipeState → List ℕ
+moment_part now pipe = codes " " ++ decimal now ++ pipe_part pipe
+
+abbrev pub expiry_part : ℕ → Bool → PipeState → List ℕ
+expiry_part now immediate pipe = codes " " ++ decimal now ++ (how_part immediate ++ pipe_part pipe)
+
+-- the bytes of a packet, if they are said, by two small hex digits each
+abbrev pub bytes_part : Option (List ℕ) → List ℕ
+bytes_part None = []
+bytes_part (Some bytes) = codes " " ++ encode_lower bytes
+
+-- the name of a trigger, `-` for a direct one
+abbrev pub name_part : Option (List ℕ) → List ℕ
+name_part None = codes " -"
+name_part (Some name) = codes " " ++ name
+
+-- ---- the line
+
+abbrev pub event_text : Event → List ℕ
+event_text (events.Attach path) = codes "attach" ++ path_part path
+event_text (events.Mount ns path) = codes "mount" ++ site_part ns path
+event_text (events.Bind ns from to) = codes "bind" ++ (site_part ns from ++ path_part to)
+event_text (events.Umount ns path) = codes "umount" ++ site_part ns path
+event_text (events.Change ns path change) = codes "change" ++ (site_part ns path ++ change_part change)
+event_text (events.Kind ns path) = codes "kind" ++ site_part ns path
+event_text (events.CopyNamespace ns) = codes "nscopy " ++ decimal ns
+event_text (events.DropNamespace ns) = codes "nsdrop " ++ decimal ns
+event_text (events.Walk walker ns path now pipe) =
+    codes "walk " ++ decimal walker ++ (site_part ns path ++ moment_part now pipe)
+event_text (events.Resume walker now pipe) = codes "resume " ++ decimal walker ++ moment_part now pipe
+event_text (events.Leave walker) = codes "leave " ++ decimal walker
+event_text (events.Expire walker fs now immediate pipe) =
+    codes "expire " ++ decimal walker ++ (codes " " ++ decimal fs ++ expiry_part now immediate pipe)
+event_text (events.Deliver token bytes) = codes "deliver " ++ decimal token ++ bytes_part bytes
+event_text (events.Act job ok) = codes "act " ++ decimal job ++ outcome_part ok
+event_text (events.Repeat attach token status) =
+    codes "repeat " ++ decimal attach ++ (codes " " ++ decimal token ++ status_part status)
+event_text (events.Catatonic attach fs) =
+    codes "catatonic " ++ decimal attach ++ (codes " " ++ decimal fs)
+event_text (events.AdminCatatonic fs) = codes "admincat " ++ decimal fs
+event_text (events.Timeout attach fs timeout) =
+    codes "timeout " ++ decimal attach ++ (codes " " ++ decimal fs ++ (codes " " ++ decimal timeout))
+event_text events.Die = codes "die"
+event_text (events.Reattach fs) = codes "reattach " ++ decimal fs
+event_text (events.Record trigger) = codes "record " ++ decimal trigger.fs ++ name_part trigger.name

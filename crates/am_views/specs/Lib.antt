@@ -1,0 +1,3 @@
+pub mod EventText
+pub mod ObsText
+pub mod Traced
