@@ -7,6 +7,8 @@ use Rattle.am_names.specs.declared.trigger.Status.{Status}
 use Rattle.am_names.specs.declared.trigger.Status.TheVariants.{Ready, Fail}
 use Rattle.am_group.specs.declared.kind.Change.{Change}
 use Rattle.am_group.specs.declared.kind.Change.TheVariants.{MakeShared, MakeSlave, MakePrivate, MakeUnbindable}
+use Rattle.am_propagate.specs.declared.subtree.namespace.CopyForm.{CopyForm}
+use Rattle.am_propagate.specs.declared.subtree.namespace.CopyForm.TheVariants as forms
 use Rattle.am_machine.specs.declared.event.Event.{Event}
 use Rattle.am_machine.specs.declared.event.Event.TheVariants as events
 use Rattle.am_script.specs.Answers.{place_text}
@@ -23,6 +25,11 @@ change_part MakeShared = codes " shared"
 change_part MakeSlave = codes " slave"
 change_part MakePrivate = codes " private"
 change_part MakeUnbindable = codes " unbindable"
+
+-- the form of a namespace's copy, if it isn't full
+abbrev pub form_part : CopyForm → List ℕ
+form_part forms.Full = []
+form_part forms.Reduced = codes " reduced"
 
 abbrev pub status_part : Status → List ℕ
 status_part Ready = codes " ready"
@@ -71,7 +78,7 @@ event_text (events.Bind ns from to) = codes "bind" ++ (site_part ns from ++ path
 event_text (events.Umount ns path) = codes "umount" ++ site_part ns path
 event_text (events.Change ns path change) = codes "change" ++ (site_part ns path ++ change_part change)
 event_text (events.Kind ns path) = codes "kind" ++ site_part ns path
-event_text (events.CopyNamespace ns) = codes "nscopy " ++ decimal ns
+event_text (events.CopyNamespace ns form) = codes "nscopy " ++ decimal ns ++ form_part form
 event_text (events.DropNamespace ns) = codes "nsdrop " ++ decimal ns
 event_text (events.Walk walker ns path now pipe) =
     codes "walk " ++ decimal walker ++ (site_part ns path ++ moment_part now pipe)

@@ -3,10 +3,11 @@
 ghost use Rattle.std.specs.Prelude.{◌≡◌, ◌++◌, OnOk};
 ghost use Rattle.hex.specs.Hex.{encode_lower};
 ghost use Rattle.am_script.specs.Outputs.{Puts};
-ghost use Rattle.am_views.specs.EventText.{event_text, pipe_part, change_part, status_part, how_part, outcome_part, path_part, site_part, moment_part, expiry_part, bytes_part, name_part};
+ghost use Rattle.am_views.specs.EventText.{event_text, pipe_part, change_part, form_part, status_part, how_part, outcome_part, path_part, site_part, moment_part, expiry_part, bytes_part, name_part};
 
 use am_group::Change;
 use am_names::{FsId, Name, NsId, PipeState, Place, Seconds, Status, WalkerId};
+use am_propagate::CopyForm;
 use am_script::answer_line::{put_number, put_place, put_word};
 use am_script::output::Output;
 use am_world::Event;
@@ -59,7 +60,10 @@ pub(crate) fn put_event<W: Write>(output: &mut Output, event: &Event, writer: &m
             put_word(output, b"kind", writer);
             put_site(output, *ns, path, writer)
         }
-        Event::CopyNamespace { ns } => put_number(output, b"nscopy ", u64::from(ns.0), writer),
+        Event::CopyNamespace { ns, form } => {
+            put_number(output, b"nscopy ", u64::from(ns.0), writer);
+            put_form(output, *form, writer)
+        }
         Event::DropNamespace { ns } => put_number(output, b"nsdrop ", u64::from(ns.0), writer),
         Event::Walk {
             walker,
@@ -174,6 +178,15 @@ fn put_pipe<W: Write>(output: &mut Output, pipe: PipeState, writer: &mut W)
         PipeState::Room => put_word(output, b" room", writer),
         PipeState::Full => put_word(output, b" full", writer),
         PipeState::Gone => put_word(output, b" gone", writer),
+    }
+}
+
+fn put_form<W: Write>(output: &mut Output, form: CopyForm, writer: &mut W)
+    ensures { Puts output.old output.new (form_part form) (W.contents writer.old) (W.contents writer.new) }
+{
+    match form {
+        CopyForm::Full => put_word(output, b"", writer),
+        CopyForm::Reduced => put_word(output, b" reduced", writer),
     }
 }
 

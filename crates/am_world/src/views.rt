@@ -1,6 +1,6 @@
 //! What a world has, lent to those who look at it.
 
-ghost use Rattle.std.specs.Prelude.{◌≡◌, ◌<◌, IfOk, IfSome};
+ghost use Rattle.std.specs.Prelude.{◌≡◌, IfOk};
 ghost use Rattle.std.specs.Option.{option_map, option_copied};
 ghost use Rattle.am_daemon.specs.State.{job_plan, rows_of};
 ghost use Rattle.am_daemon.specs.Deliveries.{job_of};
@@ -8,7 +8,6 @@ ghost use Rattle.am_expire.specs.Uses.{mount_of};
 ghost use Rattle.am_group.specs.Propagation.{member_row, master_of_group};
 ghost use Rattle.am_job.specs.Book.{record_of};
 ghost use Rattle.am_mount.specs.Rows.{mount_row};
-ghost use Rattle.am_propagate.specs.Invariant.{IsWhole};
 ghost use Rattle.am_trigger.specs.Rows.{autofs_of};
 ghost use Rattle.am_wait.specs.Rows.{token_of, tokens_of, wait_of, waiters_of};
 
@@ -26,8 +25,7 @@ use std::alloc::{AllocError, Global};
 impl World {
     /// The mounts of all namespaces, in rising order of number.
     pub fn mounts(&self) -> &[MountRow]
-        ensures rows { result.now ≡ self.now.kernel.table.rows }
-        ensures whole { IsWhole self.now.kernel.table }
+        ensures { result.now ≡ self.now.kernel.table.rows }
     {
         self.halves.kernel.subtree().tree().rows()
     }
@@ -55,8 +53,7 @@ impl World {
 
     /// The master of a peer group.
     pub fn master_of_group(&self, group: GroupId) -> Option<GroupId>
-        ensures master { result ≡ master_of_group self.now.kernel.table.groups group }
-        ensures lower { IfSome result (λ master. master < group) }
+        ensures { result ≡ master_of_group self.now.kernel.table.groups group }
     {
         self.halves.kernel.subtree().groups().master_of_group(group)
     }
