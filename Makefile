@@ -2,7 +2,7 @@
 SCRIPT ?= examples/first.script
 export SCRIPT
 
-.PHONY: run show threads examples build pages test
+.PHONY: run show draw threads examples build pages test
 
 # plays a script, and writes its answers
 run:
@@ -11,6 +11,10 @@ run:
 # plays a script, and writes each event with its answer beside it
 show:
 	@tools/show.sh "$$SCRIPT"
+
+# plays a script, and writes the picture of what happened
+draw:
+	@tools/draw.sh "$$SCRIPT"
 
 # walkers, workers and an expirer as threads over one world
 threads:

@@ -1,6 +1,7 @@
 #!/bin/sh
-# tools/examples.sh: plays each script of `examples`, and compares its answers and its trace with those
-# beside it; and reads each trace back. The last line counts them.
+# tools/examples.sh: plays each script of `examples`, and compares its answers, its trace and its
+# picture with those beside it; reads each trace back; and has a parser of XML read each picture. The
+# last line counts them.
 set -u
 export LC_ALL=C
 . "$(dirname "$0")/common.sh"
@@ -49,6 +50,24 @@ expect_read_back() {
     expect "$1, its trace read back" "$room/script" "$room/answers"
 }
 
+# The picture of the trace that was played last is the expected one, and a parser of XML reads it.
+expect_picture() {
+    tools/draw.py < "$room/trace" > "$room/picture" 2> "$room/said"
+    expect "$1, its picture" "$room/picture" "$2"
+    texts_of "$room/picture" > "$room/texts" 2> "$room/said"
+    expect "$1, its picture read as XML" "$room/texts" "$room/texts"
+}
+
+# What the texts of a picture say that have a fixed width, a line for each.
+texts_of() {
+    python3 -c '
+import sys, xml.etree.ElementTree as tree
+for text in tree.parse(sys.argv[1]).iter("{http://www.w3.org/2000/svg}text"):
+    if text.get("class") == "m":
+        sys.stdout.buffer.write((text.text + "\n").encode())
+' "$1"
+}
+
 for script in examples/*.script; do
     name=$(basename "$script" .script)
     play script "$script"
@@ -56,6 +75,7 @@ for script in examples/*.script; do
     play trace "$script"
     expect "example $name, its trace" "$room/trace" "examples/$name.trace"
     expect_read_back "example $name" "$script"
+    expect_picture "example $name" "examples/$name.svg"
 done
 
 # Names of 255 bytes, with a backslash and quotes, and with bytes that aren't UTF-8.
@@ -69,6 +89,23 @@ long=$(printf '%0255d' 0)
 } > "$room/hostile.script"
 play trace "$room/hostile.script"
 expect_read_back "hostile names" "$room/hostile.script"
+tools/draw.py < "$room/trace" > "$room/picture" 2> "$room/said"
+texts_of "$room/picture" > "$room/texts" 2>> "$room/said"
+cat > "$room/expected" << 'END'
+mount 0 /000000000000000000000000…
+mount 2
++2
+mount 0 /<&>"'
+mount 3
++3
+mount 0 /\xff\x80\x01
+mount 4
++4
+mount 0 /a\x5c040b
+mount 5
++5
+END
+expect "hostile names, their picture" "$room/texts" "$room/expected"
 
 echo "$passed passed, $failed failed"
 [ "$failed" -eq 0 ]
