@@ -50,22 +50,28 @@ expect_read_back() {
     expect "$1, its trace read back" "$room/script" "$room/answers"
 }
 
-# The picture of the trace that was played last is the expected one, and a parser of XML reads it.
-expect_picture() {
-    tools/draw.py < "$room/trace" > "$room/picture" 2> "$room/said"
-    expect "$1, its picture" "$room/picture" "$2"
-    texts_of "$room/picture" > "$room/texts" 2> "$room/said"
-    expect "$1, its picture read as XML" "$room/texts" "$room/texts"
-}
-
-# What the texts of a picture say that have a fixed width, a line for each.
-texts_of() {
+# The events that a picture shows, a line for each, as a parser of XML reads them: they stand at the left.
+shown_in() {
     python3 -c '
 import sys, xml.etree.ElementTree as tree
 for text in tree.parse(sys.argv[1]).iter("{http://www.w3.org/2000/svg}text"):
-    if text.get("class") == "m":
+    if text.get("class") == "m" and text.get("x") == "46":
         sys.stdout.buffer.write((text.text + "\n").encode())
 ' "$1"
+}
+
+# Draws the trace that was played last.
+draw() {
+    tools/draw.py < "$room/trace" > "$room/picture" 2> "$room/said"
+}
+
+# The picture of the trace that was played last is the expected one, and shows its events.
+expect_picture() {
+    draw
+    expect "$1, its picture" "$room/picture" "$2"
+    shown_in "$room/picture" > "$room/shown" 2> "$room/said"
+    sed -n 's/^[0-9][0-9]*: //p' "$room/trace" > "$room/events"
+    expect "$1, its picture read as XML" "$room/shown" "$room/events"
 }
 
 for script in examples/*.script; do
@@ -89,23 +95,15 @@ long=$(printf '%0255d' 0)
 } > "$room/hostile.script"
 play trace "$room/hostile.script"
 expect_read_back "hostile names" "$room/hostile.script"
-tools/draw.py < "$room/trace" > "$room/picture" 2> "$room/said"
-texts_of "$room/picture" > "$room/texts" 2>> "$room/said"
+draw
+shown_in "$room/picture" > "$room/shown" 2>> "$room/said"
 cat > "$room/expected" << 'END'
 mount 0 /000000000000000000000000…
-mount 2
-+2
 mount 0 /<&>"'
-mount 3
-+3
 mount 0 /\xff\x80\x01
-mount 4
-+4
 mount 0 /a\x5c040b
-mount 5
-+5
 END
-expect "hostile names, their picture" "$room/texts" "$room/expected"
+expect "hostile names, their picture" "$room/shown" "$room/expected"
 
 echo "$passed passed, $failed failed"
 [ "$failed" -eq 0 ]
