@@ -1,0 +1,7 @@
+use Rattle.am_script.proofs.Going.{pushed}
+use Rattle.am_views.proofs.obs_text.push_observation.Goals as goal
+
+pub returns-in-None : goal.returns-in-None
+returns-in-None c =
+    pushed _ _ _ _ _ c.put_obs.new.writer.items _ c.new-output.ensures.bytes c.new-output.ensures.marks c.new-output.ensures.lost
+    c.put_obs.ensures c.flush.ensures.settles c.in-None.is c.flush.ensures.empty
