@@ -3,10 +3,10 @@
 
 usage: tools/gate_cost.py [LOG]      (LOG: where the gate's output goes; standard output without it)
 
-For each crate: the processor time of its proof, of its tests' proof, of its first planted fault
-(which proves the crate anew) and of all others with their number, in seconds. The others have one
-check more, of the crate as it is. It is read off the checks that run,
-once a second, so the last second of each is missing. Run it on a machine with nothing else to do;
+For each crate: the processor time of its proof, of its tests' proof, of the check that its planted
+faults begin with (the crate as it stands, proved anew) and of the faults with their number, in
+seconds. The faults have one check more, of the crate as it stands. It is read off the checks that
+run, once a second, so the last second of each is missing. Run it on a machine with nothing else to do;
 `taskset -c 0,1` before it keeps it to two processors.
 """
 
@@ -16,7 +16,7 @@ import sys
 import time
 
 TICKS = os.sysconf("SC_CLK_TCK")
-KINDS = ("proof", "tests", "first fault", "other faults")
+KINDS = ("proof", "tests", "before faults", "faults")
 
 
 def words_of(process):
@@ -101,7 +101,7 @@ def table(checks):
     sums, faults = {}, {}
     for crate, kind, _, spent, _ in sorted(checks, key=lambda it: it[2]):
         if kind == "faults":
-            kind = "other faults" if crate in faults else "first fault"
+            kind = "faults" if crate in faults else "before faults"
             faults[crate] = faults.get(crate, 0) + 1
         row = sums.setdefault(crate, dict.fromkeys(KINDS, 0.0))
         row[kind] += spent
@@ -121,7 +121,7 @@ def main(words):
     sums, faults = table(checks)
     print(f"{minutes:.0f} minutes on {len(os.sched_getaffinity(0))} processors; status {gate.returncode}")
     print(f"greatest memory of one check: {max((it[4] for it in checks), default=0)} MB")
-    print("| Crate | proof | tests | first fault | other faults |")
+    print("| Crate | proof | tests | before faults | faults |")
     print("|---|---|---|---|---|")
     total = dict.fromkeys(KINDS, 0.0)
     for crate, row in sums.items():
