@@ -1,0 +1,7 @@
+use Rattle.automount_cli.proofs.Ends.{ends_not_run}
+use Rattle.automount_cli.proofs.program.run_crowd.Goals as goal
+
+pub returns-in-Err : goal.returns-in-Err
+returns-in-Err g c input =
+    let tells = g.E.Write.contents in
+    ends_not_run input (g.W.Write.contents c.args.writer.now) (tells c.args.errors.now) (tells c.refuse.new.errors) c.refuse.result c.refuse.ensures
