@@ -5,7 +5,7 @@ pub returns-in-Ok : goal.returns-in-Ok
 returns-in-Ok g c =
     let reads = g.R.Read.remaining in
     let contents = g.W.Write.contents in
-    ends_traced (reads c.args.reader.now) (reads c.trace_script.new.reader) (contents c.args.writer.now) (contents c.trace_script.new.writer) (g.E.Write.contents c.args.errors.now) c.in-Ok.field-0 c.in-Ok.ensures.ok
+    ends_traced (reads c.args.reader.now) (reads c.trace_script.new.reader) (contents c.args.writer.now) (contents c.trace_script.new.writer) (g.E.Write.contents c.args.errors.now) c.in-Ok._traced c.in-Ok.ensures.ok
 
 pub returns-in-Err : goal.returns-in-Err
 returns-in-Err g c =
