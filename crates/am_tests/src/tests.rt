@@ -1,6 +1,5 @@
 //! Scripts, lines, worlds and traces as tables, and small functions that play them.
 
-mod agreement;
 mod answer_lines;
 mod cuts;
 mod digits;
@@ -14,10 +13,10 @@ mod lent;
 mod memory;
 mod opened;
 mod played;
+mod positions;
 mod sights;
 mod stage;
 mod streams;
-mod sweeps;
 mod traces;
 mod twins;
 mod worlds;
