@@ -29,13 +29,6 @@ pub struct Stage {
     line: Vec<u8>,
 }
 
-impl Stage {
-    /// Whether this is the line of the last answer.
-    pub fn is_told(&self, line: &[u8]) -> bool {
-        self.line.as_slice() == line
-    }
-}
-
 /// A world of these lines of a master and of their maps, which are as many.
 fn world_of(alloc: Global, master: Master, maps: Vec<Map>) -> Result<World, Errno> {
     if !LIMITS.is_in_range() || maps.len() != master.entries().len() {
@@ -58,20 +51,7 @@ fn world(alloc: Global) -> Result<World, Errno> {
     world_of(alloc, master, maps)
 }
 
-/// A world of a direct autofs at /srv/data.
-fn direct_world(alloc: Global) -> Result<World, Errno> {
-    let Ok(master) = Master::read(alloc, b"/- auto.direct") else {
-        return Err(Errno::NoMemory);
-    };
-    let Ok(map) = Map::read(alloc, b"/srv/data server:/data", MapKind::Direct) else {
-        return Err(Errno::NoMemory);
-    };
-    let mut maps = Vec::new(alloc);
-    maps.push(map)?;
-    world_of(alloc, master, maps)
-}
-
-/// The world of an indirect autofs, tried again where it found no memory.
+/// The same, tried again where it found no memory.
 pub fn world_in_the_end(alloc: Global) -> Result<World, Errno> {
     match world(alloc) {
         Err(Errno::NoMemory) => world(alloc),
@@ -83,13 +63,6 @@ pub fn world_in_the_end(alloc: Global) -> Result<World, Errno> {
 pub fn stage_in_the_end(alloc: Global) -> Result<Stage, Fail> {
     let line = room_in_the_end(alloc)?;
     let world = world_in_the_end(alloc)?;
-    Ok(Stage { world, line })
-}
-
-/// A new world of a direct autofs, and room for the lines of its answers.
-pub fn direct_stage(alloc: Global) -> Result<Stage, Fail> {
-    let line = room_in_the_end(alloc)?;
-    let world = direct_world(alloc)?;
     Ok(Stage { world, line })
 }
 
