@@ -1,7 +1,7 @@
 #!/bin/sh
 # tools/examples.sh: plays each script of `examples`, and compares its answers, its trace and its
-# picture with those beside it; reads each trace back; and has a parser of XML read each picture. The
-# last line counts them.
+# picture with those beside it; compares the script with the copy that `am_sweeps` plays; reads each trace
+# back; and has a parser of XML read each picture. The last line counts them.
 set -u
 export LC_ALL=C
 . "$(dirname "$0")/common.sh"
@@ -78,6 +78,7 @@ for script in examples/*.script; do
     name=$(basename "$script" .script)
     play script "$script"
     expect "example $name" "$room/script" "examples/$name.out"
+    expect "example $name, as it is swept" "crates/am_sweeps/data/$name.script" "$script"
     play trace "$script"
     expect "example $name, its trace" "$room/trace" "examples/$name.trace"
     expect_read_back "example $name" "$script"
