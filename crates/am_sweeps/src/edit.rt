@@ -61,7 +61,7 @@ pub struct Edit {
 }
 
 impl Edit {
-    /// How many events come before the next one that it leaves as it was.
+    /// How many events come before the one that stood at its position.
     pub fn end(&self) -> usize {
         self.position.saturating_add(self.change.count())
     }

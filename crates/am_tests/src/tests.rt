@@ -13,7 +13,6 @@ mod lent;
 mod memory;
 mod opened;
 mod played;
-mod positions;
 mod sights;
 mod stage;
 mod streams;

@@ -19,7 +19,7 @@ static ONE_KEY: [Step; 9] = [
     Step(b"resume 7 101 room", b"at 3 /\n"),
 ];
 
-pub static ONE_MOUNT_FOR_TWO_NAMESPACES: [Step; 12] = [
+static ONE_MOUNT_FOR_TWO_NAMESPACES: [Step; 12] = [
     Step(b"change 0 / shared", b"ok\n"),
     Step(b"attach /auto", b"fs 2 attach 1 mount 2\n"),
     Step(b"nscopy 0", b"ns 1\n"),
@@ -34,7 +34,7 @@ pub static ONE_MOUNT_FOR_TWO_NAMESPACES: [Step; 12] = [
     Step(b"resume 8 101 room", b"at 6 /\n"),
 ];
 
-pub static AN_EXPIRY_BESIDE_A_WALK: [Step; 24] = [
+static AN_EXPIRY_BESIDE_A_WALK: [Step; 24] = [
     Step(b"change 0 / shared", b"ok\n"),
     Step(b"attach /auto", b"fs 2 attach 1 mount 2\n"),
     Step(b"nscopy 0", b"ns 1\n"),
@@ -61,7 +61,7 @@ pub static AN_EXPIRY_BESIDE_A_WALK: [Step; 24] = [
     Step(b"resume 9 201 room", b"wait 3\n"),
 ];
 
-pub static A_DEATH_AND_REATTACHMENT: [Step; 12] = [
+static A_DEATH_AND_REATTACHMENT: [Step; 12] = [
     Step(b"attach /auto", b"fs 2 attach 1 mount 2\n"),
     Step(b"walk 7 0 /auto/home 100 room", b"wait 1\n"),
     Step(b"deliver 1", b"job 1\n"),

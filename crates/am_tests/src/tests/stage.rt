@@ -98,7 +98,7 @@ pub fn event_in_the_end(alloc: Global, line: &[u8]) -> Option<Event> {
 }
 
 /// Makes the event of a line. Whether it is one.
-pub fn make(stage: &mut Stage, alloc: Global, line: &[u8]) -> bool {
+fn make(stage: &mut Stage, alloc: Global, line: &[u8]) -> bool {
     match event_in_the_end(alloc, line) {
         Some(event) => {
             let answer = step_in_the_end(&mut stage.world, alloc, &event);
