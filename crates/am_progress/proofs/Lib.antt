@@ -1,0 +1,10 @@
+pub mod Attaches
+pub mod SiteWalks
+pub mod SiteRows
+pub mod SiteBegins
+pub mod Plans
+pub mod Worlds
+pub mod Packets
+pub mod Acts
+pub mod Ways
+pub mod Tokens

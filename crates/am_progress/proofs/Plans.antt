@@ -1,0 +1,159 @@
+-- A job acts on its own trigger, and has few acts.
+use Rattle.std.proofs.Common.{◌≡◌, ⊤, ⊥, ℕ, zero, suc, Bool, true, false, List, [], ◌∷◌, ◌++◌, Option, Some, None, refl, subst}
+use Rattle.std.specs.Prelude.{◌==◌, is_some, not, if◌then◌else◌}
+use Rattle.std.specs.List.{All}
+use Rattle.std.proofs.lemmas.List.Elements.{All-nil, All-cons, All-head, All-tail, All-push}
+use Rattle.am_names.specs.declared.trigger.Trigger.{Trigger}
+use Rattle.am_names.specs.declared.trigger.Status.{Status}
+use Rattle.am_names.specs.declared.trigger.Status.TheVariants.{Ready, Fail}
+use Rattle.am_names.specs.declared.row.TokenKind.{TokenKind}
+use Rattle.am_names.specs.declared.row.TokenKind.TheVariants.{Missing, Expire}
+use Rattle.am_map.specs.EntryText.{EntryText}
+use Rattle.am_wire.specs.declared.packet.Packet.{Packet}
+use Rattle.am_wire.specs.Kind.{token_kind}
+use Rattle.am_state.specs.declared.daemon_row.Record.{Record}
+use Rattle.am_state.specs.declared.daemon_row.Record.TheVariants.{Mounted}
+use Rattle.am_job.specs.declared.act.Act.{Act}
+use Rattle.am_job.specs.declared.act.Act.TheVariants as act
+use Rattle.am_job.specs.declared.act.Outcome.{Outcome}
+use Rattle.am_job.specs.declared.act.Outcome.TheVariants.{Done, Made, Failed}
+use Rattle.am_job.specs.Plans.{Plan, Ended, Next, next_of, rest_of, followed_by, reply, book_and_reply, at_directory, after_mount, without_mount, after_failed_mount, mount_entry, mounting, missing_plan, after_umount, after_failed_umount, unmounting, expire_plan, plan_for}
+use Rattle.am_daemon.specs.State.{DaemonState, JobPlan}
+use Rattle.am_daemon.specs.Acts.{walked, is_ended, going, finished_in}
+use Rattle.am_daemon.specs.Deliveries.{job_for}
+use Rattle.am_daemon.specs.Packets.{trigger_of, mounted_for, plan_of_packet}
+use Rattle.am_daemon.specs.Points.{entry_of}
+use Rattle.am_progress.specs.Acts.{HasActs, most_acts, IsShort}
+
+-- ---- whose acts they are
+
+-- the act is on this trigger, and a directory is made or removed only where it has a name
+abbrev pub IsOwn : Trigger → Act → Type 0
+IsOwn g (act.Mkdir trigger) = (trigger ≡ g) × (is_some g.name ≡ true)
+IsOwn g (act.Mount trigger entry) = trigger ≡ g
+IsOwn g (act.Umount trigger) = trigger ≡ g
+IsOwn g (act.Rmdir trigger) = (trigger ≡ g) × (is_some g.name ≡ true)
+IsOwn g (act.Record trigger entry) = ⊤
+IsOwn g (act.Reply status) = ⊤
+
+-- so it is of each act that is left
+abbrev pub AreOwn : Trigger → Plan → Type 0
+AreOwn g Ended = ⊤
+AreOwn g (Next a done made failed) =
+    IsOwn g a × AreOwn g done × ((mount : ℕ) → AreOwn g (made mount)) × AreOwn g failed
+
+pub next_own : (g : Trigger) (plan : Plan) (a : Act) → AreOwn g plan → next_of plan ≡ Some a → IsOwn g a
+next_own g Ended a h e = absurd cc
+next_own g (Next b done made failed) a h e = let same : b ≡ a = cc in subst (IsOwn g) same h.0
+
+rest_own : (g : Trigger) (plan : Plan) (outcome : Outcome) → AreOwn g plan → AreOwn g (rest_of outcome plan)
+rest_own g Ended outcome h = tt
+rest_own g (Next a done made failed) Done h = h.1
+rest_own g (Next a done made failed) (Made mount) h = h.2 mount
+rest_own g (Next a done made failed) Failed h = h.3
+
+reply_own : (g : Trigger) (status : Status) → AreOwn g (reply status)
+reply_own g status = (tt, tt, (λ mount. tt), tt)
+
+book_own : (g : Trigger) (entry : Option Record) (status : Status) → AreOwn g (book_and_reply g entry status)
+book_own g entry status = (tt, reply_own g status, (λ mount. reply_own g status), reply_own g status)
+
+mkdir_own : (g : Trigger) (name : Option (List ℕ)) (rest : Plan) → g.name ≡ name → AreOwn g rest → AreOwn g (at_directory name (act.Mkdir g) rest)
+mkdir_own g None rest e h = h
+mkdir_own g (Some name) rest e h = ((refl, rw e refl), h, (λ mount. h), h)
+
+rmdir_own : (g : Trigger) (name : Option (List ℕ)) (rest : Plan) → g.name ≡ name → AreOwn g rest → AreOwn g (at_directory name (act.Rmdir g) rest)
+rmdir_own g None rest e h = h
+rmdir_own g (Some name) rest e h = ((refl, rw e refl), h, (λ mount. h), h)
+
+plan_own : (kind : TokenKind) (g : Trigger) (mounted : Option ℕ) (entry : Option EntryText) → AreOwn g (plan_for kind g mounted entry)
+plan_own Missing g (Some mount) entry = reply_own g Ready
+plan_own Missing g None (Some entry) =
+    let failed = rmdir_own g g.name (without_mount g) refl (book_own g None Fail) in
+    mkdir_own g g.name (mount_entry g entry) refl (refl, failed, (λ mount. book_own g (Some (Mounted mount)) Ready), failed)
+plan_own Missing g None None = book_own g None Fail
+plan_own Expire g (Some mount) entry =
+    let done = rmdir_own g g.name (book_and_reply g None Ready) refl (book_own g None Ready) in
+    (refl, done, (λ m. done), book_own g (Some (Mounted mount)) Fail)
+plan_own Expire g None entry = reply_own g Fail
+
+-- ---- how many acts there are
+
+more_acts : (most : ℕ) (plan : Plan) → HasActs most plan → HasActs (suc most) plan
+more_acts most Ended h = tt
+more_acts zero (Next a done made failed) h = absurd h
+more_acts (suc most) (Next a done made failed) h = (more_acts most done h.0, (λ mount. more_acts most (made mount) (h.1 mount)), more_acts most failed h.2)
+
+-- one less after each act
+pub fewer_acts : (most : ℕ) (a : Act) (done : Plan) (made : ℕ → Plan) (failed : Plan) (outcome : Outcome) → HasActs (suc most) (Next a done made failed) → HasActs most (rest_of outcome (Next a done made failed))
+fewer_acts most a done made failed Done h = h.0
+fewer_acts most a done made failed (Made mount) h = h.1 mount
+fewer_acts most a done made failed Failed h = h.2
+
+rest_acts : (most : ℕ) (plan : Plan) (outcome : Outcome) → HasActs (suc most) plan → HasActs (suc most) (rest_of outcome plan)
+rest_acts most Ended outcome h = tt
+rest_acts most (Next a done made failed) outcome h = more_acts most (rest_of outcome (Next a done made failed)) (fewer_acts most a done made failed outcome h)
+
+followed_acts : (most : ℕ) (a : Act) (rest : Plan) → HasActs most rest → HasActs (suc most) (followed_by a rest)
+followed_acts most a rest h = (h, (λ mount. h), h)
+
+directory_acts : (most : ℕ) (name : Option (List ℕ)) (a : Act) (rest : Plan) → HasActs most rest → HasActs (suc most) (at_directory name a rest)
+directory_acts most None a rest h = more_acts most rest h
+directory_acts most (Some name) a rest h = followed_acts most a rest h
+
+reply_acts : (status : Status) → HasActs 1 (reply status)
+reply_acts status = (tt, (λ mount. tt), tt)
+
+book_acts : (g : Trigger) (entry : Option Record) (status : Status) → HasActs 2 (book_and_reply g entry status)
+book_acts g entry status = followed_acts 1 (act.Record g entry) (reply status) (reply_acts status)
+
+pub plan_acts : (kind : TokenKind) (g : Trigger) (mounted : Option ℕ) (entry : Option EntryText) → HasActs 5 (plan_for kind g mounted entry)
+plan_acts Missing g (Some mount) entry = more_acts 4 (reply Ready) (more_acts 3 (reply Ready) (more_acts 2 (reply Ready) (more_acts 1 (reply Ready) (reply_acts Ready))))
+plan_acts Missing g None (Some entry) =
+    let failed : HasActs 3 (after_failed_mount g) = directory_acts 2 g.name (act.Rmdir g) (without_mount g) (book_acts g None Fail) in
+    let made : (mount : ℕ) → HasActs 3 (after_mount g mount) = λ mount. more_acts 2 (after_mount g mount) (book_acts g (Some (Mounted mount)) Ready) in
+    directory_acts 4 g.name (act.Mkdir g) (mount_entry g entry) (failed, made, failed)
+plan_acts Missing g None None =
+    let plan = without_mount g in
+    more_acts 4 plan (more_acts 3 plan (more_acts 2 plan (book_acts g None Fail)))
+plan_acts Expire g (Some mount) entry =
+    let done : HasActs 3 (after_umount g) = directory_acts 2 g.name (act.Rmdir g) (book_and_reply g None Ready) (book_acts g None Ready) in
+    let failed : HasActs 3 (after_failed_umount g mount) = more_acts 2 (after_failed_umount g mount) (book_acts g (Some (Mounted mount)) Fail) in
+    more_acts 4 (unmounting g mount) (done, (λ m. done), failed)
+plan_acts Expire g None entry = more_acts 4 (reply Fail) (more_acts 3 (reply Fail) (more_acts 2 (reply Fail) (more_acts 1 (reply Fail) (reply_acts Fail))))
+
+-- ---- the jobs
+
+-- a job on its own trigger that has few acts left
+pub record IsOfPlan (row : JobPlan) : Type 0 where
+  pub own : AreOwn row.trigger row.plan
+  pub few : IsShort row
+
+pub packet_plan : (d : DaemonState) (packet : Packet) → HasActs most_acts (plan_of_packet d packet)
+packet_plan d packet = plan_acts (token_kind packet.kind) (trigger_of packet) (mounted_for d packet) (entry_of d (trigger_of packet))
+
+pub job_of_plan : (attach : ℕ) (packet : Packet) (d : DaemonState) → IsOfPlan (job_for attach packet d)
+job_of_plan attach packet d = record {
+  own = plan_own (token_kind packet.kind) (trigger_of packet) (mounted_for d packet) (entry_of d (trigger_of packet));
+  few = packet_plan d packet;
+}
+
+walked_of_plan : (row : JobPlan) (outcome : Outcome) → IsOfPlan row → IsOfPlan (walked outcome row)
+walked_of_plan row outcome h = record { own = rest_own row.trigger row.plan outcome h.own; few = rest_acts 4 row.plan outcome h.few }
+
+going_by : (ended : Bool) (row : JobPlan) (jobs : List JobPlan) → IsOfPlan row → All IsOfPlan jobs → All IsOfPlan (if ended then jobs else row ∷ jobs)
+going_by true row jobs p h = h
+going_by false row jobs p h = All-cons IsOfPlan row jobs p h
+
+finished_by : (outcome : Outcome) (row : JobPlan) (jobs left : List JobPlan) (b : Bool) → IsOfPlan row → All IsOfPlan jobs → All IsOfPlan left → All IsOfPlan (if b then going (walked outcome row) jobs else row ∷ left)
+finished_by outcome row jobs left true p h later = going_by (is_ended (walked outcome row)) (walked outcome row) jobs (walked_of_plan row outcome p) h
+finished_by outcome row jobs left false p h later = All-cons IsOfPlan row left p later
+
+pub finished_of_plan : (job : ℕ) (outcome : Outcome) (jobs : List JobPlan) → All IsOfPlan jobs → All IsOfPlan (finished_in job outcome jobs)
+finished_of_plan job outcome [] h = All-nil IsOfPlan
+finished_of_plan job outcome (row ∷ jobs) h =
+    let rest = All-tail IsOfPlan row jobs h in
+    finished_by outcome row jobs (finished_in job outcome jobs) (row.token == job) (All-head IsOfPlan row jobs h) rest (finished_of_plan job outcome jobs rest)
+
+pub taken_of_plan : (attach : ℕ) (packet : Packet) (d : DaemonState) → All IsOfPlan d.jobs → All IsOfPlan (d.jobs ++ job_for attach packet d ∷ [])
+taken_of_plan attach packet d h = All-push IsOfPlan d.jobs (job_for attach packet d) h (job_of_plan attach packet d)

@@ -1,0 +1,59 @@
+-- What an expiry leaves (autofs.rst, "Mountpoint expiry").
+use Rattle.std.specs.Prelude.{◌≡◌, ◌⊎◌, ℕ, Bool, Some, None}
+use Rattle.am_names.specs.declared.trigger.Trigger.{Trigger}
+use Rattle.am_state.specs.declared.daemon_row.Record.TheVariants.{Mounted}
+use Rattle.am_trigger.specs.Sites.{place_of}
+use Rattle.am_wait.specs.Rows.{token_of}
+use Rattle.am_walk.specs.declared.stop.Next.TheVariants as nexts
+use Rattle.am_walk.specs.declared.stop.Stop.TheVariants as stops
+use Rattle.am_walk.specs.Meet.{next_at}
+use Rattle.am_kernel.specs.Sites.{attach_of, scene_of}
+use Rattle.am_kernel.specs.DaemonMounts.{location_of, mounted_on}
+use Rattle.am_job.specs.Book.{record_of}
+use Rattle.am_job.specs.Plans.{unmounting}
+use Rattle.am_daemon.specs.State.{JobPlan}
+use Rattle.am_daemon.specs.Deliveries.{job_of}
+use Rattle.am_machine.specs.declared.event.Event.TheVariants as events
+use Rattle.am_machine.specs.declared.answer.Answer.TheVariants as answers
+use Rattle.am_machine.specs.State.{State}
+use Rattle.am_machine.specs.Outcome.{Outcome}
+use Rattle.am_machine.specs.Invariant.Books.{IsServed}
+use Rattle.am_machine.specs.Machine.{after, outcome_of}
+use Rattle.am_progress.specs.Runs.{AfterEachRun}
+use Rattle.am_progress.specs.Ways.{LeadsTo}
+
+-- The expiry has failed: all mounts and directories are as before, this one too, which the book has
+-- as mounted again, and the token is closed.
+pub record IsAsFound (old : State) (token : ℕ) (g : Trigger) (mount : ℕ) (new : State) : Type 0 where
+  pub table : new.kernel.table ≡ old.kernel.table
+  pub triggers : new.kernel.triggers ≡ old.kernel.triggers
+  pub mounted : mounted_on new.kernel g ≡ Some mount
+  pub written : record_of new.daemon.book g ≡ Some (Mounted mount)
+  pub closed : token_of new.kernel.waits.tokens token ≡ None
+
+-- The expiry has come: nothing is mounted on the trigger at the daemon's mount, a walk that comes to it
+-- there has the daemon notified, which is still attached, and the token is closed.
+pub record IsTrapAgain (attach token : ℕ) (g : Trigger) (new : State) : Type 0 where
+  pub free : mounted_on new.kernel g ≡ None
+  pub notifies :
+      next_at (scene_of new.kernel) (location_of new.kernel g.fs) (place_of g) ≡ nexts.Halts (stops.Missing g)
+  pub attached : attach_of new.kernel g.fs ≡ Some attach
+  pub closed : token_of new.kernel.waits.tokens token ≡ None
+
+-- The unmount has failed or come, as its answer tells, and by two acts more in the one case and by
+-- three at most in the other the job ends so.
+abbrev pub EndsWell : State → ℕ → ℕ → Trigger → ℕ → Outcome → Type 0
+EndsWell s attach token g mount o =
+    ((o.answer ≡ answers.FailedUmount) × LeadsTo 2 token (IsAsFound s token g mount) (after s o))
+    ⊎ ((o.answer ≡ answers.DidUmount) × LeadsTo 3 token (IsTrapAgain attach token g) (after s o))
+
+-- each job that is about to unmount, with either word: its acts that are left are those of an expiry
+abbrev pub ExpiriesLeaveAll : State → Type 0
+ExpiriesLeaveAll s =
+    (fs attach : ℕ) → IsServed s.kernel s.daemon fs attach →
+    (job mount : ℕ) (row : JobPlan) → job_of s.daemon.jobs job ≡ Some row →
+    row.trigger.fs ≡ fs → row.attach ≡ attach → row.plan ≡ unmounting row.trigger mount →
+    (ok : Bool) → EndsWell s attach job row.trigger mount (outcome_of s (events.Act job ok))
+
+abbrev pub ExpiriesLeaveTrapOrMount : Type 0
+ExpiriesLeaveTrapOrMount = AfterEachRun ExpiriesLeaveAll
