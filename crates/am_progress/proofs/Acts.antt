@@ -1,6 +1,6 @@
 -- The next act of a job is done or fails.
-use Rattle.std.proofs.Common.{◌≡◌, ◌⊎◌, ⊤, ℕ, ◌+◌, Bool, true, false, cond, List, [], ◌∷◌, map, Option, Some, None, refl, sym, ap, subst, inl, inr, ◌∙◌}
-use Rattle.std.specs.Prelude.{◌==◌, ◌&&◌, not, is_some, is_none, find, if◌then◌else◌}
+use Rattle.std.proofs.Common.{◌≡◌, ◌⊎◌, ℕ, ◌+◌, Bool, true, false, cond, List, [], ◌∷◌, map, Option, Some, None, refl, sym, ap, subst, inl, inr, ◌∙◌}
+use Rattle.std.specs.Prelude.{⊤, ◌==◌, ◌&&◌, not, is_some, is_none, find, if◌then◌else◌}
 use Rattle.std.specs.Option.{option_map}
 use Rattle.std.specs.List.{All}
 use Rattle.std.proofs.lemmas.List.Elements.{All-weaker}
@@ -24,7 +24,7 @@ use Rattle.am_kernel.specs.DaemonMounts.{location_of, coming, mount_on_refusal, 
 use Rattle.am_kernel.specs.Requests.{token_fs, is_number, answer_tests, answer_refusal, acknowledged}
 use Rattle.am_job.specs.declared.act.Act.{Act}
 use Rattle.am_job.specs.declared.act.Act.TheVariants as act
-use Rattle.am_job.specs.declared.act.Outcome as job
+use Rattle.am_job.specs.declared.act.Outcome as outcomes
 use Rattle.am_job.specs.declared.act.Outcome.TheVariants as came
 use Rattle.am_job.specs.Plans.{Plan, Ended, Next, next_of}
 use Rattle.am_job.specs.Laws.{AcknowledgesLast}
@@ -49,9 +49,10 @@ use Rattle.am_machine.proofs.TraceRows.{found_passes}
 use Rattle.am_machine.proofs.TokenLists.{all_found}
 use Rattle.am_machine.proofs.GivenCurrent.{current_from_attach}
 use Rattle.am_machine.proofs.BookFound.{absent}
-use Rattle.am_machine.proofs.AgreeTokens.{token_named, token_at_work}
+use Rattle.am_machine.proofs.AgreeTokens.{token_named}
 use Rattle.am_progress.specs.Acts.{Tells, goes_on_as, IsActed, JobsGoOn, NextActsAreNeverRefused, IsShort, JobsHaveFiveActs}
 use Rattle.am_progress.proofs.Attaches.{fs_of_current}
+use Rattle.am_progress.proofs.Found.{token_at_work}
 use Rattle.am_progress.proofs.SiteWalks.{IsSite}
 use Rattle.am_progress.proofs.Plans.{IsOwn, IsOfPlan, next_own, packet_plan}
 use Rattle.am_progress.proofs.Packets.{holds_held}
@@ -59,11 +60,11 @@ use Rattle.am_progress.proofs.Worlds.{IsWorld, after_runs}
 
 -- ---- the job goes on, or it is gone
 
-going_is : (job : ℕ) (outcome : job.Outcome) (row : JobPlan) (jobs : List JobPlan) (ended : Bool) → (row.token == job) ≡ true → job_of jobs job ≡ None → job_of (if ended then jobs else walked outcome row ∷ jobs) job ≡ (if ended then None else Some (walked outcome row))
+going_is : (job : ℕ) (outcome : outcomes.Outcome) (row : JobPlan) (jobs : List JobPlan) (ended : Bool) → (row.token == job) ≡ true → job_of jobs job ≡ None → job_of (if ended then jobs else walked outcome row ∷ jobs) job ≡ (if ended then None else Some (walked outcome row))
 going_is job outcome row jobs true own none = none
 going_is job outcome row jobs false own none = rw own refl
 
-left_by : (job : ℕ) (outcome : job.Outcome) (first row : JobPlan) (jobs : List JobPlan) (b : Bool) → (first.token == job) ≡ b → has first.token (map (λ (r : JobPlan). r.token) jobs) ≡ false →
+left_by : (job : ℕ) (outcome : outcomes.Outcome) (first row : JobPlan) (jobs : List JobPlan) (b : Bool) → (first.token == job) ≡ b → has first.token (map (λ (r : JobPlan). r.token) jobs) ≡ false →
     (job_of jobs job ≡ Some row → job_of (finished_in job outcome jobs) job ≡ goes_on_as outcome row) → cond b (Some first) (job_of jobs job) ≡ Some row →
     job_of (if b then going (walked outcome first) jobs else first ∷ finished_in job outcome jobs) job ≡ goes_on_as outcome row
 left_by job outcome first row jobs true e apart later found =
@@ -72,7 +73,7 @@ left_by job outcome first row jobs true e apart later found =
     subst (λ (r : JobPlan). job_of (going (walked outcome first) jobs) job ≡ goes_on_as outcome r) same (going_is job outcome first jobs (is_ended (walked outcome first)) e none)
 left_by job outcome first row jobs false e apart later found = rw e (later found)
 
-left_is : (job : ℕ) (outcome : job.Outcome) (row : JobPlan) (jobs : List JobPlan) → AreDifferent (map (λ (r : JobPlan). r.token) jobs) → job_of jobs job ≡ Some row → job_of (finished_in job outcome jobs) job ≡ goes_on_as outcome row
+left_is : (job : ℕ) (outcome : outcomes.Outcome) (row : JobPlan) (jobs : List JobPlan) → AreDifferent (map (λ (r : JobPlan). r.token) jobs) → job_of jobs job ≡ Some row → job_of (finished_in job outcome jobs) job ≡ goes_on_as outcome row
 left_is job outcome row [] differ e = absurd cc
 left_is job outcome row (first ∷ jobs) differ e = left_by job outcome first row jobs (first.token == job) refl differ.0 (left_is job outcome row jobs differ.1) e
 
@@ -118,14 +119,14 @@ waits_after (act.Reply status) token w = answered token status w
 waits_after _ token w = w
 
 -- what it leaves of the kernel, where that is to be known
-abbrev pub LeavesKernel : Act → job.Outcome → ℕ → KernelState → KernelState → Type 0
+abbrev pub LeavesKernel : Act → outcomes.Outcome → ℕ → KernelState → KernelState → Type 0
 LeavesKernel (act.Umount trigger) came.Failed token k made = made ≡ k
 LeavesKernel (act.Record trigger entry) outcome token k made = made ≡ k
 LeavesKernel (act.Reply status) outcome token k made = made ≡ acknowledged token status k
 LeavesKernel _ outcome token k made = ⊤
 
 pub record Does (s : State) (row : JobPlan) (a : Act) (o : Outcome) : Type 0 where
-  pub came : job.Outcome
+  pub came : outcomes.Outcome
   pub answer : Answer
   pub shown : List Obs
   pub made : KernelState
@@ -161,7 +162,7 @@ directory_fine s number row w named =
     directory_by (is_current s.kernel row.trigger.fs row.attach) (is_indirect s.kernel row.trigger) (its_current s number row w)
     (indirect_of (triggers.autofs_of s.kernel.triggers row.trigger.fs) row.trigger (its_site s number row w) named)
 
-plainly : (s : State) (row : JobPlan) (a : Act) (outcome : job.Outcome) (answer : Answer) (shown : List Obs) (made : KernelState) → Tells a outcome answer → made.waits ≡ waits_after a row.token s.kernel.waits → ((fs : ℕ) → attach_of made fs ≡ attach_of s.kernel fs) → LeavesKernel a outcome row.token s.kernel made →
+plainly : (s : State) (row : JobPlan) (a : Act) (outcome : outcomes.Outcome) (answer : Answer) (shown : List Obs) (made : KernelState) → Tells a outcome answer → made.waits ≡ waits_after a row.token s.kernel.waits → ((fs : ℕ) → attach_of made fs ≡ attach_of s.kernel fs) → LeavesKernel a outcome row.token s.kernel made →
     Does s row a (acts.goes_on s row outcome answer shown made)
 plainly s row a outcome answer shown made told waits attaches leaves =
     record { came = outcome; answer = answer; shown = shown; made = made; is = refl; told = told; waits = waits; attaches = attaches; leaves = leaves }
@@ -263,7 +264,7 @@ does s number row ok a w e =
     (does_next a s number row ok w (next_own row.trigger row.plan a (its_acts s number row w).own e))
 
 -- what is left of the jobs then
-pub goes_left : (s : State) (number : ℕ) (row : JobPlan) (outcome : job.Outcome) → Acting s number row → job_of (finished row.token outcome s.daemon).jobs number ≡ goes_on_as outcome row
+pub goes_left : (s : State) (number : ℕ) (row : JobPlan) (outcome : outcomes.Outcome) → Acting s number row → job_of (finished row.token outcome s.daemon).jobs number ≡ goes_on_as outcome row
 goes_left s number row outcome w =
     subst (λ (n : ℕ). job_of (finished_in n outcome s.daemon.jobs) number ≡ goes_on_as outcome row) (sym (job_number s number row w))
     (left_is number outcome row s.daemon.jobs w.world.consistent.agreed.tokens.numbers w.is_job)

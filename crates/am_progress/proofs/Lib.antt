@@ -1,4 +1,5 @@
 pub mod Attaches
+pub mod Found
 pub mod SiteWalks
 pub mod SiteRows
 pub mod SiteBegins

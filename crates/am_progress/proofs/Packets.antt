@@ -20,9 +20,10 @@ use Rattle.am_machine.specs.Events.Deliveries.{packet_bytes, has_bytes, may_take
 use Rattle.am_machine.specs.Invariant.Books.{IsServed}
 use Rattle.am_machine.proofs.TraceRows.{found_passes}
 use Rattle.am_machine.proofs.TokenClose.{dev_of}
-use Rattle.am_machine.proofs.AgreeTokens.{in_pipe, queued_number}
+use Rattle.am_machine.proofs.AgreeTokens.{in_pipe}
 use Rattle.am_machine.proofs.InStep.{in_step, refuses_in_step}
 use Rattle.am_progress.specs.Packets.{IsTaken, PacketsAreTaken, QueuedPacketsCanBeDelivered}
+use Rattle.am_progress.proofs.Found.{queued_number}
 use Rattle.am_progress.proofs.Worlds.{IsWorld, after_runs}
 
 -- ---- what the daemon holds of a file system it holds

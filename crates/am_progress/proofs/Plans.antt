@@ -1,6 +1,6 @@
 -- A job acts on its own trigger, and has few acts.
-use Rattle.std.proofs.Common.{◌≡◌, ⊤, ⊥, ℕ, zero, suc, Bool, true, false, List, [], ◌∷◌, ◌++◌, Option, Some, None, refl, subst}
-use Rattle.std.specs.Prelude.{◌==◌, is_some, not, if◌then◌else◌}
+use Rattle.std.proofs.Common.{◌≡◌, ℕ, zero, suc, Bool, true, false, List, [], ◌∷◌, ◌++◌, Option, Some, None, refl, subst}
+use Rattle.std.specs.Prelude.{⊤, ◌==◌, is_some, not, if◌then◌else◌}
 use Rattle.std.specs.List.{All}
 use Rattle.std.proofs.lemmas.List.Elements.{All-nil, All-cons, All-head, All-tail, All-push}
 use Rattle.am_names.specs.declared.trigger.Trigger.{Trigger}

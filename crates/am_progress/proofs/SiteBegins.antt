@@ -39,7 +39,7 @@ use Rattle.am_laws.proofs.Bools.{or_no}
 use Rattle.am_laws.proofs.Packets.{nat_is}
 use Rattle.am_machine.proofs.TraceRows.{found_passes}
 use Rattle.am_machine.proofs.TokenLists.{all_found}
-use Rattle.am_progress.proofs.SiteWalks.{IsSite, IsSiteStop, MeetsSites, walk_sites}
+use Rattle.am_progress.proofs.SiteWalks.{IsSite, IsSiteStop, MeetsSites, walk_sites, meets_weaker}
 use Rattle.am_progress.proofs.SiteRows.{AreOn, AreSites, IsIdle, arrived_on, joined_sites, notified_sites, expiring_sites, closed_sites, freed_from_sites, freed_idle, sites_weaker}
 
 -- ---- autofs that change
@@ -189,7 +189,8 @@ resumed_as Missing Ready pipe k wait row moment own out same h =
     again pipe k base row moment (subst (IsIdle base) (sym same) (freed_idle Missing wait moment k out)) (walk_sites (scene_of k) row.ns row.path) (freed_from_sites (IsSite k.triggers) Missing wait moment k own h)
 resumed_as Expire status pipe k wait row moment own out same h =
     let base = resumes.freed_from Expire wait moment k in
-    again pipe k base row moment (subst (IsIdle base) (sym same) (freed_idle Expire wait moment k out)) (walk_sites (scene_of k) row.ns row.path) (freed_from_sites (IsSite k.triggers) Expire wait moment k own h)
+    again pipe k base row moment (subst (IsIdle base) (sym same) (freed_idle Expire wait moment k out))
+    (meets_weaker k.triggers base.triggers (walk_of (scene_of k) row.ns row.path) (λ g h. h) (walk_sites (scene_of k) row.ns row.path)) (freed_from_sites (IsSite k.triggers) Expire wait moment k own h)
 
 expired_as : (status : Status) (k : KernelState) → AreSites k → Leaves (resumes.expired_as status k)
 expired_as Ready k h = nothing k _ h

@@ -65,14 +65,14 @@ both_all : {X : Type 0} (P Q R : X → Type 0) → ((x : X) → P x → Q x → 
 both_all P Q R more [] h g = All-nil R
 both_all P Q R more (x ∷ rows) h g = All-cons R x rows (more x (All-head P x rows h) (All-head Q x rows g)) (both_all P Q R more rows (All-tail P x rows h) (All-tail Q x rows g))
 
-others_by : (walker mount other : ℕ) (b : Bool) (was now : Option ℕ) → (walker == other) ≡ b → b ≡ false → now ≡ (if b then Some mount else was) → was ≡ None → now ≡ None
-others_by walker mount other true was now is no e none = absurd cc
-others_by walker mount other false was now is no e none = e ∙ none
+others_by : (mount : ℕ) (b : Bool) (was now : Option ℕ) → b ≡ false → now ≡ (if b then Some mount else was) → was ≡ None → now ≡ None
+others_by mount true was now other e none = absurd cc
+others_by mount false was now other e none = e ∙ none
 
 entered_outside : (walker mount : ℕ) (uses : List Use) (waits : List WaitRow) → mount_of uses walker ≡ None → wait_of waits walker ≡ None → All (IsOutside uses) waits → All (IsOutside (entered walker mount uses)) waits
 entered_outside walker mount uses waits free idle h =
     both_all (IsOutside uses) (λ (row : WaitRow). (row.walker == walker) ≡ false) (IsOutside (entered walker mount uses))
-    (λ row out other. others_by walker mount row.walker (walker == row.walker) (mount_of uses row.walker) (mount_of (entered walker mount uses) row.walker) refl (other_way row.walker walker false other) (enters uses (record { walker = walker; mount = mount }) free row.walker) out)
+    (λ row out other. others_by mount (walker == row.walker) (mount_of uses row.walker) (mount_of (entered walker mount uses) row.walker) (other_way row.walker walker false other) (enters uses (record { walker = walker; mount = mount }) free row.walker) out)
     waits h (none_all (λ (row : WaitRow). row.walker == walker) waits idle)
 
 left_by : (b : Bool) (was now : Option ℕ) → now ≡ (if b then None else was) → was ≡ None → now ≡ None

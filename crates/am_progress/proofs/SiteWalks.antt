@@ -3,7 +3,7 @@ use Rattle.std.proofs.Common.{◌≡◌, ◌∷◌, ◌++◌, ◌+◌, ◌||◌,
 use Rattle.std.specs.Prelude.{◌==◌, is_some, find, if◌then◌else◌}
 use Rattle.std.specs.Option.{option_map, option_and_then}
 use Rattle.std.specs.List.{All}
-use Rattle.std.proofs.lemmas.List.Elements.{All-nil, All-push}
+use Rattle.std.proofs.lemmas.List.Elements.{All-nil, All-push, All-weaker}
 use Rattle.am_names.specs.declared.errno.Errno.TheVariants.{ENOENT, ELOOP}
 use Rattle.am_names.specs.declared.trigger.Trigger.{Trigger}
 use Rattle.am_names.specs.declared.row.OpenToken.{OpenToken}
@@ -161,3 +161,17 @@ module _ (scene : Scene) where
 
   pub walk_sites : (ns : ℕ) (names : List (List ℕ)) → MeetsSites scene.triggers (walk_of scene ns names)
   walk_sites ns names = ended_site (visit_of scene ns names) (from_site names (root_of scene.mounts ns))
+
+-- ---- triggers that stay there
+
+stop_weaker : (t made : TriggerRows) → ((g : Trigger) → IsSite t g → IsSite made g) → (stop : Stop) → IsSiteStop t stop → IsSiteStop made stop
+stop_weaker t made more (stops.Arrive at) h = tt
+stop_weaker t made more (stops.Block token) h = tt
+stop_weaker t made more (stops.Missing trigger) h = more trigger h
+stop_weaker t made more (stops.Refuse errno) h = tt
+
+pub meets_weaker : (t made : TriggerRows) (walk : Walked) → ((g : Trigger) → IsSite t g → IsSite made g) → MeetsSites t walk → MeetsSites made walk
+meets_weaker t made walk more h = record {
+  passes = All-weaker (IsSite t) (IsSite made) more walk.passed h.passes;
+  stops = stop_weaker t made more walk.stop h.stops;
+}

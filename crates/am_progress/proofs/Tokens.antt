@@ -1,5 +1,5 @@
 -- Each open token of a file system that the daemon serves can be closed by the daemon alone.
-use Rattle.std.proofs.Common.{◌≡◌, ◌⊎◌, ⊤, ℕ, zero, suc, Bool, true, false, cond, List, [], ◌∷◌, ◌++◌, map, Option, Some, None, refl, sym, ap, subst, inl, inr, ⊎_elim, ◌∙◌}
+use Rattle.std.proofs.Common.{◌≡◌, ◌⊎◌, ℕ, zero, suc, Bool, true, false, cond, List, [], ◌∷◌, ◌++◌, map, Option, Some, None, refl, sym, ap, subst, inl, inr, ⊎_elim, ◌∙◌}
 use Rattle.std.specs.Prelude.{◌==◌, not, is_some, find, if◌then◌else◌}
 use Rattle.std.specs.Option.{option_map}
 use Rattle.am_names.specs.declared.trigger.Status.{Status}
@@ -14,7 +14,7 @@ use Rattle.am_kernel.specs.Sites.{attach_of}
 use Rattle.am_kernel.specs.Requests.{queued_of}
 use Rattle.am_job.specs.declared.act.Act.{Act}
 use Rattle.am_job.specs.declared.act.Act.TheVariants as act
-use Rattle.am_job.specs.declared.act.Outcome as job
+use Rattle.am_job.specs.declared.act.Outcome as outcomes
 use Rattle.am_job.specs.declared.act.Outcome.TheVariants as came
 use Rattle.am_job.specs.Plans.{Plan, Ended, Next, next_of, rest_of}
 use Rattle.am_job.specs.Laws.{AcknowledgesLast}
@@ -39,11 +39,12 @@ use Rattle.am_machine.proofs.TokenLists.{all_found}
 use Rattle.am_machine.proofs.TokenClose.{token_number, dev_of}
 use Rattle.am_machine.proofs.GivenPlans.{acknowledges, goes_after}
 use Rattle.am_machine.proofs.BookFound.{find_new}
-use Rattle.am_machine.proofs.AgreeTokens.{in_pipe, queued_number}
+use Rattle.am_machine.proofs.AgreeTokens.{in_pipe}
 use Rattle.am_progress.specs.Runs.{IsDone, is_refusal, next}
 use Rattle.am_progress.specs.Acts.{Tells, HasActs, most_acts, goes_on_as}
 use Rattle.am_progress.specs.Ways.{LeadsTo, CanReach}
 use Rattle.am_progress.specs.Tokens.{IsAnswered, TokensCloseSoon, OpenTokensCanBeClosed}
+use Rattle.am_progress.proofs.Found.{queued_number}
 use Rattle.am_progress.proofs.Plans.{IsOfPlan, fewer_acts, packet_plan}
 use Rattle.am_progress.proofs.Packets.{taken}
 use Rattle.am_progress.proofs.Acts.{Acting, Does, waits_after, its_plan, job_number, does, goes_left, next_is, acting}
@@ -53,7 +54,7 @@ use Rattle.am_progress.proofs.Worlds.{IsWorld, next_world, after_runs}
 -- ---- what an act leaves
 
 -- what is answered tells of no refusal
-pub told_done : (a : Act) (outcome : job.Outcome) (answer : Answer) → Tells a outcome answer → is_refusal answer ≡ false
+pub told_done : (a : Act) (outcome : outcomes.Outcome) (answer : Answer) → Tells a outcome answer → is_refusal answer ≡ false
 told_done (act.Mkdir t) outcome answer h = ap is_refusal h.1
 told_done (act.Mount t entry) outcome answer (inl h) = ap is_refusal h.2
 told_done (act.Mount t entry) outcome answer (inr h) = ap is_refusal h.1
@@ -156,7 +157,7 @@ module _ (old : State) (fs attach token : ℕ) where
       none Ended last few = last
       none (Next a done made failed) last few = few
 
-  fewer : (most : ℕ) (plan : Plan) (outcome : job.Outcome) → HasActs (suc most) plan → HasActs most (rest_of outcome plan)
+  fewer : (most : ℕ) (plan : Plan) (outcome : outcomes.Outcome) → HasActs (suc most) plan → HasActs most (rest_of outcome plan)
   fewer zero Ended outcome few = tt
   fewer (suc most) Ended outcome few = tt
   fewer most (Next a done made failed) outcome few = fewer_acts most a done made failed outcome few

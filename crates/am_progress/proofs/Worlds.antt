@@ -1,6 +1,6 @@
 -- What every world keeps beside the machine's own invariant: triggers that the kernel has written down
 -- are there, who waits is inside no mount, each attachment is one file system's, and jobs have few acts.
-use Rattle.std.proofs.Common.{◌≡◌, ℕ, ◌+◌, Bool, true, false, List, [], ◌∷◌, Option, Some, None, refl, sym, subst, inl, inr, arith}
+use Rattle.std.proofs.Common.{◌≡◌, ◌≤◌, ℕ, ◌+◌, Bool, true, false, List, [], ◌∷◌, Option, Some, None, refl, sym, subst, inl, inr, arith}
 use Rattle.std.specs.Prelude.{not, is_some, Result, Ok, Err, if◌then◌else◌}
 use Rattle.std.specs.List.{All}
 use Rattle.std.proofs.lemmas.List.Elements.{All-nil, All-head, All-tail}
@@ -34,7 +34,7 @@ use Rattle.am_kernel.specs.Walks.{closed, first_begin}
 use Rattle.am_kernel.specs.Previews.{is_trigger}
 use Rattle.am_job.specs.declared.act.Act.{Act}
 use Rattle.am_job.specs.declared.act.Act.TheVariants as act
-use Rattle.am_job.specs.declared.act.Outcome as job
+use Rattle.am_job.specs.declared.act.Outcome as outcomes
 use Rattle.am_job.specs.declared.act.Outcome.TheVariants as came
 use Rattle.am_job.specs.Plans.{next_of}
 use Rattle.am_daemon.specs.declared.served.Served.{Served}
@@ -250,7 +250,7 @@ deliver s token bytes = delivered_at (queued_of s.kernel.queue token) s bytes
 
 -- ---- a job goes on
 
-goes_plainly : (s : State) (row : JobPlan) (outcome : job.Outcome) (answer : Answer) (shown : List Obs) (k : KernelState) → Stays s.kernel k → Keeps s (acts.goes_on s row outcome answer shown k)
+goes_plainly : (s : State) (row : JobPlan) (outcome : outcomes.Outcome) (answer : Answer) (shown : List Obs) (k : KernelState) → Stays s.kernel k → Keeps s (acts.goes_on s row outcome answer shown k)
 goes_plainly s row outcome answer shown k h =
     record { keeps = λ c held. record { kernel = h.keeps held.kernel; plans = finished_of_plan row.token outcome s.daemon.jobs held.plans } }
 

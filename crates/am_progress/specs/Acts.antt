@@ -1,11 +1,11 @@
 -- The next act of a job is done, or it fails; and a job has five acts at most. Since the first is said
 -- of every world, it doesn't matter what others have done since the job's last act: nothing takes the
 -- next one away but what ends the attachment (catatonic mode, the daemon's death, a new attachment).
-use Rattle.std.specs.Prelude.{◌≡◌, ◌⊎◌, ⊤, ⊥, ℕ, zero, suc, ◌==◌, Bool, false, All, Option, Some, None, if◌then◌else◌}
+use Rattle.std.specs.Prelude.{◌≡◌, ◌⊎◌, ⊤, ℕ, zero, suc, ◌==◌, Bool, false, All, Option, Some, None, if◌then◌else◌}
 use Rattle.am_wire.specs.declared.packet.Packet.{Packet}
 use Rattle.am_job.specs.declared.act.Act.{Act}
 use Rattle.am_job.specs.declared.act.Act.TheVariants as act
-use Rattle.am_job.specs.declared.act.Outcome as job
+use Rattle.am_job.specs.declared.act.Outcome as outcomes
 use Rattle.am_job.specs.declared.act.Outcome.TheVariants.{Done, Made, Failed}
 use Rattle.am_job.specs.Plans.{Plan, Ended, Next, next_of}
 use Rattle.am_daemon.specs.State.{DaemonState, JobPlan}
@@ -25,7 +25,7 @@ use Rattle.am_progress.specs.Runs.{AfterEachRun}
 
 -- What is answered when this has come of an act: a mount and an unmount are done or have failed, and
 -- the others are done.
-abbrev pub Tells : Act → job.Outcome → Answer → Type 0
+abbrev pub Tells : Act → outcomes.Outcome → Answer → Type 0
 Tells (act.Mkdir trigger) came answer = (came ≡ Done) × (answer ≡ answers.DidMkdir)
 Tells (act.Mount trigger entry) came answer =
     ((mount : ℕ) × (came ≡ Made mount) × (answer ≡ answers.DidMount mount))
@@ -37,7 +37,7 @@ Tells (act.Record trigger entry) came answer = (came ≡ Done) × (answer ≡ an
 Tells (act.Reply status) came answer = (came ≡ Done) × (answer ≡ answers.DidReply)
 
 -- the job with what it has left when this has come of its next act; none where that is nothing
-abbrev pub goes_on_as : job.Outcome → JobPlan → Option JobPlan
+abbrev pub goes_on_as : outcomes.Outcome → JobPlan → Option JobPlan
 goes_on_as came row = if is_ended (walked came row) then None else Some (walked came row)
 
 -- The job's next act is done or has failed, as the answer tells; the job goes on with what is left
@@ -45,7 +45,7 @@ goes_on_as came row = if is_ended (walked came row) then None else Some (walked 
 pub record IsActed (job : ℕ) (row : JobPlan) (old : DaemonState) (o : Outcome) : Type 0 where
   pub act : Act
   pub is_next : next_of row.plan ≡ Some act
-  pub came : job.Outcome
+  pub came : outcomes.Outcome
   pub told : Tells act came o.answer
   pub left : job_of o.state.daemon.jobs job ≡ goes_on_as came row
   pub others : (other : ℕ) → (other == job) ≡ false →
