@@ -9,3 +9,4 @@ pub mod Packets
 pub mod Acts
 pub mod Ways
 pub mod Tokens
+pub mod Walkers
