@@ -10,3 +10,4 @@ pub mod Acts
 pub mod Ways
 pub mod Tokens
 pub mod Walkers
+pub mod Expiries
