@@ -60,9 +60,10 @@ use Rattle.am_machine.proofs.StandKeeps.{attached_autofs}
 use Rattle.am_machine.proofs.StandMounts.{trigger_same}
 use Rattle.am_progress.specs.Runs.{IsDone, next}
 use Rattle.am_progress.specs.Ways.{LeadsTo}
-use Rattle.am_progress.specs.Expiries.{IsAsFound, IsTrapAgain, EndsWell, ExpiriesLeaveAll, ExpiriesLeaveTrapOrMount}
+use Rattle.am_progress.specs.Expiries.{IsAsFound, IsTrapAgain, EndsWell, ExpiriesEndWell, ExpiriesLeaveTrapOrMount}
+use Rattle.am_progress.proofs.Plans.{umount_whole}
 use Rattle.am_progress.proofs.SiteWalks.{IsSite}
-use Rattle.am_progress.proofs.Acts.{Does, LeavesKernel, its_token, on_its_token, its_site, job_number}
+use Rattle.am_progress.proofs.Acts.{Does, LeavesKernel, its_acts, its_token, on_its_token, its_site, job_number}
 use Rattle.am_progress.proofs.Tokens.{Served, served_acts, its_act, act_done, act_world, act_served, act_waits, act_goes}
 use Rattle.am_progress.proofs.Worlds.{IsWorld, after_runs}
 
@@ -336,9 +337,15 @@ module _ (s : State) (fs attach token mount : ℕ) (row : JobPlan) (h : Served s
       stands_there))
       its_umount.told
 
-expiries_end : (s : State) → IsWorld s → ExpiriesLeaveAll s
-expiries_end s world fs attach served job mount row is same own plan ok =
-    ends_well s fs attach job mount row (record { world = world; served = served; is_job = is; fs_is = same; attach_is = own; waits = refl }) plan ok
+expiries_end : (s : State) → IsWorld s → ExpiriesEndWell s
+expiries_end s world fs attach served job row is same own e =
+    let h : Served s fs attach job row s.kernel.waits = record { world = world; served = served; is_job = is; fs_is = same; attach_is = own; waits = refl } in
+    let whole = umount_whole row.trigger row.trigger row.plan (its_acts s job row (served_acts s fs attach job row s.kernel.waits h)).umounts e in
+    record {
+      mount = whole.0;
+      stands = stands_there s fs attach job whole.0 row h whole.1 true;
+      ends = ends_well s fs attach job whole.0 row h whole.1;
+    }
 
 pub expiries_leave : ExpiriesLeaveTrapOrMount
-expiries_leave = after_runs ExpiriesLeaveAll expiries_end
+expiries_leave = after_runs ExpiriesEndWell expiries_end

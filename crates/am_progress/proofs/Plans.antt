@@ -1,5 +1,5 @@
--- A job acts on its own trigger, and has few acts.
-use Rattle.std.proofs.Common.{◌≡◌, ℕ, zero, suc, Bool, true, false, List, [], ◌∷◌, ◌++◌, Option, Some, None, refl, subst}
+-- A job acts on its own trigger, unmounts first, if it does, and has few acts.
+use Rattle.std.proofs.Common.{◌≡◌, ◌⊎◌, ℕ, zero, suc, Bool, true, false, List, [], ◌∷◌, ◌++◌, Option, Some, None, refl, sym, subst, inl, inr}
 use Rattle.std.specs.Prelude.{⊤, ◌==◌, is_some, not, if◌then◌else◌}
 use Rattle.std.specs.List.{All}
 use Rattle.std.proofs.lemmas.List.Elements.{All-nil, All-cons, All-head, All-tail, All-push}
@@ -77,6 +77,71 @@ plan_own Expire g (Some mount) entry =
     (refl, done, (λ m. done), book_own g (Some (Mounted mount)) Fail)
 plan_own Expire g None entry = reply_own g Fail
 
+-- ---- an unmount is the first act
+
+abbrev IsNoUmount : Act → Type 0
+IsNoUmount (act.Mkdir trigger) = ⊤
+IsNoUmount (act.Mount trigger entry) = ⊤
+IsNoUmount (act.Umount trigger) = ⊥
+IsNoUmount (act.Rmdir trigger) = ⊤
+IsNoUmount (act.Record trigger entry) = ⊤
+IsNoUmount (act.Reply status) = ⊤
+
+-- nothing is unmounted
+abbrev MountsAll : Plan → Type 0
+MountsAll Ended = ⊤
+MountsAll (Next a done made failed) =
+    IsNoUmount a × MountsAll done × ((mount : ℕ) → MountsAll (made mount)) × MountsAll failed
+
+-- the plan is that of an unmount as a whole, or nothing is unmounted
+abbrev pub IsWholeUmount : Trigger → Plan → Type 0
+IsWholeUmount g plan = ((mount : ℕ) × (plan ≡ unmounting g mount)) ⊎ MountsAll plan
+
+reply_mounts : (status : Status) → MountsAll (reply status)
+reply_mounts status = (tt, tt, (λ mount. tt), tt)
+
+book_mounts : (g : Trigger) (entry : Option Record) (status : Status) → MountsAll (book_and_reply g entry status)
+book_mounts g entry status = (tt, reply_mounts status, (λ mount. reply_mounts status), reply_mounts status)
+
+directory_mounts : (name : Option (List ℕ)) (a : Act) (rest : Plan) → IsNoUmount a → MountsAll rest → MountsAll (at_directory name a rest)
+directory_mounts None a rest plain h = h
+directory_mounts (Some name) a rest plain h = (plain, h, (λ mount. h), h)
+
+plan_umounts : (kind : TokenKind) (g : Trigger) (mounted : Option ℕ) (entry : Option EntryText) → IsWholeUmount g (plan_for kind g mounted entry)
+plan_umounts Missing g (Some mount) entry = inr (reply_mounts Ready)
+plan_umounts Missing g None (Some entry) =
+    let failed = directory_mounts g.name (act.Rmdir g) (without_mount g) tt (book_mounts g None Fail) in
+    inr (directory_mounts g.name (act.Mkdir g) (mount_entry g entry) tt (tt, failed, (λ mount. book_mounts g (Some (Mounted mount)) Ready), failed))
+plan_umounts Missing g None None = inr (book_mounts g None Fail)
+plan_umounts Expire g (Some mount) entry = inl (mount, refl)
+plan_umounts Expire g None entry = inr (reply_mounts Fail)
+
+rest_mounts : (plan : Plan) (outcome : Outcome) → MountsAll plan → MountsAll (rest_of outcome plan)
+rest_mounts Ended outcome h = tt
+rest_mounts (Next a done made failed) Done h = h.1
+rest_mounts (Next a done made failed) (Made mount) h = h.2 mount
+rest_mounts (Next a done made failed) Failed h = h.3
+
+after_mounts : (g : Trigger) (mount : ℕ) (outcome : Outcome) → MountsAll (rest_of outcome (unmounting g mount))
+after_mounts g mount Done = directory_mounts g.name (act.Rmdir g) (book_and_reply g None Ready) tt (book_mounts g None Ready)
+after_mounts g mount (Made m) = directory_mounts g.name (act.Rmdir g) (book_and_reply g None Ready) tt (book_mounts g None Ready)
+after_mounts g mount Failed = book_mounts g (Some (Mounted mount)) Fail
+
+rest_umounts : (g : Trigger) (plan : Plan) (outcome : Outcome) → IsWholeUmount g plan → IsWholeUmount g (rest_of outcome plan)
+rest_umounts g plan outcome (inl whole) = inr (subst (λ (p : Plan). MountsAll (rest_of outcome p)) (sym whole.1) (after_mounts g whole.0 outcome))
+rest_umounts g plan outcome (inr none) = inr (rest_mounts plan outcome none)
+
+no_umount : (plan : Plan) (g : Trigger) → MountsAll plan → next_of plan ≡ Some (act.Umount g) → ⊥
+no_umount Ended g h e = absurd cc
+no_umount (Next a done made failed) g h e =
+    let same : a ≡ act.Umount g = cc in
+    subst IsNoUmount same h.0
+
+-- a plan whose next act is an unmount is that of an unmount as a whole
+pub umount_whole : (g on : Trigger) (plan : Plan) → IsWholeUmount g plan → next_of plan ≡ Some (act.Umount on) → (mount : ℕ) × (plan ≡ unmounting g mount)
+umount_whole g on plan (inl whole) e = whole
+umount_whole g on plan (inr none) e = absurd (no_umount plan on none e)
+
 -- ---- how many acts there are
 
 more_acts : (most : ℕ) (plan : Plan) → HasActs most plan → HasActs (suc most) plan
@@ -124,9 +189,10 @@ plan_acts Expire g None entry = more_acts 4 (reply Fail) (more_acts 3 (reply Fai
 
 -- ---- the jobs
 
--- a job on its own trigger that has few acts left
+-- a job on its own trigger that unmounts first, if it does, and has few acts left
 pub record IsOfPlan (row : JobPlan) : Type 0 where
   pub own : AreOwn row.trigger row.plan
+  pub umounts : IsWholeUmount row.trigger row.plan
   pub few : IsShort row
 
 pub packet_plan : (d : DaemonState) (packet : Packet) → HasActs most_acts (plan_of_packet d packet)
@@ -135,11 +201,12 @@ packet_plan d packet = plan_acts (token_kind packet.kind) (trigger_of packet) (m
 pub job_of_plan : (attach : ℕ) (packet : Packet) (d : DaemonState) → IsOfPlan (job_for attach packet d)
 job_of_plan attach packet d = record {
   own = plan_own (token_kind packet.kind) (trigger_of packet) (mounted_for d packet) (entry_of d (trigger_of packet));
+  umounts = plan_umounts (token_kind packet.kind) (trigger_of packet) (mounted_for d packet) (entry_of d (trigger_of packet));
   few = packet_plan d packet;
 }
 
 walked_of_plan : (row : JobPlan) (outcome : Outcome) → IsOfPlan row → IsOfPlan (walked outcome row)
-walked_of_plan row outcome h = record { own = rest_own row.trigger row.plan outcome h.own; few = rest_acts 4 row.plan outcome h.few }
+walked_of_plan row outcome h = record { own = rest_own row.trigger row.plan outcome h.own; umounts = rest_umounts row.trigger row.plan outcome h.umounts; few = rest_acts 4 row.plan outcome h.few }
 
 going_by : (ended : Bool) (row : JobPlan) (jobs : List JobPlan) → IsOfPlan row → All IsOfPlan jobs → All IsOfPlan (if ended then jobs else row ∷ jobs)
 going_by true row jobs p h = h

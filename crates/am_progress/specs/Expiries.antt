@@ -10,7 +10,8 @@ use Rattle.am_walk.specs.Meet.{next_at}
 use Rattle.am_kernel.specs.Sites.{attach_of, scene_of}
 use Rattle.am_kernel.specs.DaemonMounts.{location_of, mounted_on}
 use Rattle.am_job.specs.Book.{record_of}
-use Rattle.am_job.specs.Plans.{unmounting}
+use Rattle.am_job.specs.declared.act.Act.TheVariants as act
+use Rattle.am_job.specs.Plans.{next_of}
 use Rattle.am_daemon.specs.State.{JobPlan}
 use Rattle.am_daemon.specs.Deliveries.{job_of}
 use Rattle.am_machine.specs.declared.event.Event.TheVariants as events
@@ -22,8 +23,8 @@ use Rattle.am_machine.specs.Machine.{after, outcome_of}
 use Rattle.am_progress.specs.Runs.{AfterEachRun}
 use Rattle.am_progress.specs.Ways.{LeadsTo}
 
--- The expiry has failed: all mounts and directories are as before, this one too, which the book has
--- as mounted again, and the token is closed.
+-- The expiry has failed: all mounts and directories are as before. The mount is still there, the book
+-- has it as mounted again, and the token is closed.
 pub record IsAsFound (old : State) (token : ℕ) (g : Trigger) (mount : ℕ) (new : State) : Type 0 where
   pub table : new.kernel.table ≡ old.kernel.table
   pub triggers : new.kernel.triggers ≡ old.kernel.triggers
@@ -40,20 +41,26 @@ pub record IsTrapAgain (attach token : ℕ) (g : Trigger) (new : State) : Type 0
   pub attached : attach_of new.kernel g.fs ≡ Some attach
   pub closed : token_of new.kernel.waits.tokens token ≡ None
 
--- The unmount has failed or come, as its answer tells, and by two acts more in the one case and by
--- three at most in the other the job ends so.
+-- The unmount has failed or come, as its answer tells: by two acts more in the one case, and by three
+-- at most in the other, the job ends so.
 abbrev pub EndsWell : State → ℕ → ℕ → Trigger → ℕ → Outcome → Type 0
 EndsWell s attach token g mount o =
     ((o.answer ≡ answers.FailedUmount) × LeadsTo 2 token (IsAsFound s token g mount) (after s o))
     ⊎ ((o.answer ≡ answers.DidUmount) × LeadsTo 3 token (IsTrapAgain attach token g) (after s o))
 
--- each job that is about to unmount, with either word: its acts that are left are those of an expiry
-abbrev pub ExpiriesLeaveAll : State → Type 0
-ExpiriesLeaveAll s =
+-- The job is about to unmount what is mounted on its trigger: it ends well, with either word.
+pub record IsExpiry (s : State) (attach token : ℕ) (g : Trigger) : Type 0 where
+  pub mount : ℕ
+  pub stands : mounted_on s.kernel g ≡ Some mount
+  pub ends : (ok : Bool) → EndsWell s attach token g mount (outcome_of s (events.Act token ok))
+
+-- so it is of each job that is about to unmount, under the attachment that the daemon holds
+abbrev pub ExpiriesEndWell : State → Type 0
+ExpiriesEndWell s =
     (fs attach : ℕ) → IsServed s.kernel s.daemon fs attach →
-    (job mount : ℕ) (row : JobPlan) → job_of s.daemon.jobs job ≡ Some row →
-    row.trigger.fs ≡ fs → row.attach ≡ attach → row.plan ≡ unmounting row.trigger mount →
-    (ok : Bool) → EndsWell s attach job row.trigger mount (outcome_of s (events.Act job ok))
+    (job : ℕ) (row : JobPlan) → job_of s.daemon.jobs job ≡ Some row →
+    row.trigger.fs ≡ fs → row.attach ≡ attach → next_of row.plan ≡ Some (act.Umount row.trigger) →
+    IsExpiry s attach job row.trigger
 
 abbrev pub ExpiriesLeaveTrapOrMount : Type 0
-ExpiriesLeaveTrapOrMount = AfterEachRun ExpiriesLeaveAll
+ExpiriesLeaveTrapOrMount = AfterEachRun ExpiriesEndWell
