@@ -1,6 +1,6 @@
 -- The next act of a job is done or fails.
-use Rattle.std.proofs.Common.{◌≡◌, ◌⊎◌, ℕ, ◌+◌, Bool, true, false, cond, List, [], ◌∷◌, map, Option, Some, None, refl, sym, ap, subst, inl, inr, ◌∙◌}
-use Rattle.std.specs.Prelude.{⊤, ◌==◌, ◌&&◌, not, is_some, is_none, find, if◌then◌else◌}
+use Rattle.std.proofs.Common.{◌≡◌, ℕ, ◌+◌, Bool, true, false, cond, List, [], ◌∷◌, map, Option, Some, None, refl, sym, ap, subst, inl, inr, ◌∙◌}
+use Rattle.std.specs.Prelude.{⊤, ◌==◌, ◌&&◌, not, is_some, is_none, if◌then◌else◌}
 use Rattle.std.specs.Option.{option_map}
 use Rattle.std.specs.List.{All}
 use Rattle.std.proofs.lemmas.List.Elements.{All-weaker}
@@ -14,13 +14,13 @@ use Rattle.am_state.specs.declared.daemon_row.Record.{Record}
 use Rattle.am_state.specs.declared.obs.Obs.{Obs}
 use Rattle.am_trigger.specs.declared.autofs.Autofs.{Autofs}
 use Rattle.am_trigger.specs.Rows as triggers
-use Rattle.am_wait.specs.Rows.{WaitRows, token_of}
+use Rattle.am_wait.specs.Rows.{WaitRows}
 use Rattle.am_wait.specs.Calls.{answered}
 use Rattle.am_kernel.specs.State.{KernelState}
 use Rattle.am_kernel.specs.Previews.{is_trigger_of}
-use Rattle.am_kernel.specs.Sites.{attach_of, is_current, fs_of_attach, or_else}
+use Rattle.am_kernel.specs.Sites.{attach_of, is_current, or_else}
 use Rattle.am_kernel.specs.Directories.{names_directory, is_indirect, is_mountpoint, directory_refusal, mkdir_refusal, with_directory, rmdir_refusal, without_directory}
-use Rattle.am_kernel.specs.DaemonMounts.{location_of, coming, mount_on_refusal, with_mount_on, umount_from_refusal, gone_from, without_mounts}
+use Rattle.am_kernel.specs.DaemonMounts.{mount_on_refusal, with_mount_on, umount_from_refusal, gone_from, without_mounts}
 use Rattle.am_kernel.specs.Requests.{token_fs, is_number, answer_tests, answer_refusal, acknowledged}
 use Rattle.am_job.specs.declared.act.Act.{Act}
 use Rattle.am_job.specs.declared.act.Act.TheVariants as act
@@ -28,7 +28,7 @@ use Rattle.am_job.specs.declared.act.Outcome as outcomes
 use Rattle.am_job.specs.declared.act.Outcome.TheVariants as came
 use Rattle.am_job.specs.Plans.{Plan, Ended, Next, next_of}
 use Rattle.am_job.specs.Laws.{AcknowledgesLast}
-use Rattle.am_daemon.specs.State.{DaemonState, JobPlan}
+use Rattle.am_daemon.specs.State.{JobPlan}
 use Rattle.am_daemon.specs.Attachments.{attach_held, holds}
 use Rattle.am_daemon.specs.Acts.{walked, is_ended, going, finished_in, finished}
 use Rattle.am_daemon.specs.Deliveries.{job_of}
@@ -38,7 +38,7 @@ use Rattle.am_machine.specs.declared.event.Event.TheVariants as events
 use Rattle.am_machine.specs.declared.answer.Answer.{Answer}
 use Rattle.am_machine.specs.declared.answer.Answer.TheVariants as answers
 use Rattle.am_machine.specs.State.{State}
-use Rattle.am_machine.specs.Outcome.{Outcome, refused}
+use Rattle.am_machine.specs.Outcome.{Outcome}
 use Rattle.am_machine.specs.Machine.{outcome_of}
 use Rattle.am_machine.specs.Events.Acts as acts
 use Rattle.am_machine.specs.Invariant.Traces.{has, AreDifferent}

@@ -1,6 +1,6 @@
 -- What an expiry leaves.
-use Rattle.std.proofs.Common.{◌≡◌, ◌⊎◌, ℕ, suc, zero, Bool, true, false, cond, List, [], ◌∷◌, Option, Some, None, refl, sym, ap, subst, inl, inr, ⊎_elim, ◌∙◌}
-use Rattle.std.specs.Prelude.{◌==◌, ◌&&◌, not, is_some, is_none, find, if◌then◌else◌}
+use Rattle.std.proofs.Common.{◌≡◌, ℕ, suc, zero, Bool, true, false, cond, List, [], ◌∷◌, Option, Some, None, refl, sym, ap, subst, inl, inr, ⊎_elim, ◌∙◌}
+use Rattle.std.specs.Prelude.{◌==◌, ◌&&◌, is_some, is_none, find, if◌then◌else◌}
 use Rattle.std.specs.Option.{option_map, option_and_then}
 use Rattle.std.specs.List.{All}
 use Rattle.std.proofs.lemmas.List.Elements.{All-head, All-tail, All-weaker}
@@ -15,17 +15,16 @@ use Rattle.am_names.specs.declared.row.TokenKind.TheVariants.{Missing, Expire}
 use Rattle.am_names.proofs.SameTriggers.{is_itself}
 use Rattle.am_state.specs.declared.daemon_row.Record.{Record}
 use Rattle.am_state.specs.declared.daemon_row.Record.TheVariants.{Mounted}
-use Rattle.am_mount.specs.Rows.{mount_row, top_of}
+use Rattle.am_mount.specs.Rows.{top_of}
 use Rattle.am_propagate.specs.MountTable.{MountTable}
 use Rattle.am_trigger.specs.declared.autofs.Autofs.{Autofs}
 use Rattle.am_trigger.specs.Rows.{TriggerRows, autofs_of}
 use Rattle.am_trigger.specs.Sites.{trigger_in, place_named, place_of}
-use Rattle.am_wait.specs.Rows.{WaitRows, token_of, open_on, is_open_on, same_kind, without_token}
+use Rattle.am_wait.specs.Rows.{WaitRows, token_of, open_on, is_open_on, same_kind}
 use Rattle.am_wait.specs.Calls.{answered}
 use Rattle.am_wait.specs.Invariant.{RiseBy}
 use Rattle.am_wait.proofs.FindLemmas.{token_taken}
 use Rattle.am_wait.proofs.KeptLemmas.{all_found}
-use Rattle.am_walk.specs.declared.stop.Next.{Next}
 use Rattle.am_walk.specs.declared.stop.Next.TheVariants as nexts
 use Rattle.am_walk.specs.declared.stop.Stop.TheVariants as stops
 use Rattle.am_walk.specs.Meet.{at_trap, at_autofs, at_site, next_at}
@@ -39,16 +38,13 @@ use Rattle.am_job.specs.declared.act.Act.{Act}
 use Rattle.am_job.specs.declared.act.Act.TheVariants as act
 use Rattle.am_job.specs.declared.act.Outcome as outcomes
 use Rattle.am_job.specs.declared.act.Outcome.TheVariants as came
-use Rattle.am_job.specs.Book.{record_of, recorded}
+use Rattle.am_job.specs.Book.{record_of}
 use Rattle.am_job.specs.Plans.{next_of, rest_of, claims, at_directory, reply, book_and_reply, after_umount, after_failed_umount, unmounting}
-use Rattle.am_daemon.specs.State.{DaemonState, JobPlan}
+use Rattle.am_daemon.specs.State.{JobPlan}
 use Rattle.am_daemon.specs.Acts.{next_in, writes, writing_of, book_after, walked}
-use Rattle.am_daemon.specs.Deliveries.{job_of}
 use Rattle.am_daemon.specs.Packets.{is_pending, mounted_in}
-use Rattle.am_laws.proofs.Bools.{and_both}
 use Rattle.am_laws.proofs.Packets.{nat_is, nat_same}
 use Rattle.am_machine.specs.declared.event.Event.TheVariants as events
-use Rattle.am_machine.specs.declared.answer.Answer.TheVariants as answers
 use Rattle.am_machine.specs.State.{State}
 use Rattle.am_machine.specs.Outcome.{Outcome}
 use Rattle.am_machine.specs.Machine.{after, outcome_of}
@@ -58,7 +54,7 @@ use Rattle.am_machine.proofs.TraceRows.{found_passes}
 use Rattle.am_machine.proofs.BookRecords.{recorded_is}
 use Rattle.am_machine.proofs.StandKeeps.{attached_autofs}
 use Rattle.am_machine.proofs.StandMounts.{trigger_same}
-use Rattle.am_progress.specs.Runs.{IsDone, next}
+use Rattle.am_progress.specs.Runs.{next}
 use Rattle.am_progress.specs.Ways.{LeadsTo}
 use Rattle.am_progress.specs.Expiries.{IsAsFound, IsTrapAgain, EndsWell, ExpiriesEndWell, ExpiriesLeaveTrapOrMount}
 use Rattle.am_progress.proofs.Plans.{umount_whole}
@@ -122,9 +118,10 @@ module _ (s : State) (fs attach token : ℕ) (row : JobPlan) (w : WaitRows) (h :
   ends_as : (goal : State → Type 0) → ((mid : State) (m : Wrote s fs attach token row w entry status mid) (ok : Bool) → goal (next mid (events.Act token ok))) → LeadsTo 2 token goal s
   ends_as goal finish =
       inr (λ ok.
-      let m = wrote ok in
-      (act_done s fs attach token row w h ok (act.Record row.trigger entry) record_next,
-      inr (λ again. (act_done (next s (events.Act token ok)) fs attach token m.left w m.served again (act.Reply status) (ap next_of m.plan), finish (next s (events.Act token ok)) m again))))
+      let m = wrote ok in (
+        act_done s fs attach token row w h ok (act.Record row.trigger entry) record_next,
+        inr (λ again. (act_done (next s (events.Act token ok)) fs attach token m.left w m.served again (act.Reply status) (ap next_of m.plan), finish (next s (events.Act token ok)) m again)),
+      ))
 
 -- the token is closed by the reply
 module _ (s : State) (fs attach token : ℕ) (row : JobPlan) (w : WaitRows) (h : Served s fs attach token row w) (status : Status) (plan : row.plan ≡ reply status) (ok : Bool) where
@@ -226,7 +223,7 @@ notifies s world attach g current site off free =
     let place = world.consistent.agreed.places.locations g.fs a is in
     let here : location_of k g.fs ≡ a.location = ap location_in is in
     let at : autofs_at scene a.location ≡ Some a =
-        ap (λ (o : Option MountRow). option_and_then (λ fs. autofs_of k.triggers fs) (option_map (λ (r : MountRow). r.fs) o)) place.is_row ∙ ap (autofs_of k.triggers) place.fs ∙ is in
+    ap (λ (o : Option MountRow). option_and_then (λ fs. autofs_of k.triggers fs) (option_map (λ (r : MountRow). r.fs) o)) place.is_row ∙ ap (autofs_of k.triggers) place.fs ∙ is in
     let same : a.fs ≡ g.fs = nat_is a.fs g.fs (found_passes (λ (r : Autofs). r.fs == g.fs) k.triggers.autofs a is) in
     let trigger : trigger_in a (place_of g) ≡ Some g = trigger_by a g g.name a.direct refl refl same (sym (ap (λ (o : Option Autofs). is_trigger_of o g) is) ∙ site) in
     let live : is_live_row (Some a) ≡ true = sym (ap is_live_row is) ∙ live_by (is_live k g.fs) (latest_attach k.attached g.fs) attach current in
@@ -234,7 +231,7 @@ notifies s world attach g current site off free =
     ∙ ap (λ (o : Option Autofs). at_site scene o a.location (place_of g)) at
     ∙ ap (λ (o : Option Trigger). at_autofs scene a o a.location (place_of g)) trigger
     ∙ trap_is k.waits.tokens scene a g (all_off Expire g k.waits.tokens off) (all_off Missing g k.waits.tokens off)
-      (sym (ap (λ (n : ℕ). top_of k.table.rows n (place_of g)) here) ∙ free) (not_catatonic a a.catatonic refl live)
+    (sym (ap (λ (n : ℕ). top_of k.table.rows n (place_of g)) here) ∙ free) (not_catatonic a a.catatonic refl live)
 
 -- ---- an unmount that has come
 
@@ -264,9 +261,9 @@ module _ (s : State) (fs attach token : ℕ) (row : JobPlan) (w : WaitRows) (h :
       let current : attach_of new.kernel row.trigger.fs ≡ Some attach = ap (attach_of new.kernel) h.fs_is ∙ served.current in
       let none : record_of new.daemon.book row.trigger ≡ None = ap (λ (book : List _). record_of book row.trigger) (reply_book s fs attach token row w h Ready plan ok) ∙ written in
       let free : mounted_on new.kernel row.trigger ≡ None =
-          world.consistent.agreed.stands.settled fs attach served row.trigger h.fs_is (ap is_pending none) ∙ ap mounted_in none in
+      world.consistent.agreed.stands.settled fs attach served row.trigger h.fs_is (ap is_pending none) ∙ ap mounted_in none in
       let site : IsSite new.kernel.triggers row.trigger =
-          subst (λ (k : KernelState). IsSite k.triggers row.trigger) (sym same) (its_site s token row (served_acts s fs attach token row w h)) in
+      subst (λ (k : KernelState). IsSite k.triggers row.trigger) (sym same) (its_site s token row (served_acts s fs attach token row w h)) in
       record {
         free = free;
         notifies = notifies new world attach row.trigger current site (off_by new.kernel.waits (reply_waits s fs attach token row w h Ready plan ok) world.consistent.traced.fits.sound.tokens) free;
@@ -295,10 +292,11 @@ umounted_by (Some name) s fs attach token row w h named plan =
     inr (λ ok.
     let here = plan ∙ ap (λ (n : Option (List ℕ)). at_directory n (act.Rmdir row.trigger) (book_and_reply row.trigger None Ready)) named in
     let e : next_of row.plan ≡ Some (act.Rmdir row.trigger) = ap next_of here in
-    let d = its_act s fs attach token row w h ok (act.Rmdir row.trigger) e in
-    (act_done s fs attach token row w h ok (act.Rmdir row.trigger) e,
-    written_trap (next s (events.Act token ok)) fs attach token (walked d.came row) w (act_goes s fs attach token row w h ok (act.Rmdir row.trigger) e refl refl)
-    (ap (λ (o : outcomes.Outcome). rest_of o row.plan) d.told.0 ∙ ap (rest_of came.Done) here)))
+    let d = its_act s fs attach token row w h ok (act.Rmdir row.trigger) e in (
+      act_done s fs attach token row w h ok (act.Rmdir row.trigger) e,
+      written_trap (next s (events.Act token ok)) fs attach token (walked d.came row) w (act_goes s fs attach token row w h ok (act.Rmdir row.trigger) e refl refl)
+          (ap (λ (o : outcomes.Outcome). rest_of o row.plan) d.told.0 ∙ ap (rest_of came.Done) here),
+    ))
 
 -- ---- a job that unmounts
 
@@ -327,14 +325,18 @@ module _ (s : State) (fs attach token mount : ℕ) (row : JobPlan) (h : Served s
   ends_well : EndsWell s attach token row.trigger mount (outcome_of s (events.Act token ok))
   ends_well =
       ⊎_elim
-      (λ umounted. inr (answer_is ∙ umounted.1,
-      umounted_by row.trigger.name (next s (events.Act token ok)) fs attach token (walked its_umount.came row) s.kernel.waits then_left refl
-      (ap (λ (o : outcomes.Outcome). rest_of o row.plan) umounted.0 ∙ ap (rest_of came.Done) plan)))
-      (λ failed. inl (answer_is ∙ failed.1,
-      as_found s (next s (events.Act token ok)) fs attach token (walked its_umount.came row) then_left mount
-      (ap (λ (o : outcomes.Outcome). rest_of o row.plan) failed.0 ∙ ap (rest_of came.Failed) plan)
-      (act_kernel s fs attach token row s.kernel.waits h ok (act.Umount row.trigger) umount_next ∙ leaves_kernel its_umount.came its_umount.made failed.0 its_umount.leaves)
-      stands_there))
+      (λ umounted. inr (
+        answer_is ∙ umounted.1,
+        umounted_by row.trigger.name (next s (events.Act token ok)) fs attach token (walked its_umount.came row) s.kernel.waits then_left refl
+            (ap (λ (o : outcomes.Outcome). rest_of o row.plan) umounted.0 ∙ ap (rest_of came.Done) plan),
+      ))
+      (λ failed. inl (
+        answer_is ∙ failed.1,
+        as_found s (next s (events.Act token ok)) fs attach token (walked its_umount.came row) then_left mount
+            (ap (λ (o : outcomes.Outcome). rest_of o row.plan) failed.0 ∙ ap (rest_of came.Failed) plan)
+            (act_kernel s fs attach token row s.kernel.waits h ok (act.Umount row.trigger) umount_next ∙ leaves_kernel its_umount.came its_umount.made failed.0 its_umount.leaves)
+            stands_there,
+      ))
       its_umount.told
 
 expiries_end : (s : State) → IsWorld s → ExpiriesEndWell s

@@ -5,7 +5,6 @@ use Rattle.std.specs.Option.{option_map}
 use Rattle.std.specs.List.{list_any}
 use Rattle.std.proofs.lemmas.Slice.Eq.{bytes_eq-Decides}
 use Rattle.am_names.specs.declared.errno.Errno.TheVariants.{Stranger}
-use Rattle.am_names.proofs.SameTriggers.{both_are}
 use Rattle.am_state.specs.declared.daemon_row.HeldRow.{HeldRow}
 use Rattle.am_state.specs.declared.kernel_row.QueuedRow.{QueuedRow}
 use Rattle.am_kernel.specs.Sites.{attach_of}
@@ -16,13 +15,11 @@ use Rattle.am_laws.proofs.Bools.{and_of}
 use Rattle.am_laws.proofs.Packets.{nat_same}
 use Rattle.am_machine.specs.State.{State}
 use Rattle.am_machine.specs.Outcome.{refused}
-use Rattle.am_machine.specs.Events.Deliveries.{packet_bytes, has_bytes, may_take, takes, delivered_at, deliver_outcome}
-use Rattle.am_machine.specs.Invariant.Books.{IsServed}
-use Rattle.am_machine.proofs.TraceRows.{found_passes}
+use Rattle.am_machine.specs.Events.Deliveries.{packet_bytes, has_bytes, takes, delivered_at, deliver_outcome}
 use Rattle.am_machine.proofs.TokenClose.{dev_of}
 use Rattle.am_machine.proofs.AgreeTokens.{in_pipe}
 use Rattle.am_machine.proofs.InStep.{in_step, refuses_in_step}
-use Rattle.am_progress.specs.Packets.{IsTaken, PacketsAreTaken, QueuedPacketsCanBeDelivered}
+use Rattle.am_progress.specs.Packets.{PacketsAreTaken, QueuedPacketsCanBeDelivered}
 use Rattle.am_progress.proofs.Found.{queued_number}
 use Rattle.am_progress.proofs.Worlds.{IsWorld, after_runs}
 
@@ -60,7 +57,7 @@ taken s w fs attach served token row is same =
     let dev : pipe.token.trigger.fs ≡ fs = sym (dev_of row.packet pipe.token pipe.asks) ∙ same in
     let own : row.attach ≡ attach = same_attach (sym pipe.current ∙ ap (attach_of s.kernel) dev ∙ served.current) in
     let held : holds s.daemon row.packet.dev row.attach ≡ true =
-        holds_held s.daemon row.packet.dev row.attach (ap (attach_held s.daemon) same ∙ served.held ∙ ap (λ (n : ℕ). Some n) (sym own)) in
+    holds_held s.daemon row.packet.dev row.attach (ap (attach_held s.daemon) same ∙ served.held ∙ ap (λ (n : ℕ). Some n) (sym own)) in
     record {
       numbered = pipe.numbered ∙ queued_number s.kernel token row is;
       alone = took s token row None w is refl held;

@@ -1,6 +1,6 @@
 -- A job acts on its own trigger, unmounts first, if it does, and has few acts.
 use Rattle.std.proofs.Common.{◌≡◌, ◌⊎◌, ℕ, zero, suc, Bool, true, false, List, [], ◌∷◌, ◌++◌, Option, Some, None, refl, sym, subst, inl, inr}
-use Rattle.std.specs.Prelude.{⊤, ◌==◌, is_some, not, if◌then◌else◌}
+use Rattle.std.specs.Prelude.{⊤, ◌==◌, is_some, if◌then◌else◌}
 use Rattle.std.specs.List.{All}
 use Rattle.std.proofs.lemmas.List.Elements.{All-nil, All-cons, All-head, All-tail, All-push}
 use Rattle.am_names.specs.declared.trigger.Trigger.{Trigger}
@@ -17,7 +17,7 @@ use Rattle.am_job.specs.declared.act.Act.{Act}
 use Rattle.am_job.specs.declared.act.Act.TheVariants as act
 use Rattle.am_job.specs.declared.act.Outcome.{Outcome}
 use Rattle.am_job.specs.declared.act.Outcome.TheVariants.{Done, Made, Failed}
-use Rattle.am_job.specs.Plans.{Plan, Ended, Next, next_of, rest_of, followed_by, reply, book_and_reply, at_directory, after_mount, without_mount, after_failed_mount, mount_entry, mounting, missing_plan, after_umount, after_failed_umount, unmounting, expire_plan, plan_for}
+use Rattle.am_job.specs.Plans.{Plan, Ended, Next, next_of, rest_of, followed_by, reply, book_and_reply, at_directory, after_mount, without_mount, after_failed_mount, mount_entry, after_umount, after_failed_umount, unmounting, plan_for}
 use Rattle.am_daemon.specs.State.{DaemonState, JobPlan}
 use Rattle.am_daemon.specs.Acts.{walked, is_ended, going, finished_in}
 use Rattle.am_daemon.specs.Deliveries.{job_for}

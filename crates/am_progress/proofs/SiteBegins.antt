@@ -1,7 +1,7 @@
 -- A walk, a walker that goes on, and an expiry keep it so that triggers are there, and that who waits is
 -- inside no mount.
 use Rattle.std.proofs.Common.{◌≡◌, ℕ, Bool, true, false, List, [], ◌∷◌, ◌++◌, map, Option, Some, None, refl, sym, ap, subst, ◌∙◌}
-use Rattle.std.specs.Prelude.{◌==◌, ◌||◌, nat_le, is_some, is_none, find, if◌then◌else◌}
+use Rattle.std.specs.Prelude.{◌==◌, nat_le, is_some, is_none, find, if◌then◌else◌}
 use Rattle.std.specs.Option.{option_map}
 use Rattle.std.specs.List.{All}
 use Rattle.std.proofs.lemmas.List.Elements.{All-filter}
@@ -40,7 +40,7 @@ use Rattle.am_laws.proofs.Packets.{nat_is}
 use Rattle.am_machine.proofs.TraceRows.{found_passes}
 use Rattle.am_machine.proofs.TokenLists.{all_found}
 use Rattle.am_progress.proofs.SiteWalks.{IsSite, IsSiteStop, MeetsSites, walk_sites, meets_weaker}
-use Rattle.am_progress.proofs.SiteRows.{AreOn, AreSites, IsIdle, arrived_on, joined_sites, notified_sites, expiring_sites, closed_sites, freed_from_sites, freed_idle, sites_weaker}
+use Rattle.am_progress.proofs.SiteRows.{AreSites, IsIdle, arrived_on, joined_sites, notified_sites, expiring_sites, closed_sites, freed_from_sites, freed_idle, sites_weaker}
 
 -- ---- autofs that change
 

@@ -1,6 +1,6 @@
 -- What the kernel writes down of walkers is of triggers that are there, and who waits is inside no
 -- mount.
-use Rattle.std.proofs.Common.{◌≡◌, ℕ, ◌+◌, Bool, true, false, cond, List, [], ◌∷◌, ◌++◌, map, Option, Some, None, refl, sym, ap, subst, ◌∙◌}
+use Rattle.std.proofs.Common.{◌≡◌, ℕ, ◌+◌, Bool, true, false, List, [], ◌∷◌, map, Option, Some, None, refl, sym, subst, ◌∙◌}
 use Rattle.std.specs.Prelude.{◌==◌, ◌&&◌, nat_lt, not, is_none, filter, find, if◌then◌else◌}
 use Rattle.std.specs.List.{All}
 use Rattle.std.proofs.lemmas.List.Elements.{All-cons, All-head, All-tail, All-nil, All-append, All-push, All-filter, All-map, All-weaker}
@@ -11,8 +11,8 @@ use Rattle.am_names.specs.declared.row.OpenToken.{OpenToken}
 use Rattle.am_names.specs.declared.row.TokenKind.{TokenKind}
 use Rattle.am_names.specs.declared.row.TokenKind.TheVariants.{Missing, Expire}
 use Rattle.am_names.specs.declared.row.WaitRow.{WaitRow}
-use Rattle.am_trigger.specs.Rows.{TriggerRows, used_in, all_used_in}
-use Rattle.am_wait.specs.Rows.{WaitRows, token_of, wait_of, with_wait, without_wait, with_waiter, joined_row}
+use Rattle.am_trigger.specs.Rows.{used_in, all_used_in}
+use Rattle.am_wait.specs.Rows.{WaitRows, token_of, wait_of, with_wait, with_waiter, joined_row}
 use Rattle.am_wait.specs.Calls.{waiting_on, opened, joined_on, released_row, failed_row}
 use Rattle.am_wait.proofs.FindLemmas.{no_wait_left}
 use Rattle.am_expire.specs.declared.uses.Use.{Use}
@@ -20,12 +20,10 @@ use Rattle.am_expire.specs.Uses.{mount_of, entered, left}
 use Rattle.am_expire.proofs.UseLemmas.{enters, leaves}
 use Rattle.am_kernel.specs.declared.begun.Begin.{Begin}
 use Rattle.am_kernel.specs.State.{KernelState}
-use Rattle.am_kernel.specs.declared.row.Attached.{Attached}
 use Rattle.am_kernel.specs.Walks.{arrived, with_joined, with_notified, closed}
 use Rattle.am_kernel.specs.Requests.{acknowledged, without_use}
 use Rattle.am_kernel.specs.Expires.{with_expiring}
 use Rattle.am_kernel.specs.Resumes.{freed, freed_from}
-use Rattle.am_laws.proofs.Packets.{nat_same}
 use Rattle.am_machine.proofs.TokenLists.{other_way, all_found}
 use Rattle.am_progress.proofs.Attaches.{AreOfOne}
 use Rattle.am_progress.proofs.SiteWalks.{IsSite}

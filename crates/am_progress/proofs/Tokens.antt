@@ -1,40 +1,32 @@
 -- Each open token of a file system that the daemon serves can be closed by the daemon alone.
-use Rattle.std.proofs.Common.{◌≡◌, ◌⊎◌, ℕ, zero, suc, Bool, true, false, cond, List, [], ◌∷◌, ◌++◌, map, Option, Some, None, refl, sym, ap, subst, inl, inr, ⊎_elim, ◌∙◌}
-use Rattle.std.specs.Prelude.{◌==◌, not, is_some, find, if◌then◌else◌}
-use Rattle.std.specs.Option.{option_map}
+use Rattle.std.proofs.Common.{◌≡◌, ℕ, zero, suc, Bool, true, false, cond, List, [], ◌∷◌, map, Some, None, refl, sym, ap, subst, inl, inr, ⊎_elim, ◌∙◌}
+use Rattle.std.specs.Prelude.{◌==◌, if◌then◌else◌}
 use Rattle.am_names.specs.declared.trigger.Status.{Status}
 use Rattle.am_names.specs.declared.row.OpenToken.{OpenToken}
 use Rattle.am_names.specs.declared.row.WaitRow.{WaitRow}
-use Rattle.am_wait.specs.Rows.{WaitRows, token_of, wait_of, without_token}
+use Rattle.am_wait.specs.Rows.{WaitRows, token_of, wait_of}
 use Rattle.am_wait.specs.Calls.{answered, released_row}
 use Rattle.am_wait.proofs.FindLemmas.{token_taken}
 use Rattle.am_state.specs.declared.kernel_row.QueuedRow.{QueuedRow}
-use Rattle.am_kernel.specs.State.{KernelState}
 use Rattle.am_kernel.specs.Sites.{attach_of}
 use Rattle.am_kernel.specs.Requests.{queued_of}
 use Rattle.am_job.specs.declared.act.Act.{Act}
 use Rattle.am_job.specs.declared.act.Act.TheVariants as act
 use Rattle.am_job.specs.declared.act.Outcome as outcomes
-use Rattle.am_job.specs.declared.act.Outcome.TheVariants as came
 use Rattle.am_job.specs.Plans.{Plan, Ended, Next, next_of, rest_of}
 use Rattle.am_job.specs.Laws.{AcknowledgesLast}
-use Rattle.am_daemon.specs.State.{DaemonState, JobPlan}
-use Rattle.am_daemon.specs.Attachments.{attach_held}
-use Rattle.am_daemon.specs.Acts.{walked, is_ended, finished}
+use Rattle.am_daemon.specs.State.{JobPlan}
+use Rattle.am_daemon.specs.Acts.{walked}
 use Rattle.am_daemon.specs.Deliveries.{job_of, job_for}
-use Rattle.am_laws.proofs.Packets.{nat_is, nat_same}
-use Rattle.am_machine.specs.declared.event.Event.{Event}
+use Rattle.am_laws.proofs.Packets.{nat_same}
 use Rattle.am_machine.specs.declared.event.Event.TheVariants as events
 use Rattle.am_machine.specs.declared.answer.Answer.{Answer}
-use Rattle.am_machine.specs.declared.answer.Answer.TheVariants as answers
 use Rattle.am_machine.specs.State.{State}
 use Rattle.am_machine.specs.Outcome.{Outcome}
 use Rattle.am_machine.specs.Machine.{after, outcome_of}
-use Rattle.am_machine.specs.Events.Acts as acts
-use Rattle.am_machine.specs.Events.Deliveries.{takes}
 use Rattle.am_machine.specs.Invariant.Tokens.{IsAtWork}
 use Rattle.am_machine.specs.Invariant.Books.{IsServed}
-use Rattle.am_machine.proofs.TraceRows.{some_is, found_passes}
+use Rattle.am_machine.proofs.TraceRows.{some_is}
 use Rattle.am_machine.proofs.TokenLists.{all_found}
 use Rattle.am_machine.proofs.TokenClose.{token_number, dev_of}
 use Rattle.am_machine.proofs.GivenPlans.{acknowledges, goes_after}
@@ -48,7 +40,7 @@ use Rattle.am_progress.proofs.Found.{queued_number}
 use Rattle.am_progress.proofs.Plans.{IsOfPlan, fewer_acts, packet_plan}
 use Rattle.am_progress.proofs.Packets.{taken}
 use Rattle.am_progress.proofs.Acts.{Acting, Does, waits_after, its_plan, job_number, does, goes_left, next_is, acting}
-use Rattle.am_progress.proofs.Ways.{arrived, leads_on, reaches_on}
+use Rattle.am_progress.proofs.Ways.{arrived, reaches_on}
 use Rattle.am_progress.proofs.Worlds.{IsWorld, next_world, after_runs}
 
 -- ---- what an act leaves

@@ -1,6 +1,6 @@
 -- Each walker that waits can be brought on.
-use Rattle.std.proofs.Common.{◌≡◌, ◌⊎◌, ℕ, Bool, true, false, cond, List, [], ◌∷◌, map, Option, Some, None, refl, sym, ap, subst, inl, inr, ⊎_elim, ◌∙◌}
-use Rattle.std.specs.Prelude.{⊤, ◌==◌, ◌&&◌, nat_le, is_some, is_none, find, if◌then◌else◌}
+use Rattle.std.proofs.Common.{◌≡◌, ℕ, Bool, true, false, cond, List, [], ◌∷◌, map, Option, Some, None, refl, sym, ap, subst, ⊎_elim, ◌∙◌}
+use Rattle.std.specs.Prelude.{⊤, ◌==◌, ◌&&◌, nat_le, is_some, is_none, if◌then◌else◌}
 use Rattle.am_names.specs.declared.errno.Errno.{Errno}
 use Rattle.am_names.specs.declared.errno.Errno.TheVariants.{EINVAL, ELOOP}
 use Rattle.am_names.specs.declared.trigger.Trigger.{Trigger}
@@ -12,11 +12,9 @@ use Rattle.am_names.specs.declared.row.WaitRow.{WaitRow}
 use Rattle.am_names.specs.declared.row.TokenKind.{TokenKind}
 use Rattle.am_names.specs.declared.row.TokenKind.TheVariants.{Missing, Expire}
 use Rattle.am_trigger.specs.declared.autofs.Autofs.{Autofs}
-use Rattle.am_trigger.specs.Rows.{autofs_of}
-use Rattle.am_wait.specs.Rows.{WaitRows, token_of, wait_of}
+use Rattle.am_wait.specs.Rows.{token_of, wait_of}
 use Rattle.am_wait.specs.Calls.{failed_row}
 use Rattle.am_expire.specs.Uses.{mount_of}
-use Rattle.am_state.specs.declared.obs.Obs.{Obs}
 use Rattle.am_walk.specs.Walks.{walk_of}
 use Rattle.am_kernel.specs.State.{KernelState}
 use Rattle.am_kernel.specs.declared.begun.Begun.{Begun}
@@ -36,17 +34,13 @@ use Rattle.am_machine.specs.State.{State}
 use Rattle.am_machine.specs.Outcome.{Outcome, unless, with_kernel, moment_of}
 use Rattle.am_machine.specs.Machine.{after, outcome_of}
 use Rattle.am_machine.specs.Events.Walkers.{answer_of, goes}
-use Rattle.am_machine.specs.Events.Requests.{admin_catatonic_outcome}
-use Rattle.am_machine.specs.Invariant.Books.{IsServed}
 use Rattle.am_machine.proofs.TraceRows.{some_is, found_passes}
 use Rattle.am_machine.proofs.TokenLists.{all_found}
-use Rattle.am_machine.proofs.TokenClose.{token_number}
 use Rattle.am_machine.proofs.StandKeeps.{attached_autofs}
 use Rattle.am_machine.proofs.AgreeTokens.{in_pipe}
 use Rattle.am_machine.proofs.InStep.{in_step}
-use Rattle.am_progress.specs.Runs.{IsDone, is_refusal, next}
+use Rattle.am_progress.specs.Runs.{is_refusal, next}
 use Rattle.am_progress.specs.Acts.{most_acts}
-use Rattle.am_progress.specs.Ways.{CanReach}
 use Rattle.am_progress.specs.Walkers.{CanResume, CanBeBroughtOn, WalkersGoOn, WaitingWalkersCanGoOn}
 use Rattle.am_progress.proofs.Found.{queued_number}
 use Rattle.am_progress.proofs.Ways.{reaches_on}
@@ -103,9 +97,9 @@ resumed_walk (Some row) status pipe k wait moment walks = resumed_as wait.kind s
 resumes_by : (pipe : PipeState) (k : KernelState) (walker moment : ℕ) (row : WaitRow) (status : Status) → mount_of k.uses walker ≡ None → wait_of k.waits.waits walker ≡ Some row → row.status ≡ Some status → (row.kind ≡ Missing → is_some (resumes.walk_in k.walks row.walker) ≡ true) → Goes (resumes.resume_outcome pipe k walker moment)
 resumes_by pipe k walker moment row status out is its walks =
     let same : resumes.resume_outcome pipe k walker moment ≡ resumes.resumed_walk (resumes.walk_in k.walks row.walker) status pipe k row moment =
-        ap (λ (o : Option ℕ). if is_some o then kernel.Fails EINVAL else resumes.resumed_at (wait_of k.waits.waits walker) pipe k moment) out
-        ∙ ap (λ (o : Option WaitRow). resumes.resumed_at o pipe k moment) is
-        ∙ ap (λ (o : Option Status). resumes.resumed_by o pipe k row moment) its in
+    ap (λ (o : Option ℕ). if is_some o then kernel.Fails EINVAL else resumes.resumed_at (wait_of k.waits.waits walker) pipe k moment) out
+    ∙ ap (λ (o : Option WaitRow). resumes.resumed_at o pipe k moment) is
+    ∙ ap (λ (o : Option Status). resumes.resumed_by o pipe k row moment) its in
     subst Goes (sym same) (resumed_walk (resumes.walk_in k.walks row.walker) status pipe k row moment walks)
 
 wait_number : (w : List WaitRow) (walker : ℕ) (row : WaitRow) → wait_of w walker ≡ Some row → row.walker ≡ walker
@@ -116,8 +110,8 @@ pub resumes_on : (s : State) → IsWorld s → (walker : ℕ) (row : WaitRow) (s
 resumes_on s world walker row status is its now pipe =
     let k = s.kernel in
     let out : mount_of k.uses walker ≡ None =
-        subst (λ (n : ℕ). mount_of k.uses n ≡ None) (wait_number k.waits.waits walker row is)
-        (all_found (λ (r : WaitRow). mount_of k.uses r.walker ≡ None) (λ (r : WaitRow). r.walker == walker) k.waits.waits row world.holds.kernel.outside is) in
+    subst (λ (n : ℕ). mount_of k.uses n ≡ None) (wait_number k.waits.waits walker row is)
+    (all_found (λ (r : WaitRow). mount_of k.uses r.walker ≡ None) (λ (r : WaitRow). r.walker == walker) k.waits.waits row world.holds.kernel.outside is) in
     goes_done (resumes.resume_outcome pipe k walker (moment_of s now)) s (moment_of s now)
     (resumes_by pipe k walker (moment_of s now) row status out is its ((in_step s world.consistent world.named).walks walker row is))
 

@@ -1,8 +1,8 @@
 -- What leads to one world leads to another that follows from it.
-use Rattle.std.proofs.Common.{◌⊎◌, ℕ, zero, suc, Bool, None, inl, inr, ⊎_elim}
+use Rattle.std.proofs.Common.{ℕ, zero, suc, None, inl, inr}
 use Rattle.am_machine.specs.declared.event.Event.TheVariants as events
 use Rattle.am_machine.specs.State.{State}
-use Rattle.am_progress.specs.Runs.{IsDone, next}
+use Rattle.am_progress.specs.Runs.{next}
 use Rattle.am_progress.specs.Ways.{LeadsTo, CanReach}
 
 -- a world that is there already

@@ -1,6 +1,6 @@
 -- What every world keeps beside the machine's own invariant: triggers that the kernel has written down
 -- are there, who waits is inside no mount, each attachment is one file system's, and jobs have few acts.
-use Rattle.std.proofs.Common.{◌≡◌, ◌≤◌, ℕ, ◌+◌, Bool, true, false, List, [], ◌∷◌, Option, Some, None, refl, sym, subst, inl, inr, arith}
+use Rattle.std.proofs.Common.{◌≡◌, ◌≤◌, ℕ, Bool, true, false, List, [], ◌∷◌, Option, Some, None, refl, sym, subst, inl, inr, arith}
 use Rattle.std.specs.Prelude.{not, is_some, Result, Ok, Err, if◌then◌else◌}
 use Rattle.std.specs.List.{All}
 use Rattle.std.proofs.lemmas.List.Elements.{All-nil, All-head, All-tail}
@@ -17,7 +17,6 @@ use Rattle.am_group.specs.declared.kind.Kind.{Kind}
 use Rattle.am_propagate.specs.declared.subtree.namespace.CopyForm.{CopyForm}
 use Rattle.am_propagate.specs.Namespaces.{copy_refusal}
 use Rattle.am_propagate.specs.Removed.{drop_refusal}
-use Rattle.am_trigger.specs.Rows.{TriggerRows, with_autofs, with_catatonic}
 use Rattle.am_wait.specs.Rows.{token_of}
 use Rattle.am_expire.specs.Uses.{is_used, leave_refusal}
 use Rattle.am_kernel.specs.State.{KernelState}
@@ -47,7 +46,7 @@ use Rattle.am_machine.specs.declared.event.Event.TheVariants as events
 use Rattle.am_machine.specs.declared.answer.Answer.{Answer}
 use Rattle.am_machine.specs.State.{Opening, State, opening_of}
 use Rattle.am_machine.specs.Outcome.{Outcome, refused, unless, moment_of}
-use Rattle.am_machine.specs.Machine.{Step, Run, after, outcome_of}
+use Rattle.am_machine.specs.Machine.{Step, Run, outcome_of}
 use Rattle.am_machine.specs.Events.Administration as administration
 use Rattle.am_machine.specs.Events.Walkers.{leave_outcome, goes}
 use Rattle.am_machine.specs.Events.Requests as requests
@@ -57,8 +56,8 @@ use Rattle.am_machine.specs.Paths.{HasPaths, HavePaths}
 use Rattle.am_machine.specs.Invariant.Walks.{WalksFit}
 use Rattle.am_machine.specs.Invariant.Consistent.{IsConsistent}
 use Rattle.am_machine.proofs.GivenSites.{timeout_keeps}
-use Rattle.am_machine.proofs.SafetyLemmas.{initial_consistent, outcome_consistent, step_consistent}
-use Rattle.am_machine.proofs.NameTheorems.{initial_named, outcome_named, step_named}
+use Rattle.am_machine.proofs.SafetyLemmas.{initial_consistent, outcome_consistent}
+use Rattle.am_machine.proofs.NameTheorems.{initial_named, outcome_named}
 use Rattle.am_progress.specs.Runs.{AfterEachRun, next}
 use Rattle.am_progress.proofs.Attaches.{AreOfOne, one_push, one_same, one_piped}
 use Rattle.am_progress.proofs.SiteWalks.{IsSite}

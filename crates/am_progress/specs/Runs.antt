@@ -6,7 +6,6 @@ use Rattle.am_machine.specs.declared.event.Event.{Event}
 use Rattle.am_machine.specs.declared.answer.Answer.{Answer}
 use Rattle.am_machine.specs.declared.answer.Answer.TheVariants as answers
 use Rattle.am_machine.specs.State.{Opening, State, opening_of}
-use Rattle.am_machine.specs.Outcome.{Outcome}
 use Rattle.am_machine.specs.Paths.{HavePaths}
 use Rattle.am_machine.specs.Machine.{Run, after, outcome_of}
 
