@@ -93,6 +93,7 @@ record Wrote (s : State) (fs attach token : ℕ) (row : JobPlan) (w : WaitRows) 
   plan : left.plan ≡ reply status
   kernel : new.kernel ≡ s.kernel
   written : record_of new.daemon.book row.trigger ≡ entry
+  others : (g : Trigger) → same_trigger row.trigger g ≡ false → record_of new.daemon.book g ≡ record_of s.daemon.book g
 
 module _ (s : State) (fs attach token : ℕ) (row : JobPlan) (w : WaitRows) (h : Served s fs attach token row w) (entry : Option Record) (status : Status) (plan : row.plan ≡ book_and_reply row.trigger entry status) where
   record_next : next_of row.plan ≡ Some (act.Record row.trigger entry)
@@ -112,6 +113,10 @@ module _ (s : State) (fs attach token : ℕ) (row : JobPlan) (w : WaitRows) (h :
             ap (λ (book : List _). record_of book row.trigger) (act_book s fs attach token row w h ok a record_next)
             ∙ recorded_is row.trigger entry s.daemon.book row.trigger
             ∙ ap (λ (b : Bool). if b then entry else record_of s.daemon.book row.trigger) (is_itself row.trigger);
+        others = λ g other.
+            ap (λ (book : List _). record_of book g) (act_book s fs attach token row w h ok a record_next)
+            ∙ recorded_is row.trigger entry s.daemon.book g
+            ∙ ap (λ (b : Bool). if b then entry else record_of s.daemon.book g) other;
       }
 
   -- and then what the reply leaves
@@ -149,7 +154,7 @@ module _ (s : State) (fs attach token : ℕ) (row : JobPlan) (w : WaitRows) (h :
 -- ---- an unmount that fails
 
 -- the world in which the job was about to unmount, and the one in which its unmount has failed
-module _ (old s : State) (fs attach token : ℕ) (row : JobPlan) (h : Served s fs attach token row old.kernel.waits) (mount : ℕ) (plan : row.plan ≡ after_failed_umount row.trigger mount) (kernel : s.kernel ≡ old.kernel) (stood : mounted_on old.kernel row.trigger ≡ Some mount) where
+module _ (old s : State) (fs attach token : ℕ) (row : JobPlan) (h : Served s fs attach token row old.kernel.waits) (mount : ℕ) (plan : row.plan ≡ after_failed_umount row.trigger mount) (kernel : s.kernel ≡ old.kernel) (book : s.daemon.book ≡ old.daemon.book) (stood : mounted_on old.kernel row.trigger ≡ Some mount) where
   as_found : LeadsTo 2 token (IsAsFound old token row.trigger mount) s
   as_found =
       ends_as s fs attach token row old.kernel.waits h (Some (Mounted mount)) Fail plan (IsAsFound old token row.trigger mount)
@@ -163,6 +168,9 @@ module _ (old s : State) (fs attach token : ℕ) (row : JobPlan) (h : Served s f
         triggers = triggers;
         mounted = stood_as old.kernel new.kernel row.trigger table triggers ∙ stood;
         written = ap (λ (book : List _). record_of book row.trigger) (reply_book mid fs attach token m.left old.kernel.waits m.served Fail m.plan ok) ∙ m.written;
+        others = λ g other.
+            ap (λ (rows : List _). record_of rows g) (reply_book mid fs attach token m.left old.kernel.waits m.served Fail m.plan ok)
+            ∙ m.others g other ∙ ap (λ (rows : List _). record_of rows g) book;
         closed = reply_closes mid fs attach token m.left old.kernel.waits m.served Fail m.plan ok;
       })
 
@@ -335,6 +343,7 @@ module _ (s : State) (fs attach token mount : ℕ) (row : JobPlan) (h : Served s
         as_found s (next s (events.Act token ok)) fs attach token (walked its_umount.came row) then_left mount
             (ap (λ (o : outcomes.Outcome). rest_of o row.plan) failed.0 ∙ ap (rest_of came.Failed) plan)
             (act_kernel s fs attach token row s.kernel.waits h ok (act.Umount row.trigger) umount_next ∙ leaves_kernel its_umount.came its_umount.made failed.0 its_umount.leaves)
+            (act_book s fs attach token row s.kernel.waits h ok (act.Umount row.trigger) umount_next)
             stands_there,
       ))
       its_umount.told

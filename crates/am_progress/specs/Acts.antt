@@ -1,6 +1,5 @@
--- The next act of a job is done, or it fails; and a job has five acts at most. Since the first is said
--- of every world, it doesn't matter what others have done since the job's last act: nothing takes the
--- next one away but what ends the attachment (catatonic mode, the daemon's death, a new attachment).
+-- The next act of a job is done, or it fails; and a job has five acts at most. Since the first is
+-- said of every world, it doesn't matter what others have done since the job's last act.
 use Rattle.std.specs.Prelude.{◌≡◌, ◌⊎◌, ⊤, ℕ, zero, suc, ◌==◌, Bool, false, All, Option, Some, None, if◌then◌else◌}
 use Rattle.am_wire.specs.declared.packet.Packet.{Packet}
 use Rattle.am_job.specs.declared.act.Act.{Act}
@@ -23,15 +22,16 @@ use Rattle.am_progress.specs.Runs.{AfterEachRun}
 
 -- ---- the next act
 
--- What is answered when this has come of an act: a mount and an unmount are done or have failed, and
--- the others are done.
+-- What is answered when this has come of an act: a mount and an unmount are done or have failed,
+-- and the others are done.
 abbrev pub Tells : Act → outcomes.Outcome → Answer → Type 0
 Tells (act.Mkdir trigger) came answer = (came ≡ Done) × (answer ≡ answers.DidMkdir)
 Tells (act.Mount trigger entry) came answer =
     ((mount : ℕ) × (came ≡ Made mount) × (answer ≡ answers.DidMount mount))
     ⊎ ((came ≡ Failed) × (answer ≡ answers.FailedMount))
 Tells (act.Umount trigger) came answer =
-    ((came ≡ Done) × (answer ≡ answers.DidUmount)) ⊎ ((came ≡ Failed) × (answer ≡ answers.FailedUmount))
+    ((came ≡ Done) × (answer ≡ answers.DidUmount))
+    ⊎ ((came ≡ Failed) × (answer ≡ answers.FailedUmount))
 Tells (act.Rmdir trigger) came answer = (came ≡ Done) × (answer ≡ answers.DidRmdir)
 Tells (act.Record trigger entry) came answer = (came ≡ Done) × (answer ≡ answers.DidRecord)
 Tells (act.Reply status) came answer = (came ≡ Done) × (answer ≡ answers.DidReply)
@@ -51,7 +51,7 @@ pub record IsActed (job : ℕ) (row : JobPlan) (old : DaemonState) (o : Outcome)
   pub others : (other : ℕ) → (other == job) ≡ false →
       job_of o.state.daemon.jobs other ≡ job_of old.jobs other
 
--- so it is of each job under the attachment that the daemon holds, whichever word stands in the event
+-- so it is of each job under the attachment that the daemon holds, whichever word the event has
 abbrev pub JobsGoOn : State → Type 0
 JobsGoOn s =
     (fs attach : ℕ) → IsServed s.kernel s.daemon fs attach →

@@ -1,5 +1,6 @@
 -- What an expiry leaves (autofs.rst, "Mountpoint expiry").
-use Rattle.std.specs.Prelude.{◌≡◌, ◌⊎◌, ℕ, Bool, Some, None}
+use Rattle.std.specs.Prelude.{◌≡◌, ◌⊎◌, ℕ, Bool, false, Some, None}
+use Rattle.am_names.specs.Trigger.{same_trigger}
 use Rattle.am_names.specs.declared.trigger.Trigger.{Trigger}
 use Rattle.am_state.specs.declared.daemon_row.Record.TheVariants.{Mounted}
 use Rattle.am_trigger.specs.Sites.{place_of}
@@ -23,26 +24,29 @@ use Rattle.am_machine.specs.Machine.{after, outcome_of}
 use Rattle.am_progress.specs.Runs.{AfterEachRun}
 use Rattle.am_progress.specs.Ways.{LeadsTo}
 
--- The expiry has failed: all mounts and directories are as before. The mount is still there, the book
--- has it as mounted again, and the token is closed.
-pub record IsAsFound (old : State) (token : ℕ) (g : Trigger) (mount : ℕ) (new : State) : Type 0 where
+-- The expiry has failed: all mounts and directories are as before. The mount m is still there, and
+-- the book has it as mounted again; of other triggers it says what it said. The token is closed.
+pub record IsAsFound (old : State) (token : ℕ) (g : Trigger) (m : ℕ) (new : State) : Type 0 where
   pub table : new.kernel.table ≡ old.kernel.table
   pub triggers : new.kernel.triggers ≡ old.kernel.triggers
-  pub mounted : mounted_on new.kernel g ≡ Some mount
-  pub written : record_of new.daemon.book g ≡ Some (Mounted mount)
+  pub mounted : mounted_on new.kernel g ≡ Some m
+  pub written : record_of new.daemon.book g ≡ Some (Mounted m)
+  pub others : (h : Trigger) → same_trigger g h ≡ false →
+      record_of new.daemon.book h ≡ record_of old.daemon.book h
   pub closed : token_of new.kernel.waits.tokens token ≡ None
 
--- The expiry has come: nothing is mounted on the trigger at the daemon's mount, a walk that comes to it
--- there has the daemon notified, which is still attached, and the token is closed.
+-- The expiry has come: nothing is mounted on the trigger at the daemon's mount, a walk that comes
+-- to it there has the daemon notified, which is still attached, and the token is closed.
 pub record IsTrapAgain (attach token : ℕ) (g : Trigger) (new : State) : Type 0 where
   pub free : mounted_on new.kernel g ≡ None
   pub notifies :
-      next_at (scene_of new.kernel) (location_of new.kernel g.fs) (place_of g) ≡ nexts.Halts (stops.Missing g)
+      next_at (scene_of new.kernel) (location_of new.kernel g.fs) (place_of g)
+      ≡ nexts.Halts (stops.Missing g)
   pub attached : attach_of new.kernel g.fs ≡ Some attach
   pub closed : token_of new.kernel.waits.tokens token ≡ None
 
--- The unmount has failed or come, as its answer tells: by two acts more in the one case, and by three
--- at most in the other, the job ends so.
+-- The unmount has failed or come, as its answer tells: by two acts more in the one case, and by
+-- three at most in the other, the job ends so.
 abbrev pub EndsWell : State → ℕ → ℕ → Trigger → ℕ → Outcome → Type 0
 EndsWell s attach token g mount o =
     ((o.answer ≡ answers.FailedUmount) × LeadsTo 2 token (IsAsFound s token g mount) (after s o))

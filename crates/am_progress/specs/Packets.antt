@@ -1,5 +1,5 @@
--- A packet that is in the pipe can be taken from it (autofs.rst, "Communicating with autofs: the event
--- pipe").
+-- A packet that is in the pipe can be taken from it (autofs.rst, "Communicating with autofs: the
+-- event pipe").
 use Rattle.std.specs.Prelude.{◌≡◌, ℕ, Some, None}
 use Rattle.am_state.specs.declared.kernel_row.QueuedRow.{QueuedRow}
 use Rattle.am_kernel.specs.Requests.{queued_of}
@@ -21,8 +21,8 @@ pub record IsTaken (s : State) (token : ℕ) (row : QueuedRow) : Type 0 where
 abbrev pub PacketsAreTaken : State → Type 0
 PacketsAreTaken s =
     (fs attach : ℕ) → IsServed s.kernel s.daemon fs attach →
-    (token : ℕ) (row : QueuedRow) → queued_of s.kernel.queue token ≡ Some row → row.packet.dev ≡ fs →
-    IsTaken s token row
+    (token : ℕ) (row : QueuedRow) → queued_of s.kernel.queue token ≡ Some row →
+    row.packet.dev ≡ fs → IsTaken s token row
 
 abbrev pub QueuedPacketsCanBeDelivered : Type 0
 QueuedPacketsCanBeDelivered = AfterEachRun PacketsAreTaken

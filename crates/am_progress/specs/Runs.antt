@@ -1,6 +1,7 @@
--- Nothing is said here of what will happen, but of what can: each law is one of every world to which
--- a run leads, and says of some events that they are done there, if they come. An event may also find
--- no memory (the other case of a step): then nothing has changed, and the same is said of it again.
+-- Nothing is said here of what will happen, but of what can: each law is one of every world to
+-- which a run leads, and says of some events that they are done there, if they come. An event may
+-- also find no memory (the other case of a step): then nothing has changed, and the same is said of
+-- it again.
 use Rattle.std.specs.Prelude.{◌≡◌, Bool, true, false, List}
 use Rattle.am_machine.specs.declared.event.Event.{Event}
 use Rattle.am_machine.specs.declared.answer.Answer.{Answer}

@@ -1,6 +1,5 @@
--- Each open token can be closed by the daemon alone, in six events at most: its packet is taken from
--- the pipe, and its job has five acts. Others may do what they will in between: what is said here is
--- said of the world that they leave too, as long as the daemon still serves the file system.
+-- Each open token can be closed by the daemon alone, by six events at most: its packet is taken
+-- from the pipe, and its job has five acts.
 use Rattle.std.specs.Prelude.{◌≡◌, ℕ, Some, None}
 use Rattle.am_names.specs.declared.trigger.Status.{Status}
 use Rattle.am_names.specs.declared.row.OpenToken.{OpenToken}
@@ -25,8 +24,8 @@ pub record IsAnswered (old : State) (token : ℕ) (new : State) : Type 0 where
 abbrev pub TokensCloseSoon : State → Type 0
 TokensCloseSoon s =
     (fs attach : ℕ) → IsServed s.kernel s.daemon fs attach →
-    (token : ℕ) (row : OpenToken) → token_of s.kernel.waits.tokens token ≡ Some row → row.trigger.fs ≡ fs →
-    CanReach most_acts token (IsAnswered s token) s
+    (token : ℕ) (row : OpenToken) → token_of s.kernel.waits.tokens token ≡ Some row →
+    row.trigger.fs ≡ fs → CanReach most_acts token (IsAnswered s token) s
 
 abbrev pub OpenTokensCanBeClosed : Type 0
 OpenTokensCanBeClosed = AfterEachRun TokensCloseSoon

@@ -1,5 +1,5 @@
--- Each walker that waits can be brought on: by the daemon alone where it serves the file system, and
--- by the administrator in any case (autofs.rst, "Catatonic mode").
+-- Each walker that waits can be brought on: by the daemon alone where it serves the file system,
+-- and by the administrator in any case (autofs.rst, "Catatonic mode").
 use Rattle.std.specs.Prelude.{◌≡◌, ℕ, Some, None}
 use Rattle.am_names.specs.declared.trigger.PipeState.{PipeState}
 use Rattle.am_names.specs.declared.row.WaitRow.{WaitRow}
@@ -15,8 +15,8 @@ use Rattle.am_progress.specs.Ways.{CanReach}
 abbrev pub CanResume : ℕ → State → Type 0
 CanResume walker s = (now : ℕ) (pipe : PipeState) → IsDone s (events.Resume walker now pipe)
 
--- A walker that waits, on a token that is open: by at most six events of a daemon that serves the file
--- system it can be led on, and by catatonic mode it is, which isn't refused.
+-- A walker that waits: at most six events of a daemon that serves the file system lead to a world
+-- in which it can go on, and so does catatonic mode, which isn't refused.
 pub record CanBeBroughtOn (s : State) (row : WaitRow) : Type 0 where
   pub by_daemon : (attach : ℕ) → IsServed s.kernel s.daemon row.trigger.fs attach →
       CanReach most_acts row.token (CanResume row.walker) s

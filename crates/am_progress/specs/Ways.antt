@@ -10,11 +10,13 @@ abbrev pub LeadsTo : ℕ → ℕ → (State → Type 0) → State → Type 0
 LeadsTo zero job goal s = goal s
 LeadsTo (suc acts) job goal s =
     goal s
-    ⊎ ((ok : Bool) → IsDone s (events.Act job ok) × LeadsTo acts job goal (next s (events.Act job ok)))
+    ⊎ ((ok : Bool) →
+    IsDone s (events.Act job ok) × LeadsTo acts job goal (next s (events.Act job ok)))
 
 -- the packet of the token is taken from the pipe, if it is still there, and then its job acts, so
 -- often at most
 abbrev pub CanReach : ℕ → ℕ → (State → Type 0) → State → Type 0
 CanReach acts token goal s =
     LeadsTo acts token goal s
-    ⊎ (IsDone s (events.Deliver token None) × LeadsTo acts token goal (next s (events.Deliver token None)))
+    ⊎ (IsDone s (events.Deliver token None)
+    × LeadsTo acts token goal (next s (events.Deliver token None)))

@@ -21,8 +21,8 @@ pub fn jobs_have_five_acts()
     ensures { JobsHaveFiveActs }
 {}
 
-/// An open token of a file system that the daemon serves can be closed by six events of the daemon at
-/// most.
+/// An open token of a file system that the daemon serves can be closed by six events of the daemon
+/// at most.
 pub fn open_tokens_can_be_closed()
     ensures { OpenTokensCanBeClosed }
 {}
