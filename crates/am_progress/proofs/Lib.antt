@@ -11,3 +11,6 @@ pub mod Ways
 pub mod Tokens
 pub mod Walkers
 pub mod Expiries
+pub mod Ends
+pub mod Others
+pub mod Closed

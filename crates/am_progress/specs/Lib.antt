@@ -5,3 +5,4 @@ pub mod Ways
 pub mod Tokens
 pub mod Walkers
 pub mod Expiries
+pub mod Others

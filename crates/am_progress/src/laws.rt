@@ -2,6 +2,7 @@
 
 ghost use Rattle.am_progress.specs.Acts.{JobsHaveFiveActs, NextActsAreNeverRefused};
 ghost use Rattle.am_progress.specs.Expiries.{ExpiriesLeaveTrapOrMount};
+ghost use Rattle.am_progress.specs.Others.{JobsStay, ServiceLasts};
 ghost use Rattle.am_progress.specs.Packets.{QueuedPacketsCanBeDelivered};
 ghost use Rattle.am_progress.specs.Tokens.{OpenTokensCanBeClosed};
 ghost use Rattle.am_progress.specs.Walkers.{WaitingWalkersCanGoOn};
@@ -36,4 +37,14 @@ pub fn waiting_walkers_can_go_on()
 /// notifies again.
 pub fn expiries_leave_trap_or_mount()
     ensures { ExpiriesLeaveTrapOrMount }
+{}
+
+/// No step but an act of the job itself changes what a job has left.
+pub fn jobs_keep_what_they_have_left()
+    ensures { JobsStay }
+{}
+
+/// The daemon serves a file system until it is seen to become catatonic, or the daemon to die.
+pub fn service_lasts_until_its_end_is_seen()
+    ensures { ServiceLasts }
 {}
