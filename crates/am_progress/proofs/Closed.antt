@@ -1,9 +1,9 @@
 -- A token that was closed stays so, whatever is seen later.
-use Rattle.std.proofs.Common.{◌≡◌, ◌⊎◌, ℕ, Bool, true, false, List, [], ◌∷◌, ◌++◌, Option, Some, None, refl, sym, ap, subst, inl, inr, ◌∙◌}
+use Rattle.std.proofs.Common.{◌≡◌, ◌⊎◌, ℕ, Bool, true, false, List, [], ◌∷◌, ◌++◌, Option, Some, None, refl, sym, ap, subst, inl, inr, ◌∙◌, append_assoc}
 use Rattle.std.specs.Prelude.{◌==◌, ◌||◌, is_some, if◌then◌else◌}
 use Rattle.std.specs.Option.{option_map}
 use Rattle.std.specs.List.{list_any}
-use Rattle.std.proofs.lemmas.List.{append-nil, append_assoc}
+use Rattle.std.proofs.lemmas.List.{append-nil}
 use Rattle.am_names.specs.declared.row.OpenToken.{OpenToken}
 use Rattle.am_wire.specs.declared.packet.Packet.{Packet}
 use Rattle.am_state.specs.declared.obs.Obs.{Obs}
@@ -22,7 +22,7 @@ use Rattle.am_machine.specs.declared.event.Event.{Event}
 use Rattle.am_machine.specs.declared.answer.Answer.{Answer}
 use Rattle.am_machine.specs.State.{State}
 use Rattle.am_machine.specs.Machine.{Run}
-use Rattle.am_machine.specs.Invariant.Traces.{asked_in, asked_by, opened}
+use Rattle.am_machine.specs.Invariant.Traces.{Asked, asked_in, asked_by, opened}
 use Rattle.am_machine.specs.Invariant.Consistent.{IsTraced}
 use Rattle.am_machine.proofs.SafetyLemmas.{step_lawful}
 
@@ -83,25 +83,25 @@ opened_by token trace true is none queued has = absurd (has (unmapped (packet_of
     unmapped None e = refl
     unmapped (Some packet) e = absurd cc
 
+first_some : (b : Bool) (packet : Packet) (later : Option Packet) → b ≡ true → first_of (if b then Some packet else None) later ≡ None → ⊥
+first_some true packet later e none = absurd cc
+first_some false packet later e none = absurd cc
+
+queues_some : (token : ℕ) (o : Obs) (later : Option Packet) → queues token o ≡ true → first_of (packet_in token o) later ≡ None → ⊥
+queues_some token (Queued k attach packet) later is none = first_some (k == token) packet later is none
+queues_some token o later is none = absurd cc
+
+behind_none : (o p : Option Packet) → first_of o p ≡ None → p ≡ None
+behind_none None p e = e
+behind_none (Some packet) p e = absurd cc
+
+has_packet_by : (token : ℕ) (o : Obs) (trace : List Obs) (b : Bool) → queues token o ≡ b → (Has (queues token) trace → packet_of token trace ≡ None → ⊥) → (b || list_any (queues token) trace) ≡ true → first_of (packet_in token o) (packet_of token trace) ≡ None → ⊥
+has_packet_by token o trace true is later h none = queues_some token o (packet_of token trace) is none
+has_packet_by token o trace false is later h none = later h (behind_none (packet_in token o) (packet_of token trace) none)
+
 has_packet : (token : ℕ) (trace : List Obs) → Has (queues token) trace → packet_of token trace ≡ None → ⊥
 has_packet token [] h none = absurd cc
-has_packet token (o ∷ trace) h none = by o (queues token o) refl h none
-  where
-    first : (b : Bool) (packet : Packet) (later : Option Packet) → b ≡ true → first_of (if b then Some packet else None) later ≡ None → ⊥
-    first true packet later e none = absurd cc
-    first false packet later e none = absurd cc
-
-    here : (o : Obs) → queues token o ≡ true → first_of (packet_in token o) (packet_of token trace) ≡ None → ⊥
-    here (Queued k attach packet) is none = first (k == token) packet (packet_of token trace) is none
-    here o is none = absurd cc
-
-    behind : (o p : Option Packet) → first_of o p ≡ None → p ≡ None
-    behind None p e = e
-    behind (Some packet) p e = absurd cc
-
-    by : (o : Obs) (b : Bool) → queues token o ≡ b → (b || list_any (queues token) trace) ≡ true → first_of (packet_in token o) (packet_of token trace) ≡ None → ⊥
-    by o true is h none = here o is none
-    by o false is h none = has_packet token trace h (behind (packet_in token o) (packet_of token trace) none)
+has_packet token (o ∷ trace) h none = has_packet_by token o trace (queues token o) refl (has_packet token trace) h none
 
 mapped_none : (o : Option OpenToken) → option_map asked_by o ≡ None → o ≡ None
 mapped_none None e = refl
@@ -122,3 +122,20 @@ stays_closed old new token more was now grows queued shut =
     let before : is_open token old.trace ≡ false = opened_by token old.trace (is_open token old.trace) refl (was.fits.opens token ∙ ap (option_map asked_by) shut) queued (has_packet token old.trace queued) in
     let after : is_open token new.trace ≡ false = ap (is_open token) grows ∙ trace_stays token old.trace more (subst Lawful grows now.lawful) queued before in
     mapped_none (token_of new.kernel.waits.tokens token) (sym (now.fits.opens token) ∙ ap (λ (b : Bool). if b then option_map asked_in (packet_of token new.trace) else None) after)
+
+-- ---- what an open token asks for stays
+
+asks_by : (b : Bool) (o : Option Packet) (asked : Asked) → (if b then option_map asked_in o else None) ≡ Some asked → option_map asked_in o ≡ Some asked
+asks_by true o asked e = e
+asks_by false o asked e = absurd cc
+
+asks : (s : State) (token : ℕ) (row : OpenToken) → IsTraced s → token_of s.kernel.waits.tokens token ≡ Some row → option_map asked_in (packet_of token s.trace) ≡ Some (asked_by row)
+asks s token row h is = asks_by (is_open token s.trace) (packet_of token s.trace) (asked_by row) (h.fits.opens token ∙ ap (option_map asked_by) is)
+
+same_asked : {a b : Asked} → Some a ≡ Some b → a ≡ b
+same_asked e = cc
+
+pub same_trigger_later : (old new : State) (token : ℕ) (more : List Obs) (a b : OpenToken) → IsTraced old → IsTraced new → new.trace ≡ old.trace ++ more → token_of old.kernel.waits.tokens token ≡ Some a → token_of new.kernel.waits.tokens token ≡ Some b → b.trigger ≡ a.trigger
+same_trigger_later old new token more a b was now grows is later =
+    let packets : packet_of token new.trace ≡ packet_of token old.trace = ap (packet_of token) grows ∙ packet_stays token old.trace more (was_queued old token a was is) in
+    ap (λ (asked : Asked). asked.trigger) (same_asked (sym (asks new token b now later) ∙ ap (option_map asked_in) packets ∙ asks old token a was is))

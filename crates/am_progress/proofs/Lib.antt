@@ -14,3 +14,4 @@ pub mod Expiries
 pub mod Ends
 pub mod Others
 pub mod Closed
+pub mod Among

@@ -144,7 +144,7 @@ umount_whole g on plan (inr none) e = absurd (no_umount plan on none e)
 
 -- ---- how many acts there are
 
-more_acts : (most : ℕ) (plan : Plan) → HasActs most plan → HasActs (suc most) plan
+pub more_acts : (most : ℕ) (plan : Plan) → HasActs most plan → HasActs (suc most) plan
 more_acts most Ended h = tt
 more_acts zero (Next a done made failed) h = absurd h
 more_acts (suc most) (Next a done made failed) h = (more_acts most done h.0, (λ mount. more_acts most (made mount) (h.1 mount)), more_acts most failed h.2)

@@ -142,14 +142,14 @@ pub record Answers (old : State) (token : ℕ) (new : State) : Type 0 where
   pub world : IsWorld new
 
 module _ (old : State) (fs attach token : ℕ) where
-  no_act : (s : State) (row : JobPlan) → Served s fs attach token row old.kernel.waits → HasActs zero row.plan → ⊥
+  pub no_act : (s : State) (row : JobPlan) → Served s fs attach token row old.kernel.waits → HasActs zero row.plan → ⊥
   no_act s row h few = none row.plan (its_plan s token row (served_acts s fs attach token row old.kernel.waits h)).last few
     where
       none : (plan : Plan) → AcknowledgesLast plan → HasActs zero plan → ⊥
       none Ended last few = last
       none (Next a done made failed) last few = few
 
-  fewer : (most : ℕ) (plan : Plan) (outcome : outcomes.Outcome) → HasActs (suc most) plan → HasActs most (rest_of outcome plan)
+  pub fewer : (most : ℕ) (plan : Plan) (outcome : outcomes.Outcome) → HasActs (suc most) plan → HasActs most (rest_of outcome plan)
   fewer zero Ended outcome few = tt
   fewer (suc most) Ended outcome few = tt
   fewer most (Next a done made failed) outcome few = fewer_acts most a done made failed outcome few
@@ -190,10 +190,16 @@ module _ (old : State) (fs attach token : ℕ) where
 same_attach : {a b : ℕ} → Some a ≡ Some b → a ≡ b
 same_attach e = cc
 
--- a packet that is in the pipe is taken first
-from_pipe : (s : State) → IsWorld s → (fs attach : ℕ) → IsServed s.kernel s.daemon fs attach → (token : ℕ) (row : OpenToken) → token_of s.kernel.waits.tokens token ≡ Some row → row.trigger.fs ≡ fs →
-    (queued : QueuedRow) → queued_of s.kernel.queue token ≡ Some queued → CanReach most_acts token (Answers s token) s
-from_pipe s world fs attach served token row is same queued in_queue =
+-- The packet of an open token is taken from the pipe, and its job has a whole plan left.
+pub record Takes (s : State) (fs attach token : ℕ) : Type 0 where
+  pub done : IsDone s (events.Deliver token None)
+  pub job : JobPlan
+  pub served : Served (next s (events.Deliver token None)) fs attach token job s.kernel.waits
+  pub few : HasActs most_acts job.plan
+
+pub takes_packet : (s : State) → IsWorld s → (fs attach : ℕ) → IsServed s.kernel s.daemon fs attach → (token : ℕ) (row : OpenToken) → token_of s.kernel.waits.tokens token ≡ Some row → row.trigger.fs ≡ fs →
+    (queued : QueuedRow) → queued_of s.kernel.queue token ≡ Some queued → Takes s fs attach token
+takes_packet s world fs attach served token row is same queued in_queue =
     let pipe = in_pipe s.kernel s.daemon world.consistent.agreed.tokens token queued in_queue in
     let number : queued.token ≡ token = queued_number s.kernel token queued in_queue in
     let one : pipe.token ≡ row = (let found : Some pipe.token ≡ Some row = sym pipe.is_open ∙ ap (token_of s.kernel.waits.tokens) number ∙ is in cc) in
@@ -203,16 +209,27 @@ from_pipe s world fs attach served token row is same queued in_queue =
     let event = events.Deliver token None in
     let job = job_for queued.attach queued.packet s.daemon in
     let its : (job.token == token) ≡ true = subst (λ (n : ℕ). (queued.packet.token == n) ≡ true) t.numbered (nat_same queued.packet.token) in
-    let there : Served (next s event) fs attach token job s.kernel.waits = record {
-      world = next_world s event tt world;
-      served = subst (λ (o : Outcome). IsServed (after s o).kernel (after s o).daemon fs attach) (sym t.alone) (record { current = served.current; held = served.held });
-      is_job = subst (λ (o : Outcome). job_of (after s o).daemon.jobs token ≡ Some job) (sym t.alone)
-          (find_new (λ (r : JobPlan). r.token == token) s.daemon.jobs job (ap (job_of s.daemon.jobs) (sym number) ∙ pipe.untaken) its);
-      fs_is = dev;
-      attach_is = own;
-      waits = subst (λ (o : Outcome). (after s o).kernel.waits ≡ s.kernel.waits) (sym t.alone) refl;
-    } in
-    inr (ap (λ (o : Outcome). is_refusal o.answer) t.alone, closes s fs attach token most_acts (next s event) job there (packet_plan s.daemon queued.packet))
+    record {
+      done = ap (λ (o : Outcome). is_refusal o.answer) t.alone;
+      job = job;
+      served = record {
+        world = next_world s event tt world;
+        served = subst (λ (o : Outcome). IsServed (after s o).kernel (after s o).daemon fs attach) (sym t.alone) (record { current = served.current; held = served.held });
+        is_job = subst (λ (o : Outcome). job_of (after s o).daemon.jobs token ≡ Some job) (sym t.alone)
+            (find_new (λ (r : JobPlan). r.token == token) s.daemon.jobs job (ap (job_of s.daemon.jobs) (sym number) ∙ pipe.untaken) its);
+        fs_is = dev;
+        attach_is = own;
+        waits = subst (λ (o : Outcome). (after s o).kernel.waits ≡ s.kernel.waits) (sym t.alone) refl;
+      };
+      few = packet_plan s.daemon queued.packet;
+    }
+
+-- a packet that is in the pipe is taken first
+from_pipe : (s : State) → IsWorld s → (fs attach : ℕ) → IsServed s.kernel s.daemon fs attach → (token : ℕ) (row : OpenToken) → token_of s.kernel.waits.tokens token ≡ Some row → row.trigger.fs ≡ fs →
+    (queued : QueuedRow) → queued_of s.kernel.queue token ≡ Some queued → CanReach most_acts token (Answers s token) s
+from_pipe s world fs attach served token row is same queued in_queue =
+    let t = takes_packet s world fs attach served token row is same queued in_queue in
+    inr (t.done, closes s fs attach token most_acts (next s (events.Deliver token None)) t.job t.served t.few)
 
 -- a job that has it goes on
 from_job : (s : State) → IsWorld s → (fs attach : ℕ) → IsServed s.kernel s.daemon fs attach → (token : ℕ) (row : OpenToken) → token_of s.kernel.waits.tokens token ≡ Some row → row.trigger.fs ≡ fs →

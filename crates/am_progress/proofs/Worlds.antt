@@ -357,7 +357,8 @@ step_world : (old : State) (event : Event) (answer : Answer) (shown : List Obs) 
 step_world old event answer shown new (inl out) along h = subst IsWorld (sym out.same) h
 step_world old event answer shown new (inr comes) along h = subst IsWorld (sym comes.left) (next_world old event along h)
 
-run_world : (old : State) (events : List Event) (answers : List Answer) (new : State) → Run old events answers new → HavePaths events → IsWorld old → IsWorld new
+-- and so is where a run leads
+pub run_world : (old : State) (events : List Event) (answers : List Answer) (new : State) → Run old events answers new → HavePaths events → IsWorld old → IsWorld new
 run_world old [] [] new run along h = subst IsWorld (sym run) h
 run_world old (event ∷ events) (answer ∷ answers) new run along h =
     run_world run.0 events answers new run.3 (All-tail HasPaths event events along) (step_world old event answer run.1 run.0 run.2 (All-head HasPaths event events along) h)

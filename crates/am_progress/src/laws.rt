@@ -2,7 +2,7 @@
 
 ghost use Rattle.am_progress.specs.Acts.{JobsHaveFiveActs, NextActsAreNeverRefused};
 ghost use Rattle.am_progress.specs.Expiries.{ExpiriesLeaveTrapOrMount};
-ghost use Rattle.am_progress.specs.Others.{JobsStay, ServiceLasts};
+ghost use Rattle.am_progress.specs.Others.{JobsStay, OpenTokensCloseAmongOthers, ServiceLasts};
 ghost use Rattle.am_progress.specs.Packets.{QueuedPacketsCanBeDelivered};
 ghost use Rattle.am_progress.specs.Tokens.{OpenTokensCanBeClosed};
 ghost use Rattle.am_progress.specs.Walkers.{WaitingWalkersCanGoOn};
@@ -47,4 +47,10 @@ pub fn jobs_keep_what_they_have_left()
 /// The daemon serves a file system until it is seen to become catatonic, or the daemon to die.
 pub fn service_lasts_until_its_end_is_seen()
     ensures { ServiceLasts }
+{}
+
+/// An open token of a file system that the daemon serves can be closed by six events of the daemon
+/// at most, whatever others do between them while the daemon serves it.
+pub fn open_tokens_can_be_closed_among_others()
+    ensures { OpenTokensCloseAmongOthers }
 {}
