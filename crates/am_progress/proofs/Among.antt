@@ -1,13 +1,12 @@
 -- Each open token can be closed among all that others do.
-use Rattle.std.proofs.Common.{◌≡◌, ◌⊎◌, ℕ, zero, suc, Bool, true, false, List, [], ◌∷◌, ◌++◌, Option, Some, None, refl, sym, ap, subst, inl, inr, ⊎_elim, ◌∙◌}
-use Rattle.std.specs.Prelude.{◌==◌, ◌||◌, is_some, if◌then◌else◌}
+use Rattle.std.proofs.Common.{◌≡◌, ◌⊎◌, ℕ, zero, suc, Bool, true, false, List, [], ◌∷◌, Option, Some, None, refl, sym, ap, subst, inl, inr, ⊎_elim, ◌∙◌}
+use Rattle.std.specs.Prelude.{◌==◌, is_some, if◌then◌else◌}
 use Rattle.std.specs.List.{list_any}
 use Rattle.am_names.specs.declared.trigger.Trigger.{Trigger}
 use Rattle.am_names.specs.declared.row.OpenToken.{OpenToken}
 use Rattle.am_wait.specs.Rows.{WaitRows, token_of}
 use Rattle.am_wait.proofs.FindLemmas.{token_taken}
 use Rattle.am_state.specs.declared.kernel_row.QueuedRow.{QueuedRow}
-use Rattle.am_state.specs.declared.obs.Obs.{Obs}
 use Rattle.am_kernel.specs.Sites.{attach_of}
 use Rattle.am_kernel.specs.Requests.{queued_of}
 use Rattle.am_job.specs.declared.act.Act.{Act}
@@ -33,7 +32,7 @@ use Rattle.am_machine.proofs.TokenLists.{all_found}
 use Rattle.am_machine.proofs.TokenClose.{token_number}
 use Rattle.am_machine.proofs.AgreeTokens.{in_pipe}
 use Rattle.am_progress.specs.Runs.{IsDone, next}
-use Rattle.am_progress.specs.Acts.{HasActs, most_acts}
+use Rattle.am_progress.specs.Acts.{HasActs}
 use Rattle.am_progress.specs.Others.{is_act_of, OthersAct, IsClosed, event_about, ClosesAmong, TokensCloseAmong, OpenTokensCloseAmongOthers}
 use Rattle.am_progress.proofs.Closed.{run_adds, was_queued, stays_closed, same_trigger_later}
 use Rattle.am_progress.proofs.Found.{queued_number}
@@ -41,7 +40,7 @@ use Rattle.am_progress.proofs.Others.{jobs_stay}
 use Rattle.am_progress.proofs.Plans.{IsOfPlan, more_acts}
 use Rattle.am_progress.proofs.Acts.{waits_after, its_plan, next_is}
 use Rattle.am_progress.proofs.Tokens.{Served, served_acts, its_act, act_done, act_world, act_waits, act_goes, no_act, fewer, takes_packet}
-use Rattle.am_progress.proofs.Worlds.{IsWorld, next_world, run_world, after_runs}
+use Rattle.am_progress.proofs.Worlds.{IsWorld, run_world, after_runs}
 
 same_attach : {a b : ℕ} → Some a ≡ Some b → a ≡ b
 same_attach e = cc

@@ -1,6 +1,6 @@
 -- A token that was closed stays so, whatever is seen later.
 use Rattle.std.proofs.Common.{◌≡◌, ◌⊎◌, ℕ, Bool, true, false, List, [], ◌∷◌, ◌++◌, Option, Some, None, refl, sym, ap, subst, inl, inr, ◌∙◌, append_assoc}
-use Rattle.std.specs.Prelude.{◌==◌, ◌||◌, is_some, if◌then◌else◌}
+use Rattle.std.specs.Prelude.{◌==◌, ◌||◌, if◌then◌else◌}
 use Rattle.std.specs.Option.{option_map}
 use Rattle.std.specs.List.{list_any}
 use Rattle.std.proofs.lemmas.List.{append-nil}
@@ -22,7 +22,7 @@ use Rattle.am_machine.specs.declared.event.Event.{Event}
 use Rattle.am_machine.specs.declared.answer.Answer.{Answer}
 use Rattle.am_machine.specs.State.{State}
 use Rattle.am_machine.specs.Machine.{Run}
-use Rattle.am_machine.specs.Invariant.Traces.{Asked, asked_in, asked_by, opened}
+use Rattle.am_machine.specs.Invariant.Traces.{Asked, asked_in, asked_by}
 use Rattle.am_machine.specs.Invariant.Consistent.{IsTraced}
 use Rattle.am_machine.proofs.SafetyLemmas.{step_lawful}
 

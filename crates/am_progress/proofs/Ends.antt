@@ -1,6 +1,6 @@
 -- A walk, a walker that goes on, and an expiry leave each attachment as it was, but where the file
 -- system is seen to become catatonic.
-use Rattle.std.proofs.Common.{◌≡◌, ◌⊎◌, ℕ, Bool, true, false, List, [], ◌∷◌, Option, Some, None, refl, sym, inl, inr, ⊎_elim, ◌∙◌}
+use Rattle.std.proofs.Common.{◌≡◌, ◌⊎◌, ℕ, Bool, true, false, List, Option, Some, None, refl, inl, inr, ⊎_elim, ◌∙◌}
 use Rattle.std.specs.Prelude.{◌==◌, ◌||◌, nat_le, is_some, is_none, if◌then◌else◌}
 use Rattle.std.specs.List.{list_any}
 use Rattle.am_names.specs.declared.errno.Errno.{Errno}
@@ -21,7 +21,6 @@ use Rattle.am_walk.specs.declared.stop.Stop.{Stop}
 use Rattle.am_walk.specs.declared.stop.Stop.TheVariants as stops
 use Rattle.am_walk.specs.Walks.{Walked, walk_of}
 use Rattle.am_kernel.specs.declared.begun.Begin.{Begin}
-use Rattle.am_kernel.specs.declared.begun.Begun.{Begun}
 use Rattle.am_kernel.specs.declared.row.WalkRow.{WalkRow}
 use Rattle.am_kernel.specs.State.{KernelState}
 use Rattle.am_kernel.specs.Outcome.{Outcome, Goes, Fails}

@@ -1,5 +1,5 @@
 -- What others do leaves each job what it has left, and the daemon what it serves.
-use Rattle.std.proofs.Common.{◌≡◌, ◌⊎◌, ℕ, ◌+◌, Bool, true, false, List, [], ◌∷◌, ◌++◌, Option, Some, None, refl, sym, ap, subst, inl, inr, ⊎_elim, ◌∙◌}
+use Rattle.std.proofs.Common.{◌≡◌, ◌⊎◌, ℕ, Bool, true, false, List, [], ◌∷◌, ◌++◌, Option, Some, None, refl, sym, ap, subst, inl, inr, ⊎_elim, ◌∙◌}
 use Rattle.std.specs.Option.{option_map}
 use Rattle.std.specs.Prelude.{◌==◌, not, is_some, find, filter, Result, Ok, Err, if◌then◌else◌}
 use Rattle.std.specs.List.{list_any}
@@ -27,7 +27,7 @@ use Rattle.am_kernel.specs.Administration.{mount_refusal, with_plain, bind_refus
 use Rattle.am_kernel.specs.Directories.{mkdir_refusal, with_directory, rmdir_refusal, without_directory}
 use Rattle.am_kernel.specs.DaemonMounts.{with_mount, attached_at, mount_on_refusal, with_mount_on, umount_from_refusal, gone_from, without_mounts}
 use Rattle.am_kernel.specs.Namespaces.{with_namespace, without_namespace}
-use Rattle.am_kernel.specs.Requests.{queued_of, without_use, without_packet, timeout_refusal, with_timeout, timeout_row, answer_refusal, acknowledged}
+use Rattle.am_kernel.specs.Requests.{queued_of, without_use, timeout_refusal, with_timeout, answer_refusal, acknowledged}
 use Rattle.am_kernel.specs.Attachments.{catatonic_refusal, autofs_refusal, pipe_refusal, closed_if_live, with_pipe}
 use Rattle.am_kernel.specs.Walks.{closed, closing, first_begin}
 use Rattle.am_kernel.specs.Previews.{is_trigger}
@@ -44,20 +44,19 @@ use Rattle.am_daemon.specs.State.{JobPlan}
 use Rattle.am_machine.specs.declared.event.Event.{Event}
 use Rattle.am_machine.specs.declared.event.Event.TheVariants as events
 use Rattle.am_machine.specs.declared.answer.Answer.{Answer}
-use Rattle.am_machine.specs.State.{Opening, State, opening_of}
+use Rattle.am_machine.specs.State.{State}
 use Rattle.am_machine.specs.Outcome.{Outcome, refused, unless, moment_of}
-use Rattle.am_machine.specs.Machine.{Step, Run, outcome_of}
+use Rattle.am_machine.specs.Machine.{Step, outcome_of}
 use Rattle.am_machine.specs.Events.Administration as administration
 use Rattle.am_machine.specs.Events.Walkers.{leave_outcome, goes}
 use Rattle.am_machine.specs.Events.Requests as requests
 use Rattle.am_machine.specs.Events.Deliveries as deliveries
 use Rattle.am_machine.specs.Events.Acts as acts
-use Rattle.am_machine.specs.Paths.{HasPaths, HavePaths}
 use Rattle.am_state.specs.declared.daemon_row.HeldRow.{HeldRow}
 use Rattle.am_wait.proofs.FindLemmas.{or_first, find_append}
 use Rattle.am_daemon.specs.State.{DaemonState}
-use Rattle.am_daemon.specs.Attachments.{attach_held, with_attachment, held_again}
-use Rattle.am_daemon.specs.Acts.{finished, finished_in}
+use Rattle.am_daemon.specs.Attachments.{attach_held, held_again}
+use Rattle.am_daemon.specs.Acts.{finished}
 use Rattle.am_daemon.specs.Deliveries.{job_for}
 use Rattle.am_daemon.proofs.JobLemmas.{others_stay}
 use Rattle.am_laws.proofs.Packets.{nat_is}
@@ -65,10 +64,9 @@ use Rattle.am_machine.specs.Invariant.Attachments.{AreGiven}
 use Rattle.am_machine.specs.Invariant.Books.{IsServed}
 use Rattle.am_machine.proofs.TraceRows.{found_passes}
 use Rattle.am_machine.proofs.TokenLists.{other_way, found_stays}
-use Rattle.am_machine.proofs.GivenSites.{Grows, pipe_grows, attached_grows, timeout_grows}
+use Rattle.am_machine.proofs.GivenSites.{pipe_grows, attached_grows, timeout_grows}
 use Rattle.am_machine.proofs.TokenStays.{still}
 use Rattle.am_machine.proofs.PlaceEvents.{else_none}
-use Rattle.am_progress.specs.Runs.{AfterEachRun, next}
 use Rattle.am_progress.specs.Others.{is_act_of, JobsStay, ends, ServesOn, ServiceLasts}
 use Rattle.am_progress.proofs.Ends as walkers
 use Rattle.am_progress.proofs.Ends.{HasStill, closed_still}
