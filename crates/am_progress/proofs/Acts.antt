@@ -50,7 +50,7 @@ use Rattle.am_machine.proofs.TokenLists.{all_found}
 use Rattle.am_machine.proofs.GivenCurrent.{current_from_attach}
 use Rattle.am_machine.proofs.BookFound.{absent}
 use Rattle.am_machine.proofs.AgreeTokens.{token_named}
-use Rattle.am_progress.specs.Acts.{Tells, goes_on_as, IsActed, JobsGoOn, NextActsAreNeverRefused, IsShort, JobsHaveFiveActs}
+use Rattle.am_progress.specs.Acts.{TellsOf, goes_on_as, IsActed, JobsCanGoOn, NextActsAreNeverRefused, HasFewActs, JobsHaveFiveActs}
 use Rattle.am_progress.proofs.Attaches.{fs_of_current}
 use Rattle.am_progress.proofs.Found.{token_at_work}
 use Rattle.am_progress.proofs.SiteWalks.{IsSite}
@@ -131,7 +131,7 @@ pub record Does (s : State) (row : JobPlan) (a : Act) (o : Outcome) : Type 0 whe
   pub shown : List Obs
   pub made : KernelState
   pub is : o ≡ acts.goes_on s row came answer shown made
-  pub told : Tells a came answer
+  pub told : TellsOf a came answer
   pub waits : made.waits ≡ waits_after a row.token s.kernel.waits
   pub attaches : (fs : ℕ) → attach_of made fs ≡ attach_of s.kernel fs
   pub leaves : LeavesKernel a came row.token s.kernel made
@@ -162,7 +162,7 @@ directory_fine s number row w named =
     directory_by (is_current s.kernel row.trigger.fs row.attach) (is_indirect s.kernel row.trigger) (its_current s number row w)
     (indirect_of (triggers.autofs_of s.kernel.triggers row.trigger.fs) row.trigger (its_site s number row w) named)
 
-plainly : (s : State) (row : JobPlan) (a : Act) (outcome : outcomes.Outcome) (answer : Answer) (shown : List Obs) (made : KernelState) → Tells a outcome answer → made.waits ≡ waits_after a row.token s.kernel.waits → ((fs : ℕ) → attach_of made fs ≡ attach_of s.kernel fs) → LeavesKernel a outcome row.token s.kernel made →
+plainly : (s : State) (row : JobPlan) (a : Act) (outcome : outcomes.Outcome) (answer : Answer) (shown : List Obs) (made : KernelState) → TellsOf a outcome answer → made.waits ≡ waits_after a row.token s.kernel.waits → ((fs : ℕ) → attach_of made fs ≡ attach_of s.kernel fs) → LeavesKernel a outcome row.token s.kernel made →
     Does s row a (acts.goes_on s row outcome answer shown made)
 plainly s row a outcome answer shown made told waits attaches leaves =
     record { came = outcome; answer = answer; shown = shown; made = made; is = refl; told = told; waits = waits; attaches = attaches; leaves = leaves }
@@ -295,19 +295,19 @@ acting s world fs attach served number row is same own = record {
   held = holds_held s.daemon row.trigger.fs row.attach (ap (attach_held s.daemon) same ∙ served.held ∙ ap (λ (n : ℕ). Some n) (sym own));
 }
 
-jobs_go_on : (s : State) → IsWorld s → JobsGoOn s
+jobs_go_on : (s : State) → IsWorld s → JobsCanGoOn s
 jobs_go_on s world fs attach served number row is same own ok =
     let w = acting s world fs attach served number row is same own in
     let next = next_is row.plan (its_plan s number row w).last in
     acted_as s number row next.0 (outcome_of s (events.Act number ok)) w next.1 (does s number row ok next.0 w next.1)
 
 pub never_refused : NextActsAreNeverRefused
-never_refused = after_runs JobsGoOn jobs_go_on
+never_refused = after_runs JobsCanGoOn jobs_go_on
 
 -- ---- how many there are
 
-jobs_short : (s : State) → IsWorld s → All IsShort s.daemon.jobs
-jobs_short s w = All-weaker IsOfPlan IsShort (λ row h. h.few) s.daemon.jobs w.holds.plans
+jobs_short : (s : State) → IsWorld s → All HasFewActs s.daemon.jobs
+jobs_short s w = All-weaker IsOfPlan HasFewActs (λ row h. h.few) s.daemon.jobs w.holds.plans
 
 pub five_acts : JobsHaveFiveActs
-five_acts = record { begins = packet_plan; each = after_runs (λ (s : State). All IsShort s.daemon.jobs) jobs_short }
+five_acts = record { begins = packet_plan; each = after_runs (λ (s : State). All HasFewActs s.daemon.jobs) jobs_short }

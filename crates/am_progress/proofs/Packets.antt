@@ -19,7 +19,7 @@ use Rattle.am_machine.specs.Events.Deliveries.{packet_bytes, has_bytes, takes, d
 use Rattle.am_machine.proofs.TokenClose.{dev_of}
 use Rattle.am_machine.proofs.AgreeTokens.{in_pipe}
 use Rattle.am_machine.proofs.InStep.{in_step, refuses_in_step}
-use Rattle.am_progress.specs.Packets.{PacketsAreTaken, QueuedPacketsCanBeDelivered}
+use Rattle.am_progress.specs.Packets.{PacketsCanBeTaken, QueuedPacketsCanBeDelivered}
 use Rattle.am_progress.proofs.Found.{queued_number}
 use Rattle.am_progress.proofs.Worlds.{IsWorld, after_runs}
 
@@ -50,7 +50,7 @@ took s token row bytes w is own held =
     let may = (refuses_in_step s (in_step s w.consistent w.named)).deliver token row bytes is ∙ and_of (has_bytes bytes row) (holds s.daemon row.packet.dev row.attach) own held in
     ap (λ (o : Option QueuedRow). delivered_at o s bytes) is ∙ ap (λ (b : Bool). if b then takes s row else refused s Stranger) may
 
-pub taken : (s : State) → IsWorld s → PacketsAreTaken s
+pub taken : (s : State) → IsWorld s → PacketsCanBeTaken s
 taken s w fs attach served token row is same =
     let halves = w.consistent.agreed in
     let pipe = in_pipe s.kernel s.daemon halves.tokens token row is in
@@ -65,4 +65,4 @@ taken s w fs attach served token row is same =
     }
 
 pub packets_taken : QueuedPacketsCanBeDelivered
-packets_taken = after_runs PacketsAreTaken taken
+packets_taken = after_runs PacketsCanBeTaken taken

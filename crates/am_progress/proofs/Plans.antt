@@ -23,7 +23,7 @@ use Rattle.am_daemon.specs.Acts.{walked, is_ended, going, finished_in}
 use Rattle.am_daemon.specs.Deliveries.{job_for}
 use Rattle.am_daemon.specs.Packets.{trigger_of, mounted_for, plan_of_packet}
 use Rattle.am_daemon.specs.Points.{entry_of}
-use Rattle.am_progress.specs.Acts.{HasActs, most_acts, IsShort}
+use Rattle.am_progress.specs.Acts.{HasActs, most_acts, HasFewActs}
 
 -- ---- whose acts they are
 
@@ -193,7 +193,7 @@ plan_acts Expire g None entry = more_acts 4 (reply Fail) (more_acts 3 (reply Fai
 pub record IsOfPlan (row : JobPlan) : Type 0 where
   pub own : AreOwn row.trigger row.plan
   pub umounts : IsWholeUmount row.trigger row.plan
-  pub few : IsShort row
+  pub few : HasFewActs row
 
 pub packet_plan : (d : DaemonState) (packet : Packet) → HasActs most_acts (plan_of_packet d packet)
 packet_plan d packet = plan_acts (token_kind packet.kind) (trigger_of packet) (mounted_for d packet) (entry_of d (trigger_of packet))

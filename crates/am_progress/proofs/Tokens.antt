@@ -32,10 +32,10 @@ use Rattle.am_machine.proofs.TokenClose.{token_number, dev_of}
 use Rattle.am_machine.proofs.GivenPlans.{acknowledges, goes_after}
 use Rattle.am_machine.proofs.BookFound.{find_new}
 use Rattle.am_machine.proofs.AgreeTokens.{in_pipe}
-use Rattle.am_progress.specs.Runs.{IsDone, is_refusal, next}
-use Rattle.am_progress.specs.Acts.{Tells, HasActs, most_acts, goes_on_as}
+use Rattle.am_progress.specs.Runs.{IsDone, is_refused, next}
+use Rattle.am_progress.specs.Acts.{TellsOf, HasActs, most_acts, goes_on_as}
 use Rattle.am_progress.specs.Ways.{LeadsTo, CanReach}
-use Rattle.am_progress.specs.Tokens.{IsAnswered, TokensCloseSoon, OpenTokensCanBeClosed}
+use Rattle.am_progress.specs.Tokens.{HasReleased, TokensCanClose, OpenTokensCanBeClosed}
 use Rattle.am_progress.proofs.Found.{queued_number}
 use Rattle.am_progress.proofs.Plans.{IsOfPlan, fewer_acts, packet_plan}
 use Rattle.am_progress.proofs.Packets.{taken}
@@ -46,15 +46,15 @@ use Rattle.am_progress.proofs.Worlds.{IsWorld, next_world, after_runs}
 -- ---- what an act leaves
 
 -- what is answered tells of no refusal
-pub told_done : (a : Act) (outcome : outcomes.Outcome) (answer : Answer) → Tells a outcome answer → is_refusal answer ≡ false
-told_done (act.Mkdir t) outcome answer h = ap is_refusal h.1
-told_done (act.Mount t entry) outcome answer (inl h) = ap is_refusal h.2
-told_done (act.Mount t entry) outcome answer (inr h) = ap is_refusal h.1
-told_done (act.Umount t) outcome answer (inl h) = ap is_refusal h.1
-told_done (act.Umount t) outcome answer (inr h) = ap is_refusal h.1
-told_done (act.Rmdir t) outcome answer h = ap is_refusal h.1
-told_done (act.Record t entry) outcome answer h = ap is_refusal h.1
-told_done (act.Reply status) outcome answer h = ap is_refusal h.1
+pub told_done : (a : Act) (outcome : outcomes.Outcome) (answer : Answer) → TellsOf a outcome answer → is_refused answer ≡ false
+told_done (act.Mkdir t) outcome answer h = ap is_refused h.1
+told_done (act.Mount t entry) outcome answer (inl h) = ap is_refused h.2
+told_done (act.Mount t entry) outcome answer (inr h) = ap is_refused h.1
+told_done (act.Umount t) outcome answer (inl h) = ap is_refused h.1
+told_done (act.Umount t) outcome answer (inr h) = ap is_refused h.1
+told_done (act.Rmdir t) outcome answer h = ap is_refused h.1
+told_done (act.Record t entry) outcome answer h = ap is_refused h.1
+told_done (act.Reply status) outcome answer h = ap is_refused h.1
 
 -- a job whose attachment the daemon holds, beside what stands of the waits
 pub record Served (s : State) (fs attach token : ℕ) (row : JobPlan) (w : WaitRows) : Type 0 where
@@ -74,7 +74,7 @@ module _ (s : State) (fs attach token : ℕ) (row : JobPlan) (w : WaitRows) (h :
   its_act = does s token row ok a (served_acts s fs attach token row w h) e
 
   pub act_done : IsDone s (events.Act token ok)
-  act_done = ap (λ (o : Outcome). is_refusal o.answer) its_act.is ∙ told_done a its_act.came its_act.answer its_act.told
+  act_done = ap (λ (o : Outcome). is_refused o.answer) its_act.is ∙ told_done a its_act.came its_act.answer its_act.told
 
   pub act_world : IsWorld (next s (events.Act token ok))
   act_world = next_world s (events.Act token ok) tt h.world
@@ -127,7 +127,7 @@ released_is walker token status (x ∷ rows) row e on =
     ap (λ (n : ℕ). cond (n == walker) (Some (released_row token status x)) (wait_of (map (released_row token status) rows) walker)) same
     ∙ released_by walker token status x row rows (x.walker == walker) same refl on (λ later. released_is walker token status rows row later on) e
 
-answers_all : (old : State) (token : ℕ) (status : Status) (new : State) → new.kernel.waits ≡ answered token status old.kernel.waits → IsAnswered old token new
+answers_all : (old : State) (token : ℕ) (status : Status) (new : State) → new.kernel.waits ≡ answered token status old.kernel.waits → HasReleased old token new
 answers_all old token status new same = record {
   closed = ap (λ (w : WaitRows). token_of w.tokens token) same ∙ token_taken token old.kernel.waits.tokens token true (nat_same token);
   status = status;
@@ -138,7 +138,7 @@ answers_all old token status new same = record {
 
 -- the token is answered, in a world
 pub record Answers (old : State) (token : ℕ) (new : State) : Type 0 where
-  pub answered : IsAnswered old token new
+  pub answered : HasReleased old token new
   pub world : IsWorld new
 
 module _ (old : State) (fs attach token : ℕ) where
@@ -210,7 +210,7 @@ takes_packet s world fs attach served token row is same queued in_queue =
     let job = job_for queued.attach queued.packet s.daemon in
     let its : (job.token == token) ≡ true = subst (λ (n : ℕ). (queued.packet.token == n) ≡ true) t.numbered (nat_same queued.packet.token) in
     record {
-      done = ap (λ (o : Outcome). is_refusal o.answer) t.alone;
+      done = ap (λ (o : Outcome). is_refused o.answer) t.alone;
       job = job;
       served = record {
         world = next_world s event tt world;
@@ -255,9 +255,9 @@ can_answer s world fs attach served token row is same =
     (λ work. from_job s world fs attach served token row is same work)
     (world.consistent.agreed.tokens.open_tokens token row is)
 
-tokens_close : (s : State) → IsWorld s → TokensCloseSoon s
+tokens_close : (s : State) → IsWorld s → TokensCanClose s
 tokens_close s world fs attach served token row is same =
-    reaches_on most_acts token (Answers s token) (IsAnswered s token) (λ new h. h.answered) s (can_answer s world fs attach served token row is same)
+    reaches_on most_acts token (Answers s token) (HasReleased s token) (λ new h. h.answered) s (can_answer s world fs attach served token row is same)
 
 pub open_tokens_close : OpenTokensCanBeClosed
-open_tokens_close = after_runs TokensCloseSoon tokens_close
+open_tokens_close = after_runs TokensCanClose tokens_close

@@ -39,9 +39,9 @@ use Rattle.am_machine.proofs.TokenLists.{all_found}
 use Rattle.am_machine.proofs.StandKeeps.{attached_autofs}
 use Rattle.am_machine.proofs.AgreeTokens.{in_pipe}
 use Rattle.am_machine.proofs.InStep.{in_step}
-use Rattle.am_progress.specs.Runs.{is_refusal, next}
+use Rattle.am_progress.specs.Runs.{is_refused, next}
 use Rattle.am_progress.specs.Acts.{most_acts}
-use Rattle.am_progress.specs.Walkers.{CanResume, CanBeBroughtOn, WalkersGoOn, WaitingWalkersCanGoOn}
+use Rattle.am_progress.specs.Walkers.{CanResume, CanBeBroughtOn, WalkersCanGoOn, WaitingWalkersCanGoOn}
 use Rattle.am_progress.proofs.Found.{queued_number}
 use Rattle.am_progress.proofs.Ways.{reaches_on}
 use Rattle.am_progress.proofs.Tokens.{Answers, can_answer}
@@ -53,13 +53,13 @@ abbrev Goes : kernel.Outcome → Type 0
 Goes (kernel.Goes begun shown made) = ⊤
 Goes (kernel.Fails e) = ⊥
 
-told_goes : (begun : Begun) → is_refusal (answer_of begun) ≡ false
+told_goes : (begun : Begun) → is_refused (answer_of begun) ≡ false
 told_goes (begun.Arrived at) = refl
 told_goes (begun.Waits token) = refl
 told_goes (begun.Failed e) = refl
 told_goes begun.Expired = refl
 
-goes_done : (o : kernel.Outcome) (s : State) (moment : ℕ) → Goes o → is_refusal (goes o s moment).answer ≡ false
+goes_done : (o : kernel.Outcome) (s : State) (moment : ℕ) → Goes o → is_refused (goes o s moment).answer ≡ false
 goes_done (kernel.Goes begun shown made) s moment h = told_goes begun
 goes_done (kernel.Fails e) s moment h = absurd h
 
@@ -201,7 +201,7 @@ brought_on s world walker row is still =
       by_daemon = λ attach served.
           reaches_on most_acts row.token (Answers s row.token) (CanResume row.walker) (answered_resumes s walker row is still) s
           (can_answer s world fs attach served row.token w.token w.is_open w.fs);
-      is_catatonic = ap (λ (o : Outcome). is_refusal o.answer) does;
+      is_catatonic = ap (λ (o : Outcome). is_refused o.answer) does;
       by_administrator =
           resumes_on (next s event) (next_world s event tt world) row.walker (record row { status = Some Fail }) Fail
           (subst (λ (o : Outcome). wait_of (after s o).kernel.waits.waits row.walker ≡ Some (record row { status = Some Fail })) (sym does) (failed_is row.walker fs s.kernel.waits.waits row own refl still)) refl;
@@ -211,11 +211,11 @@ status_by : (P : Type 0) (o : Option Status) → (o ≡ None → ⊥) → ((stat
 status_by P None some h = absurd (some refl)
 status_by P (Some status) some h = h status refl
 
-walkers_go_on : (s : State) → IsWorld s → WalkersGoOn s
+walkers_go_on : (s : State) → IsWorld s → WalkersCanGoOn s
 walkers_go_on s world = record {
   waiting = brought_on s world;
   released = λ walker row is some. status_by (CanResume walker s) row.status some (λ status its. resumes_on s world walker row status is its);
 }
 
 pub walkers_can_go_on : WaitingWalkersCanGoOn
-walkers_can_go_on = after_runs WalkersGoOn walkers_go_on
+walkers_can_go_on = after_runs WalkersCanGoOn walkers_go_on

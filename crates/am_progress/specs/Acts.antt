@@ -24,17 +24,17 @@ use Rattle.am_progress.specs.Runs.{AfterEachRun}
 
 -- What is answered when this has come of an act: a mount and an unmount are done or have failed,
 -- and the others are done.
-abbrev pub Tells : Act → outcomes.Outcome → Answer → Type 0
-Tells (act.Mkdir trigger) came answer = (came ≡ Done) × (answer ≡ answers.DidMkdir)
-Tells (act.Mount trigger entry) came answer =
+abbrev pub TellsOf : Act → outcomes.Outcome → Answer → Type 0
+TellsOf (act.Mkdir trigger) came answer = (came ≡ Done) × (answer ≡ answers.DidMkdir)
+TellsOf (act.Mount trigger entry) came answer =
     ((mount : ℕ) × (came ≡ Made mount) × (answer ≡ answers.DidMount mount))
     ⊎ ((came ≡ Failed) × (answer ≡ answers.FailedMount))
-Tells (act.Umount trigger) came answer =
+TellsOf (act.Umount trigger) came answer =
     ((came ≡ Done) × (answer ≡ answers.DidUmount))
     ⊎ ((came ≡ Failed) × (answer ≡ answers.FailedUmount))
-Tells (act.Rmdir trigger) came answer = (came ≡ Done) × (answer ≡ answers.DidRmdir)
-Tells (act.Record trigger entry) came answer = (came ≡ Done) × (answer ≡ answers.DidRecord)
-Tells (act.Reply status) came answer = (came ≡ Done) × (answer ≡ answers.DidReply)
+TellsOf (act.Rmdir trigger) came answer = (came ≡ Done) × (answer ≡ answers.DidRmdir)
+TellsOf (act.Record trigger entry) came answer = (came ≡ Done) × (answer ≡ answers.DidRecord)
+TellsOf (act.Reply status) came answer = (came ≡ Done) × (answer ≡ answers.DidReply)
 
 -- the job with what it has left when this has come of its next act; none where that is nothing
 abbrev pub goes_on_as : outcomes.Outcome → JobPlan → Option JobPlan
@@ -46,21 +46,21 @@ pub record IsActed (job : ℕ) (row : JobPlan) (old : DaemonState) (o : Outcome)
   pub act : Act
   pub is_next : next_of row.plan ≡ Some act
   pub came : outcomes.Outcome
-  pub told : Tells act came o.answer
+  pub told : TellsOf act came o.answer
   pub left : job_of o.state.daemon.jobs job ≡ goes_on_as came row
   pub others : (other : ℕ) → (other == job) ≡ false →
       job_of o.state.daemon.jobs other ≡ job_of old.jobs other
 
 -- so it is of each job under the attachment that the daemon holds, whichever word the event has
-abbrev pub JobsGoOn : State → Type 0
-JobsGoOn s =
+abbrev pub JobsCanGoOn : State → Type 0
+JobsCanGoOn s =
     (fs attach : ℕ) → IsServed s.kernel s.daemon fs attach →
     (job : ℕ) (row : JobPlan) → job_of s.daemon.jobs job ≡ Some row →
     row.trigger.fs ≡ fs → row.attach ≡ attach →
     (ok : Bool) → IsActed job row s.daemon (outcome_of s (events.Act job ok))
 
 abbrev pub NextActsAreNeverRefused : Type 0
-NextActsAreNeverRefused = AfterEachRun JobsGoOn
+NextActsAreNeverRefused = AfterEachRun JobsCanGoOn
 
 -- ---- how many there are
 
@@ -76,10 +76,10 @@ HasActs (suc most) (Next a done made failed) =
 abbrev pub most_acts : ℕ
 most_acts = 5
 
-abbrev pub IsShort : JobPlan → Type 0
-IsShort row = HasActs most_acts row.plan
+abbrev pub HasFewActs : JobPlan → Type 0
+HasFewActs row = HasActs most_acts row.plan
 
 -- so many has each plan that a packet gets, and no job ever has more left
 pub record JobsHaveFiveActs : Type 0 where
   pub begins : (d : DaemonState) (packet : Packet) → HasActs most_acts (plan_of_packet d packet)
-  pub each : AfterEachRun (λ s. All IsShort s.daemon.jobs)
+  pub each : AfterEachRun (λ s. All HasFewActs s.daemon.jobs)

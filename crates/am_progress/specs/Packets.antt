@@ -18,11 +18,11 @@ pub record IsTaken (s : State) (token : ℕ) (row : QueuedRow) : Type 0 where
   pub by_bytes : outcome_of s (events.Deliver token (Some (packet_bytes row))) ≡ takes s row
 
 -- each packet of a file system that the daemon serves
-abbrev pub PacketsAreTaken : State → Type 0
-PacketsAreTaken s =
+abbrev pub PacketsCanBeTaken : State → Type 0
+PacketsCanBeTaken s =
     (fs attach : ℕ) → IsServed s.kernel s.daemon fs attach →
     (token : ℕ) (row : QueuedRow) → queued_of s.kernel.queue token ≡ Some row →
     row.packet.dev ≡ fs → IsTaken s token row
 
 abbrev pub QueuedPacketsCanBeDelivered : Type 0
-QueuedPacketsCanBeDelivered = AfterEachRun PacketsAreTaken
+QueuedPacketsCanBeDelivered = AfterEachRun PacketsCanBeTaken

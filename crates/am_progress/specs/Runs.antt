@@ -16,13 +16,13 @@ AfterEachRun holds =
     (opening : Opening) (events : List Event) (answers : List Answer) (s : State) →
     HavePaths events → Run (opening_of opening) events answers s → holds s
 
-abbrev pub is_refusal : Answer → Bool
-is_refusal (answers.Refused e) = true
-is_refusal _ = false
+abbrev pub is_refused : Answer → Bool
+is_refused (answers.Refused e) = true
+is_refused _ = false
 
 -- the event isn't refused in this world
 abbrev pub IsDone : State → Event → Type 0
-IsDone s event = is_refusal (outcome_of s event).answer ≡ false
+IsDone s event = is_refused (outcome_of s event).answer ≡ false
 
 -- the world after the event
 abbrev pub next : State → Event → State

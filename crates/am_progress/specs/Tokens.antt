@@ -13,7 +13,7 @@ use Rattle.am_progress.specs.Ways.{CanReach}
 
 -- The token is closed, and each walker that waited on it in the old world has its status, the same
 -- for all of them.
-pub record IsAnswered (old : State) (token : ℕ) (new : State) : Type 0 where
+pub record HasReleased (old : State) (token : ℕ) (new : State) : Type 0 where
   pub closed : token_of new.kernel.waits.tokens token ≡ None
   pub status : Status
   pub released : (walker : ℕ) (row : WaitRow) →
@@ -21,11 +21,11 @@ pub record IsAnswered (old : State) (token : ℕ) (new : State) : Type 0 where
       wait_of new.kernel.waits.waits walker ≡ Some (record row { status = Some status })
 
 -- each open token of a file system that the daemon serves
-abbrev pub TokensCloseSoon : State → Type 0
-TokensCloseSoon s =
+abbrev pub TokensCanClose : State → Type 0
+TokensCanClose s =
     (fs attach : ℕ) → IsServed s.kernel s.daemon fs attach →
     (token : ℕ) (row : OpenToken) → token_of s.kernel.waits.tokens token ≡ Some row →
-    row.trigger.fs ≡ fs → CanReach most_acts token (IsAnswered s token) s
+    row.trigger.fs ≡ fs → CanReach most_acts token (HasReleased s token) s
 
 abbrev pub OpenTokensCanBeClosed : Type 0
-OpenTokensCanBeClosed = AfterEachRun TokensCloseSoon
+OpenTokensCanBeClosed = AfterEachRun TokensCanClose

@@ -23,7 +23,7 @@ pub record CanBeBroughtOn (s : State) (row : WaitRow) : Type 0 where
   pub is_catatonic : IsDone s (events.AdminCatatonic row.trigger.fs)
   pub by_administrator : CanResume row.walker (next s (events.AdminCatatonic row.trigger.fs))
 
-pub record WalkersGoOn (s : State) : Type 0 where
+pub record WalkersCanGoOn (s : State) : Type 0 where
   pub waiting : (walker : ℕ) (row : WaitRow) → wait_of s.kernel.waits.waits walker ≡ Some row →
       row.status ≡ None → CanBeBroughtOn s row
   -- one that was released goes on by itself
@@ -31,4 +31,4 @@ pub record WalkersGoOn (s : State) : Type 0 where
       (row.status ≡ None → ⊥) → CanResume walker s
 
 abbrev pub WaitingWalkersCanGoOn : Type 0
-WaitingWalkersCanGoOn = AfterEachRun WalkersGoOn
+WaitingWalkersCanGoOn = AfterEachRun WalkersCanGoOn
