@@ -35,15 +35,13 @@ use Rattle.am_progress.specs.Runs.{IsDone, next}
 use Rattle.am_progress.specs.Acts.{HasActs}
 use Rattle.am_progress.specs.Others.{is_act_of, OthersAct, IsClosed, event_about, ClosesAmong, TokensCloseAmong, OpenTokensCloseAmongOthers}
 use Rattle.am_progress.proofs.Closed.{run_adds, was_queued, stays_closed, same_trigger_later}
-use Rattle.am_progress.proofs.Found.{queued_number}
+use Rattle.am_progress.proofs.Found.{queued_number, same_number}
 use Rattle.am_progress.proofs.Others.{jobs_stay}
 use Rattle.am_progress.proofs.Plans.{IsOfPlan, more_acts}
-use Rattle.am_progress.proofs.Acts.{waits_after, its_plan, next_is}
+use Rattle.am_progress.proofs.Jobs.{its_plan}
+use Rattle.am_progress.proofs.Acts.{waits_after, next_is}
 use Rattle.am_progress.proofs.Tokens.{Served, served_acts, its_act, act_done, act_world, act_waits, act_goes, no_act, fewer, takes_packet}
 use Rattle.am_progress.proofs.Worlds.{IsWorld, run_world, after_runs}
-
-same_attach : {a b : ℕ} → Some a ≡ Some b → a ≡ b
-same_attach e = cc
 
 -- ---- what others leave
 
@@ -194,7 +192,7 @@ module _ (fs attach token : ℕ) where
       ))
       (λ work.
       let taken : job_of mid.daemon.jobs token ≡ Some work.job = ap (job_of mid.daemon.jobs) (sym (token_number mid.kernel.waits.tokens token row is)) ∙ work.is_job in
-      let own : work.job.attach ≡ attach = same_attach (sym work.current ∙ ap (attach_of mid.kernel) same ∙ served.current) in
+      let own : work.job.attach ≡ attach = same_number (sym work.current ∙ ap (attach_of mid.kernel) same ∙ served.current) in
       let plan = all_found IsOfPlan (λ (r : JobPlan). r.token == token) mid.daemon.jobs work.job world.holds.plans taken in
       job_acts 5 mid world served queued (record { row = work.job; is_job = taken; fs_is = work.fs ∙ same; attach_is = own; few = more_acts 5 work.job.plan plan.few }) ok)
       (world.consistent.agreed.tokens.open_tokens token row is)

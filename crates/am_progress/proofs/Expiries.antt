@@ -1,38 +1,27 @@
 -- What an expiry leaves.
-use Rattle.std.proofs.Common.{◌≡◌, ℕ, suc, zero, Bool, true, false, cond, List, [], ◌∷◌, Option, Some, None, refl, sym, ap, subst, inl, inr, ⊎_elim, ◌∙◌}
-use Rattle.std.specs.Prelude.{◌==◌, ◌&&◌, is_some, is_none, find, if◌then◌else◌}
-use Rattle.std.specs.Option.{option_map, option_and_then}
+use Rattle.std.proofs.Common.{◌≡◌, ℕ, suc, zero, Bool, true, false, List, Option, Some, None, refl, sym, ap, subst, inl, inr, ⊎_elim, ◌∙◌}
+use Rattle.std.specs.Prelude.{◌==◌, if◌then◌else◌}
 use Rattle.std.specs.List.{All}
-use Rattle.std.proofs.lemmas.List.Elements.{All-head, All-tail, All-weaker}
 use Rattle.am_names.specs.Trigger.{same_trigger}
 use Rattle.am_names.specs.declared.trigger.Trigger.{Trigger}
 use Rattle.am_names.specs.declared.trigger.Status.{Status}
 use Rattle.am_names.specs.declared.trigger.Status.TheVariants.{Ready, Fail}
-use Rattle.am_names.specs.declared.row.MountRow.{MountRow}
 use Rattle.am_names.specs.declared.row.OpenToken.{OpenToken}
-use Rattle.am_names.specs.declared.row.TokenKind.{TokenKind}
-use Rattle.am_names.specs.declared.row.TokenKind.TheVariants.{Missing, Expire}
 use Rattle.am_names.proofs.SameTriggers.{is_itself}
 use Rattle.am_state.specs.declared.daemon_row.Record.{Record}
 use Rattle.am_state.specs.declared.daemon_row.Record.TheVariants.{Mounted}
 use Rattle.am_mount.specs.Rows.{top_of}
 use Rattle.am_propagate.specs.MountTable.{MountTable}
-use Rattle.am_trigger.specs.declared.autofs.Autofs.{Autofs}
 use Rattle.am_trigger.specs.Rows.{TriggerRows, autofs_of}
-use Rattle.am_trigger.specs.Sites.{trigger_in, place_named, place_of}
-use Rattle.am_wait.specs.Rows.{WaitRows, token_of, open_on, is_open_on, same_kind}
+use Rattle.am_trigger.specs.Sites.{place_of}
+use Rattle.am_wait.specs.Rows.{WaitRows, token_of}
 use Rattle.am_wait.specs.Calls.{answered}
 use Rattle.am_wait.specs.Invariant.{RiseBy}
 use Rattle.am_wait.proofs.FindLemmas.{token_taken}
 use Rattle.am_wait.proofs.KeptLemmas.{all_found}
-use Rattle.am_walk.specs.declared.stop.Next.TheVariants as nexts
-use Rattle.am_walk.specs.declared.stop.Stop.TheVariants as stops
-use Rattle.am_walk.specs.Meet.{at_trap, at_autofs, at_site, next_at}
-use Rattle.am_walk.specs.Scene.{Scene, autofs_at}
 use Rattle.am_kernel.specs.State.{KernelState}
-use Rattle.am_kernel.specs.Previews.{is_trigger_of}
-use Rattle.am_kernel.specs.Sites.{is_live, is_live_row, attach_of, latest_attach, scene_of}
-use Rattle.am_kernel.specs.DaemonMounts.{location_in, location_of, mounted_on}
+use Rattle.am_kernel.specs.Sites.{attach_of}
+use Rattle.am_kernel.specs.DaemonMounts.{location_in, mounted_on}
 use Rattle.am_kernel.specs.Requests.{acknowledged}
 use Rattle.am_job.specs.declared.act.Act.{Act}
 use Rattle.am_job.specs.declared.act.Act.TheVariants as act
@@ -43,25 +32,24 @@ use Rattle.am_job.specs.Plans.{next_of, rest_of, claims, at_directory, reply, bo
 use Rattle.am_daemon.specs.State.{JobPlan}
 use Rattle.am_daemon.specs.Acts.{next_in, writes, writing_of, book_after, walked}
 use Rattle.am_daemon.specs.Packets.{is_pending, mounted_in}
-use Rattle.am_laws.proofs.Packets.{nat_is, nat_same}
+use Rattle.am_laws.proofs.Packets.{nat_same}
 use Rattle.am_machine.specs.declared.event.Event.TheVariants as events
 use Rattle.am_machine.specs.State.{State}
 use Rattle.am_machine.specs.Outcome.{Outcome}
 use Rattle.am_machine.specs.Machine.{after, outcome_of}
 use Rattle.am_machine.specs.Invariant.Planned.{has_record_left}
 use Rattle.am_machine.specs.Invariant.Books.{IsServed}
-use Rattle.am_machine.proofs.TraceRows.{found_passes}
 use Rattle.am_machine.proofs.BookRecords.{recorded_is}
-use Rattle.am_machine.proofs.StandKeeps.{attached_autofs}
-use Rattle.am_machine.proofs.StandMounts.{trigger_same}
 use Rattle.am_progress.specs.Runs.{next}
 use Rattle.am_progress.specs.Ways.{LeadsTo}
 use Rattle.am_progress.specs.Expiries.{IsAsFound, IsTrapAgain, EndsWell, ExpiriesEndWell, ExpiriesLeaveTrapOrMount}
 use Rattle.am_progress.proofs.Plans.{umount_whole}
 use Rattle.am_progress.proofs.SiteWalks.{IsSite}
-use Rattle.am_progress.proofs.Acts.{Does, LeavesKernel, its_acts, its_token, on_its_token, its_site, job_number}
+use Rattle.am_progress.proofs.Jobs.{its_acts, its_token, on_its_token, its_site, job_number}
+use Rattle.am_progress.proofs.Acts.{Does, LeavesKernel}
 use Rattle.am_progress.proofs.Tokens.{Served, served_acts, its_act, act_done, act_world, act_served, act_waits, act_goes}
 use Rattle.am_progress.proofs.Worlds.{IsWorld, after_runs}
+use Rattle.am_progress.proofs.Traps.{notifies, other_by, false_by}
 
 -- ---- what an act leaves of the book and of the kernel
 
@@ -173,73 +161,6 @@ module _ (old s : State) (fs attach token : ℕ) (row : JobPlan) (h : Served s f
             ∙ m.others g other ∙ ap (λ (rows : List _). record_of rows g) book;
         closed = reply_closes mid fs attach token m.left old.kernel.waits m.served Fail m.plan ok;
       })
-
--- ---- a trigger at which a walk notifies
-
-find_none : {X : Type 0} (test : X → Bool) (rows : List X) → All (λ (x : X). test x ≡ false) rows → find test rows ≡ None
-find_none test [] h = refl
-find_none {X} test (x ∷ rows) h =
-    ap (λ (b : Bool). cond b (Some x) (find test rows)) (All-head (λ y. test y ≡ false) x rows h) ∙ find_none test rows (All-tail (λ y. test y ≡ false) x rows h)
-
-not_both : (a b : Bool) → a ≡ false → (a && b) ≡ false
-not_both true b e = absurd cc
-not_both false b e = refl
-
-all_off : (kind : TokenKind) (g : Trigger) (tokens : List OpenToken) → All (λ (r : OpenToken). same_trigger r.trigger g ≡ false) tokens → open_on tokens kind g ≡ None
-all_off kind g tokens h =
-    ap (option_map (λ (r : OpenToken). r.token))
-    (find_none (λ (r : OpenToken). is_open_on kind g r) tokens
-    (All-weaker (λ (r : OpenToken). same_trigger r.trigger g ≡ false) (λ (r : OpenToken). is_open_on kind g r ≡ false) (λ r other. not_both (same_trigger r.trigger g) (same_kind r.kind kind) other) tokens h))
-
-other_by : (b : Bool) (o : Option OpenToken) (row : OpenToken) → cond b None o ≡ Some row → (b ≡ false) × (o ≡ Some row)
-other_by true o row e = absurd cc
-other_by false o row e = (refl, e)
-
-false_by : (b : Bool) → (b ≡ true → ⊥) → b ≡ false
-false_by true h = absurd (h refl)
-false_by false h = refl
-
-trigger_by : (a : Autofs) (g : Trigger) (name : Option (List ℕ)) (direct : Bool) → g.name ≡ name → a.direct ≡ direct → a.fs ≡ g.fs → (if direct then is_none name else is_some name) ≡ true → trigger_in a (place_named name) ≡ Some g
-trigger_by a g None true named d same h =
-    ap (λ (b : Bool). if b then Some (record { fs = a.fs; name = None }) else None) d
-    ∙ ap (λ (t : Trigger). Some t) (trigger_same (record { fs = a.fs; name = None }) g same (sym (ap place_named named)))
-trigger_by a g (Some name) false named d same h =
-    ap (λ (b : Bool). if b then None else Some (record { fs = a.fs; name = Some name })) d
-    ∙ ap (λ (t : Trigger). Some t) (trigger_same (record { fs = a.fs; name = Some name }) g same (sym (ap place_named named)))
-trigger_by a g None false named d same h = absurd cc
-trigger_by a g (Some name) true named d same h = absurd cc
-
-not_catatonic : (a : Autofs) (catatonic : Bool) → a.catatonic ≡ catatonic → is_live_row (Some a) ≡ true → catatonic ≡ false
-not_catatonic a true is live = absurd cc
-not_catatonic a false is live = refl
-
-live_by : (live : Bool) (o : Option ℕ) (attach : ℕ) → (if live then o else None) ≡ Some attach → live ≡ true
-live_by true o attach e = refl
-live_by false o attach e = absurd cc
-
-trap_is : (tokens : List OpenToken) (scene : Scene) (a : Autofs) (g : Trigger) → open_on tokens Expire g ≡ None → open_on tokens Missing g ≡ None → top_of scene.mounts a.location (place_of g) ≡ None → a.catatonic ≡ false → at_trap tokens scene a g a.location (place_of g) ≡ nexts.Halts (stops.Missing g)
-trap_is tokens scene a g expire missing free live = rw (expire, missing, free, live) refl
-
-notifies : (s : State) → IsWorld s → (attach : ℕ) (g : Trigger) → attach_of s.kernel g.fs ≡ Some attach → IsSite s.kernel.triggers g → All (λ (r : OpenToken). same_trigger r.trigger g ≡ false) s.kernel.waits.tokens → mounted_on s.kernel g ≡ None →
-    next_at (scene_of s.kernel) (location_of s.kernel g.fs) (place_of g) ≡ nexts.Halts (stops.Missing g)
-notifies s world attach g current site off free =
-    let k = s.kernel in
-    let scene = scene_of k in
-    let its = attached_autofs k g.fs attach current in
-    let a = its.0 in
-    let is : autofs_of k.triggers g.fs ≡ Some a = its.1 in
-    let place = world.consistent.agreed.places.locations g.fs a is in
-    let here : location_of k g.fs ≡ a.location = ap location_in is in
-    let at : autofs_at scene a.location ≡ Some a =
-    ap (λ (o : Option MountRow). option_and_then (λ fs. autofs_of k.triggers fs) (option_map (λ (r : MountRow). r.fs) o)) place.is_row ∙ ap (autofs_of k.triggers) place.fs ∙ is in
-    let same : a.fs ≡ g.fs = nat_is a.fs g.fs (found_passes (λ (r : Autofs). r.fs == g.fs) k.triggers.autofs a is) in
-    let trigger : trigger_in a (place_of g) ≡ Some g = trigger_by a g g.name a.direct refl refl same (sym (ap (λ (o : Option Autofs). is_trigger_of o g) is) ∙ site) in
-    let live : is_live_row (Some a) ≡ true = sym (ap is_live_row is) ∙ live_by (is_live k g.fs) (latest_attach k.attached g.fs) attach current in
-    ap (λ (n : ℕ). next_at scene n (place_of g)) here
-    ∙ ap (λ (o : Option Autofs). at_site scene o a.location (place_of g)) at
-    ∙ ap (λ (o : Option Trigger). at_autofs scene a o a.location (place_of g)) trigger
-    ∙ trap_is k.waits.tokens scene a g (all_off Expire g k.waits.tokens off) (all_off Missing g k.waits.tokens off)
-    (sym (ap (λ (n : ℕ). top_of k.table.rows n (place_of g)) here) ∙ free) (not_catatonic a a.catatonic refl live)
 
 -- ---- an unmount that has come
 

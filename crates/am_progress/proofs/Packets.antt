@@ -20,7 +20,7 @@ use Rattle.am_machine.proofs.TokenClose.{dev_of}
 use Rattle.am_machine.proofs.AgreeTokens.{in_pipe}
 use Rattle.am_machine.proofs.InStep.{in_step, refuses_in_step}
 use Rattle.am_progress.specs.Packets.{PacketsCanBeTaken, QueuedPacketsCanBeDelivered}
-use Rattle.am_progress.proofs.Found.{queued_number}
+use Rattle.am_progress.proofs.Found.{queued_number, same_number}
 use Rattle.am_progress.proofs.Worlds.{IsWorld, after_runs}
 
 -- ---- what the daemon holds of a file system it holds
@@ -42,9 +42,6 @@ holds_held d fs attach e = held_any fs attach d.held e
 
 -- ---- it is taken
 
-same_attach : {a b : ℕ} → Some a ≡ Some b → a ≡ b
-same_attach e = cc
-
 took : (s : State) (token : ℕ) (row : QueuedRow) (bytes : Option (List ℕ)) → IsWorld s → queued_of s.kernel.queue token ≡ Some row → has_bytes bytes row ≡ true → holds s.daemon row.packet.dev row.attach ≡ true → deliver_outcome s token bytes ≡ takes s row
 took s token row bytes w is own held =
     let may = (refuses_in_step s (in_step s w.consistent w.named)).deliver token row bytes is ∙ and_of (has_bytes bytes row) (holds s.daemon row.packet.dev row.attach) own held in
@@ -55,7 +52,7 @@ taken s w fs attach served token row is same =
     let halves = w.consistent.agreed in
     let pipe = in_pipe s.kernel s.daemon halves.tokens token row is in
     let dev : pipe.token.trigger.fs ≡ fs = sym (dev_of row.packet pipe.token pipe.asks) ∙ same in
-    let own : row.attach ≡ attach = same_attach (sym pipe.current ∙ ap (attach_of s.kernel) dev ∙ served.current) in
+    let own : row.attach ≡ attach = same_number (sym pipe.current ∙ ap (attach_of s.kernel) dev ∙ served.current) in
     let held : holds s.daemon row.packet.dev row.attach ≡ true =
     holds_held s.daemon row.packet.dev row.attach (ap (attach_held s.daemon) same ∙ served.held ∙ ap (λ (n : ℕ). Some n) (sym own)) in
     record {

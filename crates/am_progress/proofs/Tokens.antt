@@ -36,10 +36,11 @@ use Rattle.am_progress.specs.Runs.{IsDone, is_refused, next}
 use Rattle.am_progress.specs.Acts.{TellsOf, HasActs, most_acts, goes_on_as}
 use Rattle.am_progress.specs.Ways.{LeadsTo, CanReach}
 use Rattle.am_progress.specs.Tokens.{HasReleased, TokensCanClose, OpenTokensCanBeClosed}
-use Rattle.am_progress.proofs.Found.{queued_number}
+use Rattle.am_progress.proofs.Found.{queued_number, same_number}
 use Rattle.am_progress.proofs.Plans.{IsOfPlan, fewer_acts, packet_plan}
 use Rattle.am_progress.proofs.Packets.{taken}
-use Rattle.am_progress.proofs.Acts.{Acting, Does, waits_after, its_plan, job_number, does, goes_left, next_is, acting}
+use Rattle.am_progress.proofs.Jobs.{Acting, its_plan, job_number}
+use Rattle.am_progress.proofs.Acts.{Does, waits_after, does, goes_left, next_is, acting}
 use Rattle.am_progress.proofs.Ways.{arrived, reaches_on}
 use Rattle.am_progress.proofs.Worlds.{IsWorld, next_world, after_runs}
 
@@ -187,9 +188,6 @@ module _ (old : State) (fs attach token : ℕ) where
 
 -- ---- and so does the daemon
 
-same_attach : {a b : ℕ} → Some a ≡ Some b → a ≡ b
-same_attach e = cc
-
 -- The packet of an open token is taken from the pipe, and its job has a whole plan left.
 pub record Takes (s : State) (fs attach token : ℕ) : Type 0 where
   pub done : IsDone s (events.Deliver token None)
@@ -204,7 +202,7 @@ takes_packet s world fs attach served token row is same queued in_queue =
     let number : queued.token ≡ token = queued_number s.kernel token queued in_queue in
     let one : pipe.token ≡ row = (let found : Some pipe.token ≡ Some row = sym pipe.is_open ∙ ap (token_of s.kernel.waits.tokens) number ∙ is in cc) in
     let dev : queued.packet.dev ≡ fs = dev_of queued.packet pipe.token pipe.asks ∙ ap (λ (r : OpenToken). r.trigger.fs) one ∙ same in
-    let own : queued.attach ≡ attach = same_attach (sym pipe.current ∙ ap (λ (r : OpenToken). attach_of s.kernel r.trigger.fs) one ∙ ap (attach_of s.kernel) same ∙ served.current) in
+    let own : queued.attach ≡ attach = same_number (sym pipe.current ∙ ap (λ (r : OpenToken). attach_of s.kernel r.trigger.fs) one ∙ ap (attach_of s.kernel) same ∙ served.current) in
     let t = taken s world fs attach served token queued in_queue dev in
     let event = events.Deliver token None in
     let job = job_for queued.attach queued.packet s.daemon in
@@ -240,7 +238,7 @@ from_job s world fs attach served token row is same work =
       served = served;
       is_job = ap (job_of s.daemon.jobs) (sym (token_number s.kernel.waits.tokens token row is)) ∙ work.is_job;
       fs_is = work.fs ∙ same;
-      attach_is = same_attach (sym work.current ∙ ap (attach_of s.kernel) same ∙ served.current);
+      attach_is = same_number (sym work.current ∙ ap (attach_of s.kernel) same ∙ served.current);
       waits = refl;
     } in
     inl (closes s fs attach token most_acts s work.job here (few s token work.job world here.is_job))

@@ -21,7 +21,7 @@ use Rattle.am_kernel.specs.declared.begun.Begun.{Begun}
 use Rattle.am_kernel.specs.declared.begun.Begun.TheVariants as begun
 use Rattle.am_kernel.specs.declared.row.WalkRow.{WalkRow}
 use Rattle.am_kernel.specs.Outcome as kernel
-use Rattle.am_kernel.specs.Sites.{is_live, attach_of, latest_attach, scene_of}
+use Rattle.am_kernel.specs.Sites.{is_live, attach_of, scene_of}
 use Rattle.am_kernel.specs.Requests.{queued_of}
 use Rattle.am_kernel.specs.Attachments.{autofs_refusal, closed_if_live, closing_if_live}
 use Rattle.am_kernel.specs.Walks as walks
@@ -42,7 +42,7 @@ use Rattle.am_machine.proofs.InStep.{in_step}
 use Rattle.am_progress.specs.Runs.{is_refused, next}
 use Rattle.am_progress.specs.Acts.{most_acts}
 use Rattle.am_progress.specs.Walkers.{CanResume, CanBeBroughtOn, WalkersCanGoOn, WaitingWalkersCanGoOn}
-use Rattle.am_progress.proofs.Found.{queued_number}
+use Rattle.am_progress.proofs.Found.{live_of, queued_number}
 use Rattle.am_progress.proofs.Ways.{reaches_on}
 use Rattle.am_progress.proofs.Tokens.{Answers, can_answer}
 use Rattle.am_progress.proofs.Worlds.{IsWorld, next_world, after_runs}
@@ -154,10 +154,6 @@ answered_resumes s walker row is still new h =
 
 -- ---- the administrator
 
-live_by : (live : Bool) (o : Option ℕ) (attach : ℕ) → (if live then o else None) ≡ Some attach → live ≡ true
-live_by true o attach e = refl
-live_by false o attach e = absurd cc
-
 is_autofs : (k : KernelState) (fs attach : ℕ) → attach_of k fs ≡ Some attach → autofs_refusal k fs ≡ None
 is_autofs k fs attach e = ap (λ (o : Option Autofs). if is_some o then None else Some EINVAL) (attached_autofs k fs attach e).1
 
@@ -165,7 +161,7 @@ is_autofs k fs attach e = ap (λ (o : Option Autofs). if is_some o then None els
 catatonic_is : (s : State) (fs attach : ℕ) → attach_of s.kernel fs ≡ Some attach → outcome_of s (events.AdminCatatonic fs) ≡ with_kernel answers.Done (walks.closing fs s.kernel) (closed fs s.kernel) s
 catatonic_is s fs attach e =
     let k = s.kernel in
-    let live : is_live k fs ≡ true = live_by (is_live k fs) (latest_attach k.attached fs) attach e in
+    let live : is_live k fs ≡ true = live_of k fs attach e in
     ap (λ (o : Option Errno). unless o s (with_kernel answers.Done (closing_if_live fs k) (closed_if_live fs k) s)) (is_autofs k fs attach e)
     ∙ ap (λ (b : Bool). with_kernel answers.Done (if b then walks.closing fs k else []) (if b then closed fs k else k) s) live
 
