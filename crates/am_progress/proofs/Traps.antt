@@ -1,0 +1,93 @@
+-- A trigger on which nothing is open and nothing mounted is one at which a walk notifies.
+use Rattle.std.proofs.Common.{◌≡◌, ℕ, Bool, true, false, cond, List, [], ◌∷◌, Option, Some, None, refl, sym, ap, ◌∙◌}
+use Rattle.std.specs.Prelude.{◌==◌, ◌&&◌, is_some, is_none, find, if◌then◌else◌}
+use Rattle.std.specs.Option.{option_map, option_and_then}
+use Rattle.std.specs.List.{All}
+use Rattle.std.proofs.lemmas.List.Elements.{All-head, All-tail, All-weaker}
+use Rattle.am_names.specs.Trigger.{same_trigger}
+use Rattle.am_names.specs.declared.trigger.Trigger.{Trigger}
+use Rattle.am_names.specs.declared.row.MountRow.{MountRow}
+use Rattle.am_names.specs.declared.row.OpenToken.{OpenToken}
+use Rattle.am_names.specs.declared.row.TokenKind.{TokenKind}
+use Rattle.am_names.specs.declared.row.TokenKind.TheVariants.{Missing, Expire}
+use Rattle.am_mount.specs.Rows.{top_of}
+use Rattle.am_trigger.specs.declared.autofs.Autofs.{Autofs}
+use Rattle.am_trigger.specs.Rows.{autofs_of}
+use Rattle.am_trigger.specs.Sites.{trigger_in, place_named, place_of}
+use Rattle.am_wait.specs.Rows.{open_on, is_open_on, same_kind}
+use Rattle.am_walk.specs.declared.stop.Next.TheVariants as nexts
+use Rattle.am_walk.specs.declared.stop.Stop.TheVariants as stops
+use Rattle.am_walk.specs.Meet.{at_trap, at_autofs, at_site, next_at}
+use Rattle.am_walk.specs.Scene.{Scene, autofs_at}
+use Rattle.am_kernel.specs.Previews.{is_trigger_of}
+use Rattle.am_kernel.specs.Sites.{is_live_row, attach_of, scene_of}
+use Rattle.am_kernel.specs.DaemonMounts.{location_in, location_of, mounted_on}
+use Rattle.am_laws.proofs.Packets.{nat_is}
+use Rattle.am_machine.specs.State.{State}
+use Rattle.am_machine.proofs.TraceRows.{found_passes}
+use Rattle.am_machine.proofs.StandKeeps.{attached_autofs}
+use Rattle.am_machine.proofs.StandMounts.{trigger_same}
+use Rattle.am_progress.proofs.Found.{live_of}
+use Rattle.am_progress.proofs.SiteWalks.{IsSite}
+use Rattle.am_progress.proofs.Worlds.{IsWorld}
+
+find_none : {X : Type 0} (test : X → Bool) (rows : List X) → All (λ (x : X). test x ≡ false) rows → find test rows ≡ None
+find_none test [] h = refl
+find_none {X} test (x ∷ rows) h =
+    ap (λ (b : Bool). cond b (Some x) (find test rows)) (All-head (λ y. test y ≡ false) x rows h) ∙ find_none test rows (All-tail (λ y. test y ≡ false) x rows h)
+
+not_both : (a b : Bool) → a ≡ false → (a && b) ≡ false
+not_both true b e = absurd cc
+not_both false b e = refl
+
+all_off : (kind : TokenKind) (g : Trigger) (tokens : List OpenToken) → All (λ (r : OpenToken). same_trigger r.trigger g ≡ false) tokens → open_on tokens kind g ≡ None
+all_off kind g tokens h =
+    ap (option_map (λ (r : OpenToken). r.token))
+    (find_none (λ (r : OpenToken). is_open_on kind g r) tokens
+    (All-weaker (λ (r : OpenToken). same_trigger r.trigger g ≡ false) (λ (r : OpenToken). is_open_on kind g r ≡ false) (λ r other. not_both (same_trigger r.trigger g) (same_kind r.kind kind) other) tokens h))
+
+pub other_by : (b : Bool) (o : Option OpenToken) (row : OpenToken) → cond b None o ≡ Some row → (b ≡ false) × (o ≡ Some row)
+other_by true o row e = absurd cc
+other_by false o row e = (refl, e)
+
+pub false_by : (b : Bool) → (b ≡ true → ⊥) → b ≡ false
+false_by true h = absurd (h refl)
+false_by false h = refl
+
+trigger_by : (a : Autofs) (g : Trigger) (name : Option (List ℕ)) (direct : Bool) → g.name ≡ name → a.direct ≡ direct → a.fs ≡ g.fs → (if direct then is_none name else is_some name) ≡ true → trigger_in a (place_named name) ≡ Some g
+trigger_by a g None true named d same h =
+    ap (λ (b : Bool). if b then Some (record { fs = a.fs; name = None }) else None) d
+    ∙ ap (λ (t : Trigger). Some t) (trigger_same (record { fs = a.fs; name = None }) g same (sym (ap place_named named)))
+trigger_by a g (Some name) false named d same h =
+    ap (λ (b : Bool). if b then None else Some (record { fs = a.fs; name = Some name })) d
+    ∙ ap (λ (t : Trigger). Some t) (trigger_same (record { fs = a.fs; name = Some name }) g same (sym (ap place_named named)))
+trigger_by a g None false named d same h = absurd cc
+trigger_by a g (Some name) true named d same h = absurd cc
+
+not_catatonic : (a : Autofs) (catatonic : Bool) → a.catatonic ≡ catatonic → is_live_row (Some a) ≡ true → catatonic ≡ false
+not_catatonic a true is live = absurd cc
+not_catatonic a false is live = refl
+
+trap_is : (tokens : List OpenToken) (scene : Scene) (a : Autofs) (g : Trigger) → open_on tokens Expire g ≡ None → open_on tokens Missing g ≡ None → top_of scene.mounts a.location (place_of g) ≡ None → a.catatonic ≡ false → at_trap tokens scene a g a.location (place_of g) ≡ nexts.Halts (stops.Missing g)
+trap_is tokens scene a g expire missing free live = rw (expire, missing, free, live) refl
+
+pub notifies : (s : State) → IsWorld s → (attach : ℕ) (g : Trigger) → attach_of s.kernel g.fs ≡ Some attach → IsSite s.kernel.triggers g → All (λ (r : OpenToken). same_trigger r.trigger g ≡ false) s.kernel.waits.tokens → mounted_on s.kernel g ≡ None →
+    next_at (scene_of s.kernel) (location_of s.kernel g.fs) (place_of g) ≡ nexts.Halts (stops.Missing g)
+notifies s world attach g current site off free =
+    let k = s.kernel in
+    let scene = scene_of k in
+    let its = attached_autofs k g.fs attach current in
+    let a = its.0 in
+    let is : autofs_of k.triggers g.fs ≡ Some a = its.1 in
+    let place = world.consistent.agreed.places.locations g.fs a is in
+    let here : location_of k g.fs ≡ a.location = ap location_in is in
+    let at : autofs_at scene a.location ≡ Some a =
+    ap (λ (o : Option MountRow). option_and_then (λ fs. autofs_of k.triggers fs) (option_map (λ (r : MountRow). r.fs) o)) place.is_row ∙ ap (autofs_of k.triggers) place.fs ∙ is in
+    let same : a.fs ≡ g.fs = nat_is a.fs g.fs (found_passes (λ (r : Autofs). r.fs == g.fs) k.triggers.autofs a is) in
+    let trigger : trigger_in a (place_of g) ≡ Some g = trigger_by a g g.name a.direct refl refl same (sym (ap (λ (o : Option Autofs). is_trigger_of o g) is) ∙ site) in
+    let live : is_live_row (Some a) ≡ true = sym (ap is_live_row is) ∙ live_of k g.fs attach current in
+    ap (λ (n : ℕ). next_at scene n (place_of g)) here
+    ∙ ap (λ (o : Option Autofs). at_site scene o a.location (place_of g)) at
+    ∙ ap (λ (o : Option Trigger). at_autofs scene a o a.location (place_of g)) trigger
+    ∙ trap_is k.waits.tokens scene a g (all_off Expire g k.waits.tokens off) (all_off Missing g k.waits.tokens off)
+    (sym (ap (λ (n : ℕ). top_of k.table.rows n (place_of g)) here) ∙ free) (not_catatonic a a.catatonic refl live)

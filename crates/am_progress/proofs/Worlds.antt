@@ -1,0 +1,54 @@
+-- All that every world keeps.
+use Rattle.std.proofs.Common.{List, [], ◌∷◌, sym, subst, inl, inr}
+use Rattle.std.proofs.lemmas.List.Elements.{All-nil, All-head, All-tail}
+use Rattle.am_state.specs.declared.obs.Obs.{Obs}
+use Rattle.am_daemon.specs.Attachments.{holds}
+use Rattle.am_machine.specs.declared.event.Event.{Event}
+use Rattle.am_machine.specs.declared.answer.Answer.{Answer}
+use Rattle.am_machine.specs.State.{Opening, State, opening_of}
+use Rattle.am_machine.specs.Machine.{Step, Run}
+use Rattle.am_machine.specs.Paths.{HasPaths, HavePaths}
+use Rattle.am_machine.specs.Invariant.Walks.{WalksFit}
+use Rattle.am_machine.specs.Invariant.Consistent.{IsConsistent}
+use Rattle.am_machine.proofs.SafetyLemmas.{initial_consistent, outcome_consistent}
+use Rattle.am_machine.proofs.NameTheorems.{initial_named, outcome_named}
+use Rattle.am_progress.specs.Runs.{AfterEachRun, next}
+use Rattle.am_progress.proofs.SiteEvents.{Holds, outcome_keeps}
+
+-- all that is known of a world
+pub record IsWorld (s : State) : Type 0 where
+  pub consistent : IsConsistent s
+  pub named : WalksFit s.kernel
+  pub holds : Holds s
+
+initial_holds : (opening : Opening) → Holds (opening_of opening)
+initial_holds opening = record { kernel = record { tokens = All-nil _; waits = All-nil _; used = All-nil _; outside = All-nil _; attaches = tt }; plans = All-nil _ }
+
+pub initial_world : (opening : Opening) → IsWorld (opening_of opening)
+initial_world opening = record { consistent = initial_consistent opening; named = initial_named opening; holds = initial_holds opening }
+
+-- what comes of an event is a world
+pub next_world : (s : State) (event : Event) → HasPaths event → IsWorld s → IsWorld (next s event)
+next_world s event along h =
+    let held = (outcome_keeps s event).keeps h.consistent h.holds in
+    record {
+      consistent = outcome_consistent s event h.consistent;
+      named = outcome_named s event along h.named;
+      holds = record { kernel = held.kernel; plans = held.plans };
+    }
+
+step_world : (old : State) (event : Event) (answer : Answer) (shown : List Obs) (new : State) → Step old event answer shown new → HasPaths event → IsWorld old → IsWorld new
+step_world old event answer shown new (inl out) along h = subst IsWorld (sym out.same) h
+step_world old event answer shown new (inr comes) along h = subst IsWorld (sym comes.left) (next_world old event along h)
+
+-- and so is where a run leads
+pub run_world : (old : State) (events : List Event) (answers : List Answer) (new : State) → Run old events answers new → HavePaths events → IsWorld old → IsWorld new
+run_world old [] [] new run along h = subst IsWorld (sym run) h
+run_world old (event ∷ events) (answer ∷ answers) new run along h =
+    run_world run.0 events answers new run.3 (All-tail HasPaths event events along) (step_world old event answer run.1 run.0 run.2 (All-head HasPaths event events along) h)
+run_world old [] (answer ∷ answers) new run along h = absurd run
+run_world old (event ∷ events) [] new run along h = absurd run
+
+-- what holds of each world holds after each run
+pub after_runs : (holds : State → Type 0) → ((s : State) → IsWorld s → holds s) → AfterEachRun holds
+after_runs holds h opening events answers s along run = h s (run_world (opening_of opening) events answers s run along (initial_world opening))

@@ -1,0 +1,85 @@
+-- The next act of a job is done, or it fails; and a job has five acts at most. Since the first is
+-- said of every world, it doesn't matter what others have done since the job's last act.
+use Rattle.std.specs.Prelude.{◌≡◌, ◌⊎◌, ⊤, ℕ, zero, suc, ◌==◌, Bool, false, All, Option, Some, None, if◌then◌else◌}
+use Rattle.am_wire.specs.declared.packet.Packet.{Packet}
+use Rattle.am_job.specs.declared.act.Act.{Act}
+use Rattle.am_job.specs.declared.act.Act.TheVariants as act
+use Rattle.am_job.specs.declared.act.Outcome as outcomes
+use Rattle.am_job.specs.declared.act.Outcome.TheVariants.{Done, Made, Failed}
+use Rattle.am_job.specs.Plans.{Plan, Ended, Next, next_of}
+use Rattle.am_daemon.specs.State.{DaemonState, JobPlan}
+use Rattle.am_daemon.specs.Acts.{walked, is_ended}
+use Rattle.am_daemon.specs.Deliveries.{job_of}
+use Rattle.am_daemon.specs.Packets.{plan_of_packet}
+use Rattle.am_machine.specs.declared.event.Event.TheVariants as events
+use Rattle.am_machine.specs.declared.answer.Answer.{Answer}
+use Rattle.am_machine.specs.declared.answer.Answer.TheVariants as answers
+use Rattle.am_machine.specs.State.{State}
+use Rattle.am_machine.specs.Outcome.{Outcome}
+use Rattle.am_machine.specs.Invariant.Books.{IsServed}
+use Rattle.am_machine.specs.Machine.{outcome_of}
+use Rattle.am_progress.specs.Runs.{AfterEachRun}
+
+-- ---- the next act
+
+-- What is answered when this has come of an act: a mount and an unmount are done or have failed,
+-- and the others are done.
+abbrev pub TellsOf : Act → outcomes.Outcome → Answer → Type 0
+TellsOf (act.Mkdir trigger) came answer = (came ≡ Done) × (answer ≡ answers.DidMkdir)
+TellsOf (act.Mount trigger entry) came answer =
+    ((mount : ℕ) × (came ≡ Made mount) × (answer ≡ answers.DidMount mount))
+    ⊎ ((came ≡ Failed) × (answer ≡ answers.FailedMount))
+TellsOf (act.Umount trigger) came answer =
+    ((came ≡ Done) × (answer ≡ answers.DidUmount))
+    ⊎ ((came ≡ Failed) × (answer ≡ answers.FailedUmount))
+TellsOf (act.Rmdir trigger) came answer = (came ≡ Done) × (answer ≡ answers.DidRmdir)
+TellsOf (act.Record trigger entry) came answer = (came ≡ Done) × (answer ≡ answers.DidRecord)
+TellsOf (act.Reply status) came answer = (came ≡ Done) × (answer ≡ answers.DidReply)
+
+-- the job with what it has left when this has come of its next act; none where that is nothing
+abbrev pub goes_on_as : outcomes.Outcome → JobPlan → Option JobPlan
+goes_on_as came row = if is_ended (walked came row) then None else Some (walked came row)
+
+-- The job's next act is done or has failed, as the answer tells; the job goes on with what is left
+-- then, or it ends; and each other job is as before.
+pub record IsActed (job : ℕ) (row : JobPlan) (old : DaemonState) (o : Outcome) : Type 0 where
+  pub act : Act
+  pub is_next : next_of row.plan ≡ Some act
+  pub came : outcomes.Outcome
+  pub told : TellsOf act came o.answer
+  pub left : job_of o.state.daemon.jobs job ≡ goes_on_as came row
+  pub others : (other : ℕ) → (other == job) ≡ false →
+      job_of o.state.daemon.jobs other ≡ job_of old.jobs other
+
+-- so it is of each job under the attachment that the daemon holds, whichever word the event has
+abbrev pub JobsCanGoOn : State → Type 0
+JobsCanGoOn s =
+    (fs attach : ℕ) → IsServed s.kernel s.daemon fs attach →
+    (job : ℕ) (row : JobPlan) → job_of s.daemon.jobs job ≡ Some row →
+    row.trigger.fs ≡ fs → row.attach ≡ attach →
+    (ok : Bool) → IsActed job row s.daemon (outcome_of s (events.Act job ok))
+
+abbrev pub NextActsAreNeverRefused : Type 0
+NextActsAreNeverRefused = AfterEachRun JobsCanGoOn
+
+-- ---- how many there are
+
+-- whatever comes of the acts, there are so many at most
+abbrev pub HasActs : ℕ → Plan → Type 0
+HasActs most Ended = ⊤
+HasActs zero (Next a done made failed) = ⊥
+HasActs (suc most) (Next a done made failed) =
+    HasActs most done × ((mount : ℕ) → HasActs most (made mount)) × HasActs most failed
+
+-- an indirect trigger's mount that fails has the most: the directory is made, the mount fails, the
+-- directory is removed, that there is no mount is written down, and the token is acknowledged
+abbrev pub most_acts : ℕ
+most_acts = 5
+
+abbrev pub HasFewActs : JobPlan → Type 0
+HasFewActs row = HasActs most_acts row.plan
+
+-- so many has each plan that a packet gets, and no job ever has more left
+pub record JobsHaveFiveActs : Type 0 where
+  pub begins : (d : DaemonState) (packet : Packet) → HasActs most_acts (plan_of_packet d packet)
+  pub each : AfterEachRun (λ s. All HasFewActs s.daemon.jobs)
