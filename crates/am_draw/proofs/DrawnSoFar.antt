@@ -4,6 +4,7 @@ use Rattle.std.specs.Io.KnownBytes.{Appends}
 use Rattle.std.proofs.lemmas.List.{map_push, map-append, append-nil, length-append}
 use Rattle.am_machine.specs.declared.event.Event.{Event}
 use Rattle.am_machine.specs.State.{State}
+use Rattle.am_machine.specs.Machine.{Step}
 use Rattle.am_script.specs.declared.fault.ScriptFault.{ScriptFault}
 use Rattle.am_script.specs.declared.fault.ScriptFaultKind.TheVariants.{NoMemory, WriteFailed}
 use Rattle.am_script.specs.declared.output.Output.{Output}
@@ -17,7 +18,6 @@ use Rattle.am_script.specs.Turns.{IsWhole, IsShort}
 use Rattle.am_script.proofs.Going.{behind, count_more, lost_by}
 use Rattle.am_script.proofs.OwedLemmas.{stands_new}
 use Rattle.am_views.specs.Traced.{Shown, asked_in, answers_in, SeenRun, one_more}
-use Rattle.am_views.proofs.TracesSoFar.{run_more}
 use Rattle.am_draw.specs.declared.bars.Lasting.{Lasting}
 use Rattle.am_draw.specs.declared.draw.Part.{Part}
 use Rattle.am_draw.specs.Bars.{nothing_lasts, behind as lasts_behind}
@@ -47,6 +47,10 @@ drawing_none part start all lasting output old nothing e f g = record {
   lines = refl;
   refused = refl;
 }
+
+run_more : (old : State) (rows : List Shown) (mid : State) (row : Shown) (new : State) → SeenRun old rows mid → Step mid row.asked.event row.answer row.seen new → SeenRun old (rows ++ row ∷ []) new
+run_more old [] mid row new h step = (new, subst (λ (s : State). Step s row.asked.event row.answer row.seen new) h step, refl)
+run_more old (first ∷ rows) mid row new h step = (h.0, h.1, run_more h.0 rows mid row new h.2 step)
 
 asked_push : (rows : List Shown) (row : Shown) → asked_in (rows ++ row ∷ []) ≡ asked_in rows ++ row.asked ∷ []
 asked_push rows row = map_push (λ (r : Shown). r.asked) rows row

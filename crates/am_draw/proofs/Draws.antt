@@ -1,19 +1,22 @@
 -- What a step adds to the trace is what is drawn of its event.
-use Rattle.std.proofs.Common.{◌≡◌, ℕ, Bool, List, ◌++◌, length, drop, Option, sym, ap, ◌∙◌, subst}
+use Rattle.std.proofs.Common.{◌≡◌, ℕ, Bool, List, ◌++◌, length, drop, Option, Result, sym, ap, ◌∙◌, subst}
 use Rattle.std.proofs.Math.Seq.{drop-append_seam}
 use Rattle.am_machine.specs.declared.event.Event.{Event}
 use Rattle.am_machine.specs.declared.answer.Answer.{Answer}
 use Rattle.am_machine.specs.State.{State}
 use Rattle.am_machine.specs.Machine.{Step}
+use Rattle.am_script.specs.declared.fault.ScriptFault.{ScriptFault}
 use Rattle.am_script.specs.declared.output.Output.{Output}
+use Rattle.am_script.specs.declared.play.Summary.{Summary}
 use Rattle.am_script.specs.Answers.{is_refused}
-use Rattle.am_script.specs.Outputs.{Owed, owed_by, Stands, Settles, Puts}
+use Rattle.am_script.specs.Outputs.{owed_by, Stands, Settles, Puts}
+use Rattle.am_script.specs.Turns.{Closes}
 use Rattle.am_state.specs.declared.obs.Obs.{Obs}
 use Rattle.am_views.proofs.Shows.{grows}
 use Rattle.am_draw.specs.declared.bars.Lasting.{Lasting}
 use Rattle.am_draw.specs.declared.draw.Part.{Part}
 use Rattle.am_draw.specs.Bars.{behind}
-use Rattle.am_draw.specs.Drawn.{drawn_for, IsDrawn}
+use Rattle.am_draw.specs.Drawn.{drawn_for, tail_behind, IsDrawn, Finishes}
 use Rattle.am_draw.specs.Rows.{sides_of}
 
 -- what stands behind the trace so far is what is seen
@@ -36,3 +39,8 @@ draws part number s next event answer seen shown line before lasting after sides
       lasts = lasts ∙ ap (behind lasting event) is;
       test = test;
     }
+
+-- the tail is put out, and then what is kept is written
+pub finishes : (output mid : Output) (events : ℕ) (ended r : Result Summary ScriptFault) (held now holds : Option (List ℕ)) → Puts output mid (tail_behind events) held now → Closes mid ended now holds r → Finishes output events ended held holds r
+finishes output mid events ended r held now holds tail closes =
+    λ all start stands. closes (all ++ owed_by output.line (tail_behind events)) start (tail.puts all start stands)

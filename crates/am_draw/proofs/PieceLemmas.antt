@@ -1,5 +1,6 @@
 -- One event more is drawn.
-use Rattle.std.proofs.Common.{◌≡◌, ⊤, ℕ, suc, ◌+◌, List, [], ◌∷◌, ◌++◌, length, refl, sym, ap, ◌∙◌, add-zero, arith}
+use Rattle.std.proofs.Common.{◌≡◌, ℕ, suc, ◌+◌, List, [], ◌∷◌, ◌++◌, length, refl, sym, ap, ◌∙◌, add-zero, arith}
+use Rattle.std.specs.Prelude.{⊤}
 use Rattle.std.proofs.lemmas.Bool.{lt-ltb}
 use Rattle.am_script.specs.Outputs.{owed_by}
 use Rattle.am_views.specs.Traced.{Shown}

@@ -1,6 +1,5 @@
 -- How a script is drawn: its run, a row for each event, between a head and a tail.
-use Rattle.std.specs.Prelude.{◌≡◌, ◌⊎◌, ◌<◌, ℕ, ◌+◌, ◌-◌, ◌*◌, ◌==◌, Bool, ◌&&◌, nat_lt, nat_le, List, [], ◌∷◌, ◌++◌, length, take, count_by, Option, None, Some, Result, Ok, Err, if◌then◌else◌}
-use Rattle.std.specs.Nat.{nat_min}
+use Rattle.std.specs.Prelude.{◌≡◌, ◌⊎◌, ◌<◌, ℕ, ◌+◌, ◌-◌, ◌*◌, ◌==◌, Bool, ◌&&◌, min, nat_lt, nat_le, List, [], ◌∷◌, ◌++◌, length, take, count_by, Option, None, Some, Result, Ok, Err, if◌then◌else◌}
 use Rattle.std.specs.List.{flat_map}
 use Rattle.std.specs.Io.KnownBytes.{Appends, Consumes, IsAtEnd}
 use Rattle.am_machine.specs.State.{State, Opening, opening_of}
@@ -35,7 +34,7 @@ use Rattle.am_draw.specs.Rows.{row_text, sides_of}
 abbrev pub part_of : ℕ → ℕ → ℕ → Part
 part_of first last events = record {
   skipped = first - 1;
-  rows = nat_min (nat_min last events - (first - 1)) 1000000;
+  rows = min (min last events - (first - 1)) 1000000;
   events = events;
 }
 
@@ -241,7 +240,7 @@ abbrev pub Finishes : Output → ℕ → Result Summary ScriptFault → Option (
 Finishes output events ended held holds result =
     (all : List Owed) → (start : Option (List ℕ)) → Stands output all start held
     → IsWhole ended result (all ++ owed_by output.line (tail_behind events)) start holds
-      ⊎ IsShort result (all ++ owed_by output.line (tail_behind events)) start holds
+    ⊎ IsShort result (all ++ owed_by output.line (tail_behind events)) start holds
 
 -- where counting ends at a fault, it counts the events before it, unless memory ran out
 abbrev pub counted_to : ℕ → ScriptFaultKind → ScriptFault → Result ℕ ScriptFault

@@ -62,7 +62,7 @@ look_part_4 =
     ++ (codes "<path id='cross' class='cross' d='M-7 -7l14 14m0 -14l-14 14'/>\n"
     ++ (codes "<path id='failed' class='cross' d='M-4 -4l8 8m0 -8l-8 8'/>\n"
     ++ (codes "<path id='edge' class='edge' d='M-7 0h14'/>\n"
-    ++ (codes "<path id='passes' class='walks' d='M-14 -4l5 4l-5 4z'/>\n"
+    ++ (codes "<path id='passes' class='walks' d='M-14 5l5 3.5l-5 3.5z'/>\n"
     ++ (codes "<circle id='came' class='came' r='4'/>\n<circle id='went' class='went' r='3.5'/>\n"
     ++ (codes "<g id='catatonic'><rect class='catatonic' x='631' y='3' width='376' height='20'/>"
     ++ (codes "<rect class='paper' x='724' y='5' width='192' height='16'/></g>\n"
@@ -82,7 +82,7 @@ look_part_5 =
     ++ (codes "<text class='s' x='694' y='10'>released, fail</text>\n"
     ++ (codes "<rect class='catatonic' x='788' width='24' height='12'/>\n"
     ++ (codes "<text class='s' x='818' y='10'>catatonic mode</text>\n"
-    ++ (codes "<use href='#passes' x='938' y='6'/>\n"
+    ++ (codes "<use href='#passes' x='938' y='-3'/>\n"
     ++ (codes "<text class='s' x='936' y='10'>passes a trigger</text>\n"
     ++ (codes "<path class='asks' d='M1046 6H1070'/>\n"
     ++ codes "<text class='s' x='1076' y='10'>waits on a token</text>\n"))))))))))))

@@ -12,13 +12,9 @@ use am_world::{Event, Obs};
 #[derive(Clone, Copy)]
 pub enum Look {
     /// An open token of a mount that is missing in this file system.
-    Missing {
-        fs: FsId,
-    },
+    Missing { fs: FsId },
     /// An open token of an expiry in this file system.
-    Expire {
-        fs: FsId,
-    },
+    Expire { fs: FsId },
     /// A token that isn't open any more: there is no bar.
     Ended,
     /// A walker that waits.

@@ -1,6 +1,6 @@
 //! The picture of a script is written.
 
-ghost use Rattle.std.specs.Prelude.{◌≡◌, ◌+◌, ◌-◌, ◌<◌, ◌≤◌, ◌^◌, length, drop, option_copied, None, IfOk, IfErr, OnOk, OnErr};
+ghost use Rattle.std.specs.Prelude.{◌≡◌, ◌+◌, ◌-◌, ◌<◌, ◌≤◌, ◌^◌, ℕ, length, drop, option_copied, None, IfOk, IfErr, OnOk, OnErr};
 ghost use Rattle.am_script.specs.Lines.{lines_in, size_in};
 ghost use Rattle.am_script.specs.Outputs.{Puts};
 ghost use Rattle.am_script.specs.Script.{events_from};
@@ -371,7 +371,15 @@ fn put_row_in<W: Write>(
     ensures { Puts output.old output.new (row_in part.now said.now.number lasting.now event.now seen.now (sides_said said.now)) (W.contents writer.old) (W.contents writer.new) }
 {
     if part.is_drawn(said.number) {
-        put_row(output, part.row_y(said.number), lasting, said, event, seen, writer);
+        put_row(
+            output,
+            part.row_y(said.number),
+            lasting,
+            said,
+            event,
+            seen,
+            writer,
+        );
     }
 }
 

@@ -56,7 +56,7 @@ M508 0v26M552 0v26M596 0v26M884 0v26'/>\
 <path id='cross' class='cross' d='M-7 -7l14 14m0 -14l-14 14'/>\n\
 <path id='failed' class='cross' d='M-4 -4l8 8m0 -8l-8 8'/>\n\
 <path id='edge' class='edge' d='M-7 0h14'/>\n\
-<path id='passes' class='walks' d='M-14 -4l5 4l-5 4z'/>\n\
+<path id='passes' class='walks' d='M-14 5l5 3.5l-5 3.5z'/>\n\
 <circle id='came' class='came' r='4'/>\n<circle id='went' class='went' r='3.5'/>\n\
 <g id='catatonic'><rect class='catatonic' x='631' y='3' width='376' height='20'/>\
 <rect class='paper' x='724' y='5' width='192' height='16'/></g>\n\
@@ -73,7 +73,7 @@ M508 0v26M552 0v26M596 0v26M884 0v26'/>\
 <text class='s' x='694' y='10'>released, fail</text>\n\
 <rect class='catatonic' x='788' width='24' height='12'/>\n\
 <text class='s' x='818' y='10'>catatonic mode</text>\n\
-<use href='#passes' x='938' y='6'/>\n\
+<use href='#passes' x='938' y='-3'/>\n\
 <text class='s' x='936' y='10'>passes a trigger</text>\n\
 <path class='asks' d='M1046 6H1070'/>\n\
 <text class='s' x='1076' y='10'>waits on a token</text>\n\

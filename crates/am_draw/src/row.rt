@@ -84,16 +84,40 @@ fn put_actor<W: Write>(output: &mut Output, lasting: &Lasting, event: &Event, wr
 {
     match event {
         Event::Walk { walker, .. } => {
-            put_walker(output, b"walks", walker_x(lasting, *walker), *walker, writer)
+            put_walker(
+                output,
+                b"walks",
+                walker_x(lasting, *walker),
+                *walker,
+                writer,
+            )
         }
         Event::Resume { walker, .. } => {
-            put_walker(output, b"walks", walker_x(lasting, *walker), *walker, writer)
+            put_walker(
+                output,
+                b"walks",
+                walker_x(lasting, *walker),
+                *walker,
+                writer,
+            )
         }
         Event::Leave { walker } => {
-            put_walker(output, b"walks", walker_x(lasting, *walker), *walker, writer)
+            put_walker(
+                output,
+                b"walks",
+                walker_x(lasting, *walker),
+                *walker,
+                writer,
+            )
         }
         Event::Expire { walker, .. } => {
-            put_walker(output, b"expires", walker_x(lasting, *walker), *walker, writer)
+            put_walker(
+                output,
+                b"expires",
+                walker_x(lasting, *walker),
+                *walker,
+                writer,
+            )
         }
         Event::Attach { .. } => put_daemon(output, writer),
         Event::Deliver { .. } => put_daemon(output, writer),
@@ -219,13 +243,7 @@ fn put_packet_label<W: Write>(output: &mut Output, x: u64, packet: &Packet, writ
 
 /// Puts out where the bar of a token begins, with its number and the name.
 #[tactic(auto, using(am_script::proofs::Pieces::puts_three))]
-fn put_queued<W: Write>(
-    output: &mut Output,
-    x: u64,
-    token: Token,
-    packet: &Packet,
-    writer: &mut W,
-)
+fn put_queued<W: Write>(output: &mut Output, x: u64, token: Token, packet: &Packet, writer: &mut W)
     requires { x ≤ 806 }
     ensures { Puts output.old output.new (queued_marks x token packet.now) (W.contents writer.old) (W.contents writer.new) }
 {

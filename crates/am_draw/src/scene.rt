@@ -18,11 +18,11 @@ use std::io::Write;
 
 /// What is said of an event: its number, its line, its answer, and whether it was refused.
 #[derive(Drop)]
-pub(crate) struct Said {
-    pub(crate) number: u64,
-    pub(crate) event: Vec<u8>,
-    pub(crate) answer: Vec<u8>,
-    pub(crate) refused: bool,
+pub struct Said {
+    pub number: u64,
+    pub event: Vec<u8>,
+    pub answer: Vec<u8>,
+    pub refused: bool,
 }
 
 /// The text of an event.
@@ -52,6 +52,7 @@ pub(crate) fn say(
     event: &Event,
     answer: &Answer,
 ) -> Result<Said, AllocError>
+    ensures number { IfOk result (λ said. said.number ≡ number) }
     ensures sides { IfOk result (λ said. sides_said said ≡ sides_of number event.now answer.now) }
     ensures refused { IfOk result (λ said. said.refused ≡ is_refused answer.now) }
 {
@@ -123,13 +124,7 @@ fn put_lanes<W: Write>(
 }
 
 #[tactic(auto, using(am_script::proofs::Pieces::puts_none))]
-fn put_lane<W: Write>(
-    output: &mut Output,
-    lane: &Option<Holder>,
-    x: u64,
-    y: u64,
-    writer: &mut W,
-)
+fn put_lane<W: Write>(output: &mut Output, lane: &Option<Holder>, x: u64, y: u64, writer: &mut W)
     ensures { Puts output.old output.new (lane_half lane.now x y) (W.contents writer.old) (W.contents writer.new) }
 {
     if let Some(holder) = lane {
@@ -163,5 +158,12 @@ fn put_labels<W: Write>(output: &mut Output, said: &Said, writer: &mut W)
 {
     put_number_label(output, b"m n", 36, 17, b"", said.number, writer);
     put_words_label(output, b"m", 46, 38, &said.event, writer);
-    put_words_label(output, answer_class(said.refused), 1148, 24, &said.answer, writer);
+    put_words_label(
+        output,
+        answer_class(said.refused),
+        1148,
+        24,
+        &said.answer,
+        writer,
+    );
 }
