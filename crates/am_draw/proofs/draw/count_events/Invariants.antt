@@ -1,0 +1,15 @@
+use Rattle.std.proofs.Common.{◌≤◌, ◌+◌, ◌^◌, option_copied}
+use Rattle.am_script.specs.Lines.{lines_in, size_in}
+use Rattle.am_script.specs.Script.{events_from}
+use Rattle.am_draw.proofs.CountLemmas.{Counting}
+use Rattle.am_draw.proofs.draw.count_events.Given as goal
+
+abbrev pub invariant-loop-found : goal.invariant-loop-found
+invariant-loop-found l = record {
+  counting : Counting (events_from l.broke l.fn.line (lines_in (option_copied l.fn.rest))) (events_from l.broke l.number (lines_in (option_copied l.rest))) l.events;
+  fits : l.number + size_in (option_copied l.rest) ≤ 2 ^ 63;
+  most : l.events + size_in (option_copied l.rest) ≤ 2 ^ 63;
+}
+
+abbrev pub decreases-loop-found : goal.decreases-loop-found
+decreases-loop-found l = size_in (option_copied l.rest)

@@ -1,0 +1,20 @@
+use Rattle.am_script.proofs.Pieces.{puts_three}
+use Rattle.am_draw.proofs.row.put_obs.Goals as goal
+
+pub returns-in-Waits : goal.returns-in-Waits
+returns-in-Waits g c =
+    rw (c.in-Waits.is, ← c.walker_x-from.ensures.x, ← c.token_x-in-Waits.ensures.x) c.put_stroke.ensures
+
+pub returns-in-Recorded : goal.returns-in-Recorded
+returns-in-Recorded g c =
+    rw c.in-Recorded.is
+    (puts_three _ _ _ _ _ _ _ _ _ _ _ c.put_opening.ensures c.put_book.ensures c.put_closing.ensures)
+
+pub returns-in-Reattached : goal.returns-in-Reattached
+returns-in-Reattached g c =
+    rw (c.in-Reattached.is, ← c.attach.view_is) (rw c.from.ensures at c.put_number_label-in-Reattached.ensures)
+
+pub returns-in-Died : goal.returns-in-Died
+returns-in-Died g c =
+    rw c.in-Died.is
+    (puts_three _ _ _ _ _ _ _ _ _ _ _ c.put_opening-in-Died.ensures c.put_word.ensures c.put_closing-in-Died.ensures)

@@ -1,0 +1,11 @@
+use Rattle.std.proofs.Common.{◌≡◌, take}
+use Rattle.am_script.specs.Outputs.{Puts}
+use Rattle.am_draw.specs.Bars.{seen_behind}
+use Rattle.am_draw.specs.Rows.{seen_marks}
+use Rattle.am_draw.proofs.row.put_seen.Given as goal
+
+abbrev pub invariant-loop-obs : goal.invariant-loop-obs
+invariant-loop-obs g l = record {
+  lasts : l.lasting ≡ seen_behind l.before (take l.obs-index l.seen);
+  puts : Puts l.fn.output l.output (seen_marks l.before (take l.obs-index l.seen)) (g.W.Write.contents l.fn.writer) (g.W.Write.contents l.writer);
+}

@@ -1,0 +1,248 @@
+-- How a script is drawn: its run, a row for each event, between a head and a tail.
+use Rattle.std.specs.Prelude.{◌≡◌, ◌⊎◌, ◌<◌, ℕ, ◌+◌, ◌-◌, ◌*◌, ◌==◌, Bool, ◌&&◌, min, nat_lt, nat_le, List, [], ◌∷◌, ◌++◌, length, take, count_by, Option, None, Some, Result, Ok, Err, if◌then◌else◌}
+use Rattle.std.specs.List.{flat_map}
+use Rattle.std.specs.Io.KnownBytes.{Appends, Consumes, IsAtEnd}
+use Rattle.am_machine.specs.State.{State, Opening, opening_of}
+use Rattle.am_machine.specs.declared.answer.Answer.{Answer}
+use Rattle.am_machine.specs.declared.event.Event.{Event}
+use Rattle.am_machine.specs.Machine.{Step}
+use Rattle.am_state.specs.declared.obs.Obs.{Obs}
+use Rattle.am_script.specs.declared.fault.ScriptFault.{ScriptFault}
+use Rattle.am_script.specs.declared.fault.ScriptFaultKind.{ScriptFaultKind}
+use Rattle.am_script.specs.declared.fault.ScriptFaultKind.TheVariants.{NoMemory, WriteFailed}
+use Rattle.am_script.specs.declared.output.Output.{Output}
+use Rattle.am_script.specs.declared.play.Summary.{Summary}
+use Rattle.am_script.specs.Answers.{is_refused}
+use Rattle.am_script.specs.Lines.{lines_of}
+use Rattle.am_script.specs.Outputs.{Owed, owed_by, Stands, PutsOut}
+use Rattle.am_script.specs.Played.{NothingPlayed}
+use Rattle.am_script.specs.Read.{WasRead, played}
+use Rattle.am_script.specs.Script.{Numbered, Told, Script, script_of}
+use Rattle.am_script.specs.Fault.{fault_at}
+use Rattle.am_script.specs.Turns.{IsWhole, IsShort}
+use Rattle.am_views.specs.Traced.{Shown, asked_in, answers_in, SeenRun, HeadStops}
+use Rattle.am_draw.specs.declared.bars.Lasting.{Lasting}
+use Rattle.am_draw.specs.declared.draw.Part.{Part}
+use Rattle.am_draw.specs.Bars.{behind, nothing_lasts}
+use Rattle.am_draw.specs.Head.{head_text, tail_text}
+use Rattle.am_draw.specs.Rows.{row_text, sides_of}
+
+-- ---- which events are drawn
+
+-- Of so many events those from one number to another are drawn, but at most a million. Numbers of
+-- events begin with 1.
+abbrev pub part_of : ℕ → ℕ → ℕ → Part
+part_of first last events = record {
+  skipped = first - 1;
+  rows = min (min last events - (first - 1)) 1000000;
+  events = events;
+}
+
+abbrev pub is_drawn : Part → ℕ → Bool
+is_drawn part number = nat_lt part.skipped number && nat_le (number - part.skipped) part.rows
+
+-- the top of the event's row
+abbrev pub row_y : Part → ℕ → ℕ
+row_y part number = 118 + 26 * (number - part.skipped - 1)
+
+-- ---- what is drawn
+
+-- the row of the event with this number, if it is drawn
+abbrev pub row_in : Part → ℕ → Lasting → Event → List Obs → List ℕ → List ℕ
+row_in part number lasting event seen sides =
+    if is_drawn part number then row_text (row_y part number) lasting event seen sides else []
+
+-- the head stands before the first event
+abbrev pub head_in : Part → ℕ → List ℕ
+head_in part number = if number == 1 then head_text part.rows part.events else []
+
+abbrev pub drawn_for : Part → ℕ → Lasting → Event → List Obs → List ℕ → List ℕ
+drawn_for part number lasting event seen sides =
+    head_in part number ++ row_in part number lasting event seen sides
+
+-- what is drawn for a line of the script
+pub record Piece : Type 0 where
+  pub line : ℕ
+  pub bytes : List ℕ
+
+abbrev pub event_piece : Part → ℕ → Lasting → Shown → Piece
+event_piece part number lasting row = record {
+  line = row.asked.line;
+  bytes =
+      drawn_for part number lasting row.asked.event row.seen
+      (sides_of number row.asked.event row.answer);
+}
+
+-- events from this number on, before which this lasts
+abbrev pub event_pieces : Part → ℕ → Lasting → List Shown → List Piece
+event_pieces part number lasting [] = []
+event_pieces part number lasting (row ∷ rows) =
+    event_piece part number lasting row
+    ∷ event_pieces part (number + 1) (behind lasting row.asked.event row.seen) rows
+
+-- the tail stands behind the last event, and is of its line
+abbrev pub tail_pieces : List Shown → List Piece
+tail_pieces [] = []
+tail_pieces (row ∷ []) = record { line = row.asked.line; bytes = tail_text } ∷ []
+tail_pieces (row ∷ next ∷ rows) = tail_pieces (next ∷ rows)
+
+-- all that is drawn of a run of these events
+abbrev pub pieces_of : Part → List Shown → List Piece
+pieces_of part rows = event_pieces part 1 nothing_lasts rows ++ tail_pieces rows
+
+abbrev pub bytes_in : List Piece → List ℕ
+bytes_in pieces = flat_map (λ piece. piece.bytes) pieces
+
+abbrev pub picture : Part → List Shown → List ℕ
+picture part rows = bytes_in (pieces_of part rows)
+
+-- ---- a script with a world
+
+-- what is drawn of these events, from one number to another
+abbrev pub part_in : ℕ → ℕ → Told → Part
+part_in first last told = part_of first last (length told.events)
+
+-- all events come, and nothing but their picture is written
+pub record AllDrawn (first last : ℕ) (start : State) (told : Told) (old new : Option (List ℕ)) (summary : Summary) : Type 0 where
+  pub no_fault : told.fault ≡ None
+  pub rows : List Shown
+  pub asked : told.events ≡ asked_in rows
+  pub ends : State
+  pub run : SeenRun start rows ends
+  pub written : Appends old new (picture (part_in first last told) rows)
+  pub lines : summary.lines ≡ length rows
+  pub refused : summary.refused ≡ count_by is_refused (answers_in rows)
+
+-- the script's own fault comes behind its events, whose picture is written
+pub record DrawnToFault (first last : ℕ) (start : State) (told : Told) (old new : Option (List ℕ)) (fault : ScriptFault) : Type 0 where
+  pub found : told.fault ≡ Some fault
+  pub rows : List Shown
+  pub asked : told.events ≡ asked_in rows
+  pub ends : State
+  pub run : SeenRun start rows ends
+  pub written : Appends old new (picture (part_in first last told) rows)
+
+-- memory runs out for an event; the picture of those before it is written
+pub record DrawnToRoom (first last : ℕ) (start : State) (told : Told) (old new : Option (List ℕ)) (fault : ScriptFault) : Type 0 where
+  pub kind : fault.kind ≡ NoMemory
+  pub rows : List Shown
+  pub here : Numbered
+  pub others : List Numbered
+  pub parted : told.events ≡ asked_in rows ++ here ∷ others
+  pub line : fault.line ≡ here.line
+  pub ends : State
+  pub run : SeenRun start rows ends
+  pub written : Appends old new (picture (part_in first last told) rows)
+
+-- what is drawn for a line isn't taken whole, but for a beginning; all before it is written
+pub record DrawnToLoss (first last : ℕ) (start : State) (told : Told) (old new : Option (List ℕ)) (fault : ScriptFault) : Type 0 where
+  pub loss : fault.kind ≡ WriteFailed
+  pub rows : List Shown
+  pub left : List Numbered
+  pub asked : told.events ≡ asked_in rows ++ left
+  pub ends : State
+  pub run : SeenRun start rows ends
+  pub done : List Piece
+  pub here : Piece
+  pub others : List Piece
+  pub parted : pieces_of (part_in first last told) rows ≡ done ++ here ∷ others
+  pub line : fault.line ≡ here.line
+  pub taken : ℕ
+  pub short : taken < length here.bytes
+  pub written : Appends old new (bytes_in done ++ take taken here.bytes)
+
+-- it is told at the line of one of the events
+pub record IsAtEvent (told : Told) (fault : ScriptFault) : Type 0 where
+  pub done : List Numbered
+  pub here : Numbered
+  pub others : List Numbered
+  pub parted : told.events ≡ done ++ here ∷ others
+  pub line : fault.line ≡ here.line
+
+-- memory runs out while the events are counted, or while the script was read
+pub record NotCounted (told : Told) (fault : ScriptFault) : Type 0 where
+  pub kind : fault.kind ≡ NoMemory
+  pub place : (told.fault ≡ Some fault) ⊎ IsAtEvent told fault
+
+-- then nothing is written
+pub record DrawnToCount (told : Told) (old new : Option (List ℕ)) (fault : ScriptFault) : Type 0 where
+  pub not_counted : NotCounted told fault
+  pub written : Appends old new []
+
+abbrev pub DrawStops : ℕ → ℕ → State → Told → Option (List ℕ) → Option (List ℕ) → ScriptFault → Type 0
+DrawStops first last start told old new fault =
+    DrawnToFault first last start told old new fault
+    ⊎ (DrawnToRoom first last start told old new fault
+    ⊎ (DrawnToLoss first last start told old new fault ⊎ DrawnToCount told old new fault))
+
+-- how a picture ends
+abbrev pub DrawEnds : ℕ → ℕ → State → Told → Option (List ℕ) → Option (List ℕ) → Result Summary ScriptFault → Type 0
+DrawEnds first last start told old new (Ok summary) = AllDrawn first last start told old new summary
+DrawEnds first last start told old new (Err fault) = DrawStops first last start told old new fault
+
+-- ---- any script
+
+abbrev pub DrawnFrom : ℕ → ℕ → Option Opening → Told → Option (List ℕ) → Option (List ℕ) → Summary → Type 0
+DrawnFrom first last None told old new summary = NothingPlayed told old new summary
+DrawnFrom first last (Some opening) told old new summary =
+    AllDrawn first last (opening_of opening) told old new summary
+
+-- the script has a world, and its picture stops
+pub record EventsStop (first last : ℕ) (script : Script) (old new : Option (List ℕ)) (fault : ScriptFault) : Type 0 where
+  pub opening : Opening
+  pub begins : script.opening ≡ Some opening
+  pub stops : DrawStops first last (opening_of opening) script.told old new fault
+
+-- ---- with a reader
+
+-- the input was read to its end, and the picture of the script that it is is written
+pub record DrawsInput (first last : ℕ) (input rest old new : Option (List ℕ)) (summary : Summary) : Type 0 where
+  pub text : List ℕ
+  pub read : Consumes input rest text
+  pub ended : IsAtEnd rest
+  pub whole : DrawnFrom first last (script_of None text).opening (script_of None text).told old new summary
+
+-- what was read, to its end or not, isn't drawn to its end
+pub record StopsDrawing (first last : ℕ) (input rest old new : Option (List ℕ)) (fault : ScriptFault) : Type 0 where
+  pub text : List ℕ
+  pub broke : Option ScriptFaultKind
+  pub read : WasRead input rest text broke
+  pub stopped :
+      HeadStops (length (lines_of (played broke text))) (script_of broke text) old new fault
+      ⊎ EventsStop first last (script_of broke text) old new fault
+
+-- ---- one event
+
+-- the event comes, and what is drawn of it is put out
+pub record IsDrawn (part : Part) (number : ℕ) (s : State) (asked : Numbered) (next : State) (before after : Lasting) (kept keeps : Output) (old new : Option (List ℕ)) (refused : Bool) : Type 0 where
+  pub answer : Answer
+  pub seen : List Obs
+  pub step : Step s asked.event answer seen next
+  pub puts : PutsOut kept keeps (owed_by asked.line (drawn_for part number before asked.event seen (sides_of number asked.event answer))) old new
+  pub line : keeps.line ≡ asked.line
+  pub lasts : after ≡ behind before asked.event seen
+  pub test : refused ≡ is_refused answer
+
+-- memory runs out for it, and nothing is put out
+pub record IsUndrawn (line : ℕ) (kept keeps : Output) (old new : Option (List ℕ)) (fault : ScriptFault) : Type 0 where
+  pub told : fault ≡ fault_at line NoMemory
+  pub same : keeps ≡ kept
+  pub written : new ≡ old
+
+-- ---- the end
+
+-- behind so many events stands the tail, if there are any
+abbrev pub tail_behind : ℕ → List ℕ
+tail_behind events = if nat_lt 0 events then tail_text else []
+
+-- the tail is put out, and what is kept goes to the writer
+abbrev pub Finishes : Output → ℕ → Result Summary ScriptFault → Option (List ℕ) → Option (List ℕ) → Result Summary ScriptFault → Type 0
+Finishes output events ended held holds result =
+    (all : List Owed) → (start : Option (List ℕ)) → Stands output all start held
+    → IsWhole ended result (all ++ owed_by output.line (tail_behind events)) start holds
+    ⊎ IsShort result (all ++ owed_by output.line (tail_behind events)) start holds
+
+-- where counting ends at a fault, it counts the events before it, unless memory ran out
+abbrev pub counted_to : ℕ → ScriptFaultKind → ScriptFault → Result ℕ ScriptFault
+counted_to events NoMemory fault = Err fault
+counted_to events kind fault = Ok events

@@ -1,0 +1,198 @@
+-- The row of an event.
+use Rattle.std.specs.Prelude.{ℕ, ◌+◌, ◌-◌, Bool, nat_lt, List, [], ◌∷◌, ◌++◌, length, take, codes, decimal, Option, None, Some, if◌then◌else◌}
+use Rattle.am_names.specs.declared.trigger.Status.{Status}
+use Rattle.am_names.specs.declared.trigger.Status.TheVariants.{Ready, Fail}
+use Rattle.am_wire.specs.declared.kind.Kind.{Kind}
+use Rattle.am_wire.specs.declared.kind.Kind.TheVariants.{MissingIndirect, ExpireIndirect, MissingDirect, ExpireDirect}
+use Rattle.am_wire.specs.declared.packet.Packet.{Packet}
+use Rattle.am_state.specs.declared.obs.Obs.{Obs}
+use Rattle.am_state.specs.declared.obs.Obs.TheVariants as seen
+use Rattle.am_state.specs.declared.daemon_row.Record.{Record}
+use Rattle.am_machine.specs.declared.answer.Answer.{Answer}
+use Rattle.am_machine.specs.declared.event.Event.{Event}
+use Rattle.am_machine.specs.declared.event.Event.TheVariants as events
+use Rattle.am_script.specs.Answers.{answer_text, entry_text, mounts_text, is_refused}
+use Rattle.am_views.specs.EventText.{event_text}
+use Rattle.am_draw.specs.declared.bars.Look.{Look}
+use Rattle.am_draw.specs.declared.bars.Look.TheVariants.{Missing, Expire, Ended, Waits, Inside, Idle}
+use Rattle.am_draw.specs.declared.bars.Holder.{Holder}
+use Rattle.am_draw.specs.declared.bars.Lasting.{Lasting}
+use Rattle.am_draw.specs.declared.marks.Lanes.{Lanes}
+use Rattle.am_draw.specs.declared.marks.Lanes.TheVariants.{OfTokens, OfWalkers}
+use Rattle.am_draw.specs.Bars.{lane_of, changed, acted, behind}
+use Rattle.am_draw.specs.Marks.{stamp, stroke, label, lane_x}
+use Rattle.am_draw.specs.Words.{words}
+
+-- ---- where things stand
+
+abbrev pub token_x : Lasting → ℕ → ℕ
+token_x lasting token = lane_x OfTokens (lane_of token lasting.tokens)
+
+abbrev pub walker_x : Lasting → ℕ → ℕ
+walker_x lasting walker = lane_x OfWalkers (lane_of walker lasting.walkers)
+
+-- ---- bars
+
+-- half a row of the bar of one who looks so; one with no bar has none
+abbrev pub look_half : Look → ℕ → ℕ → List ℕ
+look_half (Missing fs) x y = stamp (codes "missing") x y
+look_half (Expire fs) x y = stamp (codes "expire") x y
+look_half Ended x y = []
+look_half Waits x y = stamp (codes "waits") x y
+look_half Inside x y = stamp (codes "inside") x y
+look_half Idle x y = []
+
+abbrev pub lane_half : Option Holder → ℕ → ℕ → List ℕ
+lane_half None x y = []
+lane_half (Some holder) x y = look_half holder.look x y
+
+-- half a row of the bars in these lanes, the first of which has this number
+abbrev pub lanes_half : Lanes → ℕ → ℕ → List (Option Holder) → List ℕ
+lanes_half lanes y number [] = []
+lanes_half lanes y number (lane ∷ others) =
+    lane_half lane (lane_x lanes number) y ++ lanes_half lanes y (number + 1) others
+
+abbrev pub half : ℕ → Lasting → List ℕ
+half y lasting = lanes_half OfTokens y 0 lasting.tokens ++ lanes_half OfWalkers y 0 lasting.walkers
+
+-- the bars reach from the middle of a row to the middle of the next
+abbrev pub bars : Lasting → Lasting → List ℕ
+bars before behind = half 0 before ++ half 13 behind
+
+-- ---- what stands at the sides
+
+abbrev pub answer_class : Bool → List ℕ
+answer_class refused = if refused then codes "m refused" else codes "m"
+
+-- the number of the event and its line, and at the right its answer
+abbrev pub labels : ℕ → List ℕ → List ℕ → Bool → List ℕ
+labels number event answer refused =
+    label (codes "m n") 36 17 (decimal number)
+    ++ (label (codes "m") 46 17 (words 38 event)
+    ++ label (answer_class refused) 1148 17 (words 24 answer))
+
+-- ---- who acts
+
+-- the mark of a walker, with its number
+abbrev pub walker_mark : List ℕ → ℕ → ℕ → List ℕ
+walker_mark symbol x walker = stamp symbol x 13 ++ label (codes "s n") (x - 8) 17 (decimal walker)
+
+abbrev pub administrator_mark : List ℕ
+administrator_mark = stamp (codes "administrator") 1010 13
+
+abbrev pub daemon_mark : List ℕ
+daemon_mark = stamp (codes "daemon") 884 13
+
+abbrev pub actor_marks : Lasting → Event → List ℕ
+actor_marks lasting (events.Walk walker ns path now pipe) =
+    walker_mark (codes "walks") (walker_x lasting walker) walker
+actor_marks lasting (events.Resume walker now pipe) =
+    walker_mark (codes "walks") (walker_x lasting walker) walker
+actor_marks lasting (events.Leave walker) =
+    walker_mark (codes "walks") (walker_x lasting walker) walker
+actor_marks lasting (events.Expire walker fs now immediate pipe) =
+    walker_mark (codes "expires") (walker_x lasting walker) walker
+actor_marks lasting (events.Attach path) = daemon_mark
+actor_marks lasting (events.Deliver token bytes) = daemon_mark
+actor_marks lasting (events.Act job ok) = daemon_mark
+actor_marks lasting (events.Repeat attach token status) = daemon_mark
+actor_marks lasting (events.Catatonic attach fs) = daemon_mark
+actor_marks lasting (events.Timeout attach fs timeout) = daemon_mark
+actor_marks lasting (events.Reattach fs) = daemon_mark
+actor_marks lasting events.Die = stamp (codes "cross") 884 13
+actor_marks lasting (events.Kind ns path) = []
+actor_marks lasting (events.Record trigger) = []
+actor_marks lasting event = administrator_mark
+
+-- ---- what is seen
+
+-- an expiry is told by the word too
+abbrev pub kind_words : Kind → List ℕ
+kind_words MissingIndirect = []
+kind_words ExpireIndirect = codes "expire "
+kind_words MissingDirect = []
+kind_words ExpireDirect = codes "expire "
+
+abbrev pub packet_words : Packet → List ℕ
+packet_words packet = kind_words packet.kind ++ words 16 packet.name
+
+-- a token whose packet is queued: its bar begins, with its number and the name
+abbrev pub queued_marks : ℕ → ℕ → Packet → List ℕ
+queued_marks x token packet =
+    stamp (codes "edge") x 13
+    ++ (label (codes "k") x 24 (decimal token) ++ label (codes "s") (x + 11) 24 (packet_words packet))
+
+abbrev pub answered_symbol : Status → List ℕ
+answered_symbol Ready = codes "edge"
+answered_symbol Fail = codes "failed"
+
+abbrev pub released_class : Status → List ℕ
+released_class Ready = codes "ready"
+released_class Fail = codes "fail"
+
+abbrev pub catatonic_words : ℕ → List ℕ
+catatonic_words fs = codes "file system " ++ decimal fs ++ codes " is catatonic"
+
+-- the first four numbers; three dots tell of others
+abbrev pub more_dots : Bool → List ℕ
+more_dots more = if more then codes " ..." else []
+
+abbrev pub mounts_words : List ℕ → List ℕ
+mounts_words mounts = mounts_text (take 4 mounts) ++ more_dots (nat_lt 4 (length mounts))
+
+abbrev pub mounts_marks : List ℕ → List ℕ → List ℕ
+mounts_marks symbol mounts =
+    stamp symbol 1038 13 ++ label (codes "m") 1047 17 (mounts_words mounts)
+
+-- what is drawn of an observation, where this lasts behind it
+abbrev pub obs_marks : Lasting → Obs → List ℕ
+obs_marks lasting (seen.Queued token attach packet) =
+    queued_marks (token_x lasting token) token packet
+obs_marks lasting (seen.Waits walker token) =
+    stroke (codes "asks") (walker_x lasting walker + 6) (token_x lasting token - 7)
+obs_marks lasting (seen.Answered token status) =
+    stamp (answered_symbol status) (token_x lasting token) 13
+obs_marks lasting (seen.Catatonic fs) =
+    stamp (codes "catatonic") 0 0 ++ label (codes "h c") 820 17 (catatonic_words fs)
+obs_marks lasting (seen.Released walker token status) =
+    stroke (released_class status) (token_x lasting token - 7) (walker_x lasting walker + 6)
+obs_marks lasting (seen.Passed walker trigger) =
+    stamp (codes "passes") (walker_x lasting walker) 13
+obs_marks lasting (seen.Entered walker mount) =
+    label (codes "s") (walker_x lasting walker + 8) 17 (codes "in " ++ decimal mount)
+obs_marks lasting (seen.Left walker mount) = []
+obs_marks lasting (seen.Mounted mounts) = mounts_marks (codes "came") mounts
+obs_marks lasting (seen.Unmounted mounts) = mounts_marks (codes "went") mounts
+obs_marks lasting (seen.Delivered token attach packet) =
+    stroke (codes "packet") (token_x lasting token + 7) 878
+obs_marks lasting (seen.Recorded trigger entry) =
+    label (codes "s") 895 17 (codes "book: " ++ entry_text entry)
+obs_marks lasting (seen.Reattached fs attach) =
+    label (codes "s") 895 17 (codes "attached again, by " ++ decimal attach)
+obs_marks lasting seen.Died = label (codes "h") 897 17 (codes "the daemon dies")
+
+abbrev pub seen_marks : Lasting → List Obs → List ℕ
+seen_marks lasting [] = []
+seen_marks lasting (obs ∷ seen) =
+    obs_marks (changed lasting obs) obs ++ seen_marks (changed lasting obs) seen
+
+-- ---- the row
+
+abbrev pub row_opening : ℕ → List ℕ
+row_opening y = codes "<g transform='translate(0 " ++ decimal y ++ codes ")'>\n"
+
+-- what stands behind the marks: bars, and what is said at the sides
+abbrev pub scene : ℕ → Lasting → Lasting → List ℕ → List ℕ
+scene y before behind sides = row_opening y ++ (bars before behind ++ sides)
+
+abbrev pub marks : Lasting → Event → List Obs → List ℕ
+marks lasting event seen = actor_marks lasting event ++ (seen_marks lasting seen ++ codes "</g>\n")
+
+-- the row whose top is at y, of an event before which this lasts
+abbrev pub row_text : ℕ → Lasting → Event → List Obs → List ℕ → List ℕ
+row_text y lasting event seen sides =
+    scene y lasting (behind lasting event seen) sides ++ marks (acted lasting event) event seen
+
+abbrev pub sides_of : ℕ → Event → Answer → List ℕ
+sides_of number event answer =
+    labels number (event_text event) (answer_text answer) (is_refused answer)

@@ -1,0 +1,140 @@
+//! The marks of a picture, as elements of SVG.
+
+ghost use Rattle.std.specs.Prelude.{◌≡◌, ◌≤◌, ◌++◌, codes, decimal};
+ghost use Rattle.am_script.specs.Outputs.{Puts};
+ghost use Rattle.am_draw.specs.Marks.{at_text, stamp, span_text, stroke, opening, label, lane_x};
+ghost use Rattle.am_draw.specs.Words.{words};
+
+use crate::words::put_words;
+use am_script::answer_line::{put_number, put_word};
+use am_script::output::Output;
+use std::io::Write;
+
+/// Lanes of tokens, or of walkers.
+#[derive(Clone, Copy)]
+pub enum Lanes {
+    OfTokens,
+    OfWalkers,
+}
+
+/// The middle of a lane, in pixels from the left.
+pub(crate) fn lane_x(lanes: Lanes, lane: usize) -> u64
+    requires { lane ≤ 8 }
+    ensures x { result ≡ lane_x lanes lane }
+    ensures left { 332 ≤ result }
+    ensures right { result ≤ 806 }
+{
+    match lanes {
+        Lanes::OfTokens => 646 + 20 * lane as u64,
+        Lanes::OfWalkers => 332 + 44 * lane as u64,
+    }
+}
+
+#[tactic(auto, using(am_script::proofs::Pieces::puts_two))]
+fn put_at<W: Write>(output: &mut Output, x: u64, y: u64, writer: &mut W)
+    ensures { Puts output.old output.new (at_text x y) (W.contents writer.old) (W.contents writer.new) }
+{
+    put_number(output, b"' x='", x, writer);
+    put_number(output, b"' y='", y, writer);
+}
+
+/// Puts out a symbol at this place.
+#[tactic(auto, using(am_views::proofs::FourPieces::puts_four))]
+pub(crate) fn put_stamp<W: Write>(
+    output: &mut Output,
+    symbol: &[u8],
+    x: u64,
+    y: u64,
+    writer: &mut W,
+)
+    ensures { Puts output.old output.new (stamp symbol.now x y) (W.contents writer.old) (W.contents writer.new) }
+{
+    put_word(output, b"<use href='#", writer);
+    put_word(output, symbol, writer);
+    put_at(output, x, y, writer);
+    put_word(output, b"'/>\n", writer);
+}
+
+#[tactic(auto, using(am_script::proofs::Pieces::puts_two))]
+fn put_span<W: Write>(output: &mut Output, from: u64, to: u64, writer: &mut W)
+    ensures { Puts output.old output.new (span_text from to) (W.contents writer.old) (W.contents writer.new) }
+{
+    put_number(output, b"' d='M", from, writer);
+    put_number(output, b" 13H", to, writer);
+}
+
+/// Puts out a line of this class through the middle of a row.
+#[tactic(auto, using(am_views::proofs::FourPieces::puts_four))]
+pub(crate) fn put_stroke<W: Write>(
+    output: &mut Output,
+    class: &[u8],
+    from: u64,
+    to: u64,
+    writer: &mut W,
+)
+    ensures { Puts output.old output.new (stroke class.now from to) (W.contents writer.old) (W.contents writer.new) }
+{
+    put_word(output, b"<path class='", writer);
+    put_word(output, class, writer);
+    put_span(output, from, to, writer);
+    put_word(output, b"'/>\n", writer);
+}
+
+/// Puts out what stands before a text of this class.
+#[tactic(auto, using(am_views::proofs::FourPieces::puts_four))]
+pub(crate) fn put_opening<W: Write>(
+    output: &mut Output,
+    class: &[u8],
+    x: u64,
+    y: u64,
+    writer: &mut W,
+)
+    ensures { Puts output.old output.new (opening class.now x y) (W.contents writer.old) (W.contents writer.new) }
+{
+    put_word(output, b"<text class='", writer);
+    put_word(output, class, writer);
+    put_at(output, x, y, writer);
+    put_word(output, b"'>", writer);
+}
+
+/// Puts out what stands behind a text.
+pub(crate) fn put_closing<W: Write>(output: &mut Output, writer: &mut W)
+    ensures { Puts output.old output.new (codes "</text>\n") (W.contents writer.old) (W.contents writer.new) }
+{
+    put_word(output, b"</text>\n", writer);
+}
+
+/// Puts out a text of this class that is a word and a number.
+#[tactic(auto, using(am_script::proofs::Pieces::puts_three))]
+pub(crate) fn put_number_label<W: Write>(
+    output: &mut Output,
+    class: &[u8],
+    x: u64,
+    y: u64,
+    word: &[u8],
+    number: u64,
+    writer: &mut W,
+)
+    ensures { Puts output.old output.new (label class.now x y (word.now ++ decimal number)) (W.contents writer.old) (W.contents writer.new) }
+{
+    put_opening(output, class, x, y, writer);
+    put_number(output, word, number, writer);
+    put_closing(output, writer);
+}
+
+/// Puts out a text of this class, cut behind so many bytes.
+#[tactic(auto, using(am_script::proofs::Pieces::puts_three))]
+pub(crate) fn put_words_label<W: Write>(
+    output: &mut Output,
+    class: &[u8],
+    x: u64,
+    most: usize,
+    bytes: &[u8],
+    writer: &mut W,
+)
+    ensures { Puts output.old output.new (label class.now x 17 (words most bytes.now)) (W.contents writer.old) (W.contents writer.new) }
+{
+    put_opening(output, class, x, 17, writer);
+    put_words(output, most, bytes, writer);
+    put_closing(output, writer);
+}
