@@ -7,7 +7,6 @@ use Rattle.am_wire.specs.declared.kind.Kind.TheVariants.{MissingIndirect, Expire
 use Rattle.am_wire.specs.declared.packet.Packet.{Packet}
 use Rattle.am_state.specs.declared.obs.Obs.{Obs}
 use Rattle.am_state.specs.declared.obs.Obs.TheVariants as seen
-use Rattle.am_state.specs.declared.daemon_row.Record.{Record}
 use Rattle.am_machine.specs.declared.answer.Answer.{Answer}
 use Rattle.am_machine.specs.declared.event.Event.{Event}
 use Rattle.am_machine.specs.declared.event.Event.TheVariants as events
