@@ -119,7 +119,8 @@ packet_words packet = kind_words packet.kind ++ words 16 packet.name
 abbrev pub queued_marks : ℕ → ℕ → Packet → List ℕ
 queued_marks x token packet =
     stamp (codes "edge") x 13
-    ++ (label (codes "k") x 24 (decimal token) ++ label (codes "s") (x + 11) 24 (packet_words packet))
+    ++ (label (codes "k") x 24 (decimal token)
+    ++ label (codes "s") (x + 11) 24 (packet_words packet))
 
 abbrev pub answered_symbol : Status → List ℕ
 answered_symbol Ready = codes "edge"
