@@ -14,7 +14,7 @@ show:
 
 # plays a script, and writes the picture of what happened
 draw:
-	@tools/draw.sh "$$SCRIPT"
+	@program=$$(tools/program.sh) && exec "$$program" draw < "$$SCRIPT"
 
 # walkers, workers and an expirer as threads over one world
 threads:

@@ -60,16 +60,11 @@ for text in tree.parse(sys.argv[1]).iter("{http://www.w3.org/2000/svg}text"):
 ' "$1"
 }
 
-# Draws the trace that was played last.
-draw() {
-    tools/draw.py < "$room/trace" > "$room/picture" 2> "$room/said"
-}
-
-# The picture of the trace that was played last is the expected one, and shows its events.
+# The picture of a script is the expected one, and shows the events of the trace that was played last.
 expect_picture() {
-    draw
-    expect "$1, its picture" "$room/picture" "$2"
-    shown_in "$room/picture" > "$room/shown" 2> "$room/said"
+    play draw "$2"
+    expect "$1, its picture" "$room/draw" "$3"
+    shown_in "$room/draw" > "$room/shown" 2> "$room/said"
     sed -n 's/^[0-9][0-9]*: //p' "$room/trace" > "$room/events"
     expect "$1, its picture read as XML" "$room/shown" "$room/events"
 }
@@ -82,7 +77,7 @@ for script in examples/*.script; do
     play trace "$script"
     expect "example $name, its trace" "$room/trace" "examples/$name.trace"
     expect_read_back "example $name" "$script"
-    expect_picture "example $name" "examples/$name.svg"
+    expect_picture "example $name" "$script" "examples/$name.svg"
 done
 
 # Names of 255 bytes, with a backslash and quotes, and with bytes that aren't UTF-8.
@@ -96,10 +91,10 @@ long=$(printf '%0255d' 0)
 } > "$room/hostile.script"
 play trace "$room/hostile.script"
 expect_read_back "hostile names" "$room/hostile.script"
-draw
-shown_in "$room/picture" > "$room/shown" 2>> "$room/said"
+play draw "$room/hostile.script"
+shown_in "$room/draw" > "$room/shown" 2>> "$room/said"
 cat > "$room/expected" << 'END'
-mount 0 /000000000000000000000000…
+mount 0 /00000000000000000000000000000...
 mount 0 /<&>"'
 mount 0 /\xff\x80\x01
 mount 0 /a\x5c040b

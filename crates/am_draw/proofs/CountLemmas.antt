@@ -1,10 +1,10 @@
 -- The events of a script are counted.
-use Rattle.std.proofs.Common.{◌≡◌, ◌≢◌, ◌⊎◌, ℕ, ◌+◌, List, [], ◌∷◌, ◌++◌, length, Option, Some, None, Result, Ok, Err, IfOk, IfErr, refl, sym, ap, ◌∙◌, subst, inl, inr, append_assoc, append-nil, arith}
+use Rattle.std.proofs.Common.{◌≡◌, ◌≢◌, ◌⊎◌, ℕ, ◌+◌, List, [], ◌∷◌, ◌++◌, length, Option, Some, Result, Ok, Err, IfOk, IfErr, refl, sym, ap, ◌∙◌, inl, inr, append_assoc, append-nil}
 use Rattle.std.proofs.lemmas.List.{length-append}
 use Rattle.am_script.specs.declared.fault.ScriptFault.{ScriptFault}
 use Rattle.am_script.specs.declared.fault.ScriptFaultKind.{ScriptFaultKind}
 use Rattle.am_script.specs.declared.fault.ScriptFaultKind.TheVariants as kinds
-use Rattle.am_script.specs.Opened.{NoRoomFor, NoNext}
+use Rattle.am_script.specs.Opened.{NoNext}
 use Rattle.am_script.specs.Script.{Numbered, Told, told_by, only_fault}
 use Rattle.am_script.proofs.Going.{behind}
 use Rattle.am_draw.specs.Drawn.{IsAtEvent, NotCounted, counted_to}

@@ -1,8 +1,7 @@
 -- The events so far have come, and they are drawn.
-use Rattle.std.proofs.Common.{◌≡◌, ◌⊎◌, ◌+◌, ℕ, ◌≤◌, Bool, true, false, cond, List, [], ◌∷◌, ◌++◌, length, count_by, Option, Some, None, Result, Ok, Err, refl, sym, ap, ◌∙◌, subst, inl, inr, ⊎_elim, IfOk, IfErr, append_assoc, arith}
+use Rattle.std.proofs.Common.{◌≡◌, ◌⊎◌, ◌+◌, ℕ, Bool, cond, List, [], ◌∷◌, ◌++◌, length, count_by, Option, Some, None, Result, Ok, Err, refl, sym, ap, ◌∙◌, subst, inl, inr, ⊎_elim, IfOk, IfErr, append_assoc, arith}
 use Rattle.std.specs.Io.KnownBytes.{Appends}
-use Rattle.std.proofs.lemmas.List.{map_push, map-append, append-nil, length-append}
-use Rattle.am_machine.specs.declared.event.Event.{Event}
+use Rattle.std.proofs.lemmas.List.{map_push, append-nil, length-append}
 use Rattle.am_machine.specs.State.{State}
 use Rattle.am_machine.specs.Machine.{Step}
 use Rattle.am_script.specs.declared.fault.ScriptFault.{ScriptFault}
@@ -12,7 +11,7 @@ use Rattle.am_script.specs.declared.play.Summary.{Summary}
 use Rattle.am_script.specs.Answers.{is_refused}
 use Rattle.am_script.specs.Fault.{fault_at}
 use Rattle.am_script.specs.Opened.{NoRoomFor, NoNext}
-use Rattle.am_script.specs.Outputs.{Owed, owed_by, bytes_of, IsLost, StandsBy, Stands}
+use Rattle.am_script.specs.Outputs.{Owed, owed_by, bytes_of, IsLost, Stands}
 use Rattle.am_script.specs.Script.{Numbered, Told, told_by, only_fault}
 use Rattle.am_script.specs.Turns.{IsWhole, IsShort}
 use Rattle.am_script.proofs.Going.{behind, count_more, lost_by}
@@ -21,8 +20,8 @@ use Rattle.am_views.specs.Traced.{Shown, asked_in, answers_in, SeenRun, one_more
 use Rattle.am_draw.specs.declared.bars.Lasting.{Lasting}
 use Rattle.am_draw.specs.declared.draw.Part.{Part}
 use Rattle.am_draw.specs.Bars.{nothing_lasts, behind as lasts_behind}
-use Rattle.am_draw.specs.Drawn.{Piece, event_piece, event_pieces, tail_pieces, pieces_of, bytes_in, picture, part_in, tail_behind, AllDrawn, DrawnToLoss, DrawStops, DrawEnds, IsDrawn, IsUndrawn, Finishes}
-use Rattle.am_draw.proofs.LostPieces.{owed_for, owed_more, owed_one, bytes_for, Within, within_some}
+use Rattle.am_draw.specs.Drawn.{event_piece, event_pieces, tail_pieces, pieces_of, picture, part_in, tail_behind, AllDrawn, DrawnToLoss, DrawStops, DrawEnds, IsDrawn, Finishes}
+use Rattle.am_draw.proofs.LostPieces.{owed_for, owed_more, owed_one, bytes_for, within_some}
 use Rattle.am_draw.proofs.PieceLemmas.{lasting_behind, lasting_push, pieces_push, EndsAt, ends_push, tail_owed}
 
 -- of all events these are left, and those before have come; what is drawn of them is put out

@@ -1,5 +1,5 @@
 -- What a step adds to the trace is what is drawn of its event.
-use Rattle.std.proofs.Common.{◌≡◌, ℕ, Bool, List, ◌++◌, length, drop, Option, Result, sym, ap, ◌∙◌, subst}
+use Rattle.std.proofs.Common.{◌≡◌, ℕ, Bool, List, ◌++◌, length, drop, Option, Result, ap, ◌∙◌, subst}
 use Rattle.std.proofs.Math.Seq.{drop-append_seam}
 use Rattle.am_machine.specs.declared.event.Event.{Event}
 use Rattle.am_machine.specs.declared.answer.Answer.{Answer}

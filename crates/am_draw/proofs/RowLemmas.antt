@@ -1,5 +1,5 @@
 -- One lane more, and one observation more, is drawn.
-use Rattle.std.proofs.Common.{◌≡◌, ◌<◌, ◌≤◌, ℕ, ◌+◌, List, [], ◌∷◌, ◌++◌, length, take, get_or, Option, refl, sym, ap, ◌∙◌, append_assoc, append-nil, add-zero, length-take-le, arith}
+use Rattle.std.proofs.Common.{◌≡◌, ◌<◌, ℕ, ◌+◌, List, [], ◌∷◌, ◌++◌, length, take, get_or, Option, sym, ap, ◌∙◌, append_assoc, append-nil, length-take-le, arith}
 use Rattle.std.proofs.lemmas.List.{take_more}
 use Rattle.am_state.specs.declared.obs.Obs.{Obs}
 use Rattle.am_draw.specs.declared.bars.Holder.{Holder}

@@ -15,7 +15,9 @@ size_text rows =
 -- what all rows stand on
 abbrev pub ground : ℕ → List ℕ
 ground rows =
-    codes "<rect fill='url(#rows)' y='118' width='1312' height='" ++ decimal (26 * rows) ++ codes "'/>\n"
+    codes "<rect fill='url(#rows)' y='118' width='1312' height='"
+    ++ decimal (26 * rows)
+    ++ codes "'/>\n"
 
 abbrev pub count_words : ℕ → ℕ → List ℕ
 count_words rows events = decimal rows ++ ((codes " of " ++ decimal events) ++ codes " events")
@@ -23,7 +25,8 @@ count_words rows events = decimal rows ++ ((codes " of " ++ decimal events) ++ c
 -- so many rows of so many events
 abbrev pub head_text : ℕ → ℕ → List ℕ
 head_text rows events =
-    size_text rows ++ (look_text ++ (ground rows ++ label (codes "h") 46 84 (count_words rows events)))
+    size_text rows
+    ++ (look_text ++ (ground rows ++ label (codes "h") 46 84 (count_words rows events)))
 
 abbrev pub tail_text : List ℕ
 tail_text = codes "</svg>\n"

@@ -1,5 +1,5 @@
--- The marks of a picture as elements of SVG (Scalable Vector Graphics 2). A picture grows downwards,
--- and so does y; both count pixels. A row is 26 high, and its middle is at 13.
+-- The marks of a picture as elements of SVG (Scalable Vector Graphics 2). A picture grows
+-- downwards, and so does y; both count pixels. A row is 26 high, and its middle is at 13.
 use Rattle.std.specs.Prelude.{ℕ, ◌+◌, ◌*◌, List, ◌++◌, codes, decimal}
 use Rattle.am_draw.specs.declared.marks.Lanes.{Lanes}
 use Rattle.am_draw.specs.declared.marks.Lanes.TheVariants.{OfTokens, OfWalkers}

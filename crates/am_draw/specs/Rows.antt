@@ -7,7 +7,6 @@ use Rattle.am_wire.specs.declared.kind.Kind.TheVariants.{MissingIndirect, Expire
 use Rattle.am_wire.specs.declared.packet.Packet.{Packet}
 use Rattle.am_state.specs.declared.obs.Obs.{Obs}
 use Rattle.am_state.specs.declared.obs.Obs.TheVariants as seen
-use Rattle.am_state.specs.declared.daemon_row.Record.{Record}
 use Rattle.am_machine.specs.declared.answer.Answer.{Answer}
 use Rattle.am_machine.specs.declared.event.Event.{Event}
 use Rattle.am_machine.specs.declared.event.Event.TheVariants as events
@@ -120,7 +119,8 @@ packet_words packet = kind_words packet.kind ++ words 16 packet.name
 abbrev pub queued_marks : ℕ → ℕ → Packet → List ℕ
 queued_marks x token packet =
     stamp (codes "edge") x 13
-    ++ (label (codes "k") x 24 (decimal token) ++ label (codes "s") (x + 11) 24 (packet_words packet))
+    ++ (label (codes "k") x 24 (decimal token)
+    ++ label (codes "s") (x + 11) 24 (packet_words packet))
 
 abbrev pub answered_symbol : Status → List ℕ
 answered_symbol Ready = codes "edge"

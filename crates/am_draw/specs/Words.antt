@@ -25,4 +25,5 @@ xml bytes = flat_map xml_byte bytes
 
 -- bytes, cut behind so many, which three dots tell
 abbrev pub words : ℕ → List ℕ → List ℕ
-words most bytes = if nat_lt most (length bytes) then xml (take most bytes) ++ codes "..." else xml bytes
+words most bytes =
+    if nat_lt most (length bytes) then xml (take most bytes) ++ codes "..." else xml bytes

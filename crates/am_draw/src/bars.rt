@@ -32,7 +32,7 @@ pub struct Holder {
     pub look: Look,
 }
 
-/// The lanes of tokens and of walkers. The last lane of each is shared by all for whom there is no other.
+/// The lanes of tokens and of walkers. The last one of each is taken over where there is no other.
 #[derive(Clone, Copy)]
 pub struct Lasting {
     pub tokens: [Option<Holder>; 8],

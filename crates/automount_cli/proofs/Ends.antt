@@ -7,8 +7,9 @@ use Rattle.am_script.specs.Played.{PlaysInput, StopsInput}
 use Rattle.am_script.specs.declared.fault.ScriptFault.{ScriptFault}
 use Rattle.am_script.specs.declared.play.Summary.{Summary}
 use Rattle.automount_cli.specs.Args.{fault_number}
+use Rattle.am_draw.specs.Drawn.{DrawsInput, StopsDrawing}
 use Rattle.am_views.specs.Traced.{TracesInput, StopsTrace}
-use Rattle.automount_cli.specs.Program.{ExitsWith, Played, Stopped, Traced, TraceStopped, Ran, Untold, NotRun, Refused, rounds_line}
+use Rattle.automount_cli.specs.Program.{ExitsWith, Played, Stopped, Traced, TraceStopped, Drawn, DrawStopped, Ran, Untold, NotRun, Refused, rounds_line}
 use Rattle.automount_cli.specs.declared.args.ArgsFault.{ArgsFault}
 
 pub ends_played : (input rest old new quiet : Option (List ℕ)) (summary : Summary) → PlaysInput input rest old new summary → ExitsWith input rest old new quiet quiet 0
@@ -22,6 +23,12 @@ ends_traced input rest old new quiet summary traces = record { end = Traced summ
 
 pub ends_trace_stopped : (input rest old new quiet told : Option (List ℕ)) (fault : ScriptFault) (status : ℕ) → StopsTrace input rest old new fault → status ≡ 1 → ExitsWith input rest old new quiet told status
 ends_trace_stopped input rest old new quiet told fault status stops e = record { end = TraceStopped fault; status_is = e; streams = stops }
+
+pub ends_drawn : (first last : ℕ) (input rest old new quiet : Option (List ℕ)) (summary : Summary) → DrawsInput first last input rest old new summary → ExitsWith input rest old new quiet quiet 0
+ends_drawn first last input rest old new quiet summary draws = record { end = Drawn first last summary; status_is = refl; streams = (draws, refl) }
+
+pub ends_draw_stopped : (first last : ℕ) (input rest old new quiet told : Option (List ℕ)) (fault : ScriptFault) (status : ℕ) → StopsDrawing first last input rest old new fault → status ≡ 1 → ExitsWith input rest old new quiet told status
+ends_draw_stopped first last input rest old new quiet told fault status stops e = record { end = DrawStopped first last fault; status_is = e; streams = stops }
 
 pub ends_refused : (input old quiet told : Option (List ℕ)) (fault : ArgsFault) (status : ℕ) → status ≡ fault_number fault → ExitsWith input input old old quiet told status
 ends_refused input old quiet told fault status e = record { end = Refused fault; status_is = e; streams = (refl, refl) }

@@ -1,7 +1,7 @@
 -- The exit statuses of a command line that is none, and the numbers of one that is.
 use Rattle.std.specs.Prelude.{ℕ, ◌≤◌, ⊤}
 use Rattle.automount_cli.specs.declared.args.Args.{Args}
-use Rattle.automount_cli.specs.declared.args.Args.TheVariants.{Script, Trace, Threads}
+use Rattle.automount_cli.specs.declared.args.Args.TheVariants.{Script, Trace, Draw, Threads}
 use Rattle.automount_cli.specs.declared.args.ArgsFault.{ArgsFault}
 use Rattle.automount_cli.specs.declared.args.ArgsFault.TheVariants.{NoMemory, Usage}
 
@@ -13,8 +13,9 @@ fault_number Usage = 2
 abbrev pub IsUpTo : ℕ → ℕ → Type 0
 IsUpTo most number = (1 ≤ number) × (number ≤ most)
 
--- so many threads, and so many rounds, as may be asked for
+-- numbers of events, and so many threads and rounds, as may be asked for
 abbrev pub IsInRange : Args → Type 0
 IsInRange Script = ⊤
 IsInRange Trace = ⊤
+IsInRange (Draw first last) = IsUpTo 4294967295 first × IsUpTo 4294967295 last
 IsInRange (Threads walkers workers rounds) = IsUpTo 16 walkers × IsUpTo 16 workers × IsUpTo 1000 rounds

@@ -6,6 +6,7 @@ use Rattle.am_runner.specs.declared.tally.Tally.{Tally}
 use Rattle.am_script.specs.Played.{PlaysInput, StopsInput}
 use Rattle.am_script.specs.declared.fault.ScriptFault.{ScriptFault}
 use Rattle.am_script.specs.declared.play.Summary.{Summary}
+use Rattle.am_draw.specs.Drawn.{DrawsInput, StopsDrawing}
 use Rattle.am_views.specs.Traced.{TracesInput, StopsTrace}
 use Rattle.automount_cli.specs.Args.{fault_number}
 use Rattle.automount_cli.specs.declared.args.ArgsFault.{ArgsFault}
@@ -23,6 +24,10 @@ pub data End : Type 0 where
   Traced : Summary → End
   -- the trace stops at the script's fault
   TraceStopped : ScriptFault → End
+  -- the picture of the script's events, from one number to another, is written to its end
+  Drawn : ℕ → ℕ → Summary → End
+  -- the picture stops at the script's fault
+  DrawStopped : ℕ → ℕ → ScriptFault → End
   -- threads have made their rounds, and the line that tells them is written
   Ran : Tally → End
   -- they have, but the writer didn't take the whole line
@@ -38,19 +43,25 @@ status_of (Played summary) = 0
 status_of (Stopped fault) = 1
 status_of (Traced summary) = 0
 status_of (TraceStopped fault) = 1
+status_of (Drawn first last summary) = 0
+status_of (DrawStopped first last fault) = 1
 status_of (Ran tally) = 0
 status_of (Untold tally) = 1
 status_of NotRun = 1
 status_of (Refused fault) = fault_number fault
 
--- What is read and written, and what is told of it: nothing is told of a script that is played or traced
--- to its end, nor of threads whose rounds stand written. Threads read nothing. Nothing is read or written where
+-- What is read and written, and what is told of it: nothing is told of a script that is played, traced or
+-- drawn to its end, nor of threads whose rounds stand written. Threads read nothing. Nothing is read or written where
 -- they don't run, or the command line is none.
 abbrev pub Leaves : End → Option (List ℕ) → Option (List ℕ) → Option (List ℕ) → Option (List ℕ) → Option (List ℕ) → Option (List ℕ) → Type 0
 Leaves (Played summary) input rest old new quiet told = PlaysInput input rest old new summary × (told ≡ quiet)
 Leaves (Stopped fault) input rest old new quiet told = StopsInput input rest old new fault
 Leaves (Traced summary) input rest old new quiet told = TracesInput input rest old new summary × (told ≡ quiet)
 Leaves (TraceStopped fault) input rest old new quiet told = StopsTrace input rest old new fault
+Leaves (Drawn first last summary) input rest old new quiet told =
+    DrawsInput first last input rest old new summary × (told ≡ quiet)
+Leaves (DrawStopped first last fault) input rest old new quiet told =
+    StopsDrawing first last input rest old new fault
 Leaves (Ran tally) input rest old new quiet told =
     IsTally tally × (rest ≡ input) × Appends old new (rounds_line tally.rounds) × (told ≡ quiet)
 Leaves (Untold tally) input rest old new quiet told = IsTally tally × (rest ≡ input)

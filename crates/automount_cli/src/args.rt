@@ -15,6 +15,13 @@ pub enum Args {
     Script,
     /// Prints the trace of the script on standard input.
     Trace,
+    /// Draws a picture of the script on standard input.
+    Draw {
+        /// The number of the first event that is drawn, from 1.
+        first: u32,
+        /// The number of the last one, from 1.
+        last: u32,
+    },
     /// Lets so many threads walk, each so many rounds, and so many serve them.
     Threads {
         /// 1 to 16.
@@ -68,12 +75,22 @@ fn threads(given: &ArgMatches<'_>) -> Result<Args, ArgsFault>
     })
 }
 
+fn draw(given: &ArgMatches<'_>) -> Result<Args, ArgsFault>
+    ensures { IfOk result IsInRange }
+{
+    Ok(Args::Draw {
+        first: number(given, "from", u32::MAX)?,
+        last: number(given, "to", u32::MAX)?,
+    })
+}
+
 fn asked(matches: &ArgMatches<'_>) -> Result<Args, ArgsFault>
     ensures { IfOk result IsInRange }
 {
     match matches.subcommand() {
         Some(("script", _)) => Ok(Args::Script),
         Some(("trace", _)) => Ok(Args::Trace),
+        Some(("draw", given)) => draw(given),
         Some(("threads", given)) => threads(given),
         _ => Err(ArgsFault::Usage),
     }
@@ -111,6 +128,9 @@ fn option<'a>(alloc: Global, name: &'a str, default: &'a str) -> Arg<'a> {
 fn command<'a>(alloc: Global) -> Result<Command<'a>, AllocError> {
     let script = Command::new(alloc, "script");
     let trace = Command::new(alloc, "trace");
+    let draw = Command::new(alloc, "draw")
+        .arg(option(alloc, "from", "1"))?
+        .arg(option(alloc, "to", "4294967295"))?;
     let threads = Command::new(alloc, "threads")
         .arg(option(alloc, "walkers", "4"))?
         .arg(option(alloc, "workers", "2"))?
@@ -119,5 +139,6 @@ fn command<'a>(alloc: Global) -> Result<Command<'a>, AllocError> {
         .subcommand_required(true)
         .subcommand(script)?
         .subcommand(trace)?
+        .subcommand(draw)?
         .subcommand(threads)
 }

@@ -7,6 +7,7 @@ ghost use Rattle.automount_cli.specs.Program.{ExitsWith, rounds_line};
 ghost use Rattle.automount_cli.specs.Args.{fault_number};
 
 use crate::args::{Args, ArgsFault, read_args};
+use am_draw::draw_script;
 use am_runner::{Tally, run_threads};
 use am_script::{ScriptFault, run_script};
 use am_views::trace_script;
@@ -32,6 +33,7 @@ pub fn run_program<T: Threads + Wait + Sync, R: Read, W: Write, E: Write>(
     match read_args(alloc, words) {
         Ok(Args::Script) => play(alloc, reader, writer, errors),
         Ok(Args::Trace) => trace(alloc, reader, writer, errors),
+        Ok(Args::Draw { first, last }) => draw(alloc, first, last, reader, writer, errors),
         Ok(
             Args::Threads {
                 walkers,
@@ -69,6 +71,23 @@ fn trace<R: Read, W: Write, E: Write>(
 {
     match trace_script(alloc, reader, writer) {
         Ok(_traced) => 0,
+        Err(fault) => stop(errors, fault),
+    }
+}
+
+/// Draws the script that the reader gives, from one event to another.
+fn draw<R: Read, W: Write, E: Write>(
+    alloc: Global,
+    first: u32,
+    last: u32,
+    reader: &mut R,
+    writer: &mut W,
+    errors: &mut E,
+) -> u8
+    ensures { ExitsWith (R.remaining reader.old) (R.remaining reader.new) (W.contents writer.old) (W.contents writer.new) (E.contents errors.old) (E.contents errors.new) result }
+{
+    match draw_script(alloc, reader, writer, u64::from(first), u64::from(last)) {
+        Ok(_drawn) => 0,
         Err(fault) => stop(errors, fault),
     }
 }

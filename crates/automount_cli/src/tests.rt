@@ -36,6 +36,34 @@ fn trace_takes_no_words(rt: HostRuntime) {
     );
 }
 
+static EVENTS: [(&str, &str, u32, u32); 3] = [
+    ("--from", "1", 1, 4_294_967_295),
+    ("--from", "4294967295", 4_294_967_295, 4_294_967_295),
+    ("--to", "7", 1, 7),
+];
+
+#[test]
+fn numbers_of_events(rt: HostRuntime) {
+    let alloc = rt.alloc();
+    for (option, number, first, last) in &EVENTS {
+        assert_eq!(rt;
+            read_args(alloc, &["cli", "draw", option, number]),
+            Ok(Args::Draw {
+                first: *first,
+                last: *last
+            })
+        );
+    }
+    assert_eq!(rt;
+        read_args(alloc, &["cli", "draw", "--from", "0"]),
+        Err(ArgsFault::Usage)
+    );
+    assert_eq!(rt;
+        read_args(alloc, &["cli", "draw", "--to", "4294967296"]),
+        Err(ArgsFault::Usage)
+    );
+}
+
 fn threads(walkers: u32, workers: u32, rounds: u32) -> Result<Args, ArgsFault> {
     Ok(Args::Threads {
         walkers,
@@ -134,6 +162,37 @@ fn a_trace_is_printed(rt: HostRuntime) -> Result<(), Fail> {
     assert_eq!(rt; (status, output.len()), (1, 0));
     assert_eq!(rt; errors.as_slice(), b"fault: line 2: BadEvent\n".as_slice());
     Ok(())
+}
+
+#[test]
+fn a_picture_is_drawn(rt: HostRuntime) -> Result<(), Fail> {
+    let alloc = rt.alloc();
+    let script = b"events\nmount 0 /a<b\nleave 1\n";
+    let (status, output, errors) = run(&rt, alloc, &["cli", "draw"], script)?;
+    assert_eq!(rt; (status, errors.len()), (0, 0));
+    assert!(rt;
+        output.starts_with(b"<svg xmlns='http://www.w3.org/2000/svg' width='1312' height='192'")
+    );
+    assert!(rt;
+        has(
+            &output,
+            b"<text class='m' x='46' y='17'>mount 0 /a&lt;b</text>\n"
+        )
+    );
+    assert!(rt; output.ends_with(b"</g>\n</svg>\n"));
+    let words = ["cli", "draw", "--from", "2", "--to", "2"];
+    let (status, output, errors) = run(&rt, alloc, &words, script)?;
+    assert_eq!(rt; (status, errors.len()), (0, 0));
+    assert!(rt; has(&output, b">1 of 2 events<"));
+    assert!(rt; !has(&output, b"mount 0"));
+    let (status, output, errors) = run(&rt, alloc, &["cli", "draw"], b"events\nx\n")?;
+    assert_eq!(rt; (status, output.len()), (1, 0));
+    assert_eq!(rt; errors.as_slice(), b"fault: line 2: BadEvent\n".as_slice());
+    Ok(())
+}
+
+fn has(output: &[u8], words: &[u8]) -> bool {
+    output.windows(words.len()).any(|window| window == words)
 }
 
 #[test]

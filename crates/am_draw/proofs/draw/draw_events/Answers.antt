@@ -1,5 +1,5 @@
 use Rattle.std.proofs.Common.{◌≡◌, ◌+◌, Option, List, ℕ, Some, Ok, Err, option_copied, refl, subst, arith}
-use Rattle.am_script.specs.Lines.{lines_in, size_in}
+use Rattle.am_script.specs.Lines.{lines_in}
 use Rattle.am_script.specs.declared.output.Output.{Output}
 use Rattle.am_script.specs.Script.{Numbered, Told, events_from, told_by}
 use Rattle.am_views.proofs.TracesSoFar.{more_lines}

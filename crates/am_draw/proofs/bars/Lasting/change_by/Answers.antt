@@ -1,7 +1,3 @@
-use Rattle.std.proofs.Common.{sym, ap, ◌∙◌}
-use Rattle.am_state.specs.declared.obs.Obs.{Obs}
-use Rattle.am_draw.specs.declared.bars.Lasting.{Lasting}
-use Rattle.am_draw.specs.Bars.{changed}
 use Rattle.am_draw.proofs.BarLemmas.{behind_next}
 use Rattle.am_draw.proofs.bars.Lasting.change_by.Goals as goal
 
