@@ -1,5 +1,5 @@
-//! Whether kernel and daemon agree on the file systems that the daemon serves, judged by what a world
-//! lends.
+//! Whether kernel and daemon agree on the file systems that the daemon serves, judged by what a
+//! world lends.
 
 use am_names::{
     Attach, FsId, GroupId, JobId, MemberRow, MountId, MountRow, Position, Token, Trigger,
@@ -25,8 +25,8 @@ pub fn attach_of(world: &World, fs: FsId) -> Option<Attach> {
     None
 }
 
-/// Whether the daemon holds an attachment to an autofs behind this, where that can be told: it dies,
-/// attaches again, or attaches as it mounts the autofs here.
+/// Whether the daemon holds an attachment to an autofs behind this, where that can be told: it
+/// dies, attaches again, or attaches as it mounts the autofs here.
 fn held_behind(obs: &Obs, autofs: &Autofs) -> Option<bool> {
     match obs {
         Obs::Died => Some(false),
@@ -137,8 +137,8 @@ fn receives_from(world: &World, member: &MemberRow, group: GroupId) -> bool {
     false
 }
 
-/// Whether what was mounted on a trigger has a copy on this mount, if that is older and receives from
-/// the daemon's mount, which is in this group.
+/// Whether what was mounted on a trigger has a copy on this mount, if that is older and receives
+/// from the daemon's mount, which is in this group.
 fn is_copied(
     world: &World,
     autofs: &Autofs,
@@ -239,7 +239,8 @@ fn queued_for(world: &World, token: Token) -> Option<Attach> {
     None
 }
 
-/// Whether an open token is to be delivered and no job has it, or a job has it and it is in no pipe.
+/// Whether an open token is to be delivered and no job has it, or a job has it and it is in no
+/// pipe.
 fn is_token_served(world: &World, attach: Attach, token: Token) -> bool {
     let job = world.job(JobId(token.0));
     match queued_for(world, token) {
