@@ -74,11 +74,14 @@ end_behind (x ∷ xs) ys go end =
 pub tells_more : (reply : Reply) (m n : List Receipt) → All GoesOn m → Tells reply n
     → Tells reply (m ++ n)
 tells_more replies.NoMemory m n go told = All-append GoesOn m n go told
-tells_more replies.Wait m n go told = All-append GoesOn m n go told
-tells_more replies.Arrived m n go told = All-append GoesOn m n go told
+tells_more replies.Wait m n go told =
+    (All-append GoesOn m n go told.0, any_right GoesOn m n told.1)
+tells_more replies.Arrived m n go told =
+    (All-append GoesOn m n go told.0, any_right GoesOn m n told.1)
 tells_more (replies.Job job) m n go told = any_right (λ r. r.answer ≡ answers.Job job) m n told
 tells_more replies.Refused m n go told = tt
-tells_more replies.Done m n go told = All-append GoesOn m n go told
+tells_more replies.Done m n go told =
+    (All-append GoesOn m n go told.0, any_right GoesOn m n told.1)
 
 -- the receipts of a role that don't refuse
 abbrev pub Accepted : (Receipt → Type 0) → Receipt → Type 0
@@ -131,7 +134,7 @@ acts_more job replies.Done a b c is first last =
     adds_more (Accepted (IsActOf job)) a b c first (record {
       made = last.made;
       behind = last.behind;
-      each = both_of (IsActOf job) last.made last.each last.told;
+      each = both_of (IsActOf job) last.made last.each last.told.0;
     })
 acts_more job replies.NoMemory a b c is first last = absurd (false≢true is)
 acts_more job replies.Wait a b c is first last = absurd (false≢true is)

@@ -127,11 +127,12 @@ pub record Serves (got_old got_new : List (ℕ × Note)) (old new : List Receipt
   pub are_services : AreServices taken made
 
 -- one of these receipts says that a job was begun, where the reply does; none is of a refusal,
--- unless the reply says so
+-- unless the reply says so; and there is one, unless the reply is a refusal or memory ran out
 abbrev pub Tells : Reply → List Receipt → Type 0
 Tells (replies.Job job) made = Any (λ receipt. receipt.answer ≡ answers.Job job) made
 Tells replies.Refused made = ⊤
-Tells reply made = All GoesOn made
+Tells replies.NoMemory made = All GoesOn made
+Tells reply made = All GoesOn made × Any GoesOn made
 
 -- such events were made, none behind one that was refused, and this is the reply
 pub record Tries (role : Receipt → Type 0) (reply : Reply) (old new : List Receipt) : Type 0 where
