@@ -16,7 +16,7 @@ use Rattle.am_world.specs.Table.{state_of}
 
 -- ---- what was read
 
-was_read : (ro rn : Option (List ℕ)) (text : List ℕ) (broke : Option ScriptFaultKind) → Consumes ro rn text → IfNone broke (IsAtEnd rn) → IfSome broke IsReadFault → WasRead ro rn text broke
+pub was_read : (ro rn : Option (List ℕ)) (text : List ℕ) (broke : Option ScriptFaultKind) → Consumes ro rn text → IfNone broke (IsAtEnd rn) → IfSome broke IsReadFault → WasRead ro rn text broke
 was_read ro rn text None read end fault = (read, end)
 was_read ro rn text (Some kind) read end fault = (read, fault)
 
@@ -31,7 +31,7 @@ pub traces_none : (ro rn wo : Option (List ℕ)) (text : List ℕ) (broke : Opti
 traces_none ro rn wo text broke read end h =
     whole_input ro rn wo wo text broke (record { lines = 0; refused = 0 }) read end h.1 (subst (λ (s : Script). TracedFrom s.opening s.told wo wo (record { lines = 0; refused = 0 })) (sym h.0) (record { no_fault = refl; written = Appends-nil wo; lines = refl; refused = refl }))
 
-found_by : (lines : ℕ) (script : Script) (wo : Option (List ℕ)) (fault : ScriptFault) → NotOpened lines script fault → HeadStops lines script wo wo fault
+pub found_by : (lines : ℕ) (script : Script) (wo : Option (List ℕ)) (fault : ScriptFault) → NotOpened lines script fault → HeadStops lines script wo wo fault
 found_by lines script wo fault (inl e) = record { found = inl (ap (λ (s : Script). s.opening) e, ap (λ (s : Script). s.told.fault) e); written = Appends-nil wo }
 found_by lines script wo fault (inr none) = record { found = inr none; written = Appends-nil wo }
 

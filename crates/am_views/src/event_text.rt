@@ -201,7 +201,8 @@ fn put_change<W: Write>(output: &mut Output, change: Change, writer: &mut W)
     }
 }
 
-pub(crate) fn put_status<W: Write>(output: &mut Output, status: Status, writer: &mut W)
+/// Puts a status out, behind a blank.
+pub fn put_status<W: Write>(output: &mut Output, status: Status, writer: &mut W)
     ensures { Puts output.old output.new (status_part status) (W.contents writer.old) (W.contents writer.new) }
 {
     match status {

@@ -45,8 +45,9 @@ fn put_obs_line<W: Write>(output: &mut Output, obs: &Obs, writer: &mut W)
     put_word(output, b"\n", writer);
 }
 
+/// Puts an observation out.
 #[tactic(auto, using(am_script::proofs::Pieces::puts_two, am_script::proofs::Pieces::puts_three))]
-fn put_obs<W: Write>(output: &mut Output, obs: &Obs, writer: &mut W)
+pub fn put_obs<W: Write>(output: &mut Output, obs: &Obs, writer: &mut W)
     ensures { Puts output.old output.new (obs_text obs.now) (W.contents writer.old) (W.contents writer.new) }
 {
     match obs {
@@ -119,8 +120,9 @@ fn put_obs<W: Write>(output: &mut Output, obs: &Obs, writer: &mut W)
     }
 }
 
+/// Puts a trigger out, behind a blank.
 #[tactic(auto, using(am_script::proofs::Pieces::puts_two))]
-fn put_trigger<W: Write>(output: &mut Output, trigger: &Trigger, writer: &mut W)
+pub fn put_trigger<W: Write>(output: &mut Output, trigger: &Trigger, writer: &mut W)
     ensures { Puts output.old output.new (trigger_part trigger.now) (W.contents writer.old) (W.contents writer.new) }
 {
     put_number(output, b" fs ", u64::from(trigger.fs.0), writer);

@@ -128,7 +128,7 @@ fn show_found<'a, W: Write>(
 }
 
 /// Counts one more event.
-fn one_more(summary: Summary, refused: bool) -> Summary
+pub fn one_more(summary: Summary, refused: bool) -> Summary
     requires lines { summary.lines + 1 < 2 ^ 64 }
     requires refused { summary.refused ≤ summary.lines }
     ensures { result ≡ one_more summary refused }
