@@ -1,9 +1,11 @@
 -- How the world after a script is printed.
-use Rattle.std.specs.Prelude.{◌≡◌, ◌⊎◌, ◌<◌, ⊤, ℕ, List, [], ◌∷◌, ◌++◌, length, take, count_by, Option, None, Some}
+use Rattle.std.specs.Prelude.{◌≡◌, ◌⊎◌, ◌<◌, ⊤, ℕ, Bool, List, [], ◌∷◌, ◌++◌, length, take, count_by, Option, None, Some}
 use Rattle.std.specs.Io.KnownBytes.{Appends, Consumes, IsAtEnd}
+use Rattle.am_machine.specs.declared.event.Event.{Event}
 use Rattle.am_machine.specs.declared.answer.Answer.{Answer}
+use Rattle.am_state.specs.declared.obs.Obs.{Obs}
 use Rattle.am_machine.specs.State.{State, Opening, opening_of}
-use Rattle.am_machine.specs.Machine.{Run}
+use Rattle.am_machine.specs.Machine.{Step, Run}
 use Rattle.am_script.specs.declared.fault.ScriptFault.{ScriptFault}
 use Rattle.am_script.specs.declared.fault.ScriptFaultKind.{ScriptFaultKind}
 use Rattle.am_script.specs.declared.fault.ScriptFaultKind.TheVariants.{NoMemory, WriteFailed}
@@ -60,6 +62,13 @@ pub record EventsPlayed (start : State) (told : Told) (last : State) (summary : 
   pub run : Run start (events_in told.events) answers last
   pub lines : summary.lines ≡ length answers
   pub refused : summary.refused ≡ count_by is_refused answers
+
+-- the event comes, and is refused or not
+pub record IsPlayed (s : State) (event : Event) (next : State) (refused : Bool) : Type 0 where
+  pub answer : Answer
+  pub seen : List Obs
+  pub step : Step s event answer seen next
+  pub test : refused ≡ is_refused answer
 
 -- memory runs out for one of the events
 pub record NoRoomToPlay (told : Told) (fault : ScriptFault) : Type 0 where

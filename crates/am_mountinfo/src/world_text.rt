@@ -9,7 +9,7 @@ ghost use Rattle.am_script.specs.Script.{events_from};
 ghost use Rattle.am_mountinfo.specs.Mountinfo.{namespace_text, namespaces_text};
 ghost use Rattle.am_mountinfo.specs.Printed.{part_text};
 ghost use Rattle.am_mountinfo.specs.Tables.{AreTables};
-ghost use Rattle.am_mountinfo.specs.WorldText.{IsText, IsWritten, IsCut, NotWritten, EventsPlayed, NotPlayed, IsLastLine, WorldShown, ShowStops, ShowsInput, StopsShowing};
+ghost use Rattle.am_mountinfo.specs.WorldText.{IsText, IsWritten, IsCut, NotWritten, EventsPlayed, IsPlayed, NotPlayed, IsLastLine, WorldShown, ShowStops, ShowsInput, StopsShowing};
 ghost use Rattle.am_world.specs.Table.{state_of};
 
 use crate::mount_line::put_mounts;
@@ -19,10 +19,10 @@ use crate::tables::Tables;
 use am_names::NsId;
 use am_script::answer_line::{is_refused, put_number, put_word};
 use am_script::output::Output;
-use am_script::visit::{Opened, close, next_event, open_script, read_all};
+use am_script::visit::{Found, Opened, close, next_event, open_script, read_all};
 use am_script::{ScriptFault, ScriptFaultKind, Summary};
 use am_views::trace::one_more;
-use am_world::World;
+use am_world::{Event, World};
 use std::alloc::{AllocError, Global};
 use std::io::{Read, Write};
 
@@ -110,14 +110,44 @@ fn play_events(
                 });
             }
             Ok(Some(found)) => {
-                let answer = world.step(alloc, &found.event);
-                summary = one_more(summary, is_refused(&answer));
-                rest = found.rest;
-                number = found.line;
+                let behind = play_found(alloc, world, found);
+                summary = one_more(summary, behind.refused);
+                rest = behind.rest;
+                number = behind.line;
             }
             Err(fault) => return Err(fault),
         }
     }
+}
+
+/// What is behind an event that was played.
+#[derive(Drop)]
+struct Behind<'a> {
+    refused: bool,
+    line: u64,
+    rest: Option<&'a [u8]>,
+}
+
+/// Makes the step of an event that was found.
+fn play_found<'a>(alloc: Global, world: &mut World, found: Found<'a>) -> Behind<'a>
+    ensures played { IsPlayed (state_of world.old) found.entry.event (state_of world.new) result.refused }
+    ensures line { result.line ≡ found.entry.line }
+    ensures rest { option_copied result.rest ≡ option_copied found.entry.rest }
+{
+    let refused = play_event(alloc, world, &found.event);
+    Behind {
+        refused,
+        line: found.line,
+        rest: found.rest,
+    }
+}
+
+/// Makes the step of an event, and answers whether it was refused.
+fn play_event(alloc: Global, world: &mut World, event: &Event) -> bool
+    ensures { IsPlayed (state_of world.old) event.now (state_of world.new) result }
+{
+    let answer = world.step(alloc, event);
+    is_refused(&answer)
 }
 
 /// What is printed of a world.

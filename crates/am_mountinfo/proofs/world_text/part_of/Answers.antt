@@ -10,4 +10,4 @@ pub returns-in_ok-opens-in-None : goal.returns-in_ok-opens-in-None
 unfolding state_of
 returns-in_ok-opens-in-None c =
     rw (c.in-None.is, c.in_ok-opens-in-None.ensures)
-    (c.in_ok-namespaces-in-None.field-0.items, (c.in_ok-namespaces-in-None.ensures, refl))
+    (c.in_ok-namespaces-in-None.field-0.items, rw c.mounts.ensures at c.in_ok-namespaces-in-None.ensures, refl)
