@@ -1,5 +1,5 @@
 -- The open tokens as they are gathered, and a row that may be there. For the code alone.
-use Rattle.std.specs.Prelude.{◌≡◌, List, [], ◌∷◌, ◌++◌, codes, decimal, ℕ, Option, None, Some}
+use Rattle.std.specs.Prelude.{List, [], ◌++◌, codes, decimal, ℕ, Option, None, Some}
 use Rattle.std.specs.List.{flat_map}
 use Rattle.std.specs.Option.{option_map}
 use Rattle.am_wait.specs.Rows.{WaitRows, token_of}

@@ -108,11 +108,7 @@ fn put_trigger_of<W: Write>(output: &mut Output, trigger: &Option<Trigger>, writ
 }
 
 /// Puts an observation out as a comment.
-#[tactic(
-    auto,
-    unfolding(crate::specs::Notes::obs_note),
-    using(am_script::proofs::Pieces::puts_three)
-)]
+#[tactic(auto, unfolding(crate::specs::Notes::obs_note), using(am_script::proofs::Pieces::puts_three))]
 fn put_note<W: Write>(output: &mut Output, obs: &Obs, writer: &mut W)
     ensures { Puts output.old output.new (obs_note obs.now) (W.contents writer.old) (W.contents writer.new) }
 {
