@@ -1,0 +1,113 @@
+-- The events so far have come.
+use Rattle.std.proofs.Common.{◌≡◌, ◌+◌, ℕ, Bool, cond, List, [], ◌∷◌, ◌++◌, length, count_by, Option, Some, None, Result, Ok, Err, IfOk, IfErr, OnOk, refl, sym, ap, ◌∙◌, subst, inl, inr, append_assoc}
+use Rattle.std.proofs.KnownBytes.{Appends-nil}
+use Rattle.std.proofs.lemmas.List.{map_push, append-nil, length-append}
+use Rattle.am_machine.specs.declared.event.Event.{Event}
+use Rattle.am_machine.specs.declared.answer.Answer.{Answer}
+use Rattle.am_state.specs.declared.obs.Obs.{Obs}
+use Rattle.am_machine.specs.State.{State}
+use Rattle.am_machine.specs.Machine.{Step, Run}
+use Rattle.am_script.specs.declared.fault.ScriptFault.{ScriptFault}
+use Rattle.am_script.specs.declared.play.Summary.{Summary}
+use Rattle.am_script.specs.Answers.{is_refused}
+use Rattle.am_script.specs.Opened.{NoNext}
+use Rattle.am_script.specs.Script.{Numbered, Told, events_in, told_by, only_fault}
+use Rattle.am_script.proofs.Going.{behind, run_more, count_more}
+use Rattle.am_views.specs.Traced.{one_more}
+use Rattle.am_mountinfo.specs.WorldText.{IsWritten, EventsPlayed, NotPlayed, NotWritten, last_line, IsLastLine, WorldShown, ShowStops}
+
+-- of all events these are left, and those before have come
+pub record Playing (start : State) (all left : Told) (now : State) (summary : Summary) (line : ℕ) : Type 0 where
+  pub done : List Numbered
+  pub parted : all ≡ behind done left
+  pub answers : List Answer
+  pub run : Run start (events_in done) answers now
+  pub lines : summary.lines ≡ length answers
+  pub refused : summary.refused ≡ count_by is_refused answers
+  pub is_last : IsLastLine line done
+
+pub playing_none : (start : State) (all : Told) (line : ℕ) → Playing start all all start (record { lines = 0; refused = 0 }) line
+playing_none start all line = record {
+  done = [];
+  parted = refl;
+  answers = [];
+  run = refl;
+  lines = refl;
+  refused = refl;
+  is_last = tt;
+}
+
+last_of_push : (line : ℕ) (done : List Numbered) (asked : Numbered) → asked.line ≡ last_line line (done ++ asked ∷ [])
+last_of_push line [] asked = refl
+last_of_push line (first ∷ done) asked = last_of_push first.line done asked
+
+last_push : (done : List Numbered) (asked : Numbered) → IsLastLine asked.line (done ++ asked ∷ [])
+last_push [] asked = refl
+last_push (first ∷ done) asked = last_of_push first.line done asked
+
+-- one more event has come
+pub playing_more : (start : State) (all left more : Told) (now next : State) (summary : Summary) (before line : ℕ) (event : Event) (answer : Answer) (seen : List Obs) (refused : Bool) → left ≡ told_by (Ok (Some event)) line more → Playing start all left now summary before → Step now event answer seen next → refused ≡ is_refused answer → Playing start all more next (one_more summary refused) line
+playing_more start all left more now next summary before line event answer seen refused e h step test =
+    let asked : Numbered = record { line = line; event = event } in record {
+      done = h.done ++ asked ∷ [];
+      parted = h.parted ∙ ap (behind h.done) e ∙ ap (λ (rows : List Numbered). record more { events = rows }) (sym (append_assoc h.done (asked ∷ []) more.events));
+      answers = h.answers ++ answer ∷ [];
+      run = rw (map_push (λ (r : Numbered). r.event) h.done asked) (run_more start (events_in h.done) h.answers now event answer seen next h.run step);
+      lines = rw (length-append h.answers (answer ∷ [])) (ap (λ (n : ℕ). n + 1) h.lines);
+      refused = rw (count_more is_refused h.answers answer, test) (ap (λ (n : ℕ). n + cond (is_refused answer) 1 0) h.refused);
+      is_last = last_push h.done asked;
+    }
+
+-- no event is left
+pub playing_ends : (start : State) (all left : Told) (now : State) (summary : Summary) (line : ℕ) → left ≡ only_fault None → Playing start all left now summary line → EventsPlayed start all now summary
+playing_ends start all left now summary line none h =
+    let parted : all ≡ behind h.done (only_fault None) = h.parted ∙ ap (behind h.done) none in record {
+      no_fault = ap (λ (t : Told). t.fault) parted;
+      answers = h.answers;
+      run = rw (parted, append-nil h.done) h.run;
+      lines = h.lines;
+      refused = h.refused;
+    }
+
+pub last_ends : (start : State) (all left : Told) (now : State) (summary : Summary) (line : ℕ) → left ≡ only_fault None → Playing start all left now summary line → IsLastLine line all.events
+last_ends start all left now summary line none h =
+    subst (λ (t : List Numbered). IsLastLine line t)
+    (sym (ap (λ (t : Told). t.events) (h.parted ∙ ap (behind h.done) none) ∙ append-nil h.done)) h.is_last
+
+-- a fault comes first of what is left, or memory ran out for the event that does
+pub playing_fails : (start : State) (all left : Told) (now : State) (summary : Summary) (line : ℕ) (fault : ScriptFault) → Playing start all left now summary line → NoNext left fault → NotPlayed all fault
+playing_fails start all left now summary line fault h (inl e) =
+    inl (ap (λ (t : Told). t.fault) (h.parted ∙ ap (behind h.done) e))
+playing_fails start all left now summary line fault h (inr none) = inr (record {
+  kind = none.kind;
+  done = h.done;
+  here = none.here;
+  others = none.others.events;
+  parted = ap (λ (t : Told). t.events) h.parted ∙ ap (λ (t : Told). h.done ++ t.events) none.parted;
+  line = none.line;
+})
+
+-- the world behind the events is written
+pub shown_by : (only : Option ℕ) (start last : State) (told : Told) (old new : Option (List ℕ)) (summary : Summary) (r : Result Summary ScriptFault) → EventsPlayed start told last summary → IfOk r (λ (s : Summary). s ≡ summary) → OnOk r (IsWritten only last old new) → IfOk r (WorldShown only start told old new)
+shown_by only start last told old new summary (Err fault) played same written = tt
+shown_by only start last told old new summary (Ok s) played same written = record {
+  last = last;
+  played = subst (λ (t : Summary). EventsPlayed start told last t) (sym same) played;
+  written = written;
+}
+
+-- or isn't written to its end
+pub stops_by : (only : Option ℕ) (start last : State) (told : Told) (old new : Option (List ℕ)) (summary : Summary) (line : ℕ) (r : Result Summary ScriptFault) → EventsPlayed start told last summary → IsLastLine line told.events → IfErr r (NotWritten only last line old new) → IfErr r (ShowStops only start told old new)
+stops_by only start last told old new summary line (Ok s) played is_last stops = tt
+stops_by only start last told old new summary line (Err fault) played is_last stops = inr (record {
+  last = last;
+  summary = summary;
+  played = played;
+  line = line;
+  is_last = is_last;
+  stops = stops;
+})
+
+-- not all events come
+pub stops_before : (only : Option ℕ) (start : State) (told : Told) (old : Option (List ℕ)) (fault : ScriptFault) → NotPlayed told fault → ShowStops only start told old old fault
+stops_before only start told old fault stops = inl (record { stops = stops; written = Appends-nil old })

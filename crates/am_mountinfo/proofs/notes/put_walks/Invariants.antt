@@ -1,0 +1,8 @@
+use Rattle.std.proofs.Common.{take}
+use Rattle.std.specs.List.{flat_map}
+use Rattle.am_script.specs.Outputs.{Puts}
+use Rattle.am_mountinfo.specs.Notes.{walk_note}
+use Rattle.am_mountinfo.proofs.notes.put_walks.Given as goal
+
+abbrev pub invariant-loop-row : goal.invariant-loop-row
+invariant-loop-row g l = Puts l.fn.output l.output (flat_map (walk_note l.world.kernel.waits) (take l.row-index l.world.kernel.walks)) (g.W.Write.contents l.fn.writer) (g.W.Write.contents l.writer)

@@ -1,0 +1,9 @@
+pub mod Mountinfo
+pub mod Notes
+pub mod Opens
+pub mod Paths
+pub mod Peers
+pub mod Printed
+pub mod Residents
+pub mod Tables
+pub mod WorldText

@@ -1,0 +1,155 @@
+-- How the world after a script is printed.
+use Rattle.std.specs.Prelude.{◌≡◌, ◌⊎◌, ◌<◌, ⊤, ℕ, Bool, List, [], ◌∷◌, ◌++◌, length, take, count_by, Option, None, Some}
+use Rattle.std.specs.Io.KnownBytes.{Appends, Consumes, IsAtEnd}
+use Rattle.am_machine.specs.declared.event.Event.{Event}
+use Rattle.am_machine.specs.declared.answer.Answer.{Answer}
+use Rattle.am_state.specs.declared.obs.Obs.{Obs}
+use Rattle.am_machine.specs.State.{State, Opening, opening_of}
+use Rattle.am_machine.specs.Machine.{Step, Run}
+use Rattle.am_script.specs.declared.fault.ScriptFault.{ScriptFault}
+use Rattle.am_script.specs.declared.fault.ScriptFaultKind.{ScriptFaultKind}
+use Rattle.am_script.specs.declared.fault.ScriptFaultKind.TheVariants.{NoMemory, WriteFailed}
+use Rattle.am_script.specs.declared.play.Summary.{Summary}
+use Rattle.am_script.specs.Answers.{is_refused}
+use Rattle.am_script.specs.Lines.{lines_of}
+use Rattle.am_script.specs.Played.{NothingPlayed}
+use Rattle.am_script.specs.Read.{WasRead, played}
+use Rattle.am_script.specs.Script.{Numbered, events_in, Told, Script, script_of}
+use Rattle.am_views.specs.Traced.{HeadStops}
+use Rattle.am_mountinfo.specs.Mountinfo.{ArePlaced, AreNamespaces, mountinfo, namespaces_text}
+use Rattle.am_mountinfo.specs.Notes.{notes}
+
+-- ---- a world as a text
+
+-- the mounts of all namespaces, each behind a line that names it, and then what else there is; or the
+-- mounts of one namespace alone
+abbrev pub IsText : Option ℕ → State → List ℕ → Type 0
+IsText None s text =
+    (order : List ℕ) × AreNamespaces s.kernel.table.rows order × (text ≡ namespaces_text s.kernel order ++ notes s)
+IsText (Some ns) s text = text ≡ mountinfo s.kernel ns
+
+-- the text is written
+pub record IsWritten (only : Option ℕ) (s : State) (old new : Option (List ℕ)) : Type 0 where
+  pub text : List ℕ
+  pub shows : IsText only s text
+  pub written : Appends old new text
+
+-- the writer takes a beginning of the text, which is told at this line
+pub record IsCut (line : ℕ) (text : List ℕ) (old new : Option (List ℕ)) (fault : ScriptFault) : Type 0 where
+  pub loss : fault.kind ≡ WriteFailed
+  pub line_is : fault.line ≡ line
+  pub taken : ℕ
+  pub short : taken < length text
+  pub written : Appends old new (take taken text)
+
+-- memory runs out before anything is written, which is told at this line
+pub record NoRoomToWrite (line : ℕ) (old new : Option (List ℕ)) (fault : ScriptFault) : Type 0 where
+  pub kind : fault.kind ≡ NoMemory
+  pub line_is : fault.line ≡ line
+  pub written : Appends old new []
+
+abbrev pub NotWritten : Option ℕ → State → ℕ → Option (List ℕ) → Option (List ℕ) → ScriptFault → Type 0
+NotWritten only s line old new fault =
+    NoRoomToWrite line old new fault
+    ⊎ ((text : List ℕ) × IsText only s text × IsCut line text old new fault)
+
+-- ---- the events
+
+-- all events come, one after another, and lead to last
+pub record EventsPlayed (start : State) (told : Told) (last : State) (summary : Summary) : Type 0 where
+  pub no_fault : told.fault ≡ None
+  pub answers : List Answer
+  pub run : Run start (events_in told.events) answers last
+  pub lines : summary.lines ≡ length answers
+  pub refused : summary.refused ≡ count_by is_refused answers
+
+-- the event comes, and is refused or not
+pub record IsPlayed (s : State) (event : Event) (next : State) (refused : Bool) : Type 0 where
+  pub answer : Answer
+  pub seen : List Obs
+  pub step : Step s event answer seen next
+  pub test : refused ≡ is_refused answer
+
+-- memory runs out for one of the events
+pub record NoRoomToPlay (told : Told) (fault : ScriptFault) : Type 0 where
+  pub kind : fault.kind ≡ NoMemory
+  pub done : List Numbered
+  pub here : Numbered
+  pub others : List Numbered
+  pub parted : told.events ≡ done ++ here ∷ others
+  pub line : fault.line ≡ here.line
+
+-- the script's own fault comes behind its events, or memory runs out for one of them
+abbrev pub NotPlayed : Told → ScriptFault → Type 0
+NotPlayed told fault = (told.fault ≡ Some fault) ⊎ NoRoomToPlay told fault
+
+abbrev pub last_line : ℕ → List Numbered → ℕ
+last_line line [] = line
+last_line line (asked ∷ others) = last_line asked.line others
+
+-- the line is that of the last event, where there is one
+abbrev pub IsLastLine : ℕ → List Numbered → Type 0
+IsLastLine line [] = ⊤
+IsLastLine line (asked ∷ others) = line ≡ last_line asked.line others
+
+-- ---- a script with a world
+
+-- all events come, and the world that they lead to is written, and nothing else
+pub record WorldShown (only : Option ℕ) (start : State) (told : Told) (old new : Option (List ℕ)) (summary : Summary) : Type 0 where
+  pub last : State
+  pub played : EventsPlayed start told last summary
+  pub written : IsWritten only last old new
+
+-- not all events come, and nothing is written
+pub record StopsPlaying (told : Told) (old new : Option (List ℕ)) (fault : ScriptFault) : Type 0 where
+  pub stops : NotPlayed told fault
+  pub written : Appends old new []
+
+-- all events come, and the world isn't written to its end, which is told at the line of the last
+pub record StopsWriting (only : Option ℕ) (start : State) (told : Told) (old new : Option (List ℕ)) (fault : ScriptFault) : Type 0 where
+  pub last : State
+  pub summary : Summary
+  pub played : EventsPlayed start told last summary
+  pub line : ℕ
+  pub is_last : IsLastLine line told.events
+  pub stops : NotWritten only last line old new fault
+
+abbrev pub ShowStops : Option ℕ → State → Told → Option (List ℕ) → Option (List ℕ) → ScriptFault → Type 0
+ShowStops only start told old new fault =
+    StopsPlaying told old new fault ⊎ StopsWriting only start told old new fault
+
+-- ---- any script
+
+-- the world that is written is one that the initial world leads to, and each path in it is below that of
+-- its parent
+pub record AllShown (only : Option ℕ) (opening : Opening) (told : Told) (old new : Option (List ℕ)) (summary : Summary) : Type 0 where
+  pub shown : WorldShown only (opening_of opening) told old new summary
+  pub placed : ArePlaced shown.last.kernel.table.rows
+
+abbrev pub ShownFrom : Option ℕ → Option Opening → Told → Option (List ℕ) → Option (List ℕ) → Summary → Type 0
+ShownFrom only None told old new summary = NothingPlayed told old new summary
+ShownFrom only (Some opening) told old new summary = AllShown only opening told old new summary
+
+-- the script has a world, and that isn't shown
+pub record EventsStop (only : Option ℕ) (script : Script) (old new : Option (List ℕ)) (fault : ScriptFault) : Type 0 where
+  pub opening : Opening
+  pub begins : script.opening ≡ Some opening
+  pub stops : ShowStops only (opening_of opening) script.told old new fault
+
+-- ---- with a reader
+
+-- the input was read to its end, and the world after the script that it is is written
+pub record ShowsInput (only : Option ℕ) (input rest old new : Option (List ℕ)) (summary : Summary) : Type 0 where
+  pub text : List ℕ
+  pub read : Consumes input rest text
+  pub ended : IsAtEnd rest
+  pub whole : ShownFrom only (script_of None text).opening (script_of None text).told old new summary
+
+-- the world after what was read, to its end or not, isn't written to its end
+pub record StopsShowing (only : Option ℕ) (input rest old new : Option (List ℕ)) (fault : ScriptFault) : Type 0 where
+  pub text : List ℕ
+  pub broke : Option ScriptFaultKind
+  pub read : WasRead input rest text broke
+  pub stopped :
+      HeadStops (length (lines_of (played broke text))) (script_of broke text) old new fault
+      ⊎ EventsStop only (script_of broke text) old new fault

@@ -1,0 +1,14 @@
+//! The world after a script, as /proc/PID/mountinfo tells the mounts of its namespaces (proc(5)).
+#![tactic(auto)]
+
+mod masters;
+mod mount_line;
+mod namespaces;
+mod notes;
+mod paths;
+mod peers;
+mod residents;
+mod tables;
+pub mod world_text;
+
+pub use world_text::world_script;

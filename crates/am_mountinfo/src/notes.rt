@@ -1,0 +1,275 @@
+//! What is open, queued, written down and at work in a world, as comments.
+
+ghost use Rattle.std.specs.Prelude.{◌≡◌, ◌++◌, IfOk, OnOk};
+ghost use Rattle.std.specs.List.{flat_map};
+ghost use Rattle.am_daemon.specs.State.{rows_of, job_plan};
+ghost use Rattle.am_script.specs.Outputs.{Puts};
+ghost use Rattle.am_mountinfo.specs.Notes.{obs_note, walkers_text, trigger_text, token_note, packet_note, record_note, job_note, status_text, wait_text, walk_note, use_note, fs_notes, tokens_notes, packets_notes, book_notes, jobs_notes, walks_notes, uses_notes, kernel_notes, daemon_notes};
+ghost use Rattle.am_mountinfo.specs.Opens.{open_text, opens_text, row_note};
+
+use am_names::{FsId, Status, Token, Trigger, WaitRow, WalkerId};
+use am_script::answer_line::{put_number, put_place, put_word};
+use am_script::output::Output;
+use am_state::{QueuedRow, RecordRow};
+use am_views::event_text::put_status;
+use am_views::obs_text::{put_obs, put_trigger};
+use am_world::{Book, Job, Obs, Use, Uses, WalkRow, World};
+use std::alloc::{AllocError, Global};
+use std::io::Write;
+
+/// An open token and its waiters.
+#[derive(Drop)]
+pub struct Open {
+    token: Token,
+    waiters: Vec<WalkerId>,
+}
+
+/// The open tokens of all file systems, in order of attaching.
+pub(crate) fn opens(alloc: Global, world: &World) -> Result<Vec<Open>, AllocError>
+    ensures { IfOk result (λ opens. opens_text world.now.kernel.waits opens.items ≡ tokens_notes world.now.kernel) }
+{
+    let mut opens = Vec::new(alloc);
+    for row in world.attached() {
+        add_opens(alloc, world, row.fs, &mut opens)?;
+    }
+    Ok(opens)
+}
+
+fn add_opens(
+    alloc: Global,
+    world: &World,
+    fs: FsId,
+    opens: &mut Vec<Open>,
+) -> Result<(), AllocError>
+    ensures { OnOk result (opens_text world.now.kernel.waits opens.new.items ≡ opens_text world.now.kernel.waits opens.old.items ++ fs_notes world.now.kernel.waits fs) }
+{
+    let tokens = world.tokens_of(alloc, fs)?;
+    for token in &tokens {
+        add_open(alloc, world, *token, opens)?;
+    }
+    Ok(())
+}
+
+fn add_open(
+    alloc: Global,
+    world: &World,
+    token: Token,
+    opens: &mut Vec<Open>,
+) -> Result<(), AllocError>
+    ensures { OnOk result (opens_text world.now.kernel.waits opens.new.items ≡ opens_text world.now.kernel.waits opens.old.items ++ token_note world.now.kernel.waits token) }
+{
+    let waiters = world.waiters_of(alloc, token)?;
+    opens.push(Open { token, waiters })?;
+    Ok(())
+}
+
+/// Puts what is open out.
+#[tactic(auto, using(am_script::proofs::Pieces::puts_none))]
+pub(crate) fn put_opens<W: Write>(
+    output: &mut Output,
+    world: &World,
+    opens: &[Open],
+    writer: &mut W,
+)
+    ensures { Puts output.old output.new (opens_text world.now.kernel.waits opens.now) (W.contents writer.old) (W.contents writer.new) }
+{
+    for row in opens {
+        put_open(output, world, row, writer);
+    }
+}
+
+#[tactic(auto, using(crate::proofs::MorePieces::puts_five))]
+fn put_open<W: Write>(output: &mut Output, world: &World, row: &Open, writer: &mut W)
+    ensures { Puts output.old output.new (open_text world.now.kernel.waits row.now) (W.contents writer.old) (W.contents writer.new) }
+{
+    put_number(output, b"# open ", u64::from(row.token.0), writer);
+    put_word(output, b" waiters", writer);
+    put_walkers(output, &row.waiters, writer);
+    put_trigger_of(output, &world.trigger_of(row.token), writer);
+    put_word(output, b"\n", writer);
+}
+
+#[tactic(auto, using(am_script::proofs::Pieces::puts_none))]
+fn put_walkers<W: Write>(output: &mut Output, walkers: &[WalkerId], writer: &mut W)
+    ensures { Puts output.old output.new (walkers_text walkers.now) (W.contents writer.old) (W.contents writer.new) }
+{
+    for walker in walkers {
+        put_number(output, b" ", u64::from(walker.0), writer);
+    }
+}
+
+fn put_trigger_of<W: Write>(output: &mut Output, trigger: &Option<Trigger>, writer: &mut W)
+    ensures { Puts output.old output.new (trigger_text trigger.now) (W.contents writer.old) (W.contents writer.new) }
+{
+    match trigger {
+        None => put_word(output, b"", writer),
+        Some(trigger) => put_trigger(output, trigger, writer),
+    }
+}
+
+/// Puts an observation out as a comment.
+#[tactic(auto, unfolding(crate::specs::Notes::obs_note), using(am_script::proofs::Pieces::puts_three))]
+fn put_note<W: Write>(output: &mut Output, obs: &Obs, writer: &mut W)
+    ensures { Puts output.old output.new (obs_note obs.now) (W.contents writer.old) (W.contents writer.new) }
+{
+    put_word(output, b"# ", writer);
+    put_obs(output, obs, writer);
+    put_word(output, b"\n", writer);
+}
+
+/// Puts out what else the kernel has: packets in the pipes, and walkers.
+#[tactic(auto, using(am_script::proofs::Pieces::puts_three))]
+pub(crate) fn put_kernel<W: Write>(output: &mut Output, world: &World, writer: &mut W)
+    ensures { Puts output.old output.new (kernel_notes world.now.kernel) (W.contents writer.old) (W.contents writer.new) }
+{
+    put_packets(output, world, writer);
+    put_walks(output, world, writer);
+    put_uses(output, world.uses(), writer);
+}
+
+#[tactic(auto, using(am_script::proofs::Pieces::puts_none))]
+fn put_packets<W: Write>(output: &mut Output, world: &World, writer: &mut W)
+    ensures { Puts output.old output.new (packets_notes world.now.kernel) (W.contents writer.old) (W.contents writer.new) }
+{
+    for row in world.packets() {
+        put_packet(output, row, writer);
+    }
+}
+
+fn put_packet<W: Write>(output: &mut Output, row: &QueuedRow, writer: &mut W)
+    ensures { Puts output.old output.new (packet_note row.now) (W.contents writer.old) (W.contents writer.new) }
+{
+    let queued = Obs::Queued {
+        token: row.token,
+        attach: row.attach,
+        packet: row.packet,
+    };
+    put_note(output, &queued, writer);
+}
+
+#[tactic(auto, using(am_script::proofs::Pieces::puts_none))]
+fn put_walks<W: Write>(output: &mut Output, world: &World, writer: &mut W)
+    ensures { Puts output.old output.new (walks_notes world.now.kernel) (W.contents writer.old) (W.contents writer.new) }
+{
+    for row in world.walks() {
+        put_walk(output, world, row, writer);
+    }
+}
+
+#[tactic(auto, using(crate::proofs::MorePieces::puts_six))]
+fn put_walk<W: Write>(output: &mut Output, world: &World, row: &WalkRow, writer: &mut W)
+    ensures { Puts output.old output.new (walk_note world.now.kernel.waits row.now) (W.contents writer.old) (W.contents writer.new) }
+{
+    put_number(output, b"# walk ", u64::from(row.walker.0), writer);
+    put_wait(output, world.wait_of(row.walker), writer);
+    put_number(output, b" ns ", u64::from(row.ns.0), writer);
+    put_word(output, b" ", writer);
+    put_place(output, &row.path, writer);
+    put_word(output, b"\n", writer);
+}
+
+#[tactic(auto, using(am_script::proofs::Pieces::puts_two))]
+fn put_wait<W: Write>(output: &mut Output, wait: Option<WaitRow>, writer: &mut W)
+    ensures { Puts output.old output.new (wait_text wait) (W.contents writer.old) (W.contents writer.new) }
+{
+    match wait {
+        None => put_word(output, b"", writer),
+        Some(wait) => {
+            put_number(output, b" token ", u64::from(wait.token.0), writer);
+            put_status_of(output, wait.status, writer)
+        }
+    }
+}
+
+fn put_status_of<W: Write>(output: &mut Output, status: Option<Status>, writer: &mut W)
+    ensures { Puts output.old output.new (status_text status) (W.contents writer.old) (W.contents writer.new) }
+{
+    match status {
+        None => put_word(output, b"", writer),
+        Some(status) => put_status(output, status, writer),
+    }
+}
+
+#[tactic(auto, using(am_script::proofs::Pieces::puts_none))]
+fn put_uses<W: Write>(output: &mut Output, uses: &Uses, writer: &mut W)
+    ensures { Puts output.old output.new (flat_map use_note uses.now) (W.contents writer.old) (W.contents writer.new) }
+{
+    for index in 0..uses.len() {
+        put_use_at(output, uses.row(index), writer);
+    }
+}
+
+fn put_use_at<W: Write>(output: &mut Output, row: Option<Use>, writer: &mut W)
+    ensures { Puts output.old output.new (row_note use_note row) (W.contents writer.old) (W.contents writer.new) }
+{
+    match row {
+        None => put_word(output, b"", writer),
+        Some(row) => put_use(output, row, writer),
+    }
+}
+
+fn put_use<W: Write>(output: &mut Output, row: Use, writer: &mut W)
+    ensures { Puts output.old output.new (use_note row) (W.contents writer.old) (W.contents writer.new) }
+{
+    let entered = Obs::Entered {
+        walker: row.walker,
+        mount: row.mount,
+    };
+    put_note(output, &entered, writer);
+}
+
+/// Puts out what the daemon has: its book and its jobs.
+#[tactic(auto, using(am_script::proofs::Pieces::puts_two))]
+pub(crate) fn put_daemon<W: Write>(output: &mut Output, world: &World, writer: &mut W)
+    ensures { Puts output.old output.new (daemon_notes (rows_of world.now.daemon)) (W.contents writer.old) (W.contents writer.new) }
+{
+    put_book(output, world.book(), writer);
+    put_jobs(output, world, writer);
+}
+
+#[tactic(auto, using(am_script::proofs::Pieces::puts_none))]
+fn put_book<W: Write>(output: &mut Output, book: &Book, writer: &mut W)
+    ensures { Puts output.old output.new (flat_map record_note book.now.rows) (W.contents writer.old) (W.contents writer.new) }
+{
+    for index in 0..book.len() {
+        put_record_at(output, book.row(index), writer);
+    }
+}
+
+fn put_record_at<W: Write>(output: &mut Output, row: Option<RecordRow>, writer: &mut W)
+    ensures { Puts output.old output.new (row_note record_note row) (W.contents writer.old) (W.contents writer.new) }
+{
+    match row {
+        None => put_word(output, b"", writer),
+        Some(row) => put_record(output, row, writer),
+    }
+}
+
+fn put_record<W: Write>(output: &mut Output, row: RecordRow, writer: &mut W)
+    ensures { Puts output.old output.new (record_note row) (W.contents writer.old) (W.contents writer.new) }
+{
+    let recorded = Obs::Recorded {
+        trigger: row.trigger,
+        entry: Some(row.entry),
+    };
+    put_note(output, &recorded, writer);
+}
+
+#[tactic(auto, using(am_script::proofs::Pieces::puts_none))]
+fn put_jobs<W: Write>(output: &mut Output, world: &World, writer: &mut W)
+    ensures { Puts output.old output.new (jobs_notes (rows_of world.now.daemon)) (W.contents writer.old) (W.contents writer.new) }
+{
+    for job in world.jobs() {
+        put_job(output, job, writer);
+    }
+}
+
+#[tactic(auto, using(am_views::proofs::FourPieces::puts_four))]
+fn put_job<W: Write>(output: &mut Output, job: &Job, writer: &mut W)
+    ensures { Puts output.old output.new (job_note (job_plan job.now)) (W.contents writer.old) (W.contents writer.new) }
+{
+    put_number(output, b"# job ", u64::from(job.job().0), writer);
+    put_number(output, b" attach ", u64::from(job.attach().0), writer);
+    put_trigger(output, &job.trigger(), writer);
+    put_word(output, b"\n", writer);
+}
