@@ -1,5 +1,5 @@
 -- The world after a whole script that is read.
-use Rattle.std.proofs.Common.{◌≡◌, ℕ, List, [], length, Option, Some, None, Result, Ok, Err, OnOk, IfOk, IfErr, IfNone, IfSome, option_copied, refl, sym, ap, ◌∙◌, subst, inl, inr}
+use Rattle.std.proofs.Common.{◌≡◌, ℕ, List, length, Option, Some, None, Result, Ok, Err, OnOk, IfOk, IfErr, IfNone, IfSome, refl, sym, ◌∙◌, subst, inl, inr}
 use Rattle.std.proofs.KnownBytes.{Appends-nil}
 use Rattle.std.specs.Io.KnownBytes.{Consumes, IsAtEnd}
 use Rattle.am_machine.specs.State.{State, Opening, opening_in, opening_of}
@@ -9,10 +9,9 @@ use Rattle.am_script.specs.declared.fault.ScriptFaultKind.{ScriptFaultKind}
 use Rattle.am_script.specs.declared.play.Summary.{Summary}
 use Rattle.am_script.specs.declared.visit.Opened.{Opened}
 use Rattle.am_script.specs.Lines.{lines_of}
-use Rattle.am_script.specs.Opened.{OpenedAs, NotOpened, IsOpened}
-use Rattle.am_script.specs.Read.{IsReadFault, WasRead, broken, played}
+use Rattle.am_script.specs.Opened.{OpenedAs, NotOpened}
+use Rattle.am_script.specs.Read.{IsReadFault, broken, played}
 use Rattle.am_script.specs.Script.{Script, Told, events_in, script_of}
-use Rattle.am_views.specs.Traced.{HeadStops}
 use Rattle.am_views.proofs.TraceInputs.{was_read, found_by, told_in}
 use Rattle.am_mountinfo.specs.WorldText.{WorldShown, AllShown, ShowStops, ShownFrom, ShowsInput, StopsShowing}
 use Rattle.am_mountinfo.proofs.Placed.{are_placed}

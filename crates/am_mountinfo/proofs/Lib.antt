@@ -6,3 +6,4 @@ mod PathLemmas
 mod Placed
 mod PlayLemmas
 mod PrintLemmas
+mod RowLemmas

@@ -1,5 +1,5 @@
 -- The peer groups above a mount, one after another.
-use Rattle.std.proofs.Common.{◌≡◌, ◌-◌, ◌==◌, ℕ, zero, suc, Bool, true, false, cond, List, [], ◌∷◌, find, Option, Some, None, refl, ap, ◌∙◌, arith}
+use Rattle.std.proofs.Common.{◌≡◌, ◌-◌, ◌==◌, ℕ, zero, suc, Bool, true, false, cond, [], ◌∷◌, find, Option, Some, None, refl, ap, ◌∙◌, arith}
 use Rattle.am_names.specs.PeerGroups.{PeerGroups}
 use Rattle.am_group.specs.Propagation.{master_of_group}
 use Rattle.am_propagate.specs.MountTable.{MountTable}

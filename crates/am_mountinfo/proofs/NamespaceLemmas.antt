@@ -1,5 +1,5 @@
 -- Numbers that are sorted, and each of which is kept once.
-use Rattle.std.proofs.Common.{◌≡◌, ◌↔◌, ℕ, List, map, eqb, Contains, subst, sym}
+use Rattle.std.proofs.Common.{ℕ, List, map, eqb}
 use Rattle.std.specs.List.{dedup}
 use Rattle.std.specs.List.Sorted.{IsPermutation, IsSorted}
 use Rattle.std.specs.Ordering.{nat_cmp}
@@ -16,5 +16,6 @@ are_namespaces rows sorted moved sorts = record {
   rising = IsStrictlyIncreasing-dedup sorted sorts;
   each = λ ns. (
     (λ h. Contains-permutation sorted _ ns (IsPermutation-sym _ sorted moved) (Contains-from_dedup eqb sorted ns h)),
-    (λ h. Contains-dedup_nat sorted ns (Contains-permutation _ sorted ns moved h)));
+    (λ h. Contains-dedup_nat sorted ns (Contains-permutation _ sorted ns moved h)),
+  );
 }

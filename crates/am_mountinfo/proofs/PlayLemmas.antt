@@ -1,5 +1,6 @@
 -- The events so far have come.
-use Rattle.std.proofs.Common.{◌≡◌, ◌+◌, ◌≤◌, ℕ, Bool, true, false, cond, List, [], ◌∷◌, ◌++◌, length, count_by, Option, Some, None, Result, Ok, Err, IfOk, OnOk, refl, sym, ap, ◌∙◌, subst, inl, inr, append_assoc, arith}
+use Rattle.std.proofs.Common.{◌≡◌, ◌+◌, ℕ, Bool, cond, List, [], ◌∷◌, ◌++◌, length, count_by, Option, Some, None, Result, Ok, Err, IfOk, IfErr, OnOk, refl, sym, ap, ◌∙◌, subst, inl, inr, append_assoc}
+use Rattle.std.proofs.KnownBytes.{Appends-nil}
 use Rattle.std.proofs.lemmas.List.{map_push, append-nil, length-append}
 use Rattle.am_machine.specs.declared.event.Event.{Event}
 use Rattle.am_machine.specs.declared.answer.Answer.{Answer}
@@ -9,11 +10,11 @@ use Rattle.am_machine.specs.Machine.{Step, Run}
 use Rattle.am_script.specs.declared.fault.ScriptFault.{ScriptFault}
 use Rattle.am_script.specs.declared.play.Summary.{Summary}
 use Rattle.am_script.specs.Answers.{is_refused}
-use Rattle.am_script.specs.Opened.{NoRoomFor, NoNext}
+use Rattle.am_script.specs.Opened.{NoNext}
 use Rattle.am_script.specs.Script.{Numbered, Told, events_in, told_by, only_fault}
 use Rattle.am_script.proofs.Going.{behind, run_more, count_more}
 use Rattle.am_views.specs.Traced.{one_more}
-use Rattle.am_mountinfo.specs.WorldText.{IsWritten, EventsPlayed, NoRoomToPlay, NotPlayed, last_line, IsLastLine, WorldShown}
+use Rattle.am_mountinfo.specs.WorldText.{IsWritten, EventsPlayed, NotPlayed, NotWritten, last_line, IsLastLine, WorldShown, ShowStops}
 
 -- of all events these are left, and those before have come
 pub record Playing (start : State) (all left : Told) (now : State) (summary : Summary) (line : ℕ) : Type 0 where
@@ -94,3 +95,19 @@ shown_by only start last told old new summary (Ok s) played same written = recor
   played = subst (λ (t : Summary). EventsPlayed start told last t) (sym same) played;
   written = written;
 }
+
+-- or isn't written to its end
+pub stops_by : (only : Option ℕ) (start last : State) (told : Told) (old new : Option (List ℕ)) (summary : Summary) (line : ℕ) (r : Result Summary ScriptFault) → EventsPlayed start told last summary → IsLastLine line told.events → IfErr r (NotWritten only last line old new) → IfErr r (ShowStops only start told old new)
+stops_by only start last told old new summary line (Ok s) played is_last stops = tt
+stops_by only start last told old new summary line (Err fault) played is_last stops = inr (record {
+  last = last;
+  summary = summary;
+  played = played;
+  line = line;
+  is_last = is_last;
+  stops = stops;
+})
+
+-- not all events come
+pub stops_before : (only : Option ℕ) (start : State) (told : Told) (old : Option (List ℕ)) (fault : ScriptFault) → NotPlayed told fault → ShowStops only start told old old fault
+stops_before only start told old fault stops = inl (record { stops = stops; written = Appends-nil old })

@@ -1,12 +1,12 @@
 -- A text that is put out alone is written, or a beginning of it.
-use Rattle.std.proofs.Common.{◌≡◌, ◌⊎◌, ◌<◌, ℕ, List, [], ◌∷◌, ◌++◌, length, take, Option, None, Result, Ok, Err, OnOk, IfOk, IfErr, refl, sym, ap, ◌∙◌, subst, ⊎_elim, append-nil}
+use Rattle.std.proofs.Common.{◌≡◌, ℕ, List, [], ◌∷◌, ◌++◌, Option, None, Result, Ok, Err, OnOk, IfOk, IfErr, refl, sym, ◌∙◌, subst, ⊎_elim, append-nil}
 use Rattle.std.specs.Io.KnownBytes.{Appends}
 use Rattle.am_script.specs.declared.fault.ScriptFault.{ScriptFault}
 use Rattle.am_script.specs.declared.fault.ScriptFaultKind.TheVariants.{WriteFailed}
 use Rattle.am_script.specs.declared.output.Output.{Output}
 use Rattle.am_script.specs.declared.play.Summary.{Summary}
 use Rattle.am_script.specs.Fault.{fault_at}
-use Rattle.am_script.specs.Outputs.{Owed, owed_by, bytes_of, IsLost, Stands, Settles, Puts}
+use Rattle.am_script.specs.Outputs.{Owed, owed_by, IsLost, Stands, Settles, Puts}
 use Rattle.am_script.specs.Turns.{IsWhole, IsShort, Closes}
 use Rattle.am_script.proofs.Lost.{bytes_by, InText, Behind, split_owed}
 use Rattle.am_script.proofs.OwedLemmas.{stands_new}
@@ -37,11 +37,11 @@ text_ends fresh begun done line text summary old now held new r e f g settles is
     let all = put.puts [] old (settles [] old none) in
     let here : Stands done (owed_by line text) old held = subst (λ (n : ℕ). Stands done (owed_by n text) old held) is all in
     ⊎_elim (λ (w : IsWhole (Ok summary) r (owed_by line text) old new).
-        subst (λ (t : Result Summary ScriptFault). TextEnds line text summary old new t) (sym w.same)
-        (refl, subst (λ (t : List ℕ). Appends old new t) (bytes_by line text) w.written))
+    subst (λ (t : Result Summary ScriptFault). TextEnds line text summary old new t) (sym w.same)
+    (refl, subst (λ (t : List ℕ). Appends old new t) (bytes_by line text) w.written))
     (λ (s : IsShort r (owed_by line text) old new).
-        subst (λ (t : Result Summary ScriptFault). TextEnds line text summary old new t) (sym s.told)
-        (cut_text line s.line text old new s.lost))
+    subst (λ (t : Result Summary ScriptFault). TextEnds line text summary old new t) (sym s.told)
+    (cut_text line s.line text old new s.lost))
     (closes (owed_by line text) old here)
 
 pub ends_same : (line : ℕ) (text : List ℕ) (summary : Summary) (old new : Option (List ℕ)) (r : Result Summary ScriptFault) → TextEnds line text summary old new r → IfOk r (λ (told : Summary). told ≡ summary)

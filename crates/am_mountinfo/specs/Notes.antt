@@ -1,6 +1,6 @@
 -- What stands behind the mounts of a world, each in a comment of its own: what is open, queued, written
 -- down and at work, and where walkers are.
-use Rattle.std.specs.Prelude.{◌≡◌, ℕ, List, [], ◌∷◌, ◌++◌, map, codes, decimal, Option, None, Some}
+use Rattle.std.specs.Prelude.{ℕ, List, [], ◌∷◌, ◌++◌, codes, decimal, Option, None, Some}
 use Rattle.std.specs.List.{flat_map}
 use Rattle.std.specs.Option.{option_map}
 use Rattle.am_names.specs.declared.row.WaitRow.{WaitRow}

@@ -1,5 +1,5 @@
--- The open tokens as they are gathered. For the code alone.
-use Rattle.std.specs.Prelude.{◌≡◌, List, ◌∷◌, ◌++◌, codes, decimal, ℕ}
+-- The open tokens as they are gathered, and a row that may be there. For the code alone.
+use Rattle.std.specs.Prelude.{List, [], ◌++◌, codes, decimal, ℕ, Option, None, Some}
 use Rattle.std.specs.List.{flat_map}
 use Rattle.std.specs.Option.{option_map}
 use Rattle.am_wait.specs.Rows.{WaitRows, token_of}
@@ -16,3 +16,8 @@ open_text w o =
 
 abbrev pub opens_text : WaitRows → List Open → List ℕ
 opens_text w opens = flat_map (open_text w) opens
+
+-- what is written of a row, where there is one
+abbrev pub row_note : {X : Type 0} → (X → List ℕ) → Option X → List ℕ
+row_note note None = []
+row_note note (Some row) = note row

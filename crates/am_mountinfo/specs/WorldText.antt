@@ -12,7 +12,7 @@ use Rattle.am_script.specs.declared.fault.ScriptFaultKind.TheVariants.{NoMemory,
 use Rattle.am_script.specs.declared.play.Summary.{Summary}
 use Rattle.am_script.specs.Answers.{is_refused}
 use Rattle.am_script.specs.Lines.{lines_of}
-use Rattle.am_script.specs.Played.{NothingPlayed, StopsBefore}
+use Rattle.am_script.specs.Played.{NothingPlayed}
 use Rattle.am_script.specs.Read.{WasRead, played}
 use Rattle.am_script.specs.Script.{Numbered, events_in, Told, Script, script_of}
 use Rattle.am_views.specs.Traced.{HeadStops}

@@ -14,7 +14,10 @@ pub(crate) fn master_of(world: &World, mount: MountId) -> Option<GroupId>
     ensures { result ≡ master_of world.now.kernel.table.groups mount }
 {
     match world.member(mount)? {
-        MemberRow { group: Some(group), .. } => world.master_of_group(group),
+        MemberRow {
+            group: Some(group),
+            ..
+        } => world.master_of_group(group),
         MemberRow { master, .. } => master,
     }
 }

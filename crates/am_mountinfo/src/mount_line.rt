@@ -130,7 +130,12 @@ fn put_optional<W: Write>(
 {
     put_tag(output, b" shared:", group_of(world, row.mount), writer);
     put_tag(output, b" master:", master_of(world, row.mount), writer);
-    put_tag(output, b" propagate_from:", source_of(world, peers, row), writer);
+    put_tag(
+        output,
+        b" propagate_from:",
+        source_of(world, peers, row),
+        writer,
+    );
     put_unbindable(output, world.member(row.mount), writer);
 }
 

@@ -5,7 +5,7 @@ ghost use Rattle.std.specs.List.{flat_map};
 ghost use Rattle.am_daemon.specs.State.{rows_of, job_plan};
 ghost use Rattle.am_script.specs.Outputs.{Puts};
 ghost use Rattle.am_mountinfo.specs.Notes.{obs_note, walkers_text, trigger_text, token_note, packet_note, record_note, job_note, status_text, wait_text, walk_note, use_note, fs_notes, tokens_notes, packets_notes, book_notes, jobs_notes, walks_notes, uses_notes, kernel_notes, daemon_notes};
-ghost use Rattle.am_mountinfo.specs.Opens.{open_text, opens_text};
+ghost use Rattle.am_mountinfo.specs.Opens.{open_text, opens_text, row_note};
 
 use am_names::{FsId, Status, Token, Trigger, WaitRow, WalkerId};
 use am_script::answer_line::{put_number, put_place, put_word};
@@ -108,11 +108,7 @@ fn put_trigger_of<W: Write>(output: &mut Output, trigger: &Option<Trigger>, writ
 }
 
 /// Puts an observation out as a comment.
-#[tactic(
-    auto,
-    unfolding(crate::specs::Notes::obs_note),
-    using(am_script::proofs::Pieces::puts_three)
-)]
+#[tactic(auto, unfolding(crate::specs::Notes::obs_note), using(am_script::proofs::Pieces::puts_three))]
 fn put_note<W: Write>(output: &mut Output, obs: &Obs, writer: &mut W)
     ensures { Puts output.old output.new (obs_note obs.now) (W.contents writer.old) (W.contents writer.new) }
 {
@@ -199,9 +195,16 @@ fn put_uses<W: Write>(output: &mut Output, uses: &Uses, writer: &mut W)
     ensures { Puts output.old output.new (flat_map use_note uses.now) (W.contents writer.old) (W.contents writer.new) }
 {
     for index in 0..uses.len() {
-        if let Some(row) = uses.row(index) {
-            put_use(output, row, writer);
-        }
+        put_use_at(output, uses.row(index), writer);
+    }
+}
+
+fn put_use_at<W: Write>(output: &mut Output, row: Option<Use>, writer: &mut W)
+    ensures { Puts output.old output.new (row_note use_note row) (W.contents writer.old) (W.contents writer.new) }
+{
+    match row {
+        None => put_word(output, b"", writer),
+        Some(row) => put_use(output, row, writer),
     }
 }
 
@@ -229,9 +232,16 @@ fn put_book<W: Write>(output: &mut Output, book: &Book, writer: &mut W)
     ensures { Puts output.old output.new (flat_map record_note book.now.rows) (W.contents writer.old) (W.contents writer.new) }
 {
     for index in 0..book.len() {
-        if let Some(row) = book.row(index) {
-            put_record(output, row, writer);
-        }
+        put_record_at(output, book.row(index), writer);
+    }
+}
+
+fn put_record_at<W: Write>(output: &mut Output, row: Option<RecordRow>, writer: &mut W)
+    ensures { Puts output.old output.new (row_note record_note row) (W.contents writer.old) (W.contents writer.new) }
+{
+    match row {
+        None => put_word(output, b"", writer),
+        Some(row) => put_record(output, row, writer),
     }
 }
 

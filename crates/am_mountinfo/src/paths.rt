@@ -26,11 +26,7 @@ pub(crate) fn parent_of(row: &MountRow) -> MountId
 }
 
 /// The path of a mountpoint on a mount that has this path.
-fn below(
-    alloc: Global,
-    path: &[u8],
-    mountpoint: &Option<Position>,
-) -> Result<Vec<u8>, AllocError>
+fn below(alloc: Global, path: &[u8], mountpoint: &Option<Position>) -> Result<Vec<u8>, AllocError>
     ensures { IfOk result (λ text. text.items ≡ below path.now mountpoint.now) }
 {
     match mountpoint {

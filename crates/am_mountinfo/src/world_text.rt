@@ -187,11 +187,7 @@ fn show_world<W: Write>(
     }
 }
 
-fn gather<'a>(
-    alloc: Global,
-    world: &'a World,
-    only: Option<NsId>,
-) -> Result<View<'a>, AllocError>
+fn gather<'a>(alloc: Global, world: &'a World, only: Option<NsId>) -> Result<View<'a>, AllocError>
     ensures tables { IfOk result (λ view. AreTables view.tables world.now.kernel.table) }
     ensures text { IfOk result (λ view. IsText only (state_of world.now) (part_text world.now.kernel (rows_of world.now.daemon) view.part)) }
 {
@@ -231,12 +227,7 @@ fn print<W: Write>(
 }
 
 #[tactic(auto, using(am_views::proofs::FourPieces::puts_four))]
-fn put_part<W: Write>(
-    output: &mut Output,
-    world: &World,
-    view: &View<'_>,
-    writer: &mut W,
-)
+fn put_part<W: Write>(output: &mut Output, world: &World, view: &View<'_>, writer: &mut W)
     requires { AreTables view.now.tables world.now.kernel.table }
     ensures { Puts output.old output.new (part_text world.now.kernel (rows_of world.now.daemon) view.now.part) (W.contents writer.old) (W.contents writer.new) }
 {

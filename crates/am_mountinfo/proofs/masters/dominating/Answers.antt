@@ -10,6 +10,6 @@ loop-above-preserved c =
     let group = c.in-Some-above.group in
     rw c.master_of_group-above.ensures
     (sym (found_above t ns c.loop-above.most c.loop-above.above group c.in-Some-above.is
-        (ne_eqb c.loop-above.most 0 c.if-most-eq0.false)
-        (sym (c.requires ns group) ∙ sym c.has.ensures ∙ c.if-has.false))
+    (ne_eqb c.loop-above.most 0 c.if-most-eq0.false)
+    (sym (c.requires ns group) ∙ sym c.has.ensures ∙ c.if-has.false))
     ∙ c.loop-above.invariant)

@@ -5,6 +5,6 @@ use Rattle.am_mountinfo.specs.Opens.{opens_text}
 use Rattle.am_mountinfo.proofs.notes.add_opens.Given as goal
 
 abbrev pub invariant-loop-token : goal.invariant-loop-token
-invariant-loop-token l = 
+invariant-loop-token l =
     opens_text l.world.kernel.waits l.opens.items
     ≡ opens_text l.world.kernel.waits l.fn.opens.items ++ flat_map (token_note l.world.kernel.waits) (take l.token-index l.token-items)

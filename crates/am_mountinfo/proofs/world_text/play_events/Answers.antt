@@ -1,5 +1,5 @@
 use Rattle.std.proofs.Common.{◌≡◌, Some, Ok, option_copied, arith}
-use Rattle.am_script.specs.Lines.{lines_in, size_in}
+use Rattle.am_script.specs.Lines.{lines_in}
 use Rattle.am_script.specs.Script.{Told, events_from, told_by}
 use Rattle.am_views.proofs.TracesSoFar.{more_lines}
 use Rattle.am_mountinfo.proofs.PlayLemmas.{playing_none, playing_more, playing_ends, last_ends, playing_fails}
