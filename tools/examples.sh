@@ -1,7 +1,8 @@
 #!/bin/sh
-# tools/examples.sh: plays each script of `examples`, and compares its answers, its trace and its
-# picture with those beside it; compares the script with the copy that `am_sweeps` plays; reads each trace
-# back; and has a parser of XML read each picture. The last line counts them.
+# tools/examples.sh: plays each script of `examples`, and compares its answers, its trace, its picture and
+# its world with those beside it; compares the script with the copy that `am_sweeps` plays; reads each
+# trace back; has a parser of XML read each picture, and findmnt each namespace of each world. The last
+# line counts them.
 set -u
 export LC_ALL=C
 . "$(dirname "$0")/common.sh"
@@ -69,6 +70,36 @@ expect_picture() {
     expect "$1, its picture read as XML" "$room/shown" "$room/events"
 }
 
+# The states of the mounts of one namespace as findmnt reads them, of mounts with one path that of the last.
+found_states() {
+    findmnt --tab-file "$room/mounts" --raw --noheadings -o TARGET,PROPAGATION 2> "$room/said" | awk '
+        !($1 in state) { order[++count] = $1 }
+        { state[$1] = $2 }
+        END { for (at = 1; at <= count; at++) print order[at], state[order[at]] }
+    ' | sed -e 's/ shared,slave$/ shared-slave/' -e 's/ private,slave$/ slave/' \
+        -e 's/ private,unbindable$/ unbindable/'
+}
+
+# The states of the same mounts, as a script that asks for them behind its events is answered.
+asked_states() {
+    cut -d ' ' -f 1 "$room/found" > "$room/paths"
+    { cat "$1"; sed "s|^|kind $2 |" "$room/paths"; } > "$room/asking"
+    play script "$room/asking"
+    tail -n "$(wc -l < "$room/paths")" "$room/script" | sed 's/^kind //' | paste -d ' ' "$room/paths" -
+}
+
+# What findmnt reads of each namespace is what the script answers of its mounts.
+expect_found() {
+    for ns in $(sed -n 's/^# namespace //p' "$room/world"); do
+        "$program" world --namespace "$ns" < "$2" > "$room/mounts"
+        found_states > "$room/found"
+        asked_states "$2" "$ns" > "$room/states"
+        expect "$1, namespace $ns read by findmnt" "$room/found" "$room/states"
+    done
+}
+
+command -v findmnt > /dev/null || echo "findmnt isn't there: no world is read by it"
+
 for script in examples/*.script; do
     name=$(basename "$script" .script)
     play script "$script"
@@ -78,6 +109,9 @@ for script in examples/*.script; do
     expect "example $name, its trace" "$room/trace" "examples/$name.trace"
     expect_read_back "example $name" "$script"
     expect_picture "example $name" "$script" "examples/$name.svg"
+    play world "$script"
+    expect "example $name, its world" "$room/world" "examples/$name.world"
+    ! command -v findmnt > /dev/null || expect_found "example $name" "$script"
 done
 
 # Names of 255 bytes, with a backslash and quotes, and with bytes that aren't UTF-8.

@@ -1,7 +1,7 @@
 -- The exit statuses of a command line that is none, and the numbers of one that is.
 use Rattle.std.specs.Prelude.{ℕ, ◌≤◌, ⊤}
 use Rattle.automount_cli.specs.declared.args.Args.{Args}
-use Rattle.automount_cli.specs.declared.args.Args.TheVariants.{Script, Trace, Draw, Threads}
+use Rattle.automount_cli.specs.declared.args.Args.TheVariants.{Script, Trace, Draw, World, Threads}
 use Rattle.automount_cli.specs.declared.args.ArgsFault.{ArgsFault}
 use Rattle.automount_cli.specs.declared.args.ArgsFault.TheVariants.{NoMemory, Usage}
 
@@ -18,4 +18,5 @@ abbrev pub IsInRange : Args → Type 0
 IsInRange Script = ⊤
 IsInRange Trace = ⊤
 IsInRange (Draw first last) = IsUpTo 4294967295 first × IsUpTo 4294967295 last
+IsInRange (World namespace) = ⊤
 IsInRange (Threads walkers workers rounds) = IsUpTo 16 walkers × IsUpTo 16 workers × IsUpTo 1000 rounds

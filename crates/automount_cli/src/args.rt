@@ -22,6 +22,11 @@ pub enum Args {
         /// The number of the last one, from 1.
         last: u32,
     },
+    /// Prints the world that the script on standard input leaves.
+    World {
+        /// Only the mounts of this namespace, if one is named.
+        namespace: Option<u32>,
+    },
     /// Lets so many threads walk, each so many rounds, and so many serve them.
     Threads {
         /// 1 to 16.
@@ -91,6 +96,9 @@ fn asked(matches: &ArgMatches<'_>) -> Result<Args, ArgsFault>
         Some(("script", _)) => Ok(Args::Script),
         Some(("trace", _)) => Ok(Args::Trace),
         Some(("draw", given)) => draw(given),
+        Some(("world", given)) => Ok(Args::World {
+            namespace: given.get_one::<u32>("namespace"),
+        }),
         Some(("threads", given)) => threads(given),
         _ => Err(ArgsFault::Usage),
     }
@@ -116,29 +124,30 @@ pub fn read_args(alloc: Global, words: &[&str]) -> Result<Args, ArgsFault>
     }
 }
 
-/// An option that is a number, and has a default.
-fn option<'a>(alloc: Global, name: &'a str, default: &'a str) -> Arg<'a> {
+/// An option that is a number.
+fn option<'a>(alloc: Global, name: &'a str) -> Arg<'a> {
     Arg::new(alloc, name)
         .long(name)
         .action(ArgAction::Set)
         .value_parser(value_parser!(u32))
-        .default_value(default)
 }
 
 fn command<'a>(alloc: Global) -> Result<Command<'a>, AllocError> {
     let script = Command::new(alloc, "script");
     let trace = Command::new(alloc, "trace");
     let draw = Command::new(alloc, "draw")
-        .arg(option(alloc, "from", "1"))?
-        .arg(option(alloc, "to", "4294967295"))?;
+        .arg(option(alloc, "from").default_value("1"))?
+        .arg(option(alloc, "to").default_value("4294967295"))?;
+    let world = Command::new(alloc, "world").arg(option(alloc, "namespace"))?;
     let threads = Command::new(alloc, "threads")
-        .arg(option(alloc, "walkers", "4"))?
-        .arg(option(alloc, "workers", "2"))?
-        .arg(option(alloc, "rounds", "10"))?;
+        .arg(option(alloc, "walkers").default_value("4"))?
+        .arg(option(alloc, "workers").default_value("2"))?
+        .arg(option(alloc, "rounds").default_value("10"))?;
     Command::new(alloc, "automount_cli")
         .subcommand_required(true)
         .subcommand(script)?
         .subcommand(trace)?
         .subcommand(draw)?
+        .subcommand(world)?
         .subcommand(threads)
 }

@@ -8,6 +8,8 @@ ghost use Rattle.automount_cli.specs.Args.{fault_number};
 
 use crate::args::{Args, ArgsFault, read_args};
 use am_draw::draw_script;
+use am_mountinfo::world_script;
+use am_names::NsId;
 use am_runner::{Tally, run_threads};
 use am_script::{ScriptFault, run_script};
 use am_views::trace_script;
@@ -34,6 +36,7 @@ pub fn run_program<T: Threads + Wait + Sync, R: Read, W: Write, E: Write>(
         Ok(Args::Script) => play(alloc, reader, writer, errors),
         Ok(Args::Trace) => trace(alloc, reader, writer, errors),
         Ok(Args::Draw { first, last }) => draw(alloc, first, last, reader, writer, errors),
+        Ok(Args::World { namespace }) => show(alloc, reader, writer, errors, namespace),
         Ok(
             Args::Threads {
                 walkers,
@@ -88,6 +91,22 @@ fn draw<R: Read, W: Write, E: Write>(
 {
     match draw_script(alloc, reader, writer, u64::from(first), u64::from(last)) {
         Ok(_drawn) => 0,
+        Err(fault) => stop(errors, fault),
+    }
+}
+
+/// Prints the world that the script leaves which the reader gives; of one namespace alone, if it is named.
+fn show<R: Read, W: Write, E: Write>(
+    alloc: Global,
+    reader: &mut R,
+    writer: &mut W,
+    errors: &mut E,
+    namespace: Option<u32>,
+) -> u8
+    ensures { ExitsWith (R.remaining reader.old) (R.remaining reader.new) (W.contents writer.old) (W.contents writer.new) (E.contents errors.old) (E.contents errors.new) result }
+{
+    match world_script(alloc, reader, writer, namespace.map(|ns| NsId(ns))) {
+        Ok(_shown) => 0,
         Err(fault) => stop(errors, fault),
     }
 }

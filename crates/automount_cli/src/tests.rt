@@ -7,6 +7,8 @@ use std::sync::Wait;
 use std::test::Fail;
 use std::thread::Threads;
 
+mod worlds;
+
 #[test]
 fn script_takes_no_words(rt: HostRuntime) {
     let alloc = rt.alloc();
@@ -62,6 +64,24 @@ fn numbers_of_events(rt: HostRuntime) {
         read_args(alloc, &["cli", "draw", "--to", "4294967296"]),
         Err(ArgsFault::Usage)
     );
+}
+
+#[test]
+fn world_takes_a_namespace(rt: HostRuntime) {
+    let alloc = rt.alloc();
+    let whole = Args::World { namespace: None };
+    assert_eq!(rt; read_args(alloc, &["cli", "world"]), Ok(whole));
+    let one = Args::World { namespace: Some(0) };
+    assert_eq!(rt; read_args(alloc, &["cli", "world", "--namespace", "0"]), Ok(one));
+    assert_eq!(rt;
+        read_args(alloc, &["cli", "world", "--namespace", "one"]),
+        Err(ArgsFault::Usage)
+    );
+    assert_eq!(rt;
+        read_args(alloc, &["cli", "world", "--namespace"]),
+        Err(ArgsFault::Usage)
+    );
+    assert_eq!(rt; read_args(alloc, &["cli", "world", "1"]), Err(ArgsFault::Usage));
 }
 
 fn threads(walkers: u32, workers: u32, rounds: u32) -> Result<Args, ArgsFault> {
