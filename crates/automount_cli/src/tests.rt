@@ -72,7 +72,10 @@ fn world_takes_a_namespace(rt: HostRuntime) {
     let whole = Args::World { namespace: None };
     assert_eq!(rt; read_args(alloc, &["cli", "world"]), Ok(whole));
     let one = Args::World { namespace: Some(0) };
-    assert_eq!(rt; read_args(alloc, &["cli", "world", "--namespace", "0"]), Ok(one));
+    assert_eq!(rt;
+        read_args(alloc, &["cli", "world", "--namespace", "0"]),
+        Ok(one)
+    );
     assert_eq!(rt;
         read_args(alloc, &["cli", "world", "--namespace", "one"]),
         Err(ArgsFault::Usage)
@@ -81,7 +84,10 @@ fn world_takes_a_namespace(rt: HostRuntime) {
         read_args(alloc, &["cli", "world", "--namespace"]),
         Err(ArgsFault::Usage)
     );
-    assert_eq!(rt; read_args(alloc, &["cli", "world", "1"]), Err(ArgsFault::Usage));
+    assert_eq!(rt;
+        read_args(alloc, &["cli", "world", "1"]),
+        Err(ArgsFault::Usage)
+    );
 }
 
 fn threads(walkers: u32, workers: u32, rounds: u32) -> Result<Args, ArgsFault> {
