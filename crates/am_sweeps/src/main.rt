@@ -1,18 +1,15 @@
 //! Plays each script that lies beside it over and over, each time with something else done to it: the
 //! daemon dies, the file system becomes catatonic, the daemon attaches again, or a pipe is full or
 //! gone, at every position. Whatever comes of it, the laws hold of the trace, kernel and daemon agree,
-//! and acts of an old attachment are refused. And from each world of a script every open token can be
-//! closed.
+//! and acts of an old attachment are refused.
 #![tactic(auto)]
 
 mod agreement;
-mod closings;
 mod edit;
 mod judge;
 mod script;
 mod sweeps;
 
-use crate::closings::{Closed, each_token};
 use crate::judge::Seen;
 use crate::script::Script;
 use crate::sweeps::{each_pair, each_single};
@@ -61,8 +58,7 @@ fn sweep(rt: &HostRuntime, name: &str) -> Result<bool> {
     let path = format!(in rt.alloc(); "{name}.script")?;
     let text = fs::read(rt, path.as_str())?;
     let script = Script::read(rt.alloc(), text)?;
-    let is_closed = close_each(rt, name, &script)?;
-    let is_well = sweep_singly(rt, name, &script)? && is_closed;
+    let is_well = sweep_singly(rt, name, &script)?;
     if name == IN_PAIRS {
         return Ok(sweep_in_pairs(rt, name, &script)? && is_well);
     }
@@ -94,21 +90,6 @@ fn sweep_in_pairs(rt: &HostRuntime, name: &str, script: &Script) -> Result<bool>
         }
         Some((first, second)) => {
             println!(rt; "{name}, in pairs: not as it must be, {first}, and then {second}")?;
-            Ok(false)
-        }
-    }
-}
-
-/// Whether each open token of a script's worlds can be closed.
-fn close_each(rt: &HostRuntime, name: &str, script: &Script) -> Result<bool> {
-    let mut seen = Closed::new();
-    match each_token(rt.alloc(), script, &mut seen)? {
-        None => {
-            println!(rt; "{name}, its open tokens: {seen}")?;
-            Ok(true)
-        }
-        Some(open) => {
-            println!(rt; "{name}, its open tokens: not as it must be, {open}")?;
             Ok(false)
         }
     }
