@@ -1,7 +1,13 @@
-//! Laws: what is true of every trace, of every run and of every step.
+//! Laws: what is true of every trace, of every run and of every step, and what can always be done next.
 
 pub use am_laws::trace_holds;
 pub use am_machine::laws::{
     runs_agree, runs_are_in_step, runs_are_lawful, runs_are_never_busy, runs_go_on,
     runs_refuse_in_step, steps_add_no_receivers, steps_are_lawful,
+};
+pub use am_progress::laws::{
+    expiries_leave_trap_or_mount, jobs_have_five_acts, jobs_keep_what_they_have_left,
+    next_acts_are_never_refused, open_tokens_can_be_closed, open_tokens_can_be_closed_among_others,
+    queued_packets_can_be_delivered, service_lasts_until_its_end_is_seen,
+    waiting_walkers_can_go_on,
 };
