@@ -58,10 +58,15 @@ fn served_of(world: &World, row: &Attached) -> Option<Served> {
     })
 }
 
+/// Whether the daemon serves the file system of this.
+pub fn is_served(world: &World, row: &Attached) -> bool {
+    served_of(world, row).is_some()
+}
+
 /// Whether the daemon serves a file system.
 pub fn is_any_served(world: &World) -> bool {
     for row in world.attached() {
-        if served_of(world, row).is_some() {
+        if is_served(world, row) {
             return true;
         }
     }

@@ -1,15 +1,18 @@
 //! Plays each script that lies beside it over and over, each time with something else done to it: the
 //! daemon dies, the file system becomes catatonic, the daemon attaches again, or a pipe is full or
 //! gone, at every position. Whatever comes of it, the laws hold of the trace, kernel and daemon agree,
-//! and acts of an old attachment are refused.
+//! and acts of an old attachment are refused. And from each world of a script every open token can be
+//! closed.
 #![tactic(auto)]
 
 mod agreement;
+mod closings;
 mod edit;
 mod judge;
 mod script;
 mod sweeps;
 
+use crate::closings::{Closed, is_closed, open_tokens};
 use crate::judge::Seen;
 use crate::script::Script;
 use crate::sweeps::{each_pair, each_single};
@@ -58,7 +61,8 @@ fn sweep(rt: &HostRuntime, name: &str) -> Result<bool> {
     let path = format!(in rt.alloc(); "{name}.script")?;
     let text = fs::read(rt, path.as_str())?;
     let script = Script::read(rt.alloc(), text)?;
-    let is_well = sweep_singly(rt, name, &script)?;
+    let are_closed = close_each(rt, name, &script)?;
+    let is_well = sweep_singly(rt, name, &script)? && are_closed;
     if name == IN_PAIRS {
         return Ok(sweep_in_pairs(rt, name, &script)? && is_well);
     }
@@ -93,4 +97,17 @@ fn sweep_in_pairs(rt: &HostRuntime, name: &str, script: &Script) -> Result<bool>
             Ok(false)
         }
     }
+}
+
+/// Whether each open token of a script's worlds can be closed.
+fn close_each(rt: &HostRuntime, name: &str, script: &Script) -> Result<bool> {
+    let mut seen = Closed::new();
+    for open in &open_tokens(rt.alloc(), script)? {
+        if !is_closed(rt.alloc(), script, open, &mut seen)? {
+            println!(rt; "{name}, its open tokens: not as it must be, {open}")?;
+            return Ok(false);
+        }
+    }
+    println!(rt; "{name}, its open tokens: {seen}")?;
+    Ok(true)
 }
