@@ -1,3 +1,6 @@
 pub mod UseLemmas
 pub mod IndexLemmas
+pub mod OrderLemmas
+pub mod TouchLemmas
 pub mod PickLemmas
+pub mod UpLemmas

@@ -1,9 +1,12 @@
 -- What the fields stand for, and what they keep.
-use Rattle.std.specs.Prelude.{◌≡◌, ℕ, List, [], ◌∷◌, map, None}
+use Rattle.std.specs.Prelude.{◌≡◌, ℕ, ◌-◌, min, List, [], ◌∷◌, map, None, vec_len, vec_capacity}
+use Rattle.am_trigger.specs.Table.{TriggerTable}
 use Rattle.am_expire.specs.declared.uses.Use.{Use}
 use Rattle.am_expire.specs.declared.uses.Uses.TheInside.{Inside}
 use Rattle.am_expire.specs.Uses.{mount_of, use_count}
 use Rattle.am_expire.specs.Counts.{counted}
+use Rattle.am_expire.specs.Order.{IsOrder}
+use Rattle.am_expire.specs.declared.ordered.OrderedTriggers.TheInside as ordered
 
 abbrev pub use_of : ℕ × ℕ → Use
 use_of entry = record { walker = entry.0; mount = entry.1 }
@@ -23,3 +26,14 @@ AreCounts counts rows = (mount : ℕ) → counted counts mount ≡ use_count row
 pub record IsKept (u : Inside) : Type 0 where
   pub single : IsSingle (rows_of u)
   pub counts : AreCounts u.counts.entries (rows_of u)
+
+-- there is room for a last use where there is room for it in the order too
+abbrev pub ordered_of : ordered.Inside → TriggerTable
+ordered_of t = record {
+  rows = t.triggers.rows;
+  autofs_room = t.triggers.autofs_room;
+  use_room = min t.triggers.use_room (vec_capacity t.order.rows - vec_len t.order.rows);
+}
+
+abbrev pub IsOrdered : ordered.Inside → Type 0
+IsOrdered t = IsOrder t.triggers.rows.uses t.order.rows.items

@@ -1,8 +1,8 @@
--- What a pick looks at, and how it looks through the last uses.
-use Rattle.std.specs.Prelude.{◌≡◌, ℕ, Bool, true, List, [], take, filter, Option, Some, None}
+-- What a pick looks at.
+use Rattle.std.specs.Prelude.{◌≡◌, ℕ, List, [], slice_get, Option, Some, None, if◌then◌else◌}
 use Rattle.am_names.specs.declared.trigger.Trigger.{Trigger}
 use Rattle.am_expire.specs.declared.expiry.View.{View}
-use Rattle.am_expire.specs.Pick.{Expiry, is_eligible, comes_before, IsLeast}
+use Rattle.am_expire.specs.Pick.{Expiry, is_due, IsLeast}
 
 abbrev pub expiry_in : View → Expiry
 expiry_in v = record {
@@ -16,16 +16,16 @@ expiry_in v = record {
   immediate = v.immediate;
 }
 
--- the row comes before the least so far, as any does where there is none
-abbrev pub comes_first : Option (Trigger × ℕ) → Trigger × ℕ → Bool
-comes_first None row = true
-comes_first (Some best) row = comes_before row best
-
--- the last uses before this index of those that may expire now
-abbrev pub candidates_before : ℕ → Expiry → List (Trigger × ℕ)
-candidates_before index e = filter (is_eligible e) (take index e.triggers.uses)
-
 -- the least of these rows; none, where there is no row
 abbrev pub IsBest : List (Trigger × ℕ) → Option (Trigger × ℕ) → Type 0
 IsBest rows None = rows ≡ []
 IsBest rows (Some best) = IsLeast rows best
+
+abbrev pub due_in : Expiry → Option (Trigger × ℕ) → Option Trigger
+due_in e None = None
+due_in e (Some row) =
+    if is_due e.timeout e.moment e.immediate row.1 then Some row.0 else None
+
+-- the trigger of the row at this index, if there is one and it is due
+abbrev pub due_at : Expiry → List (Trigger × ℕ) → ℕ → Option Trigger
+due_at e rows index = due_in e (slice_get rows index)

@@ -1,14 +1,17 @@
 //! Which trigger of an autofs expires next (autofs.rst, "Mountpoint expiry").
 
-ghost use Rattle.std.specs.Prelude.{◌≡◌, ◌+◌, None, IfOk};
+ghost use Rattle.std.specs.Prelude.{◌≡◌, ◌+◌, nat_lt, filter, None, IfOk, if◌then◌else◌};
+ghost use Rattle.std.specs.List.{position_or_len};
 ghost use Rattle.am_names.specs.Errno.{RefusedAs};
-ghost use Rattle.am_expire.specs.Pick.{Expiry, is_due, may_go, mount_on, is_open, is_eligible, candidates, is_lesser_name, comes_before, IsPick, pick_of};
-ghost use Rattle.am_expire.specs.Scan.{expiry_in, comes_first, candidates_before, IsBest};
+ghost use Rattle.am_expire.specs.Pick.{Expiry, is_due, may_go, mount_on, is_open, is_eligible, IsPick, pick_of};
+ghost use Rattle.am_expire.specs.Order.{is_of, IsOrder, is_off, is_end, looks_in, IsLooks};
+ghost use Rattle.am_expire.specs.Scan.{expiry_in, due_at};
 
+use crate::ordered::OrderedTriggers;
 use crate::uses::Uses;
-use am_names::{Errno, FsId, MountId, Name, Seconds, TokenKind, Trigger};
+use am_names::{Errno, FsId, MountId, Seconds, TokenKind, Trigger};
 use am_propagate::Subtree;
-use am_trigger::{Triggers, place_of};
+use am_trigger::place_of;
 use am_wait::Waits;
 use std::alloc::{AllocError, Global};
 
@@ -16,7 +19,7 @@ use std::alloc::{AllocError, Global};
 #[derive(Clone, Copy)]
 struct View<'a> {
     subtree: &'a Subtree,
-    triggers: &'a Triggers,
+    triggers: &'a OrderedTriggers,
     waits: &'a Waits,
     uses: &'a Uses,
     fs: FsId,
@@ -25,38 +28,24 @@ struct View<'a> {
     immediate: bool,
 }
 
-fn is_lesser_name(name: &Option<Name>, other: &Option<Name>) -> bool
-    ensures { result ≡ is_lesser_name name.now other.now }
+/// How many of so many rows are looked at, where this many are passed.
+fn looks_of(passed: usize, len: usize) -> usize
+    ensures { result ≡ (if nat_lt passed len then passed + 1 else len) }
 {
-    match (name, other) {
-        (Some(name), Some(other)) => name.as_bytes().cmp(other.as_bytes()).is_lt(),
-        (None, Some(_)) => true,
-        (Some(_), None) | (None, None) => false,
-    }
-}
-
-fn comes_before(row: &(Trigger, Seconds), other: &(Trigger, Seconds)) -> bool
-    ensures { result ≡ comes_before row.now other.now }
-{
-    if row.1 < other.1 {
-        return true;
-    }
-    if row.1 != other.1 {
-        return false;
-    }
-    is_lesser_name(&row.0.name, &other.0.name)
-}
-
-fn comes_first(best: &Option<(Trigger, Seconds)>, row: &(Trigger, Seconds)) -> bool
-    ensures { result ≡ comes_first best.now row.now }
-{
-    match best {
-        Some(best) => comes_before(row, best),
-        None => true,
-    }
+    if passed < len { passed + 1 } else { len }
 }
 
 impl View<'_> {
+    /// Whether none is due, since there is no timeout.
+    fn is_off(&self) -> bool
+        ensures { result ≡ is_off (expiry_in self.now) }
+    {
+        if self.immediate {
+            return false;
+        }
+        self.timeout == 0
+    }
+
     fn is_due(&self, last: Seconds) -> bool
         ensures { result ≡ is_due self.now.timeout self.now.moment self.now.immediate last }
     {
@@ -84,7 +73,7 @@ impl View<'_> {
         ensures refusal { RefusedAs None result }
         ensures ok { IfOk result (λ mount. mount ≡ mount_on (expiry_in self.now) trigger.now) }
     {
-        let Some(autofs) = self.triggers.autofs(self.fs) else {
+        let Some(autofs) = self.triggers.as_triggers().autofs(self.fs) else {
             return Ok(None);
         };
         let place = place_of(alloc, trigger)?;
@@ -119,67 +108,80 @@ impl View<'_> {
         self.may_go(alloc, mount)
     }
 
-    /// The least of the rows before this one, and that of those and this one.
-    fn least_with(
-        &self,
-        alloc: Global,
-        best: &Option<(Trigger, Seconds)>,
-        index: usize,
-    ) -> Result<Option<(Trigger, Seconds)>, Errno>
-        requires { IsBest (candidates_before index (expiry_in self.now)) best.now }
+    /// Whether a pick goes no further up the order than to this row.
+    fn is_end(&self, alloc: Global, row: &(Trigger, Seconds)) -> Result<bool, Errno>
         ensures refusal { RefusedAs None result }
-        ensures ok { IfOk result (λ best. IsBest (candidates_before (index + 1) (expiry_in self.now)) best) }
+        ensures ok { IfOk result (λ end. end ≡ is_end (expiry_in self.now) row.now) }
     {
-        let Some(last) = self.triggers.last_use_at(index) else {
-            return Ok(*best);
-        };
-        // Most are not due, and their triggers are long.
-        if !self.is_due(last) {
-            return Ok(*best);
+        if !self.is_due(row.1) {
+            return Ok(true);
         }
-        let Some(row) = self.triggers.use_at(index) else {
-            return Ok(*best);
-        };
-        // Whether it may expire comes last: that takes looks at what is mounted on it.
-        if !comes_first(best, &row) {
-            return Ok(*best);
-        }
-        if !self.is_eligible(alloc, &row)? {
-            return Ok(*best);
-        }
-        Ok(Some(row))
+        self.is_eligible(alloc, row)
     }
 
-    /// The least of all that may expire.
-    fn least(&self, alloc: Global) -> Result<Option<(Trigger, Seconds)>, Errno>
+    /// How many rows a pick passes before it ends.
+    fn passed(&self, alloc: Global, rows: &[(Trigger, Seconds)]) -> Result<usize, Errno>
         ensures refusal { RefusedAs None result }
-        ensures ok { IfOk result (λ best. IsBest (candidates (expiry_in self.now)) best) }
+        ensures ok { IfOk result (λ passed. passed ≡ position_or_len (is_end (expiry_in self.now)) rows.now) }
     {
-        let mut best = None;
-        for index in 0..self.triggers.use_count() {
-            best = self.least_with(alloc, &best, index)?;
+        for (index, row) in rows.iter().enumerate() {
+            if self.is_end(alloc, row)? {
+                return Ok(index);
+            }
         }
-        Ok(best)
+        Ok(rows.len())
+    }
+
+    /// The trigger of the row at which a pick ends, if it is due.
+    fn due_at(&self, rows: &[(Trigger, Seconds)], index: usize) -> Option<Trigger>
+        ensures { result ≡ due_at (expiry_in self.now) rows.now index }
+    {
+        let row = rows.get(index)?;
+        if self.is_due(row.1) {
+            Some(row.0)
+        } else {
+            None
+        }
+    }
+
+    /// The pick out of the rows of its file system, and how many of them it looks at.
+    fn pick_in(
+        &self,
+        alloc: Global,
+        rows: &[(Trigger, Seconds)],
+    ) -> Result<(Option<Trigger>, usize), Errno>
+        requires { IsOrder (filter (is_of self.now.fs) self.now.triggers.now.rows.uses) rows.now }
+        ensures refusal { RefusedAs None result }
+        ensures pick { IfOk result (λ r. IsPick (expiry_in self.now) r.0) }
+        ensures exact { IfOk result (λ r. r.0 ≡ pick_of (expiry_in self.now)) }
+        ensures looks { IfOk result (λ r. r.1 ≡ looks_in (expiry_in self.now) rows.now) }
+    {
+        if self.is_off() {
+            return Ok((None, 0));
+        }
+        let passed = self.passed(alloc, rows)?;
+        let looks = looks_of(passed, rows.len());
+        Ok((self.due_at(rows, passed), looks))
     }
 }
 
-/// The trigger of the file system that expires next: of those that may expire the one that was
-/// not used for the longest time, and of those last used at one moment the one with the least
-/// name. None may expire without a timeout, if not at once (autofs.rst, "Mountpoint expiry").
-pub fn pick(
+/// What `pick` finds, and how many last uses of the file system it looked at. It goes up their order,
+/// and ends at the one that it picks, or at the first that isn't due.
+pub fn pick_counted(
     alloc: Global,
     subtree: &Subtree,
-    triggers: &Triggers,
+    triggers: &OrderedTriggers,
     waits: &Waits,
     uses: &Uses,
     fs: FsId,
     timeout: u32,
     moment: Seconds,
     immediate: bool,
-) -> Result<Option<Trigger>, Errno>
+) -> Result<(Option<Trigger>, usize), Errno>
     ensures refusal { RefusedAs None result }
-    ensures ok { IfOk result (λ found. IsPick (record { table = subtree.now; triggers = triggers.now.rows; waits = waits.now; uses = uses.now; fs = fs; timeout = timeout; moment = moment; immediate = immediate }) found) }
-    ensures exact { IfOk result (λ found. found ≡ pick_of (record { table = subtree.now; triggers = triggers.now.rows; waits = waits.now; uses = uses.now; fs = fs; timeout = timeout; moment = moment; immediate = immediate })) }
+    ensures ok { IfOk result (λ r. IsPick (record { table = subtree.now; triggers = triggers.now.rows; waits = waits.now; uses = uses.now; fs = fs; timeout = timeout; moment = moment; immediate = immediate }) r.0) }
+    ensures exact { IfOk result (λ r. r.0 ≡ pick_of (record { table = subtree.now; triggers = triggers.now.rows; waits = waits.now; uses = uses.now; fs = fs; timeout = timeout; moment = moment; immediate = immediate })) }
+    ensures looks { IfOk result (λ r. IsLooks (record { table = subtree.now; triggers = triggers.now.rows; waits = waits.now; uses = uses.now; fs = fs; timeout = timeout; moment = moment; immediate = immediate }) r.1) }
 {
     let view = View {
         subtree,
@@ -191,8 +193,29 @@ pub fn pick(
         moment,
         immediate,
     };
-    match view.least(alloc)? {
-        Some((trigger, _)) => Ok(Some(trigger)),
-        None => Ok(None),
-    }
+    view.pick_in(alloc, triggers.order_of(fs))
+}
+
+/// The trigger of the file system that expires next: of those that may expire the one that was
+/// not used for the longest time, and of those last used at one moment the one with the least
+/// name. None may expire without a timeout, if not at once (autofs.rst, "Mountpoint expiry").
+pub fn pick(
+    alloc: Global,
+    subtree: &Subtree,
+    triggers: &OrderedTriggers,
+    waits: &Waits,
+    uses: &Uses,
+    fs: FsId,
+    timeout: u32,
+    moment: Seconds,
+    immediate: bool,
+) -> Result<Option<Trigger>, Errno>
+    ensures refusal { RefusedAs None result }
+    ensures ok { IfOk result (λ found. IsPick (record { table = subtree.now; triggers = triggers.now.rows; waits = waits.now; uses = uses.now; fs = fs; timeout = timeout; moment = moment; immediate = immediate }) found) }
+    ensures exact { IfOk result (λ found. found ≡ pick_of (record { table = subtree.now; triggers = triggers.now.rows; waits = waits.now; uses = uses.now; fs = fs; timeout = timeout; moment = moment; immediate = immediate })) }
+{
+    let (found, _looks) = pick_counted(
+        alloc, subtree, triggers, waits, uses, fs, timeout, moment, immediate,
+    )?;
+    Ok(found)
 }

@@ -3,7 +3,10 @@
 #![tactic(auto)]
 
 pub mod expiry;
+pub mod order;
+pub mod ordered;
 pub mod uses;
 
-pub use expiry::pick;
+pub use expiry::{pick, pick_counted};
+pub use ordered::OrderedTriggers;
 pub use uses::{Use, Uses};

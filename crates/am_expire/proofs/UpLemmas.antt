@@ -1,0 +1,317 @@
+-- How far a pick goes up the order of a file system.
+use Rattle.std.proofs.Common.{◌≡◌, ℕ, ◌+◌, ◌<◌, ◌≤◌, ◌&&◌, ◌||◌, ◌==◌, Bool, true, false, cond, nat_lt, List, [], ◌∷◌, Option, Some, None, All, filter, length, get_or, suc, zero, refl, sym, ap, subst, ◌∙◌, arith}
+use Rattle.std.specs.Prelude.{Contains, not, nat_le, slice_get}
+use Rattle.std.specs.List.{position_or_len}
+use Rattle.std.specs.Option.{option_map, unwrap_or}
+use Rattle.std.proofs.lemmas.Bool.Decides.{nat_tests}
+use Rattle.std.proofs.lemmas.List.{get_or_default}
+use Rattle.std.proofs.lemmas.List.Elements.{All-weaker, All-head, All-tail, All-filter, All-get_or, All-from_get_or, Contains-append_right, filter_passes}
+use Rattle.std.proofs.lemmas.List.Sums.{fails_before_first, passes_at_first, position_or_len_is}
+use Rattle.std.proofs.lemmas.Option.{slice_get_within, get_or_from_slice_get, slice_get_cases}
+use Rattle.am_names.specs.declared.trigger.Trigger.{Trigger}
+use Rattle.am_expire.specs.Order.{is_of, is_off, is_end, looks_up, looks_in, AreSame, IsOrder}
+use Rattle.am_expire.specs.Pick.{Expiry, is_due, is_open, may_go, mount_on, is_eligible, is_lesser_name, comes_before, candidates, IsLeast, IsPick, pick_of}
+use Rattle.am_expire.specs.Scan.{IsBest, due_in, due_at}
+use Rattle.am_expire.proofs.OrderLemmas.{is_before, far, filter_none}
+use Rattle.am_expire.proofs.PickLemmas.{comes_is, first_true, pick_is, pick_exact}
+use Rattle.am_expire.proofs.TouchLemmas.{in_same, none_in_same}
+
+-- ---- what the tests tell
+
+abbrev due : Expiry → ℕ → Bool
+due e last = is_due e.timeout e.moment e.immediate last
+
+-- a row that may expire is one of the file system
+eligible_of : (e : Expiry) (row : Trigger × ℕ) → is_eligible e row ≡ true → is_of e.fs row ≡ true
+eligible_of e row may =
+    let one = is_of e.fs row in
+    let shut = not (is_open e.waits row.0) in
+    first_true one (due e row.1) (first_true (one && due e row.1) shut (first_true (one && due e row.1 && shut) (may_go e.table e.uses (mount_on e row.0)) may))
+
+-- a row that isn't due may not expire
+not_due : (e : Expiry) (row : Trigger × ℕ) → due e row.1 ≡ false → is_eligible e row ≡ false
+not_due e row late =
+    by_both (is_of e.fs row) (due e row.1) (not (is_open e.waits row.0)) (may_go e.table e.uses (mount_on e row.0)) late
+  where
+    by_both : (one two shut may : Bool) → two ≡ false → (one && two && shut && may) ≡ false
+    by_both true true shut may e = absurd cc
+    by_both true false shut may e = refl
+    by_both false two shut may e = refl
+
+passed_by : (a b : Bool) → (not a || b) ≡ false → b ≡ false
+passed_by true b e = e
+passed_by false b e = absurd cc
+
+ends_by : (a b : Bool) → (not a || b) ≡ true → a ≡ true → b ≡ true
+ends_by true b e f = e
+ends_by false b e f = absurd cc
+
+-- one that was used later isn't due either
+later_not_due : (timeout moment : ℕ) (now : Bool) (last later : ℕ) → last ≤ later → is_due timeout moment now last ≡ false → is_due timeout moment now later ≡ false
+later_not_due timeout moment true last later le e = absurd cc
+later_not_due timeout moment false last later le e = by_tests (nat_lt 0 timeout) (nat_le (last + timeout) moment) (nat_le (later + timeout) moment) refl refl e
+  where
+    by_tests : (a b c : Bool) → nat_le (last + timeout) moment ≡ b → nat_le (later + timeout) moment ≡ c → (a && b) ≡ false → (a && c) ≡ false
+    by_tests false b c p q e = refl
+    by_tests true true c p q e = absurd cc
+    by_tests true false false p q e = refl
+    by_tests true false true p q e = absurd (grind (arith, nat_tests))
+
+not_later : (s t : ℕ) (p : Bool) → (nat_lt s t || (s == t && p)) ≡ false → t ≤ s
+not_later s t p e = by_test (nat_lt s t) refl e
+  where
+    by_test : (b : Bool) → nat_lt s t ≡ b → (b || (s == t && p)) ≡ false → t ≤ s
+    by_test true f e = absurd cc
+    by_test false f e = grind (arith, nat_tests)
+
+-- ---- what may expire, among the rows of the file system
+
+filter_within :
+    {X : Type 0} (p q : X → Bool) → ((x : X) → p x ≡ true → q x ≡ true) → (xs : List X) →
+    filter p (filter q xs) ≡ filter p xs
+filter_within p q inside [] = refl
+filter_within {X} p q inside (x ∷ xs) = by_tests (q x) (p x) refl refl (filter_within p q inside xs)
+  where
+    by_tests : (a b : Bool) → q x ≡ a → p x ≡ b → filter p (filter q xs) ≡ filter p xs → filter p (cond a (x ∷ filter q xs) (filter q xs)) ≡ cond b (x ∷ filter p xs) (filter p xs)
+    by_tests true true f g later = rw g (ap (λ (ys : List X). x ∷ ys) later)
+    by_tests true false f g later = rw g later
+    by_tests false true f g later = absurd (let h = inside x g in cc)
+    by_tests false false f g later = later
+
+candidates_within : (e : Expiry) → candidates e ≡ filter (is_eligible e) (filter (is_of e.fs) e.triggers.uses)
+candidates_within e = sym (filter_within (is_eligible e) (is_of e.fs) (eligible_of e) e.triggers.uses)
+
+contains_filtered : {X : Type 0} (p : X → Bool) (xs : List X) (x : X) → Contains xs x → p x ≡ true → Contains (filter p xs) x
+contains_filtered p [] x there passes = absurd (let h = there.1 in omega arith)
+contains_filtered {X} p (y ∷ xs) x there passes =
+    by_place (λ inside. contains_filtered p xs x inside passes) there.0 there.1 there.2
+  where
+    behind : (b : Bool) → Contains (filter p xs) x → Contains (cond b (y ∷ filter p xs) (filter p xs)) x
+    behind true later = Contains-append_right (y ∷ []) (filter p xs) x later
+    behind false later = later
+
+    by_place : (Contains xs x → Contains (filter p xs) x) → (k : ℕ) → k < length (y ∷ xs) → get_or (y ∷ xs) k x ≡ x → Contains (cond (p y) (y ∷ filter p xs) (filter p xs)) x
+    by_place later zero lt is =
+        let here : p y ≡ true = ap p is ∙ passes in
+        rw here (0, omega arith, is)
+    by_place later (suc k) lt is = behind (p y) (later (k, omega arith, is))
+
+none_may :
+    (e : Expiry) (rows : List (Trigger × ℕ)) → IsOrder (filter (is_of e.fs) e.triggers.uses) rows →
+    All (λ x. is_eligible e x ≡ false) rows → candidates e ≡ []
+none_may e rows order none =
+    candidates_within e
+    ∙ filter_none (is_eligible e) (filter (is_of e.fs) e.triggers.uses) (none_in_same rows (filter (is_of e.fs) e.triggers.uses) (is_eligible e) order.same none)
+
+not_not : (b : Bool) → not b ≡ false → b ≡ true
+not_not true e = refl
+not_not false e = absurd cc
+
+not_of_true : (b : Bool) → b ≡ true → not b ≡ false
+not_of_true true e = refl
+not_of_true false e = absurd cc
+
+-- the rows are of the file system
+all_of :
+    (e : Expiry) (rows : List (Trigger × ℕ)) → IsOrder (filter (is_of e.fs) e.triggers.uses) rows →
+    All (λ x. is_of e.fs x ≡ true) rows
+all_of e rows order =
+    let ours = filter (is_of e.fs) e.triggers.uses in
+    let of_ours : All (λ (x : Trigger × ℕ). not (is_of e.fs x) ≡ false) ours =
+    All-weaker (λ (x : Trigger × ℕ). is_of e.fs x ≡ true) (λ (x : Trigger × ℕ). not (is_of e.fs x) ≡ false) (λ x h. not_of_true (is_of e.fs x) h) ours (filter_passes (is_of e.fs) e.triggers.uses) in
+    All-weaker (λ (x : Trigger × ℕ). not (is_of e.fs x) ≡ false) (λ (x : Trigger × ℕ). is_of e.fs x ≡ true) (λ x h. not_not (is_of e.fs x) h) rows
+    (none_in_same ours rows (λ x. not (is_of e.fs x)) (λ test. sym (order.same test)) of_ours)
+
+same_fs : (a b fs : ℕ) → (a == fs) ≡ true → (b == fs) ≡ true → a ≡ b
+same_fs a b fs p q = grind (arith, nat_tests)
+
+-- a row doesn't come before one that it stands behind
+not_before :
+    (e : Expiry) (rows : List (Trigger × ℕ)) → IsOrder (filter (is_of e.fs) e.triggers.uses) rows →
+    (i j : ℕ) (d : Trigger × ℕ) → i ≤ j → j < length rows → comes_before (get_or rows j d) (get_or rows i d) ≡ false
+not_before e rows order i j d le lt =
+    let ours = all_of e rows order in
+    let one = All-get_or (λ x. is_of e.fs x ≡ true) rows j d lt ours in
+    let two = All-get_or (λ x. is_of e.fs x ≡ true) rows i d (omega arith) ours in
+    sym (comes_is (get_or rows j d) (get_or rows i d) (same_fs (get_or rows j d).0.fs (get_or rows i d).0.fs e.fs one two))
+    ∙ far rows order.rising i j d le lt
+
+-- ---- the row at which a pick ends
+
+abbrev first_end : Expiry → List (Trigger × ℕ) → ℕ
+first_end e rows = position_or_len (is_end e) rows
+
+passed_may_not :
+    (e : Expiry) (rows : List (Trigger × ℕ)) (k : ℕ) (d : Trigger × ℕ) → k < first_end e rows →
+    is_eligible e (get_or rows k d) ≡ false
+passed_may_not e rows k d lt =
+    passed_by (due e (get_or rows k d).1) (is_eligible e (get_or rows k d)) (fails_before_first (is_end e) rows k d lt)
+
+-- it may expire: it is the least that may
+least_at :
+    (e : Expiry) (rows : List (Trigger × ℕ)) (row : Trigger × ℕ) → IsOrder (filter (is_of e.fs) e.triggers.uses) rows →
+    first_end e rows < length rows → get_or rows (first_end e rows) row ≡ row → is_eligible e row ≡ true → IsLeast (candidates e) row
+least_at e rows row order within is may =
+    subst (λ (cs : List (Trigger × ℕ)). IsLeast cs row) (sym (candidates_within e))
+    (contains_filtered (is_eligible e) ours row here may, least)
+  where
+    ours : List (Trigger × ℕ)
+    ours = filter (is_of e.fs) e.triggers.uses
+
+    at : ℕ
+    at = first_end e rows
+
+    here : Contains ours row
+    here = in_same ours rows row (λ test. sym (order.same test)) (at, within, is)
+
+    before : Trigger × ℕ → Bool
+    before x = is_eligible e x && comes_before x row
+
+    none_by : (b c : Bool) → b ≡ false → (b && c) ≡ false
+    none_by true c e = absurd cc
+    none_by false c e = refl
+
+    other_by : (b c : Bool) → c ≡ false → (b && c) ≡ false
+    other_by true c e = e
+    other_by false c e = refl
+
+    then_by : (b c : Bool) → (b && c) ≡ false → b ≡ true → c ≡ false
+    then_by true c e f = e
+    then_by false c e f = absurd cc
+
+    by_place : (k : ℕ) → k < length rows → (b : Bool) → nat_lt k at ≡ b → before (get_or rows k row) ≡ false
+    by_place k lt true less =
+        none_by (is_eligible e (get_or rows k row)) (comes_before (get_or rows k row) row)
+        (passed_may_not e rows k row (grind (arith, nat_tests)))
+    by_place k lt false more =
+        let le : at ≤ k = grind (arith, nat_tests) in
+        other_by (is_eligible e (get_or rows k row)) (comes_before (get_or rows k row) row)
+        (ap (comes_before (get_or rows k row)) (sym is) ∙ not_before e rows order at k row le lt)
+
+    none : All (λ x. before x ≡ false) rows
+    none = All-from_get_or (λ x. before x ≡ false) rows row (λ k lt. by_place k lt (nat_lt k at) refl)
+
+    least : All (λ x. comes_before x row ≡ false) (filter (is_eligible e) ours)
+    least k d lt =
+        let may_be = filter (is_eligible e) ours in
+        then_by (is_eligible e (get_or may_be k d)) (comes_before (get_or may_be k d) row)
+        (All-filter (is_eligible e) (λ x. before x ≡ false) ours (none_in_same rows ours before order.same none) k d lt)
+        (filter_passes (is_eligible e) ours k d lt)
+
+-- it isn't due: none of the file system may expire
+none_at :
+    (e : Expiry) (rows : List (Trigger × ℕ)) (row : Trigger × ℕ) → IsOrder (filter (is_of e.fs) e.triggers.uses) rows →
+    first_end e rows < length rows → get_or rows (first_end e rows) row ≡ row → due e row.1 ≡ false → candidates e ≡ []
+none_at e rows row order within is late =
+    none_may e rows order (All-from_get_or (λ x. is_eligible e x ≡ false) rows row (λ k lt. by_place k lt (nat_lt k at) refl))
+  where
+    at : ℕ
+    at = first_end e rows
+
+    by_place : (k : ℕ) → k < length rows → (b : Bool) → nat_lt k at ≡ b → is_eligible e (get_or rows k row) ≡ false
+    by_place k lt true less = passed_may_not e rows k row (grind (arith, nat_tests))
+    by_place k lt false more =
+        let le : at ≤ k = grind (arith, nat_tests) in
+        let behind : comes_before (get_or rows k row) row ≡ false = ap (comes_before (get_or rows k row)) (sym is) ∙ not_before e rows order at k row le lt in
+        not_due e (get_or rows k row)
+        (later_not_due e.timeout e.moment e.immediate row.1 (get_or rows k row).1
+        (not_later (get_or rows k row).1 row.1 (is_lesser_name (get_or rows k row).0.name row.0.name) behind) late)
+
+-- what a pick comes to
+record Found (e : Expiry) (trigger : Option Trigger) : Type 0 where
+  best : Option (Trigger × ℕ)
+  least : IsBest (candidates e) best
+  is : option_map (λ row. row.0) best ≡ trigger
+
+found : (e : Expiry) (rows : List (Trigger × ℕ)) → IsOrder (filter (is_of e.fs) e.triggers.uses) rows → Found e (due_at e rows (first_end e rows))
+found e rows order = by_row (slice_get rows (first_end e rows)) refl
+  where
+    by_due : (row : Trigger × ℕ) → slice_get rows (first_end e rows) ≡ Some row → (b : Bool) → due e row.1 ≡ b → Found e (due_at e rows (first_end e rows))
+    by_due row at true is =
+        let within = slice_get_within rows (first_end e rows) row at in
+        let here = get_or_from_slice_get rows (first_end e rows) row row at in
+        let ends : is_end e row ≡ true = ap (is_end e) (sym here) ∙ passes_at_first (is_end e) rows row within in
+        record {
+          best = Some row;
+          least = least_at e rows row order within here (ends_by (due e row.1) (is_eligible e row) ends is);
+          is = sym (ap (due_in e) at ∙ ap (λ (b : Bool). cond b (Some row.0) None) is);
+        }
+    by_due row at false is =
+        let within = slice_get_within rows (first_end e rows) row at in
+        let here = get_or_from_slice_get rows (first_end e rows) row row at in
+        record {
+          best = None;
+          least = none_at e rows row order within here is;
+          is = sym (ap (due_in e) at ∙ ap (λ (b : Bool). cond b (Some row.0) None) is);
+        }
+
+    by_row : (o : Option (Trigger × ℕ)) → slice_get rows (first_end e rows) ≡ o → Found e (due_at e rows (first_end e rows))
+    by_row None at =
+        let le : length rows ≤ first_end e rows = grind (arith, slice_get_cases) in
+        record {
+          best = None;
+          least = none_may e rows order (λ k d lt. passed_may_not e rows k d (omega arith));
+          is = sym (ap (due_in e) at);
+        }
+    by_row (Some row) at = by_due row at (due e row.1) refl
+
+pub pick_up : (e : Expiry) (rows : List (Trigger × ℕ)) → IsOrder (filter (is_of e.fs) e.triggers.uses) rows → IsPick e (due_at e rows (position_or_len (is_end e) rows))
+pick_up e rows order =
+    let one = found e rows order in
+    subst (IsPick e) one.is (pick_is e one.best one.least)
+
+pub exact_up : (e : Expiry) (rows : List (Trigger × ℕ)) → IsOrder (filter (is_of e.fs) e.triggers.uses) rows → due_at e rows (position_or_len (is_end e) rows) ≡ pick_of e
+exact_up e rows order =
+    let one = found e rows order in
+    sym one.is ∙ pick_exact e one.best one.least
+
+-- ---- without a timeout
+
+off_due : (timeout moment : ℕ) (now : Bool) (last : ℕ) → (not now && timeout == 0) ≡ true → is_due timeout moment now last ≡ false
+off_due timeout moment true last e = absurd cc
+off_due timeout moment false last e = by_test (nat_lt 0 timeout) refl
+  where
+    by_test : (b : Bool) → nat_lt 0 timeout ≡ b → (b && nat_le (last + timeout) moment) ≡ false
+    by_test true f = absurd (grind (arith, nat_tests))
+    by_test false f = refl
+
+pub none_off : (e : Expiry) → is_off e ≡ true → candidates e ≡ []
+none_off e off =
+    filter_none (is_eligible e) e.triggers.uses (λ k d lt.
+    let row = get_or e.triggers.uses k d in
+    not_due e row (off_due e.timeout e.moment e.immediate row.1 off))
+
+pub exact_off : (e : Expiry) → is_off e ≡ true → None ≡ pick_of e
+exact_off e off = pick_exact e None (none_off e off)
+
+-- ---- the way up
+
+pub ends_here :
+    (e : Expiry) (rows : List (Trigger × ℕ)) (index : ℕ) (row : Trigger × ℕ) → index < length rows →
+    ((k : ℕ) (d : Trigger × ℕ) → k < index → is_end e (get_or rows k d) ≡ false) →
+    get_or rows index row ≡ row → is_end e row ≡ true → index ≡ position_or_len (is_end e) rows
+ends_here e rows index row within passed at ends =
+    sym (position_or_len_is (is_end e) rows index row (omega arith) (λ k lt. passed k row lt) (λ lt. ap (is_end e) at ∙ ends))
+
+pub passed_more :
+    (e : Expiry) (rows : List (Trigger × ℕ)) (index : ℕ) (row : Trigger × ℕ) → index < length rows →
+    ((k : ℕ) (d : Trigger × ℕ) → k < index → is_end e (get_or rows k d) ≡ false) →
+    get_or rows index row ≡ row → is_end e row ≡ false →
+    (k : ℕ) (d : Trigger × ℕ) → k < index + 1 → is_end e (get_or rows k d) ≡ false
+passed_more e rows index row within passed at on k d lt = by_test (nat_lt k index) refl
+  where
+    by_test : (b : Bool) → nat_lt k index ≡ b → is_end e (get_or rows k d) ≡ false
+    by_test true less = passed k d (grind (arith, nat_tests))
+    by_test false same =
+        let is : k ≡ index = grind (arith, nat_tests) in
+        ap (λ (n : ℕ). is_end e (get_or rows n d)) is ∙ ap (is_end e) (get_or_default rows index d row within ∙ at) ∙ on
+
+pub passed_all :
+    (e : Expiry) (rows : List (Trigger × ℕ)) (index : ℕ) → index ≤ length rows → length rows ≤ index →
+    ((k : ℕ) (d : Trigger × ℕ) → k < index → is_end e (get_or rows k d) ≡ false) →
+    length rows ≡ position_or_len (is_end e) rows
+passed_all e rows index within le passed =
+    sym (position_or_len_is (is_end e) rows (length rows) none (omega arith) (λ k lt. passed k none (omega arith)) (λ lt. absurd (omega arith)))
+  where
+    none : Trigger × ℕ
+    none = (record { fs = 0; name = None }, 0)

@@ -1,0 +1,73 @@
+-- In which order the triggers come to expire, and how far a pick goes up that order.
+use Rattle.std.specs.Prelude.{◌≡◌, ℕ, ◌+◌, ◌==◌, ◌||◌, ◌&&◌, Bool, not, List, length, filter, Option, Some, None, cond, if◌then◌else◌}
+use Rattle.std.specs.Cmp.Lexicographic.{slice_cmp}
+use Rattle.std.specs.declared.cmp.Ordering.{Ordering}
+use Rattle.std.specs.List.{count_by, position}
+use Rattle.std.specs.List.Sorted.{IsSorted}
+use Rattle.std.specs.Option.{option_cmp, option_map, unwrap_or}
+use Rattle.std.specs.Ordering.{nat_cmp, ordering_then}
+use Rattle.am_names.specs.declared.trigger.Trigger.{Trigger}
+use Rattle.am_expire.specs.Pick.{Expiry, is_due, is_eligible}
+
+-- by file system, then by last use, then by the bytes of the name, of which none is the least
+abbrev pub use_cmp : Trigger × ℕ → Trigger × ℕ → Ordering
+use_cmp row other =
+    ordering_then (nat_cmp row.0.fs other.0.fs)
+    (ordering_then (nat_cmp row.1 other.1)
+    (option_cmp (slice_cmp nat_cmp) row.0.name other.0.name))
+
+-- the same rows, each as often
+abbrev pub AreSame : List (Trigger × ℕ) → List (Trigger × ℕ) → Type 0
+AreSame rows others = (test : Trigger × ℕ → Bool) → count_by test rows ≡ count_by test others
+
+-- these last uses, in the order in which they expire
+pub record IsOrder (uses rows : List (Trigger × ℕ)) : Type 0 where
+  pub rising : IsSorted use_cmp rows
+  pub same : AreSame rows uses
+
+-- it is the last use of a trigger of the file system
+abbrev pub is_of : ℕ → Trigger × ℕ → Bool
+is_of fs row = row.0.fs == fs
+
+-- ---- a change of the order
+
+-- the second has this row once more
+abbrev pub HasRowMore : Trigger × ℕ → List (Trigger × ℕ) → List (Trigger × ℕ) → Type 0
+HasRowMore row less more =
+    (test : Trigger × ℕ → Bool) → count_by test more ≡ count_by test less + cond (test row) 1 0
+
+-- a trigger that was used before has a row
+abbrev pub has_last : Trigger → (Trigger × ℕ → Bool) → Option ℕ → ℕ
+has_last trigger test None = 0
+has_last trigger test (Some last) = cond (test (trigger, last)) 1 0
+
+-- the second has the trigger's last use too, if there was one
+abbrev pub HasLastMore :
+    Trigger → Option ℕ → List (Trigger × ℕ) → List (Trigger × ℕ) → Type 0
+HasLastMore trigger last less more =
+    (test : Trigger × ℕ → Bool) →
+    count_by test more ≡ count_by test less + has_last trigger test last
+
+-- ---- how far a pick goes up
+
+-- a pick goes no further: this one may expire; or it isn't due, and so is none behind it
+abbrev pub is_end : Expiry → Trigger × ℕ → Bool
+is_end e row = not (is_due e.timeout e.moment e.immediate row.1) || is_eligible e row
+
+-- how many of these rows a pick looks at: those up to and with the one at which it ends, or all
+abbrev pub looks_up : Expiry → List (Trigger × ℕ) → ℕ
+looks_up e rows = unwrap_or (option_map (λ k. k + 1) (position (is_end e) rows)) (length rows)
+
+-- there is no timeout, and so none is due
+abbrev pub is_off : Expiry → Bool
+is_off e = not e.immediate && e.timeout == 0
+
+abbrev pub looks_in : Expiry → List (Trigger × ℕ) → ℕ
+looks_in e rows = if is_off e then 0 else looks_up e rows
+
+-- so many of the last uses of the file system, which stand in order; none, where none is due
+abbrev pub IsLooks : Expiry → ℕ → Type 0
+IsLooks e looks =
+    (rows : List (Trigger × ℕ)) ×
+    IsOrder (filter (is_of e.fs) e.triggers.uses) rows ×
+    (looks ≡ looks_in e rows)

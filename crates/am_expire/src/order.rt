@@ -1,0 +1,137 @@
+//! The order in which triggers come to expire.
+
+ghost use Rattle.std.specs.Prelude.{◌≡◌, ◌+◌, ◌≤◌, ◌<◌, [], length, Contains, false, true, filter, vec_len, vec_capacity, Some, IfSome, OnOk};
+ghost use Rattle.std.specs.Cmp.Lexicographic.{slice_cmp};
+ghost use Rattle.std.specs.List.Sorted.{IsSorted, IsPartitionPoint};
+ghost use Rattle.std.specs.Option.{option_cmp};
+ghost use Rattle.std.specs.Ordering.{nat_cmp, is_lt};
+ghost use Rattle.am_expire.specs.Order.{use_cmp, is_of, HasRowMore, HasLastMore};
+
+use am_names::{FsId, Name, Seconds, Trigger};
+use std::alloc::{AllocError, Global};
+use std::cmp::Ordering;
+
+/// The last uses of all triggers: those of one file system stand side by side, the one that was
+/// longest ago first, and of those at one moment the one with the least name.
+#[derive(Drop)]
+pub struct Order {
+    rows: Vec<(Trigger, Seconds)>,
+}
+
+fn compare_names(name: &Option<Name>, other: &Option<Name>) -> Ordering
+    ensures { result ≡ option_cmp (slice_cmp nat_cmp) name.now other.now }
+{
+    match (name, other) {
+        (Some(name), Some(other)) => name.as_bytes().cmp(other.as_bytes()),
+        (None, Some(_)) => Ordering::Less,
+        (Some(_), None) => Ordering::Greater,
+        (None, None) => Ordering::Equal,
+    }
+}
+
+fn compare(row: &(Trigger, Seconds), other: &(Trigger, Seconds)) -> Ordering
+    ensures { result ≡ use_cmp row.now other.now }
+{
+    let by_fs = row.0.fs.0.cmp(&other.0.fs.0);
+    let by_use = row.1.0.cmp(&other.1.0);
+    by_fs
+        .then(by_use)
+        .then(compare_names(&row.0.name, &other.0.name))
+}
+
+/// How many rows come before this one.
+fn rank(rows: &[(Trigger, Seconds)], row: &(Trigger, Seconds)) -> usize
+    requires { IsSorted use_cmp rows.now }
+    ensures bound { result ≤ length rows.now }
+    ensures rank { IsPartitionPoint (λ x. is_lt (use_cmp x row.now) ≡ true) (λ x. is_lt (use_cmp x row.now) ≡ false) rows.now result }
+{
+    rows.partition_point(|other| compare(other, row).is_lt())
+}
+
+/// How many rows are of file systems before this one.
+fn start(rows: &[(Trigger, Seconds)], fs: FsId) -> usize
+    requires { IsSorted use_cmp rows.now }
+    ensures bound { result ≤ length rows.now }
+    ensures start { IsPartitionPoint (λ x. x.0.fs < fs) (λ x. fs ≤ x.0.fs) rows.now result }
+{
+    rows.partition_point(|row| row.0.fs.0 < fs.0)
+}
+
+/// How many rows are of file systems up to this one.
+fn end(rows: &[(Trigger, Seconds)], fs: FsId) -> usize
+    requires { IsSorted use_cmp rows.now }
+    ensures bound { result ≤ length rows.now }
+    ensures end { IsPartitionPoint (λ x. x.0.fs ≤ fs) (λ x. fs < x.0.fs) rows.now result }
+{
+    rows.partition_point(|row| row.0.fs.0 <= fs.0)
+}
+
+impl Order {
+    pub(crate) fn new(alloc: Global) -> Order
+        ensures { result.rows.items ≡ [] }
+    {
+        Order {
+            rows: Vec::new(alloc),
+        }
+    }
+
+    /// The rows of the file system.
+    pub(crate) fn of_fs(&self, fs: FsId) -> &[(Trigger, Seconds)]
+        requires { IsSorted use_cmp self.now.rows.items }
+        ensures { result.now ≡ filter (is_of fs) self.now.rows.items }
+    {
+        let rows = self.rows.as_slice();
+        &rows[start(rows, fs)..end(rows, fs)]
+    }
+
+    /// Makes room for so many more rows.
+    pub(crate) fn reserve(&mut self, count: usize) -> Result<(), AllocError>
+        ensures rows { self.new.rows.items ≡ self.old.rows.items }
+        ensures len { vec_len self.new.rows ≡ vec_len self.old.rows }
+        ensures room { vec_capacity self.old.rows ≤ vec_capacity self.new.rows }
+        ensures ok { OnOk result (vec_len self.new.rows + count ≤ vec_capacity self.new.rows) }
+    {
+        self.rows.reserve(count)
+    }
+
+    /// One row less.
+    fn take_out(&mut self, row: &(Trigger, Seconds))
+        requires rising { IsSorted use_cmp self.old.rows.items }
+        requires there { Contains self.old.rows.items row.now }
+        ensures rising { IsSorted use_cmp self.new.rows.items }
+        ensures rows { HasRowMore row.now self.new.rows.items self.old.rows.items }
+        ensures len { vec_len self.new.rows + 1 ≡ vec_len self.old.rows }
+        ensures capacity { vec_capacity self.new.rows ≡ vec_capacity self.old.rows }
+    {
+        let at = rank(self.rows.as_slice(), row);
+        let _taken = self.rows.remove(at);
+    }
+
+    /// The trigger's last use is no longer in the order.
+    pub(crate) fn forget(&mut self, trigger: &Trigger, last: Option<Seconds>)
+        requires rising { IsSorted use_cmp self.old.rows.items }
+        requires there { IfSome last (λ last. Contains self.old.rows.items (trigger.now, last)) }
+        ensures rising { IsSorted use_cmp self.new.rows.items }
+        ensures rows { HasLastMore trigger.now last self.new.rows.items self.old.rows.items }
+        ensures len { vec_len self.new.rows ≤ vec_len self.old.rows }
+        ensures capacity { vec_capacity self.new.rows ≡ vec_capacity self.old.rows }
+    {
+        if let Some(last) = last {
+            self.take_out(&(*trigger, last));
+        }
+    }
+
+    /// One row more, for which there is room.
+    pub(crate) fn put_in(&mut self, row: (Trigger, Seconds))
+        requires rising { IsSorted use_cmp self.old.rows.items }
+        requires room { vec_len self.old.rows < vec_capacity self.old.rows }
+        ensures rising { IsSorted use_cmp self.new.rows.items }
+        ensures rows { HasRowMore row self.old.rows.items self.new.rows.items }
+        ensures len { vec_len self.new.rows ≡ vec_len self.old.rows + 1 }
+        ensures capacity { vec_capacity self.new.rows ≡ vec_capacity self.old.rows }
+    {
+        let at = rank(self.rows.as_slice(), &row);
+        // There is room for it.
+        let _put = self.rows.insert(at, row);
+    }
+}

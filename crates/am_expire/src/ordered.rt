@@ -1,0 +1,149 @@
+//! The triggers, and the order in which they come to expire.
+
+ghost use Rattle.std.specs.Prelude.{◌≡◌, ◌≤◌, ◌+◌, length, filter, None, OnOk, OnErr};
+ghost use Rattle.am_names.specs.Errno.{RefusedAs, RefusedOnlyAs};
+ghost use Rattle.am_trigger.specs.Rows.{no_triggers, add_refusal, with_autofs, catatonic_refusal, with_catatonic, mkdir_refusal, with_directory, IsMadeToo, rmdir_refusal, without_directory, IsMadeNoMore, used, all_used, IsUsedAt};
+ghost use Rattle.am_trigger.specs.Table.{KeepsRoom};
+ghost use Rattle.am_expire.specs.Order.{is_of, IsOrder};
+
+use crate::order::Order;
+use am_names::{Errno, FsId, MountId, Name, Seconds, Trigger};
+use am_trigger::Triggers;
+use std::alloc::{AllocError, Global};
+use std::marker::Model;
+
+/// All triggers, as `Triggers` has them, and beside them the order in which they come to expire.
+/// A last use is set in both at once, and room is made in both.
+#[derive(Drop)]
+pub struct OrderedTriggers {
+    triggers: Triggers,
+    order: Order,
+}
+
+impl Model for OrderedTriggers {
+    ghost use Rattle.am_trigger.specs.Table.{TriggerTable};
+
+    ghost Value = { TriggerTable };
+
+    ghost use Rattle.am_expire.specs.Inside.{ordered_of, IsOrdered};
+
+    ghost view = { ordered_of };
+
+    ghost invariant = { IsOrdered };
+}
+
+impl OrderedTriggers {
+    /// No autofs.
+    pub fn new(alloc: Global) -> OrderedTriggers
+        ensures { result.rows ≡ no_triggers }
+    {
+        OrderedTriggers {
+            triggers: Triggers::new(alloc),
+            order: Order::new(alloc),
+        }
+    }
+
+    /// The triggers, to look at.
+    pub fn as_triggers(&self) -> &Triggers
+        ensures { result.now.rows ≡ self.now.rows }
+    {
+        &self.triggers
+    }
+
+    /// The last uses of the file system, in the order in which they expire.
+    pub(crate) fn order_of(&self, fs: FsId) -> &[(Trigger, Seconds)]
+        ensures { IsOrder (filter (is_of fs) self.now.rows.uses) result.now }
+    {
+        self.order.of_fs(fs)
+    }
+
+    /// Makes room for one more autofs.
+    pub fn reserve_fs(&mut self) -> Result<(), Errno>
+        ensures refusal { RefusedAs None result }
+        ensures rows { self.new.rows ≡ self.old.rows }
+        ensures room { KeepsRoom self.old self.new }
+        ensures ok { OnOk result (1 ≤ self.new.autofs_room) }
+    {
+        self.triggers.reserve_fs()
+    }
+
+    /// A new autofs, for which there is room. It is not catatonic.
+    pub fn add_fs_reserved(&mut self, fs: FsId, direct: bool, location: MountId)
+        requires room { 1 ≤ self.old.autofs_room }
+        requires fresh { add_refusal fs self.old.rows ≡ None }
+        ensures rows { self.new.rows ≡ with_autofs fs direct location self.old.rows }
+        ensures room { self.old.autofs_room ≡ self.new.autofs_room + 1 }
+        ensures kept { self.new.use_room ≡ self.old.use_room }
+    {
+        self.triggers.add_fs_reserved(fs, direct, location);
+    }
+
+    /// The file system becomes catatonic, or is so no longer (autofs.rst, "Catatonic mode").
+    pub fn set_catatonic(&mut self, fs: FsId, catatonic: bool) -> Result<(), Errno>
+        ensures refusal { RefusedOnlyAs (catatonic_refusal fs self.old.rows) result }
+        ensures ok { OnOk result (self.new.rows ≡ with_catatonic fs catatonic self.old.rows) }
+        ensures err { OnErr result (self.new.rows ≡ self.old.rows) }
+        ensures room { KeepsRoom self.old self.new }
+    {
+        self.triggers.set_catatonic(fs, catatonic)
+    }
+
+    /// Makes a directory for the daemon to mount on (autofs.rst, "Content").
+    pub fn mkdir(&mut self, trigger: Trigger) -> Result<(), Errno>
+        ensures refusal { RefusedAs (mkdir_refusal trigger self.old.rows) result }
+        ensures ok { OnOk result (self.new.rows ≡ with_directory trigger self.old.rows) }
+        ensures err { OnErr result (self.new.rows ≡ self.old.rows) }
+        ensures room { KeepsRoom self.old self.new }
+    {
+        self.triggers.mkdir(trigger)
+    }
+
+    /// Removes a directory. When it was last used stays.
+    pub fn rmdir(&mut self, trigger: &Trigger) -> Result<(), Errno>
+        ensures refusal { RefusedOnlyAs (rmdir_refusal trigger.now self.old.rows) result }
+        ensures ok { OnOk result (self.new.rows ≡ without_directory trigger.now self.old.rows) }
+        ensures err { OnErr result (self.new.rows ≡ self.old.rows) }
+        ensures room { KeepsRoom self.old self.new }
+    {
+        self.triggers.rmdir(trigger)
+    }
+
+    /// Makes room for so many more last uses.
+    pub fn reserve_uses(&mut self, count: usize) -> Result<(), Errno>
+        ensures refusal { RefusedAs None result }
+        ensures rows { self.new.rows ≡ self.old.rows }
+        ensures room { KeepsRoom self.old self.new }
+        ensures ok { OnOk result (count ≤ self.new.use_room) }
+    {
+        self.order.reserve(count)?;
+        self.triggers.reserve_uses(count)?;
+        Ok(())
+    }
+
+    /// The trigger was used at this moment (autofs.rst, "Mountpoint expiry"), and there is room
+    /// for that.
+    pub fn touch_reserved(&mut self, trigger: &Trigger, moment: Seconds)
+        requires { 1 ≤ self.old.use_room }
+        ensures rows { self.new.rows ≡ used trigger.now moment self.old.rows }
+        ensures room { self.old.use_room ≤ self.new.use_room + 1 }
+        ensures kept { self.new.autofs_room ≡ self.old.autofs_room }
+    {
+        let last = self.triggers.last_use(trigger);
+        self.order.forget(trigger, last);
+        self.order.put_in((*trigger, moment));
+        self.triggers.touch_reserved(trigger, moment);
+    }
+
+    /// The triggers were used at this moment, one after another, and there is room for that: those
+    /// that a walk passed.
+    pub fn touch_all_reserved(&mut self, triggers: &[Trigger], moment: Seconds)
+        requires { length triggers.now ≤ self.old.use_room }
+        ensures rows { self.new.rows ≡ all_used triggers.now moment self.old.rows }
+        ensures room { self.old.use_room ≤ self.new.use_room + length triggers.now }
+        ensures kept { self.new.autofs_room ≡ self.old.autofs_room }
+    {
+        for trigger in triggers {
+            self.touch_reserved(trigger, moment);
+        }
+    }
+}
