@@ -2,7 +2,7 @@
 
 ghost use Rattle.std.specs.Prelude.{◌≡◌, ◌≤◌, ◌+◌, length, filter, None, OnOk, OnErr};
 ghost use Rattle.am_names.specs.Errno.{RefusedAs, RefusedOnlyAs};
-ghost use Rattle.am_trigger.specs.Rows.{no_triggers, add_refusal, with_autofs, catatonic_refusal, with_catatonic, mkdir_refusal, with_directory, IsMadeToo, rmdir_refusal, without_directory, IsMadeNoMore, used, all_used, IsUsedAt};
+ghost use Rattle.am_trigger.specs.Rows.{no_triggers, add_refusal, with_autofs, catatonic_refusal, with_catatonic, mkdir_refusal, with_directory, rmdir_refusal, without_directory, used, all_used};
 ghost use Rattle.am_trigger.specs.Table.{KeepsRoom};
 ghost use Rattle.am_expire.specs.Order.{is_of, IsOrder};
 
@@ -57,6 +57,15 @@ impl OrderedTriggers {
         self.order.of_fs(fs)
     }
 
+    /// A new autofs, with the daemon's mount of it. It is not catatonic.
+    pub fn add_fs(&mut self, fs: FsId, direct: bool, location: MountId) -> Result<(), Errno>
+        ensures refusal { RefusedAs (add_refusal fs self.old.rows) result }
+        ensures ok { OnOk result (self.new.rows ≡ with_autofs fs direct location self.old.rows) }
+        ensures err { OnErr result (self.new.rows ≡ self.old.rows) }
+    {
+        self.triggers.add_fs(fs, direct, location)
+    }
+
     /// Makes room for one more autofs.
     pub fn reserve_fs(&mut self) -> Result<(), Errno>
         ensures refusal { RefusedAs None result }
@@ -67,7 +76,7 @@ impl OrderedTriggers {
         self.triggers.reserve_fs()
     }
 
-    /// A new autofs, for which there is room. It is not catatonic.
+    /// A new autofs as `add_fs` adds it, for which there is room.
     pub fn add_fs_reserved(&mut self, fs: FsId, direct: bool, location: MountId)
         requires room { 1 ≤ self.old.autofs_room }
         requires fresh { add_refusal fs self.old.rows ≡ None }
@@ -108,6 +117,17 @@ impl OrderedTriggers {
         self.triggers.rmdir(trigger)
     }
 
+    /// The trigger was used at this moment (autofs.rst, "Mountpoint expiry").
+    pub fn touch(&mut self, trigger: Trigger, moment: Seconds) -> Result<(), Errno>
+        ensures refusal { RefusedAs None result }
+        ensures ok { OnOk result (self.new.rows ≡ used trigger moment self.old.rows) }
+        ensures err { OnErr result (self.new.rows ≡ self.old.rows) }
+    {
+        self.reserve_uses(1)?;
+        self.touch_reserved(&trigger, moment);
+        Ok(())
+    }
+
     /// Makes room for so many more last uses.
     pub fn reserve_uses(&mut self, count: usize) -> Result<(), Errno>
         ensures refusal { RefusedAs None result }
@@ -120,8 +140,7 @@ impl OrderedTriggers {
         Ok(())
     }
 
-    /// The trigger was used at this moment (autofs.rst, "Mountpoint expiry"), and there is room
-    /// for that.
+    /// The trigger was used at this moment, as `touch` has it, and there is room for that.
     pub fn touch_reserved(&mut self, trigger: &Trigger, moment: Seconds)
         requires { 1 ≤ self.old.use_room }
         ensures rows { self.new.rows ≡ used trigger.now moment self.old.rows }

@@ -9,9 +9,9 @@ ghost use Rattle.am_kernel.specs.Walks.{closed};
 use crate::kernel::Kernel;
 use crate::row::Attached;
 use crate::table::{refuse, table, tell};
+use am_expire::OrderedTriggers;
 use am_names::{Attach, Errno, FsId};
 use am_state::Obs;
-use am_trigger::Triggers;
 use std::alloc::{AllocError, Global};
 
 fn attached_row(row: Attached, fs: FsId, attach: Attach) -> Attached
@@ -33,10 +33,10 @@ fn set_attach(rows: &mut [Attached], fs: FsId, attach: Attach)
 }
 
 /// The file system is catatonic no longer; one that isn't known stays so.
-fn make_live(triggers: &mut Triggers, fs: FsId)
+fn make_live(triggers: &mut OrderedTriggers, fs: FsId)
     ensures { triggers.new.rows ≡ with_catatonic fs false triggers.old.rows }
 {
-    if triggers.autofs(fs).is_some() {
+    if triggers.as_triggers().autofs(fs).is_some() {
         let _known = triggers.set_catatonic(fs, false);
     }
 }
@@ -46,7 +46,7 @@ impl Kernel {
     pub(crate) fn is_autofs(&self, fs: FsId) -> bool
         ensures { result ≡ is_some (autofs_of self.now.triggers fs) }
     {
-        self.triggers.autofs(fs).is_some()
+        self.triggers.as_triggers().autofs(fs).is_some()
     }
 
     /// What will be seen of `admin_catatonic`, and of `catatonic` where it isn't refused: they take no

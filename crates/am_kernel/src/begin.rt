@@ -20,11 +20,11 @@ use crate::begun::{Begin, Begun};
 use crate::kernel::Kernel;
 use crate::packet::packet_for;
 use crate::row::WalkRow;
+use am_expire::OrderedTriggers;
 use am_names::{
     Attach, Errno, FsId, PipeState, Position, Seconds, Status, Token, TokenKind, Trigger, WalkerId,
 };
 use am_state::{Obs, QueuedRow};
-use am_trigger::Triggers;
 use am_wait::Waits;
 use am_walk::{Stop, Walk, resolve};
 use std::alloc::{AllocError, Global};
@@ -41,7 +41,7 @@ pub enum Waited {
 }
 
 /// A wait on an expiry that is collected is a use of the trigger.
-pub fn touch_expired(triggers: &mut Triggers, waited: &Waited, moment: Seconds)
+pub fn touch_expired(triggers: &mut OrderedTriggers, waited: &Waited, moment: Seconds)
     requires { 1 ≤ triggers.old.use_room }
     ensures rows { triggers.new.rows ≡ expired_uses waited.now moment triggers.old.rows }
     ensures room { triggers.old.use_room ≤ triggers.new.use_room + 1 }
@@ -139,10 +139,10 @@ fn tell_failures(shown: &mut Vec<Obs>, token: Token, walkers: &[WalkerId]) -> Re
 }
 
 /// The file system is catatonic, if it is known.
-fn make_catatonic(triggers: &mut Triggers, fs: FsId)
+fn make_catatonic(triggers: &mut OrderedTriggers, fs: FsId)
     ensures { triggers.new.rows ≡ with_catatonic fs true triggers.old.rows }
 {
-    if triggers.autofs(fs).is_some() {
+    if triggers.as_triggers().autofs(fs).is_some() {
         let _known = triggers.set_catatonic(fs, true);
     }
 }
@@ -336,7 +336,7 @@ impl Kernel {
         let walk = resolve(
             alloc,
             &self.subtree,
-            &self.triggers,
+            self.triggers.as_triggers(),
             &self.waits,
             begin.ns,
             &begin.path,

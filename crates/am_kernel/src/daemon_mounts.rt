@@ -43,9 +43,9 @@ impl Kernel {
     fn is_there(&self, trigger: &Trigger) -> bool
         ensures { result ≡ is_there self.now trigger.now }
     {
-        match self.triggers.autofs(trigger.fs) {
+        match self.triggers.as_triggers().autofs(trigger.fs) {
             Some(row) if row.direct => trigger.name.is_none(),
-            Some(_) => trigger.name.is_some() && self.triggers.made(trigger),
+            Some(_) => trigger.name.is_some() && self.triggers.as_triggers().made(trigger),
             None => false,
         }
     }
@@ -54,7 +54,7 @@ impl Kernel {
     fn location_of(&self, fs: FsId) -> MountId
         ensures { result ≡ location_of self.now fs }
     {
-        match self.triggers.autofs(fs) {
+        match self.triggers.as_triggers().autofs(fs) {
             Some(row) => row.location,
             None => MountId(0),
         }
@@ -184,7 +184,7 @@ impl Kernel {
     pub fn standing(&self, alloc: Global, fs: FsId) -> Result<Vec<(Trigger, MountId)>, AllocError>
         ensures { IfOk result (λ v. v.items ≡ standing self.now fs) }
     {
-        match self.triggers.autofs(fs) {
+        match self.triggers.as_triggers().autofs(fs) {
             Some(autofs) => self.standing_of(alloc, &autofs),
             None => Ok(Vec::new(alloc)),
         }

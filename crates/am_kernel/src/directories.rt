@@ -17,7 +17,7 @@ impl Kernel {
     pub fn is_indirect(&self, trigger: &Trigger) -> bool
         ensures { result ≡ is_indirect self.now trigger.now }
     {
-        match self.triggers.autofs(trigger.fs) {
+        match self.triggers.as_triggers().autofs(trigger.fs) {
             Some(row) => !row.direct && trigger.name.is_some(),
             None => false,
         }

@@ -7,7 +7,7 @@ ghost use Rattle.am_kernel.specs.State.{initial};
 ghost use Rattle.am_kernel.specs.Sites.{is_live, latest_attach, attach_of, fs_of_attach, is_current, is_busy, position_at, is_on_autofs, is_root};
 
 use crate::row::{Attached, WalkRow};
-use am_expire::Uses;
+use am_expire::{OrderedTriggers, Uses};
 use am_names::{
     AbsPath, Attach, Errno, FsId, Limits, MountId, NsId, Place, Position, WalkerId,
     split_first_name,
@@ -25,7 +25,7 @@ use std::marker::Model;
 #[derive(Drop)]
 pub struct Kernel {
     pub(crate) subtree: Subtree,
-    pub(crate) triggers: Triggers,
+    pub(crate) triggers: OrderedTriggers,
     pub(crate) waits: Waits,
     pub(crate) uses: Uses,
     pub(crate) attached: Vec<Attached>,
@@ -62,7 +62,7 @@ impl Kernel {
     {
         Ok(Kernel {
             subtree: Subtree::new(alloc, limits.mounts as u64)?,
-            triggers: Triggers::new(alloc),
+            triggers: OrderedTriggers::new(alloc),
             waits: Waits::new(alloc, limits.waiters, limits.tokens),
             uses: Uses::new(alloc),
             attached: Vec::new(alloc),
@@ -98,7 +98,7 @@ impl Kernel {
     pub fn triggers(&self) -> &Triggers
         ensures { result.now.rows ≡ self.now.triggers }
     {
-        &self.triggers
+        self.triggers.as_triggers()
     }
 
     /// The timeout and the latest attachment of each autofs, in order of attaching.
@@ -126,7 +126,7 @@ impl Kernel {
     pub fn is_live(&self, fs: FsId) -> bool
         ensures { result ≡ is_live self.now fs }
     {
-        match self.triggers.autofs(fs) {
+        match self.triggers.as_triggers().autofs(fs) {
             Some(row) => !row.catatonic,
             None => false,
         }
@@ -180,7 +180,7 @@ impl Kernel {
         ensures refusal { RefusedAs (fault_of (position_at self.now ns path.now)) result }
         ensures ok { IfOk result (λ at. position_at self.now ns path.now ≡ Ok at) }
     {
-        position(alloc, &self.subtree, &self.triggers, ns, path)
+        position(alloc, &self.subtree, self.triggers.as_triggers(), ns, path)
     }
 
     /// Whether the mount is one of an autofs.
@@ -188,7 +188,7 @@ impl Kernel {
         ensures { result ≡ is_on_autofs self.now mount }
     {
         match self.subtree.tree().row(mount) {
-            Some(row) => self.triggers.autofs(row.fs).is_some(),
+            Some(row) => self.triggers.as_triggers().autofs(row.fs).is_some(),
             None => false,
         }
     }

@@ -33,7 +33,14 @@ impl Kernel {
     ) -> Result<Option<Position>, AllocError>
         ensures { IfOk result (λ at. at ≡ arrival_of self.now ns path.now) }
     {
-        let walk = resolve(alloc, &self.subtree, &self.triggers, &self.waits, ns, path)?;
+        let walk = resolve(
+            alloc,
+            &self.subtree,
+            self.triggers.as_triggers(),
+            &self.waits,
+            ns,
+            path,
+        )?;
         Ok(arrived_at(walk.stop))
     }
 
@@ -99,7 +106,7 @@ impl Kernel {
     pub fn is_trigger(&self, trigger: &Trigger) -> bool
         ensures { result ≡ is_trigger self.now trigger.now }
     {
-        match self.triggers.autofs(trigger.fs) {
+        match self.triggers.as_triggers().autofs(trigger.fs) {
             Some(row) if row.direct => trigger.name.is_none(),
             Some(_) => trigger.name.is_some(),
             None => false,

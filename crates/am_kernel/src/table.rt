@@ -54,14 +54,14 @@ macro_rules! table {
         $tests! {
             $kernel.is_current($trigger.fs, $attach), EPERM;
             $kernel.is_indirect($trigger), EINVAL;
-            !$kernel.triggers.made($trigger), EEXIST;
+            !$kernel.triggers.as_triggers().made($trigger), EEXIST;
         }
     };
     ($tests:ident; rmdir($kernel:expr, $attach:expr, $trigger:expr)) => {
         $tests! {
             $kernel.is_current($trigger.fs, $attach), EPERM;
             $kernel.is_indirect($trigger), EINVAL;
-            $kernel.triggers.made($trigger), ENOENT;
+            $kernel.triggers.as_triggers().made($trigger), ENOENT;
         }
     };
     ($tests:ident; mount_on($kernel:expr, $attach:expr, $trigger:expr)) => {
