@@ -8,6 +8,7 @@ mod groups;
 mod jobs;
 mod kernel;
 mod mounts;
+mod orders;
 mod parts;
 mod propagation;
 mod script;

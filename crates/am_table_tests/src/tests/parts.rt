@@ -3,14 +3,13 @@
 
 use crate::tests::script::{Stage, Step, plays};
 use crate::tests::trap::Trap;
-use am_expire::{Uses, pick};
+use am_expire::{OrderedTriggers, Uses, pick, pick_counted};
 use am_group::Change;
 use am_names::{
     AbsPath, Errno, FsId, MountId, Name, NsId, Position, Seconds, Token, TokenKind, Trigger,
     WalkerId,
 };
 use am_propagate::{CopyForm, Subtree};
-use am_trigger::Triggers;
 use am_wait::Waits;
 use am_walk::{Stop, Walk, position, resolve};
 use std::alloc::Global;
@@ -80,6 +79,14 @@ fn is_walk(walk: &Walk, traps: &[Trap], end: End) -> bool {
     are_passed(walk.passed.as_slice(), traps) && end.is(&walk.stop)
 }
 
+fn is_found(found: &Option<Trigger>, expected: Option<Trap>) -> bool {
+    match (found, expected) {
+        (Some(trigger), Some(trap)) => trap.is(trigger),
+        (None, None) => true,
+        _ => false,
+    }
+}
+
 /// What a pick is asked: the file system, its timeout, the moment, and whether at once.
 #[derive(Clone, Copy)]
 pub struct Ask(pub u32, pub u32, pub u64, pub bool);
@@ -114,13 +121,15 @@ pub enum Call {
     Leads(u32, &'static [u8], End),
     /// The trigger that expires next.
     Picks(Ask, Option<Trap>),
+    /// The same, and how many last uses are looked at.
+    Counts(Ask, Option<Trap>, usize),
 }
 
 /// What walks and picks look at.
 #[derive(Drop)]
 struct Parts {
     subtree: Subtree,
-    triggers: Triggers,
+    triggers: OrderedTriggers,
     waits: Waits,
     uses: Uses,
 }
@@ -137,7 +146,7 @@ impl Parts {
     fn new(alloc: Global) -> Result<Parts, Errno> {
         Ok(Parts {
             subtree: subtree(alloc)?,
-            triggers: Triggers::new(alloc),
+            triggers: OrderedTriggers::new(alloc),
             waits: Waits::new(alloc, 9, 9),
             uses: Uses::new(alloc),
         })
@@ -240,7 +249,7 @@ impl Parts {
         let walk = resolve(
             alloc,
             &self.subtree,
-            &self.triggers,
+            self.triggers.as_triggers(),
             &self.waits,
             NsId(ns),
             &path,
@@ -260,7 +269,7 @@ impl Parts {
         let walk = resolve(
             alloc,
             &self.subtree,
-            &self.triggers,
+            self.triggers.as_triggers(),
             &self.waits,
             NsId(0),
             &kept.path(),
@@ -270,7 +279,7 @@ impl Parts {
 
     fn leads(&self, alloc: Global, ns: u32, path: &[u8], end: End) -> Result<bool, Errno> {
         let path = AbsPath::read(path)?;
-        match position(alloc, &self.subtree, &self.triggers, NsId(ns), &path) {
+        match position(alloc, &self.subtree, self.triggers.as_triggers(), NsId(ns), &path) {
             Ok(at) => Ok(end.is_at(&at)),
             Err(Errno::NoMemory) => Err(Errno::NoMemory),
             Err(errno) => Ok(end.fails(errno)),
@@ -291,12 +300,38 @@ impl Parts {
         )
     }
 
+    fn pick_counted(
+        &self,
+        alloc: Global,
+        ask: Ask,
+    ) -> Result<(Option<Trigger>, usize), Errno> {
+        pick_counted(
+            alloc,
+            &self.subtree,
+            &self.triggers,
+            &self.waits,
+            &self.uses,
+            FsId(ask.0),
+            ask.1,
+            Seconds(ask.2),
+            ask.3,
+        )
+    }
+
     fn picks(&self, alloc: Global, ask: Ask, expected: Option<Trap>) -> Result<bool, Errno> {
-        match (self.pick(alloc, ask)?, expected) {
-            (Some(trigger), Some(trap)) => Ok(trap.is(&trigger)),
-            (None, None) => Ok(true),
-            _ => Ok(false),
-        }
+        let found = self.pick(alloc, ask)?;
+        Ok(is_found(&found, expected))
+    }
+
+    fn counts(
+        &self,
+        alloc: Global,
+        ask: Ask,
+        expected: Option<Trap>,
+        looks: usize,
+    ) -> Result<bool, Errno> {
+        let (found, count) = self.pick_counted(alloc, ask)?;
+        Ok(count == looks && is_found(&found, expected))
     }
 
     /// What changes nothing.
@@ -306,6 +341,7 @@ impl Parts {
             Call::KeptWalk(path, traps, end) => self.walks_kept(alloc, path, traps, end),
             Call::Leads(ns, path, end) => self.leads(alloc, ns, path, end),
             Call::Picks(ask, expected) => self.picks(alloc, ask, expected),
+            Call::Counts(ask, expected, looks) => self.counts(alloc, ask, expected, looks),
             _ => Ok(false),
         }
     }
