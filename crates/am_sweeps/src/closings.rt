@@ -80,10 +80,20 @@ impl fmt::Display for Closed {
 pub fn open_tokens(alloc: Global, script: &Script) -> Result<Vec<Open>> {
     let mut open = Vec::new(alloc);
     for position in 0..=script.events.len() {
-        let world = world_behind(alloc, script, position)?;
-        push_open(alloc, &mut open, &world, position)?;
+        push_open_at(alloc, &mut open, script, position)?;
     }
     Ok(open)
+}
+
+fn push_open_at(
+    alloc: Global,
+    open: &mut Vec<Open>,
+    script: &Script,
+    position: usize,
+) -> Result<()> {
+    let world = world_behind(alloc, script, position)?;
+    push_open(alloc, open, &world, position)?;
+    Ok(())
 }
 
 /// The world behind so many events of a script.
@@ -131,12 +141,24 @@ fn push_open_of(
 pub fn is_closed(alloc: Global, script: &Script, open: &Open, seen: &mut Closed) -> Result<bool> {
     seen.count(open.is_served);
     for words in 0..MOST_WORDS {
-        let mut world = world_behind(alloc, script, open.position)?;
-        if !closes(alloc, &mut world, open, words, seen)? {
+        if !is_closed_by(alloc, script, open, words, seen)? {
             return Ok(false);
         }
     }
     Ok(true)
+}
+
+/// Whether a token can be closed by events with these words.
+fn is_closed_by(
+    alloc: Global,
+    script: &Script,
+    open: &Open,
+    words: u32,
+    seen: &mut Closed,
+) -> Result<bool> {
+    let mut world = world_behind(alloc, script, open.position)?;
+    let is_closed = closes(alloc, &mut world, open, words, seen)?;
+    Ok(is_closed)
 }
 
 /// Closes a token. Whether it comes, and everybody who waited on it goes on.
