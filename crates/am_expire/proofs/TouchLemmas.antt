@@ -115,11 +115,11 @@ pub order_of_used :
 order_of_used uses rows left new trigger moment order less more rising = record {
   rising = rising;
   same = λ test. (
-    let a = order.same test in
-    let b = less test in
-    let c = more test in
-    let d = used_count test trigger moment uses in
-    omega (arith, a, b, c, d));
+      let a = order.same test in
+      let b = less test in
+      let c = more test in
+      let d = used_count test trigger moment uses in
+      omega (arith, a, b, c, d));
 }
 
 -- ---- the order of one file system

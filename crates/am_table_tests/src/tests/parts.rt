@@ -279,7 +279,13 @@ impl Parts {
 
     fn leads(&self, alloc: Global, ns: u32, path: &[u8], end: End) -> Result<bool, Errno> {
         let path = AbsPath::read(path)?;
-        match position(alloc, &self.subtree, self.triggers.as_triggers(), NsId(ns), &path) {
+        match position(
+            alloc,
+            &self.subtree,
+            self.triggers.as_triggers(),
+            NsId(ns),
+            &path,
+        ) {
             Ok(at) => Ok(end.is_at(&at)),
             Err(Errno::NoMemory) => Err(Errno::NoMemory),
             Err(errno) => Ok(end.fails(errno)),
@@ -300,11 +306,7 @@ impl Parts {
         )
     }
 
-    fn pick_counted(
-        &self,
-        alloc: Global,
-        ask: Ask,
-    ) -> Result<(Option<Trigger>, usize), Errno> {
+    fn pick_counted(&self, alloc: Global, ask: Ask) -> Result<(Option<Trigger>, usize), Errno> {
         pick_counted(
             alloc,
             &self.subtree,
