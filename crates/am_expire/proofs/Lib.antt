@@ -3,4 +3,5 @@ pub mod IndexLemmas
 pub mod OrderLemmas
 pub mod TouchLemmas
 pub mod PickLemmas
+pub mod MayLemmas
 pub mod UpLemmas

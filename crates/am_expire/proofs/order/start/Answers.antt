@@ -1,4 +1,4 @@
-use Rattle.std.proofs.Common.{◌<◌, ℕ, nat_lt, rules, arith}
+use Rattle.std.proofs.Common.{ℕ, nat_lt, rules, arith}
 use Rattle.std.proofs.lemmas.Bool.Decides.{nat_tests}
 use Rattle.std.proofs.lemmas.List.Sorted.{IsPartitionPoint-from_clause, IsPartitionedBy-ltb}
 use Rattle.am_names.specs.declared.trigger.Trigger.{Trigger}

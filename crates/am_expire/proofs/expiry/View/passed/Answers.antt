@@ -1,7 +1,4 @@
-use Rattle.std.proofs.Common.{◌≡◌, ℕ, true, false, arith, sym, ap, ◌∙◌}
-use Rattle.std.proofs.lemmas.List.Sums.{position_or_len_is}
-use Rattle.am_names.specs.declared.trigger.Trigger.{Trigger}
-use Rattle.am_expire.specs.Order.{is_end}
+use Rattle.std.proofs.Common.{sym, ◌∙◌}
 use Rattle.am_expire.specs.Scan.{expiry_in}
 use Rattle.am_expire.proofs.UpLemmas.{ends_here, passed_more, passed_all}
 use Rattle.am_expire.proofs.expiry.View.passed.Goals as goal

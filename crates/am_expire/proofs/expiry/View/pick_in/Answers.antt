@@ -1,5 +1,4 @@
-use Rattle.std.proofs.Common.{◌≡◌, ℕ, Option, sym, ap, subst, ◌∙◌}
-use Rattle.am_names.specs.declared.trigger.Trigger.{Trigger}
+use Rattle.std.proofs.Common.{sym, ap, subst, ◌∙◌}
 use Rattle.am_expire.specs.Pick.{IsPick}
 use Rattle.am_expire.specs.Scan.{expiry_in, due_at}
 use Rattle.am_expire.proofs.UpLemmas.{pick_up, exact_up, none_off, exact_off}

@@ -1,6 +1,5 @@
-use Rattle.std.proofs.Common.{ℕ, List, sym, ap, subst}
+use Rattle.std.proofs.Common.{sym, subst}
 use Rattle.std.specs.Prelude.{filter}
-use Rattle.am_names.specs.declared.trigger.Trigger.{Trigger}
 use Rattle.am_trigger.specs.Table.{TriggerTable}
 use Rattle.am_expire.specs.Order.{is_of, IsOrder}
 use Rattle.am_expire.proofs.TouchLemmas.{order_within}

@@ -1,6 +1,5 @@
 use Rattle.std.proofs.Common.{ℕ, Option, sym, subst}
-use Rattle.am_names.specs.declared.trigger.Trigger.{Trigger}
-use Rattle.am_trigger.specs.Rows.{TriggerRows, last_use_in, used_in}
+use Rattle.am_trigger.specs.Rows.{TriggerRows, last_use_in}
 use Rattle.am_expire.specs.Order.{IsOrder, HasLastMore}
 use Rattle.am_expire.proofs.TouchLemmas.{last_in_order, order_of_used}
 use Rattle.am_expire.proofs.ordered.OrderedTriggers.touch_reserved.Goals as goal
