@@ -1,8 +1,9 @@
 #!/bin/sh
 # tools/examples.sh: plays each script of `examples`, and compares its answers, its trace, its picture and
 # its world with those beside it; compares the script with the copy that `am_sweeps` plays; reads each
-# trace back; has a parser of XML read each picture, and findmnt each namespace of each world. The last
-# line counts them.
+# trace back; has a parser of XML read each picture, and findmnt each namespace of each world. Of the
+# scripts of `crates/am_tests/data` it compares the traces that stand beside them. The last line counts
+# them.
 set -u
 export LC_ALL=C
 . "$(dirname "$0")/common.sh"
@@ -112,6 +113,12 @@ for script in examples/*.script; do
     play world "$script"
     expect "example $name, its world" "$room/world" "examples/$name.world"
     ! command -v findmnt > /dev/null || expect_found "example $name" "$script"
+done
+
+for trace in crates/am_tests/data/*.trace; do
+    name=$(basename "$trace" .trace)
+    play trace "crates/am_tests/data/$name.script"
+    expect "script $name, its trace" "$room/trace" "$trace"
 done
 
 # Names of 255 bytes, with a backslash and quotes, and with bytes that aren't UTF-8.

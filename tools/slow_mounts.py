@@ -1,12 +1,14 @@
 #!/usr/bin/env python3
 """Mounts, binds, unmounts and namespaces computed the slow way, by chains of mounts, over
 generated small worlds. It prints the number that the test `worlds_of_the_slow_model` of
-am_table_tests expects: both fold each answer, what each unmount would take, and the whole mount
-table after each step."""
+am_table_tests expects: both fold each answer, what each unmount would take, whether it would be
+refused, and the whole mount table after each step."""
 import sys
 
 MASK = (1 << 64) - 1
 EINVAL, ENOENT, EBUSY, ENOSPC = 5, 1, 3, 9
+# The number of no mount.
+ABSENT = 99
 
 
 class Random:
@@ -57,6 +59,8 @@ class World:
         self.members, self.groups = members, groups
 
     def change(self, kind, m):
+        if m not in self.rows:
+            return EINVAL
         group, master, _ = self.members[m]
         if kind == 0 and not group:
             self.last_group += 1
@@ -69,6 +73,8 @@ class World:
         self.settle()
 
     def add(self, b, place, fs, source):
+        if b not in self.rows:
+            return EINVAL
         group, master, _ = source
         receivers = self.receivers(b)
         if self.last + 1 + len(receivers) > self.limit:
@@ -109,7 +115,7 @@ class World:
         return [100 + m for m in sorted(set(self.rows) - before)]
 
     def bind(self, source, b, place):
-        if self.members[source][2]:
+        if source not in self.rows or self.members[source][2]:
             return EINVAL
         return self.add(b, place, self.rows[source][3], self.members[source])
 
@@ -124,6 +130,8 @@ class World:
         return [100 + m for m in sorted(gone)]
 
     def takes(self, m):
+        if m not in self.rows:
+            return []
         _, parent, place, _, _ = self.rows[m]
         gone = {m}
         for r in self.receivers(parent) if parent is not None else []:
@@ -132,11 +140,15 @@ class World:
                 gone.add(max(there))
         return sorted(gone)
 
-    def umount(self, m, used):
-        gone = self.takes(m)
-        if self.rows[m][1] is None or self.on(m) or used in gone:
+    def umount_refusal(self, m, used):
+        if m not in self.rows:
+            return EINVAL
+        if self.rows[m][1] is None or self.on(m) or used in self.takes(m):
             return EBUSY
-        return self.remove(gone)
+        return 0
+
+    def umount(self, m, used):
+        return self.umount_refusal(m, used) or self.remove(self.takes(m))
 
     def in_ns(self, ns):
         return sorted(m for m in self.rows if self.rows[m][0] == ns)
@@ -171,7 +183,7 @@ class World:
 
 
 def step(world, random):
-    mounts = sorted(world.rows)
+    mounts = sorted(world.rows) + [ABSENT]
     op = random.below(8)
     a = mounts[random.below(len(mounts))]
     b = mounts[random.below(len(mounts))]
@@ -184,8 +196,9 @@ def step(world, random):
     if op <= 5:
         return world.change(n, a) or 0
     if op == 6:
-        takes, answer = [100 + m for m in world.takes(a)], world.umount(a, b)
-        return takes + (answer if isinstance(answer, list) else [answer])
+        takes, refusal = [100 + m for m in world.takes(a)], world.umount_refusal(a, b)
+        answer = world.umount(a, b)
+        return takes + [refusal] + (answer if isinstance(answer, list) else [answer])
     return world.copy(n, reduced) if n % 2 == 0 else world.drop(n, b)
 
 

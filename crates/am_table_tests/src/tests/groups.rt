@@ -1,12 +1,9 @@
-//! Peer groups of mounts.
+//! Peer groups of mounts by calls that no event makes. What events make of them is in scripts.
 
-use crate::tests::script::Stage;
-use crate::tests::twice::Compared;
+use crate::tests::script::{Stage, Step, plays_all};
 use am_group::{Change, Groups, Kind, Membership};
 use am_names::{Errno, GroupId, MountId};
 use std::alloc::Global;
-
-mod examples;
 
 /// Peer groups by their numbers.
 const FIRST: u64 = 1;
@@ -21,7 +18,6 @@ enum Part {
     InGroup(u64),
     SlaveOf(u64),
     Private,
-    Unbindable,
 }
 
 impl Part {
@@ -30,7 +26,6 @@ impl Part {
             Part::InGroup(group) => Membership::InGroup(GroupId(group)),
             Part::SlaveOf(group) => Membership::SlaveOf(GroupId(group)),
             Part::Private => Membership::Private,
-            Part::Unbindable => Membership::Unbindable,
         }
     }
 }
@@ -38,8 +33,10 @@ impl Part {
 /// A call, and what it answers.
 #[derive(Clone, Copy)]
 enum Call {
+    /// A fresh group, and its number.
+    Fresh(u64),
     /// A fresh group under this master, and its number.
-    Fresh(Option<u64>, u64),
+    FreshUnder(u64, u64),
     Adds(u64, Part),
     /// Begins anew with this private mount, which is added as `add_all` adds many.
     AddsAll(u64),
@@ -47,26 +44,19 @@ enum Call {
     Makes(u64, Change),
     /// The same by `change`.
     Changes(u64, Change),
-    Leave(&'static [u64]),
+    Leaves(u64),
     HasState(u64, Option<Kind>),
-    /// A mount of the first state beside peers, a master and slaves: what the four changes, from
-    /// make-shared to make-unbindable, make of it.
-    Turns(Kind, [Kind; 4]),
-    Receive(u64, &'static [u64]),
-    IsMember(u64, Part),
-    IsIn(u64, u64),
-    IsUnder(u64, Option<u64>),
     LastGroup(u64),
     AreGroups(&'static [u64]),
     Members(usize),
 }
 
-fn fresh(groups: &mut Groups, master: Option<u64>) -> Result<u64, Errno> {
-    let group = match master {
-        Some(group) => groups.fresh(Some(GroupId(group)))?,
-        None => groups.fresh(None)?,
-    };
-    Ok(group.0)
+fn fresh(groups: &mut Groups, group: u64) -> Result<bool, Errno> {
+    Ok(groups.fresh(None)? == GroupId(group))
+}
+
+fn fresh_under(groups: &mut Groups, master: u64, group: u64) -> Result<bool, Errno> {
+    Ok(groups.fresh(Some(GroupId(master)))? == GroupId(group))
 }
 
 fn add(groups: &mut Groups, mount: u64, part: Part) -> Result<bool, Errno> {
@@ -100,45 +90,9 @@ fn change(alloc: Global, groups: &mut Groups, mount: u64, change: Change) -> Res
     Ok(true)
 }
 
-fn mounts(alloc: Global, numbers: &[u64]) -> Result<Vec<MountId>, Errno> {
-    let mut mounts = Vec::new(alloc);
-    for number in numbers {
-        mounts.push(MountId(*number))?;
-    }
-    Ok(mounts)
-}
-
-fn leave(alloc: Global, groups: &mut Groups, gone: &[u64]) -> Result<bool, Errno> {
-    let gone = mounts(alloc, gone)?;
-    groups.leave(alloc, gone.as_slice())?;
+fn leave(alloc: Global, groups: &mut Groups, mount: u64) -> Result<bool, Errno> {
+    groups.leave(alloc, &[MountId(mount)])?;
     Ok(true)
-}
-
-fn are(mounts: &[MountId], expected: &[u64]) -> bool {
-    mounts
-        .iter()
-        .map(|mount| mount.0)
-        .eq(expected.iter().copied())
-}
-
-fn receive(alloc: Global, groups: &Groups, mount: u64, expected: &[u64]) -> Result<bool, Errno> {
-    let found = groups.receivers(alloc, MountId(mount))?;
-    Ok(are(found.as_slice(), expected))
-}
-
-fn is_member(groups: &Groups, mount: u64, part: Part) -> bool {
-    groups.member(MountId(mount)) == Some(part.membership().row(MountId(mount)))
-}
-
-fn is_in(groups: &Groups, mount: u64, group: u64) -> bool {
-    groups.group_of(MountId(mount)) == Some(GroupId(group))
-}
-
-fn is_under(groups: &Groups, group: u64, master: Option<u64>) -> bool {
-    match groups.master_of_group(GroupId(group)) {
-        Some(found) => master == Some(found.0),
-        None => master.is_none(),
-    }
 }
 
 fn are_groups(groups: &Groups, expected: &[u64]) -> bool {
@@ -147,61 +101,6 @@ fn are_groups(groups: &Groups, expected: &[u64]) -> bool {
         .iter()
         .map(|row| row.group.0)
         .eq(expected.iter().copied())
-}
-
-/// Peer group 1 with the mounts 10 and 11, and under it peer group 2 with 20.
-fn make_two_groups(groups: &mut Groups) -> Result<(), Errno> {
-    fresh(groups, None)?;
-    add(groups, 11, Part::InGroup(FIRST))?;
-    add(groups, 10, Part::InGroup(FIRST))?;
-    fresh(groups, Some(FIRST))?;
-    add(groups, 20, Part::InGroup(SECOND))?;
-    Ok(())
-}
-
-/// How a mount of this state takes part among these groups.
-fn part_of(kind: Kind) -> Part {
-    match kind {
-        Kind::Shared => Part::InGroup(FIRST),
-        Kind::Slave => Part::SlaveOf(FIRST),
-        Kind::SharedSlave => Part::InGroup(SECOND),
-        Kind::Private => Part::Private,
-        Kind::Unbindable => Part::Unbindable,
-    }
-}
-
-/// Whether a mount of the first state comes to the second by the change.
-fn comes_to(
-    alloc: Global,
-    groups: &mut Groups,
-    from: Kind,
-    by: Change,
-    to: Kind,
-) -> Result<bool, Errno> {
-    make_two_groups(groups)?;
-    add(groups, 5, part_of(from))?;
-    if groups.kind(MountId(5)) != Some(from) {
-        return Ok(false);
-    }
-    change(alloc, groups, 5, by)?;
-    Ok(groups.kind(MountId(5)) == Some(to))
-}
-
-static CHANGES: [Change; 4] = [
-    Change::MakeShared,
-    Change::MakeSlave,
-    Change::MakePrivate,
-    Change::MakeUnbindable,
-];
-
-fn turns(alloc: Global, from: Kind, to: &[Kind]) -> Result<bool, Errno> {
-    for (by, to) in CHANGES.iter().zip(to.iter()) {
-        let mut groups = Groups::new(alloc);
-        if !comes_to(alloc, &mut groups, from, *by, *to)? {
-            return Ok(false);
-        }
-    }
-    Ok(true)
 }
 
 /// The groups of an example, none at first.
@@ -213,44 +112,93 @@ impl Table {
         self.0 = of_all(alloc, mount)?;
         Ok(true)
     }
-
-    /// A call that changes nothing.
-    fn look(&self, alloc: Global, call: Call) -> Result<bool, Errno> {
-        match call {
-            Call::HasState(mount, state) => Ok(self.0.kind(MountId(mount)) == state),
-            Call::Turns(from, to) => turns(alloc, from, &to),
-            Call::Receive(mount, expected) => receive(alloc, &self.0, mount, expected),
-            Call::IsMember(mount, part) => Ok(is_member(&self.0, mount, part)),
-            Call::IsIn(mount, group) => Ok(is_in(&self.0, mount, group)),
-            Call::IsUnder(group, master) => Ok(is_under(&self.0, group, master)),
-            Call::LastGroup(group) => Ok(self.0.last_group() == GroupId(group)),
-            Call::AreGroups(expected) => Ok(are_groups(&self.0, expected)),
-            Call::Members(count) => Ok(self.0.members().len() == count),
-            _ => Ok(false),
-        }
-    }
 }
 
 impl Stage for Table {
     type Call = Call;
 
+    fn new(alloc: Global) -> Result<Table, Errno> {
+        Ok(Table(Groups::new(alloc)))
+    }
+
     fn make(&mut self, alloc: Global, call: Call) -> Result<bool, Errno> {
         match call {
-            Call::Fresh(master, group) => Ok(fresh(&mut self.0, master)? == group),
+            Call::Fresh(group) => fresh(&mut self.0, group),
+            Call::FreshUnder(master, group) => fresh_under(&mut self.0, master, group),
             Call::Adds(mount, part) => add(&mut self.0, mount, part),
             Call::AddsAll(mount) => self.add_all(alloc, mount),
             Call::Makes(mount, to) => make(alloc, &mut self.0, mount, to),
             Call::Changes(mount, to) => change(alloc, &mut self.0, mount, to),
-            Call::Leave(gone) => leave(alloc, &mut self.0, gone),
-            look => self.look(alloc, look),
+            Call::Leaves(mount) => leave(alloc, &mut self.0, mount),
+            Call::HasState(mount, state) => Ok(self.0.kind(MountId(mount)) == state),
+            Call::LastGroup(group) => Ok(self.0.last_group() == GroupId(group)),
+            Call::AreGroups(expected) => Ok(are_groups(&self.0, expected)),
+            Call::Members(count) => Ok(self.0.members().len() == count),
         }
     }
 }
 
-impl Compared for Table {
-    fn is_same(&self, other: &Table) -> bool {
-        self.0.members() == other.0.members()
-            && self.0.groups() == other.0.groups()
-            && self.0.last_group() == other.0.last_group()
-    }
+/// Peer group 1 with the mounts 10 and 11, and under it peer group 2 with 20.
+const TESTS_IN_ORDER: &[Step<Call>] = &[
+    Step::Does(Call::Fresh(FIRST)),
+    Step::Does(Call::Adds(11, Part::InGroup(FIRST))),
+    Step::Does(Call::Adds(10, Part::InGroup(FIRST))),
+    Step::Does(Call::FreshUnder(FIRST, SECOND)),
+    Step::Does(Call::Adds(20, Part::InGroup(SECOND))),
+    Step::Refused(Call::Adds(10, Part::InGroup(ABSENT)), Errno::EEXIST),
+    Step::Refused(Call::Adds(1, Part::InGroup(ABSENT)), Errno::EINVAL),
+    Step::Refused(Call::Adds(1, Part::SlaveOf(ABSENT)), Errno::EINVAL),
+    Step::Refused(Call::FreshUnder(ABSENT, ABSENT), Errno::EINVAL),
+    // A group without members is no master yet.
+    Step::Does(Call::Fresh(3)),
+    Step::Refused(Call::FreshUnder(3, 4), Errno::EINVAL),
+    Step::Refused(Call::Adds(1, Part::SlaveOf(3)), Errno::EINVAL),
+    Step::Does(Call::Adds(1, Part::InGroup(3))),
+    Step::Does(Call::Adds(2, Part::SlaveOf(3))),
+    Step::Refused(Call::Changes(99, Change::MakeShared), Errno::EINVAL),
+    Step::Refused(Call::Changes(99, Change::MakeSlave), Errno::EINVAL),
+    Step::Refused(Call::Changes(99, Change::MakePrivate), Errno::EINVAL),
+    Step::Refused(Call::Changes(99, Change::MakeUnbindable), Errno::EINVAL),
+    Step::Does(Call::HasState(99, None)),
+    // The last member takes its group along; a fresh group stays, and nobody is in it.
+    Step::Does(Call::Fresh(4)),
+    Step::Does(Call::Leaves(20)),
+    Step::Does(Call::AreGroups(&[FIRST, 3, 4])),
+];
+
+const ALL_TOGETHER: &[Step<Call>] = &[
+    Step::Does(Call::AddsAll(3)),
+    Step::Does(Call::HasState(3, Some(Kind::Private))),
+    Step::Does(Call::Members(1)),
+];
+
+/// A refusal takes no number, and neither does a change that makes no group. (That the numbers are
+/// exhausted no example can tell: they have 64 bits.)
+const NUMBERS: &[Step<Call>] = &[
+    Step::Does(Call::LastGroup(0)),
+    Step::Does(Call::Fresh(FIRST)),
+    Step::Does(Call::LastGroup(FIRST)),
+    Step::Refused(Call::FreshUnder(FIRST, SECOND), Errno::EINVAL),
+    Step::Does(Call::Adds(1, Part::InGroup(FIRST))),
+    Step::Does(Call::Adds(2, Part::Private)),
+    Step::Refused(Call::Makes(3, Change::MakeShared), Errno::EINVAL),
+    Step::Does(Call::Makes(1, Change::MakeShared)),
+    Step::Does(Call::LastGroup(FIRST)),
+    Step::Does(Call::Makes(2, Change::MakeShared)),
+    Step::Does(Call::LastGroup(SECOND)),
+    Step::Does(Call::Makes(2, Change::MakeUnbindable)),
+    Step::Does(Call::HasState(2, Some(Kind::Unbindable))),
+    Step::Does(Call::Makes(2, Change::MakePrivate)),
+    Step::Does(Call::Makes(1, Change::MakeSlave)),
+];
+
+static EXAMPLES: [(&str, &[&[Step<Call>]]); 3] = [
+    ("each call tests in order", &[TESTS_IN_ORDER]),
+    ("mounts added all together", &[ALL_TOGETHER]),
+    ("numbers go up with each group that is made", &[NUMBERS]),
+];
+
+#[test]
+fn groups(rt: HostRuntime) {
+    plays_all::<Table>(&rt, rt.alloc(), &EXAMPLES);
 }

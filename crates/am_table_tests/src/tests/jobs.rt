@@ -1,7 +1,7 @@
 //! Every plan of a job, act by act, and what comes of them.
 
 use crate::tests::acts::{Comes, Deed, Said};
-use crate::tests::script::{Stage, Step, plays};
+use crate::tests::script::{Stage, Step, plays_all};
 use crate::tests::trap::Trap;
 use am_job::Job;
 use am_map::Entry;
@@ -11,6 +11,8 @@ use std::alloc::{AllocError, Global};
 /// A call, and what it answers.
 #[derive(Clone, Copy)]
 enum Call {
+    /// Packets come for this trigger.
+    On(Trap),
     /// A packet comes: the mount that the book has for its trigger, and whether the map has an
     /// entry.
     Asks(TokenKind, Option<u64>, bool),
@@ -83,7 +85,7 @@ fn tells(job: &Job, token: u32, attach: u32) -> bool {
 
 fn make(alloc: Global, job: &mut Job, call: Call) -> Result<bool, Errno> {
     match call {
-        Call::Asks(..) => Ok(false),
+        Call::On(_) | Call::Asks(..) => Ok(false),
         Call::Does(deed, comes) => does(alloc, job, deed, comes),
         Call::Done(comes) => done(job, comes),
         Call::Ends => Ok(job.next().is_none()),
@@ -102,7 +104,18 @@ struct Work {
 impl Stage for Work {
     type Call = Call;
 
+    fn new(_alloc: Global) -> Result<Work, Errno> {
+        Ok(Work {
+            trap: Trap(2, b""),
+            job: None,
+        })
+    }
+
     fn make(&mut self, alloc: Global, call: Call) -> Result<bool, Errno> {
+        if let Call::On(trap) = call {
+            self.trap = trap;
+            return Ok(true);
+        }
         if let Call::Asks(kind, mounted, has_entry) = call {
             self.job = Some(begun(alloc, self.trap, kind, mounted, has_entry)?);
             return Ok(true);
@@ -132,7 +145,8 @@ const READY: Deed = Deed::Replies(Status::Ready);
 
 const FAIL: Deed = Deed::Replies(Status::Fail);
 
-static INDIRECT: [Step<Call>; 41] = [
+const INDIRECT: &[Step<Call>] = &[
+    Step::Does(Call::On(Trap(2, b"home"))),
     // The mount comes.
     Step::Does(Call::Asks(MISSING, None, true)),
     Step::Does(Call::Does(Deed::Mkdir, DONE)),
@@ -183,7 +197,8 @@ static INDIRECT: [Step<Call>; 41] = [
     Step::Does(Call::Ends),
 ];
 
-static DIRECT: [Step<Call>; 32] = [
+const DIRECT: &[Step<Call>] = &[
+    Step::Does(Call::On(Trap(2, b""))),
     Step::Does(Call::Asks(MISSING, None, true)),
     Step::Does(Call::Does(MOUNT, MADE)),
     Step::Does(Call::Does(Deed::Records(Said::Mounted(7)), DONE)),
@@ -218,7 +233,8 @@ static DIRECT: [Step<Call>; 32] = [
     Step::Does(Call::Ends),
 ];
 
-static A_PACKET: [Step<Call>; 12] = [
+const A_PACKET: &[Step<Call>] = &[
+    Step::Does(Call::On(Trap(2, b""))),
     Step::Does(Call::Asks(EXPIRE, Some(4), false)),
     Step::Does(Call::Tells(5, 1)),
     Step::Does(Call::IsReply(false)),
@@ -233,22 +249,13 @@ static A_PACKET: [Step<Call>; 12] = [
     Step::Does(Call::Tells(5, 1)),
 ];
 
-/// No packet of this trigger has come.
-fn idle(trap: Trap) -> Work {
-    Work { trap, job: None }
-}
+static EXAMPLES: [(&str, &[&[Step<Call>]]); 3] = [
+    ("plans of an indirect trigger", &[INDIRECT]),
+    ("plans of a direct trigger", &[DIRECT]),
+    ("a job tells its packet", &[A_PACKET]),
+];
 
 #[test]
-fn plans_of_an_indirect_trigger(rt: HostRuntime) {
-    plays(&rt, rt.alloc(), &mut idle(Trap(2, b"home")), &INDIRECT);
-}
-
-#[test]
-fn plans_of_a_direct_trigger(rt: HostRuntime) {
-    plays(&rt, rt.alloc(), &mut idle(Trap(2, b"")), &DIRECT);
-}
-
-#[test]
-fn a_job_tells_its_packet(rt: HostRuntime) {
-    plays(&rt, rt.alloc(), &mut idle(Trap(2, b"")), &A_PACKET);
+fn plans(rt: HostRuntime) {
+    plays_all::<Work>(&rt, rt.alloc(), &EXAMPLES);
 }

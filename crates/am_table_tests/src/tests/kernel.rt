@@ -1,34 +1,373 @@
-//! The kernel's half by its public calls: how they are answered, and what is seen of them.
+//! What a daemon asks of a kernel, where no job does, and its requests as one call. Each line fails
+//! one test more than the next. What events come to is in scripts.
 
-use crate::tests::script::Step;
-use look::Look;
-use stage::{Act, plays_one};
-use std::test::Fail;
+use crate::tests::script::{Stage, Step, plays_all};
+use crate::tests::trap::Trap;
+use am_kernel::{Begun, Granted, Kernel};
+use am_names::{
+    AbsPath, Attach, Errno, FsId, Limits, MountId, Name, NsId, PipeState, Seconds, Token, WalkerId,
+};
+use am_state::Obs;
+use am_wire::Request;
+use std::alloc::Global;
 
-mod administrator;
-mod answer;
-mod asked;
-mod attachments;
-mod call;
-mod daemon;
-mod expiring;
-mod expiry;
-mod look;
-mod memory;
-mod mounts;
-mod pipe;
-mod preview;
-mod previews;
-mod requests;
-mod sight;
-mod stage;
-mod walker;
-mod worked;
+/// What a request or a walk comes to.
+#[derive(Clone, Copy)]
+enum Told {
+    Done,
+    Waits(u32),
+    Arrives(u64),
+    Attached(u32),
+}
 
-static NOBODY: [Step<Act>; 1] = [Step::Does(Act::Finds(Look::Idle(7)))];
+impl Told {
+    fn begins(self, begun: &Begun) -> bool {
+        match (self, begun) {
+            (Told::Waits(token), Begun::Waits(on)) => *on == Token(token),
+            (Told::Arrives(mount), Begun::Arrived(at)) => at.mount == MountId(mount),
+            _ => false,
+        }
+    }
+
+    fn is(self, granted: &Granted) -> bool {
+        match (self, granted) {
+            (Told::Done, Granted::Done) => true,
+            (told, Granted::Begun(begun)) => told.begins(begun),
+            (Told::Attached(attach), Granted::Attached(number)) => *number == Attach(attach),
+            _ => false,
+        }
+    }
+}
+
+/// A request. What a daemon asks for begins with its attachment.
+#[derive(Clone, Copy)]
+enum Asked {
+    Ready(u32, u32),
+    Fail(u32, u32),
+    Catatonic(u32, u32),
+    /// The attachment, the file system, and the seconds.
+    SetTimeout(u32, u32, u32),
+    /// The walker, the file system, the moment, and whether at once.
+    Expire(u32, u32, u64, bool),
+    SetPipe(u32),
+}
+
+impl Asked {
+    fn request(self) -> Request {
+        match self {
+            Asked::Ready(attach, token) => Request::Ready {
+                attach: Attach(attach),
+                token: Token(token),
+            },
+            Asked::Fail(attach, token) => Request::Fail {
+                attach: Attach(attach),
+                token: Token(token),
+            },
+            Asked::Catatonic(attach, fs) => Request::Catatonic {
+                attach: Attach(attach),
+                fs: FsId(fs),
+            },
+            Asked::SetTimeout(attach, fs, timeout) => Request::SetTimeout {
+                attach: Attach(attach),
+                fs: FsId(fs),
+                timeout,
+            },
+            Asked::Expire(walker, fs, moment, immediate) => Request::Expire {
+                walker: WalkerId(walker),
+                fs: FsId(fs),
+                now: Seconds(moment),
+                immediate,
+                pipe: PipeState::Room,
+            },
+            Asked::SetPipe(fs) => Request::SetPipe { fs: FsId(fs) },
+        }
+    }
+}
+
+/// A call, and what it answers. What a daemon asks for begins with its attachment.
+#[derive(Clone, Copy)]
+enum Call {
+    /// An autofs at a path, and its file system.
+    Indirect(&'static [u8], u32),
+    Direct(&'static [u8], u32),
+    AdminCatatonic(u32),
+    Mkdir(u32, Trap),
+    Rmdir(u32, Trap),
+    MountOn(u32, Trap, u64),
+    UmountFrom(u32, Trap, u64),
+    /// The walker, its path, and the moment.
+    Walk(u32, &'static [u8], u64, Told),
+    Leave(u32),
+    Asks(Asked, Told),
+}
+
+fn attach(
+    alloc: Global,
+    kernel: &mut Kernel,
+    path: &[u8],
+    direct: bool,
+    fs: u32,
+    seen: &mut Vec<Obs>,
+) -> Result<bool, Errno> {
+    let path = AbsPath::read(path)?;
+    let row = kernel.attach_autofs(alloc, &path, direct, 300, seen)?;
+    Ok(row.fs == FsId(fs) && kernel.last_fs() == row.fs)
+}
+
+fn catatonic(kernel: &mut Kernel, fs: u32) -> Result<bool, Errno> {
+    kernel.admin_catatonic(FsId(fs))?;
+    Ok(true)
+}
+
+fn mkdir(kernel: &mut Kernel, attach: u32, trap: Trap) -> Result<bool, Errno> {
+    let trigger = trap.trigger()?;
+    // The checker wants the type of its name said too, here and below.
+    let _name: Option<Name> = trigger.name;
+    kernel.mkdir(Attach(attach), trigger)?;
+    Ok(true)
+}
+
+fn rmdir(alloc: Global, kernel: &mut Kernel, attach: u32, trap: Trap) -> Result<bool, Errno> {
+    let trigger = trap.trigger()?;
+    let _name: Option<Name> = trigger.name;
+    kernel.rmdir(alloc, Attach(attach), &trigger)?;
+    Ok(true)
+}
+
+fn mount_on(
+    alloc: Global,
+    kernel: &mut Kernel,
+    attach: u32,
+    trap: Trap,
+    mount: u64,
+    seen: &mut Vec<Obs>,
+) -> Result<bool, Errno> {
+    let trigger = trap.trigger()?;
+    let _name: Option<Name> = trigger.name;
+    Ok(kernel.mount_on(alloc, Attach(attach), &trigger, seen)? == MountId(mount))
+}
+
+/// Just this mount goes.
+fn umount_from(
+    alloc: Global,
+    kernel: &mut Kernel,
+    attach: u32,
+    trap: Trap,
+    mount: u64,
+    seen: &mut Vec<Obs>,
+) -> Result<bool, Errno> {
+    let trigger = trap.trigger()?;
+    let _name: Option<Name> = trigger.name;
+    let gone = kernel.umount_from(alloc, Attach(attach), &trigger, seen)?;
+    Ok(gone.as_slice() == [MountId(mount)].as_slice())
+}
+
+fn walk(
+    alloc: Global,
+    kernel: &mut Kernel,
+    walker: u32,
+    path: &[u8],
+    moment: u64,
+    told: Told,
+    seen: &mut Vec<Obs>,
+) -> Result<bool, Errno> {
+    let (walker, ns, moment) = (WalkerId(walker), NsId(0), Seconds(moment));
+    let path = AbsPath::read(path)?;
+    let begun = kernel.walk(alloc, walker, ns, &path, moment, PipeState::Room, seen)?;
+    Ok(told.begins(&begun))
+}
+
+fn leave(kernel: &mut Kernel, walker: u32, seen: &mut Vec<Obs>) -> Result<bool, Errno> {
+    kernel.leave(WalkerId(walker), seen)?;
+    Ok(true)
+}
+
+fn asks(
+    alloc: Global,
+    kernel: &mut Kernel,
+    asked: Asked,
+    told: Told,
+    seen: &mut Vec<Obs>,
+) -> Result<bool, Errno> {
+    let granted = kernel.request(alloc, asked.request(), seen)?;
+    Ok(told.is(&granted))
+}
+
+fn make(
+    alloc: Global,
+    kernel: &mut Kernel,
+    call: Call,
+    seen: &mut Vec<Obs>,
+) -> Result<bool, Errno> {
+    match call {
+        Call::Indirect(path, fs) => attach(alloc, kernel, path, false, fs, seen),
+        Call::Direct(path, fs) => attach(alloc, kernel, path, true, fs, seen),
+        Call::AdminCatatonic(fs) => catatonic(kernel, fs),
+        Call::Mkdir(attach, trap) => mkdir(kernel, attach, trap),
+        Call::Rmdir(attach, trap) => rmdir(alloc, kernel, attach, trap),
+        Call::MountOn(attach, trap, mount) => mount_on(alloc, kernel, attach, trap, mount, seen),
+        Call::UmountFrom(attach, trap, gone) => {
+            umount_from(alloc, kernel, attach, trap, gone, seen)
+        }
+        Call::Walk(walker, path, moment, told) => {
+            walk(alloc, kernel, walker, path, moment, told, seen)
+        }
+        Call::Leave(walker) => leave(kernel, walker, seen),
+        Call::Asks(asked, told) => asks(alloc, kernel, asked, told, seen),
+    }
+}
+
+/// Mounts have numbers up to 6.
+const LIMITS: Limits = Limits {
+    mounts: 6,
+    waiters: 9,
+    tokens: 9,
+};
+
+/// A kernel, and what was seen of it.
+#[derive(Drop)]
+struct Half {
+    kernel: Kernel,
+    seen: Vec<Obs>,
+}
+
+impl Stage for Half {
+    type Call = Call;
+
+    fn new(alloc: Global) -> Result<Half, Errno> {
+        Ok(Half {
+            kernel: Kernel::new(alloc, LIMITS)?,
+            seen: Vec::new(alloc),
+        })
+    }
+
+    fn make(&mut self, alloc: Global, call: Call) -> Result<bool, Errno> {
+        make(alloc, &mut self.kernel, call, &mut self.seen)
+    }
+}
+
+const HOME: Trap = Trap(3, b"home");
+
+const OTHER: Trap = Trap(3, b"other");
+
+const DATA: Trap = Trap(5, b"");
+
+/// Attachment 1 is old. File systems 3 and 4 are indirect, 5 is direct.
+const ATTACHED: &[Step<Call>] = &[
+    Step::Does(Call::Indirect(b"/gone", 2)),
+    Step::Does(Call::Indirect(b"/auto", 3)),
+    Step::Does(Call::Indirect(b"/next", 4)),
+    Step::Does(Call::Direct(b"/data", 5)),
+    Step::Does(Call::AdminCatatonic(2)),
+    Step::Refused(Call::Indirect(b"/auto/none", 6), Errno::ENOENT),
+    Step::Refused(Call::Direct(b"/auto", 6), Errno::EPERM),
+    Step::Refused(Call::AdminCatatonic(1), Errno::EINVAL),
+];
+
+const DIRECTORIES: &[Step<Call>] = &[
+    Step::Refused(Call::Mkdir(1, DATA), Errno::EPERM),
+    Step::Refused(Call::Mkdir(1, Trap(2, b"x")), Errno::EPERM),
+    Step::Refused(Call::Mkdir(4, DATA), Errno::EINVAL),
+    Step::Refused(Call::Mkdir(4, Trap(5, b"x")), Errno::EINVAL),
+    Step::Refused(Call::Mkdir(2, Trap(3, b"")), Errno::EINVAL),
+    Step::Does(Call::Mkdir(2, HOME)),
+    Step::Refused(Call::Mkdir(3, HOME), Errno::EPERM),
+    Step::Refused(Call::Mkdir(2, HOME), Errno::EEXIST),
+    Step::Does(Call::Mkdir(2, OTHER)),
+    Step::Refused(Call::Rmdir(1, DATA), Errno::EPERM),
+    Step::Refused(Call::Rmdir(4, DATA), Errno::EINVAL),
+    Step::Refused(Call::Rmdir(2, Trap(3, b"none")), Errno::ENOENT),
+    Step::Does(Call::Rmdir(2, OTHER)),
+    Step::Refused(Call::Rmdir(2, OTHER), Errno::ENOENT),
+    Step::Refused(Call::Mkdir(2, HOME), Errno::EEXIST),
+];
+
+const MOUNTS: &[Step<Call>] = &[
+    Step::Does(Call::Mkdir(2, HOME)),
+    Step::Refused(Call::MountOn(1, HOME, 6), Errno::EPERM),
+    Step::Refused(Call::MountOn(3, HOME, 6), Errno::EPERM),
+    Step::Refused(Call::MountOn(2, OTHER, 6), Errno::ENOENT),
+    Step::Refused(Call::MountOn(2, Trap(3, b""), 6), Errno::ENOENT),
+    Step::Refused(Call::MountOn(4, Trap(5, b"x"), 6), Errno::ENOENT),
+    Step::Does(Call::Mkdir(2, OTHER)),
+    Step::Does(Call::MountOn(2, HOME, 6)),
+    Step::Refused(Call::MountOn(2, HOME, 7), Errno::EBUSY),
+    Step::Refused(Call::MountOn(2, OTHER, 7), Errno::ENOSPC),
+    Step::Refused(Call::MountOn(4, DATA, 7), Errno::ENOSPC),
+    Step::Refused(Call::Rmdir(2, HOME), Errno::EBUSY),
+    Step::Does(Call::Walk(8, b"/auto/home/x", 9, Told::Arrives(6))),
+    Step::Refused(Call::UmountFrom(9, HOME, 6), Errno::EPERM),
+    Step::Refused(Call::UmountFrom(2, Trap(3, b"none"), 6), Errno::ENOENT),
+    Step::Refused(Call::UmountFrom(2, HOME, 6), Errno::EBUSY),
+    Step::Does(Call::Leave(8)),
+    Step::Does(Call::UmountFrom(2, HOME, 6)),
+    Step::Refused(Call::UmountFrom(2, HOME, 6), Errno::ENOENT),
+    Step::Does(Call::Rmdir(2, HOME)),
+    Step::Refused(Call::UmountFrom(1, HOME, 6), Errno::EPERM),
+];
+
+/// A token is acknowledged once, under the attachment of its own file system.
+const ANSWERS: &[Step<Call>] = &[
+    Step::Does(Call::Walk(7, b"/auto/home", 1, Told::Waits(1))),
+    Step::Does(Call::Walk(8, b"/next/x", 1, Told::Waits(2))),
+    Step::Refused(Call::Asks(Asked::Ready(9, 9), Told::Done), Errno::EPERM),
+    Step::Refused(Call::Asks(Asked::Ready(1, 9), Told::Done), Errno::EPERM),
+    Step::Refused(Call::Asks(Asked::Ready(2, 9), Told::Done), Errno::EINVAL),
+    Step::Refused(Call::Asks(Asked::Ready(2, 2), Told::Done), Errno::EINVAL),
+    Step::Does(Call::Asks(Asked::Ready(2, 1), Told::Done)),
+    Step::Refused(Call::Asks(Asked::Ready(2, 1), Told::Done), Errno::EINVAL),
+    Step::Refused(Call::Asks(Asked::Fail(9, 2), Told::Done), Errno::EPERM),
+    Step::Does(Call::Asks(Asked::Fail(3, 2), Told::Done)),
+    Step::Refused(Call::Asks(Asked::Fail(3, 2), Told::Done), Errno::EINVAL),
+];
+
+/// Home is last used at 100, and due at 160 by a timeout of 60 seconds; work is last used at 200.
+const REQUESTS: &[Step<Call>] = &[
+    Step::Does(Call::Indirect(b"/auto", 2)),
+    Step::Does(Call::Mkdir(1, Trap(2, b"home"))),
+    Step::Does(Call::MountOn(1, Trap(2, b"home"), 3)),
+    Step::Does(Call::Mkdir(1, Trap(2, b"work"))),
+    Step::Does(Call::MountOn(1, Trap(2, b"work"), 4)),
+    Step::Does(Call::Walk(7, b"/auto/work", 200, Told::Arrives(4))),
+    Step::Does(Call::Leave(7)),
+    Step::Does(Call::Walk(7, b"/auto/home", 100, Told::Arrives(3))),
+    Step::Does(Call::Leave(7)),
+    Step::Does(Call::Asks(Asked::SetTimeout(1, 2, 60), Told::Done)),
+    Step::Refused(
+        Call::Asks(Asked::Expire(7, 2, 159, false), Told::Waits(1)),
+        Errno::EAGAIN,
+    ),
+    Step::Does(Call::Asks(Asked::Expire(7, 2, 160, false), Told::Waits(1))),
+    Step::Refused(
+        Call::Asks(Asked::Expire(7, 2, 160, false), Told::Waits(1)),
+        Errno::EINVAL,
+    ),
+    Step::Does(Call::Asks(Asked::Expire(8, 2, 160, true), Told::Waits(2))),
+    Step::Does(Call::Asks(Asked::Fail(1, 1), Told::Done)),
+    Step::Refused(Call::Asks(Asked::Fail(1, 1), Told::Done), Errno::EINVAL),
+    Step::Does(Call::Asks(Asked::Ready(1, 2), Told::Done)),
+    Step::Refused(
+        Call::Asks(Asked::SetPipe(2), Told::Attached(2)),
+        Errno::EBUSY,
+    ),
+    Step::Does(Call::Asks(Asked::Catatonic(1, 2), Told::Done)),
+    Step::Refused(Call::Asks(Asked::Catatonic(1, 2), Told::Done), Errno::EPERM),
+    Step::Does(Call::Asks(Asked::SetPipe(2), Told::Attached(2))),
+    Step::Refused(Call::Asks(Asked::Ready(1, 2), Told::Done), Errno::EPERM),
+    Step::Refused(
+        Call::Asks(Asked::SetTimeout(1, 2, 60), Told::Done),
+        Errno::EPERM,
+    ),
+];
+
+static EXAMPLES: [(&str, &[&[Step<Call>]]); 4] = [
+    ("directories", &[ATTACHED, DIRECTORIES]),
+    ("mounts", &[ATTACHED, MOUNTS]),
+    ("acknowledgements", &[ATTACHED, ANSWERS]),
+    ("each request as one call", &[REQUESTS]),
+];
 
 #[test]
-fn nobody_is_busy_at_first(rt: HostRuntime) -> Result<(), Fail> {
-    plays_one(&rt, rt.alloc(), &NOBODY)?;
-    Ok(())
+fn requests_of_a_daemon(rt: HostRuntime) {
+    plays_all::<Half>(&rt, rt.alloc(), &EXAMPLES);
 }

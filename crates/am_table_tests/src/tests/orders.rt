@@ -1,73 +1,10 @@
-//! How far a pick goes up the order of last uses.
+//! A pick goes up the order of last uses, and no further than it has to.
 
-use crate::tests::parts::{Ask, Call, play_parts};
-use crate::tests::script::Step;
-use crate::tests::trap::Trap;
 use am_expire::{OrderedTriggers, Uses, pick_counted};
 use am_names::{AbsPath, Errno, FsId, MountId, Name, Position, Seconds, Trigger};
 use am_propagate::Subtree;
 use am_wait::Waits;
 use std::alloc::Global;
-use std::process::Abort;
-
-const HOME: Trap = Trap(2, b"home");
-
-const WORK: Trap = Trap(2, b"work");
-
-/// With a timeout of ten minutes, long after.
-const LATE: Ask = Ask(2, 600, 9000, false);
-
-/// At once, whatever the last use was.
-const NOW: Ask = Ask(2, 0, 0, true);
-
-/// The autofs is mount 2, home is mount 3 and work mount 4.
-static TWO_MOUNTED: [Step<Call>; 5] = [
-    Step::Does(Call::Indirect(1, b"/auto", 2)),
-    Step::Does(Call::Mount(2, b"/home", 9)),
-    Step::Does(Call::Mount(2, b"/work", 9)),
-    Step::Does(Call::Used(WORK, 200)),
-    Step::Does(Call::Used(HOME, 100)),
-];
-
-#[test]
-fn a_pick_ends_where_one_is_not_due(rt: HostRuntime) {
-    static STEPS: [Step<Call>; 6] = [
-        Step::Does(Call::Counts(Ask(2, 600, 699, false), None, 1)),
-        Step::Does(Call::Counts(Ask(2, 600, 700, false), Some(HOME), 1)),
-        Step::Does(Call::Enters(7, 3)),
-        Step::Does(Call::Counts(Ask(2, 600, 700, false), None, 2)),
-        Step::Does(Call::Counts(LATE, Some(WORK), 2)),
-        Step::Does(Call::Counts(Ask(2, 600, 699, true), Some(WORK), 2)),
-    ];
-    play_parts(&rt, rt.alloc(), &TWO_MOUNTED, &STEPS);
-}
-
-#[test]
-fn a_pick_looks_at_all_or_none(rt: HostRuntime) {
-    static STEPS: [Step<Call>; 6] = [
-        Step::Does(Call::Enters(7, 3)),
-        Step::Does(Call::Enters(8, 4)),
-        Step::Does(Call::Counts(LATE, None, 2)),
-        Step::Does(Call::Counts(NOW, None, 2)),
-        Step::Does(Call::Counts(Ask(2, 0, 9000, false), None, 0)),
-        Step::Does(Call::Counts(Ask(9, 600, 9000, false), None, 0)),
-    ];
-    play_parts(&rt, rt.alloc(), &TWO_MOUNTED, &STEPS);
-}
-
-/// A moment may come twice, and may go back.
-#[test]
-fn a_trigger_stands_once_in_the_order(rt: HostRuntime) {
-    static STEPS: [Step<Call>; 6] = [
-        Step::Does(Call::Used(HOME, 100)),
-        Step::Does(Call::Used(WORK, 50)),
-        Step::Does(Call::Counts(LATE, Some(WORK), 1)),
-        Step::Does(Call::Enters(7, 4)),
-        Step::Does(Call::Counts(LATE, Some(HOME), 2)),
-        Step::Does(Call::Counts(Ask(2, 600, 660, false), None, 2)),
-    ];
-    play_parts(&rt, rt.alloc(), &TWO_MOUNTED, &STEPS);
-}
 
 fn digit(number: u64) -> u8 {
     b'0' + (number % 10) as u8

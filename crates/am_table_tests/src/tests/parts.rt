@@ -1,19 +1,18 @@
 //! A world of the kernel's parts: mounts, triggers, waits and uses, on which walks and picks are
 //! played.
 
-use crate::tests::script::{Stage, Step, plays};
+use crate::tests::script::Stage;
 use crate::tests::trap::Trap;
 use am_expire::{OrderedTriggers, Uses, pick, pick_counted};
 use am_group::Change;
 use am_names::{
-    AbsPath, Errno, FsId, MountId, Name, NsId, Position, Seconds, Token, TokenKind, Trigger,
-    WalkerId,
+    AbsPath, Errno, FsId, MountId, MountRow, Name, NsId, Position, Seconds, Token, TokenKind,
+    Trigger, WalkerId,
 };
 use am_propagate::{CopyForm, Subtree};
 use am_wait::Waits;
 use am_walk::{Stop, Walk, position, resolve};
 use std::alloc::Global;
-use std::process::Abort;
 
 /// Where a walk ends.
 #[derive(Clone, Copy)]
@@ -110,6 +109,8 @@ pub enum Call {
     Catatonic(u32),
     /// The trigger was last used at this moment.
     Used(Trap, u64),
+    /// So were all of these.
+    AllUsed(&'static [Trap], u64),
     /// A walker enters a mount.
     Enters(u32, u64),
     Leaves(u32),
@@ -123,35 +124,24 @@ pub enum Call {
     Picks(Ask, Option<Trap>),
     /// The same, and how many last uses are looked at.
     Counts(Ask, Option<Trap>, usize),
+    /// When the trigger was last used.
+    LastUse(Trap, Option<u64>),
+    /// These mounts are mounted on a mount.
+    Children(u64, &'static [u64]),
+    /// Whether a mount of this number can be added to those that there are.
+    CanAdd(u64, bool),
 }
 
 /// What walks and picks look at.
 #[derive(Drop)]
-struct Parts {
+pub struct Parts {
     subtree: Subtree,
     triggers: OrderedTriggers,
     waits: Waits,
     uses: Uses,
 }
 
-fn subtree(alloc: Global) -> Result<Subtree, Errno> {
-    match Subtree::new(alloc, 100) {
-        Err(Errno::NoMemory) => Subtree::new(alloc, 100),
-        made => made,
-    }
-}
-
 impl Parts {
-    /// Mount 1 alone.
-    fn new(alloc: Global) -> Result<Parts, Errno> {
-        Ok(Parts {
-            subtree: subtree(alloc)?,
-            triggers: OrderedTriggers::new(alloc),
-            waits: Waits::new(alloc, 9, 9),
-            uses: Uses::new(alloc),
-        })
-    }
-
     fn mount(
         &mut self,
         alloc: Global,
@@ -224,6 +214,17 @@ impl Parts {
         let trigger = trap.trigger()?;
         let _name: Option<Name> = trigger.name;
         self.triggers.touch(trigger, Seconds(moment))?;
+        Ok(true)
+    }
+
+    fn touch_all(&mut self, alloc: Global, traps: &[Trap], moment: u64) -> Result<bool, Errno> {
+        let mut used = Vec::new(alloc);
+        for trap in traps {
+            used.push(trap.trigger()?)?;
+        }
+        self.triggers.reserve_uses(used.len())?;
+        self.triggers
+            .touch_all_reserved(used.as_slice(), Seconds(moment));
         Ok(true)
     }
 
@@ -336,6 +337,36 @@ impl Parts {
         Ok(count == looks && is_found(&found, expected))
     }
 
+    fn is_last_use(&self, trap: Trap, expected: Option<u64>) -> Result<bool, Errno> {
+        let trigger = trap.trigger()?;
+        let _name: Option<Name> = trigger.name;
+        match self.triggers.as_triggers().last_use(&trigger) {
+            Some(moment) => Ok(expected == Some(moment.0)),
+            None => Ok(expected.is_none()),
+        }
+    }
+
+    fn are_children(&self, alloc: Global, mount: u64, expected: &[u64]) -> Result<bool, Errno> {
+        let children = self.subtree.tree().children(alloc, MountId(mount))?;
+        Ok(
+            children
+                .iter()
+                .map(|child| child.0)
+                .eq(expected.iter().copied()),
+        )
+    }
+
+    fn can_add(&self, mount: u64) -> bool {
+        let row = MountRow {
+            mount: MountId(mount),
+            ns: NsId(0),
+            mountpoint: None,
+            fs: FsId(1),
+            origin: MountId(mount),
+        };
+        self.subtree.tree().can_add(&[row])
+    }
+
     /// What changes nothing.
     fn look(&self, alloc: Global, call: Call) -> Result<bool, Errno> {
         match call {
@@ -344,6 +375,9 @@ impl Parts {
             Call::Leads(ns, path, end) => self.leads(alloc, ns, path, end),
             Call::Picks(ask, expected) => self.picks(alloc, ask, expected),
             Call::Counts(ask, expected, looks) => self.counts(alloc, ask, expected, looks),
+            Call::LastUse(trap, expected) => self.is_last_use(trap, expected),
+            Call::Children(mount, expected) => self.are_children(alloc, mount, expected),
+            Call::CanAdd(mount, expected) => Ok(self.can_add(mount) == expected),
             _ => Ok(false),
         }
     }
@@ -391,6 +425,16 @@ impl Parts {
 impl Stage for Parts {
     type Call = Call;
 
+    /// Mount 1 alone.
+    fn new(alloc: Global) -> Result<Parts, Errno> {
+        Ok(Parts {
+            subtree: Subtree::new(alloc, 100)?,
+            triggers: OrderedTriggers::new(alloc),
+            waits: Waits::new(alloc, 9, 9),
+            uses: Uses::new(alloc),
+        })
+    }
+
     fn make(&mut self, alloc: Global, call: Call) -> Result<bool, Errno> {
         match call {
             Call::Mount(parent, path, fs) => {
@@ -406,20 +450,12 @@ impl Stage for Parts {
             Call::Makes(trap) => self.mkdir(trap),
             Call::Catatonic(fs) => self.set_catatonic(fs),
             Call::Used(trap, moment) => self.touch(trap, moment),
+            Call::AllUsed(traps, moment) => self.touch_all(alloc, traps, moment),
             Call::Enters(walker, mount) => self.enter(walker, mount),
             Call::Leaves(walker) => self.leave(walker),
             _ => self.look(alloc, call),
         }
     }
-}
-
-/// The steps of two tables go as they say, one after the other, from mount 1 on.
-pub fn play_parts(rt: &impl Abort, alloc: Global, first: &[Step<Call>], then: &[Step<Call>]) {
-    let Ok(mut parts) = Parts::new(alloc) else {
-        panic!(rt; "no world");
-    };
-    plays(rt, alloc, &mut parts, first);
-    plays(rt, alloc, &mut parts, then);
 }
 
 /// A letter for a fact, and the call by which it comes to hold.

@@ -80,11 +80,6 @@ static LINES: [Text; 1] = [Text::Lines(
     &[(b"ab", 1), (b"", 1), (b"cd\\e\\\r", 3), (b"", 3), (b"f", 1)],
 )];
 
-#[test]
-fn lines_and_how_many_raw_lines_they_have(rt: HostRuntime) {
-    hold(&rt, rt.alloc(), &LINES);
-}
-
 static ENDS: [Text; 5] = [
     Text::Lines(b"a\n", &[(b"a", 1), (b"", 1)]),
     Text::Lines(b"", &[(b"", 1)]),
@@ -93,17 +88,7 @@ static ENDS: [Text; 5] = [
     Text::Lines(b"\\\n\\\n\\", &[(b"", 3)]),
 ];
 
-#[test]
-fn a_line_feed_at_the_end_is_followed_by_an_empty_line(rt: HostRuntime) {
-    hold(&rt, rt.alloc(), &ENDS);
-}
-
 static WORDS: [Text; 1] = [Text::Words(b" \t a\tb#\r  \x0bc ", &[b"a", b"b#\r", b"\x0bc"])];
-
-#[test]
-fn words_stand_between_blanks(rt: HostRuntime) {
-    hold(&rt, rt.alloc(), &WORDS);
-}
 
 static FIRST_WORDS: [Text; 6] = [
     Text::FirstWord(b"", None),
@@ -113,11 +98,6 @@ static FIRST_WORDS: [Text; 6] = [
     Text::FirstWord(b"#a b", None),
     Text::FirstWord(b" a# b", Some((b"a#", b"b"))),
 ];
-
-#[test]
-fn comments_and_blank_lines_have_no_first_word(rt: HostRuntime) {
-    hold(&rt, rt.alloc(), &FIRST_WORDS);
-}
 
 static BYTES: [Text; 6] = [
     Text::BeginsWith(b"-a", b'-', true),
@@ -129,6 +109,30 @@ static BYTES: [Text; 6] = [
 ];
 
 #[test]
-fn the_first_byte_and_the_first_colon(rt: HostRuntime) {
-    hold(&rt, rt.alloc(), &BYTES);
+fn texts_of_lines(rt: HostRuntime) {
+    hold(
+        &rt,
+        rt.alloc(),
+        "lines and how many raw lines they have",
+        &LINES,
+    );
+    hold(
+        &rt,
+        rt.alloc(),
+        "a line feed at the end is followed by an empty line",
+        &ENDS,
+    );
+    hold(&rt, rt.alloc(), "words stand between blanks", &WORDS);
+    hold(
+        &rt,
+        rt.alloc(),
+        "comments and blank lines have no first word",
+        &FIRST_WORDS,
+    );
+    hold(
+        &rt,
+        rt.alloc(),
+        "the first byte and the first colon",
+        &BYTES,
+    );
 }

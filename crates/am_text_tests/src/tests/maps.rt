@@ -221,11 +221,6 @@ static FIRST_TEXTS: [Text; 2] = [
     Text::LooksUp(b"", MapKind::Indirect, &[], &[b"web", b"*"]),
 ];
 
-#[test]
-fn first_lines_joins_comments_and_the_wildcard(rt: HostRuntime) {
-    hold(&rt, rt.alloc(), &FIRST_TEXTS);
-}
-
 /// After the sample maps of autofs(5).
 const INDIRECT_ROWS: &[Line] = &[
     (
@@ -251,11 +246,6 @@ home      files.example.org:/export/home\n",
     &[b"floppy"],
 )];
 
-#[test]
-fn an_indirect_map_like_that_of_the_manual(rt: HostRuntime) {
-    hold(&rt, rt.alloc(), &INDIRECT);
-}
-
 const DIRECT_ROWS: &[Line] = &[
     (b"/nfs/apps/editor", (None, b"apps", b"/usr/local/editor")),
     (
@@ -276,11 +266,6 @@ static DIRECT: [Text; 1] = [Text::LooksUp(
     &[b"/nfs", b"//nfs//data/budgets/", b"", b"//"],
 )];
 
-#[test]
-fn a_direct_map_like_that_of_the_manual(rt: HostRuntime) {
-    hold(&rt, rt.alloc(), &DIRECT);
-}
-
 /// autofs(5), "Wildcard Key": the first line with the key, wherever the wildcard stands.
 const WILDCARD_ROWS: &[Line] = &[
     (b"annex", (Some(b"ro"), b"box", b"/annexx")),
@@ -297,11 +282,6 @@ static WILDCARD: [Text; 1] = [Text::LooksUp(
     WILDCARD_ROWS,
     &[],
 )];
-
-#[test]
-fn the_key_comes_before_the_wildcard(rt: HostRuntime) {
-    hold(&rt, rt.alloc(), &WILDCARD);
-}
 
 static GOOD_LINES: [Text; 15] = [
     Text::Good(b"*x a:/b"),
@@ -320,11 +300,6 @@ static GOOD_LINES: [Text; 15] = [
     Text::Good(b" \t\n\n#\n \\\n \\\n"),
     Text::Good(b"\\"),
 ];
-
-#[test]
-fn lines_that_are_good(rt: HostRuntime) {
-    hold(&rt, rt.alloc(), &GOOD_LINES);
-}
 
 static FAULTY_LINES: [Text; 35] = [
     Text::Bad(b"+auto", MapKind::Indirect, MapFaultKind::BadKey),
@@ -380,20 +355,10 @@ static FAULTY_LINES: [Text; 35] = [
     ),
 ];
 
-#[test]
-fn the_first_faulty_word_of_a_line(rt: HostRuntime) {
-    hold(&rt, rt.alloc(), &FAULTY_LINES);
-}
-
 static LONG_KEYS: [Text; 2] = [
     Text::LongKey(255, None),
     Text::LongKey(256, Some((1, MapFaultKind::BadKey))),
 ];
-
-#[test]
-fn a_key_has_at_most_255_bytes(rt: HostRuntime) {
-    hold(&rt, rt.alloc(), &LONG_KEYS);
-}
 
 static FAULTS_AMONG_LINES: [Text; 4] = [
     Text::FaultAmong(b"+web a:/x", MapFaultKind::BadKey),
@@ -401,11 +366,6 @@ static FAULTS_AMONG_LINES: [Text; 4] = [
     Text::FaultAmong(b"web \\\n\\\n -o", MapFaultKind::NoLocation),
     Text::FaultAmong(b"web a:\\\n/x \\\nb:/y", MapFaultKind::BadLocation),
 ];
-
-#[test]
-fn a_fault_is_told_at_the_first_raw_line_of_its_line(rt: HostRuntime) {
-    hold(&rt, rt.alloc(), &FAULTS_AMONG_LINES);
-}
 
 const WHOLE: &[u8] = b"ann -ro h1:/x\n# no\\\nte\nbob h2:\\\n/y\ncid -o\\\n=1 h3:/z\n";
 
@@ -416,11 +376,6 @@ static CUT: [Text; 3] = [
     Text::Cut(WHOLE, 35, 52, &[b"ann", b"bob"], 6),
 ];
 
-#[test]
-fn a_text_cut_at_every_byte(rt: HostRuntime) {
-    hold(&rt, rt.alloc(), &CUT);
-}
-
 /// Run with each allocation refused in turn: the only other answer is NoMemory.
 static SMALL: [Text; 1] = [Text::LooksUp(
     b"ann -ro h&:/x/&\nbob h:/y\nann h:/z\ncid h:/u\ndan h:/v\n* h:/w\n",
@@ -429,17 +384,7 @@ static SMALL: [Text; 1] = [Text::LooksUp(
     &[],
 )];
 
-#[test]
-fn memory_may_run_out_anywhere(rt: HostRuntime) {
-    hold(&rt, rt.alloc(), &SMALL);
-}
-
 static BIG: [Text; 1] = [Text::Big(50_000, b"k049999", (Some(b"ro"), b"srv", b"/x/k049999"))];
-
-#[test]
-fn a_map_of_50000_lines(rt: HostRuntime) {
-    hold(&rt, rt.alloc(), &BIG);
-}
 
 static KEYS: [Text; 10] = [
     Text::HasEntry(b"web srv:/www", MapKind::Indirect, b"web", true),
@@ -474,22 +419,12 @@ static KEYS: [Text; 10] = [
     Text::HasEntry(b"/srv nas:/srv", MapKind::Direct, b"/", false),
 ];
 
-#[test]
-fn a_key_has_an_entry_where_it_is_found(rt: HostRuntime) {
-    hold(&rt, rt.alloc(), &KEYS);
-}
-
 static PATHS: [Text; 4] = [
     Text::Key(b"/", b"/"),
     Text::Key(b"//", b"/"),
     Text::Key(b"/srv", b"/srv"),
     Text::Key(b"//srv//data/", b"/srv/data"),
 ];
-
-#[test]
-fn a_path_has_its_canonical_text_as_its_key(rt: HostRuntime) {
-    hold(&rt, rt.alloc(), &PATHS);
-}
 
 const SIX_LINES: &[u8] = b"a -ro h:/x\nb h:/x\nc -ro i:/x\nd -ro h:/y\ne -rw h:/x\nf -ro h:/x\n";
 
@@ -502,11 +437,6 @@ static ENTRIES: [Text; 6] = [
     Text::Same(SIX_LINES, b"a", b"f", true),
 ];
 
-#[test]
-fn entries_are_copied(rt: HostRuntime) {
-    hold(&rt, rt.alloc(), &ENTRIES);
-}
-
 static FAULTS: [Text; 6] = [
     Text::Number(MapFaultKind::BadKey, 1, "BadKey"),
     Text::Number(MapFaultKind::BadOption, 2, "BadOption"),
@@ -517,6 +447,65 @@ static FAULTS: [Text; 6] = [
 ];
 
 #[test]
-fn faults_have_their_numbers_and_words(rt: HostRuntime) {
-    hold(&rt, rt.alloc(), &FAULTS);
+fn texts_of_maps(rt: HostRuntime) {
+    hold(
+        &rt,
+        rt.alloc(),
+        "first lines joins comments and the wildcard",
+        &FIRST_TEXTS,
+    );
+    hold(
+        &rt,
+        rt.alloc(),
+        "an indirect map like that of the manual",
+        &INDIRECT,
+    );
+    hold(
+        &rt,
+        rt.alloc(),
+        "a direct map like that of the manual",
+        &DIRECT,
+    );
+    hold(
+        &rt,
+        rt.alloc(),
+        "the key comes before the wildcard",
+        &WILDCARD,
+    );
+    hold(&rt, rt.alloc(), "lines that are good", &GOOD_LINES);
+    hold(
+        &rt,
+        rt.alloc(),
+        "the first faulty word of a line",
+        &FAULTY_LINES,
+    );
+    hold(&rt, rt.alloc(), "a key has at most 255 bytes", &LONG_KEYS);
+    hold(
+        &rt,
+        rt.alloc(),
+        "a fault is told at the first raw line of its line",
+        &FAULTS_AMONG_LINES,
+    );
+    hold(&rt, rt.alloc(), "a text cut at every byte", &CUT);
+    hold(&rt, rt.alloc(), "memory may run out anywhere", &SMALL);
+    hold(&rt, rt.alloc(), "a map of 50000 lines", &BIG);
+    hold(
+        &rt,
+        rt.alloc(),
+        "a key has an entry where it is found",
+        &KEYS,
+    );
+    hold(
+        &rt,
+        rt.alloc(),
+        "a path has its canonical text as its key",
+        &PATHS,
+    );
+    hold(&rt, rt.alloc(), "entries are copied", &ENTRIES);
+    hold(
+        &rt,
+        rt.alloc(),
+        "faults have their numbers and words",
+        &FAULTS,
+    );
 }

@@ -213,11 +213,6 @@ static TIMEOUTS: [Text; 2] = [
     Text::ReadAs(b"", &[]),
 ];
 
-#[test]
-fn points_maps_and_the_last_timeout(rt: HostRuntime) {
-    hold(&rt, rt.alloc(), &TIMEOUTS);
-}
-
 /// After the sample of auto.master(5).
 static SAMPLE: [Text; 1] = [Text::ReadAs(
     b"# Sample master map\n\
@@ -233,11 +228,6 @@ static SAMPLE: [Text; 1] = [Text::ReadAs(
         (Some(b"/misc/x"), b"auto.misc", 7, 7),
     ],
 )];
-
-#[test]
-fn a_master_map_like_that_of_the_manual(rt: HostRuntime) {
-    hold(&rt, rt.alloc(), &SAMPLE);
-}
 
 static GOOD_LINES: [Text; 13] = [
     Text::ReadAs(b"/-/ m", &[(Some(b"/-"), b"m", 300, 1)]),
@@ -269,11 +259,6 @@ static GOOD_LINES: [Text; 13] = [
         &[(Some(b"/a"), b"m\r", 300, 4)],
     ),
 ];
-
-#[test]
-fn lines_that_are_good(rt: HostRuntime) {
-    hold(&rt, rt.alloc(), &GOOD_LINES);
-}
 
 static FAULTY_LINES: [Text; 30] = [
     Text::Bad(b"/ a", MasterFaultKind::BadPoint),
@@ -317,11 +302,6 @@ static FAULTY_LINES: [Text; 30] = [
     Text::Bad(b"/- a -t", MasterFaultKind::BadTimeout),
 ];
 
-#[test]
-fn the_first_faulty_word_of_a_line(rt: HostRuntime) {
-    hold(&rt, rt.alloc(), &FAULTY_LINES);
-}
-
 /// Twice is a fault of the first word, so it comes before those of the others.
 static TWO_LINES: [Text; 8] = [
     Text::TwiceAt(b"/auto a\n/auto/ b", Some(2)),
@@ -334,22 +314,12 @@ static TWO_LINES: [Text; 8] = [
     Text::TwiceAt(b"/a a\n/a/a a\n/aa a\n/A a", None),
 ];
 
-#[test]
-fn a_point_on_two_lines(rt: HostRuntime) {
-    hold(&rt, rt.alloc(), &TWO_LINES);
-}
-
 static FAULTS_AMONG_LINES: [Text; 4] = [
     Text::FaultAmong(b"/.. a", MasterFaultKind::BadPoint),
     Text::FaultAmong(b"/au\\\nto", MasterFaultKind::NoMap),
     Text::FaultAmong(b"/auto \\\n-hosts", MasterFaultKind::BadType),
     Text::FaultAmong(b"/auto a \\\n\\\n -t", MasterFaultKind::BadTimeout),
 ];
-
-#[test]
-fn a_fault_is_told_at_the_first_raw_line_of_its_line(rt: HostRuntime) {
-    hold(&rt, rt.alloc(), &FAULTS_AMONG_LINES);
-}
 
 const WHOLE: &[u8] = b"/ann a -t 5\n# no\\\nte\n/bob file:b\\\n.c\n/- d --timeo\\\nut=1\n";
 
@@ -366,21 +336,11 @@ static CUT: [Text; 3] = [
     ),
 ];
 
-#[test]
-fn a_text_cut_at_every_byte(rt: HostRuntime) {
-    hold(&rt, rt.alloc(), &CUT);
-}
-
 /// Run with each allocation refused in turn: the only other answer is NoMemory.
 static SMALL: [Text; 1] = [Text::Counts(
     b"/ann a\n/- b -t 5\n/bob c\n/cid \\\nd\n/dan e\n/eva f\n/- g\n",
     7,
 )];
-
-#[test]
-fn memory_may_run_out_anywhere(rt: HostRuntime) {
-    hold(&rt, rt.alloc(), &SMALL);
-}
 
 static BIG: [Text; 1] = [Text::Big(
     1_000,
@@ -388,11 +348,6 @@ static BIG: [Text; 1] = [Text::Big(
     b"/mnt/k999 auto.map",
     Some((1_001, MasterFaultKind::Twice)),
 )];
-
-#[test]
-fn a_master_of_1000_lines(rt: HostRuntime) {
-    hold(&rt, rt.alloc(), &BIG);
-}
 
 static FAULTS: [Text; 7] = [
     Text::Number(MasterFaultKind::BadPoint, 1, "BadPoint"),
@@ -405,6 +360,40 @@ static FAULTS: [Text; 7] = [
 ];
 
 #[test]
-fn faults_have_their_numbers_and_words(rt: HostRuntime) {
-    hold(&rt, rt.alloc(), &FAULTS);
+fn texts_of_master_maps(rt: HostRuntime) {
+    hold(
+        &rt,
+        rt.alloc(),
+        "points maps and the last timeout",
+        &TIMEOUTS,
+    );
+    hold(
+        &rt,
+        rt.alloc(),
+        "a master map like that of the manual",
+        &SAMPLE,
+    );
+    hold(&rt, rt.alloc(), "lines that are good", &GOOD_LINES);
+    hold(
+        &rt,
+        rt.alloc(),
+        "the first faulty word of a line",
+        &FAULTY_LINES,
+    );
+    hold(&rt, rt.alloc(), "a point on two lines", &TWO_LINES);
+    hold(
+        &rt,
+        rt.alloc(),
+        "a fault is told at the first raw line of its line",
+        &FAULTS_AMONG_LINES,
+    );
+    hold(&rt, rt.alloc(), "a text cut at every byte", &CUT);
+    hold(&rt, rt.alloc(), "memory may run out anywhere", &SMALL);
+    hold(&rt, rt.alloc(), "a master of 1000 lines", &BIG);
+    hold(
+        &rt,
+        rt.alloc(),
+        "faults have their numbers and words",
+        &FAULTS,
+    );
 }

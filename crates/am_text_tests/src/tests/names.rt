@@ -322,20 +322,10 @@ static NAMES: [Text; 15] = [
     Text::Name(b"a b\r\xff", 0, None),
 ];
 
-#[test]
-fn names_of_each_length_and_byte(rt: HostRuntime) {
-    hold(&rt, rt.alloc(), &NAMES);
-}
-
 static LONG_NAMES: [Text; 2] = [
     Text::Name(b"xxx/", 252, Some(Errno::ENAMETOOLONG)),
     Text::Name(b"xxx/", 251, Some(Errno::EINVAL)),
 ];
-
-#[test]
-fn a_long_name_with_a_slash_is_too_long(rt: HostRuntime) {
-    hold(&rt, rt.alloc(), &LONG_NAMES);
-}
 
 static PATHS: [Text; 9] = [
     Text::Path(b"/", Ok(b"")),
@@ -349,31 +339,16 @@ static PATHS: [Text; 9] = [
     Text::Path(b"/a\0", Err(Errno::EINVAL)),
 ];
 
-#[test]
-fn paths_are_read_or_tell_their_first_fault(rt: HostRuntime) {
-    hold(&rt, rt.alloc(), &PATHS);
-}
-
 static LONG_PATHS: [Text; 3] = [
     Text::LongPath(4095, 0, None),
     Text::LongPath(4096, 0, Some(Errno::ENAMETOOLONG)),
     Text::LongPath(4096, 1, Some(Errno::EINVAL)),
 ];
 
-#[test]
-fn paths_of_4095_bytes_and_more(rt: HostRuntime) {
-    hold(&rt, rt.alloc(), &LONG_PATHS);
-}
-
 static FAULTY_PATHS: [Text; 2] = [
     Text::NoPath(b"/../", 256, Errno::EINVAL),
     Text::NoPath(b"/", 256, Errno::ENAMETOOLONG),
 ];
-
-#[test]
-fn the_order_of_a_paths_faults(rt: HostRuntime) {
-    hold(&rt, rt.alloc(), &FAULTY_PATHS);
-}
 
 static FIRST_NAMES: [Text; 4] = [
     Text::FirstNames(b"/srv//data/x", b"srv", b"data", b"/x"),
@@ -381,11 +356,6 @@ static FIRST_NAMES: [Text; 4] = [
     Text::FirstName(b"/srv//data/x/", b"srv", b"/data/x"),
     Text::RootEnds,
 ];
-
-#[test]
-fn the_names_of_a_path_one_after_another(rt: HostRuntime) {
-    hold(&rt, rt.alloc(), &FIRST_NAMES);
-}
 
 static PLACES: [Text; 5] = [
     Text::Grows(&[b"srv", b"data"], b"/srv/data"),
@@ -395,11 +365,6 @@ static PLACES: [Text; 5] = [
     Text::IsOf(&[b"srv", b"data"], b"/srv/data"),
 ];
 
-#[test]
-fn places_grow_and_are_compared(rt: HostRuntime) {
-    hold(&rt, rt.alloc(), &PLACES);
-}
-
 static COPIES: [Text; 4] = [
     Text::PathCopied(b"//srv/data/"),
     Text::MountsCopied(&[5, 6]),
@@ -407,17 +372,7 @@ static COPIES: [Text; 4] = [
     Text::RowCopied(2, 1, b"/"),
 ];
 
-#[test]
-fn rows_and_lists_are_copied(rt: HostRuntime) {
-    hold(&rt, rt.alloc(), &COPIES);
-}
-
 static TWO_WAITERS: [Text; 1] = [Text::Joins(7, &[3], &[7, 3])];
-
-#[test]
-fn waiters_join_in_order(rt: HostRuntime) {
-    hold(&rt, rt.alloc(), &TWO_WAITERS);
-}
 
 static NUMBERS: [Text; 12] = [
     Text::Number(Errno::ENOENT, 1),
@@ -434,11 +389,6 @@ static NUMBERS: [Text; 12] = [
     Text::Number(Errno::Stranger, 12),
 ];
 
-#[test]
-fn errors_have_their_numbers(rt: HostRuntime) {
-    hold(&rt, rt.alloc(), &NUMBERS);
-}
-
 static LIMITS: [Text; 6] = [
     Text::InRange(1, 1, 1, true),
     Text::InRange(u32::MAX, 65_536, u32::MAX, true),
@@ -448,20 +398,10 @@ static LIMITS: [Text; 6] = [
     Text::InRange(1, 1, 0, false),
 ];
 
-#[test]
-fn limits_have_their_ranges(rt: HostRuntime) {
-    hold(&rt, rt.alloc(), &LIMITS);
-}
-
 static WITHOUT_MEMORY: [Text; 2] = [
     Text::GoesDown(b"/srv", b"data", b"/srv/data"),
     Text::RowCopied(2, 1, b"/srv/data"),
 ];
-
-#[test]
-fn a_call_that_finds_no_memory_changes_nothing(rt: HostRuntime) {
-    hold(&rt, rt.alloc(), &WITHOUT_MEMORY);
-}
 
 static LISTS_WITHOUT_MEMORY: [Text; 2] = [
     Text::MountsCopied(&[5, 6]),
@@ -469,6 +409,48 @@ static LISTS_WITHOUT_MEMORY: [Text; 2] = [
 ];
 
 #[test]
-fn a_list_that_finds_no_memory_is_as_before(rt: HostRuntime) {
-    hold(&rt, rt.alloc(), &LISTS_WITHOUT_MEMORY);
+fn texts_of_names(rt: HostRuntime) {
+    hold(&rt, rt.alloc(), "names of each length and byte", &NAMES);
+    hold(
+        &rt,
+        rt.alloc(),
+        "a long name with a slash is too long",
+        &LONG_NAMES,
+    );
+    hold(
+        &rt,
+        rt.alloc(),
+        "paths are read or tell their first fault",
+        &PATHS,
+    );
+    hold(&rt, rt.alloc(), "paths of 4095 bytes and more", &LONG_PATHS);
+    hold(
+        &rt,
+        rt.alloc(),
+        "the order of a paths faults",
+        &FAULTY_PATHS,
+    );
+    hold(
+        &rt,
+        rt.alloc(),
+        "the names of a path one after another",
+        &FIRST_NAMES,
+    );
+    hold(&rt, rt.alloc(), "places grow and are compared", &PLACES);
+    hold(&rt, rt.alloc(), "rows and lists are copied", &COPIES);
+    hold(&rt, rt.alloc(), "waiters join in order", &TWO_WAITERS);
+    hold(&rt, rt.alloc(), "errors have their numbers", &NUMBERS);
+    hold(&rt, rt.alloc(), "limits have their ranges", &LIMITS);
+    hold(
+        &rt,
+        rt.alloc(),
+        "a call that finds no memory changes nothing",
+        &WITHOUT_MEMORY,
+    );
+    hold(
+        &rt,
+        rt.alloc(),
+        "a list that finds no memory is as before",
+        &LISTS_WITHOUT_MEMORY,
+    );
 }

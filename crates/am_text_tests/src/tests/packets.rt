@@ -294,11 +294,6 @@ static WHOLE: [Bytes; 4] = [
     Bytes::HomeWritten,
 ];
 
-#[test]
-fn the_bytes_of_a_packet_are_read_and_written(rt: HostRuntime) {
-    hold(&rt, rt.alloc(), &WHOLE);
-}
-
 /// The offset of each field by a C compiler for x86-64, and the first bytes there.
 static FIELDS: [Bytes; 15] = [
     Bytes::Field(0, [5, 0, 0, 0]),
@@ -318,31 +313,11 @@ static FIELDS: [Bytes; 15] = [
     Bytes::ReadBack,
 ];
 
-#[test]
-fn each_field_has_the_offset_of_the_header(rt: HostRuntime) {
-    hold(&rt, rt.alloc(), &FIELDS);
-}
-
 static GREATEST: [Bytes; 1] = [Bytes::Greatest];
-
-#[test]
-fn numbers_have_no_sign(rt: HostRuntime) {
-    hold(&rt, rt.alloc(), &GREATEST);
-}
 
 static FREE_BYTES: [Bytes; 2] = [Bytes::IsHome(0xa5, 304), Bytes::IsHome(0xa5, 300)];
 
-#[test]
-fn bytes_behind_the_name_are_free(rt: HostRuntime) {
-    hold(&rt, rt.alloc(), &FREE_BYTES);
-}
-
 static LENGTHS: [Bytes; 1] = [Bytes::Refused(306)];
-
-#[test]
-fn all_lengths_but_two_are_refused(rt: HostRuntime) {
-    hold(&rt, rt.alloc(), &LENGTHS);
-}
 
 static VERSIONS_AND_TYPES: [Bytes; 3] = [
     Bytes::NumberAt(
@@ -360,11 +335,6 @@ static VERSIONS_AND_TYPES: [Bytes; 3] = [
     Bytes::NumberAt(&[3], 4, &[3, 4, 5, 6], None),
 ];
 
-#[test]
-fn versions_and_types(rt: HostRuntime) {
-    hold(&rt, rt.alloc(), &VERSIONS_AND_TYPES);
-}
-
 static NAME_LENGTHS: [Bytes; 5] = [
     Bytes::NumberAt(
         &[3, 4, 5, 6],
@@ -377,11 +347,6 @@ static NAME_LENGTHS: [Bytes; 5] = [
     Bytes::Asks(&[3, 4], b"", Some(WireFault::NameLength)),
     Bytes::Asks(&[5, 6], b"", None),
 ];
-
-#[test]
-fn lengths_of_names(rt: HostRuntime) {
-    hold(&rt, rt.alloc(), &NAME_LENGTHS);
-}
 
 static NAMES: [Bytes; 11] = [
     Bytes::Asks(&[3, 4], b"a/b", Some(WireFault::BadName)),
@@ -397,11 +362,6 @@ static NAMES: [Bytes; 11] = [
     Bytes::Asks(&[3, 4, 5, 6], b"...", None),
 ];
 
-#[test]
-fn only_what_is_looked_up_in_a_directory_must_be_a_name(rt: HostRuntime) {
-    hold(&rt, rt.alloc(), &NAMES);
-}
-
 /// Each row fails one test more than the next.
 static IN_ORDER: [Bytes; 7] = [
     Bytes::InOrder(&[(40, 256), (4, 7), (0, 4)], 299, WireFault::Length),
@@ -413,11 +373,6 @@ static IN_ORDER: [Bytes; 7] = [
     Bytes::IsHome(0, 300),
 ];
 
-#[test]
-fn the_tests_of_a_reader_in_order(rt: HostRuntime) {
-    hold(&rt, rt.alloc(), &IN_ORDER);
-}
-
 static OF_THE_FORMAT: [Bytes; 7] = [
     Bytes::Writable(Kind::MissingIndirect, b"home", true),
     Bytes::Writable(Kind::ExpireIndirect, b"home", true),
@@ -428,21 +383,11 @@ static OF_THE_FORMAT: [Bytes; 7] = [
     Bytes::Writable(Kind::MissingDirect, b"direct", true),
 ];
 
-#[test]
-fn packets_of_the_format(rt: HostRuntime) {
-    hold(&rt, rt.alloc(), &OF_THE_FORMAT);
-}
-
 static KEPT_NAMES: [Bytes; 3] = [
     Bytes::Padded(b"home", b"home\0"),
     Bytes::EqualNames(b"home", b"home", true),
     Bytes::EqualNames(b"home", b"home\0", false),
 ];
-
-#[test]
-fn names_are_kept_with_zeros_behind_them(rt: HostRuntime) {
-    hold(&rt, rt.alloc(), &KEPT_NAMES);
-}
 
 static KINDS: [Bytes; 5] = [
     Bytes::Kind(3, Kind::MissingIndirect, TokenKind::Missing, false),
@@ -452,11 +397,6 @@ static KINDS: [Bytes; 5] = [
     Bytes::NoKind(7),
 ];
 
-#[test]
-fn kinds_have_their_numbers(rt: HostRuntime) {
-    hold(&rt, rt.alloc(), &KINDS);
-}
-
 static FAULTS: [Bytes; 5] = [
     Bytes::Fault(WireFault::Length, 1, "Length"),
     Bytes::Fault(WireFault::Version, 2, "Version"),
@@ -465,14 +405,52 @@ static FAULTS: [Bytes; 5] = [
     Bytes::Fault(WireFault::BadName, 5, "BadName"),
 ];
 
-#[test]
-fn faults_have_their_numbers_and_words(rt: HostRuntime) {
-    hold(&rt, rt.alloc(), &FAULTS);
-}
-
 static REQUESTS: [Bytes; 1] = [Bytes::Compared];
 
 #[test]
-fn requests_are_compared(rt: HostRuntime) {
-    hold(&rt, rt.alloc(), &REQUESTS);
+fn bytes_of_packets(rt: HostRuntime) {
+    hold(
+        &rt,
+        rt.alloc(),
+        "the bytes of a packet are read and written",
+        &WHOLE,
+    );
+    hold(
+        &rt,
+        rt.alloc(),
+        "each field has the offset of the header",
+        &FIELDS,
+    );
+    hold(&rt, rt.alloc(), "numbers have no sign", &GREATEST);
+    hold(
+        &rt,
+        rt.alloc(),
+        "bytes behind the name are free",
+        &FREE_BYTES,
+    );
+    hold(&rt, rt.alloc(), "all lengths but two are refused", &LENGTHS);
+    hold(&rt, rt.alloc(), "versions and types", &VERSIONS_AND_TYPES);
+    hold(&rt, rt.alloc(), "lengths of names", &NAME_LENGTHS);
+    hold(
+        &rt,
+        rt.alloc(),
+        "only what is looked up in a directory must be a name",
+        &NAMES,
+    );
+    hold(&rt, rt.alloc(), "the tests of a reader in order", &IN_ORDER);
+    hold(&rt, rt.alloc(), "packets of the format", &OF_THE_FORMAT);
+    hold(
+        &rt,
+        rt.alloc(),
+        "names are kept with zeros behind them",
+        &KEPT_NAMES,
+    );
+    hold(&rt, rt.alloc(), "kinds have their numbers", &KINDS);
+    hold(
+        &rt,
+        rt.alloc(),
+        "faults have their numbers and words",
+        &FAULTS,
+    );
+    hold(&rt, rt.alloc(), "requests are compared", &REQUESTS);
 }

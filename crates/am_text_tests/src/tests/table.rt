@@ -18,13 +18,13 @@ fn holds<R: Row>(row: &R, alloc: Global) -> bool {
     }
 }
 
-/// Each row of a table holds.
-pub fn hold<R: Row>(rt: &impl Abort, alloc: Global, rows: &[R]) {
+/// Each row of the table of this name holds.
+pub fn hold<R: Row>(rt: &impl Abort, alloc: Global, name: &str, rows: &[R]) {
     let mut number = 0_usize;
     for row in rows {
         number = number.saturating_add(1);
         let holds = holds(row, alloc);
-        assert!(rt; holds, "row {number}");
+        assert!(rt; holds, "{name}: row {number}");
     }
 }
 
