@@ -1,29 +1,29 @@
 #!/bin/sh
-# tools/refuse_all.sh: runs the tests of worked examples and of scripts with each of their allocations
-# refused in turn: the event then finds no memory and changes nothing, and all goes on when it is made
-# again. The gate or `rt test` in crates/am_tests has built them. The last line counts the tests.
+# tools/refuse_all.sh: plays worked examples and other scripts with each of their allocations refused in
+# turn: the event then finds no memory and changes nothing, and all goes on when it is made again. The gate
+# or `rt run` in crates/am_tests has built what plays them. The last line counts the scripts.
 set -u
 . "$(dirname "$0")/common.sh"
 expect_nothing "$@"
 passed=0
 failed=0
 while read -r name; do
-    if "$(dirname "$0")/refuse_each.sh" am_tests "tests::$name" < /dev/null; then
+    if "$(dirname "$0")/refuse_each.sh" "$name" < /dev/null; then
         passed=$((passed + 1))
     else
         failed=$((failed + 1))
     fi
-done << 'TESTS'
-examples::one_key
-examples::one_mount_for_two_namespaces
-examples::a_reduced_copy_of_a_namespace
-examples::an_expiry_beside_a_walk
-examples::a_death_and_reattachment
-examples::a_slave_on_a_shared_mount
-examples::memory_may_run_out_among_shared_mounts
-memory::memory_may_run_out_in_a_script
-memory::a_head_that_finds_no_memory
-opened::memory_may_run_out_event_by_event
-TESTS
+done << 'SCRIPTS'
+one_key
+two_namespaces
+reduced_copy_of_a_namespace
+expiry_and_a_walk_that_waits
+death_and_reattachment
+a_slave_on_a_shared_mount
+an_expiry_and_a_death_among_shared_mounts
+a_use_and_a_wait
+events_said_twice
+a_head_of_two_maps
+SCRIPTS
 echo "$passed passed, $failed failed"
 [ "$failed" -eq 0 ]

@@ -1,8 +1,9 @@
 #!/bin/sh
 # tools/refuse_each.sh CRATE TEST: runs a test of a crate with each of its allocations refused in turn, on
 # the program that `rt test CRATE` or the gate has built.
-# tools/refuse_each.sh SCRIPT: so plays a script of crates/am_tests/data, event by event; its answers must be
-# those of SCRIPT.out, and its fault that of SCRIPT.fault. `rt run` in crates/am_tests builds that program too.
+# tools/refuse_each.sh SCRIPT: so plays a script of crates/am_tests/data; its answers must be those of SCRIPT.out,
+# and its fault that of SCRIPT.fault. SCRIPT.script is played event by event, on two worlds; SCRIPT.twice whole.
+# `rt run` in crates/am_tests builds that program too.
 set -u
 . "$(dirname "$0")/common.sh"
 [ $# -eq 1 ] || [ $# -eq 2 ] || refuse "expected two words, a crate and the whole path of a test, or the name of a script"
@@ -14,7 +15,8 @@ if [ $# -eq 2 ]; then
     word=$2
     [ -x "$program" ] || refuse "expected tests that are built: rt test in crates/$1"
 else
-    [ -f "crates/am_tests/data/$1.script" ] || refuse "expected a script, and there is no crates/am_tests/data/$1.script"
+    [ -f "crates/am_tests/data/$1.script" ] || [ -f "crates/am_tests/data/$1.twice" ] ||
+        refuse "expected a script, and there is no crates/am_tests/data/$1.script and no $1.twice"
     program=$top/crates/am_tests/out/am_tests
     word=$1
     [ -x "$program" ] || refuse "expected a program that is built: rt run in crates/am_tests"

@@ -1,23 +1,27 @@
-//! Scripts that are opened, and whose events are taken and made one by one. What finds no memory is
-//! done when it is asked for again.
+//! Scripts that are opened twice, and whose events are taken and made one by one, on both worlds.
+//! What finds no memory is done when it is asked for again: an event that finds none leaves its
+//! world as the other is, which has had the events before it alone.
 
+use crate::sights::shows;
+use crate::twins::are_same;
 use am_names::Errno;
 use am_script::answer_line::push_answer;
 use am_script::visit::{Found, Input, Opened, next_event, open_script};
 use am_script::{ScriptFault, ScriptFaultKind};
+use am_world::laws::trace_holds;
 use am_world::{Answer, Event, World};
 use std::alloc::Global;
 
 /// More bytes and lines than the scripts have.
 const MANY: usize = 1 << 32;
 
-/// The fault of a script that has more, or of an output without room: none that a script has.
+/// The fault of a script that isn't played as it must be: none that a script has.
 const UNPLAYED: ScriptFault = ScriptFault {
     line: 0,
     kind: ScriptFaultKind::LongLine,
 };
 
-fn open(alloc: Global, input: &Input) -> Result<Option<Opened<'_>>, ScriptFault> {
+pub fn open(alloc: Global, input: &Input) -> Result<Option<Opened<'_>>, ScriptFault> {
     if input.text.len() > MANY {
         return Err(UNPLAYED);
     }
@@ -36,13 +40,13 @@ fn open_in_the_end(alloc: Global, input: &Input) -> Result<Option<Opened<'_>>, S
 
 /// What is left of a script: its lines behind the one with this number, and the fault behind them.
 #[derive(Clone, Copy)]
-struct Left<'a> {
-    rest: Option<&'a [u8]>,
-    line: u64,
-    broke: Option<ScriptFaultKind>,
+pub struct Left<'a> {
+    pub rest: Option<&'a [u8]>,
+    pub line: u64,
+    pub broke: Option<ScriptFaultKind>,
 }
 
-fn next<'a>(alloc: Global, left: &Left<'a>) -> Result<Option<Found<'a>>, ScriptFault> {
+pub fn next<'a>(alloc: Global, left: &Left<'a>) -> Result<Option<Found<'a>>, ScriptFault> {
     let Left { rest, line, broke } = *left;
     if line > u64::from(u32::MAX) {
         return Err(UNPLAYED);
@@ -69,30 +73,60 @@ fn next_in_the_end<'a>(alloc: Global, left: &Left<'a>) -> Result<Option<Found<'a
 }
 
 /// Whether an event found no memory.
-pub fn found_none(answer: &Answer) -> bool {
+fn found_none(answer: &Answer) -> bool {
     let errno = Errno::NoMemory;
     answer.is_same(&Answer::Refused { errno })
 }
 
-/// Makes an event, again where it finds no memory.
-pub fn make_in_the_end(world: &mut World, alloc: Global, event: &Event) -> Answer {
-    let answer = world.step(alloc, event);
-    if found_none(&answer) {
-        return world.step(alloc, event);
-    }
-    answer
+/// Two worlds to which the same has happened.
+#[derive(Drop)]
+struct Twins<'a> {
+    one: &'a mut World,
+    other: &'a mut World,
 }
 
-/// Makes an event, and writes its answer. Whether there was room for that.
-fn answers(alloc: Global, world: &mut World, event: &Event, output: &mut Vec<u8>) -> bool {
-    let answer = make_in_the_end(world, alloc, event);
-    push_answer(output, &answer).is_ok()
+/// Makes an event on the first of two worlds. Where it finds no memory they are the same as before,
+/// and it is made again; else there is no answer.
+fn make_first(twins: &mut Twins<'_>, alloc: Global, event: &Event) -> Option<Answer> {
+    let answer = twins.one.step(alloc, event);
+    if !found_none(&answer) {
+        return Some(answer);
+    }
+    if !are_same(twins.one, twins.other) {
+        return None;
+    }
+    Some(twins.one.step(alloc, event))
+}
+
+/// Makes an event on the other world, which tells its answer twice.
+fn make_other(world: &mut World, alloc: Global, event: &Event) -> (Answer, Answer) {
+    let (answer, copy) = world.step_pair(alloc, event);
+    if found_none(&answer) {
+        return world.step_pair(alloc, event);
+    }
+    (answer, copy)
+}
+
+/// Whether the other world answers the event so too, and then both are the same.
+fn follows(twins: &mut Twins<'_>, alloc: Global, event: &Event, answer: &Answer) -> bool {
+    let (other, copy) = make_other(twins.other, alloc, event);
+    other.is_same(answer) && copy.is_same(answer) && are_same(twins.one, twins.other)
+}
+
+/// Makes an event on both worlds, and writes its answer. Whether all is as it must be.
+fn makes(twins: &mut Twins<'_>, alloc: Global, event: &Event, output: &mut Vec<u8>) -> bool {
+    match make_first(twins, alloc, event) {
+        Some(answer) => {
+            follows(twins, alloc, event, &answer) && push_answer(output, &answer).is_ok()
+        }
+        None => false,
+    }
 }
 
 /// Makes the events that are left, and tells the fault behind them.
 fn make_all(
     alloc: Global,
-    world: &mut World,
+    twins: &mut Twins<'_>,
     first: Left<'_>,
     output: &mut Vec<u8>,
 ) -> Option<ScriptFault> {
@@ -101,7 +135,7 @@ fn make_all(
         match next_in_the_end(alloc, &left) {
             Ok(None) => return None,
             Ok(Some(found)) => {
-                if !answers(alloc, world, &found.event, output) {
+                if !makes(twins, alloc, &found.event, output) {
                     return Some(UNPLAYED);
                 }
                 left.rest = found.rest;
@@ -113,19 +147,68 @@ fn make_all(
     None
 }
 
+/// The fault of a script, if its world shows at its end what it must.
+fn judged(
+    alloc: Global,
+    name: &str,
+    world: &World,
+    fault: Option<ScriptFault>,
+) -> Option<ScriptFault> {
+    if trace_holds(world.trace()) && shows(alloc, name, world) {
+        fault
+    } else {
+        Some(UNPLAYED)
+    }
+}
+
+/// Plays a script on two worlds, of which one was opened.
+fn play_opened(
+    alloc: Global,
+    name: &str,
+    opened: Opened<'_>,
+    other: &mut World,
+    output: &mut Vec<u8>,
+) -> Option<ScriptFault> {
+    let Opened {
+        world: mut one,
+        rest,
+        line,
+        broke,
+    } = opened;
+    let left = Left { rest, line, broke };
+    let mut twins = Twins {
+        one: &mut one,
+        other,
+    };
+    let fault = make_all(alloc, &mut twins, left, output);
+    judged(alloc, name, &one, fault)
+}
+
 /// Plays what was read, event by event, and tells the fault in which it ends.
-pub fn play_by_event(alloc: Global, input: &Input, output: &mut Vec<u8>) -> Option<ScriptFault> {
+pub fn play_by_event(
+    alloc: Global,
+    input: &Input,
+    name: &str,
+    output: &mut Vec<u8>,
+) -> Option<ScriptFault> {
     match open_in_the_end(alloc, input) {
         Ok(None) => None,
-        Ok(Some(opened)) => {
-            let Opened {
-                mut world,
-                rest,
-                line,
-                broke,
-            } = opened;
-            make_all(alloc, &mut world, Left { rest, line, broke }, output)
-        }
+        Ok(Some(mut other)) => play_beside(alloc, input, name, &mut other.world, output),
+        Err(fault) => Some(fault),
+    }
+}
+
+/// Plays it beside the same on another world.
+fn play_beside(
+    alloc: Global,
+    input: &Input,
+    name: &str,
+    other: &mut World,
+    output: &mut Vec<u8>,
+) -> Option<ScriptFault> {
+    match open_in_the_end(alloc, input) {
+        Ok(None) => Some(UNPLAYED),
+        Ok(Some(opened)) => play_opened(alloc, name, opened, other, output),
         Err(fault) => Some(fault),
     }
 }

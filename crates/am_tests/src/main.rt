@@ -1,34 +1,57 @@
-//! Plays each script that lies beside it and compares what it writes: `NAME.script` with the answer
-//! lines of `NAME.out` and, where it ends in a fault, the fault of `NAME.fault`. Given a name, it
-//! plays that script alone, event by event, and whatever finds no memory is done again.
+//! Plays the files that lie beside it and compares what comes of them, each by what its name ends
+//! in:
+//!
+//! - `NAME.script` is a script, with the answer lines of `NAME.out` and, where it ends in a fault,
+//!   the fault of `NAME.fault`;
+//! - `.cases` has many scripts, and `.broken` those of a reader that fails behind them (`cases.rt`
+//!   tells their form);
+//! - `.cuts` has one in pieces, which is cut at every byte (`cuts.rt`); `.short` is such a file,
+//!   and is written to writers that don't take all (`writers.rt`);
+//! - `.faults` has faulty lines of a section, and what may stand around them (`faults.rt`);
+//! - `.digits` has a packet, of which each digit is changed in turn (`digits.rt`);
+//! - `.twice` is a script that says each event twice, with the answers of `NAME.out` (`twice.rt`);
+//! - `.events` has lines of events (`event_lines.rt`), and `.traces` short traces (`traces.rt`).
+//!
+//! Given a name, it plays that script alone, and whatever finds no memory is done again.
 #![tactic(auto)]
 
 mod by_event;
-#[cfg(test)]
-mod tests;
+mod cases;
+mod cuts;
+mod digits;
+mod event_lines;
+mod faults;
+mod files;
+mod kinds;
+mod play;
+mod readers;
+mod runs;
+mod scripts;
+mod sights;
+mod traces;
+mod twice;
+mod twins;
+mod values;
+mod writers;
 
-use am_script::visit::Input;
-use am_script::{ScriptFault, run_script};
+use crate::files::names;
+use crate::kinds::tally_of;
+use crate::scripts::goes_in_the_end;
+use crate::values::are_as_expected;
 use anyhow::Result;
-use by_event::play_by_event;
-use std::alloc::Global;
-use std::io::ErrorKind;
+use std::env;
 use std::process::ExitCode;
-use std::{env, fs};
 
 fn main(rt: HostRuntime) -> Result<ExitCode> {
-    match name_in_the_end(&rt)? {
-        None => play_all(&rt),
-        Some(name) => Ok(status(goes_by_event(&rt, name.as_str())?)),
-    }
-}
-
-fn status(is_as_expected: bool) -> ExitCode {
-    if is_as_expected {
+    let is_well = match name_in_the_end(&rt)? {
+        None => play_all(&rt)?,
+        Some(name) => goes_in_the_end(&rt, name.as_str())?,
+    };
+    Ok(if is_well {
         ExitCode::SUCCESS
     } else {
         ExitCode::FAILURE
-    }
+    })
 }
 
 /// The name that the program is given, if it is given one.
@@ -46,115 +69,35 @@ fn name_in_the_end(rt: &HostRuntime) -> Result<Option<String>> {
     }
 }
 
-fn play_all(rt: &HostRuntime) -> Result<ExitCode> {
-    let mut names = Vec::new(rt.alloc());
-    for entry in fs::read_dir(rt, ".")? {
-        let entry = entry?;
-        if let Some(name) = entry.file_name().strip_suffix(".script") {
-            names.push(String::from_str(rt.alloc(), name)?)?;
-        }
-    }
-    names.sort()?;
-    let mut are_as_expected = true;
-    for name in &names {
-        let name = name.as_str();
-        if is_as_expected(rt, name)? {
-            println!(rt; "{name}: as expected")?;
-        } else {
-            println!(rt; "{name}: not as expected")?;
-            are_as_expected = false;
-        }
-    }
-    Ok(status(are_as_expected))
-}
-
-/// A script, its answers, and the text of its fault, which is empty where it ends well.
-#[derive(Drop)]
-struct Example {
-    script: Vec<u8>,
-    answers: Vec<u8>,
-    fault: Vec<u8>,
-}
-
-fn example_of(rt: &HostRuntime, name: &str) -> Result<Example> {
-    let alloc = rt.alloc();
-    Ok(Example {
-        script: fs::read(rt, format!(in alloc; "{name}.script")?.as_str())?,
-        answers: fs::read(rt, format!(in alloc; "{name}.out")?.as_str())?,
-        fault: fault_of(rt, name)?,
-    })
-}
-
-/// The text of `NAME.fault`, nothing where that file isn't there.
-fn fault_of(rt: &HostRuntime, name: &str) -> Result<Vec<u8>> {
-    let path = format!(in rt.alloc(); "{name}.fault")?;
-    match fs::read(rt, path.as_str()) {
-        Ok(text) => Ok(text),
-        Err(error) => {
-            if error.kind() != ErrorKind::NotFound {
-                return Err(error.into());
+/// Plays all files, and tells of each whether it is as expected.
+fn play_all(rt: &HostRuntime) -> Result<bool> {
+    let mut is_well = are_values(rt)?;
+    for name in &names(rt)? {
+        if let Some((name, ending)) = name.as_str().split_once(".") {
+            if !is_file(rt, name, ending)? {
+                is_well = false;
             }
-            Ok(Vec::new(rt.alloc()))
+        }
+    }
+    Ok(is_well)
+}
+
+fn is_file(rt: &HostRuntime, name: &str, ending: &str) -> Result<bool> {
+    match tally_of(rt, name, ending)? {
+        None => Ok(true),
+        Some(tally) => {
+            println!(rt; "{name}.{ending}: {tally}")?;
+            Ok(tally.is_as_expected())
         }
     }
 }
 
-/// Whether these are the words of the fault.
-fn is_told(alloc: Global, fault: Option<ScriptFault>, words: &[u8]) -> Result<bool> {
-    match fault {
-        None => Ok(words.is_empty()),
-        Some(fault) => {
-            let told = format!(in alloc; "{fault}\n")?;
-            Ok(told.as_bytes() == words)
-        }
+fn are_values(rt: &HostRuntime) -> Result<bool> {
+    let are_as_expected = are_as_expected(rt.alloc())?;
+    if are_as_expected {
+        println!(rt; "values: as expected")?;
+    } else {
+        println!(rt; "values: not as expected")?;
     }
-}
-
-fn is_as_expected(rt: &HostRuntime, name: &str) -> Result<bool> {
-    let alloc = rt.alloc();
-    let example = example_of(rt, name)?;
-    let mut output = Vec::new(alloc);
-    let fault = run_script(alloc, &mut example.script.as_slice(), &mut output).err();
-    let is_told = is_told(alloc, fault, example.fault.as_slice())?;
-    Ok(is_told && output.as_slice() == example.answers.as_slice())
-}
-
-fn example_in_the_end(rt: &HostRuntime, name: &str) -> Result<Example> {
-    match example_of(rt, name) {
-        Err(_) => example_of(rt, name),
-        read => read,
-    }
-}
-
-/// Room for so many bytes.
-fn room_in_the_end(alloc: Global, bytes: usize) -> Result<Vec<u8>> {
-    match Vec::with_capacity(alloc, bytes) {
-        Err(_) => Ok(Vec::with_capacity(alloc, bytes)?),
-        Ok(room) => Ok(room),
-    }
-}
-
-fn is_told_in_the_end(alloc: Global, fault: Option<ScriptFault>, words: &[u8]) -> Result<bool> {
-    match is_told(alloc, fault, words) {
-        Err(_) => is_told(alloc, fault, words),
-        told => told,
-    }
-}
-
-/// Whether a script goes as it must where any allocation may be refused.
-fn goes_by_event(rt: &HostRuntime, name: &str) -> Result<bool> {
-    let alloc = rt.alloc();
-    let Example {
-        script,
-        answers,
-        fault,
-    } = example_in_the_end(rt, name)?;
-    let mut output = room_in_the_end(alloc, answers.len())?;
-    let input = Input {
-        text: script,
-        broke: None,
-    };
-    let told = play_by_event(alloc, &input, &mut output);
-    let is_told = is_told_in_the_end(alloc, told, fault.as_slice())?;
-    Ok(is_told && output.as_slice() == answers.as_slice())
+    Ok(are_as_expected)
 }

@@ -1,0 +1,152 @@
+//! Short traces, a line each: the word `lawful` or `unlawful`, and what is seen of walker 7 and token
+//! 1, of file system 2, and of mount 5, in these words:
+//!
+//! - `queued`, `expiring` (the packet of an expiry is queued), `delivered`, `waits`, `answered`,
+//!   `released`, `failed`, `catatonic`;
+//! - `passed`: a walk passes the trigger home;
+//! - `entered`, `entered-by-2`, `left`: walker 1, or 2, enters and leaves the mount; `unmounted`.
+
+use am_names::{Attach, FsId, MountId, Mounts, Name, Status, Token, Trigger, WalkerId};
+use am_state::Obs;
+use am_wire::{Kind, Packet, PacketName};
+use am_world::laws::trace_holds;
+use std::alloc::{AllocError, Global};
+
+fn packet(kind: Kind) -> Packet {
+    Packet {
+        kind,
+        token: Token(1),
+        dev: FsId(2),
+        ino: 1,
+        uid: 0,
+        gid: 0,
+        pid: 7,
+        tgid: 7,
+        name: PacketName::new(b"home"),
+    }
+}
+
+fn queued(kind: Kind) -> Obs {
+    Obs::Queued {
+        token: Token(1),
+        attach: Attach(1),
+        packet: packet(kind),
+    }
+}
+
+fn delivered() -> Obs {
+    Obs::Delivered {
+        token: Token(1),
+        attach: Attach(1),
+        packet: packet(Kind::MissingIndirect),
+    }
+}
+
+fn released(status: Status) -> Obs {
+    Obs::Released {
+        walker: WalkerId(7),
+        token: Token(1),
+        status,
+    }
+}
+
+fn passed() -> Obs {
+    let name: Option<Name> = Name::read(b"home").ok();
+    Obs::Passed {
+        walker: WalkerId(8),
+        trigger: Trigger { fs: FsId(2), name },
+    }
+}
+
+fn unmounted(alloc: Global) -> Result<Obs, AllocError> {
+    let mut numbers = Vec::new(alloc);
+    numbers.push(MountId(5))?;
+    Ok(Obs::Unmounted {
+        mounts: Mounts::of(numbers),
+    })
+}
+
+fn waits() -> Obs {
+    Obs::Waits {
+        walker: WalkerId(7),
+        token: Token(1),
+    }
+}
+
+fn answered() -> Obs {
+    Obs::Answered {
+        token: Token(1),
+        status: Status::Ready,
+    }
+}
+
+fn entered(walker: u32) -> Obs {
+    Obs::Entered {
+        walker: WalkerId(walker),
+        mount: MountId(5),
+    }
+}
+
+fn left() -> Obs {
+    Obs::Left {
+        walker: WalkerId(1),
+        mount: MountId(5),
+    }
+}
+
+/// What is seen of a token.
+fn seen_of_token(word: &str) -> Option<Obs> {
+    Some(match word {
+        "queued" => queued(Kind::MissingIndirect),
+        "expiring" => queued(Kind::ExpireIndirect),
+        "delivered" => delivered(),
+        "waits" => waits(),
+        "answered" => answered(),
+        "released" => released(Status::Ready),
+        "failed" => released(Status::Fail),
+        _ => return None,
+    })
+}
+
+/// What else is seen.
+fn seen_else(alloc: Global, word: &str) -> Result<Option<Obs>, AllocError> {
+    Ok(Some(match word {
+        "catatonic" => Obs::Catatonic { fs: FsId(2) },
+        "passed" => passed(),
+        "entered" => entered(1),
+        "entered-by-2" => entered(2),
+        "left" => left(),
+        "unmounted" => unmounted(alloc)?,
+        _ => return Ok(None),
+    }))
+}
+
+fn seen(alloc: Global, word: &str) -> Result<Option<Obs>, AllocError> {
+    match seen_of_token(word) {
+        Some(obs) => Ok(Some(obs)),
+        None => seen_else(alloc, word),
+    }
+}
+
+/// What these words say is seen, if each of them says something.
+fn trace_of(alloc: Global, words: &str) -> Result<Option<Vec<Obs>>, AllocError> {
+    let mut trace = Vec::new(alloc);
+    for word in words.split_whitespace() {
+        match seen(alloc, word)? {
+            Some(obs) => trace.push(obs)?,
+            None => return Ok(None),
+        }
+    }
+    Ok(Some(trace))
+}
+
+/// Whether the laws hold of a trace where its line says so, and only there.
+pub fn is_judged(alloc: Global, line: &str) -> Result<bool, AllocError> {
+    let Some((start, words)) = line.split_once("lawful") else {
+        return Ok(false);
+    };
+    match trace_of(alloc, words)? {
+        Some(trace) => Ok(trace_holds(trace.as_slice()) == start.is_empty()),
+        None => Ok(false),
+    }
+}
