@@ -3,7 +3,6 @@ use Rattle.std.proofs.Common.{◌≡◌, ◌⊎◌, ◌+◌, ℕ, Bool, cond, Li
 use Rattle.std.specs.Io.KnownBytes.{Appends}
 use Rattle.std.proofs.lemmas.List.{map_push, append-nil, length-append}
 use Rattle.am_machine.specs.State.{State}
-use Rattle.am_machine.specs.Machine.{Step}
 use Rattle.am_script.specs.declared.fault.ScriptFault.{ScriptFault}
 use Rattle.am_script.specs.declared.fault.ScriptFaultKind.TheVariants.{NoMemory, WriteFailed}
 use Rattle.am_script.specs.declared.output.Output.{Output}
@@ -16,19 +15,19 @@ use Rattle.am_script.specs.Script.{Numbered, Told, told_by, only_fault}
 use Rattle.am_script.specs.Turns.{IsWhole, IsShort}
 use Rattle.am_script.proofs.Going.{behind, count_more, lost_by}
 use Rattle.am_script.proofs.OwedLemmas.{stands_new}
-use Rattle.am_views.specs.Traced.{Shown, asked_in, answers_in, SeenRun, one_more}
+use Rattle.am_views.specs.Traced.{one_more}
 use Rattle.am_draw.specs.declared.bars.Lasting.{Lasting}
-use Rattle.am_draw.specs.declared.draw.Part.{Part}
+use Rattle.am_draw.specs.declared.part.Part.{Part}
 use Rattle.am_draw.specs.Bars.{nothing_lasts, behind as lasts_behind}
-use Rattle.am_draw.specs.Drawn.{event_piece, event_pieces, tail_pieces, pieces_of, picture, part_in, tail_behind, AllDrawn, DrawnToLoss, DrawStops, DrawEnds, IsDrawn, Finishes}
+use Rattle.am_draw.specs.Drawn.{Viewed, asked_in, answers_in, Views, ViewedRun, event_piece, event_pieces, tail_pieces, pieces_of, picture, part_in, tail_behind, AllDrawn, DrawnToLoss, DrawStops, DrawEnds, IsDrawn, Finishes}
 use Rattle.am_draw.proofs.LostPieces.{owed_for, owed_more, owed_one, bytes_for, within_some}
 use Rattle.am_draw.proofs.PieceLemmas.{lasting_behind, lasting_push, pieces_push, EndsAt, ends_push, tail_owed}
 
 -- of all events these are left, and those before have come; what is drawn of them is put out
 pub record Drawing (part : Part) (start : State) (all left : Told) (lasting : Lasting) (output : Output) (old new : Option (List ℕ)) (now : State) (summary : Summary) : Type 0 where
-  pub rows : List Shown
+  pub rows : List Viewed
   pub parted : all ≡ behind (asked_in rows) left
-  pub run : SeenRun start rows now
+  pub run : ViewedRun start rows now
   pub stands : Stands output (owed_for (event_pieces part 1 nothing_lasts rows)) old new
   pub lasts : lasting ≡ lasting_behind nothing_lasts rows
   pub line : EndsAt output.line rows
@@ -47,18 +46,18 @@ drawing_none part start all lasting output old nothing e f g = record {
   refused = refl;
 }
 
-run_more : (old : State) (rows : List Shown) (mid : State) (row : Shown) (new : State) → SeenRun old rows mid → Step mid row.asked.event row.answer row.seen new → SeenRun old (rows ++ row ∷ []) new
-run_more old [] mid row new h step = (new, subst (λ (s : State). Step s row.asked.event row.answer row.seen new) h step, refl)
-run_more old (first ∷ rows) mid row new h step = (h.0, h.1, run_more h.0 rows mid row new h.2 step)
+run_more : (old : State) (rows : List Viewed) (mid : State) (row : Viewed) (new : State) → ViewedRun old rows mid → Views mid row new → ViewedRun old (rows ++ row ∷ []) new
+run_more old [] mid row new h views = (new, subst (λ (s : State). Views s row new) h views, refl)
+run_more old (first ∷ rows) mid row new h views = (h.0, h.1, run_more h.0 rows mid row new h.2 views)
 
-asked_push : (rows : List Shown) (row : Shown) → asked_in (rows ++ row ∷ []) ≡ asked_in rows ++ row.asked ∷ []
-asked_push rows row = map_push (λ (r : Shown). r.asked) rows row
+asked_push : (rows : List Viewed) (row : Viewed) → asked_in (rows ++ row ∷ []) ≡ asked_in rows ++ row.asked ∷ []
+asked_push rows row = map_push (λ (r : Viewed). r.asked) rows row
 
-answers_push : (rows : List Shown) (row : Shown) → answers_in (rows ++ row ∷ []) ≡ answers_in rows ++ row.answer ∷ []
-answers_push rows row = map_push (λ (r : Shown). r.answer) rows row
+answers_push : (rows : List Viewed) (row : Viewed) → answers_in (rows ++ row ∷ []) ≡ answers_in rows ++ row.answer ∷ []
+answers_push rows row = map_push (λ (r : Viewed). r.answer) rows row
 
 -- what is put out for one event more
-owed_push : (part : Part) (rows : List Shown) (row : Shown) (number : ℕ) (lasting : Lasting) → number ≡ 1 + length rows → lasting ≡ lasting_behind nothing_lasts rows → owed_for (event_pieces part 1 nothing_lasts (rows ++ row ∷ [])) ≡ owed_for (event_pieces part 1 nothing_lasts rows) ++ owed_by row.asked.line (event_piece part number lasting row).bytes
+owed_push : (part : Part) (rows : List Viewed) (row : Viewed) (number : ℕ) (lasting : Lasting) → number ≡ 1 + length rows → lasting ≡ lasting_behind nothing_lasts rows → owed_for (event_pieces part 1 nothing_lasts (rows ++ row ∷ [])) ≡ owed_for (event_pieces part 1 nothing_lasts rows) ++ owed_by row.asked.line (event_piece part number lasting row).bytes
 owed_push part rows row number lasting e f =
     ap owed_for (pieces_push part 1 nothing_lasts rows row)
     ∙ owed_more (event_pieces part 1 nothing_lasts rows) (event_piece part (1 + length rows) (lasting_behind nothing_lasts rows) row ∷ [])
@@ -69,22 +68,23 @@ owed_push part rows row number lasting e f =
 -- one more event has come
 pub drawing_more : (part : Part) (start : State) (all left more : Told) (lasting next_lasting : Lasting) (kept keeps : Output) (old mid new : Option (List ℕ)) (s next : State) (summary : Summary) (asked : Numbered) (number : ℕ) (refused : Bool) → left ≡ told_by (Ok (Some asked.event)) asked.line more → number ≡ summary.lines + 1 → Drawing part start all left lasting kept old mid s summary → IsDrawn part number s asked next lasting next_lasting kept keeps mid new refused → Drawing part start all more next_lasting keeps old new next (one_more summary refused)
 drawing_more part start all left more lasting next_lasting kept keeps old mid new s next summary asked number refused e n h drawn =
-    let row : Shown = record { asked = asked; answer = drawn.answer; seen = drawn.seen } in
-    let is : number ≡ 1 + length h.rows = omega (arith, n, h.lines) in record {
+    let row : Viewed = drawn.row in
+    let is : number ≡ 1 + length h.rows = omega (arith, n, h.lines) in
+    let told : left ≡ told_by (Ok (Some row.asked.event)) row.asked.line more = e ∙ ap (λ (a : Numbered). told_by (Ok (Some a.event)) a.line more) (sym drawn.is) in record {
       rows = h.rows ++ row ∷ [];
-      parted = h.parted ∙ ap (behind (asked_in h.rows)) e ∙ ap (λ (rows : List Numbered). record more { events = rows }) (sym (append_assoc (asked_in h.rows) (asked ∷ []) more.events)) ∙ ap (λ (rows : List Numbered). behind rows more) (sym (asked_push h.rows row));
-      run = run_more start h.rows s row next h.run drawn.step;
+      parted = h.parted ∙ ap (behind (asked_in h.rows)) told ∙ ap (λ (rows : List Numbered). record more { events = rows }) (sym (append_assoc (asked_in h.rows) (row.asked ∷ []) more.events)) ∙ ap (λ (rows : List Numbered). behind rows more) (sym (asked_push h.rows row));
+      run = run_more start h.rows s row next h.run drawn.views;
       stands = subst (λ (t : List Owed). Stands keeps t old new) (sym (owed_push part h.rows row number lasting is h.lasts)) (drawn.puts (owed_for (event_pieces part 1 nothing_lasts h.rows)) old h.stands);
-      lasts = drawn.lasts ∙ ap (λ (l : Lasting). lasts_behind l asked.event drawn.seen) h.lasts ∙ sym (lasting_push nothing_lasts h.rows row);
+      lasts = drawn.lasts ∙ ap (λ (l : Lasting). lasts_behind l row.asked.event row.seen) h.lasts ∙ sym (lasting_push nothing_lasts h.rows row);
       line = subst (λ (n : ℕ). EndsAt n (h.rows ++ row ∷ [])) (sym drawn.line) (ends_push h.rows row);
       lines = rw (length-append h.rows (row ∷ [])) (ap (λ (n : ℕ). n + 1) h.lines);
-      refused = rw (answers_push h.rows row, count_more is_refused (answers_in h.rows) drawn.answer, drawn.test) (ap (λ (n : ℕ). n + cond (is_refused drawn.answer) 1 0) h.refused);
+      refused = rw (answers_push h.rows row, count_more is_refused (answers_in h.rows) row.answer, drawn.test) (ap (λ (n : ℕ). n + cond (is_refused row.answer) 1 0) h.refused);
     }
 
 -- ---- the end
 
 -- what was put out is all that is drawn of these events, once its tail is
-whole_owed : (part : Part) (rows : List Shown) (line events : ℕ) → EndsAt line rows → events ≡ length rows → owed_for (event_pieces part 1 nothing_lasts rows) ++ owed_by line (tail_behind events) ≡ owed_for (pieces_of part rows)
+whole_owed : (part : Part) (rows : List Viewed) (line events : ℕ) → EndsAt line rows → events ≡ length rows → owed_for (event_pieces part 1 nothing_lasts rows) ++ owed_by line (tail_behind events) ≡ owed_for (pieces_of part rows)
 whole_owed part rows line events h e =
     ap (λ (n : ℕ). owed_for (event_pieces part 1 nothing_lasts rows) ++ owed_by line (tail_behind n)) e
     ∙ ap (λ (t : List Owed). owed_for (event_pieces part 1 nothing_lasts rows) ++ t) (sym (tail_owed line rows h))
@@ -100,7 +100,7 @@ lost_more all more line old new h = record {
   written = h.written;
 }
 
-lost_piece : (first last : ℕ) (start : State) (all left : Told) (rows : List Shown) (line : ℕ) (old new : Option (List ℕ)) (now : State) → all ≡ behind (asked_in rows) left → SeenRun start rows now → IsLost (owed_for (pieces_of (part_in first last all) rows)) line old new → DrawnToLoss first last start all old new (fault_at line WriteFailed)
+lost_piece : (first last : ℕ) (start : State) (all left : Told) (rows : List Viewed) (line : ℕ) (old new : Option (List ℕ)) (now : State) → all ≡ behind (asked_in rows) left → ViewedRun start rows now → IsLost (owed_for (pieces_of (part_in first last all) rows)) line old new → DrawnToLoss first last start all old new (fault_at line WriteFailed)
 lost_piece first last start all left rows line old new now parted run lost =
     let w = within_some (pieces_of (part_in first last all) rows) lost.front lost.first lost.others lost.parts in
     record {
@@ -129,7 +129,7 @@ drawing_cut first last part start all left lasting output old new now summary li
     inr (inr (inl (lost_piece first last start all left h.rows line old new now h.parted h.run (subst (λ (p : Part). IsLost (owed_for (pieces_of p h.rows)) line old new) is drawn))))
 
 -- the end of a picture, whose pieces are these
-pub record Ending (part : Part) (rows : List Shown) (ended : Result Summary ScriptFault) (old new : Option (List ℕ)) (r : Result Summary ScriptFault) : Type 0 where
+pub record Ending (part : Part) (rows : List Viewed) (ended : Result Summary ScriptFault) (old new : Option (List ℕ)) (r : Result Summary ScriptFault) : Type 0 where
   pub ends : IsWhole ended r (owed_for (pieces_of part rows)) old new ⊎ IsShort r (owed_for (pieces_of part rows)) old new
 
 ending : (part : Part) (start : State) (all left : Told) (lasting : Lasting) (output : Output) (old mid new : Option (List ℕ)) (now : State) (summary : Summary) (ended r : Result Summary ScriptFault) (h : Drawing part start all left lasting output old mid now summary) → Finishes output summary.lines ended mid new r → Ending part h.rows ended old new r
@@ -139,10 +139,10 @@ ending part start all left lasting output old mid new now summary ended r h clos
       (closes (owed_for (event_pieces part 1 nothing_lasts h.rows)) old h.stands);
 }
 
-written_for : (part : Part) (rows : List Shown) (old new : Option (List ℕ)) → Appends old new (bytes_of (owed_for (pieces_of part rows))) → Appends old new (picture part rows)
+written_for : (part : Part) (rows : List Viewed) (old new : Option (List ℕ)) → Appends old new (bytes_of (owed_for (pieces_of part rows))) → Appends old new (picture part rows)
 written_for part rows old new h = subst (λ (t : List ℕ). Appends old new t) (bytes_for (pieces_of part rows)) h
 
-ends_short : (first last : ℕ) (start : State) (all left : Told) (rows : List Shown) (old new : Option (List ℕ)) (now : State) (r : Result Summary ScriptFault) → all ≡ behind (asked_in rows) left → SeenRun start rows now → IsShort r (owed_for (pieces_of (part_in first last all) rows)) old new → DrawEnds first last start all old new r
+ends_short : (first last : ℕ) (start : State) (all left : Told) (rows : List Viewed) (old new : Option (List ℕ)) (now : State) (r : Result Summary ScriptFault) → all ≡ behind (asked_in rows) left → ViewedRun start rows now → IsShort r (owed_for (pieces_of (part_in first last all) rows)) old new → DrawEnds first last start all old new r
 ends_short first last start all left rows old new now r parted run short =
     subst (λ (t : Result Summary ScriptFault). DrawEnds first last start all old new t) (sym short.told) (inr (inr (inl (lost_piece first last start all left rows short.line old new now parted run short.lost))))
 
@@ -163,7 +163,7 @@ drawing_ends first last part start all left lasting output old mid new now summa
     })) (ends_short first last start all left h.rows old new now r h.parted h.run) ends.ends
 
 -- a fault is left
-fault_left : (first last : ℕ) (start : State) (all : Told) (rows : List Shown) (old new : Option (List ℕ)) (now : State) (fault : ScriptFault) → all ≡ behind (asked_in rows) (only_fault (Some fault)) → SeenRun start rows now → Appends old new (picture (part_in first last all) rows) → DrawStops first last start all old new fault
+fault_left : (first last : ℕ) (start : State) (all : Told) (rows : List Viewed) (old new : Option (List ℕ)) (now : State) (fault : ScriptFault) → all ≡ behind (asked_in rows) (only_fault (Some fault)) → ViewedRun start rows now → Appends old new (picture (part_in first last all) rows) → DrawStops first last start all old new fault
 fault_left first last start all rows old new now fault parted run written = inl (record {
   found = ap (λ (t : Told). t.fault) parted;
   rows = rows;
@@ -174,7 +174,7 @@ fault_left first last start all rows old new now fault parted run written = inl 
 })
 
 -- memory ran out for the event that is left first
-room_left : (first last : ℕ) (start : State) (all left : Told) (rows : List Shown) (old new : Option (List ℕ)) (now : State) (fault : ScriptFault) → all ≡ behind (asked_in rows) left → SeenRun start rows now → Appends old new (picture (part_in first last all) rows) → NoRoomFor left fault → DrawStops first last start all old new fault
+room_left : (first last : ℕ) (start : State) (all left : Told) (rows : List Viewed) (old new : Option (List ℕ)) (now : State) (fault : ScriptFault) → all ≡ behind (asked_in rows) left → ViewedRun start rows now → Appends old new (picture (part_in first last all) rows) → NoRoomFor left fault → DrawStops first last start all old new fault
 room_left first last start all left rows old new now fault parted run written none = inr (inl (record {
   kind = none.kind;
   rows = rows;
@@ -187,7 +187,7 @@ room_left first last start all left rows old new now fault parted run written no
   written = written;
 }))
 
-stopped_by : (first last : ℕ) (start : State) (all left : Told) (rows : List Shown) (old new : Option (List ℕ)) (now : State) (fault : ScriptFault) → all ≡ behind (asked_in rows) left → SeenRun start rows now → Appends old new (picture (part_in first last all) rows) → NoNext left fault → DrawStops first last start all old new fault
+stopped_by : (first last : ℕ) (start : State) (all left : Told) (rows : List Viewed) (old new : Option (List ℕ)) (now : State) (fault : ScriptFault) → all ≡ behind (asked_in rows) left → ViewedRun start rows now → Appends old new (picture (part_in first last all) rows) → NoNext left fault → DrawStops first last start all old new fault
 stopped_by first last start all left rows old new now fault parted run written (inl e) =
     fault_left first last start all rows old new now fault (parted ∙ ap (behind (asked_in rows)) e) run written
 stopped_by first last start all left rows old new now fault parted run written (inr none) =

@@ -1,6 +1,7 @@
 -- What a step adds to the trace is what is drawn of its event.
-use Rattle.std.proofs.Common.{◌≡◌, ℕ, Bool, List, ◌++◌, length, drop, Option, Result, ap, ◌∙◌, subst}
-use Rattle.std.proofs.Math.Seq.{drop-append_seam}
+use Rattle.std.proofs.Common.{◌≡◌, ℕ, Bool, true, false, List, [], ◌++◌, length, drop, Option, Result, refl, ap, ◌∙◌, subst, if◌then◌else◌}
+use Rattle.std.specs.Bool.{OnTrue}
+use Rattle.am_names.specs.declared.row.MountRow.{MountRow}
 use Rattle.am_machine.specs.declared.event.Event.{Event}
 use Rattle.am_machine.specs.declared.answer.Answer.{Answer}
 use Rattle.am_machine.specs.State.{State}
@@ -12,29 +13,43 @@ use Rattle.am_script.specs.Answers.{is_refused}
 use Rattle.am_script.specs.Outputs.{owed_by, Stands, Settles, Puts}
 use Rattle.am_script.specs.Turns.{Closes}
 use Rattle.am_state.specs.declared.obs.Obs.{Obs}
-use Rattle.am_views.proofs.Shows.{grows}
+use Rattle.am_views.proofs.Shows.{seen_is}
 use Rattle.am_draw.specs.declared.bars.Lasting.{Lasting}
-use Rattle.am_draw.specs.declared.draw.Part.{Part}
+use Rattle.am_draw.specs.declared.part.Part.{Part}
 use Rattle.am_draw.specs.Bars.{behind}
-use Rattle.am_draw.specs.Drawn.{drawn_for, tail_behind, IsDrawn, Finishes}
-use Rattle.am_draw.specs.Rows.{sides_of}
+use Rattle.am_draw.specs.Drawn.{head_in, drawn_for, tail_behind, IsDrawn, Finishes}
+use Rattle.am_draw.specs.Parts.{is_drawn, row_y}
+use Rattle.am_draw.specs.Rows.{row_text, sides_of}
+use Rattle.am_draw.specs.Trees.{rows_before}
 
--- what stands behind the trace so far is what is seen
-seen_is : (s next : State) (event : Event) (answer : Answer) (seen shown : List Obs) (before : ℕ) → Step s event answer seen next → before ≡ length s.trace → shown ≡ drop before next.trace → shown ≡ seen
-seen_is s next event answer seen shown before step e f =
-    f ∙ ap (drop before) (grows s next event answer seen step) ∙ ap (λ (n : ℕ). drop n (s.trace ++ seen)) e ∙ drop-append_seam s.trace seen
+-- of an event that isn't drawn the mounts before it don't matter
+row_same : (b : Bool) (rows kept after : List MountRow) (y : ℕ) (lasting : Lasting) (event : Event) (seen : List Obs) (sides : List ℕ) → OnTrue b (rows ≡ kept) → (if b then row_text rows after y lasting event seen sides else []) ≡ (if b then row_text kept after y lasting event seen sides else [])
+row_same true rows kept after y lasting event seen sides e =
+    ap (λ (r : List MountRow). row_text r after y lasting event seen sides) e
+row_same false rows kept after y lasting event seen sides e = refl
+
+drawn_same : (part : Part) (number : ℕ) (rows kept after : List MountRow) (lasting : Lasting) (event : Event) (seen : List Obs) (sides : List ℕ) → OnTrue (is_drawn part number) (rows ≡ kept) → drawn_for rows after part number lasting event seen sides ≡ drawn_for kept after part number lasting event seen sides
+drawn_same part number rows kept after lasting event seen sides e =
+    ap (λ (t : List ℕ). head_in part number ++ t) (row_same (is_drawn part number) rows kept after (row_y part number) lasting event seen sides e)
 
 -- a step whose event is drawn so is drawn
-pub draws : (part : Part) (number : ℕ) (s next : State) (event : Event) (answer : Answer) (seen shown : List Obs) (line before : ℕ) (lasting after : Lasting) (sides : List ℕ) (kept mid keeps : Output) (old now new : Option (List ℕ)) (refused : Bool) → Step s event answer seen next → before ≡ length s.trace → shown ≡ drop before next.trace → sides ≡ sides_of number event answer → Settles kept mid old now → mid.line ≡ line → Puts mid keeps (drawn_for part number lasting event shown sides) now new → after ≡ behind lasting event shown → refused ≡ is_refused answer → IsDrawn part number s (record { line = line; event = event }) next lasting after kept keeps old new refused
-draws part number s next event answer seen shown line before lasting after sides kept mid keeps old now new refused step e f said begun at put lasts test =
+pub draws : (part : Part) (number : ℕ) (s next : State) (event : Event) (answer : Answer) (seen shown : List Obs) (rows behind_rows : List MountRow) (line before : ℕ) (lasting after : Lasting) (sides : List ℕ) (kept mid keeps : Output) (old now new : Option (List ℕ)) (refused : Bool) → Step s event answer seen next → before ≡ length s.trace → shown ≡ drop before next.trace → OnTrue (is_drawn part number) (rows ≡ rows_before s event) → behind_rows ≡ next.kernel.table.rows → sides ≡ sides_of number event answer → Settles kept mid old now → mid.line ≡ line → Puts mid keeps (drawn_for rows behind_rows part number lasting event shown sides) now new → after ≡ behind lasting event shown → refused ≡ is_refused answer → IsDrawn part number s (record { line = line; event = event }) next lasting after kept keeps old new refused
+draws part number s next event answer seen shown rows behind_rows line before lasting after sides kept mid keeps old now new refused step e f stood stands said begun at put lasts test =
     let is : shown ≡ seen = seen_is s next event answer seen shown before step e f in record {
-      answer = answer;
-      seen = seen;
-      step = step;
-      puts = λ all start stands.
-          subst (λ (seen : List Obs). Stands keeps (all ++ owed_by line (drawn_for part number lasting event seen (sides_of number event answer))) start new) is
-          (subst (λ (sides : List ℕ). Stands keeps (all ++ owed_by line (drawn_for part number lasting event shown sides)) start new) said
-          (subst (λ (n : ℕ). Stands keeps (all ++ owed_by n (drawn_for part number lasting event shown sides)) start new) at (put.puts all start (begun all start stands))));
+      row = record {
+        asked = record { line = line; event = event };
+        answer = answer;
+        seen = seen;
+        before = rows_before s event;
+        after = behind_rows;
+      };
+      is = refl;
+      views = record { step = step; before = refl; after = stands };
+      puts = λ all start standing.
+          subst (λ (text : List ℕ). Stands keeps (all ++ owed_by line text) start new) (drawn_same part number rows (rows_before s event) behind_rows lasting event seen (sides_of number event answer) stood)
+          (subst (λ (seen : List Obs). Stands keeps (all ++ owed_by line (drawn_for rows behind_rows part number lasting event seen (sides_of number event answer))) start new) is
+          (subst (λ (sides : List ℕ). Stands keeps (all ++ owed_by line (drawn_for rows behind_rows part number lasting event shown sides)) start new) said
+          (subst (λ (n : ℕ). Stands keeps (all ++ owed_by n (drawn_for rows behind_rows part number lasting event shown sides)) start new) at (put.puts all start (begun all start standing)))));
       line = put.same ∙ at;
       lasts = lasts ∙ ap (behind lasting event) is;
       test = test;

@@ -3,24 +3,23 @@ use Rattle.std.proofs.Common.{◌≡◌, ℕ, suc, ◌+◌, List, [], ◌∷◌,
 use Rattle.std.specs.Prelude.{⊤}
 use Rattle.std.proofs.lemmas.Bool.{lt-ltb}
 use Rattle.am_script.specs.Outputs.{owed_by}
-use Rattle.am_views.specs.Traced.{Shown}
 use Rattle.am_draw.specs.declared.bars.Lasting.{Lasting}
-use Rattle.am_draw.specs.declared.draw.Part.{Part}
+use Rattle.am_draw.specs.declared.part.Part.{Part}
 use Rattle.am_draw.specs.Bars.{behind}
 use Rattle.am_draw.specs.Head.{tail_text}
-use Rattle.am_draw.specs.Drawn.{Piece, event_piece, event_pieces, tail_pieces, tail_behind}
+use Rattle.am_draw.specs.Drawn.{Viewed, Piece, event_piece, event_pieces, tail_pieces, tail_behind}
 use Rattle.am_draw.proofs.LostPieces.{owed_for, owed_one}
 
 -- what lasts behind these events
-abbrev pub lasting_behind : Lasting → List Shown → Lasting
+abbrev pub lasting_behind : Lasting → List Viewed → Lasting
 lasting_behind lasting [] = lasting
 lasting_behind lasting (row ∷ rows) = lasting_behind (behind lasting row.asked.event row.seen) rows
 
-pub lasting_push : (lasting : Lasting) (rows : List Shown) (row : Shown) → lasting_behind lasting (rows ++ row ∷ []) ≡ behind (lasting_behind lasting rows) row.asked.event row.seen
+pub lasting_push : (lasting : Lasting) (rows : List Viewed) (row : Viewed) → lasting_behind lasting (rows ++ row ∷ []) ≡ behind (lasting_behind lasting rows) row.asked.event row.seen
 lasting_push lasting [] row = refl
 lasting_push lasting (first ∷ rows) row = lasting_push (behind lasting first.asked.event first.seen) rows row
 
-pub pieces_push : (part : Part) (number : ℕ) (lasting : Lasting) (rows : List Shown) (row : Shown) → event_pieces part number lasting (rows ++ row ∷ []) ≡ event_pieces part number lasting rows ++ event_piece part (number + length rows) (lasting_behind lasting rows) row ∷ []
+pub pieces_push : (part : Part) (number : ℕ) (lasting : Lasting) (rows : List Viewed) (row : Viewed) → event_pieces part number lasting (rows ++ row ∷ []) ≡ event_pieces part number lasting rows ++ event_piece part (number + length rows) (lasting_behind lasting rows) row ∷ []
 pieces_push part number lasting [] row = rw add-zero refl
 pieces_push part number lasting (first ∷ rows) row =
     ap (λ (t : List Piece). event_piece part number lasting first ∷ t)
@@ -28,12 +27,12 @@ pieces_push part number lasting (first ∷ rows) row =
     ∙ ap (λ (n : ℕ). event_pieces part (number + 1) (behind lasting first.asked.event first.seen) rows ++ event_piece part n (lasting_behind (behind lasting first.asked.event first.seen) rows) row ∷ []) (omega arith))
 
 -- the last of these events, if there is one, is of this line
-abbrev pub EndsAt : ℕ → List Shown → Type 0
+abbrev pub EndsAt : ℕ → List Viewed → Type 0
 EndsAt line [] = ⊤
 EndsAt line (row ∷ []) = line ≡ row.asked.line
 EndsAt line (row ∷ next ∷ rows) = EndsAt line (next ∷ rows)
 
-pub ends_push : (rows : List Shown) (row : Shown) → EndsAt row.asked.line (rows ++ row ∷ [])
+pub ends_push : (rows : List Viewed) (row : Viewed) → EndsAt row.asked.line (rows ++ row ∷ [])
 ends_push [] row = refl
 ends_push (first ∷ []) row = refl
 ends_push (first ∷ next ∷ rows) row = ends_push (next ∷ rows) row
@@ -42,7 +41,7 @@ ends_push (first ∷ next ∷ rows) row = ends_push (next ∷ rows) row
 tail_some : (n : ℕ) → tail_behind (suc n) ≡ tail_text
 tail_some n = rw (lt-ltb 0 (suc n) (omega arith)) refl
 
-pub tail_owed : (line : ℕ) (rows : List Shown) → EndsAt line rows → owed_for (tail_pieces rows) ≡ owed_by line (tail_behind (length rows))
+pub tail_owed : (line : ℕ) (rows : List Viewed) → EndsAt line rows → owed_for (tail_pieces rows) ≡ owed_by line (tail_behind (length rows))
 tail_owed line [] h = refl
 tail_owed line (row ∷ []) h = rw h (owed_one (record { line = row.asked.line; bytes = tail_text }))
 tail_owed line (row ∷ next ∷ rows) h =

@@ -1,7 +1,8 @@
 -- How a script is drawn: its run, a row for each event, between a head and a tail.
-use Rattle.std.specs.Prelude.{◌≡◌, ◌⊎◌, ◌<◌, ℕ, ◌+◌, ◌-◌, ◌*◌, ◌==◌, Bool, ◌&&◌, min, nat_lt, nat_le, List, [], ◌∷◌, ◌++◌, length, take, count_by, Option, None, Some, Result, Ok, Err, if◌then◌else◌}
+use Rattle.std.specs.Prelude.{◌≡◌, ◌⊎◌, ◌<◌, ℕ, ◌+◌, ◌==◌, Bool, nat_lt, List, [], ◌∷◌, ◌++◌, map, length, take, count_by, Option, None, Some, Result, Ok, Err, if◌then◌else◌}
 use Rattle.std.specs.List.{flat_map}
 use Rattle.std.specs.Io.KnownBytes.{Appends, Consumes, IsAtEnd}
+use Rattle.am_names.specs.declared.row.MountRow.{MountRow}
 use Rattle.am_machine.specs.State.{State, Opening, opening_of}
 use Rattle.am_machine.specs.declared.answer.Answer.{Answer}
 use Rattle.am_machine.specs.declared.event.Event.{Event}
@@ -20,80 +21,93 @@ use Rattle.am_script.specs.Read.{WasRead, played}
 use Rattle.am_script.specs.Script.{Numbered, Told, Script, script_of}
 use Rattle.am_script.specs.Fault.{fault_at}
 use Rattle.am_script.specs.Turns.{IsWhole, IsShort}
-use Rattle.am_views.specs.Traced.{Shown, asked_in, answers_in, SeenRun, HeadStops}
+use Rattle.am_views.specs.Traced.{HeadStops}
 use Rattle.am_draw.specs.declared.bars.Lasting.{Lasting}
-use Rattle.am_draw.specs.declared.draw.Part.{Part}
+use Rattle.am_draw.specs.declared.part.Part.{Part}
 use Rattle.am_draw.specs.Bars.{behind, nothing_lasts}
 use Rattle.am_draw.specs.Head.{head_text, tail_text}
+use Rattle.am_draw.specs.Parts.{part_of, is_drawn, row_y}
 use Rattle.am_draw.specs.Rows.{row_text, sides_of}
+use Rattle.am_draw.specs.Trees.{rows_before}
 
--- ---- which events are drawn
+-- ---- a run with its mounts
 
--- Of so many events those from one number to another are drawn, but at most a million. Numbers of
--- events begin with 1.
-abbrev pub part_of : ℕ → ℕ → ℕ → Part
-part_of first last events = record {
-  skipped = first - 1;
-  rows = min (min last events - (first - 1)) 1000000;
-  events = events;
-}
+-- an event of a script, its answer, what is seen of it, the mounts before it, if some may go in it, and
+-- those behind it
+pub record Viewed : Type 0 where
+  pub asked : Numbered
+  pub answer : Answer
+  pub seen : List Obs
+  pub before : List MountRow
+  pub after : List MountRow
 
-abbrev pub is_drawn : Part → ℕ → Bool
-is_drawn part number = nat_lt part.skipped number && nat_le (number - part.skipped) part.rows
+abbrev pub asked_in : List Viewed → List Numbered
+asked_in rows = map (λ row. row.asked) rows
 
--- the top of the event's row
-abbrev pub row_y : Part → ℕ → ℕ
-row_y part number = 118 + 26 * (number - part.skipped - 1)
+abbrev pub answers_in : List Viewed → List Answer
+answers_in rows = map (λ row. row.answer) rows
+
+-- the event comes, with its answer and what is seen of it, between these mounts
+pub record Views (old : State) (row : Viewed) (new : State) : Type 0 where
+  pub step : Step old row.asked.event row.answer row.seen new
+  pub before : row.before ≡ rows_before old row.asked.event
+  pub after : row.after ≡ new.kernel.table.rows
+
+-- from old, these events come one after another, and lead to new
+abbrev pub ViewedRun : State → List Viewed → State → Type 0
+ViewedRun old [] new = new ≡ old
+ViewedRun old (row ∷ rows) new = (mid : State) × Views old row mid × ViewedRun mid rows new
 
 -- ---- what is drawn
 
 -- the row of the event with this number, if it is drawn
-abbrev pub row_in : Part → ℕ → Lasting → Event → List Obs → List ℕ → List ℕ
-row_in part number lasting event seen sides =
-    if is_drawn part number then row_text (row_y part number) lasting event seen sides else []
+abbrev pub row_in : List MountRow → List MountRow → Part → ℕ → Lasting → Event → List Obs → List ℕ → List ℕ
+row_in before after part number lasting event seen sides =
+    if is_drawn part number then row_text before after (row_y part number) lasting event seen sides
+    else []
 
 -- the head stands before the first event
 abbrev pub head_in : Part → ℕ → List ℕ
 head_in part number = if number == 1 then head_text part.rows part.events else []
 
-abbrev pub drawn_for : Part → ℕ → Lasting → Event → List Obs → List ℕ → List ℕ
-drawn_for part number lasting event seen sides =
-    head_in part number ++ row_in part number lasting event seen sides
+abbrev pub drawn_for : List MountRow → List MountRow → Part → ℕ → Lasting → Event → List Obs → List ℕ → List ℕ
+drawn_for before after part number lasting event seen sides =
+    head_in part number ++ row_in before after part number lasting event seen sides
 
 -- what is drawn for a line of the script
 pub record Piece : Type 0 where
   pub line : ℕ
   pub bytes : List ℕ
 
-abbrev pub event_piece : Part → ℕ → Lasting → Shown → Piece
+abbrev pub event_piece : Part → ℕ → Lasting → Viewed → Piece
 event_piece part number lasting row = record {
   line = row.asked.line;
   bytes =
-      drawn_for part number lasting row.asked.event row.seen
+      drawn_for row.before row.after part number lasting row.asked.event row.seen
       (sides_of number row.asked.event row.answer);
 }
 
 -- events from this number on, before which this lasts
-abbrev pub event_pieces : Part → ℕ → Lasting → List Shown → List Piece
+abbrev pub event_pieces : Part → ℕ → Lasting → List Viewed → List Piece
 event_pieces part number lasting [] = []
 event_pieces part number lasting (row ∷ rows) =
     event_piece part number lasting row
     ∷ event_pieces part (number + 1) (behind lasting row.asked.event row.seen) rows
 
 -- the tail stands behind the last event, and is of its line
-abbrev pub tail_pieces : List Shown → List Piece
+abbrev pub tail_pieces : List Viewed → List Piece
 tail_pieces [] = []
 tail_pieces (row ∷ []) = record { line = row.asked.line; bytes = tail_text } ∷ []
 tail_pieces (row ∷ next ∷ rows) = tail_pieces (next ∷ rows)
 
 -- all that is drawn of a run of these events
-abbrev pub pieces_of : Part → List Shown → List Piece
+abbrev pub pieces_of : Part → List Viewed → List Piece
 pieces_of part rows = event_pieces part 1 nothing_lasts rows ++ tail_pieces rows
 
 abbrev pub bytes_in : List Piece → List ℕ
 bytes_in pieces = flat_map (λ piece. piece.bytes) pieces
 
-abbrev pub picture : Part → List Shown → List ℕ
+abbrev pub picture : Part → List Viewed → List ℕ
 picture part rows = bytes_in (pieces_of part rows)
 
 -- ---- a script with a world
@@ -105,10 +119,10 @@ part_in first last told = part_of first last (length told.events)
 -- all events come, and nothing but their picture is written
 pub record AllDrawn (first last : ℕ) (start : State) (told : Told) (old new : Option (List ℕ)) (summary : Summary) : Type 0 where
   pub no_fault : told.fault ≡ None
-  pub rows : List Shown
+  pub rows : List Viewed
   pub asked : told.events ≡ asked_in rows
   pub ends : State
-  pub run : SeenRun start rows ends
+  pub run : ViewedRun start rows ends
   pub written : Appends old new (picture (part_in first last told) rows)
   pub lines : summary.lines ≡ length rows
   pub refused : summary.refused ≡ count_by is_refused (answers_in rows)
@@ -116,32 +130,32 @@ pub record AllDrawn (first last : ℕ) (start : State) (told : Told) (old new : 
 -- the script's own fault comes behind its events, whose picture is written
 pub record DrawnToFault (first last : ℕ) (start : State) (told : Told) (old new : Option (List ℕ)) (fault : ScriptFault) : Type 0 where
   pub found : told.fault ≡ Some fault
-  pub rows : List Shown
+  pub rows : List Viewed
   pub asked : told.events ≡ asked_in rows
   pub ends : State
-  pub run : SeenRun start rows ends
+  pub run : ViewedRun start rows ends
   pub written : Appends old new (picture (part_in first last told) rows)
 
 -- memory runs out for an event; the picture of those before it is written
 pub record DrawnToRoom (first last : ℕ) (start : State) (told : Told) (old new : Option (List ℕ)) (fault : ScriptFault) : Type 0 where
   pub kind : fault.kind ≡ NoMemory
-  pub rows : List Shown
+  pub rows : List Viewed
   pub here : Numbered
   pub others : List Numbered
   pub parted : told.events ≡ asked_in rows ++ here ∷ others
   pub line : fault.line ≡ here.line
   pub ends : State
-  pub run : SeenRun start rows ends
+  pub run : ViewedRun start rows ends
   pub written : Appends old new (picture (part_in first last told) rows)
 
 -- what is drawn for a line isn't taken whole, but for a beginning; all before it is written
 pub record DrawnToLoss (first last : ℕ) (start : State) (told : Told) (old new : Option (List ℕ)) (fault : ScriptFault) : Type 0 where
   pub loss : fault.kind ≡ WriteFailed
-  pub rows : List Shown
+  pub rows : List Viewed
   pub left : List Numbered
   pub asked : told.events ≡ asked_in rows ++ left
   pub ends : State
-  pub run : SeenRun start rows ends
+  pub run : ViewedRun start rows ends
   pub done : List Piece
   pub here : Piece
   pub others : List Piece
@@ -215,13 +229,13 @@ pub record StopsDrawing (first last : ℕ) (input rest old new : Option (List �
 
 -- the event comes, and what is drawn of it is put out
 pub record IsDrawn (part : Part) (number : ℕ) (s : State) (asked : Numbered) (next : State) (before after : Lasting) (kept keeps : Output) (old new : Option (List ℕ)) (refused : Bool) : Type 0 where
-  pub answer : Answer
-  pub seen : List Obs
-  pub step : Step s asked.event answer seen next
-  pub puts : PutsOut kept keeps (owed_by asked.line (drawn_for part number before asked.event seen (sides_of number asked.event answer))) old new
-  pub line : keeps.line ≡ asked.line
-  pub lasts : after ≡ behind before asked.event seen
-  pub test : refused ≡ is_refused answer
+  pub row : Viewed
+  pub is : row.asked ≡ asked
+  pub views : Views s row next
+  pub puts : PutsOut kept keeps (owed_by row.asked.line (event_piece part number before row).bytes) old new
+  pub line : keeps.line ≡ row.asked.line
+  pub lasts : after ≡ behind before row.asked.event row.seen
+  pub test : refused ≡ is_refused row.answer
 
 -- memory runs out for it, and nothing is put out
 pub record IsUndrawn (line : ℕ) (kept keeps : Output) (old new : Option (List ℕ)) (fault : ScriptFault) : Type 0 where

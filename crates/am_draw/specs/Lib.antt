@@ -3,6 +3,8 @@ pub mod Drawn
 pub mod Head
 pub mod Look
 pub mod Marks
+pub mod Parts
 pub mod Rows
 pub mod Sides
+pub mod Trees
 pub mod Words

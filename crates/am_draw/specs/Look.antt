@@ -44,14 +44,15 @@ look_part_3 =
     ++ (codes "<pattern id='rows' y='118' width='1312' height='26' patternUnits='userSpaceOnUse'>"
     ++ (codes "<path class='rule' d='M8 25.5H1304'/>"
     ++ (codes "<path class='lane' d='M332 0v26M376 0v26M420 0v26M464 0v26"
-    ++ (codes "M508 0v26M552 0v26M596 0v26M884 0v26'/>"
+    ++ (codes "M508 0v26M552 0v26M596 0v26M884 0v26"
+    ++ (codes "M1031 0v26M1045 0v26M1059 0v26M1073 0v26M1087 0v26M1101 0v26M1115 0v26M1129 0v26'/>"
     ++ (codes "<path class='column' d='M304 0v26M628 0v26M860 0v26M1022 0v26M1138 0v26'/></pattern>\n"
     ++ (codes "<g id='missing'><path class='missing' d='M-7 0h14v13h-14z'/>"
     ++ (codes "<path class='open' d='M-7 0v13M7 0v13'/></g>\n"
     ++ (codes "<g id='expire'><path class='expire' d='M-7 0h14v13h-14z'/>"
     ++ (codes "<path class='expiring' d='M-7 0v13M7 0v13'/></g>\n"
     ++ (codes "<path id='waits' class='waiting' d='M0 0v13'/>\n"
-    ++ codes "<path id='inside' class='inside' d='M0 0v13'/>\n"))))))))))))
+    ++ codes "<path id='inside' class='inside' d='M0 0v13'/>\n")))))))))))))
 
 abbrev pub look_part_4 : List ℕ
 look_part_4 =
@@ -109,12 +110,24 @@ look_part_7 =
     codes "<text class='s' x='936' y='34'>went (a mount)</text>\n"
     ++ (codes "<use href='#failed' x='1040' y='30'/>\n"
     ++ (codes "<text class='s' x='1050' y='34'>answered, fail</text>\n</g>\n"
-    ++ (codes "<text class='h' x='46' y='108'>events</text>\n"
+    ++ (codes "<text class='h' x='46' y='108'>events, and their answers</text>\n"
     ++ (codes "<text class='h c' x='464' y='108'>walkers</text>\n"
     ++ (codes "<text class='h' x='636' y='108'>kernel: tokens</text>\n"
-    ++ (codes "<text class='h' x='876' y='108'>daemon</text>\n"
-    ++ (codes "<text class='h' x='1034' y='108'>mounts</text>\n"
-    ++ codes "<text class='h' x='1148' y='108'>answers</text>\n")))))))
+    ++ codes "<text class='h' x='876' y='108'>daemon</text>\n")))))
+
+-- a lane for each namespace
+abbrev pub look_part_8 : List ℕ
+look_part_8 =
+    codes "<text class='h' x='1026' y='92'>mounts, by namespace</text>\n"
+    ++ (codes "<text class='k' x='1031' y='110'>0</text>\n<text class='k' x='1045' y='110'>1</text>\n"
+    ++ (codes "<text class='k' x='1059' y='110'>2</text>\n<text class='k' x='1073' y='110'>3</text>\n"
+    ++ (codes "<text class='k' x='1087' y='110'>4</text>\n<text class='k' x='1101' y='110'>5</text>\n"
+    ++ (codes "<text class='k' x='1115' y='110'>6</text>\n<text class='k' x='1129' y='110'>7..</text>\n"
+    ++ codes "<text class='h' x='1148' y='108'>where</text>\n"))))
 
 abbrev pub look_text : List ℕ
-look_text = look_part_1 ++ (look_part_2 ++ (look_part_3 ++ (look_part_4 ++ (look_part_5 ++ (look_part_6 ++ look_part_7)))))
+look_text =
+    look_part_1
+    ++ (look_part_2
+    ++ (look_part_3
+    ++ (look_part_4 ++ (look_part_5 ++ (look_part_6 ++ (look_part_7 ++ look_part_8))))))

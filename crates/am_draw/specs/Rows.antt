@@ -1,5 +1,6 @@
 -- The row of an event.
-use Rattle.std.specs.Prelude.{ℕ, ◌+◌, ◌-◌, Bool, nat_lt, List, [], ◌∷◌, ◌++◌, length, take, codes, decimal, Option, None, Some, if◌then◌else◌}
+use Rattle.std.specs.Prelude.{ℕ, ◌+◌, ◌-◌, Bool, List, [], ◌∷◌, ◌++◌, codes, decimal, Option, None, Some, if◌then◌else◌}
+use Rattle.am_names.specs.declared.row.MountRow.{MountRow}
 use Rattle.am_names.specs.declared.trigger.Status.{Status}
 use Rattle.am_names.specs.declared.trigger.Status.TheVariants.{Ready, Fail}
 use Rattle.am_wire.specs.declared.kind.Kind.{Kind}
@@ -10,7 +11,7 @@ use Rattle.am_state.specs.declared.obs.Obs.TheVariants as seen
 use Rattle.am_machine.specs.declared.answer.Answer.{Answer}
 use Rattle.am_machine.specs.declared.event.Event.{Event}
 use Rattle.am_machine.specs.declared.event.Event.TheVariants as events
-use Rattle.am_script.specs.Answers.{answer_text, entry_text, mounts_text, is_refused}
+use Rattle.am_script.specs.Answers.{answer_text, entry_text, is_refused}
 use Rattle.am_views.specs.EventText.{event_text}
 use Rattle.am_draw.specs.declared.bars.Look.{Look}
 use Rattle.am_draw.specs.declared.bars.Look.TheVariants.{Missing, Expire, Ended, Waits, Inside, Idle}
@@ -20,6 +21,7 @@ use Rattle.am_draw.specs.declared.marks.Lanes.{Lanes}
 use Rattle.am_draw.specs.declared.marks.Lanes.TheVariants.{OfTokens, OfWalkers}
 use Rattle.am_draw.specs.Bars.{lane_of, changed, acted, behind}
 use Rattle.am_draw.specs.Marks.{stamp, stroke, label, lane_x}
+use Rattle.am_draw.specs.Trees.{mounts_marks}
 use Rattle.am_draw.specs.Words.{words}
 
 -- ---- where things stand
@@ -63,12 +65,12 @@ bars before behind = half 0 before ++ half 13 behind
 abbrev pub answer_class : Bool → List ℕ
 answer_class refused = if refused then codes "m refused" else codes "m"
 
--- the number of the event and its line, and at the right its answer
+-- the number of the event, its line, and below that its answer
 abbrev pub labels : ℕ → List ℕ → List ℕ → Bool → List ℕ
 labels number event answer refused =
     label (codes "m n") 36 17 (decimal number)
-    ++ (label (codes "m") 46 17 (words 38 event)
-    ++ label (answer_class refused) 1148 17 (words 24 answer))
+    ++ (label (codes "m") 46 11 (words 35 event)
+    ++ label (answer_class refused) 58 22 (words 34 answer))
 
 -- ---- who acts
 
@@ -133,48 +135,41 @@ released_class Fail = codes "fail"
 abbrev pub catatonic_words : ℕ → List ℕ
 catatonic_words fs = codes "file system " ++ decimal fs ++ codes " is catatonic"
 
--- the first four numbers; three dots tell of others
-abbrev pub more_dots : Bool → List ℕ
-more_dots more = if more then codes " ..." else []
-
-abbrev pub mounts_words : List ℕ → List ℕ
-mounts_words mounts = mounts_text (take 4 mounts) ++ more_dots (nat_lt 4 (length mounts))
-
-abbrev pub mounts_marks : List ℕ → List ℕ → List ℕ
-mounts_marks symbol mounts =
-    stamp symbol 1038 13 ++ label (codes "m") 1047 17 (mounts_words mounts)
-
--- what is drawn of an observation, where this lasts behind it
-abbrev pub obs_marks : Lasting → Obs → List ℕ
-obs_marks lasting (seen.Queued token attach packet) =
+-- what is drawn of an observation, where this lasts behind it, and these are the mounts before the event
+-- and behind it
+abbrev pub obs_marks : List MountRow → List MountRow → Lasting → Obs → List ℕ
+obs_marks before after lasting (seen.Queued token attach packet) =
     queued_marks (token_x lasting token) token packet
-obs_marks lasting (seen.Waits walker token) =
+obs_marks before after lasting (seen.Waits walker token) =
     stroke (codes "asks") (walker_x lasting walker + 6) (token_x lasting token - 7)
-obs_marks lasting (seen.Answered token status) =
+obs_marks before after lasting (seen.Answered token status) =
     stamp (answered_symbol status) (token_x lasting token) 13
-obs_marks lasting (seen.Catatonic fs) =
+obs_marks before after lasting (seen.Catatonic fs) =
     stamp (codes "catatonic") 0 0 ++ label (codes "h c") 820 17 (catatonic_words fs)
-obs_marks lasting (seen.Released walker token status) =
+obs_marks before after lasting (seen.Released walker token status) =
     stroke (released_class status) (token_x lasting token - 7) (walker_x lasting walker + 6)
-obs_marks lasting (seen.Passed walker trigger) =
+obs_marks before after lasting (seen.Passed walker trigger) =
     stamp (codes "passes") (walker_x lasting walker) 13
-obs_marks lasting (seen.Entered walker mount) =
+obs_marks before after lasting (seen.Entered walker mount) =
     label (codes "s") (walker_x lasting walker + 8) 17 (codes "in " ++ decimal mount)
-obs_marks lasting (seen.Left walker mount) = []
-obs_marks lasting (seen.Mounted mounts) = mounts_marks (codes "came") mounts
-obs_marks lasting (seen.Unmounted mounts) = mounts_marks (codes "went") mounts
-obs_marks lasting (seen.Delivered token attach packet) =
+obs_marks before after lasting (seen.Left walker mount) = []
+obs_marks before after lasting (seen.Mounted mounts) =
+    mounts_marks (codes "came") (codes " on ") after mounts
+obs_marks before after lasting (seen.Unmounted mounts) =
+    mounts_marks (codes "went") (codes " off ") before mounts
+obs_marks before after lasting (seen.Delivered token attach packet) =
     stroke (codes "packet") (token_x lasting token + 7) 878
-obs_marks lasting (seen.Recorded trigger entry) =
+obs_marks before after lasting (seen.Recorded trigger entry) =
     label (codes "s") 895 17 (codes "book: " ++ entry_text entry)
-obs_marks lasting (seen.Reattached fs attach) =
+obs_marks before after lasting (seen.Reattached fs attach) =
     label (codes "s") 895 17 (codes "attached again, by " ++ decimal attach)
-obs_marks lasting seen.Died = label (codes "h") 897 17 (codes "the daemon dies")
+obs_marks before after lasting seen.Died = label (codes "h") 897 17 (codes "the daemon dies")
 
-abbrev pub seen_marks : Lasting → List Obs → List ℕ
-seen_marks lasting [] = []
-seen_marks lasting (obs ∷ seen) =
-    obs_marks (changed lasting obs) obs ++ seen_marks (changed lasting obs) seen
+abbrev pub seen_marks : List MountRow → List MountRow → Lasting → List Obs → List ℕ
+seen_marks before after lasting [] = []
+seen_marks before after lasting (obs ∷ seen) =
+    obs_marks before after (changed lasting obs) obs
+    ++ seen_marks before after (changed lasting obs) seen
 
 -- ---- the row
 
@@ -185,13 +180,15 @@ row_opening y = codes "<g transform='translate(0 " ++ decimal y ++ codes ")'>\n"
 abbrev pub scene : ℕ → Lasting → Lasting → List ℕ → List ℕ
 scene y before behind sides = row_opening y ++ (bars before behind ++ sides)
 
-abbrev pub marks : Lasting → Event → List Obs → List ℕ
-marks lasting event seen = actor_marks lasting event ++ (seen_marks lasting seen ++ codes "</g>\n")
+abbrev pub marks : List MountRow → List MountRow → Lasting → Event → List Obs → List ℕ
+marks before after lasting event seen =
+    actor_marks lasting event ++ (seen_marks before after lasting seen ++ codes "</g>\n")
 
 -- the row whose top is at y, of an event before which this lasts
-abbrev pub row_text : ℕ → Lasting → Event → List Obs → List ℕ → List ℕ
-row_text y lasting event seen sides =
-    scene y lasting (behind lasting event seen) sides ++ marks (acted lasting event) event seen
+abbrev pub row_text : List MountRow → List MountRow → ℕ → Lasting → Event → List Obs → List ℕ → List ℕ
+row_text before after y lasting event seen sides =
+    scene y lasting (behind lasting event seen) sides
+    ++ marks before after (acted lasting event) event seen
 
 abbrev pub sides_of : ℕ → Event → Answer → List ℕ
 sides_of number event answer =

@@ -4,20 +4,23 @@ ghost use Rattle.std.specs.Prelude.{◌≡◌, ◌+◌, ◌-◌, ◌<◌, ◌≤
 ghost use Rattle.am_script.specs.Lines.{lines_in, size_in};
 ghost use Rattle.am_script.specs.Outputs.{Puts};
 ghost use Rattle.am_script.specs.Script.{events_from};
-ghost use Rattle.am_views.specs.Traced.{one_more};
 ghost use Rattle.am_world.specs.Table.{state_of};
-ghost use Rattle.am_draw.specs.Drawn.{part_of, part_in, is_drawn, row_y, head_in, row_in, drawn_for, tail_behind, counted_to, AllDrawn, DrawStops, DrawEnds, DrawsInput, StopsDrawing, NotCounted, IsDrawn, IsUndrawn, Finishes};
+ghost use Rattle.am_draw.specs.Drawn.{part_in, head_in, row_in, drawn_for, tail_behind, counted_to, AllDrawn, DrawStops, DrawEnds, DrawsInput, StopsDrawing, NotCounted, IsDrawn, IsUndrawn, Finishes};
+ghost use Rattle.am_draw.specs.Parts.{most_rows};
 ghost use Rattle.am_draw.specs.Sides.{sides_said};
 ghost use Rattle.am_draw.specs.Rows.{row_text};
 
 use crate::bars::Lasting;
 use crate::head::put_head;
+use crate::part::{Part, part_of};
 use crate::row::put_marks;
 use crate::scene::{Said, put_scene, say};
+use crate::trees::{Trees, rows_before};
 use am_script::answer_line::put_word;
 use am_script::output::Output;
 use am_script::visit::{Found, Opened, close, next_event, open_script, read_all};
 use am_script::{ScriptFault, ScriptFaultKind, Summary};
+use am_views::{one_more, seen_since};
 use am_world::{Event, Obs, World};
 use std::alloc::{AllocError, Global};
 use std::io::{Read, Write};
@@ -33,8 +36,10 @@ pub fn draw_script<R: Read, W: Write>(
     first: u64,
     last: u64,
 ) -> Result<Summary, ScriptFault>
-    ensures ok { IfOk result (DrawsInput first last (R.remaining reader.old) (R.remaining reader.new) (W.contents writer.old) (W.contents writer.new)) }
-    ensures err { IfErr result (StopsDrawing first last (R.remaining reader.old) (R.remaining reader.new) (W.contents writer.old) (W.contents writer.new)) }
+    ensures ok { IfOk result (DrawsInput first last (R.remaining reader.old)
+        (R.remaining reader.new) (W.contents writer.old) (W.contents writer.new)) }
+    ensures err { IfErr result (StopsDrawing first last (R.remaining reader.old)
+        (R.remaining reader.new) (W.contents writer.old) (W.contents writer.new)) }
 {
     let input = read_all(alloc, reader);
     match open_script(alloc, &input) {
@@ -57,8 +62,14 @@ fn draw_opened<W: Write>(
 ) -> Result<Summary, ScriptFault>
     requires { opened.line + size_in (option_copied opened.rest) ≤ 2 ^ 63 }
     ensures whole { OnOk result (opened.entry.broke ≡ None) }
-    ensures ok { IfOk result (AllDrawn first last (state_of opened.entry.world) (events_from opened.entry.broke opened.entry.line (lines_in (option_copied opened.entry.rest))) (W.contents writer.old) (W.contents writer.new)) }
-    ensures err { IfErr result (DrawStops first last (state_of opened.entry.world) (events_from opened.entry.broke opened.entry.line (lines_in (option_copied opened.entry.rest))) (W.contents writer.old) (W.contents writer.new)) }
+    ensures ok { IfOk result (AllDrawn first last (state_of opened.entry.world)
+        (events_from opened.entry.broke opened.entry.line
+        (lines_in (option_copied opened.entry.rest))) (W.contents writer.old)
+        (W.contents writer.new)) }
+    ensures err { IfErr result (DrawStops first last (state_of opened.entry.world)
+        (events_from opened.entry.broke opened.entry.line
+        (lines_in (option_copied opened.entry.rest))) (W.contents writer.old)
+        (W.contents writer.new)) }
 {
     let Opened {
         mut world,
@@ -83,8 +94,10 @@ fn count_events(
     broke: Option<ScriptFaultKind>,
 ) -> Result<u64, ScriptFault>
     requires { line + size_in (option_copied rest) ≤ 2 ^ 63 }
-    ensures ok { IfOk result (λ events. events ≡ length (events_from broke line (lines_in (option_copied rest.entry))).events) }
-    ensures err { IfErr result (NotCounted (events_from broke line (lines_in (option_copied rest.entry)))) }
+    ensures ok { IfOk result (λ events. events ≡ length
+        (events_from broke line (lines_in (option_copied rest.entry))).events) }
+    ensures err { IfErr result (NotCounted (events_from broke line
+        (lines_in (option_copied rest.entry)))) }
 {
     let mut events = 0;
     let mut rest = rest;
@@ -112,30 +125,6 @@ fn counted_to(events: u64, fault: ScriptFault) -> Result<u64, ScriptFault>
     }
 }
 
-/// Which of so many events are drawn.
-#[derive(Clone, Copy)]
-pub struct Part {
-    /// So many events before them aren't.
-    pub skipped: u64,
-    /// At most 1,000,000.
-    pub rows: u64,
-    /// How many there are.
-    pub events: u64,
-}
-
-/// Of so many events those from one number to another are drawn, but at most a million.
-fn part_of(first: u64, last: u64, events: u64) -> Part
-    ensures { result ≡ part_of first last events }
-{
-    let skipped = first.saturating_sub(1);
-    let rows = last.min(events).saturating_sub(skipped);
-    Part {
-        skipped,
-        rows: rows.min(1_000_000),
-        events,
-    }
-}
-
 /// Draws the events of these lines, of which the first is behind the line with this number.
 fn draw_events<W: Write>(
     alloc: Global,
@@ -147,9 +136,12 @@ fn draw_events<W: Write>(
     writer: &mut W,
 ) -> Result<Summary, ScriptFault>
     requires fits { line + size_in (option_copied rest) ≤ 2 ^ 63 }
-    requires rows { part.now.rows ≤ 1000000 }
+    requires rows { part.now.rows ≤ most_rows }
     ensures whole { OnOk result (broke ≡ None) }
-    ensures ends { (first last : ℕ) → part.now ≡ part_in first last (events_from broke line (lines_in (option_copied rest.entry))) → DrawEnds first last (state_of world.old) (events_from broke line (lines_in (option_copied rest.entry))) (W.contents writer.old) (W.contents writer.new) result }
+    ensures ends { (first last : ℕ) → part.now ≡ part_in first last
+        (events_from broke line (lines_in (option_copied rest.entry))) → DrawEnds first last
+        (state_of world.old) (events_from broke line (lines_in (option_copied rest.entry)))
+        (W.contents writer.old) (W.contents writer.new) result }
 {
     let mut output = Output::new();
     let mut lasting = Lasting::new();
@@ -198,7 +190,8 @@ fn finish<W: Write>(
     ended: Result<Summary, ScriptFault>,
     writer: &mut W,
 ) -> Result<Summary, ScriptFault>
-    ensures finishes { Finishes output.old events ended (W.contents writer.old) (W.contents writer.new) result }
+    ensures finishes { Finishes output.old events ended (W.contents writer.old)
+        (W.contents writer.new) result }
     ensures whole { OnOk result (result ≡ ended) }
 {
     put_tail(output, events, writer);
@@ -207,7 +200,8 @@ fn finish<W: Write>(
 
 #[tactic(auto, using(am_script::proofs::Pieces::puts_none))]
 fn put_tail<W: Write>(output: &mut Output, events: u64, writer: &mut W)
-    ensures { Puts output.old output.new (tail_behind events) (W.contents writer.old) (W.contents writer.new) }
+    ensures { Puts output.old output.new (tail_behind events) (W.contents writer.old)
+        (W.contents writer.new) }
 {
     if 0 < events {
         put_word(output, b"</svg>\n", writer);
@@ -233,11 +227,16 @@ fn draw_found<'a, W: Write>(
     output: &mut Output,
     writer: &mut W,
 ) -> Result<Behind<'a>, ScriptFault>
-    requires { part.now.rows ≤ 1000000 }
-    ensures drawn { IfOk result (λ behind. IsDrawn part.now number (state_of world.old) (record { line = found.entry.line; event = found.entry.event }) (state_of world.new) lasting.old lasting.new output.old output.new (W.contents writer.old) (W.contents writer.new) behind.refused) }
+    requires { part.now.rows ≤ most_rows }
+    ensures drawn { IfOk result (λ behind. IsDrawn part.now number (state_of world.old)
+        (record { line = found.entry.line; event = found.entry.event }) (state_of world.new)
+        lasting.old lasting.new output.old output.new (W.contents writer.old)
+        (W.contents writer.new) behind.refused) }
     ensures line { IfOk result (λ behind. behind.line ≡ found.entry.line) }
-    ensures rest { IfOk result (λ behind. option_copied behind.rest ≡ option_copied found.entry.rest) }
-    ensures err { IfErr result (IsUndrawn found.entry.line output.old output.new (W.contents writer.old) (W.contents writer.new)) }
+    ensures rest { IfOk result (λ behind. option_copied behind.rest ≡ option_copied
+        found.entry.rest) }
+    ensures err { IfErr result (IsUndrawn found.entry.line output.old output.new
+        (W.contents writer.old) (W.contents writer.new)) }
 {
     match draw_event(
         alloc,
@@ -262,18 +261,6 @@ fn draw_found<'a, W: Write>(
     }
 }
 
-/// One more event.
-fn one_more(summary: Summary, refused: bool) -> Summary
-    requires lines { summary.lines + 1 < 2 ^ 64 }
-    requires refused { summary.refused ≤ summary.lines }
-    ensures { result ≡ one_more summary refused }
-{
-    Summary {
-        lines: summary.lines + 1,
-        refused: summary.refused + if refused { 1 } else { 0 },
-    }
-}
-
 /// Makes the step of an event, and puts out what is drawn of it. It answers whether the event was
 /// refused.
 fn draw_event<W: Write>(
@@ -287,29 +274,26 @@ fn draw_event<W: Write>(
     output: &mut Output,
     writer: &mut W,
 ) -> Result<bool, AllocError>
-    requires { part.now.rows ≤ 1000000 }
-    ensures drawn { IfOk result (IsDrawn part.now number (state_of world.old) (record { line = line; event = event.now }) (state_of world.new) lasting.old lasting.new output.old output.new (W.contents writer.old) (W.contents writer.new)) }
+    requires { part.now.rows ≤ most_rows }
+    ensures drawn { IfOk result (IsDrawn part.now number (state_of world.old)
+        (record { line = line; event = event.now }) (state_of world.new) lasting.old lasting.new
+        output.old output.new (W.contents writer.old) (W.contents writer.new)) }
     ensures output { OnErr result (output.new ≡ output.old) }
     ensures writer { OnErr result (W.contents writer.new ≡ W.contents writer.old) }
 {
+    let rows = rows_before(alloc, world, event, part.is_drawn(number))?;
     let before = world.trace().len();
     let answer = world.step(alloc, event);
     let said = say(alloc, number, event, &answer)?;
     output.begin(line, writer);
     let seen = seen_since(world, before);
-    put_drawn(output, part, lasting, &said, event, seen, writer);
+    let trees = Trees {
+        before: rows.as_slice(),
+        behind: world.mounts(),
+    };
+    put_drawn(output, part, lasting, &said, event, seen, &trees, writer);
     *lasting = lasting.behind(event, seen);
     Ok(said.refused)
-}
-
-/// What was observed behind so many observations.
-fn seen_since(world: &World, before: usize) -> &[Obs]
-    ensures { result.now ≡ drop before world.now.trace }
-{
-    match world.trace().get(before..) {
-        Some(seen) => seen,
-        None => &[],
-    }
 }
 
 /// Puts out what is drawn of an event: its row, if it has one, and before the first event the head.
@@ -321,39 +305,26 @@ fn put_drawn<W: Write>(
     said: &Said,
     event: &Event,
     seen: &[Obs],
+    trees: &Trees<'_>,
     writer: &mut W,
 )
-    requires { part.now.rows ≤ 1000000 }
-    ensures { Puts output.old output.new (drawn_for part.now said.now.number lasting.now event.now seen.now (sides_said said.now)) (W.contents writer.old) (W.contents writer.new) }
+    requires { part.now.rows ≤ most_rows }
+    ensures { Puts output.old output.new (drawn_for trees.now.before.now trees.now.behind.now
+        part.now said.now.number lasting.now event.now seen.now (sides_said said.now))
+        (W.contents writer.old) (W.contents writer.new) }
 {
     put_head_in(output, part, said.number, writer);
-    put_row_in(output, part, lasting, said, event, seen, writer);
+    put_row_in(output, part, lasting, said, event, seen, trees, writer);
 }
 
 #[tactic(auto, using(am_script::proofs::Pieces::puts_none))]
 fn put_head_in<W: Write>(output: &mut Output, part: &Part, number: u64, writer: &mut W)
-    requires { part.now.rows ≤ 1000000 }
-    ensures { Puts output.old output.new (head_in part.now number) (W.contents writer.old) (W.contents writer.new) }
+    requires { part.now.rows ≤ most_rows }
+    ensures { Puts output.old output.new (head_in part.now number) (W.contents writer.old)
+        (W.contents writer.new) }
 {
     if number == 1 {
         put_head(output, part.rows, part.events, writer);
-    }
-}
-
-impl Part {
-    /// Whether the event with this number is drawn.
-    fn is_drawn(&self, number: u64) -> bool
-        ensures { result ≡ is_drawn self.now number }
-    {
-        self.skipped < number && number.saturating_sub(self.skipped) <= self.rows
-    }
-
-    /// The top of its row, in pixels.
-    fn row_y(&self, number: u64) -> u64
-        requires { number - self.now.skipped ≤ 1000000 }
-        ensures { result ≡ row_y self.now number }
-    {
-        118 + 26 * number.saturating_sub(self.skipped).saturating_sub(1)
     }
 }
 
@@ -365,10 +336,13 @@ fn put_row_in<W: Write>(
     said: &Said,
     event: &Event,
     seen: &[Obs],
+    trees: &Trees<'_>,
     writer: &mut W,
 )
-    requires { part.now.rows ≤ 1000000 }
-    ensures { Puts output.old output.new (row_in part.now said.now.number lasting.now event.now seen.now (sides_said said.now)) (W.contents writer.old) (W.contents writer.new) }
+    requires { part.now.rows ≤ most_rows }
+    ensures { Puts output.old output.new (row_in trees.now.before.now trees.now.behind.now part.now
+        said.now.number lasting.now event.now seen.now (sides_said said.now))
+        (W.contents writer.old) (W.contents writer.new) }
 {
     if part.is_drawn(said.number) {
         put_row(
@@ -378,6 +352,7 @@ fn put_row_in<W: Write>(
             said,
             event,
             seen,
+            trees,
             writer,
         );
     }
@@ -392,13 +367,16 @@ fn put_row<W: Write>(
     said: &Said,
     event: &Event,
     seen: &[Obs],
+    trees: &Trees<'_>,
     writer: &mut W,
 )
-    ensures { Puts output.old output.new (row_text y lasting.now event.now seen.now (sides_said said.now)) (W.contents writer.old) (W.contents writer.new) }
+    ensures { Puts output.old output.new (row_text trees.now.before.now trees.now.behind.now y
+        lasting.now event.now seen.now (sides_said said.now)) (W.contents writer.old)
+        (W.contents writer.new) }
 {
     let behind = lasting.behind(event, seen);
     let mut acted = *lasting;
     acted.act(event);
     put_scene(output, y, lasting, &behind, said, writer);
-    put_marks(output, &acted, event, seen, writer);
+    put_marks(output, &acted, event, seen, trees, writer);
 }

@@ -5,6 +5,7 @@ ghost use Rattle.am_script.specs.Outputs.{Puts};
 ghost use Rattle.am_draw.specs.Head.{height, size_text, ground, count_words, head_text};
 ghost use Rattle.am_draw.specs.Look.{look_text};
 ghost use Rattle.am_draw.specs.Marks.{label};
+ghost use Rattle.am_draw.specs.Parts.{most_rows};
 
 use crate::look::look;
 use crate::marks::{put_closing, put_opening};
@@ -15,8 +16,9 @@ use std::io::Write;
 /// Puts out the head of a picture of so many rows, of so many events.
 #[tactic(auto, using(am_views::proofs::FourPieces::puts_four))]
 pub(crate) fn put_head<W: Write>(output: &mut Output, rows: u64, events: u64, writer: &mut W)
-    requires { rows ≤ 1000000 }
-    ensures { Puts output.old output.new (head_text rows events) (W.contents writer.old) (W.contents writer.new) }
+    requires { rows ≤ most_rows }
+    ensures { Puts output.old output.new (head_text rows events) (W.contents writer.old)
+        (W.contents writer.new) }
 {
     put_size(output, rows, writer);
     put_look(output, writer);
@@ -32,8 +34,9 @@ fn put_look<W: Write>(output: &mut Output, writer: &mut W)
 
 #[tactic(auto, using(am_script::proofs::Pieces::puts_two))]
 fn put_size<W: Write>(output: &mut Output, rows: u64, writer: &mut W)
-    requires { rows ≤ 1000000 }
-    ensures { Puts output.old output.new (size_text rows) (W.contents writer.old) (W.contents writer.new) }
+    requires { rows ≤ most_rows }
+    ensures { Puts output.old output.new (size_text rows) (W.contents writer.old)
+        (W.contents writer.new) }
 {
     let height = 140 + 26 * rows;
     put_number(
@@ -47,8 +50,9 @@ fn put_size<W: Write>(output: &mut Output, rows: u64, writer: &mut W)
 
 #[tactic(auto, using(am_script::proofs::Pieces::puts_two))]
 fn put_ground<W: Write>(output: &mut Output, rows: u64, writer: &mut W)
-    requires { rows ≤ 1000000 }
-    ensures { Puts output.old output.new (ground rows) (W.contents writer.old) (W.contents writer.new) }
+    requires { rows ≤ most_rows }
+    ensures { Puts output.old output.new (ground rows) (W.contents writer.old)
+        (W.contents writer.new) }
 {
     put_number(
         output,
@@ -61,7 +65,8 @@ fn put_ground<W: Write>(output: &mut Output, rows: u64, writer: &mut W)
 
 #[tactic(auto, using(am_script::proofs::Pieces::puts_three))]
 fn put_count<W: Write>(output: &mut Output, rows: u64, events: u64, writer: &mut W)
-    ensures { Puts output.old output.new (label (codes "h") 46 84 (count_words rows events)) (W.contents writer.old) (W.contents writer.new) }
+    ensures { Puts output.old output.new (label (codes "h") 46 84 (count_words rows events))
+        (W.contents writer.old) (W.contents writer.new) }
 {
     put_opening(output, b"h", 46, 84, writer);
     put_count_words(output, rows, events, writer);
@@ -70,7 +75,8 @@ fn put_count<W: Write>(output: &mut Output, rows: u64, events: u64, writer: &mut
 
 #[tactic(auto, using(am_script::proofs::Pieces::puts_three))]
 fn put_count_words<W: Write>(output: &mut Output, rows: u64, events: u64, writer: &mut W)
-    ensures { Puts output.old output.new (count_words rows events) (W.contents writer.old) (W.contents writer.new) }
+    ensures { Puts output.old output.new (count_words rows events) (W.contents writer.old)
+        (W.contents writer.new) }
 {
     put_number(output, b"", rows, writer);
     put_number(output, b" of ", events, writer);

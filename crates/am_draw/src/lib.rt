@@ -6,8 +6,10 @@ pub mod draw;
 mod head;
 mod look;
 mod marks;
+pub mod part;
 mod row;
 mod scene;
+mod trees;
 mod words;
 
 pub use draw::draw_script;

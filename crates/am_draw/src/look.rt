@@ -41,7 +41,8 @@ patternTransform='rotate(45)'><rect width='6' height='6' fill='#fff'/>\
 <pattern id='rows' y='118' width='1312' height='26' patternUnits='userSpaceOnUse'>\
 <path class='rule' d='M8 25.5H1304'/>\
 <path class='lane' d='M332 0v26M376 0v26M420 0v26M464 0v26\
-M508 0v26M552 0v26M596 0v26M884 0v26'/>\
+M508 0v26M552 0v26M596 0v26M884 0v26\
+M1031 0v26M1045 0v26M1059 0v26M1073 0v26M1087 0v26M1101 0v26M1115 0v26M1129 0v26'/>\
 <path class='column' d='M304 0v26M628 0v26M860 0v26M1022 0v26M1138 0v26'/></pattern>\n\
 <g id='missing'><path class='missing' d='M-7 0h14v13h-14z'/>\
 <path class='open' d='M-7 0v13M7 0v13'/></g>\n\
@@ -94,10 +95,14 @@ M508 0v26M552 0v26M596 0v26M884 0v26'/>\
 <text class='s' x='936' y='34'>went (a mount)</text>\n\
 <use href='#failed' x='1040' y='30'/>\n\
 <text class='s' x='1050' y='34'>answered, fail</text>\n</g>\n\
-<text class='h' x='46' y='108'>events</text>\n\
+<text class='h' x='46' y='108'>events, and their answers</text>\n\
 <text class='h c' x='464' y='108'>walkers</text>\n\
 <text class='h' x='636' y='108'>kernel: tokens</text>\n\
 <text class='h' x='876' y='108'>daemon</text>\n\
-<text class='h' x='1034' y='108'>mounts</text>\n\
-<text class='h' x='1148' y='108'>answers</text>\n"
+<text class='h' x='1026' y='92'>mounts, by namespace</text>\n\
+<text class='k' x='1031' y='110'>0</text>\n<text class='k' x='1045' y='110'>1</text>\n\
+<text class='k' x='1059' y='110'>2</text>\n<text class='k' x='1073' y='110'>3</text>\n\
+<text class='k' x='1087' y='110'>4</text>\n<text class='k' x='1101' y='110'>5</text>\n\
+<text class='k' x='1115' y='110'>6</text>\n<text class='k' x='1129' y='110'>7..</text>\n\
+<text class='h' x='1148' y='108'>where</text>\n"
 }

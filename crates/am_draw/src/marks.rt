@@ -32,7 +32,8 @@ pub(crate) fn lane_x(lanes: Lanes, lane: usize) -> u64
 
 #[tactic(auto, using(am_script::proofs::Pieces::puts_two))]
 fn put_at<W: Write>(output: &mut Output, x: u64, y: u64, writer: &mut W)
-    ensures { Puts output.old output.new (at_text x y) (W.contents writer.old) (W.contents writer.new) }
+    ensures { Puts output.old output.new (at_text x y) (W.contents writer.old)
+        (W.contents writer.new) }
 {
     put_number(output, b"' x='", x, writer);
     put_number(output, b"' y='", y, writer);
@@ -47,7 +48,8 @@ pub(crate) fn put_stamp<W: Write>(
     y: u64,
     writer: &mut W,
 )
-    ensures { Puts output.old output.new (stamp symbol.now x y) (W.contents writer.old) (W.contents writer.new) }
+    ensures { Puts output.old output.new (stamp symbol.now x y) (W.contents writer.old)
+        (W.contents writer.new) }
 {
     put_word(output, b"<use href='#", writer);
     put_word(output, symbol, writer);
@@ -57,7 +59,8 @@ pub(crate) fn put_stamp<W: Write>(
 
 #[tactic(auto, using(am_script::proofs::Pieces::puts_two))]
 fn put_span<W: Write>(output: &mut Output, from: u64, to: u64, writer: &mut W)
-    ensures { Puts output.old output.new (span_text from to) (W.contents writer.old) (W.contents writer.new) }
+    ensures { Puts output.old output.new (span_text from to) (W.contents writer.old)
+        (W.contents writer.new) }
 {
     put_number(output, b"' d='M", from, writer);
     put_number(output, b" 13H", to, writer);
@@ -72,7 +75,8 @@ pub(crate) fn put_stroke<W: Write>(
     to: u64,
     writer: &mut W,
 )
-    ensures { Puts output.old output.new (stroke class.now from to) (W.contents writer.old) (W.contents writer.new) }
+    ensures { Puts output.old output.new (stroke class.now from to) (W.contents writer.old)
+        (W.contents writer.new) }
 {
     put_word(output, b"<path class='", writer);
     put_word(output, class, writer);
@@ -89,7 +93,8 @@ pub(crate) fn put_opening<W: Write>(
     y: u64,
     writer: &mut W,
 )
-    ensures { Puts output.old output.new (opening class.now x y) (W.contents writer.old) (W.contents writer.new) }
+    ensures { Puts output.old output.new (opening class.now x y) (W.contents writer.old)
+        (W.contents writer.new) }
 {
     put_word(output, b"<text class='", writer);
     put_word(output, class, writer);
@@ -99,7 +104,8 @@ pub(crate) fn put_opening<W: Write>(
 
 /// Puts out what stands behind a text.
 pub(crate) fn put_closing<W: Write>(output: &mut Output, writer: &mut W)
-    ensures { Puts output.old output.new (codes "</text>\n") (W.contents writer.old) (W.contents writer.new) }
+    ensures { Puts output.old output.new (codes "</text>\n") (W.contents writer.old)
+        (W.contents writer.new) }
 {
     put_word(output, b"</text>\n", writer);
 }
@@ -115,7 +121,8 @@ pub(crate) fn put_number_label<W: Write>(
     number: u64,
     writer: &mut W,
 )
-    ensures { Puts output.old output.new (label class.now x y (word.now ++ decimal number)) (W.contents writer.old) (W.contents writer.new) }
+    ensures { Puts output.old output.new (label class.now x y (word.now ++ decimal number))
+        (W.contents writer.old) (W.contents writer.new) }
 {
     put_opening(output, class, x, y, writer);
     put_number(output, word, number, writer);
@@ -128,13 +135,15 @@ pub(crate) fn put_words_label<W: Write>(
     output: &mut Output,
     class: &[u8],
     x: u64,
+    y: u64,
     most: usize,
     bytes: &[u8],
     writer: &mut W,
 )
-    ensures { Puts output.old output.new (label class.now x 17 (words most bytes.now)) (W.contents writer.old) (W.contents writer.new) }
+    ensures { Puts output.old output.new (label class.now x y (words most bytes.now))
+        (W.contents writer.old) (W.contents writer.new) }
 {
-    put_opening(output, class, x, 17, writer);
+    put_opening(output, class, x, y, writer);
     put_words(output, most, bytes, writer);
     put_closing(output, writer);
 }

@@ -1,18 +1,19 @@
 //! The marks in the row of an event.
 
-ghost use Rattle.std.specs.Prelude.{◌≡◌, ◌≤◌, ◌++◌, take, codes};
-ghost use Rattle.am_script.specs.Answers.{mounts_text, entry_text};
+ghost use Rattle.std.specs.Prelude.{◌≡◌, ◌≤◌, ◌++◌, codes};
+ghost use Rattle.am_script.specs.Answers.{entry_text};
 ghost use Rattle.am_script.specs.Outputs.{Puts};
 ghost use Rattle.am_draw.specs.Marks.{stamp, label};
-ghost use Rattle.am_draw.specs.Rows.{token_x, walker_x, walker_mark, administrator_mark, daemon_mark, actor_marks, kind_words, packet_words, queued_marks, answered_symbol, released_class, catatonic_words, more_dots, mounts_words, mounts_marks, obs_marks, seen_marks, marks};
+ghost use Rattle.am_draw.specs.Rows.{token_x, walker_x, walker_mark, administrator_mark, daemon_mark, actor_marks, kind_words, packet_words, queued_marks, answered_symbol, released_class, catatonic_words, obs_marks, seen_marks, marks};
 ghost use Rattle.am_draw.specs.Words.{words};
 
 use crate::bars::{Lasting, lane_of};
 use crate::marks::{
     Lanes, lane_x, put_closing, put_number_label, put_opening, put_stamp, put_stroke,
 };
+use crate::trees::{Trees, put_mounts};
 use crate::words::put_words;
-use am_names::{FsId, MountId, Mounts, Status, Token, WalkerId};
+use am_names::{FsId, Status, Token, WalkerId};
 use am_script::answer_line::{put_entry, put_number, put_word};
 use am_script::output::Output;
 use am_wire::{Kind, Packet};
@@ -42,12 +43,14 @@ pub(crate) fn put_marks<W: Write>(
     lasting: &Lasting,
     event: &Event,
     seen: &[Obs],
+    trees: &Trees<'_>,
     writer: &mut W,
 )
-    ensures { Puts output.old output.new (marks lasting.now event.now seen.now) (W.contents writer.old) (W.contents writer.new) }
+    ensures { Puts output.old output.new (marks trees.now.before.now trees.now.behind.now
+        lasting.now event.now seen.now) (W.contents writer.old) (W.contents writer.new) }
 {
     put_actor(output, lasting, event, writer);
-    put_seen(output, lasting, seen, writer);
+    put_seen(output, lasting, seen, trees, writer);
     put_word(output, b"</g>\n", writer);
 }
 
@@ -60,14 +63,16 @@ fn put_walker<W: Write>(
     writer: &mut W,
 )
     requires { 8 ≤ x }
-    ensures { Puts output.old output.new (walker_mark symbol.now x walker) (W.contents writer.old) (W.contents writer.new) }
+    ensures { Puts output.old output.new (walker_mark symbol.now x walker) (W.contents writer.old)
+        (W.contents writer.new) }
 {
     put_stamp(output, symbol, x, 13, writer);
     put_number_label(output, b"s n", x - 8, 17, b"", u64::from(walker.0), writer);
 }
 
 fn put_administrator<W: Write>(output: &mut Output, writer: &mut W)
-    ensures { Puts output.old output.new administrator_mark (W.contents writer.old) (W.contents writer.new) }
+    ensures { Puts output.old output.new administrator_mark (W.contents writer.old)
+        (W.contents writer.new) }
 {
     put_stamp(output, b"administrator", 1010, 13, writer);
 }
@@ -80,7 +85,8 @@ fn put_daemon<W: Write>(output: &mut Output, writer: &mut W)
 
 #[tactic(auto, using(am_script::proofs::Pieces::puts_none))]
 fn put_actor<W: Write>(output: &mut Output, lasting: &Lasting, event: &Event, writer: &mut W)
-    ensures { Puts output.old output.new (actor_marks lasting.now event.now) (W.contents writer.old) (W.contents writer.new) }
+    ensures { Puts output.old output.new (actor_marks lasting.now event.now) (W.contents writer.old)
+        (W.contents writer.new) }
 {
     match event {
         Event::Walk { walker, .. } => {
@@ -141,19 +147,33 @@ fn put_actor<W: Write>(output: &mut Output, lasting: &Lasting, event: &Event, wr
 
 /// Puts out the marks of all that is seen.
 #[tactic(auto, using(am_script::proofs::Pieces::puts_none))]
-fn put_seen<W: Write>(output: &mut Output, before: &Lasting, seen: &[Obs], writer: &mut W)
-    ensures { Puts output.old output.new (seen_marks before.now seen.now) (W.contents writer.old) (W.contents writer.new) }
+fn put_seen<W: Write>(
+    output: &mut Output,
+    before: &Lasting,
+    seen: &[Obs],
+    trees: &Trees<'_>,
+    writer: &mut W,
+)
+    ensures { Puts output.old output.new (seen_marks trees.now.before.now trees.now.behind.now
+        before.now seen.now) (W.contents writer.old) (W.contents writer.new) }
 {
     let mut lasting = *before;
     for obs in seen {
         lasting.change(obs);
-        put_obs(output, &lasting, obs, writer);
+        put_obs(output, &lasting, obs, trees, writer);
     }
 }
 
 #[tactic(auto, using(am_script::proofs::Pieces::puts_none, am_script::proofs::Pieces::puts_two, am_script::proofs::Pieces::puts_three))]
-fn put_obs<W: Write>(output: &mut Output, lasting: &Lasting, obs: &Obs, writer: &mut W)
-    ensures { Puts output.old output.new (obs_marks lasting.now obs.now) (W.contents writer.old) (W.contents writer.new) }
+fn put_obs<W: Write>(
+    output: &mut Output,
+    lasting: &Lasting,
+    obs: &Obs,
+    trees: &Trees<'_>,
+    writer: &mut W,
+)
+    ensures { Puts output.old output.new (obs_marks trees.now.before.now trees.now.behind.now
+        lasting.now obs.now) (W.contents writer.old) (W.contents writer.new) }
 {
     match obs {
         Obs::Queued { token, packet, .. } => {
@@ -185,8 +205,12 @@ fn put_obs<W: Write>(output: &mut Output, lasting: &Lasting, obs: &Obs, writer: 
             put_number_label(output, b"s", x, 17, b"in ", mount.0, writer)
         }
         Obs::Left { .. } => (),
-        Obs::Mounted { mounts } => put_mounts(output, b"came", mounts, writer),
-        Obs::Unmounted { mounts } => put_mounts(output, b"went", mounts, writer),
+        Obs::Mounted { mounts } => {
+            put_mounts(output, b"came", b" on ", trees.behind, mounts, writer)
+        }
+        Obs::Unmounted { mounts } => {
+            put_mounts(output, b"went", b" off ", trees.before, mounts, writer)
+        }
         Obs::Delivered { token, .. } => {
             put_stroke(output, b"packet", token_x(lasting, *token) + 7, 878, writer)
         }
@@ -214,7 +238,8 @@ fn put_obs<W: Write>(output: &mut Output, lasting: &Lasting, obs: &Obs, writer: 
 
 #[tactic(auto, using(am_script::proofs::Pieces::puts_none))]
 fn put_kind<W: Write>(output: &mut Output, kind: Kind, writer: &mut W)
-    ensures { Puts output.old output.new (kind_words kind) (W.contents writer.old) (W.contents writer.new) }
+    ensures { Puts output.old output.new (kind_words kind) (W.contents writer.old)
+        (W.contents writer.new) }
 {
     match kind {
         Kind::MissingIndirect => (),
@@ -226,7 +251,8 @@ fn put_kind<W: Write>(output: &mut Output, kind: Kind, writer: &mut W)
 
 #[tactic(auto, using(am_script::proofs::Pieces::puts_two))]
 fn put_packet_words<W: Write>(output: &mut Output, packet: &Packet, writer: &mut W)
-    ensures { Puts output.old output.new (packet_words packet.now) (W.contents writer.old) (W.contents writer.new) }
+    ensures { Puts output.old output.new (packet_words packet.now) (W.contents writer.old)
+        (W.contents writer.new) }
 {
     put_kind(output, packet.kind, writer);
     put_words(output, 16, packet.name.as_bytes(), writer);
@@ -234,7 +260,8 @@ fn put_packet_words<W: Write>(output: &mut Output, packet: &Packet, writer: &mut
 
 #[tactic(auto, using(am_script::proofs::Pieces::puts_three))]
 fn put_packet_label<W: Write>(output: &mut Output, x: u64, packet: &Packet, writer: &mut W)
-    ensures { Puts output.old output.new (label (codes "s") x 24 (packet_words packet.now)) (W.contents writer.old) (W.contents writer.new) }
+    ensures { Puts output.old output.new (label (codes "s") x 24 (packet_words packet.now))
+        (W.contents writer.old) (W.contents writer.new) }
 {
     put_opening(output, b"s", x, 24, writer);
     put_packet_words(output, packet, writer);
@@ -245,7 +272,8 @@ fn put_packet_label<W: Write>(output: &mut Output, x: u64, packet: &Packet, writ
 #[tactic(auto, using(am_script::proofs::Pieces::puts_three))]
 fn put_queued<W: Write>(output: &mut Output, x: u64, token: Token, packet: &Packet, writer: &mut W)
     requires { x ≤ 806 }
-    ensures { Puts output.old output.new (queued_marks x token packet.now) (W.contents writer.old) (W.contents writer.new) }
+    ensures { Puts output.old output.new (queued_marks x token packet.now) (W.contents writer.old)
+        (W.contents writer.new) }
 {
     put_stamp(output, b"edge", x, 13, writer);
     put_number_label(output, b"k", x, 24, b"", u64::from(token.0), writer);
@@ -272,7 +300,8 @@ fn released_class(status: Status) -> &'static [u8]
 
 #[tactic(auto, using(am_script::proofs::Pieces::puts_two))]
 fn put_catatonic_words<W: Write>(output: &mut Output, fs: FsId, writer: &mut W)
-    ensures { Puts output.old output.new (catatonic_words fs) (W.contents writer.old) (W.contents writer.new) }
+    ensures { Puts output.old output.new (catatonic_words fs) (W.contents writer.old)
+        (W.contents writer.new) }
 {
     put_number(output, b"file system ", u64::from(fs.0), writer);
     put_word(output, b" is catatonic", writer);
@@ -280,7 +309,8 @@ fn put_catatonic_words<W: Write>(output: &mut Output, fs: FsId, writer: &mut W)
 
 #[tactic(auto, using(am_script::proofs::Pieces::puts_three))]
 fn put_catatonic_label<W: Write>(output: &mut Output, fs: FsId, writer: &mut W)
-    ensures { Puts output.old output.new (label (codes "h c") 820 17 (catatonic_words fs)) (W.contents writer.old) (W.contents writer.new) }
+    ensures { Puts output.old output.new (label (codes "h c") 820 17 (catatonic_words fs))
+        (W.contents writer.old) (W.contents writer.new) }
 {
     put_opening(output, b"h c", 820, 17, writer);
     put_catatonic_words(output, fs, writer);
@@ -289,7 +319,8 @@ fn put_catatonic_label<W: Write>(output: &mut Output, fs: FsId, writer: &mut W)
 
 #[tactic(auto, using(am_script::proofs::Pieces::puts_two))]
 fn put_catatonic<W: Write>(output: &mut Output, fs: FsId, writer: &mut W)
-    ensures { Puts output.old output.new (stamp (codes "catatonic") 0 0 ++ label (codes "h c") 820 17 (catatonic_words fs)) (W.contents writer.old) (W.contents writer.new) }
+    ensures { Puts output.old output.new (stamp (codes "catatonic") 0 0 ++ label (codes "h c") 820
+        17 (catatonic_words fs)) (W.contents writer.old) (W.contents writer.new) }
 {
     put_stamp(output, b"catatonic", 0, 0, writer);
     put_catatonic_label(output, fs, writer);
@@ -297,61 +328,9 @@ fn put_catatonic<W: Write>(output: &mut Output, fs: FsId, writer: &mut W)
 
 #[tactic(auto, using(am_script::proofs::Pieces::puts_two))]
 fn put_book<W: Write>(output: &mut Output, entry: &Option<Record>, writer: &mut W)
-    ensures { Puts output.old output.new (codes "book: " ++ entry_text entry.now) (W.contents writer.old) (W.contents writer.new) }
+    ensures { Puts output.old output.new (codes "book: " ++ entry_text entry.now)
+        (W.contents writer.old) (W.contents writer.new) }
 {
     put_word(output, b"book: ", writer);
     put_entry(output, entry, writer);
-}
-
-/// The first four.
-fn first_mounts(mounts: &[MountId]) -> &[MountId]
-    ensures { result.now ≡ take 4 mounts.now }
-{
-    if mounts.len() <= 4 {
-        return mounts;
-    }
-    &mounts[..4]
-}
-
-#[tactic(auto, using(am_script::proofs::Pieces::puts_none))]
-fn put_numbers<W: Write>(output: &mut Output, mounts: &[MountId], writer: &mut W)
-    ensures { Puts output.old output.new (mounts_text mounts.now) (W.contents writer.old) (W.contents writer.new) }
-{
-    for mount in mounts {
-        put_number(output, b" ", mount.0, writer);
-    }
-}
-
-#[tactic(auto, using(am_script::proofs::Pieces::puts_none))]
-fn put_dots<W: Write>(output: &mut Output, more: bool, writer: &mut W)
-    ensures { Puts output.old output.new (more_dots more) (W.contents writer.old) (W.contents writer.new) }
-{
-    if more {
-        put_word(output, b" ...", writer);
-    }
-}
-
-#[tactic(auto, using(am_script::proofs::Pieces::puts_two))]
-fn put_mounts_words<W: Write>(output: &mut Output, mounts: &[MountId], writer: &mut W)
-    ensures { Puts output.old output.new (mounts_words mounts.now) (W.contents writer.old) (W.contents writer.new) }
-{
-    put_numbers(output, first_mounts(mounts), writer);
-    put_dots(output, 4 < mounts.len(), writer);
-}
-
-#[tactic(auto, using(am_script::proofs::Pieces::puts_three))]
-fn put_mounts_label<W: Write>(output: &mut Output, mounts: &[MountId], writer: &mut W)
-    ensures { Puts output.old output.new (label (codes "m") 1047 17 (mounts_words mounts.now)) (W.contents writer.old) (W.contents writer.new) }
-{
-    put_opening(output, b"m", 1047, 17, writer);
-    put_mounts_words(output, mounts, writer);
-    put_closing(output, writer);
-}
-
-#[tactic(auto, using(am_script::proofs::Pieces::puts_two))]
-fn put_mounts<W: Write>(output: &mut Output, symbol: &[u8], mounts: &Mounts, writer: &mut W)
-    ensures { Puts output.old output.new (mounts_marks symbol.now mounts.now) (W.contents writer.old) (W.contents writer.new) }
-{
-    put_stamp(output, symbol, 1038, 13, writer);
-    put_mounts_label(output, mounts.as_slice(), writer);
 }

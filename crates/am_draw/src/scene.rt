@@ -76,7 +76,8 @@ pub(crate) fn put_scene<W: Write>(
     said: &Said,
     writer: &mut W,
 )
-    ensures { Puts output.old output.new (scene y before.now behind.now (sides_said said.now)) (W.contents writer.old) (W.contents writer.new) }
+    ensures { Puts output.old output.new (scene y before.now behind.now (sides_said said.now))
+        (W.contents writer.old) (W.contents writer.new) }
 {
     put_row_opening(output, y, writer);
     put_bars(output, before, behind, writer);
@@ -85,7 +86,8 @@ pub(crate) fn put_scene<W: Write>(
 
 #[tactic(auto, using(am_script::proofs::Pieces::puts_two))]
 fn put_row_opening<W: Write>(output: &mut Output, y: u64, writer: &mut W)
-    ensures { Puts output.old output.new (row_opening y) (W.contents writer.old) (W.contents writer.new) }
+    ensures { Puts output.old output.new (row_opening y) (W.contents writer.old)
+        (W.contents writer.new) }
 {
     put_number(output, b"<g transform='translate(0 ", y, writer);
     put_word(output, b")'>\n", writer);
@@ -93,7 +95,8 @@ fn put_row_opening<W: Write>(output: &mut Output, y: u64, writer: &mut W)
 
 #[tactic(auto, using(am_script::proofs::Pieces::puts_two))]
 fn put_bars<W: Write>(output: &mut Output, before: &Lasting, behind: &Lasting, writer: &mut W)
-    ensures { Puts output.old output.new (bars before.now behind.now) (W.contents writer.old) (W.contents writer.new) }
+    ensures { Puts output.old output.new (bars before.now behind.now) (W.contents writer.old)
+        (W.contents writer.new) }
 {
     put_half(output, 0, before, writer);
     put_half(output, 13, behind, writer);
@@ -101,7 +104,8 @@ fn put_bars<W: Write>(output: &mut Output, before: &Lasting, behind: &Lasting, w
 
 #[tactic(auto, using(am_script::proofs::Pieces::puts_two))]
 fn put_half<W: Write>(output: &mut Output, y: u64, lasting: &Lasting, writer: &mut W)
-    ensures { Puts output.old output.new (half y lasting.now) (W.contents writer.old) (W.contents writer.new) }
+    ensures { Puts output.old output.new (half y lasting.now) (W.contents writer.old)
+        (W.contents writer.new) }
 {
     put_lanes(output, Lanes::OfTokens, y, &lasting.tokens, writer);
     put_lanes(output, Lanes::OfWalkers, y, &lasting.walkers, writer);
@@ -116,7 +120,8 @@ fn put_lanes<W: Write>(
     writer: &mut W,
 )
     requires { length holders.now ≤ 8 }
-    ensures { Puts output.old output.new (lanes_half lanes y 0 holders.now) (W.contents writer.old) (W.contents writer.new) }
+    ensures { Puts output.old output.new (lanes_half lanes y 0 holders.now) (W.contents writer.old)
+        (W.contents writer.new) }
 {
     for (lane, holder) in holders.iter().enumerate() {
         put_lane(output, holder, lane_x(lanes, lane), y, writer);
@@ -125,7 +130,8 @@ fn put_lanes<W: Write>(
 
 #[tactic(auto, using(am_script::proofs::Pieces::puts_none))]
 fn put_lane<W: Write>(output: &mut Output, lane: &Option<Holder>, x: u64, y: u64, writer: &mut W)
-    ensures { Puts output.old output.new (lane_half lane.now x y) (W.contents writer.old) (W.contents writer.new) }
+    ensures { Puts output.old output.new (lane_half lane.now x y) (W.contents writer.old)
+        (W.contents writer.new) }
 {
     if let Some(holder) = lane {
         put_look(output, holder.look, x, y, writer);
@@ -134,7 +140,8 @@ fn put_lane<W: Write>(output: &mut Output, lane: &Option<Holder>, x: u64, y: u64
 
 #[tactic(auto, using(am_script::proofs::Pieces::puts_none))]
 fn put_look<W: Write>(output: &mut Output, look: Look, x: u64, y: u64, writer: &mut W)
-    ensures { Puts output.old output.new (look_half look x y) (W.contents writer.old) (W.contents writer.new) }
+    ensures { Puts output.old output.new (look_half look x y) (W.contents writer.old)
+        (W.contents writer.new) }
 {
     match look {
         Look::Missing { .. } => put_stamp(output, b"missing", x, y, writer),
@@ -154,15 +161,17 @@ fn answer_class(refused: bool) -> &'static [u8]
 
 #[tactic(auto, using(am_script::proofs::Pieces::puts_three))]
 fn put_labels<W: Write>(output: &mut Output, said: &Said, writer: &mut W)
-    ensures { Puts output.old output.new (sides_said said.now) (W.contents writer.old) (W.contents writer.new) }
+    ensures { Puts output.old output.new (sides_said said.now) (W.contents writer.old)
+        (W.contents writer.new) }
 {
     put_number_label(output, b"m n", 36, 17, b"", said.number, writer);
-    put_words_label(output, b"m", 46, 38, &said.event, writer);
+    put_words_label(output, b"m", 46, 11, 35, &said.event, writer);
     put_words_label(
         output,
         answer_class(said.refused),
-        1148,
-        24,
+        58,
+        22,
+        34,
         &said.answer,
         writer,
     );

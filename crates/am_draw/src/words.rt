@@ -13,7 +13,8 @@ use std::io::Write;
 /// Puts bytes out as text, cut behind so many, which three dots tell.
 #[tactic(auto, using(am_script::proofs::Pieces::puts_two))]
 pub(crate) fn put_words<W: Write>(output: &mut Output, most: usize, bytes: &[u8], writer: &mut W)
-    ensures { Puts output.old output.new (words most bytes.now) (W.contents writer.old) (W.contents writer.new) }
+    ensures { Puts output.old output.new (words most bytes.now) (W.contents writer.old)
+        (W.contents writer.new) }
 {
     if most < bytes.len() {
         put_xml(output, &bytes[..most], writer);
@@ -25,7 +26,8 @@ pub(crate) fn put_words<W: Write>(output: &mut Output, most: usize, bytes: &[u8]
 
 #[tactic(auto, using(am_script::proofs::Pieces::puts_none))]
 fn put_xml<W: Write>(output: &mut Output, bytes: &[u8], writer: &mut W)
-    ensures { Puts output.old output.new (xml bytes.now) (W.contents writer.old) (W.contents writer.new) }
+    ensures { Puts output.old output.new (xml bytes.now) (W.contents writer.old)
+        (W.contents writer.new) }
 {
     for byte in bytes {
         put_byte(output, *byte, writer);
@@ -34,7 +36,8 @@ fn put_xml<W: Write>(output: &mut Output, bytes: &[u8], writer: &mut W)
 
 /// What means something in XML is put out as its entity.
 fn put_byte<W: Write>(output: &mut Output, byte: u8, writer: &mut W)
-    ensures { Puts output.old output.new (xml_byte byte) (W.contents writer.old) (W.contents writer.new) }
+    ensures { Puts output.old output.new (xml_byte byte) (W.contents writer.old)
+        (W.contents writer.new) }
 {
     if byte == b'&' {
         return put_word(output, b"&amp;", writer);
@@ -59,7 +62,8 @@ fn is_plain(byte: u8) -> bool
 }
 
 fn put_plain<W: Write>(output: &mut Output, byte: u8, writer: &mut W)
-    ensures { Puts output.old output.new (plain byte) (W.contents writer.old) (W.contents writer.new) }
+    ensures { Puts output.old output.new (plain byte) (W.contents writer.old)
+        (W.contents writer.new) }
 {
     if is_plain(byte) {
         return put_word(output, &[byte], writer);
@@ -69,7 +73,8 @@ fn put_plain<W: Write>(output: &mut Output, byte: u8, writer: &mut W)
 
 #[tactic(auto, using(am_script::proofs::Pieces::puts_two))]
 fn put_hex<W: Write>(output: &mut Output, byte: u8, writer: &mut W)
-    ensures { Puts output.old output.new (codes "\\x" ++ encode_lower (byte ∷ [])) (W.contents writer.old) (W.contents writer.new) }
+    ensures { Puts output.old output.new (codes "\\x" ++ encode_lower (byte ∷ []))
+        (W.contents writer.old) (W.contents writer.new) }
 {
     let mut digits = [0; 2];
     // There is a place for each digit.

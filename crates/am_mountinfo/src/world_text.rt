@@ -21,7 +21,7 @@ use am_script::answer_line::{is_refused, put_number, put_word};
 use am_script::output::Output;
 use am_script::visit::{Found, Opened, close, next_event, open_script, read_all};
 use am_script::{ScriptFault, ScriptFaultKind, Summary};
-use am_views::trace::one_more;
+use am_views::one_more;
 use am_world::{Event, World};
 use std::alloc::{AllocError, Global};
 use std::io::{Read, Write};

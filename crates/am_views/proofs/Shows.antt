@@ -19,7 +19,7 @@ grows s next event answer seen (inr comes) =
     ap (λ (t : State). t.trace) comes.left ∙ ap (λ (t : List Obs). s.trace ++ t) (sym comes.shown)
 
 -- what stands behind the trace so far is what is seen
-seen_is : (s next : State) (event : Event) (answer : Answer) (seen shown : List Obs) (before : ℕ) → Step s event answer seen next → before ≡ length s.trace → shown ≡ drop before next.trace → shown ≡ seen
+pub seen_is : (s next : State) (event : Event) (answer : Answer) (seen shown : List Obs) (before : ℕ) → Step s event answer seen next → before ≡ length s.trace → shown ≡ drop before next.trace → shown ≡ seen
 seen_is s next event answer seen shown before step e f =
     f ∙ ap (drop before) (grows s next event answer seen step) ∙ ap (λ (n : ℕ). drop n (s.trace ++ seen)) e ∙ drop-append_seam s.trace seen
 

@@ -7,4 +7,4 @@ pub mod trace;
 
 pub use event_text::push_event;
 pub use obs_text::push_observation;
-pub use trace::trace_script;
+pub use trace::{one_more, seen_since, trace_script};

@@ -166,7 +166,7 @@ fn show<W: Write>(
 }
 
 /// What was observed behind so many observations.
-fn seen_since(world: &World, before: usize) -> &[Obs]
+pub fn seen_since(world: &World, before: usize) -> &[Obs]
     ensures { result.now ≡ drop before world.now.trace }
 {
     match world.trace().get(before..) {

@@ -1,2 +1,3 @@
 pub mod Args
+pub mod CommandLine
 pub mod Program

@@ -1,5 +1,5 @@
 -- How a run of the program ends.
-use Rattle.std.specs.Prelude.{◌≡◌, ◌++◌, ℕ, List, Option, codes, decimal}
+use Rattle.std.specs.Prelude.{◌≡◌, ⊤, ◌++◌, ℕ, List, Option, None, Some, codes, decimal}
 use Rattle.std.specs.Io.KnownBytes.{Appends}
 use Rattle.am_mountinfo.specs.WorldText.{ShowsInput, StopsShowing}
 use Rattle.am_runner.specs.Runs.{IsTally}
@@ -9,7 +9,11 @@ use Rattle.am_script.specs.declared.fault.ScriptFault.{ScriptFault}
 use Rattle.am_script.specs.declared.play.Summary.{Summary}
 use Rattle.am_draw.specs.Drawn.{DrawsInput, StopsDrawing}
 use Rattle.am_views.specs.Traced.{TracesInput, StopsTrace}
+use Rattle.clap.specs.Words.{Text, subcommand_of}
 use Rattle.automount_cli.specs.Args.{fault_number}
+use Rattle.automount_cli.specs.CommandLine.{cli, Asks}
+use Rattle.automount_cli.specs.declared.args.Args.{Args}
+use Rattle.automount_cli.specs.declared.args.Args.TheVariants.{Script, Trace, Draw, World, Threads}
 use Rattle.automount_cli.specs.declared.args.ArgsFault.{ArgsFault}
 
 -- the line that tells the rounds of threads
@@ -33,12 +37,13 @@ pub data End : Type 0 where
   Shown : Option ℕ → Summary → End
   -- it isn't printed to its end
   ShowStopped : Option ℕ → ScriptFault → End
-  -- threads have made their rounds, and the line that tells them is written
-  Ran : Tally → End
+  -- so many walkers and workers, of so many rounds each, have made them, and the line that tells them is
+  -- written
+  Ran : ℕ → ℕ → ℕ → Tally → End
   -- they have, but the writer didn't take the whole line
-  Untold : Tally → End
+  Untold : ℕ → ℕ → ℕ → Tally → End
   -- they haven't: memory ran out, or a thread can't be started
-  NotRun : End
+  NotRun : ℕ → ℕ → ℕ → End
   -- the command line is none
   Refused : ArgsFault → End
 
@@ -52,10 +57,25 @@ status_of (Drawn first last summary) = 0
 status_of (DrawStopped first last fault) = 1
 status_of (Shown only summary) = 0
 status_of (ShowStopped only fault) = 1
-status_of (Ran tally) = 0
-status_of (Untold tally) = 1
-status_of NotRun = 1
+status_of (Ran walkers workers rounds tally) = 0
+status_of (Untold walkers workers rounds tally) = 1
+status_of (NotRun walkers workers rounds) = 1
 status_of (Refused fault) = fault_number fault
+
+-- what was asked for, if the command line is one
+abbrev pub asked_of : End → Option Args
+asked_of (Played summary) = Some Script
+asked_of (Stopped fault) = Some Script
+asked_of (Traced summary) = Some Trace
+asked_of (TraceStopped fault) = Some Trace
+asked_of (Drawn first last summary) = Some (Draw first last)
+asked_of (DrawStopped first last fault) = Some (Draw first last)
+asked_of (Shown only summary) = Some (World only)
+asked_of (ShowStopped only fault) = Some (World only)
+asked_of (Ran walkers workers rounds tally) = Some (Threads walkers workers rounds)
+asked_of (Untold walkers workers rounds tally) = Some (Threads walkers workers rounds)
+asked_of (NotRun walkers workers rounds) = Some (Threads walkers workers rounds)
+asked_of (Refused fault) = None
 
 -- What is read and written, and what is told of it: nothing is told of a script that is played, traced or
 -- drawn to its end, or whose world is printed, nor of threads whose rounds stand written. Threads read
@@ -71,14 +91,27 @@ Leaves (DrawStopped first last fault) input rest old new quiet told =
     StopsDrawing first last input rest old new fault
 Leaves (Shown only summary) input rest old new quiet told = ShowsInput only input rest old new summary × (told ≡ quiet)
 Leaves (ShowStopped only fault) input rest old new quiet told = StopsShowing only input rest old new fault
-Leaves (Ran tally) input rest old new quiet told =
+Leaves (Ran walkers workers rounds tally) input rest old new quiet told =
     IsTally tally × (rest ≡ input) × Appends old new (rounds_line tally.rounds) × (told ≡ quiet)
-Leaves (Untold tally) input rest old new quiet told = IsTally tally × (rest ≡ input)
-Leaves NotRun input rest old new quiet told = (rest ≡ input) × (new ≡ old)
+Leaves (Untold walkers workers rounds tally) input rest old new quiet told =
+    IsTally tally × (rest ≡ input)
+Leaves (NotRun walkers workers rounds) input rest old new quiet told = (rest ≡ input) × (new ≡ old)
 Leaves (Refused fault) input rest old new quiet told = (rest ≡ input) × (new ≡ old)
 
--- the program exits with this status
-pub record ExitsWith (input rest old new quiet told : Option (List ℕ)) (status : ℕ) : Type 0 where
+-- what was asked for ends so, with this status
+pub record Exits (asked : Option Args) (input rest old new quiet told : Option (List ℕ)) (status : ℕ) : Type 0 where
   pub end : End
+  pub asked_is : asked_of end ≡ asked
   pub status_is : status ≡ status_of end
   pub streams : Leaves end input rest old new quiet told
+
+-- the words ask for this, if it is anything
+abbrev pub AskFor : List Text → Option Args → Type 0
+AskFor words None = ⊤
+AskFor words (Some args) = Asks (subcommand_of cli words) args
+
+-- the program exits with this status: what these words ask for ends so, or they are no command line
+pub record ExitsWith (words : List Text) (input rest old new quiet told : Option (List ℕ)) (status : ℕ) : Type 0 where
+  pub asked : Option Args
+  pub asks : AskFor words asked
+  pub exits : Exits asked input rest old new quiet told status

@@ -1,11 +1,14 @@
 //! The command line.
 
-ghost use Rattle.std.specs.Prelude.{◌≡◌, ◌≤◌, IfOk};
+ghost use Rattle.std.specs.Prelude.{◌≡◌, ◌≤◌, codes, map, IfOk};
+ghost use Rattle.clap.specs.Words.{found_of, rows_of, subcommand_of, subcommand_rows_of};
 ghost use Rattle.automount_cli.specs.Args.{fault_number, IsInRange};
+ghost use Rattle.automount_cli.specs.CommandLine.{cli, IsNumber, IsNumberIn, AsksFor, Asks};
 
+use crate::commands::command;
 use clap::error::ErrorKind;
-use clap::{Arg, ArgAction, ArgMatches, Command, Error as ClapError, value_parser};
-use std::alloc::{AllocError, Global};
+use clap::{ArgMatches, Error as ClapError};
+use std::alloc::Global;
 use thiserror::Error;
 
 /// What the program is asked to do.
@@ -59,7 +62,8 @@ impl ArgsFault {
 
 /// The number of an option, where it is in its range.
 fn number(given: &ArgMatches<'_>, id: &str, most: u32) -> Result<u32, ArgsFault>
-    ensures { IfOk result (λ number. (1 ≤ number) × (number ≤ most)) }
+    ensures range { IfOk result (λ number. (1 ≤ number) × (number ≤ most)) }
+    ensures read { IfOk result (IsNumber (rows_of (found_of given.now)) id.now) }
 {
     let Some(number) = given.get_one::<u32>(id) else {
         return Err(ArgsFault::Usage);
@@ -70,8 +74,22 @@ fn number(given: &ArgMatches<'_>, id: &str, most: u32) -> Result<u32, ArgsFault>
     Ok(number)
 }
 
+/// The number of an option that may be left out.
+fn number_in(given: &ArgMatches<'_>, id: &str) -> Result<Option<u32>, ArgsFault>
+    ensures { IfOk result (IsNumberIn (rows_of (found_of given.now)) id.now) }
+{
+    if given.get_str(id).is_none() {
+        return Ok(None);
+    }
+    match given.get_one::<u32>(id) {
+        Some(number) => Ok(Some(number)),
+        None => Err(ArgsFault::Usage),
+    }
+}
+
 fn threads(given: &ArgMatches<'_>) -> Result<Args, ArgsFault>
-    ensures { IfOk result IsInRange }
+    ensures range { IfOk result IsInRange }
+    ensures asks { IfOk result (AsksFor (codes "threads") (rows_of (found_of given.now))) }
 {
     Ok(Args::Threads {
         walkers: number(given, "walkers", 16)?,
@@ -81,7 +99,8 @@ fn threads(given: &ArgMatches<'_>) -> Result<Args, ArgsFault>
 }
 
 fn draw(given: &ArgMatches<'_>) -> Result<Args, ArgsFault>
-    ensures { IfOk result IsInRange }
+    ensures range { IfOk result IsInRange }
+    ensures asks { IfOk result (AsksFor (codes "draw") (rows_of (found_of given.now))) }
 {
     Ok(Args::Draw {
         first: number(given, "from", u32::MAX)?,
@@ -89,17 +108,26 @@ fn draw(given: &ArgMatches<'_>) -> Result<Args, ArgsFault>
     })
 }
 
-fn asked(matches: &ArgMatches<'_>) -> Result<Args, ArgsFault>
-    ensures { IfOk result IsInRange }
+fn world(given: &ArgMatches<'_>) -> Result<Args, ArgsFault>
+    ensures range { IfOk result IsInRange }
+    ensures asks { IfOk result (AsksFor (codes "world") (rows_of (found_of given.now))) }
 {
-    match matches.subcommand() {
-        Some(("script", _)) => Ok(Args::Script),
-        Some(("trace", _)) => Ok(Args::Trace),
-        Some(("draw", given)) => draw(given),
-        Some(("world", given)) => Ok(Args::World {
-            namespace: given.get_one::<u32>("namespace"),
-        }),
-        Some(("threads", given)) => threads(given),
+    Ok(Args::World {
+        namespace: number_in(given, "namespace")?,
+    })
+}
+
+/// What a command asks for.
+fn asked(name: &str, given: &ArgMatches<'_>) -> Result<Args, ArgsFault>
+    ensures range { IfOk result IsInRange }
+    ensures asks { IfOk result (AsksFor name.now (rows_of (found_of given.now))) }
+{
+    match name {
+        "script" => Ok(Args::Script),
+        "trace" => Ok(Args::Trace),
+        "draw" => draw(given),
+        "world" => world(given),
+        "threads" => threads(given),
         _ => Err(ArgsFault::Usage),
     }
 }
@@ -111,43 +139,27 @@ fn fault_of(error: &ClapError) -> ArgsFault {
     }
 }
 
+/// What the command that was named asks for.
+fn asked_in(matches: &ArgMatches<'_>) -> Result<Args, ArgsFault>
+    ensures range { IfOk result IsInRange }
+    ensures asks { IfOk result (Asks (subcommand_rows_of matches.now)) }
+{
+    match matches.subcommand() {
+        Some((name, given)) => asked(name, given),
+        None => Err(ArgsFault::Usage),
+    }
+}
+
 /// Reads the words of a command line, of which the first is the program's name.
 pub fn read_args(alloc: Global, words: &[&str]) -> Result<Args, ArgsFault>
-    ensures { IfOk result IsInRange }
+    ensures range { IfOk result IsInRange }
+    ensures read { IfOk result (Asks (subcommand_of cli (map (λ word. word.now) words.now))) }
 {
     let Ok(command) = command(alloc) else {
         return Err(ArgsFault::NoMemory);
     };
     match command.try_get_matches_from(words) {
-        Ok(matches) => asked(&matches),
+        Ok(matches) => asked_in(&matches),
         Err(error) => Err(fault_of(&error)),
     }
-}
-
-/// An option that is a number.
-fn option<'a>(alloc: Global, name: &'a str) -> Arg<'a> {
-    Arg::new(alloc, name)
-        .long(name)
-        .action(ArgAction::Set)
-        .value_parser(value_parser!(u32))
-}
-
-fn command<'a>(alloc: Global) -> Result<Command<'a>, AllocError> {
-    let script = Command::new(alloc, "script");
-    let trace = Command::new(alloc, "trace");
-    let draw = Command::new(alloc, "draw")
-        .arg(option(alloc, "from").default_value("1"))?
-        .arg(option(alloc, "to").default_value("4294967295"))?;
-    let world = Command::new(alloc, "world").arg(option(alloc, "namespace"))?;
-    let threads = Command::new(alloc, "threads")
-        .arg(option(alloc, "walkers").default_value("4"))?
-        .arg(option(alloc, "workers").default_value("2"))?
-        .arg(option(alloc, "rounds").default_value("10"))?;
-    Command::new(alloc, "automount_cli")
-        .subcommand_required(true)
-        .subcommand(script)?
-        .subcommand(trace)?
-        .subcommand(draw)?
-        .subcommand(world)?
-        .subcommand(threads)
 }

@@ -2,6 +2,7 @@
 #![tactic(auto)]
 
 mod args;
+mod commands;
 mod program;
 #[cfg(test)]
 mod tests;

@@ -1,10 +1,12 @@
 //! What the program does with its words and streams.
 
-ghost use Rattle.std.specs.Prelude.{◌≡◌, ◌<◌, ◌≤◌, ℕ, List, Option, OnOk};
+ghost use Rattle.std.specs.Prelude.{◌≡◌, ◌<◌, ◌≤◌, ℕ, List, map, string_bytes, Option, Some, IfOk, OnOk};
 ghost use Rattle.std.specs.Io.KnownBytes.{Appends};
 ghost use Rattle.am_runner.specs.Runs.{IsTally};
-ghost use Rattle.automount_cli.specs.Program.{ExitsWith, rounds_line};
-ghost use Rattle.automount_cli.specs.Args.{fault_number};
+ghost use Rattle.clap.specs.Words.{Text};
+ghost use Rattle.automount_cli.specs.Program.{Exits, ExitsWith, rounds_line};
+ghost use Rattle.automount_cli.specs.Args.{fault_number, IsInRange};
+ghost use Rattle.automount_cli.specs.declared.args.Args.TheVariants as asks;
 
 use crate::args::{Args, ArgsFault, read_args};
 use am_draw::draw_script;
@@ -30,21 +32,40 @@ pub fn run_program<T: Threads + Wait + Sync, R: Read, W: Write, E: Write>(
     writer: &mut W,
     errors: &mut E,
 ) -> u8
-    ensures { ExitsWith (R.remaining reader.old) (R.remaining reader.new) (W.contents writer.old) (W.contents writer.new) (E.contents errors.old) (E.contents errors.new) result }
+    ensures { ExitsWith (map (λ word. word.now) words.now) (R.remaining reader.old)
+        (R.remaining reader.new) (W.contents writer.old) (W.contents writer.new)
+        (E.contents errors.old) (E.contents errors.new) result }
 {
     match read_args(alloc, words) {
-        Ok(Args::Script) => play(alloc, reader, writer, errors),
-        Ok(Args::Trace) => trace(alloc, reader, writer, errors),
-        Ok(Args::Draw { first, last }) => draw(alloc, first, last, reader, writer, errors),
-        Ok(Args::World { namespace }) => show(alloc, reader, writer, errors, namespace),
-        Ok(
-            Args::Threads {
-                walkers,
-                workers,
-                rounds,
-            },
-        ) => run_crowd(rt, alloc, walkers, workers, rounds, writer, errors),
+        Ok(args) => run_asked(rt, alloc, args, reader, writer, errors),
         Err(fault) => refuse(errors, fault),
+    }
+}
+
+/// Does what is asked for.
+fn run_asked<T: Threads + Wait + Sync, R: Read, W: Write, E: Write>(
+    rt: &T,
+    alloc: Global,
+    args: Args,
+    reader: &mut R,
+    writer: &mut W,
+    errors: &mut E,
+) -> u8
+    requires { IsInRange args }
+    ensures { Exits (Some args) (R.remaining reader.old) (R.remaining reader.new)
+        (W.contents writer.old) (W.contents writer.new) (E.contents errors.old)
+        (E.contents errors.new) result }
+{
+    match args {
+        Args::Script => play(alloc, reader, writer, errors),
+        Args::Trace => trace(alloc, reader, writer, errors),
+        Args::Draw { first, last } => draw(alloc, first, last, reader, writer, errors),
+        Args::World { namespace } => show(alloc, reader, writer, errors, namespace),
+        Args::Threads {
+            walkers,
+            workers,
+            rounds,
+        } => run_crowd(rt, alloc, walkers, workers, rounds, writer, errors),
     }
 }
 
@@ -55,7 +76,9 @@ fn play<R: Read, W: Write, E: Write>(
     writer: &mut W,
     errors: &mut E,
 ) -> u8
-    ensures { ExitsWith (R.remaining reader.old) (R.remaining reader.new) (W.contents writer.old) (W.contents writer.new) (E.contents errors.old) (E.contents errors.new) result }
+    ensures { Exits (Some asks.Script) (R.remaining reader.old) (R.remaining reader.new)
+        (W.contents writer.old) (W.contents writer.new) (E.contents errors.old)
+        (E.contents errors.new) result }
 {
     match run_script(alloc, reader, writer) {
         Ok(_) => 0,
@@ -70,7 +93,9 @@ fn trace<R: Read, W: Write, E: Write>(
     writer: &mut W,
     errors: &mut E,
 ) -> u8
-    ensures { ExitsWith (R.remaining reader.old) (R.remaining reader.new) (W.contents writer.old) (W.contents writer.new) (E.contents errors.old) (E.contents errors.new) result }
+    ensures { Exits (Some asks.Trace) (R.remaining reader.old) (R.remaining reader.new)
+        (W.contents writer.old) (W.contents writer.new) (E.contents errors.old)
+        (E.contents errors.new) result }
 {
     match trace_script(alloc, reader, writer) {
         Ok(_traced) => 0,
@@ -87,11 +112,23 @@ fn draw<R: Read, W: Write, E: Write>(
     writer: &mut W,
     errors: &mut E,
 ) -> u8
-    ensures { ExitsWith (R.remaining reader.old) (R.remaining reader.new) (W.contents writer.old) (W.contents writer.new) (E.contents errors.old) (E.contents errors.new) result }
+    ensures { Exits (Some (asks.Draw first last)) (R.remaining reader.old) (R.remaining reader.new)
+        (W.contents writer.old) (W.contents writer.new) (E.contents errors.old)
+        (E.contents errors.new) result }
 {
     match draw_script(alloc, reader, writer, u64::from(first), u64::from(last)) {
         Ok(_drawn) => 0,
         Err(fault) => stop(errors, fault),
+    }
+}
+
+/// The namespace of this number.
+fn named(namespace: Option<u32>) -> Option<NsId>
+    ensures { result ≡ namespace }
+{
+    match namespace {
+        Some(ns) => Some(NsId(ns)),
+        None => None,
     }
 }
 
@@ -103,9 +140,11 @@ fn show<R: Read, W: Write, E: Write>(
     errors: &mut E,
     namespace: Option<u32>,
 ) -> u8
-    ensures { ExitsWith (R.remaining reader.old) (R.remaining reader.new) (W.contents writer.old) (W.contents writer.new) (E.contents errors.old) (E.contents errors.new) result }
+    ensures { Exits (Some (asks.World namespace)) (R.remaining reader.old) (R.remaining reader.new)
+        (W.contents writer.old) (W.contents writer.new) (E.contents errors.old)
+        (E.contents errors.new) result }
 {
-    match world_script(alloc, reader, writer, namespace.map(|ns| NsId(ns))) {
+    match world_script(alloc, reader, writer, named(namespace)) {
         Ok(_shown) => 0,
         Err(fault) => stop(errors, fault),
     }
@@ -123,7 +162,9 @@ fn run_crowd<T: Threads + Wait + Sync, W: Write, E: Write>(
 ) -> u8
     requires workers { (0 < workers) × (workers ≤ 16) }
     requires walkers { walkers ≤ 16 }
-    ensures { (input : Option (List ℕ)) → ExitsWith input input (W.contents writer.old) (W.contents writer.new) (E.contents errors.old) (E.contents errors.new) result }
+    ensures { (input : Option (List ℕ)) → Exits (Some (asks.Threads walkers workers rounds)) input
+        input (W.contents writer.old) (W.contents writer.new) (E.contents errors.old)
+        (E.contents errors.new) result }
 {
     match run_threads(rt, alloc, walkers, workers, rounds) {
         Ok(tally) => tell(writer, errors, tally),
@@ -133,7 +174,9 @@ fn run_crowd<T: Threads + Wait + Sync, W: Write, E: Write>(
 
 fn tell<W: Write, E: Write>(writer: &mut W, errors: &mut E, tally: Tally) -> u8
     requires { IsTally tally }
-    ensures { (input : Option (List ℕ)) → ExitsWith input input (W.contents writer.old) (W.contents writer.new) (E.contents errors.old) (E.contents errors.new) result }
+    ensures { (walkers workers rounds : ℕ) (input : Option (List ℕ)) → Exits
+        (Some (asks.Threads walkers workers rounds)) input input (W.contents writer.old)
+        (W.contents writer.new) (E.contents errors.old) (E.contents errors.new) result }
 {
     match write_rounds(writer, tally.rounds) {
         Ok(()) => 0,
@@ -145,7 +188,8 @@ fn tell<W: Write, E: Write>(writer: &mut W, errors: &mut E, tally: Tally) -> u8
 }
 
 fn write_rounds<W: Write>(writer: &mut W, rounds: u64) -> io::Result<()>
-    ensures { OnOk result (Appends (W.contents writer.old) (W.contents writer.new) (rounds_line rounds)) }
+    ensures { OnOk result (Appends (W.contents writer.old) (W.contents writer.new)
+        (rounds_line rounds)) }
 {
     let mut digits = Buffer::new();
     writer.write_all(b"rounds ")?;
@@ -178,7 +222,9 @@ pub fn run_words<T: Threads + Wait + Sync, R: Read, W: Write, E: Write>(
     writer: &mut W,
     errors: &mut E,
 ) -> u8
-    ensures { ExitsWith (R.remaining reader.old) (R.remaining reader.new) (W.contents writer.old) (W.contents writer.new) (E.contents errors.old) (E.contents errors.new) result }
+    ensures { (words : List Text) × ExitsWith words (R.remaining reader.old)
+        (R.remaining reader.new) (W.contents writer.old) (W.contents writer.new)
+        (E.contents errors.old) (E.contents errors.new) result }
 {
     match read_words(alloc, words) {
         Ok(words) => run_lent(rt, alloc, &words, reader, writer, errors),
@@ -216,7 +262,9 @@ fn run_lent<T: Threads + Wait + Sync, R: Read, W: Write, E: Write>(
     writer: &mut W,
     errors: &mut E,
 ) -> u8
-    ensures { ExitsWith (R.remaining reader.old) (R.remaining reader.new) (W.contents writer.old) (W.contents writer.new) (E.contents errors.old) (E.contents errors.new) result }
+    ensures { ExitsWith (map (λ word. string_bytes word) words.now) (R.remaining reader.old)
+        (R.remaining reader.new) (W.contents writer.old) (W.contents writer.new)
+        (E.contents errors.old) (E.contents errors.new) result }
 {
     match lend(alloc, words) {
         Ok(words) => run_program(rt, alloc, words.as_slice(), reader, writer, errors),
@@ -224,6 +272,9 @@ fn run_lent<T: Threads + Wait + Sync, R: Read, W: Write, E: Write>(
     }
 }
 
-fn lend<'a>(alloc: Global, words: &'a [String]) -> Result<Vec<&'a str>, AllocError> {
+fn lend<'a>(alloc: Global, words: &'a [String]) -> Result<Vec<&'a str>, AllocError>
+    ensures { IfOk result (λ lent. map (λ word. word.now) lent.items ≡ map
+        (λ word. string_bytes word) words.now) }
+{
     words.iter().map(|word| word.as_str()).collect(alloc)
 }

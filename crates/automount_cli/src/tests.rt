@@ -7,6 +7,8 @@ use std::sync::Wait;
 use std::test::Fail;
 use std::thread::Threads;
 
+mod shows;
+mod taker;
 mod worlds;
 
 #[test]
@@ -202,7 +204,7 @@ fn a_picture_is_drawn(rt: HostRuntime) -> Result<(), Fail> {
     assert!(rt;
         has(
             &output,
-            b"<text class='m' x='46' y='17'>mount 0 /a&lt;b</text>\n"
+            b"<text class='m' x='46' y='11'>mount 0 /a&lt;b</text>\n"
         )
     );
     assert!(rt; output.ends_with(b"</g>\n</svg>\n"));

@@ -1,11 +1,12 @@
 //! The world behind a script, as it is printed.
 
 use crate::tests::run;
+use crate::tests::taker::Taker;
 use am_mountinfo::world_script;
 use am_names::NsId;
 use am_script::{ScriptFault, ScriptFaultKind};
 use std::alloc::Global;
-use std::io::{self, ErrorKind, Write};
+use std::io::Write;
 use std::process::Abort;
 use std::test::Fail;
 
@@ -81,31 +82,6 @@ fn propagation_is_printed(rt: HostRuntime) -> Result<(), Fail> {
     Ok(())
 }
 
-/// A writer that takes so many bytes, and then fails.
-#[derive(Drop)]
-struct Taker {
-    bytes: Vec<u8>,
-    room: usize,
-}
-
-impl Write for Taker {
-    fn write(&mut self, buf: &[u8]) -> io::Result<usize> {
-        let n = buf.len().min(self.room);
-        if n == 0 {
-            return Err(io::Error::from(ErrorKind::Other));
-        }
-        if let Err(_) = self.bytes.extend_from_slice(&buf[..n]) {
-            return Err(io::Error::from(ErrorKind::OutOfMemory));
-        }
-        self.room -= n;
-        Ok(n)
-    }
-
-    fn flush(&mut self) -> io::Result<()> {
-        Ok(())
-    }
-}
-
 fn show<W: Write>(alloc: Global, mut script: &[u8], writer: &mut W) -> Option<ScriptFault> {
     world_script(alloc, &mut script, writer, None).err()
 }
@@ -113,7 +89,8 @@ fn show<W: Write>(alloc: Global, mut script: &[u8], writer: &mut W) -> Option<Sc
 /// Whether a writer gets the beginning that it takes, and the rest is told as lost at the last event.
 fn is_cut(alloc: Global, whole: &[u8], room: usize) -> bool {
     let bytes = Vec::new(alloc);
-    let mut writer = Taker { bytes, room };
+    let most = usize::MAX;
+    let mut writer = Taker { bytes, most, room };
     let fault = show(alloc, SCRIPT, &mut writer);
     let cut = Some(ScriptFault {
         line: 11,

@@ -1,6 +1,0 @@
-use Rattle.am_script.proofs.Pieces.{puts_two}
-use Rattle.am_draw.proofs.row.put_mounts.Goals as goal
-
-pub returns : goal.returns
-returns g c =
-    rw c.as_slice.ensures at (puts_two _ _ _ _ _ _ _ _ c.put_stamp.ensures c.put_mounts_label.ensures)

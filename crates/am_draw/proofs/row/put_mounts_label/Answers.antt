@@ -1,7 +1,0 @@
-use Rattle.am_script.proofs.Pieces.{puts_three}
-use Rattle.am_draw.proofs.row.put_mounts_label.Goals as goal
-
-pub returns : goal.returns
-returns g c =
-    puts_three _ _ _ _ _ _ _ _ _ _ _
-    c.put_opening.ensures c.put_mounts_words.ensures c.put_closing.ensures

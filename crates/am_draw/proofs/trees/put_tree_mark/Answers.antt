@@ -1,0 +1,7 @@
+use Rattle.am_draw.proofs.trees.put_tree_mark.Goals as goal
+
+pub returns-in-Some : goal.returns-in-Some
+returns-in-Some g c = rw (← c.row_of.ensures, c.in-Some.is, ← c.tree_x.ensures) c.put_stamp.ensures
+
+pub returns-in-None : goal.returns-in-None
+returns-in-None g c = rw (← c.row_of.ensures, c.in-None.is) c.put_word.ensures
