@@ -6,3 +6,4 @@ pub mod Draws
 pub mod LostPieces
 pub mod PieceLemmas
 pub mod RowLemmas
+pub mod TreeLemmas

@@ -18,3 +18,10 @@ pub returns-in-Died : goal.returns-in-Died
 returns-in-Died g c =
     rw c.in-Died.is
     (puts_three _ _ _ _ _ _ _ _ _ _ _ c.put_opening-in-Died.ensures c.put_word.ensures c.put_closing-in-Died.ensures)
+
+pub returns-in-Passed : goal.returns-in-Passed
+returns-in-Passed g c = rw (c.in-Passed.is, ← c.walker_x.ensures.x) c.put_stamp-in-Passed.ensures
+
+pub returns-in-Delivered : goal.returns-in-Delivered
+returns-in-Delivered g c =
+    rw (c.in-Delivered.is, ← c.token_x-in-Delivered.ensures.x) c.put_stroke-in-Delivered.ensures

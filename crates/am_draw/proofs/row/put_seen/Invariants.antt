@@ -7,5 +7,5 @@ use Rattle.am_draw.proofs.row.put_seen.Given as goal
 abbrev pub invariant-loop-obs : goal.invariant-loop-obs
 invariant-loop-obs g l = record {
   lasts : l.lasting ≡ seen_behind l.before (take l.obs-index l.seen);
-  puts : Puts l.fn.output l.output (seen_marks l.trees.before l.trees.behind l.before (take l.obs-index l.seen)) (g.W.Write.contents l.fn.writer) (g.W.Write.contents l.writer);
+  puts : Puts l.fn.output l.output (seen_marks l.trees.before.now l.trees.behind.now l.before (take l.obs-index l.seen)) (g.W.Write.contents l.fn.writer) (g.W.Write.contents l.writer);
 }
