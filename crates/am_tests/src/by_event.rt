@@ -161,27 +161,31 @@ fn judged(
     }
 }
 
-/// Plays a script on two worlds, of which one was opened.
+/// Plays a script that was opened beside the same on another world.
 fn play_opened(
     alloc: Global,
     name: &str,
-    opened: Opened<'_>,
+    opened: &mut Opened<'_>,
     other: &mut World,
     output: &mut Vec<u8>,
 ) -> Option<ScriptFault> {
-    let Opened {
-        world: mut one,
-        rest,
-        line,
-        broke,
-    } = opened;
-    let left = Left { rest, line, broke };
-    let mut twins = Twins {
-        one: &mut one,
-        other,
+    let left = Left {
+        rest: opened.rest,
+        line: opened.line,
+        broke: opened.broke,
     };
-    let fault = make_all(alloc, &mut twins, left, output);
-    judged(alloc, name, &one, fault)
+    let fault = make_beside(alloc, left, &mut opened.world, other, output);
+    judged(alloc, name, &opened.world, fault)
+}
+
+fn make_beside(
+    alloc: Global,
+    left: Left<'_>,
+    one: &mut World,
+    other: &mut World,
+    output: &mut Vec<u8>,
+) -> Option<ScriptFault> {
+    make_all(alloc, &mut Twins { one, other }, left, output)
 }
 
 /// Plays what was read, event by event, and tells the fault in which it ends.
@@ -193,9 +197,19 @@ pub fn play_by_event(
 ) -> Option<ScriptFault> {
     match open_in_the_end(alloc, input) {
         Ok(None) => None,
-        Ok(Some(mut other)) => play_beside(alloc, input, name, &mut other.world, output),
+        Ok(Some(other)) => play_first(alloc, input, name, other, output),
         Err(fault) => Some(fault),
     }
+}
+
+fn play_first(
+    alloc: Global,
+    input: &Input,
+    name: &str,
+    mut other: Opened<'_>,
+    output: &mut Vec<u8>,
+) -> Option<ScriptFault> {
+    play_beside(alloc, input, name, &mut other.world, output)
 }
 
 /// Plays it beside the same on another world.
@@ -208,7 +222,17 @@ fn play_beside(
 ) -> Option<ScriptFault> {
     match open_in_the_end(alloc, input) {
         Ok(None) => Some(UNPLAYED),
-        Ok(Some(opened)) => play_opened(alloc, name, opened, other, output),
+        Ok(Some(opened)) => play_second(alloc, name, opened, other, output),
         Err(fault) => Some(fault),
     }
+}
+
+fn play_second(
+    alloc: Global,
+    name: &str,
+    mut opened: Opened<'_>,
+    other: &mut World,
+    output: &mut Vec<u8>,
+) -> Option<ScriptFault> {
+    play_opened(alloc, name, &mut opened, other, output)
 }

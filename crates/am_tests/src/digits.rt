@@ -21,8 +21,11 @@ fn changed(alloc: Global, script: &[u8], place: usize) -> Result<Vec<u8>, AllocE
 /// Whether an example goes so with another digit at this place.
 fn goes_changed(alloc: Global, example: &Example<'_>, place: usize) -> Result<bool, AllocError> {
     let script = changed(alloc, example.script, place)?;
-    let mut other = *example;
-    other.script = script.as_slice();
+    let other = Example {
+        script: script.as_slice(),
+        fault: example.fault,
+        answers: example.answers,
+    };
     goes_whole(alloc, &other)
 }
 

@@ -5,7 +5,7 @@ use crate::play::Example;
 use am_script::answer_line::push_answer;
 use am_script::visit::{Input, Opened};
 use am_world::laws::trace_holds;
-use am_world::{Answer, Event, World, run};
+use am_world::{Answer, Event, Ran, World, run};
 use std::alloc::{AllocError, Global};
 
 /// More events than the scripts have.
@@ -36,26 +36,35 @@ fn are_answers(alloc: Global, answers: &[Answer], wanted: &[u8]) -> Result<bool,
     Ok(output.as_slice() == wanted)
 }
 
-/// Whether a run of these events is answered so, and the laws hold of it.
-fn runs(alloc: Global, world: World, events: &[Event], wanted: &[u8]) -> Result<bool, AllocError> {
-    match run(alloc, world, events) {
-        Ok(ran) => {
-            let is_lawful = trace_holds(ran.world.trace());
-            Ok(is_lawful && are_answers(alloc, ran.answers.as_slice(), wanted)?)
-        }
-        Err(_) => Ok(false),
+fn is_run(alloc: Global, ran: &Ran, wanted: &[u8]) -> bool {
+    match are_answers(alloc, ran.answers.as_slice(), wanted) {
+        Ok(are_answers) => are_answers && trace_holds(ran.world.trace()),
+        Err(_) => false,
     }
 }
 
-fn runs_opened(alloc: Global, opened: Opened<'_>, wanted: &[u8]) -> Result<bool, AllocError> {
-    let Opened {
-        world,
-        rest,
-        line,
-        broke,
-    } = opened;
-    let events = events_of(alloc, Left { rest, line, broke })?;
-    runs(alloc, world, events.as_slice(), wanted)
+/// Whether a run of these events is answered so, and the laws hold of it.
+fn runs(alloc: Global, world: World, events: &[Event], wanted: &[u8]) -> bool {
+    match run(alloc, world, events) {
+        Ok(ran) => is_run(alloc, &ran, wanted),
+        Err(_) => false,
+    }
+}
+
+fn events_behind(alloc: Global, opened: &Opened<'_>) -> Result<Vec<Event>, AllocError> {
+    let left = Left {
+        rest: opened.rest,
+        line: opened.line,
+        broke: opened.broke,
+    };
+    events_of(alloc, left)
+}
+
+fn runs_opened(alloc: Global, opened: Opened<'_>, wanted: &[u8]) -> bool {
+    match events_behind(alloc, &opened) {
+        Ok(events) => runs(alloc, opened.world, events.as_slice(), wanted),
+        Err(_) => false,
+    }
 }
 
 /// Whether all events of a script, as one run, are answered so. A script without events has none.
@@ -64,7 +73,7 @@ pub fn goes_as_run(alloc: Global, example: &Example<'_>) -> Result<bool, AllocEr
     let input = Input { text, broke: None };
     match open(alloc, &input) {
         Ok(None) => Ok(example.answers.is_empty()),
-        Ok(Some(opened)) => runs_opened(alloc, opened, example.answers),
+        Ok(Some(opened)) => Ok(runs_opened(alloc, opened, example.answers)),
         Err(_) => Ok(false),
     }
 }

@@ -5,6 +5,7 @@ use am_master::{Master, Point};
 use am_names::{FsId, Token};
 use am_wire::{Kind, Packet, PacketName, WireFault, read, write};
 use std::alloc::{AllocError, Global};
+use std::test::Fail;
 
 /// What a packet asks to mount: the map's entry for its name, if it has one.
 fn asked_for(alloc: Global, map: &Map, bytes: &[u8]) -> Result<Option<Entry>, AllocError> {
@@ -29,61 +30,38 @@ fn packet() -> Packet {
     }
 }
 
-fn is_home(entry: &Entry) -> bool {
-    let (host, path) = (entry.host.as_slice(), entry.path.as_slice());
-    host == b"srv".as_slice() && path == b"/export/home".as_slice()
-}
-
-/// Whether the packet asks for `srv:/export/home` in this map.
-fn asks_for_home(alloc: Global, map: &Map) -> Result<bool, AllocError> {
+#[test]
+fn a_packet_is_looked_up(rt: HostRuntime) -> Result<(), Fail> {
+    let map = Map::read(rt.alloc(), b"home -ro srv:/export/&\n", MapKind::Indirect)?;
     let mut bytes = [0; 304];
     write(&packet(), &mut bytes);
-    match asked_for(alloc, map, bytes.as_slice())? {
-        Some(entry) => Ok(is_home(&entry)),
-        None => Ok(false),
-    }
+    let Some(entry) = asked_for(rt.alloc(), &map, bytes.as_slice())? else {
+        return Err(Fail::new("the map has the name"));
+    };
+    assert_eq!(rt; entry.host.as_slice(), b"srv".as_slice());
+    assert_eq!(rt; entry.path.as_slice(), b"/export/home".as_slice());
+    Ok(())
 }
 
 #[test]
-fn a_packet_is_looked_up(rt: HostRuntime) {
-    match Map::read(rt.alloc(), b"home -ro srv:/export/&\n", MapKind::Indirect) {
-        Ok(map) => assert!(rt; asks_for_home(rt.alloc(), &map) == Ok(true)),
-        Err(fault) => panic!(rt; "{fault}"),
-    }
-}
-
-/// The line and the kind of the fault of a text, if it has one.
-fn fault_of(alloc: Global, text: &[u8]) -> Option<(usize, MapFaultKind)> {
-    match Map::read(alloc, text, MapKind::Indirect) {
-        Ok(_) => None,
-        Err(fault) => Some((fault.line, fault.kind)),
-    }
-}
-
-#[test]
-fn the_first_fault_is_told(rt: HostRuntime) {
+fn the_first_fault_is_told(rt: HostRuntime) -> Result<(), Fail> {
     assert!(rt; matches!(read(b"too short"), Err(WireFault::Length)));
-    // The second line has no location.
-    let fault = fault_of(rt.alloc(), b"# homes\nhome\n");
-    assert!(rt; fault == Some((2, MapFaultKind::NoLocation)));
-}
-
-/// Whether there is one line, of an indirect map `auto.home` with a timeout of 60 seconds.
-fn is_for_homes(master: &Master) -> bool {
-    match master.entries() {
-        [entry] => {
-            matches!(&entry.point, Point::Indirect(_))
-                && entry.map.as_slice() == b"auto.home".as_slice()
-                && entry.timeout == 60
-        }
-        _ => false,
-    }
+    let Err(fault) = Map::read(rt.alloc(), b"# homes\nhome\n", MapKind::Indirect) else {
+        return Err(Fail::new("the second line has no location"));
+    };
+    assert_eq!(rt; fault.line, 2);
+    assert_eq!(rt; fault.kind, MapFaultKind::NoLocation);
+    Ok(())
 }
 
 #[test]
-fn a_line_of_the_master_map(rt: HostRuntime) {
-    match Master::read(rt.alloc(), b"/auto auto.home --timeout=60\n") {
-        Ok(master) => assert!(rt; is_for_homes(&master)),
-        Err(fault) => panic!(rt; "{fault}"),
-    }
+fn a_line_of_the_master_map(rt: HostRuntime) -> Result<(), Fail> {
+    let master = Master::read(rt.alloc(), b"/auto auto.home --timeout=60\n")?;
+    let Some(entry) = master.entries().first() else {
+        return Err(Fail::new("it has a line"));
+    };
+    assert!(rt; matches!(&entry.point, Point::Indirect(_)));
+    assert_eq!(rt; entry.map.as_slice(), b"auto.home".as_slice());
+    assert_eq!(rt; entry.timeout, 60);
+    Ok(())
 }

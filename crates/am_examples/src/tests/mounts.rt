@@ -4,6 +4,7 @@ use am_group::Change;
 use am_names::{AbsPath, Errno, FsId, MountId, NsId, Position};
 use am_propagate::{CopyForm, InUse, Subtree};
 use std::alloc::Global;
+use std::test::Fail;
 
 /// The one mount that a process is inside of.
 #[derive(Drop)]
@@ -21,56 +22,52 @@ impl InUse for Inside {
     }
 }
 
-/// To namespace 0 with its root, mount 1, comes namespace 1 with a copy of it, mount 2. The two are
-/// peers: what is mounted on one arrives on the other.
-fn copy_as_peers(alloc: Global, subtree: &mut Subtree) -> Result<(), Errno> {
+/// Namespace 0 with its root, mount 1, and namespace 1 with a copy of it, mount 2. The two are peers:
+/// what is mounted on one arrives on the other.
+fn two_namespaces(alloc: Global) -> Result<Subtree, Errno> {
+    let mut subtree = Subtree::new(alloc, 1_000)?;
     subtree.change(alloc, Change::MakeShared, MountId(1))?;
     subtree.copy_namespace(alloc, NsId(0), CopyForm::Full)?;
-    Ok(())
+    Ok(subtree)
 }
 
-/// Mounts file system 2 at `/srv` in namespace 0. Whether just mounts 3 and 4 came.
-fn mount_srv(alloc: Global, subtree: &mut Subtree) -> Result<bool, Errno> {
+/// Mounts file system 2 at `/srv` in namespace 0, and tells all mounts that came.
+fn mount_srv(alloc: Global, subtree: &mut Subtree) -> Result<Vec<MountId>, Errno> {
     let at = Position {
         mount: MountId(1),
         place: AbsPath::read(b"/srv")?.to_place(alloc)?,
     };
-    let came = subtree.mount(alloc, &at, FsId(2))?;
-    Ok(came.as_slice() == [MountId(3), MountId(4)].as_slice())
+    subtree.mount(alloc, &at, FsId(2))
 }
 
-/// Unmounts mount 3 while a process is inside another. Whether just mounts 3 and 4 went.
-fn umount_srv(alloc: Global, subtree: &mut Subtree, inside: u64) -> Result<bool, Errno> {
+/// Unmounts a mount while a process is inside another, and tells all mounts that went.
+fn umount(
+    alloc: Global,
+    subtree: &mut Subtree,
+    mount: u64,
+    inside: u64,
+) -> Result<Vec<MountId>, Errno> {
     let inside = Inside {
         mount: MountId(inside),
     };
-    let gone = subtree.umount(alloc, MountId(3), &inside)?;
-    Ok(gone.as_slice() == [MountId(3), MountId(4)].as_slice())
-}
-
-fn arrives(alloc: Global, subtree: &mut Subtree) -> Result<bool, Errno> {
-    copy_as_peers(alloc, subtree)?;
-    mount_srv(alloc, subtree)
+    subtree.umount(alloc, MountId(mount), &inside)
 }
 
 #[test]
-fn a_mount_arrives_in_both_namespaces(rt: HostRuntime) {
-    match Subtree::new(rt.alloc(), 1_000) {
-        Ok(mut subtree) => assert!(rt; arrives(rt.alloc(), &mut subtree) == Ok(true)),
-        Err(errno) => panic!(rt; "{errno}"),
-    }
-}
-
-fn stays_in_use(alloc: Global, subtree: &mut Subtree) -> Result<bool, Errno> {
-    let arrives = arrives(alloc, subtree)?;
-    let stays = umount_srv(alloc, subtree, 4) == Err(Errno::EBUSY);
-    Ok(arrives && stays && umount_srv(alloc, subtree, 1)?)
+fn a_mount_arrives_in_both_namespaces(rt: HostRuntime) -> Result<(), Fail> {
+    let mut subtree = two_namespaces(rt.alloc())?;
+    let came = mount_srv(rt.alloc(), &mut subtree)?;
+    assert!(rt; came.as_slice() == [MountId(3), MountId(4)].as_slice());
+    Ok(())
 }
 
 #[test]
-fn a_copy_in_use_keeps_the_mount(rt: HostRuntime) {
-    match Subtree::new(rt.alloc(), 1_000) {
-        Ok(mut subtree) => assert!(rt; stays_in_use(rt.alloc(), &mut subtree) == Ok(true)),
-        Err(errno) => panic!(rt; "{errno}"),
-    }
+fn a_copy_in_use_keeps_the_mount(rt: HostRuntime) -> Result<(), Fail> {
+    let mut subtree = two_namespaces(rt.alloc())?;
+    mount_srv(rt.alloc(), &mut subtree)?;
+    let refused = umount(rt.alloc(), &mut subtree, 3, 4);
+    assert!(rt; matches!(refused, Err(Errno::EBUSY)));
+    let gone = umount(rt.alloc(), &mut subtree, 3, 1)?;
+    assert!(rt; gone.as_slice() == [MountId(3), MountId(4)].as_slice());
+    Ok(())
 }

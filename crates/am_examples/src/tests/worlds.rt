@@ -9,6 +9,7 @@ use am_names::{
 use am_world::laws::trace_holds;
 use am_world::{Answer, Event, Obs, Ran, World, run};
 use std::alloc::Global;
+use std::test::Fail;
 
 const LIMITS: Limits = Limits {
     mounts: 1_000_000,
@@ -93,37 +94,27 @@ fn is_mkdir(act: Option<&Act>) -> bool {
     matches!(act, Some(Act::Mkdir { .. }))
 }
 
-/// Makes an event. It says nothing of what the call promises, and its callers are proved without.
-fn make(alloc: Global, world: &mut World, event: &Event) -> Answer {
-    world.step(alloc, event)
-}
-
-/// The walk waits, and its packet is queued.
-fn is_queued(alloc: Global, world: &mut World) -> Result<bool, Errno> {
-    make(alloc, world, &attach(alloc)?);
-    let waits = is_wait(&make(alloc, world, &walk(alloc)?));
-    Ok(waits && world.is_waiting(WalkerId(7)) && world.queued(Token(1)).is_some())
-}
-
-/// The daemon begins by making the directory.
+/// The walk waits, its packet is queued, and the daemon begins by making the directory.
 fn begins(alloc: Global, world: &mut World) -> Result<bool, Errno> {
-    let queued = is_queued(alloc, world)?;
-    make(alloc, world, &deliver());
-    Ok(queued && is_mkdir(world.next_act(JobId(1))))
+    world.step(alloc, &attach(alloc)?);
+    let waits = is_wait(&world.step(alloc, &walk(alloc)?));
+    let queued = world.queued(Token(1)).is_some();
+    world.step(alloc, &deliver());
+    Ok(waits && queued && is_mkdir(world.next_act(JobId(1))))
 }
 
 #[test]
-fn a_walk_waits_for_the_daemon(rt: HostRuntime) {
-    match world(rt.alloc()) {
-        Ok(mut world) => assert!(rt; begins(rt.alloc(), &mut world) == Ok(true)),
-        Err(errno) => panic!(rt; "{errno}"),
-    }
+fn a_walk_waits_for_the_daemon(rt: HostRuntime) -> Result<(), Fail> {
+    let mut world = world(rt.alloc())?;
+    let begins = begins(rt.alloc(), &mut world)?;
+    assert!(rt; begins);
+    assert!(rt; world.is_waiting(WalkerId(7)));
+    Ok(())
 }
 
-fn events(alloc: Global) -> Result<[Event; 8], Errno> {
-    let attach = attach(alloc)?;
-    let walk = walk(alloc)?;
-    Ok([
+fn events(alloc: Global) -> Result<Vec<Event>, Errno> {
+    let (attach, walk) = (attach(alloc)?, walk(alloc)?);
+    Ok(vec![in alloc;
         attach,
         walk,
         deliver(),
@@ -132,7 +123,7 @@ fn events(alloc: Global) -> Result<[Event; 8], Errno> {
         act(),
         act(),
         resume(),
-    ])
+    ]?)
 }
 
 /// The walk arrives, its release is in the trace, and the laws hold of the trace.
@@ -142,18 +133,12 @@ fn is_served(ran: &Ran) -> bool {
     arrives && trace.iter().any(is_release) && trace_holds(trace)
 }
 
-/// In a new world these events serve the walk.
-fn serve(alloc: Global, events: &[Event]) -> Result<bool, Errno> {
-    match run(alloc, world(alloc)?, events) {
-        Ok(ran) => Ok(is_served(&ran)),
-        Err(_) => Err(Errno::NoMemory),
-    }
-}
-
 #[test]
-fn a_run_serves_the_walk(rt: HostRuntime) {
-    match events(rt.alloc()) {
-        Ok(events) => assert!(rt; serve(rt.alloc(), events.as_slice()) == Ok(true)),
-        Err(errno) => panic!(rt; "{errno}"),
-    }
+fn a_run_serves_the_walk(rt: HostRuntime) -> Result<(), Fail> {
+    let events = events(rt.alloc())?;
+    let Ok(ran) = run(rt.alloc(), world(rt.alloc())?, events.as_slice()) else {
+        return Err(Fail::new("no room for the answers"));
+    };
+    assert!(rt; is_served(&ran));
+    Ok(())
 }
