@@ -1,8 +1,6 @@
-pub mod Answering
-pub mod Closing
 pub mod CutLine
 pub mod FirstRead
-pub mod HeadPlaying
+pub mod Going
 pub mod HeadSteps
 pub mod Heads
 pub mod IndexLemmas
@@ -15,6 +13,4 @@ pub mod Numerals
 pub mod OwedLemmas
 pub mod Openings
 pub mod Pieces
-pub mod PlayerLemmas
-pub mod ReadingLemmas
 pub mod Writes
