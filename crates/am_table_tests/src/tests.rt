@@ -6,7 +6,6 @@ mod expiries;
 mod groups;
 mod jobs;
 mod kernel;
-mod orders;
 mod parts;
 mod script;
 mod trap;

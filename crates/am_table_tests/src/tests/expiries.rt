@@ -185,9 +185,17 @@ const LOOKS_ONCE: &[Step<Call>] = &[
     Step::Does(Call::Counts(Ask(2, 600, 660, false), None, 2)),
 ];
 
+/// With a timeout of 10 the first of a thousand is due at 11, after one look, and none at 10.
+const OF_A_THOUSAND: &[Step<Call>] = &[
+    Step::Does(Call::Indirect(1, b"/auto", 2)),
+    Step::Does(Call::Keys(2, 2, 1000)),
+    Step::Does(Call::Counts(Ask(2, 10, 11, false), Some(Trap(2, b"k0001")), 1)),
+    Step::Does(Call::Counts(Ask(2, 10, 10, false), None, 1)),
+];
+
 const ONE_PICK: &[Step<Call>] = &[Step::Does(Call::Picks(LATE, Some(HOME)))];
 
-static EXAMPLES: [(&str, &[&[Step<Call>]]); 15] = [
+static EXAMPLES: [(&str, &[&[Step<Call>]]); 16] = [
     ("a trigger is due at the last second", &[TWO_MOUNTED, DUE]),
     ("without a timeout none is due", &[TWO_MOUNTED, NO_TIMEOUT]),
     (
@@ -220,6 +228,7 @@ static EXAMPLES: [(&str, &[&[Step<Call>]]); 15] = [
         "a pick looks at all or none",
         &[TWO_MOUNTED, LOOKS_AT_ALL_OR_NONE],
     ),
+    ("a pick of a thousand takes one look", &[OF_A_THOUSAND]),
     (
         "a trigger stands once in the order",
         &[TWO_MOUNTED, LOOKS_ONCE],

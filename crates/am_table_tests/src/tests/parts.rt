@@ -86,6 +86,22 @@ fn is_found(found: &Option<Trigger>, expected: Option<Trap>) -> bool {
     }
 }
 
+fn digit(number: u64) -> u8 {
+    b'0' + (number % 10) as u8
+}
+
+/// `/k` and four digits.
+fn path_of(number: u64) -> [u8; 6] {
+    [
+        b'/',
+        b'k',
+        digit(number / 1000),
+        digit(number / 100),
+        digit(number / 10),
+        digit(number),
+    ]
+}
+
 /// What a pick is asked: the file system, its timeout, the moment, and whether at once.
 #[derive(Clone, Copy)]
 pub struct Ask(pub u32, pub u32, pub u64, pub bool);
@@ -111,6 +127,9 @@ pub enum Call {
     Used(Trap, u64),
     /// So were all of these.
     AllUsed(&'static [Trap], u64),
+    /// So many keys of a file system, `k0001` and so on, are mounted on a mount, and each was last
+    /// used at the moment of its number.
+    Keys(u64, u32, u64),
     /// A walker enters a mount.
     Enters(u32, u64),
     Leaves(u32),
@@ -225,6 +244,24 @@ impl Parts {
         self.triggers.reserve_uses(used.len())?;
         self.triggers
             .touch_all_reserved(used.as_slice(), Seconds(moment));
+        Ok(true)
+    }
+
+    fn use_key(&mut self, alloc: Global, mount: u64, fs: u32, number: u64) -> Result<(), Errno> {
+        let path = path_of(number);
+        self.mount(alloc, mount, &path, 9)?;
+        let name = Name::read(&path[1..])?;
+        let trigger = Trigger {
+            fs: FsId(fs),
+            name: Some(name),
+        };
+        self.triggers.touch(trigger, Seconds(number))
+    }
+
+    fn use_keys(&mut self, alloc: Global, mount: u64, fs: u32, count: u64) -> Result<bool, Errno> {
+        for number in 1..=count {
+            self.use_key(alloc, mount, fs, number)?;
+        }
         Ok(true)
     }
 
@@ -428,7 +465,7 @@ impl Stage for Parts {
     /// Mount 1 alone.
     fn new(alloc: Global) -> Result<Parts, Errno> {
         Ok(Parts {
-            subtree: Subtree::new(alloc, 100)?,
+            subtree: Subtree::new(alloc, 2000)?,
             triggers: OrderedTriggers::new(alloc),
             waits: Waits::new(alloc, 9, 9),
             uses: Uses::new(alloc),
@@ -451,6 +488,7 @@ impl Stage for Parts {
             Call::Catatonic(fs) => self.set_catatonic(fs),
             Call::Used(trap, moment) => self.touch(trap, moment),
             Call::AllUsed(traps, moment) => self.touch_all(alloc, traps, moment),
+            Call::Keys(mount, fs, count) => self.use_keys(alloc, mount, fs, count),
             Call::Enters(walker, mount) => self.enter(walker, mount),
             Call::Leaves(walker) => self.leave(walker),
             _ => self.look(alloc, call),
