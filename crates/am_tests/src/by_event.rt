@@ -21,7 +21,7 @@ const UNPLAYED: ScriptFault = ScriptFault {
     kind: ScriptFaultKind::LongLine,
 };
 
-pub fn open(alloc: Global, input: &Input) -> Result<Option<Opened<'_>>, ScriptFault> {
+fn open(alloc: Global, input: &Input) -> Result<Option<Opened<'_>>, ScriptFault> {
     if input.text.len() > MANY {
         return Err(UNPLAYED);
     }
@@ -40,13 +40,13 @@ fn open_in_the_end(alloc: Global, input: &Input) -> Result<Option<Opened<'_>>, S
 
 /// What is left of a script: its lines behind the one with this number, and the fault behind them.
 #[derive(Clone, Copy)]
-pub struct Left<'a> {
-    pub rest: Option<&'a [u8]>,
-    pub line: u64,
-    pub broke: Option<ScriptFaultKind>,
+struct Left<'a> {
+    rest: Option<&'a [u8]>,
+    line: u64,
+    broke: Option<ScriptFaultKind>,
 }
 
-pub fn next<'a>(alloc: Global, left: &Left<'a>) -> Result<Option<Found<'a>>, ScriptFault> {
+fn next<'a>(alloc: Global, left: &Left<'a>) -> Result<Option<Found<'a>>, ScriptFault> {
     let Left { rest, line, broke } = *left;
     if line > u64::from(u32::MAX) {
         return Err(UNPLAYED);

@@ -25,7 +25,6 @@ mod files;
 mod kinds;
 mod play;
 mod readers;
-mod runs;
 mod scripts;
 mod sights;
 mod traces;

@@ -1,5 +1,5 @@
-//! Scripts that are played in every way: whole, of a reader that gives one byte at a time, event by
-//! event, and all events as one run.
+//! Scripts that are played in every way: whole, of a reader that gives one byte at a time, and event
+//! by event.
 
 use crate::by_event::play_by_event;
 use crate::cases::{Case, decoded, put, script_of};

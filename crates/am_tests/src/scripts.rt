@@ -4,7 +4,6 @@
 use crate::by_event::play_by_event;
 use crate::files::bytes_of;
 use crate::play::{Example, goes, is_fault};
-use crate::runs::goes_as_run;
 use crate::twice::goes_twice;
 use crate::values::has_many_walks;
 use am_script::ScriptFault;
@@ -92,13 +91,12 @@ pub fn is_script(rt: &HostRuntime, name: &str) -> Result<bool> {
 }
 
 fn goes_with_files(alloc: Global, script: &Script) -> Result<bool> {
-    let fault = words_of(script.fault.as_slice())?;
     let example = Example {
         script: script.text.as_slice(),
-        fault,
+        fault: words_of(script.fault.as_slice())?,
         answers: script.answers.as_slice(),
     };
-    Ok(goes(alloc, &example)? && (!fault.is_empty() || goes_as_run(alloc, &example)?))
+    Ok(goes(alloc, &example)?)
 }
 
 /// Whether a script that says each event twice is played to its end, where any allocation may be
