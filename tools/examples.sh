@@ -121,6 +121,14 @@ for trace in crates/am_tests/data/*.trace; do
     expect "script $name, its trace" "$room/trace" "$trace"
 done
 
+# More mounts that are copied from one namespace to another.
+for name in private_autofs_in_another_namespace bind_of_an_autofs_is_late propagation_by_slaves mounts_of_a_reduced_copy; do
+    command -v findmnt > /dev/null || break
+    script=crates/am_tests/data/$name.script
+    play world "$script"
+    expect_found "script $name" "$script"
+done
+
 # Names of 255 bytes, with a backslash and quotes, and with bytes that aren't UTF-8.
 long=$(printf '%0255d' 0)
 {
