@@ -276,5 +276,9 @@ fn lend<'a>(alloc: Global, words: &'a [String]) -> Result<Vec<&'a str>, AllocErr
     ensures { IfOk result (λ lent. map (λ word. word.now) lent.items ≡ map
         (λ word. string_bytes word) words.now) }
 {
-    words.iter().map(|word| word.as_str()).collect(alloc)
+    let mut lent = Vec::new(alloc);
+    for word in words {
+        lent.push(word.as_str())?;
+    }
+    Ok(lent)
 }
