@@ -78,14 +78,6 @@ fn is_walk(walk: &Walk, traps: &[Trap], end: End) -> bool {
     are_passed(walk.passed.as_slice(), traps) && end.is(&walk.stop)
 }
 
-fn is_found(found: &Option<Trigger>, expected: Option<Trap>) -> bool {
-    match (found, expected) {
-        (Some(trigger), Some(trap)) => trap.is(trigger),
-        (None, None) => true,
-        _ => false,
-    }
-}
-
 fn digit(number: u64) -> u8 {
     b'0' + (number % 10) as u8
 }
@@ -359,8 +351,11 @@ impl Parts {
     }
 
     fn picks(&self, alloc: Global, ask: Ask, expected: Option<Trap>) -> Result<bool, Errno> {
-        let found = self.pick(alloc, ask)?;
-        Ok(is_found(&found, expected))
+        match (self.pick(alloc, ask)?, expected) {
+            (Some(trigger), Some(trap)) => Ok(trap.is(&trigger)),
+            (None, None) => Ok(true),
+            _ => Ok(false),
+        }
     }
 
     fn counts(
@@ -370,8 +365,11 @@ impl Parts {
         expected: Option<Trap>,
         looks: usize,
     ) -> Result<bool, Errno> {
-        let (found, count) = self.pick_counted(alloc, ask)?;
-        Ok(count == looks && is_found(&found, expected))
+        match (self.pick_counted(alloc, ask)?, expected) {
+            ((Some(trigger), count), Some(trap)) => Ok(count == looks && trap.is(&trigger)),
+            ((None, count), None) => Ok(count == looks),
+            _ => Ok(false),
+        }
     }
 
     fn is_last_use(&self, trap: Trap, expected: Option<u64>) -> Result<bool, Errno> {
