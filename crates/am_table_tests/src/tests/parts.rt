@@ -365,9 +365,10 @@ impl Parts {
         expected: Option<Trap>,
         looks: usize,
     ) -> Result<bool, Errno> {
-        match (self.pick_counted(alloc, ask)?, expected) {
-            ((Some(trigger), count), Some(trap)) => Ok(count == looks && trap.is(&trigger)),
-            ((None, count), None) => Ok(count == looks),
+        let (found, count) = self.pick_counted(alloc, ask)?;
+        match (found, expected) {
+            (Some(trigger), Some(trap)) => Ok(count == looks && trap.is(&trigger)),
+            (None, None) => Ok(count == looks),
             _ => Ok(false),
         }
     }
