@@ -14,26 +14,10 @@ use Rattle.am_script.specs.Lines.{is_long, are_skipped}
 use Rattle.am_script.specs.Limits.{limits_read}
 use Rattle.am_script.specs.Sections.{Section, Part, Alone, Whole, Unended, Long, parts_in, part_by, with_line, is_end, are_only, map_name}
 use Rattle.am_script.specs.Head.{Head, Headed, Begins, Ends, Faulty, is_map, is_limits, limits_by, limits_then, master_then, master_by, maps_then, section_read, bad, too_long}
+use Rattle.am_script.specs.HeadLeft.{stage_then, section_then, left_in, head_left}
 use Rattle.am_script.specs.Heading.{HeadSoFar, Taken, GoesOn, EventsBegin, Stops, line_taken, short_taken, words_taken, alone_taken, limits_taken, may_open, closed, mastered, first_open}
 
--- what a head goes on as that has said this, outside of sections
-abbrev pub stage_then : Stage → Head → List Part → Headed
-stage_then stages.Start said parts = limits_then said parts
-stage_then stages.Limited said parts = master_then said parts
-stage_then stages.Mastered said parts = maps_then said parts
-
--- the same in a section
-abbrev pub section_then : Section → Head → List Part → Headed
-section_then section said parts = if is_map section then maps_then said parts else master_then said parts
-
-abbrev pub left_in : Option Section → HeadSoFar → ℕ → List (List ℕ) → Headed
-left_in None head before lines = stage_then head.stage head.said (parts_in None before lines)
-left_in (Some section) head before lines = section_then section head.said (parts_in (Some section) before lines)
-
--- how the head goes whose lines so far say this, where these lines are left
-abbrev pub head_left : HeadSoFar → ℕ → List (List ℕ) → Headed
-head_left head before lines = left_in head.within head before lines
-
+-- what follows a line by what it makes of the head
 abbrev pub follows : Taken → ℕ → (HeadSoFar → Headed) → Headed
 follows (GoesOn next) number others = others next
 follows (EventsBegin head) number others = Begins head.said number

@@ -1,6 +1,8 @@
+pub mod Answering
+pub mod Closing
 pub mod CutLine
 pub mod FirstRead
-pub mod Going
+pub mod HeadPlaying
 pub mod HeadSteps
 pub mod Heads
 pub mod IndexLemmas
@@ -13,4 +15,6 @@ pub mod Numerals
 pub mod OwedLemmas
 pub mod Openings
 pub mod Pieces
+pub mod PlayerLemmas
+pub mod ReadingLemmas
 pub mod Writes

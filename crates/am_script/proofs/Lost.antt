@@ -7,22 +7,7 @@ use Rattle.am_machine.specs.declared.answer.Answer.{Answer}
 use Rattle.am_script.specs.Answers.{answer_line}
 use Rattle.am_script.specs.Outputs.{Owed, owed_by, bytes_of}
 use Rattle.am_script.specs.Played.{lines_for}
-use Rattle.am_script.specs.Script.{Numbered}
-
--- an event of a line, and its answer
-pub record Answered : Type 0 where
-  pub asked : Numbered
-  pub answer : Answer
-
-abbrev pub asked_in : List Answered → List Numbered
-asked_in rows = map (λ row. row.asked) rows
-
-abbrev pub answers_in : List Answered → List Answer
-answers_in rows = map (λ row. row.answer) rows
-
--- the bytes of these answers
-abbrev pub owed_for : List Answered → List Owed
-owed_for rows = flat_map (λ row. owed_by row.asked.line (answer_line row.answer)) rows
+use Rattle.am_script.specs.Playing.{Answered, asked_in, answers_in, owed_for}
 
 pub owed_push : (rows : List Answered) (row : Answered) → owed_for (rows ++ row ∷ []) ≡ owed_for rows ++ owed_by row.asked.line (answer_line row.answer)
 owed_push rows row =

@@ -15,8 +15,9 @@ use Rattle.am_script.specs.Read.{cut_line, cut_kind, played, broken}
 use Rattle.am_script.specs.Script.{Script, Told, script_from, script_of, script_by, begun_by, events_from, head_ends, told_by, only_fault, without_world, line_read}
 use Rattle.am_script.specs.Turns.{LineReadAs, SaysEvent}
 use Rattle.am_script.specs.declared.fault.ScriptFaultKind.TheVariants as kinds
-use Rattle.am_script.proofs.Heads.{IsLeft, went, begun, taken_within, ended}
-use Rattle.am_script.proofs.Going.{events_step}
+use Rattle.am_script.specs.HeadLeft.{IsLeft}
+use Rattle.am_script.proofs.Heads.{went, begun, taken_within, ended}
+use Rattle.am_script.proofs.Answering.{events_step}
 use Rattle.am_script.proofs.Inputs.{cut_script, cut_text}
 
 no_room : (count number : ℕ) (fault : ScriptFault) → fault ≡ fault_at number NoMemory → 1 ≤ number → number ≤ count → NoRoom count fault

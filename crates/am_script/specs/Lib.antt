@@ -5,6 +5,7 @@ pub mod EventWords
 pub mod Events
 pub mod Fault
 pub mod Head
+pub mod HeadLeft
 pub mod Heading
 pub mod Inside
 pub mod Limits
@@ -15,7 +16,9 @@ pub mod Numbers
 pub mod Opened
 pub mod Outputs
 pub mod Played
+pub mod Playing
 pub mod Read
+pub mod Reading
 pub mod Script
 pub mod Sections
 pub mod Turns

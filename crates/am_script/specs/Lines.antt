@@ -1,5 +1,5 @@
 -- The lines of a text, and those that are skipped. The words of a line are am_lines'.
-use Rattle.std.specs.Prelude.{ℕ, ◌+◌, Bool, true, nat_lt, List, [], ◌∷◌, length, Option, None, Some}
+use Rattle.std.specs.Prelude.{◌≡◌, ℕ, ◌+◌, Bool, true, false, nat_lt, All, List, [], ◌∷◌, ◌++◌, length, Option, None, Some}
 use Rattle.std.specs.List.{slice_split}
 use Rattle.am_lines.specs.Lines.{is_line_feed}
 use Rattle.am_lines.specs.Words.{begins_with}
@@ -27,3 +27,12 @@ is_long line = nat_lt 8192 (length line)
 abbrev pub are_skipped : List (List ℕ) → Bool
 are_skipped [] = true
 are_skipped (word ∷ words) = begins_with 35 word
+
+-- no line ends among these bytes
+abbrev pub EndsNoLine : List ℕ → Type 0
+EndsNoLine bytes = All (λ b. is_line_feed b ≡ false) bytes
+
+-- the first line of these bytes ends, and these stand behind its line feed
+pub record IsCut (bytes line rest : List ℕ) : Type 0 where
+  pub parts : bytes ≡ line ++ 10 ∷ rest
+  pub whole : EndsNoLine line

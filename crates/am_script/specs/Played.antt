@@ -1,6 +1,6 @@
 -- How a script is played: its answers are those of a run from its world, and their lines are
 -- what is written.
-use Rattle.std.specs.Prelude.{◌≡◌, ◌⊎◌, ◌<◌, ◌≤◌, ℕ, List, [], ◌∷◌, ◌++◌, length, take, count_by, Option, None, Some, Result, Ok, Err}
+use Rattle.std.specs.Prelude.{⊤, ◌≡◌, ◌⊎◌, ◌<◌, ◌≤◌, ℕ, List, [], ◌∷◌, ◌++◌, length, take, count_by, Option, None, Some, Result, Ok, Err}
 use Rattle.std.specs.List.{flat_map}
 use Rattle.std.specs.Io.KnownBytes.{Appends, Consumes, IsAtEnd}
 use Rattle.am_machine.specs.declared.answer.Answer.{Answer}
@@ -8,12 +8,12 @@ use Rattle.am_machine.specs.State.{State, Opening, opening_of}
 use Rattle.am_machine.specs.Machine.{Run}
 use Rattle.am_script.specs.declared.fault.ScriptFault.{ScriptFault}
 use Rattle.am_script.specs.declared.fault.ScriptFaultKind.{ScriptFaultKind}
-use Rattle.am_script.specs.declared.fault.ScriptFaultKind.TheVariants.{BadSection, NoMemory, WriteFailed}
+use Rattle.am_script.specs.declared.fault.ScriptFaultKind.TheVariants.{BadSection, NoMemory, ReadFailed, WriteFailed}
 use Rattle.am_script.specs.declared.play.Summary.{Summary}
 use Rattle.am_script.specs.Fault.{fault_at}
 use Rattle.am_script.specs.Lines.{lines_of}
 use Rattle.am_script.specs.Answers.{answer_line, is_refused}
-use Rattle.am_script.specs.Read.{WasRead, played}
+use Rattle.am_script.specs.Read.{played}
 use Rattle.am_script.specs.Script.{Numbered, events_in, Told, Script, script_of}
 
 abbrev pub lines_for : List Answer → List ℕ
@@ -107,12 +107,44 @@ pub record PlaysInput (input rest old new : Option (List ℕ)) (summary : Summar
   pub ended : IsAtEnd rest
   pub whole : IsPlayed (script_of None text) old new summary
 
--- what was read, to its end or not, isn't played to its end
+-- a script with a world stops at the last of so many lines, but where the writer failed
+abbrev pub HaltsAt : Option Opening → ScriptFault → ℕ → Type 0
+HaltsAt None fault last = ⊤
+HaltsAt (Some opening) fault last = (fault.kind ≡ WriteFailed) ⊎ (fault.line ≡ last)
+
+pub record HaltsIn (script : Script) (last : ℕ) (old new : Option (List ℕ)) (fault : ScriptFault) : Type 0 where
+  pub stopped : IsStopped last script old new fault
+  pub here : HaltsAt script.opening fault last
+
+-- what was read behind a line: nothing, or its line feed and at most 4,095 bytes
+abbrev pub IsAhead : List ℕ → Type 0
+IsAhead [] = ⊤
+IsAhead (b ∷ bytes) = (b ≡ 10) × (length bytes ≤ 4095)
+
+-- The script stops at the last line of what was read, but for what was read ahead. It stops so whatever
+-- else the input has.
+pub record Halts (text : List ℕ) (old new : Option (List ℕ)) (fault : ScriptFault) : Type 0 where
+  pub upto : List ℕ
+  pub ahead : List ℕ
+  pub parts : text ≡ upto ++ ahead
+  pub few : IsAhead ahead
+  pub halts : (more : List ℕ) → HaltsIn (script_of None (text ++ more)) (length (lines_of upto)) old new fault
+
+-- the input was read to its end
+pub record StopsAtEnd (rest : Option (List ℕ)) (text : List ℕ) (old new : Option (List ℕ)) (fault : ScriptFault) : Type 0 where
+  pub ended : IsAtEnd rest
+  pub stopped : IsStopped (length (lines_of text)) (script_of None text) old new fault
+
+-- the reader failed, or was asked too often
+abbrev pub BreaksOff : List ℕ → Option (List ℕ) → Option (List ℕ) → ScriptFault → Type 0
+BreaksOff text old new fault =
+    IsStopped (length (lines_of (played (Some ReadFailed) text))) (script_of (Some ReadFailed) text) old new fault
+
+-- what was read isn't played to its end
 pub record StopsInput (input rest old new : Option (List ℕ)) (fault : ScriptFault) : Type 0 where
   pub text : List ℕ
-  pub broke : Option ScriptFaultKind
-  pub read : WasRead input rest text broke
-  pub stopped : IsStopped (length (lines_of (played broke text))) (script_of broke text) old new fault
+  pub read : Consumes input rest text
+  pub stops : StopsAtEnd rest text old new fault ⊎ (BreaksOff text old new fault ⊎ Halts text old new fault)
 
 -- ---- the end of a head
 

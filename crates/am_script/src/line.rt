@@ -3,9 +3,10 @@
 ghost use Rattle.std.specs.Prelude.{◌≡◌, ◌+◌, ◌<◌, ◌≤◌, ◌∷◌, [], length, position, IfNone, IfSome, option_copied};
 ghost use Rattle.am_lines.specs.Lines.{is_line_feed};
 ghost use Rattle.am_lines.specs.Words.{words_of};
-ghost use Rattle.am_script.specs.Lines.{lines_of, lines_in, size_in, is_long, are_skipped};
-ghost use Rattle.am_script.specs.Read.{cut_line};
+ghost use Rattle.am_script.specs.Lines.{lines_of, lines_in, size_in, is_long, are_skipped, EndsNoLine, IsCut};
+ghost use Rattle.am_script.specs.Read.{cut_line, cut_kind};
 
+use crate::fault::ScriptFaultKind;
 use am_lines::{begins_with, next_word};
 
 /// The first line, without its line feed, and what stands behind that, if there is one.
@@ -18,6 +19,15 @@ pub fn split_line(text: &[u8]) -> (&[u8], Option<&[u8]>)
         None => (text, None),
         Some(at) => (&text[..at], Some(&text[at + 1..])),
     }
+}
+
+/// The first line, and what stands behind its line feed, if it has one.
+pub fn split_end(text: &[u8]) -> Option<(&[u8], &[u8])>
+    ensures none { IfNone result (EndsNoLine text.now) }
+    ensures some { IfSome result (λ parts. IsCut text.now parts.0.now parts.1.now) }
+{
+    let at = line_feed_place(text)?;
+    Some((&text[..at], &text[at + 1..]))
 }
 
 /// What stands behind the last line feed.
@@ -63,4 +73,14 @@ pub fn is_skipped(line: &[u8]) -> bool
         None => true,
         Some((word, _)) => begins_with(word, b'#'),
     }
+}
+
+/// A line that is too long is told before the fault that cuts it.
+pub fn cut_kind(cut: &[u8], kind: ScriptFaultKind) -> ScriptFaultKind
+    ensures { result ≡ cut_kind cut.now kind }
+{
+    if is_long(cut) {
+        return ScriptFaultKind::LongLine;
+    }
+    kind
 }

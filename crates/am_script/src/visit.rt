@@ -10,8 +10,7 @@ ghost use Rattle.am_script.specs.Script.{script_from, script_of, events_from, be
 use crate::fault::{ScriptFault, ScriptFaultKind};
 use crate::heading::Heading;
 pub use crate::input::{Input, read_all, read_at_most};
-use crate::line::{cut_line, split_line};
-use crate::play::cut_kind;
+use crate::line::{cut_kind, cut_line, split_line};
 pub use crate::turn::close;
 use crate::turn::read_line;
 use am_world::{Event, World};

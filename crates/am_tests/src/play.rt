@@ -1,9 +1,9 @@
-//! Scripts that are played in every way: whole, of a reader that gives one byte at a time, and event
+//! Scripts that are played in every way: whole, of readers that give a few bytes at a time, and event
 //! by event.
 
 use crate::by_event::play_by_event;
 use crate::cases::{Case, decoded, put, script_of};
-use crate::readers::Breaks;
+use crate::readers::Pieces;
 use am_script::visit::Input;
 use am_script::{ScriptFault, ScriptFaultKind, Summary, run_script};
 use std::alloc::{AllocError, Global};
@@ -91,24 +91,42 @@ pub fn goes_whole(alloc: Global, example: &Example<'_>) -> Result<bool, AllocErr
     is_end(alloc, example, end, output.as_slice())
 }
 
-/// Plays a script of a reader that gives a byte at a time, and then fails so, if it does.
-pub fn play_bytes(
+/// How many bytes a reader gives at a time: a few, and about as many as it is asked for.
+const SIZES: [usize; 4] = [1, 7, 4_095, 4_096];
+
+/// Plays a script of a reader that gives so many bytes at a time, and then fails so, if it does.
+fn play_pieces(
     alloc: Global,
     text: &[u8],
+    most: usize,
     fault: Option<ErrorKind>,
     output: &mut Vec<u8>,
 ) -> Result<Summary, ScriptFault> {
-    run_script(alloc, &mut Breaks { text, fault }, output)
+    run_script(alloc, &mut Pieces { text, most, fault }, output)
 }
 
-fn goes_byte_by_byte(
+fn goes_in_pieces_of(
+    alloc: Global,
+    example: &Example<'_>,
+    most: usize,
+    fault: Option<ErrorKind>,
+) -> Result<bool, AllocError> {
+    let mut output = Vec::new(alloc);
+    let end = play_pieces(alloc, example.script, most, fault, &mut output);
+    is_end(alloc, example, end, output.as_slice())
+}
+
+fn goes_in_pieces(
     alloc: Global,
     example: &Example<'_>,
     fault: Option<ErrorKind>,
 ) -> Result<bool, AllocError> {
-    let mut output = Vec::new(alloc);
-    let end = play_bytes(alloc, example.script, fault, &mut output);
-    is_end(alloc, example, end, output.as_slice())
+    for most in SIZES {
+        if !goes_in_pieces_of(alloc, example, most, fault)? {
+            return Ok(false);
+        }
+    }
+    Ok(true)
 }
 
 /// Event by event, and then reading breaks off so, if it does.
@@ -128,7 +146,7 @@ fn goes_by_event(
 pub fn goes(alloc: Global, example: &Example<'_>) -> Result<bool, AllocError> {
     Ok(
         goes_whole(alloc, example)?
-            && goes_byte_by_byte(alloc, example, None)?
+            && goes_in_pieces(alloc, example, None)?
             && goes_by_event(alloc, example, None)?,
     )
 }
@@ -137,8 +155,8 @@ pub fn goes(alloc: Global, example: &Example<'_>) -> Result<bool, AllocError> {
 /// again.
 pub fn goes_broken(alloc: Global, example: &Example<'_>) -> Result<bool, AllocError> {
     Ok(
-        goes_byte_by_byte(alloc, example, Some(ErrorKind::Other))?
-            && goes_byte_by_byte(alloc, example, Some(ErrorKind::Interrupted))?
+        goes_in_pieces(alloc, example, Some(ErrorKind::Other))?
+            && goes_in_pieces(alloc, example, Some(ErrorKind::Interrupted))?
             && goes_by_event(alloc, example, Some(ScriptFaultKind::ReadFailed))?,
     )
 }
@@ -189,25 +207,68 @@ pub fn is_broken_case(alloc: Global, head: &str, case: &Case<'_>) -> Result<bool
 }
 
 /// The events of a long script.
-const MANY: usize = 20_000;
+const MANY: usize = 100_000;
 
 /// A text, so many times behind another.
-fn many(alloc: Global, before: &[u8], text: &[u8]) -> Result<Vec<u8>, AllocError> {
+fn times(alloc: Global, before: &[u8], count: usize, text: &[u8]) -> Result<Vec<u8>, AllocError> {
     let mut whole = Vec::from_slice(alloc, before)?;
-    for _ in 0..MANY {
+    for _ in 0..count {
         whole.extend_from_slice(text)?;
     }
     Ok(whole)
 }
 
-/// Whether a long script is played that is read in some 180,000 pieces, and written in some thirty.
+/// Whether a long script is played that is read in hundreds of pieces, or byte by byte.
 pub fn is_long_script_played(alloc: Global) -> Result<bool, AllocError> {
-    let script = many(alloc, b"events\n", b"kind 0 /\n")?;
-    let answers = many(alloc, b"", b"kind private\n")?;
+    let script = times(alloc, b"events\n", MANY, b"kind 0 /\n")?;
+    let answers = times(alloc, b"", MANY, b"kind private\n")?;
     let example = Example {
         script: script.as_slice(),
         fault: "",
         answers: answers.as_slice(),
     };
-    goes_byte_by_byte(alloc, &example, None)
+    goes_in_pieces(alloc, &example, None)
+}
+
+/// How many bytes are read at once.
+const READ: usize = 4_096;
+
+/// The line `events`, a comment of so many bytes, and an event.
+fn with_comment(alloc: Global, len: usize) -> Result<Vec<u8>, AllocError> {
+    let mut script = times(alloc, b"", READ, b" ")?;
+    script.extend_from_slice(b"\nevents\n")?;
+    let mut script = times(alloc, script.as_slice(), len, b"#")?;
+    script.extend_from_slice(b"\nkind 0 /\n")?;
+    Ok(script)
+}
+
+/// Whether a line of so many bytes goes so wherever it begins in what is read at once.
+fn goes_at_each_place(
+    alloc: Global,
+    len: usize,
+    fault: &str,
+    answers: &[u8],
+) -> Result<bool, AllocError> {
+    let script = with_comment(alloc, len)?;
+    for place in 0..READ.min(script.len()) {
+        let example = Example {
+            script: &script.as_slice()[place..],
+            fault,
+            answers,
+        };
+        if !goes_in_pieces_of(alloc, &example, READ, None)? {
+            return Ok(false);
+        }
+    }
+    Ok(true)
+}
+
+/// Whether lines that are just not too long, and one that is, go as they must wherever they begin in
+/// what is read at once.
+pub fn are_long_lines_played(alloc: Global) -> Result<bool, AllocError> {
+    Ok(
+        goes_at_each_place(alloc, 8_191, "", b"kind private\n")?
+            && goes_at_each_place(alloc, 8_192, "", b"kind private\n")?
+            && goes_at_each_place(alloc, 8_193, "line 3: LongLine", b"")?,
+    )
 }

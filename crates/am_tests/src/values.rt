@@ -1,8 +1,8 @@
-//! Values that no script shows: how large events are, long lists of them, rare answers, and the
-//! numbers of faults.
+//! Values that no script shows: how large events are, long lists of them, rare answers, the numbers of
+//! faults, long scripts and long lines.
 
 use crate::event_lines::is_no_event;
-use crate::play::is_long_script_played;
+use crate::play::{are_long_lines_played, is_long_script_played};
 use crate::readers::are_read;
 use am_map::MapFaultKind;
 use am_master::MasterFaultKind;
@@ -106,6 +106,7 @@ pub fn are_as_expected(alloc: Global) -> Result<bool, AllocError> {
         are_values
             && has_many_walks(alloc)?
             && are_rare_answers(alloc)?
-            && is_long_script_played(alloc)?,
+            && is_long_script_played(alloc)?
+            && are_long_lines_played(alloc)?,
     )
 }

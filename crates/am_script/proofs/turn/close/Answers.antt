@@ -1,4 +1,4 @@
-use Rattle.am_script.proofs.Going.{closes_whole, closes_short}
+use Rattle.am_script.proofs.Closing.{closes_whole, closes_short}
 use Rattle.am_script.proofs.turn.close.Goals as goal
 
 pub returns-in-None-clause-closes : goal.returns-in-None-clause-closes

@@ -1,0 +1,155 @@
+-- A script that is played line by line, while more of it may follow. For the code alone.
+use Rattle.std.specs.Prelude.{⊤, ◌≡◌, ◌⊎◌, ℕ, ◌+◌, ◌≤◌, Bool, true, List, [], ◌∷◌, ◌++◌, length, map, count_by, Option, None, Some, Result, Ok}
+use Rattle.std.specs.List.{flat_map}
+use Rattle.am_machine.specs.declared.answer.Answer.{Answer}
+use Rattle.am_machine.specs.State.{State, Opening, opening_in, opening_of}
+use Rattle.am_machine.specs.Machine.{Run}
+use Rattle.am_script.specs.declared.fault.ScriptFault.{ScriptFault}
+use Rattle.am_script.specs.declared.fault.ScriptFaultKind.{ScriptFaultKind}
+use Rattle.am_script.specs.declared.output.Output.{Output}
+use Rattle.am_script.specs.declared.play.Summary.{Summary}
+use Rattle.am_script.specs.declared.player.Place.{Place}
+use Rattle.am_script.specs.declared.player.Place.TheVariants as places
+use Rattle.am_script.specs.declared.player.Player.{Player}
+use Rattle.am_script.specs.Answers.{answer_line, is_refused}
+use Rattle.am_script.specs.Fault.{IsFaultOr}
+use Rattle.am_script.specs.HeadLeft.{IsLeft}
+use Rattle.am_script.specs.Heading.{HeadSoFar, Taken, GoesOn, EventsBegin, StopsAt, line_taken}
+use Rattle.am_script.specs.Lines.{is_long}
+use Rattle.am_script.specs.Maps.{opening_read}
+use Rattle.am_script.specs.Outputs.{Owed, owed_by, Stands}
+use Rattle.am_script.specs.Played.{HaltsIn, IsPlayed, IsStopped}
+use Rattle.am_script.specs.Script.{Numbered, Told, Script, events_in, events_from, script_from}
+use Rattle.am_world.specs.Table.{WorldTable, state_of}
+
+-- ---- what may follow
+
+-- how a script goes on behind its first lines: with these lines, and a fault of the reading behind them
+pub record Ending : Type 0 where
+  pub broke : Option ScriptFaultKind
+  pub lines : List (List ℕ)
+
+-- one more line before that
+abbrev pub with_next : List ℕ → Ending → Ending
+with_next line ending = record ending { lines = line ∷ ending.lines }
+
+-- the script that begins with these lines
+abbrev pub script_behind : List (List ℕ) → Ending → Script
+script_behind front ending = script_from ending.broke (front ++ ending.lines)
+
+-- ---- events that are answered
+
+-- an event of a line, and its answer
+pub record Answered : Type 0 where
+  pub asked : Numbered
+  pub answer : Answer
+
+abbrev pub asked_in : List Answered → List Numbered
+asked_in rows = map (λ row. row.asked) rows
+
+abbrev pub answers_in : List Answered → List Answer
+answers_in rows = map (λ row. row.answer) rows
+
+-- the bytes of these answers
+abbrev pub owed_for : List Answered → List Owed
+owed_for rows = flat_map (λ row. owed_by row.asked.line (answer_line row.answer)) rows
+
+-- these events come first
+abbrev pub behind : List Numbered → Told → Told
+behind done told = record told { events = done ++ told.events }
+
+-- ---- how far a script has come
+
+-- these lines of a head were taken, and have said this; nothing is written
+pub record HeadStands (heading : HeadSoFar) (number : ℕ) (summary : Summary) (output : Output) (front : List (List ℕ)) (start now : Option (List ℕ)) : Type 0 where
+  pub counted : length front ≡ number
+  pub left : (rest : List (List ℕ)) → IsLeft (front ++ rest) heading number rest
+  pub empty : Stands output [] start now
+  pub lines : summary.lines ≡ 0
+  pub refused : summary.refused ≡ 0
+
+-- these lines were taken, and the events among them are answered; their answers are put out
+pub record EventsStand (state : State) (number : ℕ) (summary : Summary) (output : Output) (front : List (List ℕ)) (start now : Option (List ℕ)) : Type 0 where
+  pub counted : length front ≡ number
+  pub opening : Opening
+  pub rows : List Answered
+  pub goes : (ending : Ending) → script_behind front ending ≡ record { opening = Some opening; told = behind (asked_in rows) (events_from ending.broke number ending.lines) }
+  pub run : Run (opening_of opening) (events_in (asked_in rows)) (answers_in rows) state
+  pub stands : Stands output (owed_for rows) start now
+  pub lines : summary.lines ≡ length rows
+  pub refused : summary.refused ≡ count_by is_refused (answers_in rows)
+
+abbrev pub PlaceStands : Place → ℕ → Summary → Output → List (List ℕ) → Option (List ℕ) → Option (List ℕ) → Type 0
+PlaceStands (places.Head heading) number summary output front start now =
+    HeadStands heading number summary output front start now
+PlaceStands (places.Events world) number summary output front start now =
+    EventsStand (state_of world) number summary output front start now
+
+-- these lines of a script were played, since the writer held what it did at the start
+abbrev pub PlayerStands : Player → List (List ℕ) → Option (List ℕ) → Option (List ℕ) → Type 0
+PlayerStands player front start now =
+    PlaceStands player.place player.number player.summary player.output front start now
+
+-- ---- one line more
+
+-- what a line makes of a head: it goes on, or the world begins that the head opens
+abbrev pub HeadTaken : HeadSoFar → ℕ → List ℕ → HeadSoFar → Option WorldTable → Type 0
+HeadTaken old number line new None = line_taken old number line ≡ GoesOn new
+HeadTaken old number line new (Some world) =
+    (whole : HeadSoFar) × (line_taken old number line ≡ EventsBegin whole)
+    × (opening_read whole.said ≡ Ok (opening_in (state_of world))) × (state_of world ≡ opening_of (opening_in (state_of world)))
+
+-- where a player is then
+abbrev pub place_after : HeadSoFar → Option WorldTable → Place
+place_after heading None = places.Head heading
+place_after heading (Some world) = places.Events world
+
+-- the line stops the head, or the world of the head that it ends can't begin
+abbrev pub HeadStops : HeadSoFar → ℕ → List ℕ → ScriptFault → Type 0
+HeadStops old number line fault =
+    StopsAt number (line_taken old number line) fault
+    ⊎ ((whole : HeadSoFar) × (line_taken old number line ≡ EventsBegin whole) × IsFaultOr number fault (opening_read whole.said))
+
+-- the line is played, whatever came before
+abbrev pub TakesLine : Player → Player → List ℕ → Option (List ℕ) → Option (List ℕ) → Type 0
+TakesLine old new line held holds =
+    (front : List (List ℕ)) → (start : Option (List ℕ)) → PlayerStands old front start held
+    → PlayerStands new (front ++ line ∷ []) start holds
+
+-- the script stops at the line, whatever came before and whatever follows
+abbrev pub StopsAtLine : Player → List ℕ → Option (List ℕ) → Option (List ℕ) → ScriptFault → Type 0
+StopsAtLine player line held holds fault =
+    (front : List (List ℕ)) → (start : Option (List ℕ)) → PlayerStands player front start held
+    → (ending : Ending) → HaltsIn (script_behind front (with_next line ending)) (length front + 1) start holds fault
+
+-- the script stops at any line that is too long
+abbrev pub StopsAtLong : Player → Option (List ℕ) → Option (List ℕ) → ScriptFault → Type 0
+StopsAtLong player held holds fault =
+    (line : List ℕ) → is_long line ≡ true → StopsAtLine player line held holds fault
+
+-- ---- answers are written
+
+-- no line is played, but answers are written
+abbrev pub Flushes : Player → Player → Option (List ℕ) → Option (List ℕ) → Type 0
+Flushes old new held holds =
+    (front : List (List ℕ)) → (start : Option (List ℕ)) → PlayerStands old front start held → PlayerStands new front start holds
+
+-- an answer isn't written whole, so the script stops, whatever follows
+abbrev pub LosesAnswer : Player → Option (List ℕ) → Option (List ℕ) → ScriptFault → Type 0
+LosesAnswer player held holds fault =
+    (front : List (List ℕ)) → (start : Option (List ℕ)) → PlayerStands player front start held
+    → (ending : Ending) → (last : ℕ) → HaltsIn (script_behind front ending) last start holds fault
+
+-- ---- no line follows
+
+-- the script of the lines that were taken is played to its end
+abbrev pub EndsPlayed : Player → Option ScriptFaultKind → Option (List ℕ) → Option (List ℕ) → Summary → Type 0
+EndsPlayed player broke held holds summary =
+    (front : List (List ℕ)) → (start : Option (List ℕ)) → PlayerStands player front start held
+    → IsPlayed (script_from broke front) start holds summary
+
+-- it isn't
+abbrev pub EndsStopped : Player → Option ScriptFaultKind → Option (List ℕ) → Option (List ℕ) → ScriptFault → Type 0
+EndsStopped player broke held holds fault =
+    (front : List (List ℕ)) → (start : Option (List ℕ)) → PlayerStands player front start held
+    → IsStopped (length front) (script_from broke front) start holds fault

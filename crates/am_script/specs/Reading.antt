@@ -1,0 +1,49 @@
+-- A script that is read in pieces, each of which ends anywhere. For the code alone.
+use Rattle.std.specs.Prelude.{◌≡◌, ◌≤◌, ℕ, List, ◌++◌, length, Option, None}
+use Rattle.am_script.specs.declared.fault.ScriptFault.{ScriptFault}
+use Rattle.am_script.specs.declared.reading.Reading.{Reading}
+use Rattle.am_script.specs.Lines.{lines_of, EndsNoLine}
+use Rattle.am_script.specs.declared.play.Summary.{Summary}
+use Rattle.am_script.specs.Played.{IsPlayed, IsStopped, Halts, BreaksOff}
+use Rattle.am_script.specs.Script.{script_of}
+use Rattle.am_script.specs.Playing.{PlayerStands}
+
+-- these bytes were read: whole lines, which were played, and the beginning of a line, which is held
+pub record ReadingStands (reading : Reading) (text : List ℕ) (start now : Option (List ℕ)) : Type 0 where
+  pub front : List (List ℕ)
+  pub whole : List ℕ
+  pub parts : text ≡ whole ++ reading.held.items
+  pub splits : (rest : List ℕ) → lines_of (whole ++ rest) ≡ front ++ lines_of rest
+  pub cut : EndsNoLine reading.held.items
+  pub short : length reading.held.items ≤ 8192
+  pub stands : PlayerStands reading.player front start now
+
+-- these bytes are played, whatever was read before
+abbrev pub TakesBytes : Reading → Reading → List ℕ → Option (List ℕ) → Option (List ℕ) → Type 0
+TakesBytes old new bytes held holds =
+    (text : List ℕ) → (start : Option (List ℕ)) → ReadingStands old text start held → ReadingStands new (text ++ bytes) start holds
+
+-- the script stops among these bytes, whatever was read before
+abbrev pub StopsInBytes : Reading → List ℕ → Option (List ℕ) → Option (List ℕ) → ScriptFault → Type 0
+StopsInBytes old bytes held holds fault =
+    (text : List ℕ) → (start : Option (List ℕ)) → ReadingStands old text start held → Halts (text ++ bytes) start holds fault
+
+-- ---- no byte follows
+
+-- the script that was read is played to its end
+abbrev pub EndsRead : Reading → Option (List ℕ) → Option (List ℕ) → Summary → Type 0
+EndsRead reading held holds summary =
+    (text : List ℕ) → (start : Option (List ℕ)) → ReadingStands reading text start held
+    → IsPlayed (script_of None text) start holds summary
+
+-- it isn't
+abbrev pub StopsRead : Reading → Option (List ℕ) → Option (List ℕ) → ScriptFault → Type 0
+StopsRead reading held holds fault =
+    (text : List ℕ) → (start : Option (List ℕ)) → ReadingStands reading text start held
+    → IsStopped (length (lines_of text)) (script_of None text) start holds fault
+
+-- reading broke off within a line
+abbrev pub BreaksRead : Reading → Option (List ℕ) → Option (List ℕ) → ScriptFault → Type 0
+BreaksRead reading held holds fault =
+    (text : List ℕ) → (start : Option (List ℕ)) → ReadingStands reading text start held
+    → BreaksOff text start holds fault

@@ -1,0 +1,134 @@
+//! A script that is read in pieces.
+
+ghost use Rattle.std.specs.Prelude.{◌≡◌, ◌+◌, ◌<◌, ◌≤◌, ◌^◌, ◌++◌, [], length, IsOk, IfOk, IfErr, OnOk};
+ghost use Rattle.std.specs.Prelude.{List, ℕ, Option};
+
+use crate::fault::{ScriptFault, ScriptFaultKind};
+use crate::line::split_end;
+use crate::play::Summary;
+use crate::player::Player;
+use arrayvec::ArrayVec;
+use std::alloc::Global;
+use std::io::{Read, Write};
+
+/// How often a reader is asked, so that the numbers of lines fit.
+const MOST_READS: u64 = 1 << 48;
+
+/// A script as far as it was read. Whole lines are played where they were read.
+#[derive(Drop)]
+pub(crate) struct Reading {
+    pub player: Player,
+    /// What was read of a line whose end wasn't.
+    pub held: ArrayVec<u8, 8192>,
+}
+
+impl Reading {
+    ghost use Rattle.am_script.specs.Playing.{TakesLine, StopsAtLine};
+    ghost use Rattle.am_script.specs.Played.{PlaysInput, StopsInput};
+    ghost use Rattle.am_script.specs.Reading.{ReadingStands, TakesBytes, StopsInBytes, EndsRead, StopsRead, BreaksRead};
+
+    /// Nothing is read yet.
+    pub fn new(alloc: Global) -> Reading
+        ensures stands { (start : Option (List ℕ)) → ReadingStands result [] start start }
+        ensures number { result.player.number ≡ 0 }
+        ensures written { result.player.output.bytes.items ≡ [] }
+    {
+        let player = Player::new(alloc);
+        let held = ArrayVec::new();
+        Reading { player, held }
+    }
+
+    /// Plays the script that this reader has, from its beginning. The reader is asked only when no
+    /// answer is held back.
+    pub fn play<R: Read, W: Write>(
+        &mut self,
+        alloc: Global,
+        reader: &mut R,
+        writer: &mut W,
+    ) -> Result<Summary, ScriptFault>
+        requires stands { ReadingStands self.old [] (W.contents writer.old) (W.contents writer.old) }
+        requires number { self.old.player.number ≡ 0 }
+        requires written { self.old.player.output.bytes.items ≡ [] }
+        ensures ok { IfOk result (PlaysInput (R.remaining reader.old) (R.remaining reader.new) (W.contents writer.old) (W.contents writer.new)) }
+        ensures err { IfErr result (StopsInput (R.remaining reader.old) (R.remaining reader.new) (W.contents writer.old) (W.contents writer.new)) }
+    {
+        let mut buffer = [0; 4096];
+        for _ in 0..MOST_READS {
+            match reader.read(&mut buffer) {
+                Ok(0) => return self.end(alloc, writer),
+                Ok(n) => self.take_bytes(alloc, &buffer[..n], writer)?,
+                Err(_) => return self.break_off(alloc, writer),
+            }
+        }
+        self.break_off(alloc, writer)
+    }
+
+    /// Plays the lines that end among these bytes, and writes their answers.
+    fn take_bytes<W: Write>(
+        &mut self,
+        alloc: Global,
+        bytes: &[u8],
+        writer: &mut W,
+    ) -> Result<(), ScriptFault>
+        requires few { length bytes.now ≤ 4096 }
+        requires fits { self.old.player.number + length bytes.now < 2 ^ 62 }
+        ensures ok { OnOk result (TakesBytes self.old self.new bytes.now (W.contents writer.old) (W.contents writer.new)) }
+        ensures err { IfErr result (StopsInBytes self.old bytes.now (W.contents writer.old) (W.contents writer.new)) }
+        ensures written { OnOk result (self.new.player.output.bytes.items ≡ []) }
+        ensures number { OnOk result (self.new.player.number ≤ self.old.player.number + length bytes.now) }
+    {
+        let mut rest = bytes;
+        while let Some((end, after)) = split_end(rest) {
+            self.take_end(alloc, end, writer)?;
+            rest = after;
+        }
+        if let Err(_) = self.held.try_extend_from_slice(rest) {
+            return Err(self.player.stop_long(writer));
+        }
+        self.player.flush(writer)
+    }
+
+    /// Plays the line that ends with these bytes.
+    fn take_end<W: Write>(
+        &mut self,
+        alloc: Global,
+        end: &[u8],
+        writer: &mut W,
+    ) -> Result<(), ScriptFault>
+        requires { self.old.player.number < 2 ^ 62 }
+        ensures ok { OnOk result (TakesLine self.old.player self.new.player (self.old.held.items ++ end.now) (W.contents writer.old) (W.contents writer.new)) }
+        ensures err { IfErr result (StopsAtLine self.old.player (self.old.held.items ++ end.now) (W.contents writer.old) (W.contents writer.new)) }
+        ensures empty { OnOk result (self.new.held.items ≡ []) }
+        ensures number { OnOk result (self.new.player.number ≡ self.old.player.number + 1) }
+    {
+        if self.held.is_empty() {
+            return self.player.take_line(alloc, end, writer);
+        }
+        if let Err(_) = self.held.try_extend_from_slice(end) {
+            return Err(self.player.stop_long(writer));
+        }
+        self.player.take_line(alloc, self.held.as_slice(), writer)?;
+        self.held.clear();
+        Ok(())
+    }
+
+    /// The reader came to its end.
+    fn end<W: Write>(&mut self, alloc: Global, writer: &mut W) -> Result<Summary, ScriptFault>
+        requires { self.old.player.number < 2 ^ 62 }
+        ensures ok { IfOk result (EndsRead self.old (W.contents writer.old) (W.contents writer.new)) }
+        ensures err { IfErr result (StopsRead self.old (W.contents writer.old) (W.contents writer.new)) }
+    {
+        self.player.take_line(alloc, self.held.as_slice(), writer)?;
+        self.player.end(None, writer)
+    }
+
+    /// The reader failed. The fault comes at the line behind those that were read whole.
+    fn break_off<W: Write>(&mut self, alloc: Global, writer: &mut W) -> Result<Summary, ScriptFault>
+        requires { self.old.player.number < 2 ^ 62 }
+        ensures ok { ¬ IsOk result }
+        ensures err { IfErr result (BreaksRead self.old (W.contents writer.old) (W.contents writer.new)) }
+    {
+        self.player.take_line(alloc, b"", writer)?;
+        self.player.end(Some(ScriptFaultKind::ReadFailed), writer)
+    }
+}
