@@ -32,6 +32,6 @@ build:
 pages:
 	@tools/check_pages
 
-# the merge gate, refused allocations, the examples and the pages
+# the merge gate, refused allocations, the examples, the program over pipes, and the pages
 test:
 	@tools/test.sh

@@ -1,7 +1,7 @@
 #!/bin/sh
 # tools/test.sh: runs the merge gate, then the tests of worked examples with each allocation refused in turn,
-# then plays each example, and then compares what the pages name with what there is. The last line counts
-# all four.
+# then plays each example, drives the program over two pipes, and then compares what the pages name with what
+# there is. The last line counts all five.
 #
 # RT_JOBS is how many checks run side by side. Where the environment doesn't tell it, it is one for
 # each processor, but only as many as have 4 GB of free memory each, and one at least.
@@ -62,6 +62,7 @@ count() {
 
 count tools/refuse_all.sh
 count tools/examples.sh
+count tools/pipes.py
 count tools/check_pages
 
 echo "$passed passed, $failed failed"
