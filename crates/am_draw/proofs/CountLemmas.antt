@@ -6,7 +6,7 @@ use Rattle.am_script.specs.declared.fault.ScriptFaultKind.{ScriptFaultKind}
 use Rattle.am_script.specs.declared.fault.ScriptFaultKind.TheVariants as kinds
 use Rattle.am_script.specs.Opened.{NoNext}
 use Rattle.am_script.specs.Script.{Numbered, Told, told_by, only_fault}
-use Rattle.am_script.proofs.Going.{behind}
+use Rattle.am_script.specs.Playing.{behind}
 use Rattle.am_draw.specs.Drawn.{IsAtEvent, NotCounted, counted_to}
 
 -- of all events these are left, and those before are counted

@@ -13,7 +13,9 @@ use Rattle.am_script.specs.Opened.{NoRoomFor, NoNext}
 use Rattle.am_script.specs.Outputs.{Owed, owed_by, bytes_of, IsLost, Stands}
 use Rattle.am_script.specs.Script.{Numbered, Told, told_by, only_fault}
 use Rattle.am_script.specs.Turns.{IsWhole, IsShort}
-use Rattle.am_script.proofs.Going.{behind, count_more, lost_by}
+use Rattle.am_script.specs.Playing.{behind}
+use Rattle.am_script.proofs.Answering.{count_more}
+use Rattle.am_script.proofs.Closing.{lost_by}
 use Rattle.am_script.proofs.OwedLemmas.{stands_new}
 use Rattle.am_views.specs.Traced.{one_more}
 use Rattle.am_draw.specs.declared.bars.Lasting.{Lasting}

@@ -12,7 +12,8 @@ use Rattle.am_script.specs.declared.play.Summary.{Summary}
 use Rattle.am_script.specs.Answers.{is_refused}
 use Rattle.am_script.specs.Opened.{NoNext}
 use Rattle.am_script.specs.Script.{Numbered, Told, events_in, told_by, only_fault}
-use Rattle.am_script.proofs.Going.{behind, run_more, count_more}
+use Rattle.am_script.specs.Playing.{behind}
+use Rattle.am_script.proofs.Answering.{run_more, count_more}
 use Rattle.am_views.specs.Traced.{one_more}
 use Rattle.am_mountinfo.specs.WorldText.{IsWritten, EventsPlayed, NotPlayed, NotWritten, last_line, IsLastLine, WorldShown, ShowStops}
 

@@ -17,7 +17,7 @@ use Rattle.am_script.specs.Answers.{is_refused}
 use Rattle.am_script.specs.Fault.{fault_at}
 use Rattle.am_script.specs.Lines.{lines_of, lines_in, is_long}
 use Rattle.am_script.specs.Outputs.{Owed, bytes_of, IsLost, Stands, Settles}
-use Rattle.am_script.specs.Played.{StopsAtEvent, HaltsIn, IsPlayed, IsStopped, lines_for}
+use Rattle.am_script.specs.Played.{StopsAtEvent, HaltsIn, IsPlayed, lines_for}
 use Rattle.am_script.specs.Playing.{Ending, with_next, script_behind, Answered, asked_in, answers_in, owed_for, behind, EventsStand}
 use Rattle.am_script.specs.Script.{Numbered, Told, Script, events_in, events_from, line_read, told_by, only_fault, script_from}
 use Rattle.am_script.specs.Turns.{TurnDone, TurnStopped, IsWhole, IsShort, Closes, counted}
@@ -210,13 +210,13 @@ script_ends front broke = ap (script_from broke) (append-nil front)
 -- how a script ends
 abbrev pub EndsSo : ℕ → Script → Option (List ℕ) → Option (List ℕ) → Result Summary ScriptFault → Type 0
 EndsSo count script old new (Ok summary) = IsPlayed script old new summary
-EndsSo count script old new (Err fault) = IsStopped count script old new fault
+EndsSo count script old new (Err fault) = HaltsIn script count old new fault
 
 pub ends_ok : (count : ℕ) (script : Script) (old new : Option (List ℕ)) (r : Result Summary ScriptFault) → EndsSo count script old new r → IfOk r (IsPlayed script old new)
 ends_ok count script old new (Ok summary) h = h
 ends_ok count script old new (Err fault) h = tt
 
-pub ends_err : (count : ℕ) (script : Script) (old new : Option (List ℕ)) (r : Result Summary ScriptFault) → EndsSo count script old new r → IfErr r (IsStopped count script old new)
+pub ends_err : (count : ℕ) (script : Script) (old new : Option (List ℕ)) (r : Result Summary ScriptFault) → EndsSo count script old new r → IfErr r (HaltsIn script count old new)
 ends_err count script old new (Ok summary) h = tt
 ends_err count script old new (Err fault) h = h
 
@@ -235,27 +235,22 @@ events_end s number summary output front count start held new r h closes =
         lines = h.lines ∙ sym (length-map h.rows (λ (r : Answered). r.answer));
         refused = h.refused;
       })
-      | inr w ↦ subst (λ (t : Result Summary ScriptFault). EndsSo count (told_behind h.opening h.rows (only_fault None)) start new t) (sym w.told) (lost_halts (told_behind h.opening h.rows (only_fault None)) h.opening h.rows (only_fault None) s w.line count start new refl h.run w.lost).stopped
+      | inr w ↦ subst (λ (t : Result Summary ScriptFault). EndsSo count (told_behind h.opening h.rows (only_fault None)) start new t) (sym w.told) (lost_halts (told_behind h.opening h.rows (only_fault None)) h.opening h.rows (only_fault None) s w.line count start new refl h.run w.lost)
     ] in
     subst (λ (t : Script). EndsSo count t start new r) (sym (h.goes (record { broke = None; lines = [] })) ∙ script_ends front None) ends
 
 -- reading broke off
-pub events_broke : (s : State) (number : ℕ) (summary : Summary) (output : Output) (front : List (List ℕ)) (count : ℕ) (start held new : Option (List ℕ)) (kind : ScriptFaultKind) (r : Result Summary ScriptFault) → EventsStand s number summary output front start held →
-    Closes output (Err (fault_at number kind)) held new r → EndsSo count (script_from (Some kind) front) start new r
-events_broke s number summary output front count start held new kind r h closes =
+pub events_broke : (s : State) (number : ℕ) (summary : Summary) (output : Output) (front : List (List ℕ)) (start held new : Option (List ℕ)) (kind : ScriptFaultKind) (r : Result Summary ScriptFault) → EventsStand s number summary output front start held →
+    Closes output (Err (fault_at number kind)) held new r → EndsSo (length front) (script_from (Some kind) front) start new r
+events_broke s number summary output front start held new kind r h closes =
     let fault = fault_at number kind in
-    let ends : EndsSo count (told_behind h.opening h.rows (only_fault (Some fault))) start new r =
+    let script = told_behind h.opening h.rows (only_fault (Some fault)) in
+    let ends : EndsSo (length front) script start new r =
     elim (closes (owed_for h.rows) start h.stands) [
-      | inl w ↦ subst (λ (t : Result Summary ScriptFault). EndsSo count (told_behind h.opening h.rows (only_fault (Some fault))) start new t) (sym w.same) (inr (inl (record {
-        found = refl;
-        answers = answers_in h.rows;
-        last = s;
-        run = rw (append-nil (asked_in h.rows)) h.run;
-        written = written_for h.rows start new w.written;
-      })))
-      | inr w ↦ subst (λ (t : Result Summary ScriptFault). EndsSo count (told_behind h.opening h.rows (only_fault (Some fault))) start new t) (sym w.told) (lost_halts (told_behind h.opening h.rows (only_fault (Some fault))) h.opening h.rows (only_fault (Some fault)) s w.line count start new refl h.run w.lost).stopped
+      | inl w ↦ subst (λ (t : Result Summary ScriptFault). EndsSo (length front) script start new t) (sym w.same) (fault_halts script h.opening h.rows s fault (length front) start new refl h.run (sym h.counted) w.written)
+      | inr w ↦ subst (λ (t : Result Summary ScriptFault). EndsSo (length front) script start new t) (sym w.told) (lost_halts script h.opening h.rows (only_fault (Some fault)) s w.line (length front) start new refl h.run w.lost)
     ] in
-    subst (λ (t : Script). EndsSo count t start new r) (sym (h.goes (record { broke = Some kind; lines = [] })) ∙ script_ends front (Some kind)) ends
+    subst (λ (t : Script). EndsSo (length front) t start new r) (sym (h.goes (record { broke = Some kind; lines = [] })) ∙ script_ends front (Some kind)) ends
 
 -- the first of the lines that are left is taken
 pub events_step : (broke : Option ScriptFaultKind) (before : ℕ) (rest : Option (List ℕ)) (here line : List ℕ) (lines : List (List ℕ)) → rest ≡ Some here → lines_of here ≡ line ∷ lines → events_from broke before (lines_in rest) ≡ told_by (line_read line) (before + 1) (events_from broke (before + 1) lines)

@@ -157,8 +157,8 @@ head_loses_none heading number summary output kept front line start held now h s
 
 ends_so : (count : ℕ) (broke : Option ScriptFaultKind) (section : Option ℕ) (number : ℕ) (old new : Option (List ℕ)) → Appends old new [] → EndsSo count (head_ends broke section number) old new (end_of_head broke section number)
 ends_so count None None number old new none = record { no_fault = refl; written = none; lines = refl; refused = refl }
-ends_so count None (Some first) number old new none = inr (record { found = refl; written = none })
-ends_so count (Some kind) section number old new none = inr (record { found = refl; written = none })
+ends_so count None (Some first) number old new none = record { stopped = inr (record { found = refl; written = none }); here = tt }
+ends_so count (Some kind) section number old new none = record { stopped = inr (record { found = refl; written = none }); here = tt }
 
 pub head_ends_as : (heading : HeadSoFar) (number : ℕ) (summary : Summary) (output : Output) (front : List (List ℕ)) (count : ℕ) (start held : Option (List ℕ)) (broke : Option ScriptFaultKind) (r : Result Summary ScriptFault) → HeadStands heading number summary output front start held →
     r ≡ end_of_head broke (first_open heading.within) number → EndsSo count (script_from broke front) start held r

@@ -1,13 +1,9 @@
 -- What reading broke off is played up to its last whole line.
-use Rattle.std.proofs.Common.{◌≡◌, ◌-◌, ℕ, List, length, take, Option, Some, Result, Ok, Err, IfErr, ap, ◌∙◌, subst}
-use Rattle.std.specs.Io.KnownBytes.{Consumes}
-use Rattle.am_script.specs.declared.fault.ScriptFault.{ScriptFault}
+use Rattle.std.proofs.Common.{◌≡◌, ◌-◌, ℕ, List, length, take, Some, ap, ◌∙◌}
 use Rattle.am_script.specs.declared.fault.ScriptFaultKind.{ScriptFaultKind}
-use Rattle.am_script.specs.declared.play.Summary.{Summary}
 use Rattle.am_script.specs.Lines.{lines_of}
-use Rattle.am_script.specs.Read.{IsReadFault, cut_line, cut_kind, played}
-use Rattle.am_script.specs.Script.{Script, script_from, script_of}
-use Rattle.am_script.specs.Played.{IsStopped, StopsInput}
+use Rattle.am_script.specs.Read.{cut_line, cut_kind, played}
+use Rattle.am_script.specs.Script.{script_from, script_of}
 
 pub cut_script : (text slice cut whole : List ℕ) (kind told : ScriptFaultKind) → slice ≡ text → cut ≡ cut_line slice → told ≡ cut_kind cut kind → whole ≡ take (length slice - length cut) slice → script_from (Some told) (lines_of whole) ≡ script_of (Some kind) text
 cut_script text slice cut whole kind told e f g h =
@@ -16,14 +12,3 @@ cut_script text slice cut whole kind told e f g h =
 pub cut_text : (text slice cut whole : List ℕ) (kind : ScriptFaultKind) → slice ≡ text → cut ≡ cut_line slice → whole ≡ take (length slice - length cut) slice → whole ≡ played (Some kind) text
 cut_text text slice cut whole kind e f h =
     h ∙ ap (λ (c : List ℕ). take (length slice - length c) slice) f ∙ ap (λ (s : List ℕ). take (length s - length (cut_line s)) s) e
-
-pub stops_input : (ro rn wo wn : Option (List ℕ)) (text slice cut whole : List ℕ) (kind told : ScriptFaultKind) (r : Result Summary ScriptFault) → slice ≡ text → cut ≡ cut_line slice → told ≡ cut_kind cut kind → whole ≡ take (length slice - length cut) slice → Consumes ro rn text → IsReadFault kind → IfErr r (IsStopped (length (lines_of whole)) (script_from (Some told) (lines_of whole)) wo wn) → IfErr r (StopsInput ro rn wo wn)
-stops_input ro rn wo wn text slice cut whole kind told (Ok summary) e f g h read fault stopped = tt
-stops_input ro rn wo wn text slice cut whole kind told (Err at) e f g h read fault stopped = record {
-  text = text;
-  broke = Some kind;
-  read = (read, fault);
-  stopped =
-      subst (λ (w : List ℕ). IsStopped (length (lines_of w)) (script_of (Some kind) text) wo wn at) (cut_text text slice cut whole kind e f h)
-      (subst (λ (s : Script). IsStopped (length (lines_of whole)) s wo wn at) (cut_script text slice cut whole kind told e f g h) stopped);
-}

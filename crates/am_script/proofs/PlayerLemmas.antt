@@ -86,7 +86,7 @@ events_are_ended place world number summary output front start held holds r e cl
 pub events_are_broken : (place : Place) (world : WorldTable) (number : ℕ) (summary : Summary) (output : Output) (front : List (List ℕ)) (start held holds : Option (List ℕ)) (kind : ScriptFaultKind) (r : Result Summary ScriptFault) → place ≡ places.Events world →
     Closes output (Err (fault_at number kind)) held holds r → PlaceStands place number summary output front start held → EndsSo (length front) (script_from (Some kind) front) start holds r
 events_are_broken place world number summary output front start held holds kind r e closes h =
-    events_broke (state_of world) number summary output front (length front) start held holds kind r (subst (λ (p : Place). PlaceStands p number summary output front start held) e h) closes
+    events_broke (state_of world) number summary output front start held holds kind r (subst (λ (p : Place). PlaceStands p number summary output front start held) e h) closes
 
 pub end_ok : (player : Player) (broke : Option ScriptFaultKind) (held holds : Option (List ℕ)) (r : Result Summary ScriptFault) → ((front : List (List ℕ)) → (start : Option (List ℕ)) → PlayerStands player front start held → EndsSo (length front) (script_from broke front) start holds r) → IfOk r (EndsPlayed player broke held holds)
 end_ok player broke held holds (Ok summary) ends = ends

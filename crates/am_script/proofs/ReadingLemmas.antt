@@ -15,7 +15,7 @@ use Rattle.am_script.specs.declared.play.Summary.{Summary}
 use Rattle.am_script.specs.declared.player.Player.{Player}
 use Rattle.am_script.specs.declared.reading.Reading.{Reading}
 use Rattle.am_script.specs.Lines.{lines_of, is_long, EndsNoLine}
-use Rattle.am_script.specs.Played.{HaltsIn, Halts, IsPlayed, IsStopped, BreaksOff}
+use Rattle.am_script.specs.Played.{HaltsIn, Halts, IsPlayed, BreaksOff}
 use Rattle.am_script.specs.Playing.{Ending, PlayerStands, with_next, script_behind, TakesLine, StopsAtLine, StopsAtLong, LosesAnswer, Flushes, EndsPlayed, EndsStopped}
 use Rattle.am_script.specs.Read.{last_of, cut_line, cut_kind, played}
 use Rattle.am_script.specs.Reading.{ReadingStands, EndsRead, StopsRead, BreaksRead}
@@ -143,9 +143,9 @@ reading_flushed reading next text start held holds h flushes same = record {
 
 -- ---- the script stops
 
-halts_as : (one other : List (List ℕ)) (few many : ℕ) (start now : Option (List ℕ)) (fault : ScriptFault) → one ≡ other → few ≡ many → HaltsIn (script_from None one) few start now fault → HaltsIn (script_from None other) many start now fault
-halts_as one other few many start now fault e f h =
-    subst (λ (n : ℕ). HaltsIn (script_from None other) n start now fault) f (subst (λ (t : List (List ℕ)). HaltsIn (script_from None t) few start now fault) e h)
+halts_as : (broke : Option ScriptFaultKind) (one other : List (List ℕ)) (few many : ℕ) (start now : Option (List ℕ)) (fault : ScriptFault) → one ≡ other → few ≡ many → HaltsIn (script_from broke one) few start now fault → HaltsIn (script_from broke other) many start now fault
+halts_as broke one other few many start now fault e f h =
+    subst (λ (n : ℕ). HaltsIn (script_from broke other) n start now fault) f (subst (λ (t : List (List ℕ)). HaltsIn (script_from broke t) few start now fault) e h)
 
 count_upto : (reading : Reading) (text end : List ℕ) (start held : Option (List ℕ)) (h : ReadingStands reading text start held) → EndsNoLine end → length h.front + 1 ≡ length (lines_of (text ++ end))
 count_upto reading text end start held h whole =
@@ -162,7 +162,7 @@ line_halts reading text end rest start held holds fault h whole few stops = reco
   halts = λ more.
       let past : lines_of ((text ++ (end ++ 10 ∷ rest)) ++ more) ≡ h.front ++ (reading.held.items ++ end) ∷ lines_of (rest ++ more) =
       ap lines_of (append_assoc text (end ++ 10 ∷ rest) more ∙ ap (λ (t : List ℕ). text ++ t) (append_assoc end (10 ∷ rest) more)) ∙ lines_past reading text end (rest ++ more) start held h whole in
-      halts_as (h.front ++ (reading.held.items ++ end) ∷ lines_of (rest ++ more)) (lines_of ((text ++ (end ++ 10 ∷ rest)) ++ more)) (length h.front + 1) (length (lines_of (text ++ end))) start holds fault (sym past) (count_upto reading text end start held h whole)
+      halts_as None (h.front ++ (reading.held.items ++ end) ∷ lines_of (rest ++ more)) (lines_of ((text ++ (end ++ 10 ∷ rest)) ++ more)) (length h.front + 1) (length (lines_of (text ++ end))) start holds fault (sym past) (count_upto reading text end start held h whole)
       (stops h.front start h.stands (record { broke = None; lines = lines_of (rest ++ more) }));
 }
 
@@ -181,7 +181,7 @@ long_halts reading text bytes start held holds fault h whole long stops = record
       ap lines_of (append_assoc text bytes more) ∙ lines_behind reading text (bytes ++ more) start held h
       ∙ ap (λ (t : List ℕ). h.front ++ lines_of t) (sym (append_assoc reading.held.items bytes more))
       ∙ ap (λ (t : List (List ℕ)). h.front ++ t) begins.parts in
-      halts_as (h.front ++ (line ++ begins.rest) ∷ begins.others) (lines_of ((text ++ bytes) ++ more)) (length h.front + 1) (length (lines_of (text ++ bytes))) start holds fault (sym lines) (count_upto reading text bytes start held h whole)
+      halts_as None (h.front ++ (line ++ begins.rest) ∷ begins.others) (lines_of ((text ++ bytes) ++ more)) (length h.front + 1) (length (lines_of (text ++ bytes))) start holds fault (sym lines) (count_upto reading text bytes start held h whole)
       (stops (line ++ begins.rest) (long_more line begins.rest (long_line line long)) h.front start h.stands (record { broke = None; lines = begins.others }));
 }
 
@@ -193,7 +193,7 @@ lost_halts reading text start held holds fault h loses = record {
   parts = sym (append-nil text);
   few = tt;
   halts = λ more.
-      halts_as (h.front ++ lines_of (reading.held.items ++ more)) (lines_of (text ++ more)) (length (lines_of text)) (length (lines_of text)) start holds fault (sym (lines_behind reading text more start held h)) refl
+      halts_as None (h.front ++ lines_of (reading.held.items ++ more)) (lines_of (text ++ more)) (length (lines_of text)) (length (lines_of text)) start holds fault (sym (lines_behind reading text more start held h)) refl
       (loses h.front start h.stands (record { broke = None; lines = lines_of (reading.held.items ++ more) }) (length (lines_of text)));
 }
 
@@ -205,14 +205,10 @@ lines_read reading text start held h = ap lines_of h.parts ∙ h.splits reading.
 count_read : (reading : Reading) (text : List ℕ) (start held : Option (List ℕ)) (h : ReadingStands reading text start held) → length (h.front ++ reading.held.items ∷ []) ≡ length (lines_of text)
 count_read reading text start held h = sym (ap (λ (ls : List (List ℕ)). length ls) (lines_read reading text start held h))
 
-stopped_as : (broke : Option ScriptFaultKind) (one other : List (List ℕ)) (few many : ℕ) (start now : Option (List ℕ)) (fault : ScriptFault) → one ≡ other → few ≡ many → IsStopped few (script_from broke one) start now fault → IsStopped many (script_from broke other) start now fault
-stopped_as broke one other few many start now fault e f h =
-    subst (λ (n : ℕ). IsStopped n (script_from broke other) start now fault) f (subst (λ (t : List (List ℕ)). IsStopped few (script_from broke t) start now fault) e h)
-
 pub last_stops : (reading : Reading) (held holds : Option (List ℕ)) (fault : ScriptFault) → StopsAtLine reading.player reading.held.items held holds fault → StopsRead reading held holds fault
 last_stops reading held holds fault stops text start h =
-    stopped_as None (h.front ++ reading.held.items ∷ []) (lines_of text) (length h.front + 1) (length (lines_of text)) start holds fault (sym (lines_read reading text start held h)) (sym (length_push h.front reading.held.items) ∙ count_read reading text start held h)
-    (stops h.front start h.stands (record { broke = None; lines = [] })).stopped
+    halts_as None (h.front ++ reading.held.items ∷ []) (lines_of text) (length h.front + 1) (length (lines_of text)) start holds fault (sym (lines_read reading text start held h)) (sym (length_push h.front reading.held.items) ∙ count_read reading text start held h)
+    (stops h.front start h.stands (record { broke = None; lines = [] }))
 
 pub all_played : (reading : Reading) (player : Player) (held mid holds : Option (List ℕ)) (summary : Summary) → TakesLine reading.player player reading.held.items held mid → EndsPlayed player None mid holds summary → EndsRead reading held holds summary
 all_played reading player held mid holds summary takes ends text start h =
@@ -220,7 +216,7 @@ all_played reading player held mid holds summary takes ends text start h =
 
 pub all_stopped : (reading : Reading) (player : Player) (held mid holds : Option (List ℕ)) (fault : ScriptFault) → TakesLine reading.player player reading.held.items held mid → EndsStopped player None mid holds fault → StopsRead reading held holds fault
 all_stopped reading player held mid holds fault takes ends text start h =
-    stopped_as None (h.front ++ reading.held.items ∷ []) (lines_of text) (length (h.front ++ reading.held.items ∷ [])) (length (lines_of text)) start holds fault (sym (lines_read reading text start held h)) (count_read reading text start held h)
+    halts_as None (h.front ++ reading.held.items ∷ []) (lines_of text) (length (h.front ++ reading.held.items ∷ [])) (length (lines_of text)) start holds fault (sym (lines_read reading text start held h)) (count_read reading text start held h)
     (ends (h.front ++ reading.held.items ∷ []) start (takes h.front start h.stands))
 
 -- ---- reading breaks off
@@ -247,16 +243,16 @@ lines_whole reading text start held h = ap lines_of (whole_read reading text sta
 told_read : (reading : Reading) (text : List ℕ) (start held : Option (List ℕ)) (h : ReadingStands reading text start held) → cut_kind (cut_line text) ReadFailed ≡ ReadFailed
 told_read reading text start held h = ap (λ (t : List ℕ). cut_kind t ReadFailed) (cut_read reading text start held h) ∙ rw (short_line reading.held.items h.short) refl
 
-breaks_as : (reading : Reading) (text : List ℕ) (start held holds : Option (List ℕ)) (count : ℕ) (fault : ScriptFault) (h : ReadingStands reading text start held) → count ≡ length h.front + 1 → IsStopped count (script_from (Some ReadFailed) (h.front ++ [] ∷ [])) start holds fault → BreaksOff text start holds fault
+breaks_as : (reading : Reading) (text : List ℕ) (start held holds : Option (List ℕ)) (count : ℕ) (fault : ScriptFault) (h : ReadingStands reading text start held) → count ≡ length h.front + 1 → HaltsIn (script_from (Some ReadFailed) (h.front ++ [] ∷ [])) count start holds fault → BreaksOff text start holds fault
 breaks_as reading text start held holds count fault h e stopped =
     let lines = lines_whole reading text start held h in
     let counted : count ≡ length (lines_of (played (Some ReadFailed) text)) = e ∙ sym (length_push h.front []) ∙ sym (ap (λ (ls : List (List ℕ)). length ls) lines) in
-    subst (λ (k : ScriptFaultKind). IsStopped (length (lines_of (played (Some ReadFailed) text))) (script_from (Some k) (lines_of (played (Some ReadFailed) text))) start holds fault) (sym (told_read reading text start held h))
-    (stopped_as (Some ReadFailed) (h.front ++ [] ∷ []) (lines_of (played (Some ReadFailed) text)) count (length (lines_of (played (Some ReadFailed) text))) start holds fault (sym lines) counted stopped)
+    subst (λ (k : ScriptFaultKind). HaltsIn (script_from (Some k) (lines_of (played (Some ReadFailed) text))) (length (lines_of (played (Some ReadFailed) text))) start holds fault) (sym (told_read reading text start held h))
+    (halts_as (Some ReadFailed) (h.front ++ [] ∷ []) (lines_of (played (Some ReadFailed) text)) count (length (lines_of (played (Some ReadFailed) text))) start holds fault (sym lines) counted stopped)
 
 pub break_stops : (reading : Reading) (held holds : Option (List ℕ)) (fault : ScriptFault) → StopsAtLine reading.player [] held holds fault → BreaksRead reading held holds fault
 break_stops reading held holds fault stops text start h =
-    breaks_as reading text start held holds (length h.front + 1) fault h refl (stops h.front start h.stands (record { broke = Some ReadFailed; lines = [] })).stopped
+    breaks_as reading text start held holds (length h.front + 1) fault h refl (stops h.front start h.stands (record { broke = Some ReadFailed; lines = [] }))
 
 pub all_broken : (reading : Reading) (player : Player) (held mid holds : Option (List ℕ)) (fault : ScriptFault) → TakesLine reading.player player [] held mid → EndsStopped player (Some ReadFailed) mid holds fault → BreaksRead reading held holds fault
 all_broken reading player held mid holds fault takes ends text start h =

@@ -112,6 +112,7 @@ abbrev pub HaltsAt : Option Opening → ScriptFault → ℕ → Type 0
 HaltsAt None fault last = ⊤
 HaltsAt (Some opening) fault last = (fault.kind ≡ WriteFailed) ⊎ (fault.line ≡ last)
 
+-- the script, of which so many lines were played, stops there
 pub record HaltsIn (script : Script) (last : ℕ) (old new : Option (List ℕ)) (fault : ScriptFault) : Type 0 where
   pub stopped : IsStopped last script old new fault
   pub here : HaltsAt script.opening fault last
@@ -130,15 +131,15 @@ pub record Halts (text : List ℕ) (old new : Option (List ℕ)) (fault : Script
   pub few : IsAhead ahead
   pub halts : (more : List ℕ) → HaltsIn (script_of None (text ++ more)) (length (lines_of upto)) old new fault
 
--- the input was read to its end
+-- the input was read to its end, and the script stops behind that, or at the line that it ends with
 pub record StopsAtEnd (rest : Option (List ℕ)) (text : List ℕ) (old new : Option (List ℕ)) (fault : ScriptFault) : Type 0 where
   pub ended : IsAtEnd rest
-  pub stopped : IsStopped (length (lines_of text)) (script_of None text) old new fault
+  pub stopped : HaltsIn (script_of None text) (length (lines_of text)) old new fault
 
--- the reader failed, or was asked too often
+-- the reader failed, or was asked too often, and the script stops behind the lines that were read whole
 abbrev pub BreaksOff : List ℕ → Option (List ℕ) → Option (List ℕ) → ScriptFault → Type 0
 BreaksOff text old new fault =
-    IsStopped (length (lines_of (played (Some ReadFailed) text))) (script_of (Some ReadFailed) text) old new fault
+    HaltsIn (script_of (Some ReadFailed) text) (length (lines_of (played (Some ReadFailed) text))) old new fault
 
 -- what was read isn't played to its end
 pub record StopsInput (input rest old new : Option (List ℕ)) (fault : ScriptFault) : Type 0 where

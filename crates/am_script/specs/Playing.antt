@@ -18,7 +18,7 @@ use Rattle.am_script.specs.Heading.{HeadSoFar, Taken, GoesOn, EventsBegin, Stops
 use Rattle.am_script.specs.Lines.{is_long}
 use Rattle.am_script.specs.Maps.{opening_read}
 use Rattle.am_script.specs.Outputs.{Owed, owed_by, Stands}
-use Rattle.am_script.specs.Played.{HaltsIn, IsPlayed, IsStopped}
+use Rattle.am_script.specs.Played.{HaltsIn, IsPlayed}
 use Rattle.am_script.specs.Script.{Numbered, Told, Script, events_in, events_from, script_from}
 use Rattle.am_world.specs.Table.{WorldTable, state_of}
 
@@ -152,4 +152,4 @@ EndsPlayed player broke held holds summary =
 abbrev pub EndsStopped : Player → Option ScriptFaultKind → Option (List ℕ) → Option (List ℕ) → ScriptFault → Type 0
 EndsStopped player broke held holds fault =
     (front : List (List ℕ)) → (start : Option (List ℕ)) → PlayerStands player front start held
-    → IsStopped (length front) (script_from broke front) start holds fault
+    → HaltsIn (script_from broke front) (length front) start holds fault

@@ -4,7 +4,7 @@ use Rattle.am_script.specs.declared.fault.ScriptFault.{ScriptFault}
 use Rattle.am_script.specs.declared.reading.Reading.{Reading}
 use Rattle.am_script.specs.Lines.{lines_of, EndsNoLine}
 use Rattle.am_script.specs.declared.play.Summary.{Summary}
-use Rattle.am_script.specs.Played.{IsPlayed, IsStopped, Halts, BreaksOff}
+use Rattle.am_script.specs.Played.{IsPlayed, HaltsIn, Halts, BreaksOff}
 use Rattle.am_script.specs.Script.{script_of}
 use Rattle.am_script.specs.Playing.{PlayerStands}
 
@@ -40,7 +40,7 @@ EndsRead reading held holds summary =
 abbrev pub StopsRead : Reading → Option (List ℕ) → Option (List ℕ) → ScriptFault → Type 0
 StopsRead reading held holds fault =
     (text : List ℕ) → (start : Option (List ℕ)) → ReadingStands reading text start held
-    → IsStopped (length (lines_of text)) (script_of None text) start holds fault
+    → HaltsIn (script_of None text) (length (lines_of text)) start holds fault
 
 -- reading broke off within a line
 abbrev pub BreaksRead : Reading → Option (List ℕ) → Option (List ℕ) → ScriptFault → Type 0

@@ -17,7 +17,9 @@ use Rattle.am_script.specs.Opened.{NoRoomFor, NoNext}
 use Rattle.am_script.specs.Outputs.{Owed, bytes_of, IsLost, StandsBy, Stands}
 use Rattle.am_script.specs.Script.{Numbered, Told, events_in, told_by, only_fault}
 use Rattle.am_script.specs.Turns.{IsWhole, IsShort, Closes}
-use Rattle.am_script.proofs.Going.{behind, count_more, lost_by}
+use Rattle.am_script.specs.Playing.{behind}
+use Rattle.am_script.proofs.Answering.{count_more}
+use Rattle.am_script.proofs.Closing.{lost_by}
 use Rattle.am_script.proofs.OwedLemmas.{stands_new}
 use Rattle.am_views.specs.Traced.{Shown, asked_in, answers_in, printed_trace, SeenRun, AllTraced, TracedToLoss, TraceStops, IsShown, one_more}
 use Rattle.am_views.proofs.LostTraces.{owed_for, owed_push, bytes_for, Within, within_some}

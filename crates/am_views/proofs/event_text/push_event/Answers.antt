@@ -1,4 +1,4 @@
-use Rattle.am_script.proofs.Going.{pushed}
+use Rattle.am_script.proofs.Closing.{pushed}
 use Rattle.am_views.proofs.event_text.push_event.Goals as goal
 
 pub returns-in-None : goal.returns-in-None

@@ -1,4 +1,4 @@
-use Rattle.am_script.proofs.Going.{pushed}
+use Rattle.am_script.proofs.Closing.{pushed}
 use Rattle.am_views.proofs.obs_text.push_observation.Goals as goal
 
 pub returns-in-None : goal.returns-in-None
