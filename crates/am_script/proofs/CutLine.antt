@@ -1,8 +1,15 @@
--- The last line is the last of the rest.
-use Rattle.std.proofs.Common.{◌≡◌, ◌<◌, ℕ, List, [], ◌∷◌, length, refl, arith, ap, ◌∙◌}
+-- A text is cut at its line feeds. The last line is the last of the rest.
+use Rattle.std.proofs.Common.{◌≡◌, ◌<◌, ◌≤◌, ◌+◌, ℕ, Bool, true, false, cond, ltb, List, [], ◌∷◌, ◌++◌, length, take, drop, Some, None, refl, arith, ap, subst, ◌∙◌}
+use Rattle.std.specs.Prelude.{position}
+use Rattle.std.specs.List.{position_or_len, after_first}
+use Rattle.std.proofs.lemmas.Grind.{common_steps}
+use Rattle.std.proofs.lemmas.Option.{cond_some}
+use Rattle.std.proofs.lemmas.Bool.{ltb-true, eqb-true}
+use Rattle.std.proofs.lemmas.Bool.Decides.{nat_tests}
+use Rattle.std.proofs.lemmas.List.Sums.{split_at_first, fails_before_first, passes_at_first}
 use Rattle.std.proofs.lemmas.List.Splits.{length-slice_split}
 use Rattle.am_lines.specs.Lines.{is_line_feed}
-use Rattle.am_script.specs.Lines.{lines_of}
+use Rattle.am_script.specs.Lines.{lines_of, EndsNoLine, IsCut}
 use Rattle.am_script.specs.Read.{last_of, cut_line}
 
 last_more : (line : List ℕ) (lines : List (List ℕ)) → 0 < length lines → last_of (line ∷ lines) ≡ last_of lines
@@ -16,3 +23,24 @@ cut_line_more text line after e =
 
 pub cut_line_last : (text line : List ℕ) → lines_of text ≡ line ∷ [] → cut_line text ≡ line
 cut_line_last text line e = ap last_of e
+
+-- ---- at its first line feed
+
+not_below : (at len : ℕ) → cond (ltb at len) (Some at) None ≡ None → len ≤ at
+not_below at len e = grind (arith, nat_tests)
+
+pub ends_none : (bytes : List ℕ) → position is_line_feed bytes ≡ None → EndsNoLine bytes
+ends_none bytes e = λ k d h.
+    let past = not_below (position_or_len is_line_feed bytes) (length bytes) e in
+    fails_before_first is_line_feed bytes k d (omega (arith, past, h))
+
+cut_first : (text : List ℕ) → position_or_len is_line_feed text < length text → IsCut text (take (position_or_len is_line_feed text) text) (drop (position_or_len is_line_feed text + 1) text)
+cut_first text h = record {
+  parts = split_at_first is_line_feed text 0 h ∙ ap (λ (b : ℕ). take (position_or_len is_line_feed text) text ++ b ∷ after_first is_line_feed text) (eqb-true _ 10 (passes_at_first is_line_feed text 0 h));
+  whole = λ k d m. let fails = fails_before_first is_line_feed text k d (grind (arith, common_steps)) in grind (arith, common_steps);
+}
+
+pub cut_at : (text : List ℕ) (at : ℕ) → position is_line_feed text ≡ Some at → IsCut text (take at text) (drop (at + 1) text)
+cut_at text at e =
+    let h = cond_some (ltb (position_or_len is_line_feed text) (length text)) (position_or_len is_line_feed text) at e in
+    subst (λ (i : ℕ). IsCut text (take i text) (drop (i + 1) text)) h.1 (cut_first text (ltb-true _ _ h.0))

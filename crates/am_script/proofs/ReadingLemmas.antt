@@ -1,9 +1,9 @@
 -- A script that is read in pieces.
-use Rattle.std.proofs.Common.{◌≡◌, ◌≤◌, ◌<◌, ◌+◌, ◌-◌, ℕ, Bool, true, false, cond, List, [], ◌∷◌, ◌++◌, length, take, drop, Option, Some, None, Result, Ok, Err, IfOk, IfErr, refl, sym, ap, subst, ◌∙◌, append_assoc, append-nil, arith}
-use Rattle.std.specs.Io.KnownBytes.{Consumes}
+use Rattle.std.proofs.Common.{◌≡◌, ◌≤◌, ◌<◌, ◌+◌, ◌-◌, ℕ, Bool, true, false, cond, ltb, List, [], ◌∷◌, ◌++◌, length, take, drop, Option, Some, None, Result, Ok, Err, IfOk, IfErr, refl, sym, ap, subst, ◌∙◌, inl, inr, append_assoc, append-nil, arith}
+use Rattle.std.specs.Io.KnownBytes.{Consumes, Keeps, IsAtEnd}
 use Rattle.std.specs.List.{slice_split, onto_first}
 use Rattle.std.specs.Prelude.{All}
-use Rattle.std.proofs.lemmas.Bool.{lt-ltb, le-ltb, ltb-true}
+use Rattle.std.proofs.lemmas.Bool.{lt-ltb, le-ltb, ltb-true, ltb-false, false≢true}
 use Rattle.std.proofs.lemmas.List.{length-append, length_push, take_at}
 use Rattle.std.proofs.lemmas.List.Elements.{All-nil, All-head, All-tail, All-append}
 use Rattle.std.proofs.lemmas.List.Splits.{slice_split_none, slice_split_at, slice_split-cons_no}
@@ -14,11 +14,11 @@ use Rattle.am_script.specs.declared.fault.ScriptFaultKind.TheVariants.{LongLine,
 use Rattle.am_script.specs.declared.play.Summary.{Summary}
 use Rattle.am_script.specs.declared.player.Player.{Player}
 use Rattle.am_script.specs.declared.reading.Reading.{Reading}
-use Rattle.am_script.specs.Lines.{lines_of, is_long, EndsNoLine}
-use Rattle.am_script.specs.Played.{HaltsIn, Halts, IsPlayed, BreaksOff}
+use Rattle.am_script.specs.Lines.{lines_of, is_long, EndsNoLine, IsCut}
+use Rattle.am_script.specs.Played.{HaltsIn, Halts, IsPlayed, BreaksOff, PlaysInput, StopsInput}
 use Rattle.am_script.specs.Playing.{Ending, PlayerStands, with_next, script_behind, TakesLine, StopsAtLine, StopsAtLong, LosesAnswer, Flushes, EndsPlayed, EndsStopped}
 use Rattle.am_script.specs.Read.{last_of, cut_line, cut_kind, played}
-use Rattle.am_script.specs.Reading.{ReadingStands, EndsRead, StopsRead, BreaksRead}
+use Rattle.am_script.specs.Reading.{ReadingStands, TakesBytes, StopsInBytes, EndsRead, StopsRead, BreaksRead}
 use Rattle.am_script.specs.Script.{Script, script_from, script_of}
 
 -- ---- lines
@@ -56,6 +56,13 @@ line_begins (b ∷ bytes) more h =
 
 long_more : (bytes rest : List ℕ) → is_long bytes ≡ true → is_long (bytes ++ rest) ≡ true
 long_more bytes rest h = lt-ltb 8192 (length (bytes ++ rest)) (omega (arith, ltb-true 8192 (length bytes) h, length-append bytes rest))
+
+pub too_long : (held end : List ℕ) → (false ≡ true → length held + length end ≤ 8192) × (length held + length end ≤ 8192 → false ≡ true) → 8192 < length (held ++ end)
+too_long held end h = by (ltb 8192 (length held + length end)) refl
+  where
+    by : (b : Bool) → ltb 8192 (length held + length end) ≡ b → 8192 < length (held ++ end)
+    by true e = omega (arith, ltb-true 8192 (length held + length end) e, length-append held end)
+    by false e = absurd (false≢true (h.1 (ltb-false 8192 (length held + length end) e)))
 
 pub long_line : (bytes : List ℕ) → 8192 < length bytes → is_long bytes ≡ true
 long_line bytes h = lt-ltb 8192 (length bytes) h
@@ -258,12 +265,131 @@ pub all_broken : (reading : Reading) (player : Player) (held mid holds : Option 
 all_broken reading player held mid holds fault takes ends text start h =
     breaks_as reading text start held holds (length (h.front ++ [] ∷ [])) fault h (length_push h.front []) (ends (h.front ++ [] ∷ []) start (takes h.front start h.stands))
 
--- ---- parts of bytes
+-- ---- lines that end among the bytes of one read
 
 -- where nothing is held, a line is what was read of it
 pub held_none : (held end : List ℕ) → length held ≡ 0 → end ≡ held ++ end
 held_none [] end e = refl
 held_none (b ∷ held) end e = absurd (omega (arith, e))
 
-pub none_left : (bytes done rest : List ℕ) → bytes ≡ done ++ rest → rest ≡ [] → bytes ≡ done
-none_left bytes done rest e f = e ∙ ap (λ (t : List ℕ). done ++ t) f ∙ append-nil done
+-- what is read behind these bytes goes on from there
+abbrev pub Reaches : Reading → Reading → List ℕ → Option (List ℕ) → Option (List ℕ) → Type 0
+Reaches old now done held mid = (text : List ℕ) → (start : Option (List ℕ)) → ReadingStands old text start held → ReadingStands now (text ++ done) start mid
+
+cut_whole : (bytes done rest end after : List ℕ) → bytes ≡ done ++ rest → IsCut rest end after → bytes ≡ done ++ (end ++ 10 ∷ after)
+cut_whole bytes done rest end after parts cut = parts ∙ ap (λ (t : List ℕ). done ++ t) cut.parts
+
+pub cut_size : (rest end after : List ℕ) → IsCut rest end after → length rest ≡ length end + (length after + 1)
+cut_size rest end after cut =
+    let size : length rest ≡ length end + length (10 ∷ after) = ap (λ (t : List ℕ). length t) cut.parts ∙ length-append end (10 ∷ after) in
+    omega (arith, size)
+
+-- the next line ends
+pub line_more : (old now next : Reading) (done rest end after : List ℕ) (held mid holds : Option (List ℕ)) → Reaches old now done held mid → IsCut rest end after →
+    TakesLine now.player next.player (now.held.items ++ end) mid holds → next.held.items ≡ [] → Reaches old next (done ++ (end ++ 10 ∷ [])) held holds
+line_more old now next done rest end after held mid holds reaches cut takes empty text start h =
+    subst (λ (t : List ℕ). ReadingStands next t start holds) (append_assoc text done (end ++ 10 ∷ []))
+    (line_taken_whole now next (text ++ done) end start mid holds (reaches text start h) cut.whole takes empty)
+
+pub line_parts : (bytes done rest end after : List ℕ) → bytes ≡ done ++ rest → IsCut rest end after → bytes ≡ (done ++ (end ++ 10 ∷ [])) ++ after
+line_parts bytes done rest end after parts cut =
+    cut_whole bytes done rest end after parts cut
+    ∙ ap (λ (t : List ℕ). done ++ t) (sym (append_assoc end (10 ∷ []) after))
+    ∙ sym (append_assoc done (end ++ 10 ∷ []) after)
+
+-- the script stops at it
+pub line_stops : (old now : Reading) (bytes done rest end after : List ℕ) (held mid holds : Option (List ℕ)) (fault : ScriptFault) → Reaches old now done held mid → bytes ≡ done ++ rest → IsCut rest end after → length bytes ≤ 4096 →
+    StopsAtLine now.player (now.held.items ++ end) mid holds fault → StopsInBytes old bytes held holds fault
+line_stops old now bytes done rest end after held mid holds fault reaches parts cut few stops text start h =
+    let whole = cut_whole bytes done rest end after parts cut in
+    let size : length bytes ≡ length done + length rest = ap (λ (t : List ℕ). length t) parts ∙ length-append done rest in
+    let ahead : length after ≤ 4095 = omega (arith, few, size, cut_size rest end after cut) in
+    subst (λ (t : List ℕ). Halts t start holds fault) (append_assoc text done (end ++ 10 ∷ after) ∙ ap (λ (t : List ℕ). text ++ t) (sym whole))
+    (line_halts now (text ++ done) end after start mid holds fault (reaches text start h) cut.whole ahead stops)
+
+-- no further line ends
+read_whole : (text bytes done rest : List ℕ) → bytes ≡ done ++ rest → (text ++ done) ++ rest ≡ text ++ bytes
+read_whole text bytes done rest parts = append_assoc text done rest ∙ ap (λ (t : List ℕ). text ++ t) (sym parts)
+
+pub long_stops_in : (old now : Reading) (bytes done rest : List ℕ) (held mid holds : Option (List ℕ)) (fault : ScriptFault) → Reaches old now done held mid → bytes ≡ done ++ rest → EndsNoLine rest → 8192 < length (now.held.items ++ rest) →
+    StopsAtLong now.player mid holds fault → StopsInBytes old bytes held holds fault
+long_stops_in old now bytes done rest held mid holds fault reaches parts whole long stops text start h =
+    subst (λ (t : List ℕ). Halts t start holds fault) (read_whole text bytes done rest parts)
+    (long_halts now (text ++ done) rest start mid holds fault (reaches text start h) whole long stops)
+
+-- these bytes are held then
+pub record Held (now next : Reading) (rest : List ℕ) : Type 0 where
+  pub whole : EndsNoLine rest
+  pub holds : next.held.items ≡ now.held.items ++ rest
+  pub fits : length (now.held.items ++ rest) ≤ 8192
+
+pub are_held : (now next : Reading) (rest : List ℕ) → EndsNoLine rest → next.held.items ≡ now.held.items ++ rest → length now.held.items + length rest ≤ 8192 → Held now next rest
+are_held now next rest whole holds fits = record { whole = whole; holds = holds; fits = omega (arith, fits, length-append now.held.items rest) }
+
+reached : (old now next : Reading) (bytes done rest : List ℕ) (held mid : Option (List ℕ)) → Reaches old now done held mid → bytes ≡ done ++ rest → Held now next rest → Reaches old (record now { held = next.held }) bytes held mid
+reached old now next bytes done rest held mid reaches parts h text start stands =
+    subst (λ (t : List ℕ). ReadingStands (record now { held = next.held }) t start mid) (read_whole text bytes done rest parts)
+    (bytes_held now (record now { held = next.held }) (text ++ done) rest start mid (reaches text start stands) h.whole refl h.holds h.fits)
+
+pub bytes_taken : (old now next : Reading) (bytes done rest : List ℕ) (held mid holds : Option (List ℕ)) → Reaches old now done held mid → bytes ≡ done ++ rest → Held now next rest → Flushes now.player next.player mid holds → TakesBytes old next bytes held holds
+bytes_taken old now next bytes done rest held mid holds reaches parts h flushes text start stands =
+    reading_flushed (record now { held = next.held }) next (text ++ bytes) start mid holds (reached old now next bytes done rest held mid reaches parts h text start stands) flushes refl
+
+pub bytes_lost : (old now next : Reading) (bytes done rest : List ℕ) (held mid holds : Option (List ℕ)) (fault : ScriptFault) → Reaches old now done held mid → bytes ≡ done ++ rest → Held now next rest → LosesAnswer now.player mid holds fault → StopsInBytes old bytes held holds fault
+bytes_lost old now next bytes done rest held mid holds fault reaches parts h loses text start stands =
+    lost_halts (record now { held = next.held }) (text ++ bytes) start mid holds fault (reached old now next bytes done rest held mid reaches parts h text start stands) loses
+
+-- ---- what a reader gave
+
+pub consumes_more : (input left rest : Option (List ℕ)) (text more : List ℕ) → Consumes input left text → Consumes left rest more → Consumes input rest (text ++ more)
+consumes_more None left rest text more h g = tt
+consumes_more (Some bytes) None rest text more h g = absurd h
+consumes_more (Some bytes) (Some others) None text more h g = absurd g
+consumes_more (Some bytes) (Some others) (Some last) text more h g = h ∙ ap (λ (t : List ℕ). text ++ t) g ∙ sym (append_assoc text more last)
+
+consumes_kept : (input left rest : Option (List ℕ)) (text : List ℕ) → Consumes input left text → Keeps left rest → Consumes input rest text
+consumes_kept None left rest text h g = tt
+consumes_kept (Some bytes) None rest text h g = absurd h
+consumes_kept (Some bytes) (Some others) None text h g = absurd g
+consumes_kept (Some bytes) (Some others) (Some last) text h g = h ∙ ap (λ (t : List ℕ). text ++ t) (sym g)
+
+pub kept : (known : Option (List ℕ)) → Keeps known known
+kept None = tt
+kept (Some bytes) = refl
+
+consumes_all : (input left rest : Option (List ℕ)) (text buffer : List ℕ) (n : ℕ) → n ≡ 0 → Consumes input left text → Consumes left rest (take n buffer) → Consumes input rest text
+consumes_all input left rest text buffer n e h g =
+    subst (λ (t : List ℕ). Consumes input rest t) (ap (λ (m : ℕ). text ++ take m buffer) e ∙ append-nil text) (consumes_more input left rest text (take n buffer) h g)
+
+pub plays_all : (reading : Reading) (input left rest start held holds : Option (List ℕ)) (text buffer : List ℕ) (n : ℕ) (summary : Summary) → n ≡ 0 → Consumes input left text → Consumes left rest (take n buffer) → (n ≡ 0 → IsAtEnd rest) → ReadingStands reading text start held →
+    EndsRead reading held holds summary → PlaysInput input rest start holds summary
+plays_all reading input left rest start held holds text buffer n summary e h g ended stands plays = record {
+  text = text;
+  read = consumes_all input left rest text buffer n e h g;
+  ended = ended e;
+  whole = plays text start stands;
+}
+
+pub stops_at_end : (reading : Reading) (input left rest start held holds : Option (List ℕ)) (text buffer : List ℕ) (n : ℕ) (fault : ScriptFault) → n ≡ 0 → Consumes input left text → Consumes left rest (take n buffer) → (n ≡ 0 → IsAtEnd rest) → ReadingStands reading text start held →
+    StopsRead reading held holds fault → StopsInput input rest start holds fault
+stops_at_end reading input left rest start held holds text buffer n fault e h g ended stands stops = record {
+  text = text;
+  read = consumes_all input left rest text buffer n e h g;
+  stops = inl (record { ended = ended e; stopped = stops text start stands });
+}
+
+pub stops_within : (reading : Reading) (input left rest start held holds : Option (List ℕ)) (text more : List ℕ) (fault : ScriptFault) → Consumes input left text → Consumes left rest more → ReadingStands reading text start held →
+    StopsInBytes reading more held holds fault → StopsInput input rest start holds fault
+stops_within reading input left rest start held holds text more fault h g stands stops = record {
+  text = text ++ more;
+  read = consumes_more input left rest text more h g;
+  stops = inr (inr (stops text start stands));
+}
+
+pub breaks_off : (reading : Reading) (input left rest start held holds : Option (List ℕ)) (text : List ℕ) (fault : ScriptFault) → Consumes input left text → Keeps left rest → ReadingStands reading text start held →
+    BreaksRead reading held holds fault → StopsInput input rest start holds fault
+breaks_off reading input left rest start held holds text fault h g stands breaks = record {
+  text = text;
+  read = consumes_kept input left rest text h g;
+  stops = inr (inl (breaks text start stands));
+}

@@ -1,6 +1,7 @@
 //! A script that is read in pieces.
 
-ghost use Rattle.std.specs.Prelude.{◌≡◌, ◌+◌, ◌<◌, ◌≤◌, ◌^◌, ◌++◌, [], length, IsOk, IfOk, IfErr, OnOk};
+ghost use Rattle.std.specs.Io.KnownBytes.{Keeps, Consumes, IsAtEnd};
+ghost use Rattle.std.specs.Prelude.{◌≡◌, ◌+◌, ◌<◌, ◌≤◌, ◌^◌, ◌++◌, [], length, take, IsOk, IfOk, IfErr, OnOk, IfSome, IfNone};
 ghost use Rattle.std.specs.Prelude.{List, ℕ, Option};
 
 use crate::fault::{ScriptFault, ScriptFaultKind};
@@ -13,6 +14,24 @@ use std::io::{Read, Write};
 
 /// How often a reader is asked, so that the numbers of lines fit.
 const MOST_READS: u64 = 1 << 48;
+
+/// How many bytes a reader is asked for.
+const READ: usize = 4096;
+
+/// Asks a reader once. It answers how many bytes came, 0 at the end, or nothing where the reader
+/// failed.
+fn read_once<R: Read>(reader: &mut R, buffer: &mut [u8; READ]) -> Option<usize>
+    ensures bound { IfSome result (λ n. n ≤ length buffer.new) }
+    ensures few { IfSome result (λ n. length (take n buffer.new) ≤ 4096) }
+    ensures bytes { IfSome result (λ n. Consumes (R.remaining reader.old) (R.remaining reader.new) (take n buffer.new)) }
+    ensures end { IfSome result (λ n. n ≡ 0 → IsAtEnd (R.remaining reader.new)) }
+    ensures kept { IfNone result (Keeps (R.remaining reader.old) (R.remaining reader.new)) }
+{
+    match reader.read(buffer) {
+        Ok(n) => Some(n),
+        Err(_) => None,
+    }
+}
 
 /// A script as far as it was read. Whole lines are played where they were read.
 #[derive(Drop)]
@@ -52,12 +71,12 @@ impl Reading {
         ensures ok { IfOk result (PlaysInput (R.remaining reader.old) (R.remaining reader.new) (W.contents writer.old) (W.contents writer.new)) }
         ensures err { IfErr result (StopsInput (R.remaining reader.old) (R.remaining reader.new) (W.contents writer.old) (W.contents writer.new)) }
     {
-        let mut buffer = [0; 4096];
+        let mut buffer = [0; READ];
         for _ in 0..MOST_READS {
-            match reader.read(&mut buffer) {
-                Ok(0) => return self.end(alloc, writer),
-                Ok(n) => self.take_bytes(alloc, &buffer[..n], writer)?,
-                Err(_) => return self.break_off(alloc, writer),
+            match read_once(reader, &mut buffer) {
+                Some(0) => return self.end(alloc, writer),
+                Some(n) => self.take_bytes(alloc, &buffer[..n], writer)?,
+                None => return self.break_off(alloc, writer),
             }
         }
         self.break_off(alloc, writer)
