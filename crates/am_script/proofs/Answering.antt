@@ -20,7 +20,7 @@ use Rattle.am_script.specs.Outputs.{Owed, bytes_of, IsLost, Stands, Settles}
 use Rattle.am_script.specs.Played.{StopsAtEvent, HaltsIn, IsPlayed, lines_for}
 use Rattle.am_script.specs.Playing.{Ending, with_next, script_behind, Answered, asked_in, answers_in, owed_for, behind, EventsStand}
 use Rattle.am_script.specs.Script.{Numbered, Told, Script, events_in, events_from, line_read, told_by, only_fault, script_from}
-use Rattle.am_script.specs.Turns.{TurnDone, TurnStopped, IsWhole, IsShort, Closes, counted}
+use Rattle.am_script.specs.Turns.{TurnDone, TurnStopped, Closes, counted}
 use Rattle.am_script.proofs.Closing.{lost_by}
 use Rattle.am_script.proofs.Lost.{owed_push, bytes_for, Within, within_some}
 

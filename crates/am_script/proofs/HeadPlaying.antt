@@ -1,28 +1,26 @@
 -- A line of a head is played.
-use Rattle.std.proofs.Common.{◌≡◌, ◌⊎◌, ◌≤◌, ◌+◌, ℕ, true, List, [], ◌∷◌, ◌++◌, length, Option, Some, None, Result, Ok, Err, refl, sym, ap, subst, ◌∙◌, inl, inr, append_assoc, arith}
+use Rattle.std.proofs.Common.{◌≡◌, ◌≤◌, ◌+◌, ℕ, true, List, [], ◌∷◌, ◌++◌, length, Option, Some, None, Result, Ok, Err, refl, sym, ap, subst, ◌∙◌, inl, inr, append_assoc, arith}
 use Rattle.std.specs.Io.KnownBytes.{Appends}
-use Rattle.std.proofs.lemmas.List.{append-nil, length_push}
+use Rattle.std.proofs.lemmas.List.{length_push}
 use Rattle.am_machine.specs.State.{State, Opening, opening_in, opening_of}
 use Rattle.am_script.specs.declared.fault.ScriptFault.{ScriptFault}
 use Rattle.am_script.specs.declared.fault.ScriptFaultKind.{ScriptFaultKind}
-use Rattle.am_script.specs.declared.fault.ScriptFaultKind.TheVariants.{LongLine, NoMemory, WriteFailed}
+use Rattle.am_script.specs.declared.fault.ScriptFaultKind.TheVariants.{LongLine, NoMemory}
 use Rattle.am_script.specs.declared.output.Output.{Output}
 use Rattle.am_script.specs.declared.play.Summary.{Summary}
-use Rattle.am_script.specs.Fault.{fault_at, IsFaultOr}
+use Rattle.am_script.specs.Fault.{fault_at}
 use Rattle.am_script.specs.HeadLeft.{IsLeft}
-use Rattle.am_script.specs.Heading.{HeadSoFar, Stops, GoesOn, EventsBegin, StopsAt, line_taken, first_open}
+use Rattle.am_script.specs.Heading.{HeadSoFar, Stops, GoesOn, EventsBegin, line_taken, first_open}
 use Rattle.am_script.specs.Lines.{is_long}
 use Rattle.am_script.specs.Maps.{opening_read}
-use Rattle.am_script.specs.Outputs.{Owed, bytes_of, IsLost, Stands, StandsBy, Settles}
-use Rattle.am_script.specs.Played.{HaltsAt, HaltsIn, IsPlayed, IsStopped, end_of_head}
+use Rattle.am_script.specs.Outputs.{Owed, bytes_of, StandsBy, Settles}
+use Rattle.am_script.specs.Played.{HaltsAt, HaltsIn, end_of_head}
 use Rattle.am_script.specs.Playing.{Ending, with_next, script_behind, HeadStands, EventsStand, PlaceStands, HeadTaken, HeadStops, place_after}
 use Rattle.am_world.specs.Table.{WorldTable, state_of}
 use Rattle.am_script.specs.Script.{Script, script_from, script_by, begun_by, events_from, head_ends, without_world}
 use Rattle.am_script.specs.Turns.{Closes}
 use Rattle.am_script.proofs.Answering.{script_next, script_ends, EndsSo, same_fault}
-use Rattle.am_script.proofs.Closing.{lost_by}
 use Rattle.am_script.proofs.Heads.{went, one_taken, begun, ended}
-use Rattle.am_script.proofs.Writes.{appends_none}
 
 none_before : (front : List Owed) (first : Owed) (others : List Owed) → [] ≡ front ++ first ∷ others → ⊥
 none_before [] first others e = absurd cc

@@ -13,7 +13,7 @@ use Rattle.am_lines.specs.Words.{words_of}
 use Rattle.am_script.specs.Lines.{is_long, are_skipped}
 use Rattle.am_script.specs.Limits.{limits_read}
 use Rattle.am_script.specs.Sections.{Section, Part, Alone, Whole, Unended, Long, parts_in, part_by, with_line, is_end, are_only, map_name}
-use Rattle.am_script.specs.Head.{Head, Headed, Begins, Ends, Faulty, is_map, is_limits, limits_by, limits_then, master_then, master_by, maps_then, section_read, bad, too_long}
+use Rattle.am_script.specs.Head.{Head, Headed, Begins, Ends, Faulty, is_limits, limits_by, master_by, section_read, bad, too_long}
 use Rattle.am_script.specs.HeadLeft.{stage_then, section_then, left_in, head_left}
 use Rattle.am_script.specs.Heading.{HeadSoFar, Taken, GoesOn, EventsBegin, Stops, line_taken, short_taken, words_taken, alone_taken, limits_taken, may_open, closed, mastered, first_open}
 

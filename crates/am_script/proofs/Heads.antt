@@ -1,23 +1,14 @@
 -- A script whose head is read line by line.
-use Rattle.std.proofs.Common.{◌≡◌, ◌≤◌, ◌+◌, ℕ, List, [], ◌∷◌, length, drop, Option, Some, None, Result, Ok, Err, IfOk, IfErr, refl, sym, ap, subst, ◌∙◌, inl, inr, arith}
-use Rattle.std.specs.Io.KnownBytes.{Appends}
+use Rattle.std.proofs.Common.{◌≡◌, ◌≤◌, ◌+◌, ℕ, List, [], ◌∷◌, length, drop, Option, refl, sym, ap, ◌∙◌, arith}
 use Rattle.std.proofs.lemmas.List.{drop-drop}
-use Rattle.am_machine.specs.State.{State, Opening, opening_in, opening_of}
-use Rattle.am_script.specs.declared.fault.ScriptFault.{ScriptFault}
 use Rattle.am_script.specs.declared.fault.ScriptFaultKind.{ScriptFaultKind}
-use Rattle.am_script.specs.declared.fault.ScriptFaultKind.TheVariants.{NoMemory}
-use Rattle.am_script.specs.declared.play.Summary.{Summary}
-use Rattle.am_script.specs.Fault.{fault_at, IsFaultOr}
 use Rattle.am_script.specs.Sections.{parts_of_lines}
 use Rattle.am_script.specs.Head.{head_of}
-use Rattle.am_script.specs.Heading.{HeadSoFar, no_lines, Taken, GoesOn, EventsBegin, Stops, StopsAt, line_taken, first_open}
+use Rattle.am_script.specs.Heading.{HeadSoFar, no_lines, Taken, GoesOn, EventsBegin, line_taken, first_open}
 use Rattle.am_script.specs.Maps.{opening_read}
-use Rattle.am_script.specs.Script.{Script, Told, script_from, script_by, begun_by, events_from, head_ends, without_world}
-use Rattle.am_script.specs.Played.{AllAnswered, IsPlayed, IsStopped, end_of_head}
-use Rattle.am_script.specs.Played as played
+use Rattle.am_script.specs.Script.{script_from, script_by, begun_by, events_from, head_ends}
 use Rattle.am_script.specs.HeadLeft.{IsLeft, head_left}
 use Rattle.am_script.proofs.HeadSteps.{follows, head_step, head_ends_so}
-use Rattle.am_script.proofs.Writes.{appends_none}
 
 pub none_taken : (all : List (List ℕ)) → IsLeft all no_lines 0 all
 none_taken all = record { goes = refl; behind = refl; counted = omega arith }

@@ -1,7 +1,7 @@
 -- A script whose events others play.
-use Rattle.std.proofs.Common.{◌≡◌, ◌⊎◌, ◌≤◌, ◌+◌, ◌^◌, ◌-◌, ℕ, List, [], ◌∷◌, length, take, Option, Some, None, Result, Ok, Err, IfOk, IfErr, option_copied, refl, sym, ap, subst, ◌∙◌, inl, inr, arith}
+use Rattle.std.proofs.Common.{◌≡◌, ◌⊎◌, ◌≤◌, ◌+◌, ◌-◌, ℕ, List, [], ◌∷◌, length, take, Option, Some, None, Result, Ok, Err, IfOk, IfErr, refl, sym, ap, subst, ◌∙◌, inl, inr, arith}
 use Rattle.am_machine.specs.declared.event.Event.{Event}
-use Rattle.am_machine.specs.State.{State, Opening, opening_in, opening_of}
+use Rattle.am_machine.specs.State.{Opening}
 use Rattle.am_script.specs.declared.fault.ScriptFault.{ScriptFault}
 use Rattle.am_script.specs.declared.fault.ScriptFaultKind.{ScriptFaultKind}
 use Rattle.am_script.specs.declared.fault.ScriptFaultKind.TheVariants.{NoMemory}
@@ -10,9 +10,9 @@ use Rattle.am_script.specs.Fault.{fault_at, IsFaultOr}
 use Rattle.am_script.specs.Heading.{HeadSoFar, EventsBegin, Stops, StopsAt, line_taken, first_open}
 use Rattle.am_script.specs.Lines.{lines_of, lines_in}
 use Rattle.am_script.specs.Maps.{opening_read}
-use Rattle.am_script.specs.Opened.{OpenedAs, NotOpened, NoRoom, NoRoomFor, NoNext}
+use Rattle.am_script.specs.Opened.{OpenedAs, NotOpened, NoRoom, NoNext}
 use Rattle.am_script.specs.Read.{cut_line, cut_kind, played, broken}
-use Rattle.am_script.specs.Script.{Script, Told, script_from, script_of, script_by, begun_by, events_from, head_ends, told_by, only_fault, without_world, line_read}
+use Rattle.am_script.specs.Script.{Script, Told, script_from, script_of, script_by, begun_by, events_from, head_ends, told_by, without_world, line_read}
 use Rattle.am_script.specs.Turns.{LineReadAs, SaysEvent}
 use Rattle.am_script.specs.declared.fault.ScriptFaultKind.TheVariants as kinds
 use Rattle.am_script.specs.HeadLeft.{IsLeft}

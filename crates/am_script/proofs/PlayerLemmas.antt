@@ -13,7 +13,7 @@ use Rattle.am_script.specs.Heading.{HeadSoFar, no_lines, first_open}
 use Rattle.am_script.specs.HeadLeft.{IsLeft}
 use Rattle.am_script.specs.Lines.{is_long}
 use Rattle.am_script.specs.Outputs.{Settles}
-use Rattle.am_script.specs.Played.{HaltsIn, IsPlayed, IsStopped, end_of_head}
+use Rattle.am_script.specs.Played.{HaltsIn, end_of_head}
 use Rattle.am_script.specs.Playing.{Ending, with_next, script_behind, HeadStands, EventsStand, PlaceStands, PlayerStands, place_after, HeadTaken, HeadStops, EndsPlayed, EndsStopped}
 use Rattle.am_script.specs.Script.{line_read, script_from}
 use Rattle.am_script.specs.Turns.{TurnDone, TurnStopped, Closes, counted}

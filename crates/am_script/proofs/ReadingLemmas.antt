@@ -1,8 +1,7 @@
 -- A script that is read in pieces.
-use Rattle.std.proofs.Common.{◌≡◌, ◌≤◌, ◌<◌, ◌+◌, ◌-◌, ℕ, Bool, true, false, cond, ltb, List, [], ◌∷◌, ◌++◌, length, take, drop, Option, Some, None, Result, Ok, Err, IfOk, IfErr, refl, sym, ap, subst, ◌∙◌, inl, inr, append_assoc, append-nil, arith}
+use Rattle.std.proofs.Common.{◌≡◌, ◌≤◌, ◌<◌, ◌+◌, ◌-◌, ℕ, Bool, true, false, cond, ltb, List, [], ◌∷◌, ◌++◌, length, take, Option, Some, None, refl, sym, ap, subst, ◌∙◌, inl, inr, append_assoc, append-nil, arith}
 use Rattle.std.specs.Io.KnownBytes.{Consumes, Keeps, IsAtEnd}
-use Rattle.std.specs.List.{slice_split, onto_first}
-use Rattle.std.specs.Prelude.{All}
+use Rattle.std.specs.List.{onto_first}
 use Rattle.std.proofs.lemmas.Bool.{lt-ltb, le-ltb, ltb-true, ltb-false, false≢true}
 use Rattle.std.proofs.lemmas.List.{length-append, length_push, take_at}
 use Rattle.std.proofs.lemmas.List.Elements.{All-nil, All-head, All-tail, All-append}
@@ -10,16 +9,16 @@ use Rattle.std.proofs.lemmas.List.Splits.{slice_split_none, slice_split_at, slic
 use Rattle.am_lines.specs.Lines.{is_line_feed}
 use Rattle.am_script.specs.declared.fault.ScriptFault.{ScriptFault}
 use Rattle.am_script.specs.declared.fault.ScriptFaultKind.{ScriptFaultKind}
-use Rattle.am_script.specs.declared.fault.ScriptFaultKind.TheVariants.{LongLine, ReadFailed}
+use Rattle.am_script.specs.declared.fault.ScriptFaultKind.TheVariants.{ReadFailed}
 use Rattle.am_script.specs.declared.play.Summary.{Summary}
 use Rattle.am_script.specs.declared.player.Player.{Player}
 use Rattle.am_script.specs.declared.reading.Reading.{Reading}
 use Rattle.am_script.specs.Lines.{lines_of, is_long, EndsNoLine, IsCut}
 use Rattle.am_script.specs.Played.{HaltsIn, Halts, IsPlayed, BreaksOff, PlaysInput, StopsInput}
-use Rattle.am_script.specs.Playing.{Ending, PlayerStands, with_next, script_behind, TakesLine, StopsAtLine, StopsAtLong, LosesAnswer, Flushes, EndsPlayed, EndsStopped}
+use Rattle.am_script.specs.Playing.{PlayerStands, TakesLine, StopsAtLine, StopsAtLong, LosesAnswer, Flushes, EndsPlayed, EndsStopped}
 use Rattle.am_script.specs.Read.{last_of, cut_line, cut_kind, played}
 use Rattle.am_script.specs.Reading.{ReadingStands, TakesBytes, StopsInBytes, EndsRead, StopsRead, BreaksRead}
-use Rattle.am_script.specs.Script.{Script, script_from, script_of}
+use Rattle.am_script.specs.Script.{script_from}
 
 -- ---- lines
 

@@ -1,5 +1,5 @@
 -- A script that is played line by line, while more of it may follow. For the code alone.
-use Rattle.std.specs.Prelude.{⊤, ◌≡◌, ◌⊎◌, ℕ, ◌+◌, ◌≤◌, Bool, true, List, [], ◌∷◌, ◌++◌, length, map, count_by, Option, None, Some, Result, Ok}
+use Rattle.std.specs.Prelude.{◌≡◌, ◌⊎◌, ℕ, ◌+◌, true, List, [], ◌∷◌, ◌++◌, length, map, count_by, Option, None, Some, Ok}
 use Rattle.std.specs.List.{flat_map}
 use Rattle.am_machine.specs.declared.answer.Answer.{Answer}
 use Rattle.am_machine.specs.State.{State, Opening, opening_in, opening_of}
@@ -14,7 +14,7 @@ use Rattle.am_script.specs.declared.player.Player.{Player}
 use Rattle.am_script.specs.Answers.{answer_line, is_refused}
 use Rattle.am_script.specs.Fault.{IsFaultOr}
 use Rattle.am_script.specs.HeadLeft.{IsLeft}
-use Rattle.am_script.specs.Heading.{HeadSoFar, Taken, GoesOn, EventsBegin, StopsAt, line_taken}
+use Rattle.am_script.specs.Heading.{HeadSoFar, GoesOn, EventsBegin, StopsAt, line_taken}
 use Rattle.am_script.specs.Lines.{is_long}
 use Rattle.am_script.specs.Maps.{opening_read}
 use Rattle.am_script.specs.Outputs.{Owed, owed_by, Stands}

@@ -1,4 +1,4 @@
-use Rattle.std.proofs.Common.{◌≡◌, ◌≤◌, ◌+◌, ◌^◌, option_copied}
+use Rattle.std.proofs.Common.{◌≤◌, ◌+◌, ◌^◌, option_copied}
 use Rattle.am_script.specs.Lines.{lines_of, lines_in, size_in}
 use Rattle.am_script.specs.HeadLeft.{IsLeft}
 use Rattle.am_script.proofs.visit.open_text.Given as goal

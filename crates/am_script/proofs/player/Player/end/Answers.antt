@@ -1,4 +1,4 @@
-use Rattle.std.proofs.Common.{List, ℕ, Option, Some, None, length, ap, ◌∙◌, sym, subst}
+use Rattle.std.proofs.Common.{Option, length, ap, ◌∙◌, sym, subst}
 use Rattle.am_script.specs.declared.fault.ScriptFaultKind.{ScriptFaultKind}
 use Rattle.am_script.specs.Played.{end_of_head}
 use Rattle.am_script.specs.Script.{script_from}

@@ -1,4 +1,4 @@
-use Rattle.std.proofs.Common.{◌+◌, ◌++◌, take, arith}
+use Rattle.std.proofs.Common.{◌++◌, take, arith}
 use Rattle.std.proofs.lemmas.Result.{err_from_is_err_and, IfErr-weaker}
 use Rattle.am_script.proofs.ReadingLemmas.{consumes_more, kept, stops_at_end, stops_within, breaks_off}
 use Rattle.am_script.proofs.reading.Reading.play.Goals as goal

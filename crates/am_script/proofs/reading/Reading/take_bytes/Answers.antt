@@ -1,4 +1,4 @@
-use Rattle.std.proofs.Common.{◌+◌, ◌++◌, ◌∷◌, [], length, refl, arith}
+use Rattle.std.proofs.Common.{◌++◌, ◌∷◌, [], refl, arith}
 use Rattle.std.proofs.lemmas.Result.{err_from_is_err_and, on_ok_weaker, IfErr-weaker}
 use Rattle.am_script.specs.declared.reading.Reading.{Reading}
 use Rattle.am_script.proofs.ReadingLemmas.{cut_size, too_long, line_more, line_parts, line_stops, long_stops_in, are_held, bytes_taken, bytes_lost}
