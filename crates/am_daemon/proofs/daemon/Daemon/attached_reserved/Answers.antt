@@ -3,6 +3,6 @@ use Rattle.am_daemon.proofs.daemon.Daemon.attached_reserved.Goals as goal
 
 pub invariant_of-self : goal.invariant_of-self
 invariant_of-self c = record {
-  known = known_once c.args.fs c.args.path _ _ c.know.ensures.rows c.self.invariant.known;
-  held = held_once c.args.fs c.args.attach _ _ c.hold.ensures.rows c.self.invariant.held;
+  known = known_once _ _ _ _ c.know.ensures.rows c.self.invariant.known;
+  held = held_once _ _ _ _ c.hold.ensures.rows c.self.invariant.held;
 }
