@@ -27,8 +27,8 @@ use Rattle.am_kernel.specs.Requests.{queued_of, without_use, timeout_refusal, wi
 use Rattle.am_kernel.specs.Attachments.{catatonic_refusal, autofs_refusal, pipe_refusal, closed_if_live, with_pipe}
 use Rattle.am_kernel.specs.Walks.{closed, closing, first_begin}
 use Rattle.am_kernel.specs.Previews.{is_trigger}
-use Rattle.am_daemon.specs.declared.served.Served.{Served}
-use Rattle.am_daemon.specs.Points.{point_of}
+use Rattle.am_daemon.specs.declared.served.Point.{Point}
+use Rattle.am_daemon.specs.Points.{point_of, line_timeout}
 use Rattle.am_daemon.specs.Deliveries.{job_of}
 use Rattle.am_daemon.specs.State.{JobPlan}
 use Rattle.am_machine.specs.declared.event.Event.{Event}
@@ -99,7 +99,7 @@ attached_still : (at : Result Position Errno) (direct : Bool) (timeout : ℕ) (k
 attached_still (Err e) direct timeout k d fs attach g is = is
 attached_still (Ok at) direct timeout k d fs attach g e = still k (attached_at direct timeout k at) fs attach (attached_grows direct timeout k at fs g.autofs g.rise) e
 
-attached_as : (point : Option Served) (s : State) (path : List (List ℕ)) → Leaves s (administration.attached_as point s path)
+attached_as : (point : Option Point) (s : State) (path : List (List ℕ)) → Leaves s (administration.attached_as point s path)
 attached_as None s path = none s _
 attached_as (Some point) s path =
     unless_refused (administration.attach_refusal s path) s _ (λ may. record {
@@ -107,7 +107,7 @@ attached_as (Some point) s path =
       serves = λ g fs attach served.
           let old : fs ≤ s.kernel.last_fs = (attach_given s.kernel s.daemon fs attach served.current g).1 in
           inl (record {
-            current = attached_still (position_at s.kernel 0 path) point.direct point.timeout s.kernel s.daemon fs attach g served.current;
+            current = attached_still (position_at s.kernel 0 path) point.direct (line_timeout s.daemon point.entry) s.kernel s.daemon fs attach g served.current;
             held = held_others s.daemon.held (s.kernel.last_fs + 1) (s.kernel.last_attach + 1) fs (grind (arith, nat_tests, old)) ∙ served.held;
           });
     })
