@@ -12,7 +12,7 @@ use Rattle.am_state.specs.declared.daemon_row.Record.TheVariants.{Mounted}
 use Rattle.am_job.specs.declared.act.Act.{Act}
 use Rattle.am_job.specs.declared.act.Act.TheVariants as act
 use Rattle.am_job.specs.declared.act.Outcome.{Outcome}
-use Rattle.am_job.specs.declared.act.Outcome.TheVariants.{Made, Failed}
+use Rattle.am_job.specs.declared.act.Outcome.TheVariants.{Done, Made, Failed}
 use Rattle.am_job.specs.Plans.{Plan, Ended, Next, plan_for, is_reply, at_directory, rest_of, next_of, without_mount, rest_of_mount, rest_of_umount, mount_entry, book_and_reply, reply}
 use Rattle.am_job.specs.Laws.{IsEnded, AcknowledgesLast}
 use Rattle.am_job.proofs.PlanLemmas.{plan_acknowledges}
@@ -49,7 +49,7 @@ after_umount g mount Failed = (refl, book_rest g (Some (Mounted mount)) Fail ref
 after_umount g mount o = rmdir_rest g g.name (book_and_reply g None Ready) (refl, book_rest g None Ready refl)
 
 mount_rest : (g : Trigger) (entry : EntryText) → IsUnwritten g (mount_entry g entry)
-mount_rest g entry = ((after_mount g Failed).0, λ o. ((refl, (after_mount g o).0), (after_mount g o).1))
+mount_rest g entry = ((after_mount g Done).0, λ o. ((refl, (after_mount g o).0), (after_mount g o).1))
 
 pub plan_rest : (kind : TokenKind) (g : Trigger) (mounted : Option ℕ) (entry : Option EntryText) → IsRest g (plan_for kind g mounted entry)
 plan_rest Missing g (Some mount) entry = reply_rest g Ready
@@ -61,10 +61,10 @@ plan_rest Expire g None entry = reply_rest g Fail
 -- ---- the record is still to be written where a plan is more than a reply
 
 left_by : (g : Trigger) (a : Act) (rest : Outcome → Plan) → IsRest g (Next a rest) → has_record_left (Next a rest) ≡ not (is_reply (Next a rest))
-left_by g (act.Mkdir trigger) rest h = (h Failed).0
-left_by g (act.Mount trigger entry) rest h = (h Failed).0.1
-left_by g (act.Umount trigger) rest h = (h Failed).0.1
-left_by g (act.Rmdir trigger) rest h = (h Failed).0
+left_by g (act.Mkdir trigger) rest h = (h Done).0
+left_by g (act.Mount trigger entry) rest h = (h Done).0.1
+left_by g (act.Umount trigger) rest h = (h Done).0.1
+left_by g (act.Rmdir trigger) rest h = (h Done).0
 left_by g (act.Record trigger entry) rest h = refl
 left_by g (act.Reply status) rest h = refl
 
@@ -87,10 +87,10 @@ ended_none Ended h = refl
 ended_none (Next a rest) h = absurd h
 
 kept_by : (g : Trigger) (a : Act) (rest : Outcome → Plan) (outcome : Outcome) → writes (Some a) ≡ None → IsRest g (Next a rest) → has_record_left (rest outcome) ≡ has_record_left (Next a rest)
-kept_by g (act.Mkdir trigger) rest outcome none h = (h outcome).0 ∙ sym (h Failed).0
-kept_by g (act.Mount trigger entry) rest outcome none h = (h outcome).0.1 ∙ sym (h Failed).0.1
-kept_by g (act.Umount trigger) rest outcome none h = (h outcome).0.1 ∙ sym (h Failed).0.1
-kept_by g (act.Rmdir trigger) rest outcome none h = (h outcome).0 ∙ sym (h Failed).0
+kept_by g (act.Mkdir trigger) rest outcome none h = (h outcome).0 ∙ sym (h Done).0
+kept_by g (act.Mount trigger entry) rest outcome none h = (h outcome).0.1 ∙ sym (h Done).0.1
+kept_by g (act.Umount trigger) rest outcome none h = (h outcome).0.1 ∙ sym (h Done).0.1
+kept_by g (act.Rmdir trigger) rest outcome none h = (h outcome).0 ∙ sym (h Done).0
 kept_by g (act.Record trigger entry) rest outcome none h = absurd cc
 kept_by g (act.Reply status) rest outcome none h = ended_none (rest outcome) (h outcome).0
 

@@ -82,7 +82,7 @@ pub record Mounts (g : Trigger) (plan : Plan) (trigger : Trigger) (mount : ℕ) 
 mounts_by : (g trigger : Trigger) (entry : EntryText) (mount : ℕ) (a : Act) (rest : Outcome → Plan) → a ≡ act.Mount trigger entry → IsRest g (Next a rest) → ClaimsRight (Next a rest) → Mounts g (Next a rest) trigger mount
 mounts_by g trigger entry mount (act.Mount to what) rest e own h =
     let same : to ≡ trigger = cc in
-    record { on = sym same ∙ (own Failed).0.0; left = (own Failed).0.1; claimed = (h (Made mount)).0 }
+    record { on = sym same ∙ (own Done).0.0; left = (own Done).0.1; claimed = (h (Made mount)).0 }
 mounts_by g trigger entry mount a rest e own h = absurd cc
 
 pub mounts : (g trigger : Trigger) (entry : EntryText) (mount : ℕ) (plan : Plan) → next_of plan ≡ Some (act.Mount trigger entry) → IsRest g plan → ClaimsRight plan → Mounts g plan trigger mount
@@ -98,7 +98,7 @@ pub record Unmounts (g : Trigger) (plan : Plan) (trigger : Trigger) : Type 0 whe
 unmounts_by : (g trigger : Trigger) (a : Act) (rest : Outcome → Plan) → a ≡ act.Umount trigger → IsRest g (Next a rest) → ClaimsRight (Next a rest) → Unmounts g (Next a rest) trigger
 unmounts_by g trigger (act.Umount to) rest e own h =
     let same : to ≡ trigger = cc in
-    record { on = sym same ∙ (own Failed).0.0; left = (own Failed).0.1; claimed = (h Done).0 }
+    record { on = sym same ∙ (own Done).0.0; left = (own Done).0.1; claimed = (h Done).0 }
 unmounts_by g trigger a rest e own h = absurd cc
 
 pub unmounts : (g trigger : Trigger) (plan : Plan) → next_of plan ≡ Some (act.Umount trigger) → IsRest g plan → ClaimsRight plan → Unmounts g plan trigger

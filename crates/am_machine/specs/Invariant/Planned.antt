@@ -5,18 +5,19 @@ use Rattle.am_names.specs.declared.trigger.Trigger.{Trigger}
 use Rattle.am_job.specs.declared.act.Act.{Act}
 use Rattle.am_job.specs.declared.act.Act.TheVariants as act
 use Rattle.am_job.specs.declared.act.Outcome.{Outcome}
-use Rattle.am_job.specs.declared.act.Outcome.TheVariants.{Failed}
+use Rattle.am_job.specs.declared.act.Outcome.TheVariants.{Done}
 use Rattle.am_job.specs.Plans.{Plan, Ended, Next}
 use Rattle.am_job.specs.Laws.{IsEnded, AcknowledgesLast, ClaimsRight}
 use Rattle.am_daemon.specs.State.{JobPlan}
 use Rattle.am_daemon.specs.Packets.{is_pending}
 
--- the acts that are left write the book, whatever comes of those before
+-- The acts that are left write the book where those before are done. In the rest of a plan they do
+-- whatever comes of those (`IsRest`).
 abbrev pub has_record_left : Plan → Bool
 has_record_left Ended = false
 has_record_left (Next (act.Record trigger entry) rest) = true
 has_record_left (Next (act.Reply status) rest) = false
-has_record_left (Next a rest) = has_record_left (rest Failed)
+has_record_left (Next a rest) = has_record_left (rest Done)
 
 -- What may come after an act. What a job mounts, unmounts and writes is on its own trigger. The
 -- record is written once, as one that isn't pending; before that it is still to be written, and after
