@@ -13,7 +13,7 @@ use Rattle.am_job.specs.declared.act.Act.{Act}
 use Rattle.am_job.specs.declared.act.Act.TheVariants as act
 use Rattle.am_job.specs.declared.act.Outcome.{Outcome}
 use Rattle.am_job.specs.declared.act.Outcome.TheVariants.{Done, Made, Failed}
-use Rattle.am_job.specs.Plans.{Plan, Ended, Next, plan_for, is_reply, at_directory, rest_of, next_of, without_mount, rest_of_mount, rest_of_umount, mount_entry, book_and_reply, reply}
+use Rattle.am_job.specs.Plans.{Plan, Ended, Next, plan_for, is_reply, at_directory, rest_of, next_of, without_mount, rest_of_mount, rest_of_umount, unmounting, mount_entry, book_and_reply, reply}
 use Rattle.am_job.specs.Laws.{IsEnded, AcknowledgesLast}
 use Rattle.am_job.proofs.PlanLemmas.{plan_acknowledges}
 use Rattle.am_daemon.specs.Acts.{writes}
@@ -47,6 +47,10 @@ after_mount g o = rmdir_rest g g.name (without_mount g) (refl, book_rest g None 
 after_umount : (g : Trigger) (mount : ℕ) (o : Outcome) → IsUnwritten g (rest_of_umount g mount o)
 after_umount g mount Failed = (refl, book_rest g (Some (Mounted mount)) Fail refl)
 after_umount g mount o = rmdir_rest g g.name (book_and_reply g None Ready) (refl, book_rest g None Ready refl)
+
+-- an unmount as a whole has still to write the record
+pub umount_left : (g : Trigger) (mount : ℕ) → has_record_left (unmounting g mount) ≡ true
+umount_left g mount = (after_umount g mount Done).0
 
 mount_rest : (g : Trigger) (entry : EntryText) → IsUnwritten g (mount_entry g entry)
 mount_rest g entry = ((after_mount g Done).0, λ o. ((refl, (after_mount g o).0), (after_mount g o).1))
