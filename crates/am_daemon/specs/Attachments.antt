@@ -1,17 +1,22 @@
 -- What the daemon is attached to (autofs.rst, "Communicating with autofs: the event pipe").
 use Rattle.std.specs.Prelude.{ℕ, ◌==◌, Bool, ◌&&◌, not, is_some, List, [], ◌∷◌, ◌++◌, filter, find, Option, Some, None, if◌then◌else◌}
-use Rattle.std.specs.List.{list_any}
+use Rattle.std.specs.List.{list_any, IsDistinct}
 use Rattle.std.specs.Option.{option_map}
 use Rattle.am_names.specs.Path.{same_names}
 use Rattle.am_names.specs.declared.errno.Errno.{Errno}
 use Rattle.am_names.specs.declared.errno.Errno.TheVariants.{ENOENT, EEXIST}
 use Rattle.am_names.specs.declared.trigger.Trigger.{Trigger}
 use Rattle.am_state.specs.declared.daemon_row.HeldRow.{HeldRow}
+use Rattle.am_state.specs.declared.daemon_row.KnownRow.{KnownRow}
 use Rattle.am_state.specs.declared.daemon_row.Record.TheVariants.{Mounted}
 use Rattle.am_state.specs.declared.daemon_row.RecordRow.{RecordRow}
 use Rattle.am_job.specs.Book.{with_record, without_fs}
 use Rattle.am_daemon.specs.Points.{line_for}
 use Rattle.am_daemon.specs.State.{DaemonState}
+
+-- no file system is there twice
+abbrev pub AreOnce : List ℕ → Type 0
+AreOnce systems = IsDistinct (λ a b. a == b) systems
 
 -- a file system was attached at this path
 abbrev pub is_attached : DaemonState → List (List ℕ) → Bool
@@ -36,13 +41,20 @@ attach_refusal path d =
     else if is_attached d path then Some EEXIST
     else None
 
--- the daemon is attached to one more file system, the last, and holds the attachment
+-- of the file system this path alone, the last
+abbrev pub known_at : ℕ → List (List ℕ) → List KnownRow → List KnownRow
+known_at fs path known =
+    filter (λ row. not (row.fs == fs)) known ++ (record { fs = fs; path = path }) ∷ []
+
+-- of the file system this attachment alone, the last
+abbrev pub held_as : ℕ → ℕ → List HeldRow → List HeldRow
+held_as fs attach held =
+    filter (λ row. not (row.fs == fs)) held ++ (record { fs = fs; attach = attach }) ∷ []
+
+-- the daemon is attached to the file system at this path, and holds this attachment to it
 abbrev pub with_attachment : ℕ → ℕ → List (List ℕ) → DaemonState → DaemonState
 with_attachment fs attach path d =
-    record d {
-      known = d.known ++ (record { fs = fs; path = path }) ∷ [];
-      held = d.held ++ (record { fs = fs; attach = attach }) ∷ [];
-    }
+    record d { known = known_at fs path d.known; held = held_as fs attach d.held }
 
 -- ---- the daemon dies, and attaches again
 
@@ -55,11 +67,6 @@ dead d = record d { held = []; book = [] }
 abbrev pub reattach_refusal : ℕ → DaemonState → Option Errno
 reattach_refusal fs d = if knows d fs then None else Some ENOENT
 
--- of the file system this attachment alone, the last
-abbrev pub held_again : ℕ → ℕ → List HeldRow → List HeldRow
-held_again fs attach held =
-    filter (λ row. not (row.fs == fs)) held ++ (record { fs = fs; attach = attach }) ∷ []
-
 -- these mounts are written down, one after another
 abbrev pub all_mounted : List (Trigger × ℕ) → List RecordRow → List RecordRow
 all_mounted [] book = book
@@ -69,6 +76,6 @@ all_mounted (one ∷ standing) book = all_mounted standing (with_record one.0 (M
 abbrev pub reattached : ℕ → ℕ → List (Trigger × ℕ) → DaemonState → DaemonState
 reattached fs attach standing d =
     record d {
-      held = held_again fs attach d.held;
+      held = held_as fs attach d.held;
       book = all_mounted standing (without_fs fs d.book);
     }

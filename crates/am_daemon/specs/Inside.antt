@@ -1,6 +1,7 @@
 -- What the fields stand for, and the room in them.
-use Rattle.std.specs.Prelude.{◌-◌, min, vec_len, vec_capacity}
+use Rattle.std.specs.Prelude.{◌-◌, min, map, vec_len, vec_capacity}
 use Rattle.am_daemon.specs.declared.daemon.Daemon.TheInside.{Inside}
+use Rattle.am_daemon.specs.Attachments.{AreOnce}
 use Rattle.am_daemon.specs.State.{DaemonTable}
 
 -- an attachment takes a row of each list
@@ -14,3 +15,8 @@ table_of d = record {
   jobs = d.jobs.items;
   attach_room = min (vec_capacity d.known - vec_len d.known) (vec_capacity d.held - vec_len d.held);
 }
+
+-- of no file system are two paths known, or two attachments held
+pub record IsDaemon (d : Inside) : Type 0 where
+  pub known : AreOnce (map (λ row. row.fs) d.known.items)
+  pub held : AreOnce (map (λ row. row.fs) d.held.items)

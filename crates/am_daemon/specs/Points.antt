@@ -1,6 +1,6 @@
 -- The points of the master map, at which an autofs may be attached, and the maps that serve them
 -- (auto.master(5), "FORMAT").
-use Rattle.std.specs.Prelude.{ℕ, ◌==◌, Bool, true, false, is_some, List, [], Option, Some, None, find, zip}
+use Rattle.std.specs.Prelude.{ℕ, ◌==◌, Bool, true, false, is_some, List, [], Option, Some, None, find, slice_get, zip}
 use Rattle.std.specs.List.{enumerate_from}
 use Rattle.std.specs.Option.{option_map, option_map_or, option_or}
 use Rattle.am_names.specs.Path.{same_names}
@@ -8,28 +8,28 @@ use Rattle.am_names.specs.declared.trigger.Trigger.{Trigger}
 use Rattle.am_map.specs.EntryText.{EntryText, Row}
 use Rattle.am_map.specs.LookUp.{row_for, entry_for}
 use Rattle.am_map.specs.Words.{key_text}
-use Rattle.am_master.specs.declared.point.Point.{Point}
+use Rattle.am_master.specs.declared.point.Point.{Point as LinePoint}
 use Rattle.am_master.specs.declared.point.Point.TheVariants.{Direct, Indirect}
 use Rattle.am_master.specs.MasterRow.{MasterRow}
 use Rattle.am_state.specs.declared.daemon_row.KnownRow.{KnownRow}
-use Rattle.am_daemon.specs.declared.served.Served.{Served}
+use Rattle.am_daemon.specs.declared.served.Point.{Point}
 use Rattle.am_daemon.specs.State.{DaemonState}
 
 -- a line of the master map by its place, from 0, and the rows of its map
 abbrev pub Line : Type 0
 Line = ℕ × (MasterRow × List Row)
 
-abbrev pub is_direct : Point → Bool
+abbrev pub is_direct : LinePoint → Bool
 is_direct Direct = true
 is_direct (Indirect names) = false
 
 -- the point of the line is this path
-abbrev pub has_point : List (List ℕ) → Point → Bool
+abbrev pub has_point : List (List ℕ) → LinePoint → Bool
 has_point path Direct = false
 has_point path (Indirect names) = same_names names path
 
 -- the line is of a direct map that has this path as a key
-abbrev pub has_key : List (List ℕ) → Point → List Row → Bool
+abbrev pub has_key : List (List ℕ) → LinePoint → List Row → Bool
 has_key path Direct rows = is_some (row_for rows (key_text path))
 has_key path (Indirect names) rows = false
 
@@ -43,12 +43,16 @@ line_for d path =
     option_or (find (λ line. has_point path line.1.0.point) (lines_of d))
     (find (λ line. has_key path line.1.0.point line.1.1) (lines_of d))
 
-abbrev pub served_by : Line → Served
-served_by line = record { entry = line.0; direct = is_direct line.1.0.point; timeout = line.1.0.timeout }
+abbrev pub point_at : Line → Point
+point_at line = record { entry = line.0; direct = is_direct line.1.0.point }
 
 -- at this path an autofs may be attached, as this line has it
-abbrev pub point_of : DaemonState → List (List ℕ) → Option Served
-point_of d path = option_map served_by (line_for d path)
+abbrev pub point_of : DaemonState → List (List ℕ) → Option Point
+point_of d path = option_map point_at (line_for d path)
+
+-- the timeout of the line at this place, 0 where there is none
+abbrev pub line_timeout : DaemonState → ℕ → ℕ
+line_timeout d entry = option_map_or (λ line. line.timeout) (slice_get d.master entry) 0
 
 -- the rows of the map that serves a path
 abbrev pub rows_at : DaemonState → List (List ℕ) → List Row

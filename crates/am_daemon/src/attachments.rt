@@ -1,9 +1,9 @@
 //! What the daemon is attached to.
 
-ghost use Rattle.std.specs.Prelude.{◌≡◌, ◌≤◌, ◌+◌, ◌==◌, not, filter, length, vec_len, vec_capacity, None, OnOk, OnErr};
+ghost use Rattle.std.specs.Prelude.{◌≡◌, ◌<◌, ◌≤◌, ◌+◌, ◌==◌, not, map, filter, length, vec_len, vec_capacity, None, OnOk, OnErr};
 ghost use Rattle.am_names.specs.Errno.{RefusedAs};
 ghost use Rattle.am_daemon.specs.State.{rows_of};
-ghost use Rattle.am_daemon.specs.Attachments.{is_attached, knows, attach_held, holds, attach_refusal, with_attachment, dead, reattach_refusal, reattached, held_again, all_mounted};
+ghost use Rattle.am_daemon.specs.Attachments.{is_attached, knows, attach_held, holds, attach_refusal, AreOnce, known_at, held_as, with_attachment, dead, reattach_refusal, reattached, all_mounted};
 
 use crate::daemon::Daemon;
 use am_job::Book;
@@ -21,6 +21,26 @@ fn write_standing(book: &mut Book, standing: &[(Trigger, MountId)])
     }
 }
 
+/// The file system is known at no path.
+fn forget(known: &mut Vec<KnownRow>, fs: FsId)
+    ensures rows { known.new.items ≡ filter (λ row. not (row.fs == fs)) known.old.items }
+    ensures len { vec_len known.new ≤ vec_len known.old }
+    ensures capacity { vec_capacity known.new ≡ vec_capacity known.old }
+{
+    known.retain(|row| row.fs != fs);
+}
+
+/// The file system is known at this path, and at no other one. There is room for it.
+fn know(known: &mut Vec<KnownRow>, fs: FsId, path: Place)
+    requires { vec_len known.old < vec_capacity known.old }
+    ensures rows { known.new.items ≡ known_at fs path known.old.items }
+    ensures len { vec_len known.new ≤ vec_len known.old + 1 }
+    ensures capacity { vec_capacity known.new ≡ vec_capacity known.old }
+{
+    forget(known, fs);
+    known.push_reserved(KnownRow { fs, path });
+}
+
 /// The daemon holds no attachment to the file system.
 fn let_go(held: &mut Vec<HeldRow>, fs: FsId)
     ensures rows { held.new.items ≡ filter (λ row. not (row.fs == fs)) held.old.items }
@@ -30,16 +50,15 @@ fn let_go(held: &mut Vec<HeldRow>, fs: FsId)
     held.retain(|row| row.fs != fs);
 }
 
-/// The daemon holds this attachment to the file system, and no other one.
-fn hold_again(held: &mut Vec<HeldRow>, fs: FsId, attach: Attach) -> Result<(), Errno>
-    ensures refusal { RefusedAs None result }
-    ensures ok { OnOk result (held.new.items ≡ held_again fs attach held.old.items) }
-    ensures err { OnErr result (held.new.items ≡ held.old.items) }
+/// The daemon holds this attachment to the file system, and no other one. There is room for it.
+fn hold(held: &mut Vec<HeldRow>, fs: FsId, attach: Attach)
+    requires { vec_len held.old < vec_capacity held.old }
+    ensures rows { held.new.items ≡ held_as fs attach held.old.items }
+    ensures len { vec_len held.new ≤ vec_len held.old + 1 }
+    ensures capacity { vec_capacity held.new ≡ vec_capacity held.old }
 {
-    held.reserve(1)?;
     let_go(held, fs);
     held.push_reserved(HeldRow { fs, attach });
-    Ok(())
 }
 
 impl Daemon {
@@ -50,16 +69,18 @@ impl Daemon {
         self.known.iter().any(|row| row.path.is_same(path))
     }
 
-    /// Whether the daemon was ever attached to this file system.
+    /// Whether the daemon was ever attached to this file system, which is then known at one path.
     pub fn knows(&self, fs: FsId) -> bool
-        ensures { result ≡ knows (rows_of self.now) fs }
+        ensures exact { result ≡ knows (rows_of self.now) fs }
+        ensures once { AreOnce (map (λ row. row.fs) self.now.known) }
     {
         self.known.iter().any(|row| row.fs == fs)
     }
 
-    /// The attachment that the daemon holds to this file system.
+    /// The attachment that the daemon holds to this file system. There is one at most.
     pub fn attach_held(&self, fs: FsId) -> Option<Attach>
-        ensures { result ≡ attach_held (rows_of self.now) fs }
+        ensures exact { result ≡ attach_held (rows_of self.now) fs }
+        ensures once { AreOnce (map (λ row. row.fs) self.now.held) }
     {
         let row = self.held.iter().find(|row| row.fs == fs)?;
         Some(row.attach)
@@ -86,14 +107,15 @@ impl Daemon {
         Ok(())
     }
 
-    /// The daemon is attached to a new file system at this path, for which there is room.
+    /// The daemon is attached to the file system at this path, for which there is room: it holds this
+    /// attachment to it and no other one, and knows no other path of it.
     pub fn attached_reserved(&mut self, fs: FsId, attach: Attach, path: Place)
         requires { 1 ≤ self.old.attach_room }
         ensures rows { rows_of self.new ≡ with_attachment fs attach path (rows_of self.old) }
-        ensures room { self.old.attach_room ≡ self.new.attach_room + 1 }
+        ensures room { self.old.attach_room ≤ self.new.attach_room + 1 }
     {
-        self.known.push_reserved(KnownRow { fs, path });
-        self.held.push_reserved(HeldRow { fs, attach });
+        know(&mut self.known, fs, path);
+        hold(&mut self.held, fs, attach);
     }
 
     /// Why the daemon isn't to be attached at this path.
@@ -109,7 +131,8 @@ impl Daemon {
         None
     }
 
-    /// The daemon is attached to a new file system at this path, which the master map serves.
+    /// The daemon is attached to the file system at this path, which the master map serves: it holds
+    /// this attachment to it and no other one, and knows no other path of it.
     pub fn attached(
         &mut self,
         alloc: Global,
@@ -156,7 +179,8 @@ impl Daemon {
             return Err(Errno::ENOENT);
         }
         self.book.reserve(standing.len())?;
-        hold_again(&mut self.held, fs, attach)?;
+        self.held.reserve(1)?;
+        hold(&mut self.held, fs, attach);
         self.book.remove_fs(fs);
         write_standing(&mut self.book, standing);
         Ok(())

@@ -30,9 +30,12 @@ impl Model for Daemon {
 
     ghost Value = { DaemonTable };
 
-    ghost use Rattle.am_daemon.specs.Inside.{table_of};
+    ghost use Rattle.am_daemon.specs.Inside.{table_of, IsDaemon};
 
     ghost view = { table_of };
+
+    // One path and one attachment of a file system.
+    ghost invariant = { IsDaemon };
 }
 
 impl Daemon {

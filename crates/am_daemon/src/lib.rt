@@ -13,4 +13,4 @@ pub mod served;
 
 pub use daemon::Daemon;
 pub use fault::DaemonFault;
-pub use served::Served;
+pub use served::Point;

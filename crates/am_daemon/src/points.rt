@@ -4,14 +4,14 @@ ghost use Rattle.std.specs.Prelude.{◌≡◌, ◌==◌, [], Some, IfOk, IfSome,
 ghost use Rattle.std.specs.Option.{option_map, option_map_or, option_copied};
 ghost use Rattle.am_names.specs.Path.{IsCanonical, names_of};
 ghost use Rattle.am_map.specs.LookUp.{entry_for};
-ghost use Rattle.am_daemon.specs.Points.{is_direct, has_point, has_key, lines_of, line_for, point_of, rows_at, path_of, key_of, entry_at, entry_of};
+ghost use Rattle.am_daemon.specs.Points.{is_direct, has_point, has_key, lines_of, line_for, point_of, line_timeout, rows_at, path_of, key_of, entry_at, entry_of};
 ghost use Rattle.am_daemon.specs.State.{rows_of};
 ghost use Rattle.am_daemon.specs.Lent.{line_in};
 
 use crate::daemon::Daemon;
-use crate::served::Served;
+use crate::served::Point;
 use am_map::{Entry, Map, key_text};
-use am_master::{MasterEntry, Point};
+use am_master::{MasterEntry, Point as LinePoint};
 use am_names::{FsId, Name, Place, Trigger};
 use am_state::KnownRow;
 use std::alloc::{AllocError, Global};
@@ -22,8 +22,8 @@ fn has_point(path: &[u8], line: &MasterEntry) -> bool
     ensures { result ≡ has_point (names_of path.now) line.now.point }
 {
     match &line.point {
-        Point::Direct => false,
-        Point::Indirect(place) => place.is_at(path),
+        LinePoint::Direct => false,
+        LinePoint::Indirect(place) => place.is_at(path),
     }
 }
 
@@ -33,18 +33,18 @@ fn has_key(path: &[u8], line: &MasterEntry, map: &Map) -> bool
     ensures { result ≡ has_key (names_of path.now) line.now.point map.now }
 {
     match &line.point {
-        Point::Direct => map.has_entry(key_text(path)),
-        Point::Indirect(_) => false,
+        LinePoint::Direct => map.has_entry(key_text(path)),
+        LinePoint::Indirect(_) => false,
     }
 }
 
 /// Whether the point stands for the keys of a direct map.
-fn is_direct(point: &Point) -> bool
+fn is_direct(point: &LinePoint) -> bool
     ensures { result ≡ is_direct point.now }
 {
     match point {
-        Point::Direct => true,
-        Point::Indirect(_) => false,
+        LinePoint::Direct => true,
+        LinePoint::Indirect(_) => false,
     }
 }
 
@@ -112,15 +112,25 @@ impl Daemon {
 
     /// How the master map serves a path: by the line whose point it is, else by the first `/-` line
     /// whose map has it as a key (auto.master(5), "FORMAT").
-    pub fn point(&self, path: &Place) -> Option<Served>
+    pub fn point(&self, path: &Place) -> Option<Point>
         ensures { result ≡ point_of (rows_of self.now) path.now }
     {
         let (entry, (line, _map)) = self.line_for(path.text())?;
-        Some(Served {
+        Some(Point {
             entry,
             direct: is_direct(&line.point),
-            timeout: line.timeout,
         })
+    }
+
+    /// Seconds without use after which a mount of the line at this place may expire, 0 for never by
+    /// itself (autofs.rst, "Mountpoint expiry"). Where there is no line it is 0.
+    pub fn timeout(&self, entry: usize) -> u32
+        ensures { result ≡ line_timeout (rows_of self.now) entry }
+    {
+        match self.master.entries().get(entry) {
+            Some(line) => line.timeout,
+            None => 0,
+        }
     }
 
     /// The map that serves a path.

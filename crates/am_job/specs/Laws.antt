@@ -3,28 +3,25 @@ use Rattle.std.specs.Prelude.{◌≡◌, ◌⊎◌, ⊤, ℕ, Option, Some, None
 use Rattle.am_job.specs.declared.act.Act.{Act}
 use Rattle.am_job.specs.declared.act.Act.TheVariants as act
 use Rattle.am_job.specs.declared.act.Outcome.{Outcome}
-use Rattle.am_job.specs.declared.act.Outcome.TheVariants.{Done, Made, Failed}
+use Rattle.am_job.specs.declared.act.Outcome.TheVariants.{Done, Made}
 use Rattle.am_job.specs.Plans.{Plan, Ended, Next, is_reply, claims}
 
 abbrev pub IsEnded : Plan → Type 0
 IsEnded Ended = ⊤
-IsEnded (Next a done made failed) = ⊥
+IsEnded (Next a rest) = ⊥
 
 -- whatever comes of the acts, the notification is acknowledged, and nothing comes after that
 abbrev pub AcknowledgesLast : Plan → Type 0
 AcknowledgesLast Ended = ⊥
-AcknowledgesLast (Next (act.Reply status) done made failed) =
-    IsEnded done × ((mount : ℕ) → IsEnded (made mount)) × IsEnded failed
-AcknowledgesLast (Next a done made failed) =
-    AcknowledgesLast done × ((mount : ℕ) → AcknowledgesLast (made mount)) × AcknowledgesLast failed
+AcknowledgesLast (Next (act.Reply status) rest) = (o : Outcome) → IsEnded (rest o)
+AcknowledgesLast (Next a rest) = (o : Outcome) → AcknowledgesLast (rest o)
 
 -- whatever comes of the acts, the book is written before the notification is acknowledged
 abbrev pub RecordsFirst : Plan → Type 0
 RecordsFirst Ended = ⊥
-RecordsFirst (Next (act.Record trigger entry) done made failed) = ⊤
-RecordsFirst (Next (act.Reply status) done made failed) = ⊥
-RecordsFirst (Next a done made failed) =
-    RecordsFirst done × ((mount : ℕ) → RecordsFirst (made mount)) × RecordsFirst failed
+RecordsFirst (Next (act.Record trigger entry) rest) = ⊤
+RecordsFirst (Next (act.Reply status) rest) = ⊥
+RecordsFirst (Next a rest) = (o : Outcome) → RecordsFirst (rest o)
 
 -- what the daemon has mounted on the trigger when this came of an act, where it was that before
 abbrev pub mounted_after : Act → Outcome → Option ℕ → Option ℕ
@@ -42,11 +39,8 @@ ClaimsFollow a outcome before rest = claims rest ≡ mounted_after a outcome bef
 
 abbrev pub ClaimsRight : Plan → Type 0
 ClaimsRight Ended = ⊤
-ClaimsRight (Next a done made failed) =
-    let before : Option ℕ = claims (Next a done made failed) in
-    (ClaimsFollow a Done before done × ClaimsRight done)
-    × ((mount : ℕ) → ClaimsFollow a (Made mount) before (made mount) × ClaimsRight (made mount))
-    × (ClaimsFollow a Failed before failed × ClaimsRight failed)
+ClaimsRight (Next a rest) =
+    (o : Outcome) → ClaimsFollow a o (claims (Next a rest)) (rest o) × ClaimsRight (rest o)
 
 -- the acts that a job has left: it has acknowledged, or will, once
 pub record IsLawful (plan : Plan) : Type 0 where

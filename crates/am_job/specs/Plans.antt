@@ -1,4 +1,4 @@
--- What a daemon does for one packet: a finite tree of acts, whose branches are what comes of them
+-- What a daemon does for one packet: a finite tree of acts, with a branch for each outcome of an act
 -- (autofs.rst, "Communicating with autofs: the event pipe").
 use Rattle.std.specs.Prelude.{ℕ, Bool, true, false, List, Option, Some, None}
 use Rattle.am_names.specs.declared.trigger.Trigger.{Trigger}
@@ -14,27 +14,24 @@ use Rattle.am_job.specs.declared.act.Act.TheVariants as act
 use Rattle.am_job.specs.declared.act.Outcome.{Outcome}
 use Rattle.am_job.specs.declared.act.Outcome.TheVariants.{Done, Made, Failed}
 
--- The acts that are left: none, or one, and what is left after it is done, after a mount came of it,
--- and after it has failed.
+-- the acts that are left: none, or one, and what is left by what comes of it
 pub data Plan : Type 0 where
   Ended : Plan
-  Next : Act → Plan → (ℕ → Plan) → Plan → Plan
+  Next : Act → (Outcome → Plan) → Plan
 
 -- the act that comes next
 abbrev pub next_of : Plan → Option Act
 next_of Ended = None
-next_of (Next a done made failed) = Some a
+next_of (Next a rest) = Some a
 
 -- what is left when this has come of the next act
 abbrev pub rest_of : Outcome → Plan → Plan
 rest_of outcome Ended = Ended
-rest_of Done (Next a done made failed) = done
-rest_of (Made mount) (Next a done made failed) = made mount
-rest_of Failed (Next a done made failed) = failed
+rest_of outcome (Next a rest) = rest outcome
 
 -- an act, and then the rest, whatever comes of the act
 abbrev pub followed_by : Act → Plan → Plan
-followed_by a rest = Next a rest (λ mount. rest) rest
+followed_by a rest = Next a (λ outcome. rest)
 
 -- the notification is acknowledged, and the job ends
 abbrev pub reply : Status → Plan
@@ -65,10 +62,13 @@ abbrev pub after_failed_mount : Trigger → Plan
 after_failed_mount trigger =
     at_directory trigger.name (act.Rmdir trigger) (without_mount trigger)
 
+-- after the mount, by what came of it
+abbrev pub rest_of_mount : Trigger → Outcome → Plan
+rest_of_mount trigger (Made mount) = after_mount trigger mount
+rest_of_mount trigger outcome = after_failed_mount trigger
+
 abbrev pub mount_entry : Trigger → EntryText → Plan
-mount_entry trigger entry =
-    Next (act.Mount trigger entry)
-    (after_failed_mount trigger) (after_mount trigger) (after_failed_mount trigger)
+mount_entry trigger entry = Next (act.Mount trigger entry) (rest_of_mount trigger)
 
 -- the directory is made, and the entry is mounted on it
 abbrev pub mounting : Trigger → EntryText → Plan
@@ -92,10 +92,13 @@ after_umount trigger =
 abbrev pub after_failed_umount : Trigger → ℕ → Plan
 after_failed_umount trigger mount = book_and_reply trigger (Some (Mounted mount)) Fail
 
+-- after the unmount of this mount, by what came of it
+abbrev pub rest_of_umount : Trigger → ℕ → Outcome → Plan
+rest_of_umount trigger mount Failed = after_failed_umount trigger mount
+rest_of_umount trigger mount outcome = after_umount trigger
+
 abbrev pub unmounting : Trigger → ℕ → Plan
-unmounting trigger mount =
-    Next (act.Umount trigger)
-    (after_umount trigger) (λ m. after_umount trigger) (after_failed_umount trigger mount)
+unmounting trigger mount = Next (act.Umount trigger) (rest_of_umount trigger mount)
 
 abbrev pub expire_plan : Trigger → Option ℕ → Plan
 expire_plan trigger (Some mount) = unmounting trigger mount
@@ -120,20 +123,16 @@ mount_in (Some (Unmounting token mount)) = Some mount
 -- down
 abbrev pub claims : Plan → Option ℕ
 claims Ended = None
-claims (Next (act.Mkdir trigger) done made failed) = None
-claims (Next (act.Mount trigger entry) done made failed) = None
-claims (Next (act.Umount trigger) done made failed) = claims failed
-claims (Next (act.Rmdir trigger) done made failed) = claims done
-claims (Next (act.Record trigger entry) done made failed) = mount_in entry
-claims (Next (act.Reply status) done made failed) = None
+claims (Next (act.Mkdir trigger) rest) = None
+claims (Next (act.Mount trigger entry) rest) = None
+claims (Next (act.Umount trigger) rest) = claims (rest Failed)
+claims (Next (act.Rmdir trigger) rest) = claims (rest Done)
+claims (Next (act.Record trigger entry) rest) = mount_in entry
+claims (Next (act.Reply status) rest) = None
 
 -- ---- a plan that is a reply alone: the record stays
 
 abbrev pub is_reply : Plan → Bool
 is_reply Ended = false
-is_reply (Next (act.Mkdir trigger) done made failed) = false
-is_reply (Next (act.Mount trigger entry) done made failed) = false
-is_reply (Next (act.Umount trigger) done made failed) = false
-is_reply (Next (act.Rmdir trigger) done made failed) = false
-is_reply (Next (act.Record trigger entry) done made failed) = false
-is_reply (Next (act.Reply status) done made failed) = true
+is_reply (Next (act.Reply status) rest) = true
+is_reply (Next a rest) = false

@@ -1,9 +1,8 @@
 -- Attachments that begin, and the daemon's death, leave the daemon's book right.
-use Rattle.std.proofs.Common.{◌≡◌, ℕ, ◌+◌, ◌≤◌, Bool, true, false, List, [], ◌∷◌, ◌++◌, map, filter, Option, Some, None, refl, sym, ap, subst, ◌∙◌, arith}
-use Rattle.std.specs.Prelude.{◌==◌, not, find}
-use Rattle.std.specs.Option.{option_map}
+use Rattle.std.proofs.Common.{◌≡◌, ℕ, ◌+◌, ◌≤◌, Bool, true, false, List, Option, Some, None, refl, sym, ap, subst, ◌∙◌, arith}
+use Rattle.std.specs.Prelude.{◌==◌}
 use Rattle.std.proofs.lemmas.Bool.Decides.{nat_tests}
-use Rattle.std.proofs.lemmas.List.Elements.{All-nil, All-weaker, All-push, All-filter}
+use Rattle.std.proofs.lemmas.List.Elements.{All-nil, All-weaker}
 use Rattle.am_names.specs.declared.trigger.Trigger.{Trigger}
 use Rattle.am_names.specs.declared.row.Position.{Position}
 use Rattle.am_state.specs.declared.daemon_row.HeldRow.{HeldRow}
@@ -21,13 +20,13 @@ use Rattle.am_daemon.specs.State.{DaemonState, JobPlan}
 use Rattle.am_daemon.specs.Attachments.{attach_held, with_attachment, dead, all_mounted, reattached}
 use Rattle.am_daemon.specs.Deliveries.{job_of}
 use Rattle.am_laws.proofs.Packets.{nat_is, nat_same}
-use Rattle.am_machine.specs.Invariant.Traces.{has}
 use Rattle.am_machine.specs.Invariant.Attachments.{AreGiven}
 use Rattle.am_machine.specs.Invariant.Books.{IsServed, is_pending_for, is_to_record, BookAgrees}
 use Rattle.am_machine.proofs.TraceRows.{found_passes}
 use Rattle.am_machine.proofs.BookRecords.{no_record, settled_for}
 use Rattle.am_machine.proofs.TokenLists.{all_found}
-use Rattle.am_machine.proofs.BookFound.{find_others, find_new, absent, none_has, different_more, different_kept, gone, found_left}
+use Rattle.am_machine.proofs.BookFound.{find_others}
+use Rattle.am_machine.proofs.HeldRows.{other_way, held_new, held_others, held_differ, held_below}
 use Rattle.am_machine.proofs.BookNarrows.{found_same, pipe_others}
 use Rattle.am_machine.proofs.BookStanding.{mounted_others, mounted_settled, standing_fs}
 
@@ -52,12 +51,6 @@ unrecorded k d g given same =
     no_record d.book g
     (All-weaker (λ (row : RecordRow). row.trigger.fs ≤ k.last_fs) (λ (row : RecordRow). row.trigger.fs ≡ g.fs → ⊥) (λ row least e. omega (arith, least, e, same)) d.book given.book)
 
--- the daemon holds no attachment of it
-not_held : (k : KernelState) (d : DaemonState) → BookAgrees k d → has (k.last_fs + 1) (map (λ (row : HeldRow). row.fs) d.held) ≡ false
-not_held k d h =
-    none_has (λ (row : HeldRow). row.fs) (k.last_fs + 1) d.held
-    (All-weaker (λ (row : HeldRow). row.fs ≤ k.last_fs) (λ (row : HeldRow). row.fs ≡ k.last_fs + 1 → ⊥) (λ row least e. omega (arith, least, e)) d.held h.given)
-
 -- ---- a file system is attached
 
 attach_others : (k : KernelState) (direct : Bool) (timeout : ℕ) (at : Position) (f : ℕ) → (k.last_fs + 1 == f) ≡ false → attach_of (attached_at direct timeout k at) f ≡ attach_of k f
@@ -65,15 +58,6 @@ attach_others k direct timeout at f other =
     let new : Autofs = record { fs = k.last_fs + 1; direct = direct; location = k.table.last_mount + 1; catatonic = false } in
     found_same _ _ _ _ (find_others (λ (row : Autofs). row.fs == f) k.triggers.autofs new other)
     (find_others (λ (row : Attached). row.fs == f) k.attached (attached_row (k.last_fs + 1) (k.last_attach + 1) timeout) other)
-
--- of a file system of which none was held, the daemon holds the new attachment
-last_held : (held : List HeldRow) (fs attach : ℕ) → find (λ (row : HeldRow). row.fs == fs) held ≡ None → option_map (λ (row : HeldRow). row.attach) (find (λ (row : HeldRow). row.fs == fs) (held ++ (record { fs = fs; attach = attach }) ∷ [])) ≡ Some attach
-last_held held fs attach none = ap (option_map (λ (row : HeldRow). row.attach)) (find_new (λ (row : HeldRow). row.fs == fs) held (record { fs = fs; attach = attach }) none (nat_same fs))
-
--- of the others it holds what it held
-held_others : (held : List HeldRow) (fs attach f : ℕ) → (fs == f) ≡ false →
-    option_map (λ (row : HeldRow). row.attach) (find (λ (row : HeldRow). row.fs == f) (held ++ (record { fs = fs; attach = attach }) ∷ [])) ≡ option_map (λ (row : HeldRow). row.attach) (find (λ (row : HeldRow). row.fs == f) held)
-held_others held fs attach f other = ap (option_map (λ (row : HeldRow). row.attach)) (find_others (λ (row : HeldRow). row.fs == f) held (record { fs = fs; attach = attach }) other)
 
 -- a new attachment, under which the file system has no pending record
 new_pending : (k : KernelState) (d : DaemonState) (own attach : ℕ) (book : List RecordRow) (g : Trigger) (token : ℕ) → AreGiven k d → own ≡ k.last_attach + 1 → Some own ≡ Some attach → is_pending_for token (record_of book g) ≡ false →
@@ -89,8 +73,7 @@ attached_by k d direct timeout at path fs attach g token true is given h s same 
     let fs_is : new ≡ fs = nat_is new fs is in
     let d_new = with_attachment new (k.last_attach + 1) path d in
     let held : attach_held d_new new ≡ Some attach = subst (λ (n : ℕ). attach_held d_new n ≡ Some attach) (sym fs_is) s.held in
-    let none = absent (λ (row : HeldRow). row.fs) new d.held (not_held k d h) in
-    new_pending k d (k.last_attach + 1) attach d.book g token given refl (sym (last_held d.held new (k.last_attach + 1) none) ∙ held)
+    new_pending k d (k.last_attach + 1) attach d.book g token given refl (sym (held_new d.held new (k.last_attach + 1)) ∙ held)
     (ap (is_pending_for token) (unrecorded k d g given (fs_is ∙ sym same)))
 attached_by k d direct timeout at path fs attach g token false other given h s same =
     h.pending fs attach
@@ -101,9 +84,9 @@ pub attached_kept : (k : KernelState) (d : DaemonState) (direct : Bool) (timeout
     BookAgrees (attached_at direct timeout k at) (with_attachment (k.last_fs + 1) (k.last_attach + 1) path d)
 attached_kept k d direct timeout at path given h = record {
   pending = λ fs attach s g same token. attached_by k d direct timeout at path fs attach g token (k.last_fs + 1 == fs) refl given h s same;
-  held = different_more (λ (row : HeldRow). row.fs) d.held (record { fs = k.last_fs + 1; attach = k.last_attach + 1 }) h.held (not_held k d h);
-  given = All-push (λ (row : HeldRow). row.fs ≤ k.last_fs + 1) d.held (record { fs = k.last_fs + 1; attach = k.last_attach + 1 })
-      (All-weaker (λ (row : HeldRow). row.fs ≤ k.last_fs) (λ (row : HeldRow). row.fs ≤ k.last_fs + 1) (λ row least. omega (arith, least)) d.held h.given) (omega arith);
+  held = held_differ d.held (k.last_fs + 1) (k.last_attach + 1) h.held;
+  given = held_below d.held (k.last_fs + 1) (k.last_attach + 1) (k.last_fs + 1) (omega arith)
+      (All-weaker (λ (row : HeldRow). row.fs ≤ k.last_fs) (λ (row : HeldRow). row.fs ≤ k.last_fs + 1) (λ row least. omega (arith, least)) d.held h.given);
 }
 
 -- ---- the daemon dies
@@ -117,26 +100,19 @@ dead_kept k d h = record {
 
 -- ---- the daemon attaches again
 
-other_way : (a b : ℕ) → (a == b) ≡ false → (b == a) ≡ false
-other_way a b e = grind (arith, nat_tests, e)
-
 again_by : (k : KernelState) (d : DaemonState) (fs f attach : ℕ) (g : Trigger) (token : ℕ) (b : Bool) → (fs == f) ≡ b → AreGiven k d → BookAgrees k d →
     IsServed (with_pipe fs k) (reattached fs (k.last_attach + 1) (standing k fs) d) f attach → g.fs ≡ f →
     is_pending_for token (record_of (all_mounted (standing k fs) (without_fs fs d.book)) g) ≡ is_to_record attach g (job_of d.jobs token)
 again_by k d fs f attach g token true is given h s same =
-    let left = filter (λ (row : HeldRow). not (row.fs == fs)) d.held in
     let d_new = reattached fs (k.last_attach + 1) (standing k fs) d in
     let f_is : fs ≡ f = nat_is fs f is in
     let held : attach_held d_new fs ≡ Some attach = subst (λ (n : ℕ). attach_held d_new n ≡ Some attach) (sym f_is) s.held in
-    let none = absent (λ (row : HeldRow). row.fs) fs left (gone (λ (row : HeldRow). row.fs) fs d.held) in
     let own : (g.fs == fs) ≡ true = subst (λ (n : ℕ). (n == fs) ≡ true) (f_is ∙ sym same) (nat_same fs) in
     let forgot : record_of (without_fs fs d.book) g ≡ None = forgotten fs g d.book ∙ rw own refl in
-    new_pending k d (k.last_attach + 1) attach (all_mounted (standing k fs) (without_fs fs d.book)) g token given refl (sym (last_held left fs (k.last_attach + 1) none) ∙ held)
+    new_pending k d (k.last_attach + 1) attach (all_mounted (standing k fs) (without_fs fs d.book)) g token given refl (sym (held_new d.held fs (k.last_attach + 1)) ∙ held)
     (settled_for token _ (mounted_settled (standing k fs) (without_fs fs d.book) g (rw forgot refl)))
 again_by k d fs f attach g token false other given h s same =
-    let left = filter (λ (row : HeldRow). not (row.fs == fs)) d.held in
-    let stays : attach_held (reattached fs (k.last_attach + 1) (standing k fs) d) f ≡ attach_held d f =
-    held_others left fs (k.last_attach + 1) f other ∙ ap (option_map (λ (row : HeldRow). row.attach)) (found_left (λ (row : HeldRow). row.fs) fs f d.held (other_way fs f other)) in
+    let stays : attach_held (reattached fs (k.last_attach + 1) (standing k fs) d) f ≡ attach_held d f = held_others d.held fs (k.last_attach + 1) f other in
     let apart : (g.fs == fs) ≡ false = subst (λ (n : ℕ). (n == fs) ≡ false) (sym same) (other_way fs f other) in
     let kept : record_of (all_mounted (standing k fs) (without_fs fs d.book)) g ≡ record_of d.book g =
     mounted_others (standing k fs) (without_fs fs d.book) g fs (standing_fs k fs) (other_way g.fs fs apart) ∙ forgotten fs g d.book ∙ rw apart refl in
@@ -153,10 +129,8 @@ known_fs k d fs row given e =
 pub reattached_kept : (k : KernelState) (d : DaemonState) (fs : ℕ) (row : Autofs) → autofs_of k.triggers fs ≡ Some row → AreGiven k d → BookAgrees k d →
     BookAgrees (with_pipe fs k) (reattached fs (k.last_attach + 1) (standing k fs) d)
 reattached_kept k d fs row e given h =
-    let keep = λ (r : HeldRow). not (r.fs == fs) in
-    let new : HeldRow = record { fs = fs; attach = k.last_attach + 1 } in
     record {
       pending = λ f attach s g same token. again_by k d fs f attach g token (fs == f) refl given h s same;
-      held = different_more (λ (r : HeldRow). r.fs) (filter keep d.held) new (different_kept (λ (r : HeldRow). r.fs) keep d.held h.held) (gone (λ (r : HeldRow). r.fs) fs d.held);
-      given = All-push (λ (r : HeldRow). r.fs ≤ k.last_fs) (filter keep d.held) new (All-filter keep (λ (r : HeldRow). r.fs ≤ k.last_fs) d.held h.given) (known_fs k d fs row given e);
+      held = held_differ d.held fs (k.last_attach + 1) h.held;
+      given = held_below d.held fs (k.last_attach + 1) k.last_fs (known_fs k d fs row given e) h.given;
     }

@@ -25,8 +25,8 @@ use Rattle.am_kernel.specs.Attachments.{catatonic_refusal, closed_if_live, pipe_
 use Rattle.am_kernel.specs.Attachments as attachments
 use Rattle.am_kernel.specs.Walks.{closed}
 use Rattle.am_kernel.specs.Previews.{is_trigger}
-use Rattle.am_daemon.specs.declared.served.Served.{Served}
-use Rattle.am_daemon.specs.Points.{point_of}
+use Rattle.am_daemon.specs.declared.served.Point.{Point}
+use Rattle.am_daemon.specs.Points.{point_of, line_timeout}
 use Rattle.am_daemon.specs.State.{DaemonState}
 use Rattle.am_daemon.specs.Attachments.{is_attached, with_attachment, reattach_refusal}
 use Rattle.am_machine.specs.declared.answer.Answer.{Answer}
@@ -82,11 +82,11 @@ attaches_at : (at : Result Position Errno) (k : KernelState) (d : DaemonState) (
 attaches_at (Err e) k d direct timeout path none given h = absurd cc
 attaches_at (Ok at) k d direct timeout path none given h = attached_kept k d direct timeout at path given h
 
-attached_as : (point : Option Served) (s : State) (path : List (List ℕ)) → AreGiven s.kernel s.daemon → Keeps s (administration.attached_as point s path)
+attached_as : (point : Option Point) (s : State) (path : List (List ℕ)) → AreGiven s.kernel s.daemon → Keeps s (administration.attached_as point s path)
 attached_as None s path given = refuses s _
 attached_as (Some point) s path given =
     unless_refused (administration.attach_refusal s path) s _
-    (λ e. record { book = λ h. attaches_at (position_at s.kernel 0 path) s.kernel s.daemon point.direct point.timeout path (then_none (is_attached s.daemon path) EEXIST (autofs_refusal s.kernel path) e) given h })
+    (λ e. record { book = λ h. attaches_at (position_at s.kernel 0 path) s.kernel s.daemon point.direct (line_timeout s.daemon point.entry) path (then_none (is_attached s.daemon path) EEXIST (autofs_refusal s.kernel path) e) given h })
 
 pub attach : (s : State) (path : List (List ℕ)) → AreGiven s.kernel s.daemon → Keeps s (administration.attach_outcome s path)
 attach s path given = attached_as (point_of s.daemon path) s path given

@@ -1,10 +1,9 @@
 -- Rows that are looked up by a number, in lists that grow, shrink or change.
 use Rattle.std.proofs.Common.{◌≡◌, ℕ, Bool, true, false, cond, List, [], ◌∷◌, ◌++◌, map, filter, Option, Some, None, refl, sym, ap, subst, ◌∙◌, arith}
-use Rattle.std.specs.Prelude.{◌==◌, ◌||◌, ◌&&◌, not, find}
-use Rattle.std.specs.List.{list_any, All}
+use Rattle.std.specs.Prelude.{◌==◌, ◌&&◌, not, find}
+use Rattle.std.specs.List.{list_any}
 use Rattle.std.specs.Option.{option_map}
 use Rattle.std.proofs.lemmas.Bool.Decides.{nat_tests}
-use Rattle.std.proofs.lemmas.List.Elements.{All-head, All-tail}
 use Rattle.am_laws.proofs.Bools.{or_no}
 use Rattle.am_laws.proofs.Packets.{nat_is}
 use Rattle.am_machine.specs.Invariant.Traces.{has, AreDifferent}
@@ -39,15 +38,6 @@ module _ {X : Type 0} (number : X → ℕ) where
   absent_and n test (x ∷ rows) h =
       let both = or_no (number x == n) (has n (map number rows)) h in
       rw both.0 (absent_and n test rows both.1)
-
-  -- where all numbers are others
-  pub none_has : (n : ℕ) (rows : List X) → All (λ x. number x ≡ n → ⊥) rows → has n (map number rows) ≡ false
-  none_has n [] h = refl
-  none_has n (x ∷ rows) h = by (none_has n rows (All-tail (λ x. number x ≡ n → ⊥) x rows h)) (number x == n) refl
-    where
-      by : has n (map number rows) ≡ false → (b : Bool) → (number x == n) ≡ b → (b || has n (map number rows)) ≡ false
-      by later true same = absurd (All-head (λ x. number x ≡ n → ⊥) x rows h (nat_is (number x) n same))
-      by later false other = later
 
   has_more : (n : ℕ) (rows : List X) (new : X) → has n (map number rows) ≡ false → (number new == n) ≡ false → has n (map number (rows ++ new ∷ [])) ≡ false
   has_more n [] new h other = rw other refl

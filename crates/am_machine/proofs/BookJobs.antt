@@ -30,7 +30,7 @@ never_left false b = refl
 
 ended_left : (plan : Plan) → not (is_some (next_of plan)) ≡ true → has_record_left plan ≡ false
 ended_left Ended e = refl
-ended_left (Next a done made failed) e = absurd cc
+ended_left (Next a rest) e = absurd cc
 
 going_job : (attach : ℕ) (g : Trigger) (outcome : Outcome) (row : JobPlan) (jobs : List JobPlan) (ended : Bool) → is_ended (walked outcome row) ≡ ended → (row.token == row.token) ≡ true → job_of jobs row.token ≡ None →
     is_to_record attach g (job_of (if ended then jobs else walked outcome row ∷ jobs) row.token) ≡ is_left attach g row (has_record_left (rest_of outcome row.plan))

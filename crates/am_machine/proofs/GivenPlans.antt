@@ -6,7 +6,7 @@ use Rattle.am_names.specs.declared.trigger.Status.{Status}
 use Rattle.am_job.specs.declared.act.Act.{Act}
 use Rattle.am_job.specs.declared.act.Act.TheVariants as act
 use Rattle.am_job.specs.declared.act.Outcome.{Outcome}
-use Rattle.am_job.specs.declared.act.Outcome.TheVariants.{Done, Made, Failed}
+use Rattle.am_job.specs.declared.act.Outcome.TheVariants.{Done}
 use Rattle.am_job.specs.Plans.{Plan, Ended, Next, next_of, rest_of}
 use Rattle.am_job.specs.Laws.{IsEnded, AcknowledgesLast}
 use Rattle.am_job.proofs.PlanLemmas.{rest_lawful}
@@ -21,48 +21,35 @@ abbrev pub acknowledges : Act → Bool
 acknowledges (act.Reply status) = true
 acknowledges _ = false
 
-goes_left : (plan : Plan) → AcknowledgesLast plan → is_some (next_of plan) ≡ true
+goes_left : (plan : Plan) → AcknowledgesLast plan → not (is_some (next_of plan)) ≡ false
 goes_left Ended h = absurd h
-goes_left (Next a done made failed) h = refl
+goes_left (Next a rest) h = refl
 
-left_by : (done : Plan) (made : ℕ → Plan) (failed : Plan) (a : Act) (outcome : Outcome) → AcknowledgesLast done → ((mount : ℕ) → AcknowledgesLast (made mount)) → AcknowledgesLast failed → not (is_some (next_of (rest_of outcome (Next a done made failed)))) ≡ false
-left_by done made failed a Done d m f = ap not (goes_left done d)
-left_by done made failed a (Made mount) d m f = ap not (goes_left (made mount) (m mount))
-left_by done made failed a Failed d m f = ap not (goes_left failed f)
-
-act_left : (done : Plan) (made : ℕ → Plan) (failed : Plan) (a : Act) (outcome : Outcome) → AcknowledgesLast (Next a done made failed) → acknowledges a ≡ false → not (is_some (next_of (rest_of outcome (Next a done made failed)))) ≡ false
-act_left done made failed (act.Mkdir t) outcome h e = left_by done made failed _ outcome h.0 h.1 h.2
-act_left done made failed (act.Mount t entry) outcome h e = left_by done made failed _ outcome h.0 h.1 h.2
-act_left done made failed (act.Umount t) outcome h e = left_by done made failed _ outcome h.0 h.1 h.2
-act_left done made failed (act.Rmdir t) outcome h e = left_by done made failed _ outcome h.0 h.1 h.2
-act_left done made failed (act.Record t entry) outcome h e = left_by done made failed _ outcome h.0 h.1 h.2
-act_left done made failed (act.Reply status) outcome h e = absurd cc
+act_left : (rest : Outcome → Plan) (a : Act) (outcome : Outcome) → AcknowledgesLast (Next a rest) → acknowledges a ≡ false → not (is_some (next_of (rest outcome))) ≡ false
+act_left rest (act.Reply status) outcome h e = absurd cc
+act_left rest a outcome h e = goes_left (rest outcome) (h outcome)
 
 -- a job goes on after each act but an acknowledgement
 pub goes_after : (plan : Plan) (outcome : Outcome) (a : Act) → AcknowledgesLast plan → next_of plan ≡ Some a → acknowledges a ≡ false → not (is_some (next_of (rest_of outcome plan))) ≡ false
 goes_after Ended outcome a h e r = absurd h
-goes_after (Next b done made failed) outcome a h e r =
+goes_after (Next b rest) outcome a h e r =
     let same : b ≡ a = cc in
-    act_left done made failed b outcome h (ap acknowledges same ∙ r)
+    act_left rest b outcome h (ap acknowledges same ∙ r)
 
-ended_by : (done : Plan) → IsEnded done → not (is_some (next_of done)) ≡ true
+ended_by : (rest : Plan) → IsEnded rest → not (is_some (next_of rest)) ≡ true
 ended_by Ended h = refl
-ended_by (Next a done made failed) h = absurd h
+ended_by (Next a rest) h = absurd h
 
-reply_ended : (done : Plan) (made : ℕ → Plan) (failed : Plan) (b : Act) (status : Status) → b ≡ act.Reply status → AcknowledgesLast (Next b done made failed) → IsEnded done
-reply_ended done made failed (act.Mkdir t) status e l = absurd cc
-reply_ended done made failed (act.Mount t entry) status e l = absurd cc
-reply_ended done made failed (act.Umount t) status e l = absurd cc
-reply_ended done made failed (act.Rmdir t) status e l = absurd cc
-reply_ended done made failed (act.Record t entry) status e l = absurd cc
-reply_ended done made failed (act.Reply other) status e l = l.0
+reply_ended : (rest : Outcome → Plan) (b : Act) (status : Status) → b ≡ act.Reply status → AcknowledgesLast (Next b rest) → IsEnded (rest Done)
+reply_ended rest (act.Reply other) status e l = l Done
+reply_ended rest b status e l = absurd cc
 
 -- and ends with that
 pub ends_after : (plan : Plan) (status : Status) → AcknowledgesLast plan → next_of plan ≡ Some (act.Reply status) → not (is_some (next_of (rest_of Done plan))) ≡ true
 ends_after Ended status h e = absurd h
-ends_after (Next b done made failed) status h e =
+ends_after (Next b rest) status h e =
     let same : b ≡ act.Reply status = cc in
-    ended_by done (reply_ended done made failed b status same h)
+    ended_by (rest Done) (reply_ended rest b status same h)
 
 -- ---- the jobs
 
@@ -70,7 +57,7 @@ ends_after (Next b done made failed) status h e =
 still_last : (plan : Plan) → not (is_some (next_of plan)) ≡ false → IsEnded plan ⊎ AcknowledgesLast plan → AcknowledgesLast plan
 still_last plan going (inr last) = last
 still_last Ended going (inl ended) = absurd cc
-still_last (Next a done made failed) going (inl ended) = absurd ended
+still_last (Next a rest) going (inl ended) = absurd ended
 
 walked_planned : (row : JobPlan) (outcome : Outcome) → IsPlanned row → is_ended (walked outcome row) ≡ false → IsPlanned (walked outcome row)
 walked_planned row outcome h going =

@@ -1,5 +1,5 @@
 -- What kernel and daemon have stays below the numbers that were given.
-use Rattle.std.proofs.Common.{◌≡◌, ℕ, ◌+◌, ◌≤◌, ◌==◌, Bool, true, false, List, [], ◌∷◌, ◌++◌, map, Option, Some, None, refl, sym, ap, subst, arith}
+use Rattle.std.proofs.Common.{◌≡◌, ℕ, ◌+◌, ◌≤◌, ◌==◌, Bool, true, false, List, [], ◌∷◌, ◌++◌, map, Option, Some, None, refl, sym, ap, subst, arith, filter}
 use Rattle.std.specs.Prelude.{not, is_some, if◌then◌else◌}
 use Rattle.std.specs.List.{All, list_any, flat_map}
 use Rattle.std.proofs.lemmas.List.Elements.{All-nil, All-cons, All-head, All-tail, All-append, All-push, All-weaker, All-map, All-filter}
@@ -136,10 +136,11 @@ given_attached direct timeout k at path d h =
       rise = g.rise;
       attached = g.attached;
       autofs = g.autofs;
-      known = All-push (λ (row : KnownRow). row.fs ≤ k.last_fs + 1) d.known _ daemon.known (omega arith);
+      known = All-push (λ (row : KnownRow). row.fs ≤ k.last_fs + 1) (filter (λ (row : KnownRow). not (row.fs == k.last_fs + 1)) d.known) _
+          (All-filter (λ (row : KnownRow). not (row.fs == k.last_fs + 1)) (λ (row : KnownRow). row.fs ≤ k.last_fs + 1) d.known daemon.known) (omega arith);
       jobs = daemon.jobs;
       book = daemon.book;
-      familiar = known_more k.triggers.autofs k.attached d.known d.held h.familiar _ _ _ _ refl refl refl;
+      familiar = known_more k.triggers.autofs k.attached d.known d.held h.familiar _ _ path (k.last_attach + 1) refl;
     }
 
 -- ---- the book

@@ -1,18 +1,21 @@
 -- What the daemon knows stays known.
 use Rattle.std.proofs.Common.{◌≡◌, ℕ, Bool, true, false, cond, List, [], ◌∷◌, ◌++◌, map, Some, refl, sym, ap, subst, ◌∙◌}
-use Rattle.std.specs.Prelude.{◌==◌, ◌||◌, ◌&&◌, is_some, find, filter}
+use Rattle.std.specs.Prelude.{◌==◌, ◌||◌, ◌&&◌, not, is_some, find, filter}
 use Rattle.std.specs.List.{list_any, All}
 use Rattle.std.proofs.lemmas.Bool.{and_parts}
 use Rattle.std.proofs.lemmas.List.Elements.{All-map, All-weaker, All-push, All-filter}
 use Rattle.std.proofs.lemmas.List.Folds.{list_any-append}
+use Rattle.std.proofs.lemmas.Map.Views.{any-filter_same}
 use Rattle.am_state.specs.declared.daemon_row.HeldRow.{HeldRow}
 use Rattle.am_state.specs.declared.daemon_row.KnownRow.{KnownRow}
 use Rattle.am_trigger.specs.declared.autofs.Autofs.{Autofs}
 use Rattle.am_kernel.specs.declared.row.Attached.{Attached}
+use Rattle.am_daemon.specs.Attachments.{known_at, held_as}
 use Rattle.am_laws.proofs.Packets.{nat_is, nat_same}
 use Rattle.am_machine.specs.Invariant.Attachments.{is_known, was_attached, AreKnown}
 use Rattle.am_machine.proofs.TraceRows.{some_is, found_passes}
 use Rattle.am_machine.proofs.TokenLists.{all_found}
+use Rattle.am_machine.proofs.HeldRows.{other_way}
 
 -- ---- a test that a row passes
 
@@ -87,21 +90,29 @@ module _ (autofs : List Autofs) (attached : List Attached) (known : List KnownRo
     held_known = h.held_known;
   }
 
+  -- what was known is known when one more is, at a path
+  still_known : (new : ℕ) (path : List (List ℕ)) (fs : ℕ) (b : Bool) → (new == fs) ≡ b → is_known known fs ≡ true → is_known (known_at new path known) fs ≡ true
+  still_known new path fs true is was = any_last (λ (r : KnownRow). r.fs == fs) (filter (λ (r : KnownRow). not (r.fs == new)) known) (record { fs = new; path = path }) is
+  still_known new path fs false other was =
+      any_more (λ (r : KnownRow). r.fs == fs) (filter (λ (r : KnownRow). not (r.fs == new)) known) _
+      (any-filter_same (λ (r : KnownRow). r.fs == fs) (λ (r : KnownRow). not (r.fs == new)) true
+      (λ r is. ap not (subst (λ (n : ℕ). (n == new) ≡ false) (sym (nat_is r.fs fs is)) (other_way new fs other))) known ∙ was)
+
   -- one autofs more
-  pub known_more : (a : Autofs) (row : Attached) (new : KnownRow) (hold : HeldRow) → row.fs ≡ a.fs → new.fs ≡ a.fs → hold.fs ≡ a.fs → AreKnown (autofs ++ a ∷ []) (attached ++ row ∷ []) (known ++ new ∷ []) (held ++ hold ∷ [])
-  known_more a row new hold same_row same_new same_hold =
+  pub known_more : (a : Autofs) (row : Attached) (path : List (List ℕ)) (attach : ℕ) → row.fs ≡ a.fs → AreKnown (autofs ++ a ∷ []) (attached ++ row ∷ []) (known_at a.fs path known) (held_as a.fs attach held)
+  known_more a row path attach same_row =
       let its_row : (row.fs == a.fs) ≡ true = subst (λ (n : ℕ). (row.fs == n) ≡ true) same_row (nat_same row.fs) in
-      let its_new : (new.fs == a.fs) ≡ true = subst (λ (n : ℕ). (new.fs == n) ≡ true) same_new (nat_same new.fs) in
-      let now : is_known (known ++ new ∷ []) a.fs ≡ true = any_last (λ (r : KnownRow). r.fs == a.fs) known new its_new in
+      let now : is_known (known_at a.fs path known) a.fs ≡ true = any_last (λ (r : KnownRow). r.fs == a.fs) (filter (λ (r : KnownRow). not (r.fs == a.fs)) known) (record { fs = a.fs; path = path }) (nat_same a.fs) in
+      let still : (fs : ℕ) → is_known known fs ≡ true → is_known (known_at a.fs path known) fs ≡ true = λ fs. still_known a.fs path fs (a.fs == fs) refl in
       record {
-        autofs_known = All-push (λ (r : Autofs). is_known (known ++ new ∷ []) r.fs ≡ true) autofs a
-            (All-weaker (λ (r : Autofs). is_known known r.fs ≡ true) (λ (r : Autofs). is_known (known ++ new ∷ []) r.fs ≡ true) (λ r is. any_more (λ (x : KnownRow). x.fs == r.fs) known (new ∷ []) is) autofs h.autofs_known) now;
+        autofs_known = All-push (λ (r : Autofs). is_known (known_at a.fs path known) r.fs ≡ true) autofs a
+            (All-weaker (λ (r : Autofs). is_known known r.fs ≡ true) (λ (r : Autofs). is_known (known_at a.fs path known) r.fs ≡ true) (λ r. still r.fs) autofs h.autofs_known) now;
         autofs_attached = All-push (λ (r : Autofs). was_attached (attached ++ row ∷ []) r.fs ≡ true) autofs a
             (All-weaker (λ (r : Autofs). was_attached attached r.fs ≡ true) (λ (r : Autofs). was_attached (attached ++ row ∷ []) r.fs ≡ true) (λ r is. any_more (λ (x : Attached). x.fs == r.fs) attached (row ∷ []) is) autofs h.autofs_attached)
             (any_last (λ (r : Attached). r.fs == a.fs) attached row its_row);
-        held_known = All-push (λ (r : HeldRow). is_known (known ++ new ∷ []) r.fs ≡ true) held hold
-            (All-weaker (λ (r : HeldRow). is_known known r.fs ≡ true) (λ (r : HeldRow). is_known (known ++ new ∷ []) r.fs ≡ true) (λ r is. any_more (λ (x : KnownRow). x.fs == r.fs) known (new ∷ []) is) held h.held_known)
-            (subst (λ (n : ℕ). is_known (known ++ new ∷ []) n ≡ true) (sym same_hold) now);
+        held_known = All-push (λ (r : HeldRow). is_known (known_at a.fs path known) r.fs ≡ true) (filter (λ (r : HeldRow). not (r.fs == a.fs)) held) (record { fs = a.fs; attach = attach })
+            (All-filter (λ (r : HeldRow). not (r.fs == a.fs)) (λ (r : HeldRow). is_known (known_at a.fs path known) r.fs ≡ true) held
+            (All-weaker (λ (r : HeldRow). is_known known r.fs ≡ true) (λ (r : HeldRow). is_known (known_at a.fs path known) r.fs ≡ true) (λ r. still r.fs) held h.held_known)) now;
       }
 
   -- it is held anew

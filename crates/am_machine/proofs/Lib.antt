@@ -60,6 +60,7 @@ pub mod BookJobs
 pub mod BookActs
 pub mod BookDeliver
 pub mod BookStanding
+pub mod HeldRows
 pub mod BookAttach
 pub mod BookEvents
 pub mod BookLemmas

@@ -32,8 +32,8 @@ use Rattle.am_job.specs.declared.act.Act.TheVariants as act
 use Rattle.am_job.specs.declared.act.Outcome as job
 use Rattle.am_job.specs.declared.act.Outcome.TheVariants as came
 use Rattle.am_job.specs.Plans.{next_of}
-use Rattle.am_daemon.specs.declared.served.Served.{Served}
-use Rattle.am_daemon.specs.Points.{point_of}
+use Rattle.am_daemon.specs.declared.served.Point.{Point}
+use Rattle.am_daemon.specs.Points.{point_of, line_timeout}
 use Rattle.am_daemon.specs.Attachments.{holds}
 use Rattle.am_daemon.specs.Deliveries.{job_of}
 use Rattle.am_daemon.specs.State.{JobPlan}
@@ -95,11 +95,11 @@ kernel_changes s answer shown k h = record { names = h.names }
 
 -- ---- the administrator
 
-attached_as : (point : Option Served) (s : State) (path : List (List ℕ)) → Keeps s (administration.attached_as point s path)
+attached_as : (point : Option Point) (s : State) (path : List (List ℕ)) → Keeps s (administration.attached_as point s path)
 attached_as None s path = refuses s _
 attached_as (Some point) s path =
     let k = s.kernel in
-    let made = from_stays (position_at k 0 path) k (attached_at point.direct point.timeout k) (λ at. same k (attached_at point.direct point.timeout k at) refl refl refl) in
+    let made = from_stays (position_at k 0 path) k (attached_at point.direct (line_timeout s.daemon point.entry) k) (λ at. same k (attached_at point.direct (line_timeout s.daemon point.entry) k at) refl refl refl) in
     unless_refused (administration.attach_refusal s path) s _ (record { names = made.names })
 
 mount : (s : State) (ns : ℕ) (path : List (List ℕ)) → Keeps s (administration.mount_outcome s ns path)

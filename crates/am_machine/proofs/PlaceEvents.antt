@@ -26,8 +26,8 @@ use Rattle.am_kernel.specs.Outcome as kernel
 use Rattle.am_kernel.specs.Sites.{is_on_autofs, position_at, tested, or_else, root_refusal, fs_refusal, attach_refusal, from_position}
 use Rattle.am_kernel.specs.DaemonMounts.{new_fs_refusal, with_mount, attach_tests, attached_at, without_mounts}
 use Rattle.am_kernel.specs.Administration.{mount_tests, mount_refusal, source_refusal, bind_tests, bind_refusal, bound_at, is_parent_on_autofs, is_any_on_autofs, is_daemons, site_refusal, umount_tests, gone_at, plain_umount_refusal, changed_at, plain_change_refusal, kind_refusal, kind_at}
-use Rattle.am_daemon.specs.declared.served.Served.{Served}
-use Rattle.am_daemon.specs.Points.{point_of}
+use Rattle.am_daemon.specs.declared.served.Point.{Point}
+use Rattle.am_daemon.specs.Points.{point_of, line_timeout}
 use Rattle.am_daemon.specs.Attachments.{is_attached}
 use Rattle.am_machine.specs.declared.answer.Answer.{Answer}
 use Rattle.am_machine.specs.State.{State}
@@ -122,12 +122,12 @@ attach_at (Ok at) k path direct timeout is may h = record {
   law = mounted_law k.table h.whole at (k.last_fs + 1) Private;
 }
 
-attaches : (s : State) (path : List (List ℕ)) (point : Served) → administration.attach_refusal s path ≡ None → Holds s (administration.attaches s path point)
+attaches : (s : State) (path : List (List ℕ)) (point : Point) → administration.attach_refusal s path ≡ None → Holds s (administration.attaches s path point)
 attaches s path point may = record {
-  holds = attach_at (position_at s.kernel 0 path) s.kernel path point.direct point.timeout refl (else_none (is_attached s.daemon path) _ _ may).1;
+  holds = attach_at (position_at s.kernel 0 path) s.kernel path point.direct (line_timeout s.daemon point.entry) refl (else_none (is_attached s.daemon path) _ _ may).1;
 }
 
-attached_as : (point : Option Served) (s : State) (path : List (List ℕ)) → Holds s (administration.attached_as point s path)
+attached_as : (point : Option Point) (s : State) (path : List (List ℕ)) → Holds s (administration.attached_as point s path)
 attached_as None s path = refuses s _
 attached_as (Some point) s path = unless_refused (administration.attach_refusal s path) s _ (λ may. attaches s path point may)
 

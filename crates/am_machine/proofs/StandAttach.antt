@@ -2,13 +2,11 @@
 -- nothing is served.
 use Rattle.std.proofs.Common.{◌≡◌, ℕ, ◌+◌, ◌≤◌, Bool, true, false, List, Option, Some, None, refl, sym, ap, subst, ◌∙◌, inl, ⊎_elim, arith}
 use Rattle.std.specs.Prelude.{◌==◌, is_some}
-use Rattle.std.specs.Option.{option_map}
 use Rattle.std.proofs.lemmas.List.Elements.{All-weaker}
 use Rattle.am_names.specs.declared.trigger.Trigger.{Trigger}
 use Rattle.am_names.specs.declared.row.MountRow.{MountRow}
 use Rattle.am_names.specs.declared.row.Position.{Position}
 use Rattle.am_group.specs.declared.membership.Membership.TheVariants.{Private}
-use Rattle.am_state.specs.declared.daemon_row.HeldRow.{HeldRow}
 use Rattle.am_state.specs.declared.daemon_row.RecordRow.{RecordRow}
 use Rattle.am_mount.specs.Rows.{mount_row, top_of, IsAt, IsFree}
 use Rattle.am_propagate.specs.MountTable.{is_mount}
@@ -40,6 +38,7 @@ use Rattle.am_machine.proofs.PlaceGrown.{came_at}
 use Rattle.am_machine.proofs.BookRecords.{no_record}
 use Rattle.am_machine.proofs.TokenLists.{all_found}
 use Rattle.am_machine.proofs.BookFound.{find_others, find_new}
+use Rattle.am_machine.proofs.HeldRows.{held_others}
 use Rattle.am_machine.proofs.BookNarrows.{found_same}
 use Rattle.am_machine.proofs.StandTops.{no_top}
 use Rattle.am_machine.proofs.StandKeeps.{Knows, its_autofs}
@@ -122,12 +121,10 @@ module _ (k : KernelState) (h : PlacesAgree k) (direct : Bool) (timeout : ℕ) (
 
   served_before : (d : DaemonState) (path : List (List ℕ)) (fs attach : ℕ) → (k.last_fs + 1 == fs) ≡ false → IsServed (attached_at direct timeout k at) (with_attachment (k.last_fs + 1) (k.last_attach + 1) path d) fs attach → IsServed k d fs attach
   served_before d path fs attach other s =
-      let held : HeldRow = record { fs = k.last_fs + 1; attach = k.last_attach + 1 } in
       let current : attach_of (attached_at direct timeout k at) fs ≡ attach_of k fs =
       found_same _ _ _ _ (find_others (λ (row : Autofs). row.fs == fs) k.triggers.autofs new_row other)
       (find_others (λ (row : Attached). row.fs == fs) k.attached (attached_row (k.last_fs + 1) (k.last_attach + 1) timeout) other) in
-      let holds : attach_held (with_attachment (k.last_fs + 1) (k.last_attach + 1) path d) fs ≡ attach_held d fs =
-      ap (option_map (λ (row : HeldRow). row.attach)) (find_others (λ (row : HeldRow). row.fs == fs) d.held held other) in
+      let holds : attach_held (with_attachment (k.last_fs + 1) (k.last_attach + 1) path d) fs ≡ attach_held d fs = held_others d.held (k.last_fs + 1) (k.last_attach + 1) fs other in
       record { current = sym current ∙ s.current; held = sym holds ∙ s.held }
 
   module _ (d : DaemonState) (path : List (List ℕ)) (given : AreGiven k d) (stands : Knows k d) where

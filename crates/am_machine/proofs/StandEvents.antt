@@ -21,9 +21,9 @@ use Rattle.am_kernel.specs.Sites.{is_on_autofs, position_at, tested, or_else, ro
 use Rattle.am_kernel.specs.DaemonMounts.{new_fs_refusal, with_mount, attach_tests, attached_at, without_mounts}
 use Rattle.am_kernel.specs.Administration.{mount_tests, mount_refusal, with_plain, source_refusal, bind_tests, bind_refusal, with_bind, bound_at, is_parent_on_autofs, is_any_on_autofs, is_daemons, site_refusal, umount_tests, gone_at, plain_umount_refusal, without_plain, changed_at, plain_change_refusal, with_changed, kind_refusal, kind_at}
 use Rattle.am_kernel.specs.Namespaces.{with_namespace, without_namespace}
-use Rattle.am_daemon.specs.declared.served.Served.{Served}
+use Rattle.am_daemon.specs.declared.served.Point.{Point}
 use Rattle.am_daemon.specs.State.{DaemonState}
-use Rattle.am_daemon.specs.Points.{point_of}
+use Rattle.am_daemon.specs.Points.{point_of, line_timeout}
 use Rattle.am_daemon.specs.Attachments.{is_attached, with_attachment}
 use Rattle.am_machine.specs.State.{State}
 use Rattle.am_machine.specs.Events.Administration as administration
@@ -54,15 +54,15 @@ attaches_sites (Ok at) k direct timeout path is may p on =
     let there = position_inside k p.whole 0 path at is in
     attached_on_triggers k p direct timeout at (ap is_some there.1) (else_none (is_on_autofs k at.mount) _ (or_else (attach_refusal k) (new_fs_refusal k at.mount)) may).0 on
 
-attached_as : (point : Option Served) (s : State) (path : List (List ℕ)) → AreGiven s.kernel s.daemon → PlacesAgree s.kernel → Stands s (administration.attached_as point s path)
+attached_as : (point : Option Point) (s : State) (path : List (List ℕ)) → AreGiven s.kernel s.daemon → PlacesAgree s.kernel → Stands s (administration.attached_as point s path)
 attached_as None s path given p = refuses s _
 attached_as (Some point) s path given p =
     unless_refused (administration.attach_refusal s path) s _
     (λ may.
     let fine = (else_none (is_attached s.daemon path) _ _ may).1 in
     record {
-      stands = λ h. attaches_at (position_at s.kernel 0 path) s.kernel s.daemon point.direct point.timeout path path refl fine given p h;
-      sites = λ on. attaches_sites (position_at s.kernel 0 path) s.kernel point.direct point.timeout path refl fine p on;
+      stands = λ h. attaches_at (position_at s.kernel 0 path) s.kernel s.daemon point.direct (line_timeout s.daemon point.entry) path path refl fine given p h;
+      sites = λ on. attaches_sites (position_at s.kernel 0 path) s.kernel point.direct (line_timeout s.daemon point.entry) path refl fine p on;
     })
 
 pub attach : (s : State) (path : List (List ℕ)) → AreGiven s.kernel s.daemon → PlacesAgree s.kernel → Stands s (administration.attach_outcome s path)

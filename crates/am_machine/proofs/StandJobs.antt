@@ -9,7 +9,7 @@ use Rattle.am_job.specs.declared.act.Act.TheVariants as act
 use Rattle.am_job.specs.declared.act.Outcome.{Outcome}
 use Rattle.am_job.specs.declared.act.Outcome.TheVariants.{Done, Made, Failed}
 use Rattle.am_job.specs.Plans.{Plan, Ended, Next, rest_of, next_of, claims, mount_in}
-use Rattle.am_job.specs.Laws.{IsEnded, ClaimsRight, ClaimsFollow}
+use Rattle.am_job.specs.Laws.{IsEnded, ClaimsRight}
 use Rattle.am_daemon.specs.State.{JobPlan}
 use Rattle.am_daemon.specs.Deliveries.{job_of}
 use Rattle.am_daemon.specs.Acts.{walked, is_ended, going, finished_in}
@@ -39,13 +39,6 @@ finished_found outcome job row new (first ∷ jobs) differ e f = by (first.token
         subst (λ (r : JobPlan). new ≡ walked outcome r) same (going_found outcome job first new jobs (is_ended (walked outcome first)) is none f)
     by false is apart later e f = later e (subst (λ (b : Bool). cond b (Some first) (job_of (finished_in job outcome jobs) job) ≡ Some new) is f)
 
--- ---- what is left claims right
-
-follows : (a : Act) (done : Plan) (made : ℕ → Plan) (failed : Plan) (outcome : Outcome) → ClaimsRight (Next a done made failed) → ClaimsFollow a outcome (claims (Next a done made failed)) (rest_of outcome (Next a done made failed))
-follows a done made failed Done h = h.0.0
-follows a done made failed (Made mount) h = (h.1 mount).0
-follows a done made failed Failed h = h.2.0
-
 -- ---- the act mounts and unmounts nothing, and writes nothing
 
 abbrev pub MovesNothing : Option Act → Outcome → Type 0
@@ -59,27 +52,24 @@ MovesNothing (Some (act.Reply status)) outcome = outcome ≡ Done
 
 ended_none : (rest : Plan) → IsEnded rest → has_record_left rest ≡ true → ⊥
 ended_none Ended h left = absurd cc
-ended_none (Next a done made failed) h left = h
+ended_none (Next a rest) h left = h
 
-kept_by : (g : Trigger) (a : Act) (done : Plan) (made : ℕ → Plan) (failed : Plan) (outcome : Outcome) → MovesNothing (Some a) outcome → IsRest g (Next a done made failed) → ClaimsRight (Next a done made failed) →
-    has_record_left (rest_of outcome (Next a done made failed)) ≡ true → claims (rest_of outcome (Next a done made failed)) ≡ claims (Next a done made failed)
-kept_by g (act.Mkdir trigger) done made failed outcome still rest h left = follows (act.Mkdir trigger) done made failed outcome h
-kept_by g (act.Mount trigger entry) done made failed Failed still rest h left = h.2.0
-kept_by g (act.Mount trigger entry) done made failed Done still rest h left = absurd cc
-kept_by g (act.Mount trigger entry) done made failed (Made mount) still rest h left = absurd cc
-kept_by g (act.Umount trigger) done made failed Failed still rest h left = h.2.0
-kept_by g (act.Umount trigger) done made failed Done still rest h left = absurd cc
-kept_by g (act.Umount trigger) done made failed (Made mount) still rest h left = absurd cc
-kept_by g (act.Rmdir trigger) done made failed outcome still rest h left = follows (act.Rmdir trigger) done made failed outcome h
-kept_by g (act.Record trigger entry) done made failed outcome still rest h left = absurd still
-kept_by g (act.Reply status) done made failed Done still rest h left = absurd (ended_none done rest.0.0 left)
-kept_by g (act.Reply status) done made failed (Made mount) still rest h left = absurd cc
-kept_by g (act.Reply status) done made failed Failed still rest h left = absurd cc
+kept_by : (g : Trigger) (a : Act) (rest : Outcome → Plan) (outcome : Outcome) → MovesNothing (Some a) outcome → IsRest g (Next a rest) → ClaimsRight (Next a rest) → has_record_left (rest outcome) ≡ true → claims (rest outcome) ≡ claims (Next a rest)
+kept_by g (act.Mkdir trigger) rest outcome still own h left = (h outcome).0
+kept_by g (act.Mount trigger entry) rest Failed still own h left = (h Failed).0
+kept_by g (act.Mount trigger entry) rest Done still own h left = absurd cc
+kept_by g (act.Mount trigger entry) rest (Made mount) still own h left = absurd cc
+kept_by g (act.Umount trigger) rest Failed still own h left = (h Failed).0
+kept_by g (act.Umount trigger) rest Done still own h left = absurd cc
+kept_by g (act.Umount trigger) rest (Made mount) still own h left = absurd cc
+kept_by g (act.Rmdir trigger) rest outcome still own h left = (h outcome).0
+kept_by g (act.Record trigger entry) rest outcome still own h left = absurd still
+kept_by g (act.Reply status) rest outcome still own h left = absurd (ended_none (rest outcome) (own outcome).0 left)
 
 -- what is left claims what was claimed
 pub claims_kept : (g : Trigger) (plan : Plan) (outcome : Outcome) → MovesNothing (next_of plan) outcome → IsRest g plan → ClaimsRight plan → has_record_left (rest_of outcome plan) ≡ true → claims (rest_of outcome plan) ≡ claims plan
-claims_kept g Ended outcome still rest h left = absurd still
-claims_kept g (Next a done made failed) outcome still rest h left = kept_by g a done made failed outcome still rest h left
+claims_kept g Ended outcome still own h left = absurd still
+claims_kept g (Next a rest) outcome still own h left = kept_by g a rest outcome still own h left
 
 -- ---- the act mounts, or unmounts
 
@@ -89,15 +79,15 @@ pub record Mounts (g : Trigger) (plan : Plan) (trigger : Trigger) (mount : ℕ) 
   pub left : has_record_left plan ≡ true
   pub claimed : claims (rest_of (Made mount) plan) ≡ Some mount
 
-mounts_by : (g trigger : Trigger) (entry : EntryText) (mount : ℕ) (a : Act) (done : Plan) (made : ℕ → Plan) (failed : Plan) → a ≡ act.Mount trigger entry → IsRest g (Next a done made failed) → ClaimsRight (Next a done made failed) → Mounts g (Next a done made failed) trigger mount
-mounts_by g trigger entry mount (act.Mount to what) done made failed e rest h =
+mounts_by : (g trigger : Trigger) (entry : EntryText) (mount : ℕ) (a : Act) (rest : Outcome → Plan) → a ≡ act.Mount trigger entry → IsRest g (Next a rest) → ClaimsRight (Next a rest) → Mounts g (Next a rest) trigger mount
+mounts_by g trigger entry mount (act.Mount to what) rest e own h =
     let same : to ≡ trigger = cc in
-    record { on = sym same ∙ rest.2.0.0; left = rest.2.0.1; claimed = (h.1 mount).0 }
-mounts_by g trigger entry mount a done made failed e rest h = absurd cc
+    record { on = sym same ∙ (own Done).0.0; left = (own Done).0.1; claimed = (h (Made mount)).0 }
+mounts_by g trigger entry mount a rest e own h = absurd cc
 
 pub mounts : (g trigger : Trigger) (entry : EntryText) (mount : ℕ) (plan : Plan) → next_of plan ≡ Some (act.Mount trigger entry) → IsRest g plan → ClaimsRight plan → Mounts g plan trigger mount
-mounts g trigger entry mount Ended e rest h = absurd cc
-mounts g trigger entry mount (Next a done made failed) e rest h = mounts_by g trigger entry mount a done made failed (let same : a ≡ act.Mount trigger entry = cc in same) rest h
+mounts g trigger entry mount Ended e own h = absurd cc
+mounts g trigger entry mount (Next a rest) e own h = mounts_by g trigger entry mount a rest (let same : a ≡ act.Mount trigger entry = cc in same) own h
 
 -- an unmount: nothing is claimed any more
 pub record Unmounts (g : Trigger) (plan : Plan) (trigger : Trigger) : Type 0 where
@@ -105,20 +95,20 @@ pub record Unmounts (g : Trigger) (plan : Plan) (trigger : Trigger) : Type 0 whe
   pub left : has_record_left plan ≡ true
   pub claimed : claims (rest_of Done plan) ≡ None
 
-unmounts_by : (g trigger : Trigger) (a : Act) (done : Plan) (made : ℕ → Plan) (failed : Plan) → a ≡ act.Umount trigger → IsRest g (Next a done made failed) → ClaimsRight (Next a done made failed) → Unmounts g (Next a done made failed) trigger
-unmounts_by g trigger (act.Umount to) done made failed e rest h =
+unmounts_by : (g trigger : Trigger) (a : Act) (rest : Outcome → Plan) → a ≡ act.Umount trigger → IsRest g (Next a rest) → ClaimsRight (Next a rest) → Unmounts g (Next a rest) trigger
+unmounts_by g trigger (act.Umount to) rest e own h =
     let same : to ≡ trigger = cc in
-    record { on = sym same ∙ rest.2.0.0; left = rest.2.0.1; claimed = h.0.0 }
-unmounts_by g trigger a done made failed e rest h = absurd cc
+    record { on = sym same ∙ (own Done).0.0; left = (own Done).0.1; claimed = (h Done).0 }
+unmounts_by g trigger a rest e own h = absurd cc
 
 pub unmounts : (g trigger : Trigger) (plan : Plan) → next_of plan ≡ Some (act.Umount trigger) → IsRest g plan → ClaimsRight plan → Unmounts g plan trigger
-unmounts g trigger Ended e rest h = absurd cc
-unmounts g trigger (Next a done made failed) e rest h = unmounts_by g trigger a done made failed (let same : a ≡ act.Umount trigger = cc in same) rest h
+unmounts g trigger Ended e own h = absurd cc
+unmounts g trigger (Next a rest) e own h = unmounts_by g trigger a rest (let same : a ≡ act.Umount trigger = cc in same) own h
 
 -- ---- the act writes the record
 
 pub claims_record : (plan : Plan) (trigger : Trigger) (entry : Option Record) → next_of plan ≡ Some (act.Record trigger entry) → claims plan ≡ mount_in entry
 claims_record Ended trigger entry e = absurd cc
-claims_record (Next a done made failed) trigger entry e =
+claims_record (Next a rest) trigger entry e =
     let same : a ≡ act.Record trigger entry = cc in
-    subst (λ (b : Act). claims (Next b done made failed) ≡ mount_in entry) (sym same) refl
+    subst (λ (b : Act). claims (Next b rest) ≡ mount_in entry) (sym same) refl

@@ -1,11 +1,8 @@
 -- A daemon that attaches again knows what is mounted: of the file system it serves again it has
 -- written down what is there, and of the others it knows what it knew.
-use Rattle.std.proofs.Common.{◌≡◌, ℕ, ◌+◌, ◌≤◌, Bool, true, false, List, filter, Some, None, refl, sym, ap, subst, ◌∙◌, arith}
-use Rattle.std.specs.Prelude.{◌==◌, not}
-use Rattle.std.specs.Option.{option_map}
-use Rattle.std.proofs.lemmas.Bool.Decides.{nat_tests}
+use Rattle.std.proofs.Common.{◌≡◌, ℕ, ◌+◌, ◌≤◌, Bool, true, false, Some, None, refl, sym, ap, subst, ◌∙◌, arith}
+use Rattle.std.specs.Prelude.{◌==◌}
 use Rattle.am_names.specs.declared.trigger.Trigger.{Trigger}
-use Rattle.am_state.specs.declared.daemon_row.HeldRow.{HeldRow}
 use Rattle.am_trigger.specs.declared.autofs.Autofs.{Autofs}
 use Rattle.am_trigger.specs.Rows.{autofs_of}
 use Rattle.am_job.specs.Book.{record_of, without_fs}
@@ -24,7 +21,7 @@ use Rattle.am_machine.specs.Invariant.Places.{PlacesAgree}
 use Rattle.am_machine.specs.Invariant.Books.{IsServed}
 use Rattle.am_machine.specs.Invariant.Stands.{OnTriggers}
 use Rattle.am_machine.proofs.TokenLists.{all_found}
-use Rattle.am_machine.proofs.BookFound.{find_others, find_new, absent, gone, found_left}
+use Rattle.am_machine.proofs.HeldRows.{other_way, held_new, held_others}
 use Rattle.am_machine.proofs.BookNarrows.{pipe_others}
 use Rattle.am_machine.proofs.BookStanding.{mounted_others, standing_fs}
 use Rattle.am_machine.proofs.SiteKeeps.{marked_sites}
@@ -33,9 +30,6 @@ use Rattle.am_machine.proofs.StandAgain.{standing_written}
 
 pub pipe_still : (k : KernelState) (fs : ℕ) → Still k (with_pipe fs k)
 pipe_still k fs = kept_still k (with_pipe fs k) (record { table = refl; last_fs = refl; sites = marked_sites fs false k.triggers })
-
-other_way : (a b : ℕ) → (a == b) ≡ false → (b == a) ≡ false
-other_way a b e = grind (arith, nat_tests, e)
 
 some_same : {a b : ℕ} → Some a ≡ Some b → a ≡ b
 some_same e = cc
@@ -47,18 +41,12 @@ module _ (k : KernelState) (d : DaemonState) (fs : ℕ) (a : Autofs) (is : autof
   abbrev d_new : DaemonState
   d_new = reattached fs (k.last_attach + 1) (standing k fs) d
 
-  abbrev left : List HeldRow
-  left = filter (λ (row : HeldRow). not (row.fs == fs)) d.held
-
   -- ---- the file system
 
   new_attach : (f attach : ℕ) → (fs == f) ≡ true → IsServed made d_new f attach → attach ≡ k.last_attach + 1
   new_attach f attach is_fs s =
       let held : attach_held d_new fs ≡ Some attach = subst (λ (n : ℕ). attach_held d_new n ≡ Some attach) (sym (nat_is fs f is_fs)) s.held in
-      let none = absent (λ (row : HeldRow). row.fs) fs left (gone (λ (row : HeldRow). row.fs) fs d.held) in
-      let new : HeldRow = record { fs = fs; attach = k.last_attach + 1 } in
-      let last : attach_held d_new fs ≡ Some (k.last_attach + 1) = ap (option_map (λ (row : HeldRow). row.attach)) (find_new (λ (row : HeldRow). row.fs == fs) left new none (nat_same fs)) in
-      some_same (sym held ∙ last)
+      some_same (sym held ∙ held_new d.held fs (k.last_attach + 1))
 
   -- no job is of the new attachment
   none_at_work : (f attach : ℕ) → (fs == f) ≡ true → IsServed made d_new f attach → (job : ℕ) (row : JobPlan) → job_of d.jobs job ≡ Some row → row.attach ≡ attach → ⊥
@@ -80,10 +68,7 @@ module _ (k : KernelState) (d : DaemonState) (fs : ℕ) (a : Autofs) (is : autof
 
   served_before : (f attach : ℕ) → (fs == f) ≡ false → IsServed made d_new f attach → IsServed k d f attach
   served_before f attach other s =
-      let new : HeldRow = record { fs = fs; attach = k.last_attach + 1 } in
-      let stays : attach_held d_new f ≡ attach_held d f =
-      ap (option_map (λ (row : HeldRow). row.attach))
-      (find_others (λ (row : HeldRow). row.fs == f) left new other ∙ found_left (λ (row : HeldRow). row.fs) fs f d.held (other_way fs f other)) in
+      let stays : attach_held d_new f ≡ attach_held d f = held_others d.held fs (k.last_attach + 1) f other in
       record { current = sym (pipe_others k fs f other) ∙ s.current; held = sym stays ∙ s.held }
 
   record_stays : (g : Trigger) (f : ℕ) → (fs == f) ≡ false → g.fs ≡ f → record_of d_new.book g ≡ record_of d.book g

@@ -25,11 +25,11 @@ use Rattle.am_kernel.specs.Requests.{without_use, timeout_refusal, with_timeout}
 use Rattle.am_kernel.specs.Attachments.{catatonic_refusal, autofs_refusal, pipe_refusal, with_pipe}
 use Rattle.am_kernel.specs.Walks.{closing, closed}
 use Rattle.am_kernel.specs.Previews.{is_trigger}
-use Rattle.am_daemon.specs.declared.served.Served.{Served}
+use Rattle.am_daemon.specs.declared.served.Point.{Point}
 use Rattle.am_state.specs.declared.daemon_row.RecordRow.{RecordRow}
 use Rattle.am_job.specs.Book.{without_fs}
 use Rattle.am_daemon.specs.State.{DaemonState}
-use Rattle.am_daemon.specs.Points.{point_of}
+use Rattle.am_daemon.specs.Points.{point_of, line_timeout}
 use Rattle.am_daemon.specs.Attachments.{is_attached, with_attachment, reattach_refusal}
 use Rattle.am_machine.specs.declared.answer.Answer.{Answer}
 use Rattle.am_machine.specs.declared.answer.Answer.TheVariants as answers
@@ -69,11 +69,11 @@ attached_keeps direct timeout k (Ok at) path d may h = record {
   records = h.records;
 }
 
-attached_as : (point : Option Served) (s : State) (path : List (List ℕ)) → Keeps s (administration.attached_as point s path)
+attached_as : (point : Option Point) (s : State) (path : List (List ℕ)) → Keeps s (administration.attached_as point s path)
 attached_as None s path = refuses s _
 attached_as (Some point) s path =
     unless_refused (administration.attach_refusal s path) s _ (λ e. record {
-      keeps = λ n h. attached_keeps point.direct point.timeout s.kernel (position_at s.kernel 0 path) path s.daemon (then_none (is_attached s.daemon path) EEXIST (mounts.autofs_refusal s.kernel path) e) h;
+      keeps = λ n h. attached_keeps point.direct (line_timeout s.daemon point.entry) s.kernel (position_at s.kernel 0 path) path s.daemon (then_none (is_attached s.daemon path) EEXIST (mounts.autofs_refusal s.kernel path) e) h;
     })
 
 pub attach : (s : State) (path : List (List ℕ)) → Keeps s (administration.attach_outcome s path)

@@ -25,8 +25,8 @@ use Rattle.am_kernel.specs.Requests.{leaving, without_use, timeout_refusal, with
 use Rattle.am_kernel.specs.Attachments.{catatonic_refusal, autofs_refusal}
 use Rattle.am_kernel.specs.Walks.{closing, closed}
 use Rattle.am_kernel.specs.Previews.{is_trigger}
-use Rattle.am_daemon.specs.declared.served.Served.{Served}
-use Rattle.am_daemon.specs.Points.{point_of}
+use Rattle.am_daemon.specs.declared.served.Point.{Point}
+use Rattle.am_daemon.specs.Points.{point_of, line_timeout}
 use Rattle.am_machine.specs.declared.answer.Answer.TheVariants as answers
 use Rattle.am_machine.specs.State.{State}
 use Rattle.am_machine.specs.Outcome.{unless, with_kernel}
@@ -48,14 +48,14 @@ attaching_plain : (at : Result Position Errno) (k : KernelState) → IsPlain (at
 attaching_plain (Err e) k = nothing_plain
 attaching_plain (Ok at) k = mounted_plain _
 
-attaches : (s : State) (path : List (List ℕ)) (point : Served) → Follows s (administration.attaches s path point)
+attaches : (s : State) (path : List (List ℕ)) (point : Point) → Follows s (administration.attaches s path point)
 attaches s path point =
     let at = position_at s.kernel 0 path in
     let o = administration.attaches s path point in
-    let change = from_same at s.kernel (attached_at point.direct point.timeout s.kernel) (λ at. record { rows = λ jobs. refl; limits = refl }) in
+    let change = from_same at s.kernel (attached_at point.direct (line_timeout s.daemon point.entry) s.kernel) (λ at. record { rows = λ jobs. refl; limits = refl }) in
     plainly s o.answer o.seen o.state (attaching_plain at s.kernel) (change.rows s.daemon.jobs) (ap (opening_with s) change.limits)
 
-attached_as : (point : Option Served) (s : State) (path : List (List ℕ)) → Follows s (administration.attached_as point s path)
+attached_as : (point : Option Point) (s : State) (path : List (List ℕ)) → Follows s (administration.attached_as point s path)
 attached_as None s path = refuses s _
 attached_as (Some point) s path = unless_refused (administration.attach_refusal s path) s _ (λ e. attaches s path point)
 

@@ -223,7 +223,7 @@ acted_as s number row a o w e d =
 -- a plan that has still to acknowledge has an act left
 pub next_is : (plan : Plan) → AcknowledgesLast plan → (a : Act) × (next_of plan ≡ Some a)
 next_is Ended h = absurd h
-next_is (Next a done made failed) h = (a, refl)
+next_is (Next a rest) h = (a, refl)
 
 pub acting : (s : State) → IsWorld s → (fs attach : ℕ) → IsServed s.kernel s.daemon fs attach → (number : ℕ) (row : JobPlan) → job_of s.daemon.jobs number ≡ Some row → row.trigger.fs ≡ fs → row.attach ≡ attach → Acting s number row
 acting s world fs attach served number row is same own = record {

@@ -38,6 +38,7 @@ use Rattle.am_machine.specs.State.{State}
 use Rattle.am_machine.specs.Outcome.{Outcome}
 use Rattle.am_machine.specs.Machine.{after, outcome_of}
 use Rattle.am_machine.specs.Invariant.Planned.{has_record_left}
+use Rattle.am_machine.proofs.PlanRests.{umount_left}
 use Rattle.am_machine.specs.Invariant.Books.{IsServed}
 use Rattle.am_machine.proofs.BookRecords.{recorded_is}
 use Rattle.am_progress.specs.Runs.{next}
@@ -244,7 +245,7 @@ module _ (s : State) (fs attach token mount : ℕ) (row : JobPlan) (h : Served s
 
   stands_there : mounted_on s.kernel row.trigger ≡ Some mount
   stands_there =
-      h.world.consistent.agreed.stands.at_work fs attach h.served token row h.is_job h.fs_is h.attach_is (ap has_record_left plan) ∙ ap claims plan
+      h.world.consistent.agreed.stands.at_work fs attach h.served token row h.is_job h.fs_is h.attach_is (ap has_record_left plan ∙ umount_left row.trigger mount) ∙ ap claims plan
 
   leaves_kernel : (outcome : outcomes.Outcome) (made : KernelState) → outcome ≡ came.Failed → LeavesKernel (act.Umount row.trigger) outcome row.token s.kernel made → made ≡ s.kernel
   leaves_kernel came.Done made e leaves = absurd cc

@@ -1,7 +1,7 @@
 -- What others do leaves each job what it has left, and the daemon what it serves.
-use Rattle.std.proofs.Common.{◌≡◌, ◌⊎◌, ℕ, Bool, true, false, List, [], ◌∷◌, ◌++◌, Option, Some, None, refl, sym, ap, subst, inl, inr, ⊎_elim, ◌∙◌}
-use Rattle.std.specs.Option.{option_map}
-use Rattle.std.specs.Prelude.{◌==◌, not, is_some, find, filter, Result, Ok, Err, if◌then◌else◌}
+use Rattle.std.proofs.Common.{◌≡◌, ◌⊎◌, ℕ, ◌+◌, ◌≤◌, Bool, true, false, List, [], ◌∷◌, Option, Some, None, refl, sym, ap, subst, inl, inr, ⊎_elim, ◌∙◌, arith}
+use Rattle.std.proofs.lemmas.Bool.Decides.{nat_tests}
+use Rattle.std.specs.Prelude.{◌==◌, not, is_some, find, Result, Ok, Err, if◌then◌else◌}
 use Rattle.std.specs.List.{list_any}
 use Rattle.am_names.specs.declared.errno.Errno.{Errno}
 use Rattle.am_names.specs.declared.errno.Errno.TheVariants.{EBUSY, EINVAL}
@@ -27,8 +27,8 @@ use Rattle.am_kernel.specs.Requests.{queued_of, without_use, timeout_refusal, wi
 use Rattle.am_kernel.specs.Attachments.{catatonic_refusal, autofs_refusal, pipe_refusal, closed_if_live, with_pipe}
 use Rattle.am_kernel.specs.Walks.{closed, closing, first_begin}
 use Rattle.am_kernel.specs.Previews.{is_trigger}
-use Rattle.am_daemon.specs.declared.served.Served.{Served}
-use Rattle.am_daemon.specs.Points.{point_of}
+use Rattle.am_daemon.specs.declared.served.Point.{Point}
+use Rattle.am_daemon.specs.Points.{point_of, line_timeout}
 use Rattle.am_daemon.specs.Deliveries.{job_of}
 use Rattle.am_daemon.specs.State.{JobPlan}
 use Rattle.am_machine.specs.declared.event.Event.{Event}
@@ -41,16 +41,14 @@ use Rattle.am_machine.specs.Events.Administration as administration
 use Rattle.am_machine.specs.Events.Walkers.{leave_outcome, goes}
 use Rattle.am_machine.specs.Events.Requests as requests
 use Rattle.am_machine.specs.Events.Deliveries as deliveries
-use Rattle.am_state.specs.declared.daemon_row.HeldRow.{HeldRow}
 use Rattle.am_wait.proofs.FindLemmas.{or_first, find_append}
 use Rattle.am_daemon.specs.State.{DaemonState}
-use Rattle.am_daemon.specs.Attachments.{held_again}
 use Rattle.am_daemon.specs.Deliveries.{job_for}
 use Rattle.am_laws.proofs.Packets.{nat_is}
 use Rattle.am_machine.specs.Invariant.Attachments.{AreGiven}
 use Rattle.am_machine.specs.Invariant.Books.{IsServed}
-use Rattle.am_machine.proofs.TraceRows.{found_passes}
-use Rattle.am_machine.proofs.TokenLists.{found_stays}
+use Rattle.am_machine.proofs.HeldRows.{other_way, held_others}
+use Rattle.am_machine.proofs.GivenActs.{attach_given}
 use Rattle.am_machine.proofs.GivenSites.{pipe_grows, attached_grows, timeout_grows}
 use Rattle.am_machine.proofs.TokenStays.{still}
 use Rattle.am_machine.proofs.PlaceEvents.{else_none}
@@ -101,24 +99,17 @@ attached_still : (at : Result Position Errno) (direct : Bool) (timeout : ℕ) (k
 attached_still (Err e) direct timeout k d fs attach g is = is
 attached_still (Ok at) direct timeout k d fs attach g e = still k (attached_at direct timeout k at) fs attach (attached_grows direct timeout k at fs g.autofs g.rise) e
 
-first_held : (o rest : Option HeldRow) (attach : ℕ) → option_map (λ (r : HeldRow). r.attach) o ≡ Some attach → option_map (λ (r : HeldRow). r.attach) (or_first o rest) ≡ Some attach
-first_held None rest attach e = absurd cc
-first_held (Some row) rest attach e = e
-
-held_more : (fs attach : ℕ) (held : List HeldRow) (new : HeldRow) → option_map (λ (r : HeldRow). r.attach) (find (λ (r : HeldRow). r.fs == fs) held) ≡ Some attach → option_map (λ (r : HeldRow). r.attach) (find (λ (r : HeldRow). r.fs == fs) (held ++ new ∷ [])) ≡ Some attach
-held_more fs attach held new e =
-    ap (option_map (λ (r : HeldRow). r.attach)) (find_append (λ (r : HeldRow). r.fs == fs) held (new ∷ []))
-    ∙ first_held (find (λ (r : HeldRow). r.fs == fs) held) (find (λ (r : HeldRow). r.fs == fs) (new ∷ [])) attach e
-
-attached_as : (point : Option Served) (s : State) (path : List (List ℕ)) → Leaves s (administration.attached_as point s path)
+attached_as : (point : Option Point) (s : State) (path : List (List ℕ)) → Leaves s (administration.attached_as point s path)
 attached_as None s path = none s _
 attached_as (Some point) s path =
     unless_refused (administration.attach_refusal s path) s _ (λ may. record {
       jobs = λ number row is. is;
-      serves = λ g fs attach served. inl (record {
-        current = attached_still (position_at s.kernel 0 path) point.direct point.timeout s.kernel s.daemon fs attach g served.current;
-        held = held_more fs attach s.daemon.held _ served.held;
-      });
+      serves = λ g fs attach served.
+          let old : fs ≤ s.kernel.last_fs = (attach_given s.kernel s.daemon fs attach served.current g).1 in
+          inl (record {
+            current = attached_still (position_at s.kernel 0 path) point.direct (line_timeout s.daemon point.entry) s.kernel s.daemon fs attach g served.current;
+            held = held_others s.daemon.held (s.kernel.last_fs + 1) (s.kernel.last_attach + 1) fs (grind (arith, nat_tests, old)) ∙ served.held;
+          });
     })
 
 mount : (s : State) (ns : ℕ) (path : List (List ℕ)) → Leaves s (administration.mount_outcome s ns path)
@@ -213,15 +204,6 @@ other_fs k fs dead attach true e ended current =
     let dies : is_live k fs ≡ false = ap (is_live k) (nat_is fs dead e) ∙ ended in
     absurd cc
 
-held_found : (fs attach dead new : ℕ) (held : List HeldRow) (o : Option HeldRow) → find (λ (r : HeldRow). r.fs == fs) held ≡ o → option_map (λ (r : HeldRow). r.attach) o ≡ Some attach → (fs == dead) ≡ false →
-    option_map (λ (r : HeldRow). r.attach) (find (λ (r : HeldRow). r.fs == fs) (held_again dead new held)) ≡ Some attach
-held_found fs attach dead new held None is e other = absurd cc
-held_found fs attach dead new held (Some row) is e other =
-    let own : row.fs ≡ fs = nat_is row.fs fs (found_passes (λ (r : HeldRow). r.fs == fs) held row is) in
-    let kept : not (row.fs == dead) ≡ true = ap (λ (n : ℕ). not (n == dead)) own ∙ ap not other in
-    held_more fs attach (filter (λ (r : HeldRow). not (r.fs == dead)) held) _
-    (ap (option_map (λ (r : HeldRow). r.attach)) (found_stays (λ (r : HeldRow). r.fs == fs) (λ (r : HeldRow). not (r.fs == dead)) held row is kept) ∙ e)
-
 reattach : (s : State) (fs : ℕ) → Leaves s (requests.reattach_outcome s fs)
 reattach s fs =
     unless_refused (requests.reattach_refused s fs) s (requests.reattaches s fs) (λ may.
@@ -232,7 +214,7 @@ reattach s fs =
           let differs = other_fs s.kernel other fs attach (other == fs) refl dead served.current in
           inl (record {
             current = still s.kernel (with_pipe fs s.kernel) other attach (pipe_grows s.kernel fs other dead) served.current;
-            held = held_found other attach fs _ s.daemon.held (find (λ (r : HeldRow). r.fs == other) s.daemon.held) refl served.held differs;
+            held = held_others s.daemon.held fs _ other (other_way other fs differs) ∙ served.held;
           });
     })
 

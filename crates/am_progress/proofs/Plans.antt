@@ -16,8 +16,8 @@ use Rattle.am_state.specs.declared.daemon_row.Record.TheVariants.{Mounted}
 use Rattle.am_job.specs.declared.act.Act.{Act}
 use Rattle.am_job.specs.declared.act.Act.TheVariants as act
 use Rattle.am_job.specs.declared.act.Outcome.{Outcome}
-use Rattle.am_job.specs.declared.act.Outcome.TheVariants.{Done, Made, Failed}
-use Rattle.am_job.specs.Plans.{Plan, Ended, Next, next_of, rest_of, followed_by, reply, book_and_reply, at_directory, after_mount, without_mount, after_failed_mount, mount_entry, after_umount, after_failed_umount, unmounting, plan_for}
+use Rattle.am_job.specs.declared.act.Outcome.TheVariants.{Made, Failed}
+use Rattle.am_job.specs.Plans.{Plan, Ended, Next, next_of, rest_of, reply, book_and_reply, at_directory, after_mount, without_mount, rest_of_mount, mount_entry, after_failed_umount, rest_of_umount, unmounting, plan_for}
 use Rattle.am_daemon.specs.State.{DaemonState, JobPlan}
 use Rattle.am_daemon.specs.Acts.{walked, is_ended, going, finished_in}
 use Rattle.am_daemon.specs.Deliveries.{job_for}
@@ -39,101 +39,96 @@ IsOwn g (act.Reply status) = ⊤
 -- so it is of each act that is left
 abbrev pub AreOwn : Trigger → Plan → Type 0
 AreOwn g Ended = ⊤
-AreOwn g (Next a done made failed) =
-    IsOwn g a × AreOwn g done × ((mount : ℕ) → AreOwn g (made mount)) × AreOwn g failed
+AreOwn g (Next a rest) = IsOwn g a × ((o : Outcome) → AreOwn g (rest o))
 
 pub next_own : (g : Trigger) (plan : Plan) (a : Act) → AreOwn g plan → next_of plan ≡ Some a → IsOwn g a
 next_own g Ended a h e = absurd cc
-next_own g (Next b done made failed) a h e = let same : b ≡ a = cc in subst (IsOwn g) same h.0
+next_own g (Next b rest) a h e = let same : b ≡ a = cc in subst (IsOwn g) same h.0
 
 rest_own : (g : Trigger) (plan : Plan) (outcome : Outcome) → AreOwn g plan → AreOwn g (rest_of outcome plan)
 rest_own g Ended outcome h = tt
-rest_own g (Next a done made failed) Done h = h.1
-rest_own g (Next a done made failed) (Made mount) h = h.2 mount
-rest_own g (Next a done made failed) Failed h = h.3
+rest_own g (Next a rest) outcome h = h.1 outcome
 
 reply_own : (g : Trigger) (status : Status) → AreOwn g (reply status)
-reply_own g status = (tt, tt, (λ mount. tt), tt)
+reply_own g status = (tt, λ o. tt)
 
 book_own : (g : Trigger) (entry : Option Record) (status : Status) → AreOwn g (book_and_reply g entry status)
-book_own g entry status = (tt, reply_own g status, (λ mount. reply_own g status), reply_own g status)
+book_own g entry status = (tt, λ o. reply_own g status)
 
 mkdir_own : (g : Trigger) (name : Option (List ℕ)) (rest : Plan) → g.name ≡ name → AreOwn g rest → AreOwn g (at_directory name (act.Mkdir g) rest)
 mkdir_own g None rest e h = h
-mkdir_own g (Some name) rest e h = ((refl, rw e refl), h, (λ mount. h), h)
+mkdir_own g (Some name) rest e h = ((refl, rw e refl), λ o. h)
 
 rmdir_own : (g : Trigger) (name : Option (List ℕ)) (rest : Plan) → g.name ≡ name → AreOwn g rest → AreOwn g (at_directory name (act.Rmdir g) rest)
 rmdir_own g None rest e h = h
-rmdir_own g (Some name) rest e h = ((refl, rw e refl), h, (λ mount. h), h)
+rmdir_own g (Some name) rest e h = ((refl, rw e refl), λ o. h)
+
+after_mount_own : (g : Trigger) (o : Outcome) → AreOwn g (rest_of_mount g o)
+after_mount_own g (Made mount) = book_own g (Some (Mounted mount)) Ready
+after_mount_own g o = rmdir_own g g.name (without_mount g) refl (book_own g None Fail)
+
+after_umount_own : (g : Trigger) (mount : ℕ) (o : Outcome) → AreOwn g (rest_of_umount g mount o)
+after_umount_own g mount Failed = book_own g (Some (Mounted mount)) Fail
+after_umount_own g mount o = rmdir_own g g.name (book_and_reply g None Ready) refl (book_own g None Ready)
 
 plan_own : (kind : TokenKind) (g : Trigger) (mounted : Option ℕ) (entry : Option EntryText) → AreOwn g (plan_for kind g mounted entry)
 plan_own Missing g (Some mount) entry = reply_own g Ready
-plan_own Missing g None (Some entry) =
-    let failed = rmdir_own g g.name (without_mount g) refl (book_own g None Fail) in
-    mkdir_own g g.name (mount_entry g entry) refl (refl, failed, (λ mount. book_own g (Some (Mounted mount)) Ready), failed)
+plan_own Missing g None (Some entry) = mkdir_own g g.name (mount_entry g entry) refl (refl, after_mount_own g)
 plan_own Missing g None None = book_own g None Fail
-plan_own Expire g (Some mount) entry =
-    let done = rmdir_own g g.name (book_and_reply g None Ready) refl (book_own g None Ready) in
-    (refl, done, (λ m. done), book_own g (Some (Mounted mount)) Fail)
+plan_own Expire g (Some mount) entry = (refl, after_umount_own g mount)
 plan_own Expire g None entry = reply_own g Fail
 
 -- ---- an unmount is the first act
 
 abbrev IsNoUmount : Act → Type 0
-IsNoUmount (act.Mkdir trigger) = ⊤
-IsNoUmount (act.Mount trigger entry) = ⊤
 IsNoUmount (act.Umount trigger) = ⊥
-IsNoUmount (act.Rmdir trigger) = ⊤
-IsNoUmount (act.Record trigger entry) = ⊤
-IsNoUmount (act.Reply status) = ⊤
+IsNoUmount a = ⊤
 
 -- nothing is unmounted
 abbrev MountsAll : Plan → Type 0
 MountsAll Ended = ⊤
-MountsAll (Next a done made failed) =
-    IsNoUmount a × MountsAll done × ((mount : ℕ) → MountsAll (made mount)) × MountsAll failed
+MountsAll (Next a rest) = IsNoUmount a × ((o : Outcome) → MountsAll (rest o))
 
 -- the plan is that of an unmount as a whole, or nothing is unmounted
 abbrev pub IsWholeUmount : Trigger → Plan → Type 0
 IsWholeUmount g plan = ((mount : ℕ) × (plan ≡ unmounting g mount)) ⊎ MountsAll plan
 
 reply_mounts : (status : Status) → MountsAll (reply status)
-reply_mounts status = (tt, tt, (λ mount. tt), tt)
+reply_mounts status = (tt, λ o. tt)
 
 book_mounts : (g : Trigger) (entry : Option Record) (status : Status) → MountsAll (book_and_reply g entry status)
-book_mounts g entry status = (tt, reply_mounts status, (λ mount. reply_mounts status), reply_mounts status)
+book_mounts g entry status = (tt, λ o. reply_mounts status)
 
 directory_mounts : (name : Option (List ℕ)) (a : Act) (rest : Plan) → IsNoUmount a → MountsAll rest → MountsAll (at_directory name a rest)
 directory_mounts None a rest plain h = h
-directory_mounts (Some name) a rest plain h = (plain, h, (λ mount. h), h)
+directory_mounts (Some name) a rest plain h = (plain, λ o. h)
+
+after_mount_mounts : (g : Trigger) (o : Outcome) → MountsAll (rest_of_mount g o)
+after_mount_mounts g (Made mount) = book_mounts g (Some (Mounted mount)) Ready
+after_mount_mounts g o = directory_mounts g.name (act.Rmdir g) (without_mount g) tt (book_mounts g None Fail)
+
+after_umount_mounts : (g : Trigger) (mount : ℕ) (o : Outcome) → MountsAll (rest_of_umount g mount o)
+after_umount_mounts g mount Failed = book_mounts g (Some (Mounted mount)) Fail
+after_umount_mounts g mount o = directory_mounts g.name (act.Rmdir g) (book_and_reply g None Ready) tt (book_mounts g None Ready)
 
 plan_umounts : (kind : TokenKind) (g : Trigger) (mounted : Option ℕ) (entry : Option EntryText) → IsWholeUmount g (plan_for kind g mounted entry)
 plan_umounts Missing g (Some mount) entry = inr (reply_mounts Ready)
-plan_umounts Missing g None (Some entry) =
-    let failed = directory_mounts g.name (act.Rmdir g) (without_mount g) tt (book_mounts g None Fail) in
-    inr (directory_mounts g.name (act.Mkdir g) (mount_entry g entry) tt (tt, failed, (λ mount. book_mounts g (Some (Mounted mount)) Ready), failed))
+plan_umounts Missing g None (Some entry) = inr (directory_mounts g.name (act.Mkdir g) (mount_entry g entry) tt (tt, after_mount_mounts g))
 plan_umounts Missing g None None = inr (book_mounts g None Fail)
 plan_umounts Expire g (Some mount) entry = inl (mount, refl)
 plan_umounts Expire g None entry = inr (reply_mounts Fail)
 
 rest_mounts : (plan : Plan) (outcome : Outcome) → MountsAll plan → MountsAll (rest_of outcome plan)
 rest_mounts Ended outcome h = tt
-rest_mounts (Next a done made failed) Done h = h.1
-rest_mounts (Next a done made failed) (Made mount) h = h.2 mount
-rest_mounts (Next a done made failed) Failed h = h.3
-
-after_mounts : (g : Trigger) (mount : ℕ) (outcome : Outcome) → MountsAll (rest_of outcome (unmounting g mount))
-after_mounts g mount Done = directory_mounts g.name (act.Rmdir g) (book_and_reply g None Ready) tt (book_mounts g None Ready)
-after_mounts g mount (Made m) = directory_mounts g.name (act.Rmdir g) (book_and_reply g None Ready) tt (book_mounts g None Ready)
-after_mounts g mount Failed = book_mounts g (Some (Mounted mount)) Fail
+rest_mounts (Next a rest) outcome h = h.1 outcome
 
 rest_umounts : (g : Trigger) (plan : Plan) (outcome : Outcome) → IsWholeUmount g plan → IsWholeUmount g (rest_of outcome plan)
-rest_umounts g plan outcome (inl whole) = inr (subst (λ (p : Plan). MountsAll (rest_of outcome p)) (sym whole.1) (after_mounts g whole.0 outcome))
+rest_umounts g plan outcome (inl whole) = inr (subst (λ (p : Plan). MountsAll (rest_of outcome p)) (sym whole.1) (after_umount_mounts g whole.0 outcome))
 rest_umounts g plan outcome (inr none) = inr (rest_mounts plan outcome none)
 
 no_umount : (plan : Plan) (g : Trigger) → MountsAll plan → next_of plan ≡ Some (act.Umount g) → ⊥
 no_umount Ended g h e = absurd cc
-no_umount (Next a done made failed) g h e =
+no_umount (Next a rest) g h e =
     let same : a ≡ act.Umount g = cc in
     subst IsNoUmount same h.0
 
@@ -146,45 +141,38 @@ umount_whole g on plan (inr none) e = absurd (no_umount plan on none e)
 
 pub more_acts : (most : ℕ) (plan : Plan) → HasActs most plan → HasActs (suc most) plan
 more_acts most Ended h = tt
-more_acts zero (Next a done made failed) h = absurd h
-more_acts (suc most) (Next a done made failed) h = (more_acts most done h.0, (λ mount. more_acts most (made mount) (h.1 mount)), more_acts most failed h.2)
-
--- one less after each act
-pub fewer_acts : (most : ℕ) (a : Act) (done : Plan) (made : ℕ → Plan) (failed : Plan) (outcome : Outcome) → HasActs (suc most) (Next a done made failed) → HasActs most (rest_of outcome (Next a done made failed))
-fewer_acts most a done made failed Done h = h.0
-fewer_acts most a done made failed (Made mount) h = h.1 mount
-fewer_acts most a done made failed Failed h = h.2
+more_acts zero (Next a rest) h = absurd h
+more_acts (suc most) (Next a rest) h = λ o. more_acts most (rest o) (h o)
 
 rest_acts : (most : ℕ) (plan : Plan) (outcome : Outcome) → HasActs (suc most) plan → HasActs (suc most) (rest_of outcome plan)
 rest_acts most Ended outcome h = tt
-rest_acts most (Next a done made failed) outcome h = more_acts most (rest_of outcome (Next a done made failed)) (fewer_acts most a done made failed outcome h)
-
-followed_acts : (most : ℕ) (a : Act) (rest : Plan) → HasActs most rest → HasActs (suc most) (followed_by a rest)
-followed_acts most a rest h = (h, (λ mount. h), h)
+rest_acts most (Next a rest) outcome h = more_acts most (rest outcome) (h outcome)
 
 directory_acts : (most : ℕ) (name : Option (List ℕ)) (a : Act) (rest : Plan) → HasActs most rest → HasActs (suc most) (at_directory name a rest)
 directory_acts most None a rest h = more_acts most rest h
-directory_acts most (Some name) a rest h = followed_acts most a rest h
+directory_acts most (Some name) a rest h = λ o. h
 
 reply_acts : (status : Status) → HasActs 1 (reply status)
-reply_acts status = (tt, (λ mount. tt), tt)
+reply_acts status = λ o. tt
 
 book_acts : (g : Trigger) (entry : Option Record) (status : Status) → HasActs 2 (book_and_reply g entry status)
-book_acts g entry status = followed_acts 1 (act.Record g entry) (reply status) (reply_acts status)
+book_acts g entry status = λ o. reply_acts status
+
+after_mount_acts : (g : Trigger) (o : Outcome) → HasActs 3 (rest_of_mount g o)
+after_mount_acts g (Made mount) = more_acts 2 (after_mount g mount) (book_acts g (Some (Mounted mount)) Ready)
+after_mount_acts g o = directory_acts 2 g.name (act.Rmdir g) (without_mount g) (book_acts g None Fail)
+
+after_umount_acts : (g : Trigger) (mount : ℕ) (o : Outcome) → HasActs 3 (rest_of_umount g mount o)
+after_umount_acts g mount Failed = more_acts 2 (after_failed_umount g mount) (book_acts g (Some (Mounted mount)) Fail)
+after_umount_acts g mount o = directory_acts 2 g.name (act.Rmdir g) (book_and_reply g None Ready) (book_acts g None Ready)
 
 pub plan_acts : (kind : TokenKind) (g : Trigger) (mounted : Option ℕ) (entry : Option EntryText) → HasActs 5 (plan_for kind g mounted entry)
 plan_acts Missing g (Some mount) entry = more_acts 4 (reply Ready) (more_acts 3 (reply Ready) (more_acts 2 (reply Ready) (more_acts 1 (reply Ready) (reply_acts Ready))))
-plan_acts Missing g None (Some entry) =
-    let failed : HasActs 3 (after_failed_mount g) = directory_acts 2 g.name (act.Rmdir g) (without_mount g) (book_acts g None Fail) in
-    let made : (mount : ℕ) → HasActs 3 (after_mount g mount) = λ mount. more_acts 2 (after_mount g mount) (book_acts g (Some (Mounted mount)) Ready) in
-    directory_acts 4 g.name (act.Mkdir g) (mount_entry g entry) (failed, made, failed)
+plan_acts Missing g None (Some entry) = directory_acts 4 g.name (act.Mkdir g) (mount_entry g entry) (after_mount_acts g)
 plan_acts Missing g None None =
     let plan = without_mount g in
     more_acts 4 plan (more_acts 3 plan (more_acts 2 plan (book_acts g None Fail)))
-plan_acts Expire g (Some mount) entry =
-    let done : HasActs 3 (after_umount g) = directory_acts 2 g.name (act.Rmdir g) (book_and_reply g None Ready) (book_acts g None Ready) in
-    let failed : HasActs 3 (after_failed_umount g mount) = more_acts 2 (after_failed_umount g mount) (book_acts g (Some (Mounted mount)) Fail) in
-    more_acts 4 (unmounting g mount) (done, (λ m. done), failed)
+plan_acts Expire g (Some mount) entry = more_acts 4 (unmounting g mount) (after_umount_acts g mount)
 plan_acts Expire g None entry = more_acts 4 (reply Fail) (more_acts 3 (reply Fail) (more_acts 2 (reply Fail) (more_acts 1 (reply Fail) (reply_acts Fail))))
 
 -- ---- the jobs

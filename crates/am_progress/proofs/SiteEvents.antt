@@ -36,8 +36,8 @@ use Rattle.am_job.specs.declared.act.Act.TheVariants as act
 use Rattle.am_job.specs.declared.act.Outcome as outcomes
 use Rattle.am_job.specs.declared.act.Outcome.TheVariants as came
 use Rattle.am_job.specs.Plans.{next_of}
-use Rattle.am_daemon.specs.declared.served.Served.{Served}
-use Rattle.am_daemon.specs.Points.{point_of}
+use Rattle.am_daemon.specs.declared.served.Point.{Point}
+use Rattle.am_daemon.specs.Points.{point_of, line_timeout}
 use Rattle.am_daemon.specs.Attachments.{holds}
 use Rattle.am_daemon.specs.Deliveries.{job_of}
 use Rattle.am_daemon.specs.State.{JobPlan}
@@ -125,11 +125,11 @@ attached_from : (at : Result Position Errno) (direct : Bool) (timeout : ℕ) (k 
 attached_from (Err e) direct timeout k given h = h
 attached_from (Ok at) direct timeout k given h = attached_keeps direct timeout k at given h
 
-attached_as : (point : Option Served) (s : State) (path : List (List ℕ)) → Keeps s (administration.attached_as point s path)
+attached_as : (point : Option Point) (s : State) (path : List (List ℕ)) → Keeps s (administration.attached_as point s path)
 attached_as None s path = refuses s _
 attached_as (Some point) s path =
     unless_refused (administration.attach_refusal s path) s _
-    (record { keeps = λ c h. record { kernel = attached_from (position_at s.kernel 0 path) point.direct point.timeout s.kernel c.agreed.given.attached h.kernel; plans = h.plans } })
+    (record { keeps = λ c h. record { kernel = attached_from (position_at s.kernel 0 path) point.direct (line_timeout s.daemon point.entry) s.kernel c.agreed.given.attached h.kernel; plans = h.plans } })
 
 mount : (s : State) (ns : ℕ) (path : List (List ℕ)) → Keeps s (administration.mount_outcome s ns path)
 mount s ns path =

@@ -37,7 +37,7 @@ use Rattle.am_progress.specs.Acts.{TellsOf, HasActs, most_acts, goes_on_as}
 use Rattle.am_progress.specs.Ways.{LeadsTo, CanReach}
 use Rattle.am_progress.specs.Tokens.{HasReleased, TokensCanClose, OpenTokensCanBeClosed}
 use Rattle.am_progress.proofs.Found.{queued_number, same_number}
-use Rattle.am_progress.proofs.Plans.{IsOfPlan, fewer_acts, packet_plan}
+use Rattle.am_progress.proofs.Plans.{IsOfPlan, packet_plan}
 use Rattle.am_progress.proofs.Packets.{taken}
 use Rattle.am_progress.proofs.Jobs.{Acting, its_plan, job_number}
 use Rattle.am_progress.proofs.Acts.{Does, waits_after, does, goes_left, next_is, acting}
@@ -148,12 +148,12 @@ module _ (old : State) (fs attach token : ℕ) where
     where
       none : (plan : Plan) → AcknowledgesLast plan → HasActs zero plan → ⊥
       none Ended last few = last
-      none (Next a done made failed) last few = few
+      none (Next a rest) last few = few
 
   pub fewer : (most : ℕ) (plan : Plan) (outcome : outcomes.Outcome) → HasActs (suc most) plan → HasActs most (rest_of outcome plan)
   fewer zero Ended outcome few = tt
   fewer (suc most) Ended outcome few = tt
-  fewer most (Next a done made failed) outcome few = fewer_acts most a done made failed outcome few
+  fewer most (Next a rest) outcome few = few outcome
 
   by_act : (most : ℕ) (s : State) (row : JobPlan) (h : Served s fs attach token row old.kernel.waits) (ok : Bool) (a : Act) → next_of row.plan ≡ Some a → HasActs (suc most) row.plan →
       ((new : State) (left : JobPlan) → Served new fs attach token left old.kernel.waits → HasActs most left.plan → LeadsTo most token (Answers old token) new) → LeadsTo most token (Answers old token) (next s (events.Act token ok))

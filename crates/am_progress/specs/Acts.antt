@@ -67,9 +67,8 @@ NextActsAreNeverRefused = AfterEachRun JobsCanGoOn
 -- whatever comes of the acts, there are so many at most
 abbrev pub HasActs : ℕ → Plan → Type 0
 HasActs most Ended = ⊤
-HasActs zero (Next a done made failed) = ⊥
-HasActs (suc most) (Next a done made failed) =
-    HasActs most done × ((mount : ℕ) → HasActs most (made mount)) × HasActs most failed
+HasActs zero (Next a rest) = ⊥
+HasActs (suc most) (Next a rest) = (o : outcomes.Outcome) → HasActs most (rest o)
 
 -- an indirect trigger's mount that fails has the most: the directory is made, the mount fails, the
 -- directory is removed, that there is no mount is written down, and the token is acknowledged

@@ -27,7 +27,7 @@ use Rattle.am_kernel.specs.Attachments.{catatonic_refusal, autofs_refusal}
 use Rattle.am_kernel.specs.Directories.{mkdir_refusal, rmdir_refusal}
 use Rattle.am_kernel.specs.DaemonMounts.{mount_on_refusal, umount_from_refusal}
 use Rattle.am_kernel.specs.Requests.{timeout_refusal, answer_refusal, queued_of}
-use Rattle.am_daemon.specs.declared.served.Served.{Served}
+use Rattle.am_daemon.specs.declared.served.Point.{Point}
 use Rattle.am_daemon.specs.Points.{point_of}
 use Rattle.am_daemon.specs.State.{JobPlan}
 use Rattle.am_daemon.specs.Attachments.{holds}
@@ -58,7 +58,7 @@ either : (b : Bool) (first second : Outcome) → Free first → Free second → 
 either true first second h g = h
 either false first second h g = g
 
-attached_free : (point : Option Served) (s : State) (path : List (List ℕ)) → Free (attached_as point s path)
+attached_free : (point : Option Point) (s : State) (path : List (List ℕ)) → Free (attached_as point s path)
 attached_free None s path = record { free = refl }
 attached_free (Some point) s path = unless_free (attach_refusal s path) s _ refl
 

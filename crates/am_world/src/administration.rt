@@ -21,13 +21,14 @@ impl Halves {
         if self.daemon.is_attached(path) {
             return Err(Errno::EEXIST);
         }
+        let timeout = self.daemon.timeout(point.entry);
         let place = path.copy(alloc)?;
         self.daemon.reserve_attach()?;
         let made = self.kernel.attach_autofs(
             alloc,
             &path.path(),
             point.direct,
-            point.timeout,
+            timeout,
             &mut self.trace,
         )?;
         self.daemon.attached_reserved(made.fs, made.attach, place);

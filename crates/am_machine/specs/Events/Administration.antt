@@ -13,8 +13,8 @@ use Rattle.am_expire.specs.Uses.{is_used}
 use Rattle.am_kernel.specs.Administration.{mount_refusal, with_plain, mounting, bind_refusal, with_bind, plain_umount_refusal, plain_gone, without_plain, plain_change_refusal, with_changed, kind_refusal, kind_at}
 use Rattle.am_kernel.specs.DaemonMounts.{autofs_refusal, with_attached, attaching}
 use Rattle.am_kernel.specs.Namespaces.{with_namespace, without_namespace}
-use Rattle.am_daemon.specs.declared.served.Served.{Served}
-use Rattle.am_daemon.specs.Points.{point_of}
+use Rattle.am_daemon.specs.declared.served.Point.{Point}
+use Rattle.am_daemon.specs.Points.{point_of, line_timeout}
 use Rattle.am_daemon.specs.Attachments.{is_attached, with_attachment}
 use Rattle.am_machine.specs.declared.answer.Answer.TheVariants as answers
 use Rattle.am_machine.specs.State.{State}
@@ -27,7 +27,7 @@ abbrev pub attach_refusal : State → List (List ℕ) → Option Errno
 attach_refusal s path =
     if is_attached s.daemon path then Some EEXIST else autofs_refusal s.kernel path
 
-abbrev pub attaches : State → List (List ℕ) → Served → Outcome
+abbrev pub attaches : State → List (List ℕ) → Point → Outcome
 attaches s path point =
     let fs = s.kernel.last_fs + 1 in
     let attach = s.kernel.last_attach + 1 in
@@ -35,13 +35,13 @@ attaches s path point =
       answer = answers.Attached fs attach (s.kernel.table.last_mount + 1);
       seen = attaching s.kernel path;
       state = record s {
-        kernel = with_attached path point.direct point.timeout s.kernel;
+        kernel = with_attached path point.direct (line_timeout s.daemon point.entry) s.kernel;
         daemon = with_attachment fs attach path s.daemon;
       };
     }
 
 -- a line of the master serves the path
-abbrev pub attached_as : Option Served → State → List (List ℕ) → Outcome
+abbrev pub attached_as : Option Point → State → List (List ℕ) → Outcome
 attached_as None s path = refused s ENOENT
 attached_as (Some point) s path = unless (attach_refusal s path) s (attaches s path point)
 

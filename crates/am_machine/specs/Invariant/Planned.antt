@@ -1,23 +1,23 @@
 -- What a job has left to do.
-use Rattle.std.specs.Prelude.{◌≡◌, ⊤, ℕ, Bool, true, false, List}
+use Rattle.std.specs.Prelude.{◌≡◌, ⊤, Bool, true, false, List}
 use Rattle.std.specs.List.{All}
 use Rattle.am_names.specs.declared.trigger.Trigger.{Trigger}
 use Rattle.am_job.specs.declared.act.Act.{Act}
 use Rattle.am_job.specs.declared.act.Act.TheVariants as act
+use Rattle.am_job.specs.declared.act.Outcome.{Outcome}
+use Rattle.am_job.specs.declared.act.Outcome.TheVariants.{Done}
 use Rattle.am_job.specs.Plans.{Plan, Ended, Next}
 use Rattle.am_job.specs.Laws.{IsEnded, AcknowledgesLast, ClaimsRight}
 use Rattle.am_daemon.specs.State.{JobPlan}
 use Rattle.am_daemon.specs.Packets.{is_pending}
 
--- the acts that are left write the book, whatever comes of those before
+-- The acts that are left write the book where those before are done. In the rest of a plan they do
+-- whatever comes of those (`IsRest`).
 abbrev pub has_record_left : Plan → Bool
 has_record_left Ended = false
-has_record_left (Next (act.Mkdir trigger) done made failed) = has_record_left done
-has_record_left (Next (act.Mount trigger entry) done made failed) = has_record_left failed
-has_record_left (Next (act.Umount trigger) done made failed) = has_record_left failed
-has_record_left (Next (act.Rmdir trigger) done made failed) = has_record_left done
-has_record_left (Next (act.Record trigger entry) done made failed) = true
-has_record_left (Next (act.Reply status) done made failed) = false
+has_record_left (Next (act.Record trigger entry) rest) = true
+has_record_left (Next (act.Reply status) rest) = false
+has_record_left (Next a rest) = has_record_left (rest Done)
 
 -- What may come after an act. What a job mounts, unmounts and writes is on its own trigger. The
 -- record is written once, as one that isn't pending; before that it is still to be written, and after
@@ -34,10 +34,7 @@ Precedes g (act.Reply status) rest = IsEnded rest
 -- the acts are the rest of a plan for this trigger: so it is after each act, whatever comes of it
 abbrev pub IsRest : Trigger → Plan → Type 0
 IsRest g Ended = ⊤
-IsRest g (Next a done made failed) =
-    (Precedes g a done × IsRest g done)
-    × ((mount : ℕ) → Precedes g a (made mount) × IsRest g (made mount))
-    × (Precedes g a failed × IsRest g failed)
+IsRest g (Next a rest) = (o : Outcome) → Precedes g a (rest o) × IsRest g (rest o)
 
 -- The notification is still to be acknowledged, once, last of all, so that no job in the list has
 -- ended; what is left claims what is mounted, and is the rest of a plan for the job's trigger.

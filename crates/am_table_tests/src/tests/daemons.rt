@@ -51,12 +51,14 @@ enum Call {
     Holds(u32, u32),
     /// It holds none, and knows the file system or doesn't.
     HoldsNone(u32, bool),
+    /// The path is served by the line at this place, which is of an indirect map with this timeout.
+    Serves(&'static [u8], usize, u32),
     /// The job's next act is done.
     Finishes(u32),
     Dies,
 }
 
-static MASTER: &[u8] = b"/auto auto.home\n/net auto.home\n";
+static MASTER: &[u8] = b"/auto auto.home\n/net auto.home --timeout=60\n";
 
 fn map(alloc: Global) -> Result<Map, Errno> {
     match Map::read(alloc, b"home srv:/home\n* srv:/any/&\n", MapKind::Indirect) {
@@ -164,6 +166,22 @@ fn holds_none(daemon: &Daemon, fs: u32, is_known: bool) -> bool {
     daemon.attach_held(FsId(fs)).is_none() && daemon.knows(FsId(fs)) == is_known
 }
 
+fn serves(
+    alloc: Global,
+    daemon: &Daemon,
+    path: &[u8],
+    entry: usize,
+    timeout: u32,
+) -> Result<bool, Errno> {
+    let place = AbsPath::read(path)?.to_place(alloc)?;
+    Ok(match daemon.point(&place) {
+        Some(point) => {
+            point.entry == entry && !point.direct && daemon.timeout(point.entry) == timeout
+        }
+        None => false,
+    })
+}
+
 fn makes(alloc: Global, daemon: &mut Daemon, call: Call) -> Result<bool, Errno> {
     match call {
         Call::Attaches(fs, attach, path) => attaches(alloc, daemon, fs, attach, path),
@@ -176,6 +194,7 @@ fn makes(alloc: Global, daemon: &mut Daemon, call: Call) -> Result<bool, Errno> 
         Call::Mounts(job, path) => mounts(alloc, daemon, job, path),
         Call::Holds(fs, attach) => Ok(holds(daemon, fs, attach)),
         Call::HoldsNone(fs, is_known) => Ok(holds_none(daemon, fs, is_known)),
+        Call::Serves(path, entry, timeout) => serves(alloc, daemon, path, entry, timeout),
         Call::Finishes(job) => {
             daemon.finish_act(JobId(job), Outcome::Done)?;
             Ok(true)
@@ -247,6 +266,22 @@ const TESTS_IN_ORDER: &[Step<Call>] = &[
     Step::Does(Call::Takes(2, Mail(MISSING, 3, b"new", 8), OLD_ATTACH)),
 ];
 
+/// A file system that is attached once more: the older attachment and the older path are let go.
+const ATTACHED_AGAIN: &[Step<Call>] = &[
+    Step::Does(Call::Serves(b"/auto", 0, 300)),
+    Step::Does(Call::Serves(b"/net", 1, 60)),
+    Step::Does(Call::Attaches(2, 1, b"/auto")),
+    Step::Does(Call::Takes(1, Mail(MISSING, 2, b"one", 5), NONE)),
+    Step::Does(Call::Attaches(2, 9, b"/net")),
+    Step::Does(Call::Holds(2, 9)),
+    Step::Does(Call::Takes(1, Mail(MISSING, 2, b"two", 6), OLD_ATTACH)),
+    Step::Does(Call::Takes(9, Mail(MISSING, 2, b"two", 6), NONE)),
+    Step::Refused(Call::Attaches(3, 2, b"/net"), Errno::EEXIST),
+    Step::Does(Call::Attaches(3, 2, b"/auto")),
+    Step::Does(Call::Holds(2, 9)),
+    Step::Does(Call::Holds(3, 2)),
+];
+
 /// The entry of a key, and that of the wildcard, which has the key in its path.
 const ENTRIES: &[Step<Call>] = &[
     Step::Does(Call::Attaches(2, 1, b"/auto")),
@@ -268,8 +303,12 @@ const NO_PACKETS: &[Step<Call>] = &[
     Step::Does(Call::FaultNumber(DaemonFault::NoMemory, 5)),
 ];
 
-static EXAMPLES: [(&str, &[&[Step<Call>]]); 3] = [
+static EXAMPLES: [(&str, &[&[Step<Call>]]); 4] = [
     ("each packet tests in order", &[TESTS_IN_ORDER]),
+    (
+        "a file system that is attached once more",
+        &[ATTACHED_AGAIN],
+    ),
     ("the entries of acts", &[ENTRIES]),
     ("bytes that are no packet", &[NO_PACKETS]),
 ];
