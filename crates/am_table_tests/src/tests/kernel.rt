@@ -384,18 +384,22 @@ const ANSWERS: &[Step<Call>] = &[
     Step::Refused(Call::Asks(Asked::Fail(3, 2), Told::Done), Errno::EINVAL),
 ];
 
-/// Home is last used at 100, and due at 160 by a timeout of 60 seconds; work is last used at 200.
-const REQUESTS: &[Step<Call>] = &[
+/// Home and work are mounted. Home is last used at 100, and due after 60 seconds.
+const USED: &[Step<Call>] = &[
     Step::Does(Call::Indirect(b"/auto", 2)),
     Step::Does(Call::Mkdir(1, Trap(2, b"home"))),
     Step::Does(Call::MountOn(1, Trap(2, b"home"), 3)),
     Step::Does(Call::Mkdir(1, Trap(2, b"work"))),
     Step::Does(Call::MountOn(1, Trap(2, b"work"), 4)),
-    Step::Does(Call::Walk(7, b"/auto/work", 200, Told::Arrives(4))),
-    Step::Does(Call::Leave(7)),
     Step::Does(Call::Walk(7, b"/auto/home", 100, Told::Arrives(3))),
     Step::Does(Call::Leave(7)),
     Step::Does(Call::Sees(Asked::SetTimeout(1, 2, 60), Told::Done, &[])),
+];
+
+/// Home is due at 160; work is last used at 130.
+const REQUESTS: &[Step<Call>] = &[
+    Step::Does(Call::Walk(7, b"/auto/work", 130, Told::Arrives(4))),
+    Step::Does(Call::Leave(7)),
     Step::Refused(
         Call::Asks(Asked::Expire(7, 2, 159, false), Told::Waits(1)),
         Errno::EAGAIN,
@@ -453,11 +457,29 @@ const REQUESTS: &[Step<Call>] = &[
     ),
 ];
 
-static EXAMPLES: [(&str, &[&[Step<Call>]]); 4] = [
+/// A walk at 50 counts as one at 100, so work is due at 160 too. A walk at 900 that is refused doesn't
+/// count.
+const MOMENTS: &[Step<Call>] = &[
+    Step::Does(Call::Walk(7, b"/auto/work", 50, Told::Arrives(4))),
+    Step::Refused(
+        Call::Walk(7, b"/auto/work", 900, Told::Arrives(4)),
+        Errno::EINVAL,
+    ),
+    Step::Does(Call::Leave(7)),
+    Step::Refused(
+        Call::Asks(Asked::Expire(7, 2, 159, false), Told::Waits(1)),
+        Errno::EAGAIN,
+    ),
+    Step::Does(Call::Asks(Asked::Expire(7, 2, 160, false), Told::Waits(1))),
+    Step::Does(Call::Asks(Asked::Expire(8, 2, 0, false), Told::Waits(2))),
+];
+
+static EXAMPLES: [(&str, &[&[Step<Call>]]); 5] = [
     ("directories", &[ATTACHED, DIRECTORIES]),
     ("mounts", &[ATTACHED, MOUNTS]),
     ("acknowledgements", &[ATTACHED, ANSWERS]),
-    ("each request as one call", &[REQUESTS]),
+    ("each request as one call", &[USED, REQUESTS]),
+    ("moments", &[USED, MOMENTS]),
 ];
 
 #[test]
