@@ -26,7 +26,7 @@ use Rattle.am_kernel.specs.State.{KernelState}
 use Rattle.am_kernel.specs.Sites.{scene_of}
 use Rattle.am_kernel.specs.Outcome.{Outcome, Goes, Fails, Meets, IsAsBefore}
 use Rattle.am_kernel.specs.Walks.{begun_with}
-use Rattle.am_kernel.specs.Resumes.{freed_from, failed, or_failed, most_begins, next_begin, again, expired_as, told_as, walk_in, resumed_as, resumed_walk, resumed_by, resumed_at, resume_outcome}
+use Rattle.am_kernel.specs.Resumes.{freed_from, failed, or_failed, most_begins, next_begin, again, expired_as, told_as, walk_in, resumed_as, resumed_walk, resumed_by, resumed_at, resume_at}
 use Rattle.am_kernel.specs.Inside.{freed_as, waited_for, waited_on, again_for, fallen, IsFree}
 
 abbrev or_first : {X : Type 0} → X → Option X → X
@@ -158,7 +158,7 @@ again_falls row wait begin waited pipe k between new moment errno r before met a
 -- ---- resuming
 
 pub resume_is : (pipe : PipeState) (k : KernelState) (walker moment : ℕ) (wait : WaitRow) (status : Status) → is_some (mount_of k.uses walker) ≡ false → wait_of k.waits.waits walker ≡ Some wait → wait.status ≡ Some status →
-    resume_outcome pipe k walker moment ≡ resumed_walk (walk_in k.walks walker) status pipe k wait moment
+    resume_at pipe k walker moment ≡ resumed_walk (walk_in k.walks walker) status pipe k wait moment
 resume_is pipe k walker moment wait status outside waits answered =
     ap (λ (b : Bool). cond b (Fails EINVAL) (resumed_at (wait_of k.waits.waits walker) pipe k moment)) outside ∙
     ap (λ (o : Option WaitRow). resumed_at o pipe k moment) waits ∙
@@ -176,7 +176,7 @@ again_by (Some row) kind status pipe k wait moment there (inr one) is =
 
 -- after a mount that came, and after an expiry
 pub resume_again : (pipe : PipeState) (k : KernelState) (walker moment : ℕ) (wait : WaitRow) (status : Status) → is_some (mount_of k.uses walker) ≡ false → wait_of k.waits.waits walker ≡ Some wait → wait.status ≡ Some status → is_some (walk_in k.walks walker) ≡ true → ((wait.kind ≡ Missing) × (status ≡ Ready)) ⊎ (wait.kind ≡ Expire) →
-    resume_outcome pipe k walker moment ≡ again_for (walk_in k.walks wait.walker) pipe k wait moment
+    resume_at pipe k walker moment ≡ again_for (walk_in k.walks wait.walker) pipe k wait moment
 resume_again pipe k walker moment wait status outside waits answered there which =
     resume_is pipe k walker moment wait status outside waits answered ∙
     again_by (walk_in k.walks walker) wait.kind status pipe k wait moment there which refl ∙
@@ -211,7 +211,7 @@ failed_by (Some row) status pipe k wait moment there missing fail =
     ap (λ (s : KernelState). failed ENOENT s) (freed_same wait.kind wait moment k)
 
 pub resume_failed : (pipe : PipeState) (k : KernelState) (walker moment : ℕ) (wait : WaitRow) (status : Status) → is_some (mount_of k.uses walker) ≡ false → wait_of k.waits.waits walker ≡ Some wait → wait.status ≡ Some status → is_some (walk_in k.walks walker) ≡ true → wait.kind ≡ Missing → status ≡ Fail →
-    resume_outcome pipe k walker moment ≡ failed ENOENT (freed_as OnMount walker moment k)
+    resume_at pipe k walker moment ≡ failed ENOENT (freed_as OnMount walker moment k)
 resume_failed pipe k walker moment wait status outside waits answered there missing fail =
     resume_is pipe k walker moment wait status outside waits answered ∙
     failed_by (walk_in k.walks walker) status pipe k wait moment there missing fail ∙

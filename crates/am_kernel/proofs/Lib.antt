@@ -1,6 +1,7 @@
 pub mod AgainLemmas
 pub mod ExpireLemmas
 pub mod FreeLemmas
+pub mod MomentLemmas
 pub mod MountLemmas
 pub mod NotifyLemmas
 pub mod WalkLemmas

@@ -14,7 +14,7 @@ use Rattle.am_kernel.specs.declared.row.Attached.{Attached}
 use Rattle.am_kernel.specs.declared.begun.Begun.TheVariants.{Waits, Failed}
 use Rattle.am_kernel.specs.State.{KernelState}
 use Rattle.am_kernel.specs.Sites.{attach_of, is_busy}
-use Rattle.am_kernel.specs.Outcome.{Outcome, Goes, Fails}
+use Rattle.am_kernel.specs.Outcome.{Outcome, Goes, Fails, moment_of, at_moment}
 use Rattle.am_kernel.specs.Walks.{packet_for, closing, closed}
 
 -- ---- what is to expire
@@ -90,8 +90,14 @@ expires_under (Some attach) pipe k walker next = expires_next next pipe k walker
 
 -- the file system is an autofs, the caller is idle, and a daemon is attached; and then what expires
 -- next does so
-abbrev pub expire_outcome : PipeState → KernelState → ℕ → ℕ → ℕ → Bool → Outcome
-expire_outcome pipe k walker fs moment immediate =
+abbrev pub expire_at : PipeState → KernelState → ℕ → ℕ → ℕ → Bool → Outcome
+expire_at pipe k walker fs moment immediate =
     if is_none (autofs_of k.triggers fs) then Fails EINVAL
     else if is_busy k walker then Fails EINVAL
     else expires_under (attach_of k fs) pipe k walker (next_of k fs moment immediate)
+
+-- by the moment of the event
+abbrev pub expire_outcome : PipeState → KernelState → ℕ → ℕ → ℕ → Bool → Outcome
+expire_outcome pipe k walker fs now immediate =
+    let moment = moment_of k now in
+    at_moment moment (expire_at pipe k walker fs moment immediate)

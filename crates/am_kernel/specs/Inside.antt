@@ -32,6 +32,7 @@ kernel_of k = record {
   queue = k.queue.items;
   last_fs = k.last_fs;
   last_attach = k.last_attach;
+  latest = k.latest;
 }
 
 -- the number of the next file system is no autofs' number

@@ -1,5 +1,5 @@
 -- What a call comes to.
-use Rattle.std.specs.Prelude.{◌≡◌, List, ◌++◌, Result, Ok, Err}
+use Rattle.std.specs.Prelude.{◌≡◌, ℕ, max, List, ◌++◌, Result, Ok, Err}
 use Rattle.am_names.specs.declared.errno.Errno.{Errno}
 use Rattle.am_names.specs.declared.errno.Errno.TheVariants.{NoMemory}
 use Rattle.am_state.specs.declared.obs.Obs.{Obs}
@@ -10,6 +10,18 @@ use Rattle.am_kernel.specs.declared.begun.Begun.{Begun}
 pub data Outcome : Type 0 where
   Goes : Begun → List Obs → KernelState → Outcome
   Fails : Errno → Outcome
+
+-- the moment of an event: its own, or the latest so far
+abbrev pub moment_of : KernelState → ℕ → ℕ
+moment_of k now = max k.latest now
+
+abbrev pub with_latest : ℕ → KernelState → KernelState
+with_latest moment k = record k { latest = moment }
+
+-- the moment is the latest then, also of a failure; that of a refusal doesn't count
+abbrev pub at_moment : ℕ → Outcome → Outcome
+at_moment moment (Goes answer shown made) = Goes answer shown (with_latest moment made)
+at_moment moment (Fails e) = Fails e
 
 -- nothing has changed, and nothing is seen
 pub record IsAsBefore (old new : KernelState) (before after : List Obs) : Type 0 where

@@ -15,7 +15,7 @@ use Rattle.am_kernel.specs.declared.row.WalkRow.{WalkRow}
 use Rattle.am_kernel.specs.declared.begun.Begin.{Begin}
 use Rattle.am_kernel.specs.declared.begun.Begun.TheVariants.{Failed, Expired}
 use Rattle.am_kernel.specs.State.{KernelState}
-use Rattle.am_kernel.specs.Outcome.{Outcome, Goes, Fails}
+use Rattle.am_kernel.specs.Outcome.{Outcome, Goes, Fails, moment_of, at_moment}
 use Rattle.am_expire.specs.Uses.{mount_of}
 use Rattle.am_walk.specs.Walks.{walk_of}
 use Rattle.am_kernel.specs.Sites.{scene_of}
@@ -102,7 +102,13 @@ resumed_at None pipe k moment = Fails EINVAL
 resumed_at (Some wait) pipe k moment = resumed_by wait.status pipe k wait moment
 
 -- the walker is inside no mount, and waits; its token was acknowledged
-abbrev pub resume_outcome : PipeState → KernelState → ℕ → ℕ → Outcome
-resume_outcome pipe k walker moment =
+abbrev pub resume_at : PipeState → KernelState → ℕ → ℕ → Outcome
+resume_at pipe k walker moment =
     if is_some (mount_of k.uses walker) then Fails EINVAL
     else resumed_at (wait_of k.waits.waits walker) pipe k moment
+
+-- by the moment of the event
+abbrev pub resume_outcome : PipeState → KernelState → ℕ → ℕ → Outcome
+resume_outcome pipe k walker now =
+    let moment = moment_of k now in
+    at_moment moment (resume_at pipe k walker moment)

@@ -28,6 +28,8 @@ pub record KernelState : Type 0 where
   -- the greatest number of a file system, and of an attachment, that was ever given
   pub last_fs : ℕ
   pub last_attach : ℕ
+  -- the latest moment of all walks, resumes and expiries that weren't refused
+  pub latest : ℕ
 
 -- namespace 0 with its root, of the plain file system 1; nothing is attached, and nobody walks
 abbrev pub initial : Limits → KernelState
@@ -41,6 +43,7 @@ initial limits = record {
   queue = [];
   last_fs = 1;
   last_attach = 0;
+  latest = 0;
 }
 
 -- the greatest number of a file system or an attachment: they have 32 bits

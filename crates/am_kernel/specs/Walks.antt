@@ -28,7 +28,7 @@ use Rattle.am_kernel.specs.declared.begun.Begin.{Begin}
 use Rattle.am_kernel.specs.declared.begun.Begun.TheVariants.{Arrived, Waits, Failed}
 use Rattle.am_kernel.specs.State.{KernelState}
 use Rattle.am_kernel.specs.Sites.{scene_of, attach_of, is_busy}
-use Rattle.am_kernel.specs.Outcome.{Outcome, Goes, Fails}
+use Rattle.am_kernel.specs.Outcome.{Outcome, Goes, Fails, moment_of, at_moment}
 
 -- ---- what is seen
 
@@ -175,5 +175,11 @@ first_begin walker ns path now =
     record { walker = walker; ns = ns; path = path; begins = 1; moment = now }
 
 -- the walker is idle; and then it walks
-abbrev pub walk_outcome : PipeState → KernelState → Begin → Outcome
-walk_outcome pipe k begin = if is_busy k begin.walker then Fails EINVAL else begun pipe k begin
+abbrev pub walk_at : PipeState → KernelState → Begin → Outcome
+walk_at pipe k begin = if is_busy k begin.walker then Fails EINVAL else begun pipe k begin
+
+-- by the moment of the event
+abbrev pub walk_outcome : PipeState → KernelState → ℕ → ℕ → List (List ℕ) → ℕ → Outcome
+walk_outcome pipe k walker ns path now =
+    let moment = moment_of k now in
+    at_moment moment (walk_at pipe k (first_begin walker ns path moment))

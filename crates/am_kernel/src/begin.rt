@@ -3,7 +3,6 @@
 ghost use Rattle.std.specs.Prelude.{◌≡◌, ◌≤◌, ◌<◌, ◌+◌, ◌∷◌, ◌++◌, [], None, false, true, is_some, length, map, IfOk, OnOk, OnErr, vec_len, vec_capacity};
 ghost use Rattle.am_state.specs.declared.obs.Obs.TheVariants as told;
 ghost use Rattle.am_trigger.specs.Rows.{with_catatonic};
-ghost use Rattle.am_names.specs.declared.trigger.Status.TheVariants.{Fail};
 ghost use Rattle.am_names.specs.declared.errno.Errno.TheVariants.{ENOENT};
 ghost use Rattle.am_wait.specs.Rows.{token_of, wait_of};
 ghost use Rattle.am_wait.specs.Calls.{collected, reopen_refusal};
@@ -124,15 +123,20 @@ pub fn tell_queued(seen: &mut Vec<Obs>, walker: WalkerId, passed: &[Trigger], qu
     });
 }
 
-/// Tells that these walkers are released by FAIL.
-fn tell_failures(shown: &mut Vec<Obs>, token: Token, walkers: &[WalkerId]) -> Result<(), AllocError>
-    ensures ok { OnOk result (shown.new.items ≡ shown.old.items ++ releases token Fail walkers.now) }
+/// Tells that these walkers are released with the status.
+pub fn tell_releases(
+    shown: &mut Vec<Obs>,
+    token: Token,
+    status: Status,
+    walkers: &[WalkerId],
+) -> Result<(), AllocError>
+    ensures ok { OnOk result (shown.new.items ≡ shown.old.items ++ releases token status walkers.now) }
 {
     for walker in walkers {
         shown.push(Obs::Released {
             walker: *walker,
             token,
-            status: Status::Fail,
+            status,
         })?;
     }
     Ok(())
@@ -255,7 +259,7 @@ impl Kernel {
         let tokens = self.waits.tokens_of(alloc, fs)?;
         for token in tokens.iter() {
             let walkers = self.waits.waiters_of(alloc, *token)?;
-            tell_failures(&mut shown, *token, walkers.as_slice())?;
+            tell_releases(&mut shown, *token, Status::Fail, walkers.as_slice())?;
         }
         Ok(shown)
     }

@@ -8,7 +8,7 @@ ghost use Rattle.am_wait.specs.Calls.{open_refusal};
 ghost use Rattle.am_kernel.specs.declared.begun.Begun.TheVariants.{Failed};
 ghost use Rattle.am_kernel.specs.Outcome.{Meets, Goes};
 ghost use Rattle.am_kernel.specs.Walks.{closing, closed};
-ghost use Rattle.am_kernel.specs.Expires.{attached_of, timeout_of, next_of, expires, expires_next, expire_outcome};
+ghost use Rattle.am_kernel.specs.Expires.{attached_of, timeout_of, next_of, expires, expires_next, expire_at, expire_outcome};
 
 use crate::begin::tell_queued;
 use crate::begun::Begun;
@@ -127,10 +127,8 @@ impl Kernel {
         }
     }
 
-    /// An idle walker asks for the expiry of the trigger of an autofs that was not used for the
-    /// longest time, at least for the timeout or else at once (AUTOFS_IOC_EXPIRE_MULTI). The moment
-    /// is the time in seconds. The walker waits until the daemon acknowledges it.
-    pub fn expire(
+    /// A walker asks for an expiry at this moment.
+    fn expire_at(
         &mut self,
         alloc: Global,
         walker: WalkerId,
@@ -140,7 +138,7 @@ impl Kernel {
         pipe: PipeState,
         seen: &mut Vec<Obs>,
     ) -> Result<Begun, Errno>
-        ensures { Meets (expire_outcome pipe self.old walker fs moment immediate) result self.old self.new seen.old.items seen.new.items }
+        ensures { Meets (expire_at pipe self.old walker fs moment immediate) result self.old self.new seen.old.items seen.new.items }
     {
         table!(refuse; expire(self, walker, fs));
         let Some(attach) = self.attach_of(fs) else {
@@ -152,5 +150,26 @@ impl Kernel {
         // The checker wants the type of its name said too.
         let _name: Option<Name> = trigger.name;
         self.notify_expiry(alloc, walker, trigger, attach, pipe, seen)
+    }
+
+    /// An idle walker asks for the expiry of the trigger of an autofs that was not used for the
+    /// longest time, at least for the timeout or else at once (AUTOFS_IOC_EXPIRE_MULTI). The time is
+    /// as for `walk`. The walker waits until the daemon acknowledges it.
+    pub fn expire(
+        &mut self,
+        alloc: Global,
+        walker: WalkerId,
+        fs: FsId,
+        now: Seconds,
+        immediate: bool,
+        pipe: PipeState,
+        seen: &mut Vec<Obs>,
+    ) -> Result<Begun, Errno>
+        ensures { Meets (expire_outcome pipe self.old walker fs now immediate) result self.old self.new seen.old.items seen.new.items }
+    {
+        let moment = self.moment(now);
+        let begun = self.expire_at(alloc, walker, fs, moment, immediate, pipe, seen)?;
+        self.latest = moment;
+        Ok(begun)
     }
 }

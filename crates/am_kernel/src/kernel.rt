@@ -1,15 +1,16 @@
 //! The kernel's half of an automounter.
 
-ghost use Rattle.std.specs.Prelude.{◌≡◌, None, Ok, IfOk};
+ghost use Rattle.std.specs.Prelude.{◌≡◌, max, None, Ok, IfOk};
 ghost use Rattle.am_names.specs.Errno.{RefusedAs};
 ghost use Rattle.am_walk.specs.Walks.{fault_of};
 ghost use Rattle.am_kernel.specs.State.{initial};
+ghost use Rattle.am_kernel.specs.Outcome.{moment_of};
 ghost use Rattle.am_kernel.specs.Sites.{is_live, latest_attach, attach_of, fs_of_attach, is_current, is_busy, position_at, is_on_autofs, is_root};
 
 use crate::row::{Attached, WalkRow};
 use am_expire::{OrderedTriggers, Uses};
 use am_names::{
-    AbsPath, Attach, Errno, FsId, Limits, MountId, NsId, Place, Position, WalkerId,
+    AbsPath, Attach, Errno, FsId, Limits, MountId, NsId, Place, Position, Seconds, WalkerId,
     split_first_name,
 };
 use am_propagate::Subtree;
@@ -33,6 +34,7 @@ pub struct Kernel {
     pub(crate) queue: Vec<QueuedRow>,
     pub(crate) last_fs: u32,
     pub(crate) last_attach: u32,
+    pub(crate) latest: Seconds,
 }
 
 impl Model for Kernel {
@@ -54,6 +56,13 @@ pub(crate) fn is_root(place: &Place) -> bool
     split_first_name(place.text()).is_none()
 }
 
+/// The later of two moments.
+fn later(one: Seconds, other: Seconds) -> Seconds
+    ensures { result ≡ max one other }
+{
+    if one < other { other } else { one }
+}
+
 impl Kernel {
     /// Namespace 0 with its root; nothing is attached, and nobody walks.
     pub fn new(alloc: Global, limits: Limits) -> Result<Kernel, Errno>
@@ -70,6 +79,7 @@ impl Kernel {
             queue: Vec::new(alloc),
             last_fs: 1,
             last_attach: 0,
+            latest: Seconds(0),
         })
     }
 
@@ -166,6 +176,13 @@ impl Kernel {
         ensures { result ≡ is_current self.now fs attach }
     {
         self.attached.iter().any(|row| row.fs == fs && row.attach == attach && self.is_live(row.fs))
+    }
+
+    /// The moment of an event: its own, or the latest so far.
+    pub(crate) fn moment(&self, now: Seconds) -> Seconds
+        ensures { result ≡ moment_of self.now now }
+    {
+        later(self.latest, now)
     }
 
     /// Whether the walker waits, or is inside a mount.

@@ -1,10 +1,15 @@
 //! Requests of a daemon, and of whoever asks for an expiry, as one call.
 
-ghost use Rattle.am_kernel.specs.Granted.{IsGranted};
+ghost use Rattle.am_names.specs.Errno.{RefusedAs};
+ghost use Rattle.am_kernel.specs.Requests.{answer_refusal, acknowledged, answering};
+ghost use Rattle.am_kernel.specs.Attachments.{catatonic_refusal};
+ghost use Rattle.am_kernel.specs.Walks.{closing, closed};
+ghost use Rattle.am_kernel.specs.declared.request.Granted.TheVariants.{Done};
+ghost use Rattle.am_kernel.specs.Granted.{Gives, IsGranted};
 
 use crate::begun::Begun;
 use crate::kernel::Kernel;
-use am_names::{Attach, Errno, Status};
+use am_names::{Attach, Errno, FsId, Status, Token};
 use am_state::Obs;
 use am_wire::Request;
 use std::alloc::Global;
@@ -20,9 +25,46 @@ pub enum Granted {
 }
 
 impl Kernel {
-    /// Makes the call that the request names (autofs.rst, "Communicating with autofs: root directory
-    /// ioctls"). What is seen of an expiry is added; what is seen of an answer, and of a file system
-    /// that becomes catatonic, its caller tells, as with the calls themselves.
+    /// A notification is acknowledged, and what is seen of it is added.
+    fn acknowledge(
+        &mut self,
+        alloc: Global,
+        attach: Attach,
+        token: Token,
+        status: Status,
+        seen: &mut Vec<Obs>,
+    ) -> Result<Granted, Errno>
+        ensures refusal { RefusedAs (answer_refusal self.old attach token) result }
+        ensures gives { Gives Done (answering token status self.old) (acknowledged token status self.old) result self.old self.new seen.old.items seen.new.items }
+    {
+        let mut shown = self.answering_seen(alloc, token, status)?;
+        seen.reserve(shown.len())?;
+        self.answer(attach, token, status)?;
+        // There is room for it.
+        seen.append(&mut shown)?;
+        Ok(Granted::Done)
+    }
+
+    /// An attachment ends, and what is seen of it is added.
+    fn end_attachment(
+        &mut self,
+        alloc: Global,
+        attach: Attach,
+        fs: FsId,
+        seen: &mut Vec<Obs>,
+    ) -> Result<Granted, Errno>
+        ensures refusal { RefusedAs (catatonic_refusal self.old attach fs) result }
+        ensures gives { Gives Done (closing fs self.old) (closed fs self.old) result self.old self.new seen.old.items seen.new.items }
+    {
+        let mut shown = self.closing(alloc, fs)?;
+        seen.reserve(shown.len())?;
+        self.catatonic(attach, fs)?;
+        seen.append(&mut shown)?;
+        Ok(Granted::Done)
+    }
+
+    /// Makes the call that the request names, and adds what is seen of it (autofs.rst, "Communicating
+    /// with autofs: root directory ioctls").
     pub fn request(
         &mut self,
         alloc: Global,
@@ -33,17 +75,12 @@ impl Kernel {
     {
         match request {
             Request::Ready { attach, token } => {
-                self.answer(attach, token, Status::Ready)?;
-                Ok(Granted::Done)
+                self.acknowledge(alloc, attach, token, Status::Ready, seen)
             }
             Request::Fail { attach, token } => {
-                self.answer(attach, token, Status::Fail)?;
-                Ok(Granted::Done)
+                self.acknowledge(alloc, attach, token, Status::Fail, seen)
             }
-            Request::Catatonic { attach, fs } => {
-                self.catatonic(attach, fs)?;
-                Ok(Granted::Done)
-            }
+            Request::Catatonic { attach, fs } => self.end_attachment(alloc, attach, fs, seen),
             Request::SetTimeout {
                 attach,
                 fs,

@@ -3,13 +3,15 @@
 ghost use Rattle.std.specs.Prelude.{◌≡◌, ◌++◌, Some, map, IfOk, OnOk, OnErr};
 ghost use Rattle.am_names.specs.Errno.{RefusedAs, RefusedOnlyAs};
 ghost use Rattle.am_expire.specs.Uses.{leave_refusal, mount_of};
-ghost use Rattle.am_kernel.specs.Requests.{token_fs, answer_refusal, acknowledged, timeout_refusal, timeout_row, with_timeout, queued_of, without_packet, leave_seen, without_use};
+ghost use Rattle.am_kernel.specs.Requests.{token_fs, answer_refusal, acknowledged, answering, timeout_refusal, timeout_row, with_timeout, queued_of, without_packet, leave_seen, without_use};
 
+use crate::begin::tell_releases;
 use crate::kernel::Kernel;
 use crate::row::Attached;
 use crate::table::{refuse, table};
 use am_names::{Attach, Errno, FsId, MountId, Name, Status, Token, WalkerId};
 use am_state::{Obs, QueuedRow};
+use std::alloc::{AllocError, Global};
 
 fn timeout_row(row: Attached, fs: FsId, timeout: u32) -> Attached
     ensures { result ≡ timeout_row fs timeout row }
@@ -36,6 +38,22 @@ impl Kernel {
         let trigger = self.waits.trigger_of(token)?;
         let _name: Option<Name> = trigger.name;
         Some(trigger.fs)
+    }
+
+    /// What will be seen of `answer` where it isn't refused: it takes no memory for that.
+    pub fn answering_seen(
+        &self,
+        alloc: Global,
+        token: Token,
+        status: Status,
+    ) -> Result<Vec<Obs>, AllocError>
+        ensures { IfOk result (λ v. v.items ≡ answering token status self.now) }
+    {
+        let walkers = self.waits.waiters_of(alloc, token)?;
+        let mut shown = Vec::new(alloc);
+        shown.push(Obs::Answered { token, status })?;
+        tell_releases(&mut shown, token, status, walkers.as_slice())?;
+        Ok(shown)
     }
 
     /// The daemon acknowledges a notification: its token closes, and its waiters are released.

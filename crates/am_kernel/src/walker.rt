@@ -3,8 +3,8 @@
 ghost use Rattle.std.specs.Prelude.{◌≡◌, ◌+◌, ◌<◌, [], IfOk, Some};
 ghost use Rattle.std.specs.Option.{option_copied};
 ghost use Rattle.am_kernel.specs.Outcome.{Meets, Goes};
-ghost use Rattle.am_kernel.specs.Walks.{first_begin, walk_outcome};
-ghost use Rattle.am_kernel.specs.Resumes.{failed, next_begin, told_as, walk_in, resume_outcome};
+ghost use Rattle.am_kernel.specs.Walks.{first_begin, walk_at, walk_outcome};
+ghost use Rattle.am_kernel.specs.Resumes.{failed, next_begin, told_as, walk_in, resume_at, resume_outcome};
 ghost use Rattle.am_kernel.specs.Inside.{freed_as, waited_on, fallen, again_for, IsFree};
 ghost use Rattle.am_expire.specs.Uses.{mount_of};
 
@@ -59,9 +59,8 @@ impl WalkRow {
 }
 
 impl Kernel {
-    /// An idle walker walks from the root of a namespace along a path. The moment is the time in
-    /// seconds; the pipe is that of any autofs whose daemon is to be notified.
-    pub fn walk(
+    /// An idle walker walks at this moment.
+    fn walk_at(
         &mut self,
         alloc: Global,
         walker: WalkerId,
@@ -71,7 +70,7 @@ impl Kernel {
         pipe: PipeState,
         seen: &mut Vec<Obs>,
     ) -> Result<Begun, Errno>
-        ensures { Meets (walk_outcome pipe self.old (first_begin walker ns path.now moment)) result self.old self.new seen.old.items seen.new.items }
+        ensures { Meets (walk_at pipe self.old (first_begin walker ns path.now moment)) result self.old self.new seen.old.items seen.new.items }
     {
         if self.is_busy(walker) {
             return Err(Errno::EINVAL);
@@ -84,6 +83,27 @@ impl Kernel {
             moment,
         };
         self.begin(alloc, &begin, &Waited::Idle, pipe, seen)
+    }
+
+    /// An idle walker walks from the root of a namespace along a path. The time is in seconds: the
+    /// moment is the latest so far, where that is greater. The pipe is that of any autofs whose daemon
+    /// is to be notified.
+    pub fn walk(
+        &mut self,
+        alloc: Global,
+        walker: WalkerId,
+        ns: NsId,
+        path: &AbsPath<'_>,
+        now: Seconds,
+        pipe: PipeState,
+        seen: &mut Vec<Obs>,
+    ) -> Result<Begun, Errno>
+        ensures { Meets (walk_outcome pipe self.old walker ns path.now now) result self.old self.new seen.old.items seen.new.items }
+    {
+        let moment = self.moment(now);
+        let begun = self.walk_at(alloc, walker, ns, path, moment, pipe, seen)?;
+        self.latest = moment;
+        Ok(begun)
     }
 
     pub(crate) fn walk_row(&self, walker: WalkerId) -> Option<&WalkRow>
@@ -198,9 +218,8 @@ impl Kernel {
         }
     }
 
-    /// A walker that was released goes on. After a mount that failed its walk fails; after one that
-    /// came, and after an expiry, it begins again. Who asked for an expiry is told how it went.
-    pub fn resume(
+    /// A walker that was released goes on at this moment.
+    fn resume_at(
         &mut self,
         alloc: Global,
         walker: WalkerId,
@@ -208,7 +227,7 @@ impl Kernel {
         pipe: PipeState,
         seen: &mut Vec<Obs>,
     ) -> Result<Begun, Errno>
-        ensures { Meets (resume_outcome pipe self.old walker moment) result self.old self.new seen.old.items seen.new.items }
+        ensures { Meets (resume_at pipe self.old walker moment) result self.old self.new seen.old.items seen.new.items }
     {
         if self.uses.mount_of(walker).is_some() {
             return Err(Errno::EINVAL);
@@ -229,5 +248,24 @@ impl Kernel {
             (TokenKind::Missing, Status::Ready) => self.again(alloc, &wait, moment, pipe, seen),
             (TokenKind::Expire, _) => self.again(alloc, &wait, moment, pipe, seen),
         }
+    }
+
+    /// A walker that was released goes on. After a mount that failed its walk fails; after one that
+    /// came, and after an expiry, it begins again. Who asked for an expiry is told how it went. The
+    /// time is as for `walk`.
+    pub fn resume(
+        &mut self,
+        alloc: Global,
+        walker: WalkerId,
+        now: Seconds,
+        pipe: PipeState,
+        seen: &mut Vec<Obs>,
+    ) -> Result<Begun, Errno>
+        ensures { Meets (resume_outcome pipe self.old walker now) result self.old self.new seen.old.items seen.new.items }
+    {
+        let moment = self.moment(now);
+        let begun = self.resume_at(alloc, walker, moment, pipe, seen)?;
+        self.latest = moment;
+        Ok(begun)
     }
 }

@@ -39,7 +39,7 @@ use Rattle.am_machine.specs.Invariant.Attachments.{AreGiven}
 use Rattle.am_machine.specs.Invariant.Books.{BookAgrees}
 use Rattle.am_machine.proofs.TraceRows.{some_is}
 use Rattle.am_machine.proofs.TraceEvents.{then_none}
-use Rattle.am_machine.proofs.BookNarrows.{Narrows, narrowed, same_attachments, from_narrows, timeout_narrows, closed_narrows, closed_if_live_narrows}
+use Rattle.am_machine.proofs.BookNarrows.{Narrows, narrowed, same_attachments, narrows_latest, from_narrows, timeout_narrows, closed_narrows, closed_if_live_narrows}
 use Rattle.am_machine.proofs.BookWalks.{Leaves}
 use Rattle.am_machine.proofs.BookAttach.{attached_kept, dead_kept, reattached_kept}
 
@@ -134,8 +134,8 @@ drop_namespace s ns =
 -- ---- walkers
 
 -- what the kernel makes of a walk
-pub goes_on : (o : kernel.Outcome) (s : State) (moment : ℕ) → Leaves s.kernel o → Keeps s (goes o s moment)
-goes_on (kernel.Goes begun shown made) s moment l = record { book = λ h. narrowed s.kernel made s.daemon l.well h }
+pub goes_on : (o : kernel.Outcome) (s : State) (moment : ℕ) → Leaves s.kernel o → Keeps s (goes (kernel.at_moment moment o) s)
+goes_on (kernel.Goes begun shown made) s moment l = record { book = λ h. narrowed s.kernel (kernel.with_latest moment made) s.daemon (narrows_latest s.kernel made moment l.well) h }
 goes_on (kernel.Fails e) s moment l = refuses s e
 
 pub leave : (s : State) (walker : ℕ) → Keeps s (leave_outcome s walker)

@@ -32,7 +32,7 @@ use Rattle.am_machine.specs.declared.event.Event.{Event}
 use Rattle.am_machine.specs.declared.event.Event.TheVariants as events
 use Rattle.am_machine.specs.declared.answer.Answer.{Answer}
 use Rattle.am_machine.specs.State.{Opening, State, opening_of}
-use Rattle.am_machine.specs.Outcome.{moment_of}
+use Rattle.am_kernel.specs.Outcome.{moment_of}
 use Rattle.am_machine.specs.Machine.{after, outcome_of}
 use Rattle.am_machine.specs.Events.Deliveries as deliveries
 use Rattle.am_machine.specs.Events.Acts as acts
@@ -172,10 +172,10 @@ outcome_keeps s (events.Change ns path change) given planned differ = from.chang
 outcome_keeps s (events.Kind ns path) given planned differ = from.kind s ns path
 outcome_keeps s (events.CopyNamespace ns form) given planned differ = from.copy_namespace s ns form
 outcome_keeps s (events.DropNamespace ns) given planned differ = from.drop_namespace s ns
-outcome_keeps s (events.Walk walker ns path now pipe) given planned differ = from.goes_on _ s (moment_of s now) (walks.walk pipe s.kernel (first_begin walker ns path (moment_of s now)))
-outcome_keeps s (events.Resume walker now pipe) given planned differ = from.goes_on _ s (moment_of s now) (walks.resume pipe s.kernel walker (moment_of s now))
+outcome_keeps s (events.Walk walker ns path now pipe) given planned differ = from.goes_on _ s (moment_of s.kernel now) (walks.walk pipe s.kernel (first_begin walker ns path (moment_of s.kernel now)))
+outcome_keeps s (events.Resume walker now pipe) given planned differ = from.goes_on _ s (moment_of s.kernel now) (walks.resume pipe s.kernel walker (moment_of s.kernel now))
 outcome_keeps s (events.Leave walker) given planned differ = from.leave s walker
-outcome_keeps s (events.Expire walker fs now immediate pipe) given planned differ = from.goes_on _ s (moment_of s now) (walks.expire pipe s.kernel walker fs (moment_of s now) immediate)
+outcome_keeps s (events.Expire walker fs now immediate pipe) given planned differ = from.goes_on _ s (moment_of s.kernel now) (walks.expire pipe s.kernel walker fs (moment_of s.kernel now) immediate)
 outcome_keeps s (events.Deliver token bytes) given planned differ = deliver s token bytes
 outcome_keeps s (events.Act job ok) given planned differ = act_job s job ok planned differ
 outcome_keeps s (events.Repeat attach token status) given planned differ = from.repeat s attach token

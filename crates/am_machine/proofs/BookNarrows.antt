@@ -11,6 +11,7 @@ use Rattle.am_trigger.specs.declared.autofs.Autofs.{Autofs}
 use Rattle.am_trigger.specs.Rows.{catatonic_row}
 use Rattle.am_kernel.specs.declared.row.Attached.{Attached}
 use Rattle.am_kernel.specs.State.{KernelState}
+use Rattle.am_kernel.specs.Outcome.{with_latest}
 use Rattle.am_kernel.specs.Sites.{is_live, is_live_row, latest_attach, attach_of, from_position}
 use Rattle.am_kernel.specs.Requests.{timeout_row, with_timeout}
 use Rattle.am_kernel.specs.Attachments.{closed_if_live, attached_row, with_pipe}
@@ -47,6 +48,10 @@ stays k = record { current = λ fs attach e. e; given = omega arith }
 
 pub one_after_another : (k mid made : KernelState) → Narrows k mid → Narrows mid made → Narrows k made
 one_after_another k mid made n m = record { current = λ fs attach e. n.current fs attach (m.current fs attach e); given = omega (arith, n.given, m.given) }
+
+-- the latest moment is no attachment
+pub narrows_latest : (k made : KernelState) (moment : ℕ) → Narrows k made → Narrows k (with_latest moment made)
+narrows_latest k made moment n = record { current = n.current; given = n.given }
 
 pub from_narrows : (at : Result Position Errno) (k : KernelState) (change : Position → KernelState) → ((at : Position) → Narrows k (change at)) → Narrows k (from_position at k change)
 from_narrows (Err e) k change h = stays k

@@ -67,7 +67,7 @@ begun_by (stops.Refuse e) pipe k begin passed = fails k e
 begun_with : (walked : Walked) (pipe : PipeState) (k : KernelState) (begin : Begin) → Leaves k (walks.begun_with walked pipe k begin)
 begun_with walked pipe k begin = begun_by walked.stop pipe k begin walked.passed
 
-pub walk : (pipe : PipeState) (k : KernelState) (begin : Begin) → Leaves k (walks.walk_outcome pipe k begin)
+pub walk : (pipe : PipeState) (k : KernelState) (begin : Begin) → Leaves k (walks.walk_at pipe k begin)
 walk pipe k begin =
     either_leaves k (is_busy k begin.walker) _ _ (fails k _) (begun_with (walk_of (scene_of k) begin.ns begin.path) pipe k begin)
 
@@ -88,7 +88,7 @@ expires_under : (attach : Option ℕ) (pipe : PipeState) (k : KernelState) (walk
 expires_under None pipe k walker next = fails k _
 expires_under (Some attach) pipe k walker next = expires_next next pipe k walker attach
 
-pub expire : (pipe : PipeState) (k : KernelState) (walker fs moment : ℕ) (immediate : Bool) → Leaves k (expires.expire_outcome pipe k walker fs moment immediate)
+pub expire : (pipe : PipeState) (k : KernelState) (walker fs moment : ℕ) (immediate : Bool) → Leaves k (expires.expire_at pipe k walker fs moment immediate)
 expire pipe k walker fs moment immediate =
     either_leaves k (is_none (autofs_of k.triggers fs)) _ _ (fails k _)
     (either_leaves k (is_busy k walker) _ _ (fails k _) (expires_under (attach_of k fs) pipe k walker (expires.next_of k fs moment immediate)))
@@ -146,6 +146,6 @@ resumed_at : (wait : Option WaitRow) (pipe : PipeState) (k : KernelState) (momen
 resumed_at None pipe k moment = fails k _
 resumed_at (Some wait) pipe k moment = resumed_by wait.status pipe k wait moment
 
-pub resume : (pipe : PipeState) (k : KernelState) (walker moment : ℕ) → Leaves k (resumes.resume_outcome pipe k walker moment)
+pub resume : (pipe : PipeState) (k : KernelState) (walker moment : ℕ) → Leaves k (resumes.resume_at pipe k walker moment)
 resume pipe k walker moment =
     either_leaves k (is_some (mount_of k.uses walker)) _ _ (fails k _) (resumed_at (wait_of k.waits.waits walker) pipe k moment)

@@ -72,7 +72,7 @@ begun_by (stops.Refuse e) pipe k begin passed names own all h = fails e
 begun_with : (walked : Walked) (pipe : PipeState) (k : KernelState) (begin : Begin) → AreNames begin.path → MeetsNamed walked → WalksFit k → LeavesNamed (walks.begun_with walked pipe k begin)
 begun_with walked pipe k begin names meets h = begun_by walked.stop pipe k begin walked.passed names meets.stops meets.passes h
 
-pub walk : (pipe : PipeState) (k : KernelState) (begin : Begin) → AreNames begin.path → WalksFit k → LeavesNamed (walks.walk_outcome pipe k begin)
+pub walk : (pipe : PipeState) (k : KernelState) (begin : Begin) → AreNames begin.path → WalksFit k → LeavesNamed (walks.walk_at pipe k begin)
 walk pipe k begin names h =
     either_leaves (is_busy k begin.walker) _ _ (fails _) (begun_with (walk_of (scene_of k) begin.ns begin.path) pipe k begin names (walk_named (scene_of k) begin.ns begin.path names) h)
 
@@ -104,7 +104,7 @@ expires_under : (attach : Option ℕ) (pipe : PipeState) (k : KernelState) (walk
 expires_under None pipe k walker next own h = fails _
 expires_under (Some attach) pipe k walker next own h = expires_next next pipe k walker attach own h
 
-pub expire : (pipe : PipeState) (k : KernelState) (walker fs moment : ℕ) (immediate : Bool) → WalksFit k → LeavesNamed (expires.expire_outcome pipe k walker fs moment immediate)
+pub expire : (pipe : PipeState) (k : KernelState) (walker fs moment : ℕ) (immediate : Bool) → WalksFit k → LeavesNamed (expires.expire_at pipe k walker fs moment immediate)
 expire pipe k walker fs moment immediate h =
     either_leaves (is_none (autofs_of k.triggers fs)) _ _ (fails _)
     (either_leaves (is_busy k walker) _ _ (fails _)
@@ -153,7 +153,7 @@ resumed_at : (wait : Option WaitRow) (pipe : PipeState) (k : KernelState) (momen
 resumed_at None pipe k moment own h = fails _
 resumed_at (Some wait) pipe k moment own h = resumed_by wait.status pipe k wait moment (own wait refl) h
 
-pub resume : (pipe : PipeState) (k : KernelState) (walker moment : ℕ) → WalksFit k → LeavesNamed (resumes.resume_outcome pipe k walker moment)
+pub resume : (pipe : PipeState) (k : KernelState) (walker moment : ℕ) → WalksFit k → LeavesNamed (resumes.resume_at pipe k walker moment)
 resume pipe k walker moment h =
     either_leaves (is_some (mount_of k.uses walker)) _ _ (fails _)
     (resumed_at (wait_of k.waits.waits walker) pipe k moment

@@ -18,6 +18,7 @@ use Rattle.am_wait.specs.Rows.{token_of}
 use Rattle.am_expire.specs.Uses.{is_used, leave_refusal}
 use Rattle.am_kernel.specs.State.{KernelState}
 use Rattle.am_kernel.specs.Outcome as kernel
+use Rattle.am_kernel.specs.Outcome.{moment_of}
 use Rattle.am_kernel.specs.Sites.{is_live, is_current, position_at, from_position, fs_of_attach}
 use Rattle.am_kernel.specs.Administration.{mount_refusal, with_plain, bind_refusal, with_bind, bound_at, plain_umount_refusal, without_plain, plain_change_refusal, with_changed, changed_at, kind_refusal, kind_at}
 use Rattle.am_kernel.specs.Directories.{mkdir_refusal, with_directory, rmdir_refusal, without_directory}
@@ -41,7 +42,7 @@ use Rattle.am_machine.specs.declared.event.Event.{Event}
 use Rattle.am_machine.specs.declared.event.Event.TheVariants as events
 use Rattle.am_machine.specs.declared.answer.Answer.{Answer}
 use Rattle.am_machine.specs.State.{State}
-use Rattle.am_machine.specs.Outcome.{Outcome, refused, unless, moment_of}
+use Rattle.am_machine.specs.Outcome.{Outcome, refused, unless}
 use Rattle.am_machine.specs.Machine.{outcome_of}
 use Rattle.am_machine.specs.Events.Administration as administration
 use Rattle.am_machine.specs.Events.Walkers.{leave_outcome, goes}
@@ -150,8 +151,8 @@ admin_catatonic s fs =
 
 -- ---- walkers
 
-goes_on : (o : kernel.Outcome) (s : State) (moment : ℕ) → (WalksFit s.kernel → LeavesNamed o) → Keeps s (goes o s moment)
-goes_on (kernel.Goes begun shown made) s moment h = record { names = λ named. (h named).well }
+goes_on : (o : kernel.Outcome) (s : State) (moment : ℕ) → (WalksFit s.kernel → LeavesNamed o) → Keeps s (goes (kernel.at_moment moment o) s)
+goes_on (kernel.Goes begun shown made) s moment h = record { names = λ named. same_rows made (kernel.with_latest moment made) refl refl refl (h named).well }
 goes_on (kernel.Fails e) s moment h = refuses s e
 
 leave : (s : State) (walker : ℕ) → Keeps s (leave_outcome s walker)
@@ -261,10 +262,10 @@ outcome_keeps s (events.Change ns path change) along = change_mount s ns path ch
 outcome_keeps s (events.Kind ns path) along = kind s ns path
 outcome_keeps s (events.CopyNamespace ns form) along = copy_namespace s ns form
 outcome_keeps s (events.DropNamespace ns) along = drop_namespace s ns
-outcome_keeps s (events.Walk walker ns path now pipe) along = goes_on _ s (moment_of s now) (λ h. begins.walk pipe s.kernel (first_begin walker ns path (moment_of s now)) along h)
-outcome_keeps s (events.Resume walker now pipe) along = goes_on _ s (moment_of s now) (λ h. begins.resume pipe s.kernel walker (moment_of s now) h)
+outcome_keeps s (events.Walk walker ns path now pipe) along = goes_on _ s (moment_of s.kernel now) (λ h. begins.walk pipe s.kernel (first_begin walker ns path (moment_of s.kernel now)) along h)
+outcome_keeps s (events.Resume walker now pipe) along = goes_on _ s (moment_of s.kernel now) (λ h. begins.resume pipe s.kernel walker (moment_of s.kernel now) h)
 outcome_keeps s (events.Leave walker) along = leave s walker
-outcome_keeps s (events.Expire walker fs now immediate pipe) along = goes_on _ s (moment_of s now) (λ h. begins.expire pipe s.kernel walker fs (moment_of s now) immediate h)
+outcome_keeps s (events.Expire walker fs now immediate pipe) along = goes_on _ s (moment_of s.kernel now) (λ h. begins.expire pipe s.kernel walker fs (moment_of s.kernel now) immediate h)
 outcome_keeps s (events.Deliver token bytes) along = deliver s token bytes
 outcome_keeps s (events.Act job ok) along = acted_at (job_of s.daemon.jobs job) s ok
 outcome_keeps s (events.Repeat attach token status) along = repeat s attach token

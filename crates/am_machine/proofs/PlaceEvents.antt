@@ -35,7 +35,7 @@ use Rattle.am_machine.specs.Outcome.{Outcome, refused, unless, with_kernel, told
 use Rattle.am_machine.specs.Events.Administration as administration
 use Rattle.am_machine.specs.Events.Walkers.{goes}
 use Rattle.am_machine.specs.Invariant.Places.{PlacesAgree}
-use Rattle.am_machine.proofs.SiteKeeps.{Keeps}
+use Rattle.am_machine.proofs.SiteKeeps.{Keeps, keeps_latest}
 use Rattle.am_machine.proofs.PlaceKeeps.{kept_places}
 use Rattle.am_machine.proofs.Quiet.{Quiet}
 use Rattle.am_machine.proofs.PlaceGrown.{mounted_places}
@@ -82,8 +82,8 @@ pub quietly : (s : State) (answer : Answer) (shown : List Obs) (k : KernelState)
 quietly s answer shown k keeps = record { holds = placed_kept s.kernel k keeps }
 
 -- what the kernel makes of a walk
-pub walks : (o : kernel.Outcome) (s : State) (moment : ℕ) → Quiet s.kernel o → Holds s (goes o s moment)
-walks (kernel.Goes begun shown made) s moment q = record { holds = placed_kept s.kernel made q.quiet }
+pub walks : (o : kernel.Outcome) (s : State) (moment : ℕ) → Quiet s.kernel o → Holds s (goes (kernel.at_moment moment o) s)
+walks (kernel.Goes begun shown made) s moment q = record { holds = placed_kept s.kernel (kernel.with_latest moment made) (keeps_latest s.kernel made moment q.quiet) }
 walks (kernel.Fails e) s moment q = refuses s e
 
 -- ---- tests that passed

@@ -14,7 +14,7 @@ use Rattle.am_kernel.specs.Walks.{first_begin}
 use Rattle.am_machine.specs.declared.event.Event.{Event}
 use Rattle.am_machine.specs.declared.event.Event.TheVariants as events
 use Rattle.am_machine.specs.State.{Opening, State, opening_of}
-use Rattle.am_machine.specs.Outcome.{moment_of}
+use Rattle.am_kernel.specs.Outcome.{moment_of}
 use Rattle.am_machine.specs.Machine.{after, outcome_of}
 use Rattle.am_machine.specs.Invariant.Places.{PlacesAgree}
 use Rattle.am_machine.proofs.Quiet as quiet
@@ -33,10 +33,10 @@ outcome_holds s (events.Change ns path change) = from.change_mount s ns path cha
 outcome_holds s (events.Kind ns path) = from.kind s ns path
 outcome_holds s (events.CopyNamespace ns form) = from.copy_namespace s ns form
 outcome_holds s (events.DropNamespace ns) = from.drop_namespace s ns
-outcome_holds s (events.Walk walker ns path now pipe) = walks _ s (moment_of s now) (quiet.walk pipe s.kernel (first_begin walker ns path (moment_of s now)))
-outcome_holds s (events.Resume walker now pipe) = walks _ s (moment_of s now) (quiet.resume pipe s.kernel walker (moment_of s now))
+outcome_holds s (events.Walk walker ns path now pipe) = walks _ s (moment_of s.kernel now) (quiet.walk pipe s.kernel (first_begin walker ns path (moment_of s.kernel now)))
+outcome_holds s (events.Resume walker now pipe) = walks _ s (moment_of s.kernel now) (quiet.resume pipe s.kernel walker (moment_of s.kernel now))
 outcome_holds s (events.Leave walker) = acts.leave s walker
-outcome_holds s (events.Expire walker fs now immediate pipe) = walks _ s (moment_of s now) (quiet.expire pipe s.kernel walker fs (moment_of s now) immediate)
+outcome_holds s (events.Expire walker fs now immediate pipe) = walks _ s (moment_of s.kernel now) (quiet.expire pipe s.kernel walker fs (moment_of s.kernel now) immediate)
 outcome_holds s (events.Deliver token bytes) = acts.deliver s token bytes
 outcome_holds s (events.Act job ok) = acts.act_job s job ok
 outcome_holds s (events.Repeat attach token status) = acts.repeat s attach token

@@ -67,7 +67,7 @@ begun_by (stops.Block token) pipe k begin passed =
 begun_by (stops.Missing trigger) pipe k begin passed = notifies (attach_of k trigger.fs) pipe k begin trigger passed
 begun_by (stops.Refuse e) pipe k begin passed = fails k e
 
-pub walk : (pipe : PipeState) (k : KernelState) (begin : Begin) → Quiet k (walks.walk_outcome pipe k begin)
+pub walk : (pipe : PipeState) (k : KernelState) (begin : Begin) → Quiet k (walks.walk_at pipe k begin)
 walk pipe k begin =
     let walked = walk_of (scene_of k) begin.ns begin.path in
     either k (is_busy k begin.walker) _ _ (fails k _) (begun_by walked.stop pipe k begin walked.passed)
@@ -122,7 +122,7 @@ resumed_at : (wait : Option WaitRow) (pipe : PipeState) (k : KernelState) (momen
 resumed_at None pipe k moment = fails k _
 resumed_at (Some wait) pipe k moment = resumed_by wait.status pipe k wait moment
 
-pub resume : (pipe : PipeState) (k : KernelState) (walker moment : ℕ) → Quiet k (resumes.resume_outcome pipe k walker moment)
+pub resume : (pipe : PipeState) (k : KernelState) (walker moment : ℕ) → Quiet k (resumes.resume_at pipe k walker moment)
 resume pipe k walker moment =
     either k (is_some (mount_of k.uses walker)) _ _ (fails k _) (resumed_at (wait_of k.waits.waits walker) pipe k moment)
 
@@ -143,7 +143,7 @@ expires_under : (attach : Option ℕ) (pipe : PipeState) (k : KernelState) (walk
 expires_under None pipe k walker next = fails k _
 expires_under (Some attach) pipe k walker next = expires_next next pipe k walker attach
 
-pub expire : (pipe : PipeState) (k : KernelState) (walker fs moment : ℕ) (immediate : Bool) → Quiet k (expires.expire_outcome pipe k walker fs moment immediate)
+pub expire : (pipe : PipeState) (k : KernelState) (walker fs moment : ℕ) (immediate : Bool) → Quiet k (expires.expire_at pipe k walker fs moment immediate)
 expire pipe k walker fs moment immediate =
     either k (is_none (autofs_of k.triggers fs)) _ _ (fails k _)
     (either k (is_busy k walker) _ _ (fails k _) (expires_under (attach_of k fs) pipe k walker (expires.next_of k fs moment immediate)))

@@ -10,7 +10,7 @@ use Rattle.am_machine.specs.declared.event.Event.{Event}
 use Rattle.am_machine.specs.declared.event.Event.TheVariants as events
 use Rattle.am_machine.specs.declared.answer.Answer.{Answer}
 use Rattle.am_machine.specs.State.{Opening, State, opening_of}
-use Rattle.am_machine.specs.Outcome.{moment_of}
+use Rattle.am_kernel.specs.Outcome.{moment_of}
 use Rattle.am_machine.specs.Machine.{Step, Run, after, outcome_of}
 use Rattle.am_machine.specs.Invariant.Traces.{rows_in, FitsTrace, PacketFits}
 use Rattle.am_machine.specs.Invariant.Consistent.{IsTraced, HalvesAgree, IsConsistent}
@@ -39,10 +39,10 @@ outcome_follows s (events.Change ns path change) = from.change_mount s ns path c
 outcome_follows s (events.Kind ns path) = from.kind s ns path
 outcome_follows s (events.CopyNamespace ns form) = from.copy_namespace s ns form
 outcome_follows s (events.DropNamespace ns) = from.drop_namespace s ns
-outcome_follows s (events.Walk walker ns path now pipe) = goes_on _ s (moment_of s now) (begins.walk pipe s.kernel (first_begin walker ns path (moment_of s now)))
-outcome_follows s (events.Resume walker now pipe) = goes_on _ s (moment_of s now) (resumes.resume pipe s.kernel walker (moment_of s now))
+outcome_follows s (events.Walk walker ns path now pipe) = goes_on _ s (moment_of s.kernel now) (begins.walk pipe s.kernel (first_begin walker ns path (moment_of s.kernel now)))
+outcome_follows s (events.Resume walker now pipe) = goes_on _ s (moment_of s.kernel now) (resumes.resume pipe s.kernel walker (moment_of s.kernel now))
 outcome_follows s (events.Leave walker) = from.leave s walker
-outcome_follows s (events.Expire walker fs now immediate pipe) = goes_on _ s (moment_of s now) (begins.expire pipe s.kernel walker fs (moment_of s now) immediate)
+outcome_follows s (events.Expire walker fs now immediate pipe) = goes_on _ s (moment_of s.kernel now) (begins.expire pipe s.kernel walker fs (moment_of s.kernel now) immediate)
 outcome_follows s (events.Deliver token bytes) = acts.deliver s token bytes
 outcome_follows s (events.Act job ok) = acts.act_job s job ok
 outcome_follows s (events.Repeat attach token status) = from.repeat s attach token

@@ -5,6 +5,7 @@ use Rattle.std.specs.Option.{option_map}
 use Rattle.am_trigger.specs.declared.autofs.Autofs.{Autofs}
 use Rattle.am_trigger.specs.Rows.{TriggerRows, autofs_of, catatonic_row, with_catatonic}
 use Rattle.am_kernel.specs.State.{KernelState}
+use Rattle.am_kernel.specs.Outcome.{with_latest}
 use Rattle.am_kernel.specs.DaemonMounts.{location_in}
 use Rattle.am_machine.proofs.BookFound.{read_unchanged}
 
@@ -21,6 +22,10 @@ keeps_all k = record { table = refl; last_fs = refl; sites = λ fs. refl }
 
 pub keeps_then : (k mid made : KernelState) → Keeps k mid → Keeps mid made → Keeps k made
 keeps_then k mid made h g = record { table = g.table ∙ h.table; last_fs = g.last_fs ∙ h.last_fs; sites = λ fs. g.sites fs ∙ h.sites fs }
+
+-- the latest moment is none of it
+pub keeps_latest : (k made : KernelState) (moment : ℕ) → Keeps k made → Keeps k (with_latest moment made)
+keeps_latest k made moment h = record { table = h.table; last_fs = h.last_fs; sites = h.sites }
 
 -- ---- an autofs is catatonic, or is so no longer
 

@@ -4,7 +4,7 @@ use Rattle.am_kernel.specs.Walks.{first_begin}
 use Rattle.am_machine.specs.declared.event.Event.{Event}
 use Rattle.am_machine.specs.declared.event.Event.TheVariants as events
 use Rattle.am_machine.specs.State.{Opening, State, opening_of}
-use Rattle.am_machine.specs.Outcome.{moment_of}
+use Rattle.am_kernel.specs.Outcome.{moment_of}
 use Rattle.am_machine.specs.Machine.{after, outcome_of}
 use Rattle.am_machine.specs.Invariant.Attachments.{AreGiven}
 use Rattle.am_machine.specs.Invariant.Tokens.{TokensAgree}
@@ -32,13 +32,13 @@ outcome_keeps s (events.Kind ns path) given tokens planned places book on = from
 outcome_keeps s (events.CopyNamespace ns form) given tokens planned places book on = from.copy_namespace s ns form places
 outcome_keeps s (events.DropNamespace ns) given tokens planned places book on = from.drop_namespace s ns places
 outcome_keeps s (events.Walk walker ns path now pipe) given tokens planned places book on =
-    let begin = first_begin walker ns path (moment_of s now) in
-    asked.walks _ s (moment_of s now) (walks.walk pipe s.kernel begin) (quiet.walk pipe s.kernel begin)
+    let begin = first_begin walker ns path (moment_of s.kernel now) in
+    asked.walks _ s (moment_of s.kernel now) (walks.walk pipe s.kernel begin) (quiet.walk pipe s.kernel begin)
 outcome_keeps s (events.Resume walker now pipe) given tokens planned places book on =
-    asked.walks _ s (moment_of s now) (walks.resume pipe s.kernel walker (moment_of s now)) (quiet.resume pipe s.kernel walker (moment_of s now))
+    asked.walks _ s (moment_of s.kernel now) (walks.resume pipe s.kernel walker (moment_of s.kernel now)) (quiet.resume pipe s.kernel walker (moment_of s.kernel now))
 outcome_keeps s (events.Leave walker) given tokens planned places book on = asked.leave s walker
 outcome_keeps s (events.Expire walker fs now immediate pipe) given tokens planned places book on =
-    asked.walks _ s (moment_of s now) (walks.expire pipe s.kernel walker fs (moment_of s now) immediate) (quiet.expire pipe s.kernel walker fs (moment_of s now) immediate)
+    asked.walks _ s (moment_of s.kernel now) (walks.expire pipe s.kernel walker fs (moment_of s.kernel now) immediate) (quiet.expire pipe s.kernel walker fs (moment_of s.kernel now) immediate)
 outcome_keeps s (events.Deliver token bytes) given tokens planned places book on = goes.deliver s token bytes
 outcome_keeps s (events.Act job ok) given tokens planned places book on = goes.act_job s job ok planned tokens.numbers given.rise places book
 outcome_keeps s (events.Repeat attach token status) given tokens planned places book on = asked.repeat s attach token

@@ -24,9 +24,9 @@ use Rattle.am_machine.specs.Invariant.Places.{PlacesAgree}
 use Rattle.am_machine.specs.Invariant.Stands.{OnTriggers}
 use Rattle.am_machine.proofs.TraceRows.{some_is}
 use Rattle.am_machine.proofs.PlaceEvents.{first_none}
-use Rattle.am_machine.proofs.BookNarrows.{same_attachments, timeout_narrows, closed_narrows, closed_if_live_narrows}
+use Rattle.am_machine.proofs.BookNarrows.{same_attachments, narrows_latest, timeout_narrows, closed_narrows, closed_if_live_narrows}
 use Rattle.am_machine.proofs.BookWalks.{Leaves}
-use Rattle.am_machine.proofs.SiteKeeps.{Keeps, keeps_all}
+use Rattle.am_machine.proofs.SiteKeeps.{Keeps, keeps_all, keeps_latest}
 use Rattle.am_machine.proofs.StandKeeps.{kept_still, stands_still, on_still}
 use Rattle.am_machine.proofs.Quiet.{Quiet, closes}
 use Rattle.am_machine.proofs.StandAttach.{dead_stands}
@@ -36,8 +36,11 @@ use Rattle.am_machine.proofs.StandOutcomes.{Stands, told, refuses, either, unles
 -- ---- walkers
 
 -- what the kernel makes of a walk
-pub walks : (o : kernel.Outcome) (s : State) (moment : ℕ) → Leaves s.kernel o → Quiet s.kernel o → Stands s (goes o s moment)
-walks (kernel.Goes begun shown made) s moment l q = let still = kept_still s.kernel made q.quiet in record { stands = λ h. stands_still s.kernel made s.daemon l.well still h; sites = λ on. on_still s.kernel made still on }
+pub walks : (o : kernel.Outcome) (s : State) (moment : ℕ) → Leaves s.kernel o → Quiet s.kernel o → Stands s (goes (kernel.at_moment moment o) s)
+walks (kernel.Goes begun shown made) s moment l q =
+    let later = kernel.with_latest moment made in
+    let still = kept_still s.kernel later (keeps_latest s.kernel made moment q.quiet) in
+    record { stands = λ h. stands_still s.kernel later s.daemon (narrows_latest s.kernel made moment l.well) still h; sites = λ on. on_still s.kernel later still on }
 walks (kernel.Fails e) s moment l q = refuses s e
 
 pub leave : (s : State) (walker : ℕ) → Stands s (leave_outcome s walker)

@@ -68,10 +68,6 @@ pub either_begins : (k : KernelState) (b : Bool) (first second : kernel.Outcome)
 either_begins k true first second h g = h
 either_begins k false first second h g = g
 
-pub goes_on : (o : kernel.Outcome) (s : State) (moment : ℕ) → Begins s.kernel o → Keeps s (goes o s moment)
-goes_on (kernel.Goes begun shown made) s moment b = record { keeps = λ n h. b.well.holds s.daemon n h }
-goes_on (kernel.Fails e) s moment b = refuses s e
-
 -- ---- changes of the kernel that concern no token, packet or attachment
 
 pub record IsQuiet (k made : KernelState) : Type 0 where
@@ -103,15 +99,27 @@ quiet_stays k made q = record {
   grows = λ fs. inl (ap (λ (autofs : List Autofs). attach_in autofs made.attached fs) q.autofs ∙ ap (λ (attached : List Attached). attach_in k.triggers.autofs attached fs) q.attached);
 }
 
-pub quiet_holds : (k made : KernelState) → IsQuiet k made → Holds k made
-quiet_holds k made q = record {
-  holds = λ d n h. record {
-    given = given_more k made d q.attached q.autofs q.last_attach q.more_fs h.given;
-    tokens = stays_agree k made d.jobs (quiet_stays k made q) (old_jobs k d h.given) h.tokens;
-    planned = h.planned;
-    records = later_records k.waits made.waits d.book (stays_later k.waits made.waits (quiet_stays k made q).tokens q.last_token) h.records;
-  };
+pub quiet_agreed : (k made : KernelState) (d : DaemonState) → IsQuiet k made → Agreed k d → Agreed made d
+quiet_agreed k made d q h = record {
+  given = given_more k made d q.attached q.autofs q.last_attach q.more_fs h.given;
+  tokens = stays_agree k made d.jobs (quiet_stays k made q) (old_jobs k d h.given) h.tokens;
+  planned = h.planned;
+  records = later_records k.waits made.waits d.book (stays_later k.waits made.waits (quiet_stays k made q).tokens q.last_token) h.records;
 }
+
+pub quiet_holds : (k made : KernelState) → IsQuiet k made → Holds k made
+quiet_holds k made q = record { holds = λ d n h. quiet_agreed k made d q h }
+
+-- ---- what the kernel makes of a walk
+
+quiet_latest : (k : KernelState) (moment : ℕ) → IsQuiet k (kernel.with_latest moment k)
+quiet_latest k moment = record { tokens = refl; last_token = refl; queue = refl; attached = refl; autofs = refl; last_attach = refl; more_fs = omega arith }
+
+pub goes_on : (o : kernel.Outcome) (s : State) (moment : ℕ) → Begins s.kernel o → Keeps s (goes (kernel.at_moment moment o) s)
+goes_on (kernel.Goes begun shown made) s moment b = record {
+  keeps = λ n h. quiet_agreed made (kernel.with_latest moment made) s.daemon (quiet_latest made moment) (b.well.holds s.daemon n h);
+}
+goes_on (kernel.Fails e) s moment b = refuses s e
 
 -- ---- a file system closes
 

@@ -173,7 +173,7 @@ begun_by (stops.Refuse e) pipe k begin passed h = fails k e
 pub begun_with : (walked : Walked) (pipe : PipeState) (k : KernelState) (begin : Begin) → IsOrderly k.waits.tokens walked → Begins k (walks.begun_with walked pipe k begin)
 begun_with walked pipe k begin h = begun_by walked.stop pipe k begin walked.passed h.stops
 
-pub walk : (pipe : PipeState) (k : KernelState) (begin : Begin) → Begins k (walks.walk_outcome pipe k begin)
+pub walk : (pipe : PipeState) (k : KernelState) (begin : Begin) → Begins k (walks.walk_at pipe k begin)
 walk pipe k begin =
     either_begins k (is_busy k begin.walker) _ _ (fails k _) (begun_with (walk_of (scene_of k) begin.ns begin.path) pipe k begin (orderly k.waits.tokens (scene_of k) refl begin.ns begin.path))
 
@@ -224,7 +224,7 @@ expires_under : (attach : Option ℕ) (pipe : PipeState) (k : KernelState) (walk
 expires_under None pipe k walker fs next is h = fails k _
 expires_under (Some attach) pipe k walker fs next is h = expires_next next pipe k walker attach fs is h
 
-pub expire : (pipe : PipeState) (k : KernelState) (walker fs moment : ℕ) (immediate : Bool) → Begins k (expires.expire_outcome pipe k walker fs moment immediate)
+pub expire : (pipe : PipeState) (k : KernelState) (walker fs moment : ℕ) (immediate : Bool) → Begins k (expires.expire_at pipe k walker fs moment immediate)
 expire pipe k walker fs moment immediate =
     either_begins k (is_none (autofs_of k.triggers fs)) _ _ (fails k _)
     (either_begins k (is_busy k walker) _ _ (fails k _)

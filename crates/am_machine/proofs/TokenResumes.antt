@@ -89,6 +89,6 @@ resumed_at : (wait : Option WaitRow) (pipe : PipeState) (k : KernelState) (momen
 resumed_at None pipe k moment = fails k _
 resumed_at (Some wait) pipe k moment = resumed_by wait.status pipe k wait moment
 
-pub resume : (pipe : PipeState) (k : KernelState) (walker moment : ℕ) → Begins k (resumes.resume_outcome pipe k walker moment)
+pub resume : (pipe : PipeState) (k : KernelState) (walker moment : ℕ) → Begins k (resumes.resume_at pipe k walker moment)
 resume pipe k walker moment =
     either_begins k (is_some (mount_of k.uses walker)) _ _ (fails k _) (resumed_at (wait_of k.waits.waits walker) pipe k moment)

@@ -4,7 +4,7 @@ use Rattle.am_kernel.specs.Walks.{first_begin}
 use Rattle.am_machine.specs.declared.event.Event.{Event}
 use Rattle.am_machine.specs.declared.event.Event.TheVariants as events
 use Rattle.am_machine.specs.State.{Opening, State, opening_of}
-use Rattle.am_machine.specs.Outcome.{moment_of}
+use Rattle.am_kernel.specs.Outcome.{moment_of}
 use Rattle.am_machine.specs.Machine.{after, outcome_of}
 use Rattle.am_machine.specs.Invariant.Attachments.{AreGiven}
 use Rattle.am_machine.specs.Invariant.Tokens.{TokensAgree}
@@ -46,10 +46,10 @@ outcome_keeps s (events.Change ns path change) = from.change_mount s ns path cha
 outcome_keeps s (events.Kind ns path) = from.kind s ns path
 outcome_keeps s (events.CopyNamespace ns form) = from.copy_namespace s ns form
 outcome_keeps s (events.DropNamespace ns) = from.drop_namespace s ns
-outcome_keeps s (events.Walk walker ns path now pipe) = goes_on _ s (moment_of s now) (begins.walk pipe s.kernel (first_begin walker ns path (moment_of s now)))
-outcome_keeps s (events.Resume walker now pipe) = goes_on _ s (moment_of s now) (resumes.resume pipe s.kernel walker (moment_of s now))
+outcome_keeps s (events.Walk walker ns path now pipe) = goes_on _ s (moment_of s.kernel now) (begins.walk pipe s.kernel (first_begin walker ns path (moment_of s.kernel now)))
+outcome_keeps s (events.Resume walker now pipe) = goes_on _ s (moment_of s.kernel now) (resumes.resume pipe s.kernel walker (moment_of s.kernel now))
 outcome_keeps s (events.Leave walker) = from.leave s walker
-outcome_keeps s (events.Expire walker fs now immediate pipe) = goes_on _ s (moment_of s now) (begins.expire pipe s.kernel walker fs (moment_of s now) immediate)
+outcome_keeps s (events.Expire walker fs now immediate pipe) = goes_on _ s (moment_of s.kernel now) (begins.expire pipe s.kernel walker fs (moment_of s.kernel now) immediate)
 outcome_keeps s (events.Deliver token bytes) = steps.deliver s token bytes
 outcome_keeps s (events.Act job ok) = steps.act_job s job ok
 outcome_keeps s (events.Repeat attach token status) = from.repeat s attach token

@@ -183,7 +183,7 @@ begun_by (stops.Refuse e) pipe k begin passed free idle h = fails k e
 pub begun_with : (walked : Walked) (pipe : PipeState) (k : KernelState) (begin : Begin) → IsFree k begin.walker → IsOrderly k.waits.tokens walked → Begins k (walks.begun_with walked pipe k begin)
 begun_with walked pipe k begin free h = begun_by walked.stop pipe k begin walked.passed free h.passes h.stops
 
-pub walk : (pipe : PipeState) (k : KernelState) (begin : Begin) → Begins k (walks.walk_outcome pipe k begin)
+pub walk : (pipe : PipeState) (k : KernelState) (begin : Begin) → Begins k (walks.walk_at pipe k begin)
 walk pipe k begin =
     unless_begins k (is_busy k begin.walker) _ _ (fails k _)
     (λ idle. begun_with (walk_of (scene_of k) begin.ns begin.path) pipe k begin (not_busy k begin.walker idle) (orderly k.waits.tokens (scene_of k) refl begin.ns begin.path))
@@ -206,7 +206,7 @@ expires_under : (attach : Option ℕ) (pipe : PipeState) (k : KernelState) (walk
 expires_under None pipe k walker next free = fails k _
 expires_under (Some attach) pipe k walker next free = expires_next next pipe k walker attach free
 
-pub expire : (pipe : PipeState) (k : KernelState) (walker fs moment : ℕ) (immediate : Bool) → Begins k (expires.expire_outcome pipe k walker fs moment immediate)
+pub expire : (pipe : PipeState) (k : KernelState) (walker fs moment : ℕ) (immediate : Bool) → Begins k (expires.expire_at pipe k walker fs moment immediate)
 expire pipe k walker fs moment immediate =
     either_begins k (is_none (autofs_of k.triggers fs)) _ _ (fails k _)
     (unless_begins k (is_busy k walker) _ _ (fails k _) (λ idle. expires_under (attach_of k fs) pipe k walker (expires.next_of k fs moment immediate) (not_busy k walker idle)))

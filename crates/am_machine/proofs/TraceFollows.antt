@@ -95,7 +95,7 @@ unmounts s answer gone k free h = record {
 
 -- ---- what the kernel makes of a walk
 
-pub goes_on : (o : kernel.Outcome) (s : State) (moment : ℕ) → Begins s.kernel o → Follows s (goes o s moment)
+pub goes_on : (o : kernel.Outcome) (s : State) (moment : ℕ) → Begins s.kernel o → Follows s (goes (kernel.at_moment moment o) s)
 goes_on (kernel.Goes begun shown made) s moment b = record {
   adds = λ h. b.well.adds s.daemon.jobs s.trace h;
   once = b.well.once;

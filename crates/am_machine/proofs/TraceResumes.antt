@@ -130,7 +130,7 @@ resumed_at (Some wait) pipe k walker moment e outside =
     let same = sym (nat_is wait.walker walker (found_passes (λ (r : WaitRow). r.walker == walker) k.waits.waits wait e)) in
     resumed_by wait.status pipe k wait moment refl (subst (λ (w : ℕ). wait_of k.waits.waits w ≡ Some wait) same e) (subst (λ (w : ℕ). mount_of k.uses w ≡ None) same outside)
 
-pub resume : (pipe : PipeState) (k : KernelState) (walker moment : ℕ) → Begins k (resumes.resume_outcome pipe k walker moment)
+pub resume : (pipe : PipeState) (k : KernelState) (walker moment : ℕ) → Begins k (resumes.resume_at pipe k walker moment)
 resume pipe k walker moment =
     unless_begins k (is_some (mount_of k.uses walker)) _ _ (fails k _)
     (λ outside. resumed_at (wait_of k.waits.waits walker) pipe k walker moment refl (is_none_of (mount_of k.uses walker) outside))

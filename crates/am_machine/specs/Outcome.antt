@@ -1,5 +1,5 @@
 -- What an event comes to.
-use Rattle.std.specs.Prelude.{ℕ, max, List, [], Option, Some, None}
+use Rattle.std.specs.Prelude.{List, [], Option, Some, None}
 use Rattle.am_names.specs.declared.errno.Errno.{Errno}
 use Rattle.am_state.specs.declared.obs.Obs.{Obs}
 use Rattle.am_kernel.specs.State.{KernelState}
@@ -29,7 +29,3 @@ with_kernel answer shown k s = record { answer = answer; seen = shown; state = r
 -- nothing changes
 abbrev pub told : Answer → State → Outcome
 told answer s = record { answer = answer; seen = []; state = s }
-
--- the moment of an event: its own, or the latest so far
-abbrev pub moment_of : State → ℕ → ℕ
-moment_of s now = max s.latest now

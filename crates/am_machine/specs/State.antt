@@ -1,5 +1,5 @@
 -- A world as a value.
-use Rattle.std.specs.Prelude.{ℕ, List, []}
+use Rattle.std.specs.Prelude.{List, []}
 use Rattle.am_names.specs.declared.limits.Limits.{Limits}
 use Rattle.am_map.specs.EntryText.{Row}
 use Rattle.am_master.specs.MasterRow.{MasterRow}
@@ -18,8 +18,6 @@ pub record Opening : Type 0 where
 pub record State : Type 0 where
   pub kernel : KernelState
   pub daemon : DaemonState
-  -- the latest moment of all events that weren't refused
-  pub latest : ℕ
   pub trace : List Obs
 
 abbrev pub limits_in : KernelState → Limits
@@ -34,6 +32,5 @@ abbrev pub opening_of : Opening → State
 opening_of opening = record {
   kernel = initial opening.limits;
   daemon = daemon.initial opening.master opening.maps;
-  latest = 0;
   trace = [];
 }

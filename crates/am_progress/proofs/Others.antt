@@ -19,6 +19,7 @@ use Rattle.am_expire.specs.Uses.{is_used, leave_refusal}
 use Rattle.am_kernel.specs.State.{KernelState}
 use Rattle.am_trigger.specs.Rows.{autofs_of}
 use Rattle.am_kernel.specs.Outcome as kernel
+use Rattle.am_kernel.specs.Outcome.{moment_of}
 use Rattle.am_kernel.specs.Sites.{is_live, attach_of, attach_refusal, or_else, position_at, from_position, fs_of_attach}
 use Rattle.am_kernel.specs.Administration.{mount_refusal, with_plain, bind_refusal, with_bind, bound_at, plain_umount_refusal, without_plain, plain_change_refusal, with_changed, changed_at, kind_refusal, kind_at}
 use Rattle.am_kernel.specs.DaemonMounts.{with_mount, attached_at}
@@ -35,7 +36,7 @@ use Rattle.am_machine.specs.declared.event.Event.{Event}
 use Rattle.am_machine.specs.declared.event.Event.TheVariants as events
 use Rattle.am_machine.specs.declared.answer.Answer.{Answer}
 use Rattle.am_machine.specs.State.{State}
-use Rattle.am_machine.specs.Outcome.{Outcome, refused, unless, moment_of}
+use Rattle.am_machine.specs.Outcome.{Outcome, refused, unless}
 use Rattle.am_machine.specs.Machine.{Step, outcome_of}
 use Rattle.am_machine.specs.Events.Administration as administration
 use Rattle.am_machine.specs.Events.Walkers.{leave_outcome, goes}
@@ -158,7 +159,7 @@ admin_catatonic s fs =
 
 -- ---- walkers
 
-goes_on : (o : kernel.Outcome) (s : State) (moment : ℕ) → walkers.Leaves s.kernel o → Leaves s (goes o s moment)
+goes_on : (o : kernel.Outcome) (s : State) (moment : ℕ) → walkers.Leaves s.kernel o → Leaves s (goes (kernel.at_moment moment o) s)
 goes_on (kernel.Goes begun shown made) s moment h = record {
   jobs = λ number row is. is;
   serves = λ g fs attach served. ⊎_elim (λ same. inl (record { current = same ∙ served.current; held = served.held })) (λ ended. inr ended) (h.well fs);
@@ -254,10 +255,10 @@ leaves s (events.Change ns path change) no_act = change_mount s ns path change
 leaves s (events.Kind ns path) no_act = kind s ns path
 leaves s (events.CopyNamespace ns form) no_act = copy_namespace s ns form
 leaves s (events.DropNamespace ns) no_act = drop_namespace s ns
-leaves s (events.Walk walker ns path now pipe) no_act = goes_on _ s (moment_of s now) (walkers.walk pipe s.kernel (first_begin walker ns path (moment_of s now)))
-leaves s (events.Resume walker now pipe) no_act = goes_on _ s (moment_of s now) (walkers.resume pipe s.kernel walker (moment_of s now))
+leaves s (events.Walk walker ns path now pipe) no_act = goes_on _ s (moment_of s.kernel now) (walkers.walk pipe s.kernel (first_begin walker ns path (moment_of s.kernel now)))
+leaves s (events.Resume walker now pipe) no_act = goes_on _ s (moment_of s.kernel now) (walkers.resume pipe s.kernel walker (moment_of s.kernel now))
 leaves s (events.Leave walker) no_act = leave s walker
-leaves s (events.Expire walker fs now immediate pipe) no_act = goes_on _ s (moment_of s now) (walkers.expire pipe s.kernel walker fs (moment_of s now) immediate)
+leaves s (events.Expire walker fs now immediate pipe) no_act = goes_on _ s (moment_of s.kernel now) (walkers.expire pipe s.kernel walker fs (moment_of s.kernel now) immediate)
 leaves s (events.Deliver token bytes) no_act = deliver s token bytes
 leaves s (events.Repeat attach token status) no_act = repeat s attach token
 leaves s (events.Catatonic attach fs) no_act = catatonic s attach fs

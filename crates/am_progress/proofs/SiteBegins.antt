@@ -126,7 +126,7 @@ begun_by (stops.Refuse e) pipe k begin passed idle own all h = fails e
 begun_with : (walked : Walked) (pipe : PipeState) (k : KernelState) (begin : Begin) → IsIdle k begin.walker → MeetsSites k.triggers walked → AreSites k → Leaves (walks.begun_with walked pipe k begin)
 begun_with walked pipe k begin idle meets h = begun_by walked.stop pipe k begin walked.passed idle meets.stops meets.passes h
 
-pub walk : (pipe : PipeState) (k : KernelState) (begin : Begin) → AreSites k → Leaves (walks.walk_outcome pipe k begin)
+pub walk : (pipe : PipeState) (k : KernelState) (begin : Begin) → AreSites k → Leaves (walks.walk_at pipe k begin)
 walk pipe k begin h =
     where_false (is_busy k begin.walker) _ _ (fails _)
     (λ free. begun_with (walk_of (scene_of k) begin.ns begin.path) pipe k begin (not_busy k begin.walker free) (walk_sites (scene_of k) begin.ns begin.path) h)
@@ -159,7 +159,7 @@ expires_under : (attach : Option ℕ) (pipe : PipeState) (k : KernelState) (walk
 expires_under None pipe k walker next idle own h = fails _
 expires_under (Some attach) pipe k walker next idle own h = expires_next next pipe k walker attach idle own h
 
-pub expire : (pipe : PipeState) (k : KernelState) (walker fs moment : ℕ) (immediate : Bool) → AreSites k → Leaves (expires.expire_outcome pipe k walker fs moment immediate)
+pub expire : (pipe : PipeState) (k : KernelState) (walker fs moment : ℕ) (immediate : Bool) → AreSites k → Leaves (expires.expire_at pipe k walker fs moment immediate)
 expire pipe k walker fs moment immediate h =
     either (is_none (autofs_of k.triggers fs)) _ _ (fails _)
     (where_false (is_busy k walker) _ _ (fails _)
@@ -214,7 +214,7 @@ resumed_at : (wait : Option WaitRow) (pipe : PipeState) (k : KernelState) (momen
 resumed_at None pipe k moment own out h = fails _
 resumed_at (Some wait) pipe k moment own out h = resumed_by wait.status pipe k wait moment (own wait refl) (out wait refl) h
 
-pub resume : (pipe : PipeState) (k : KernelState) (walker moment : ℕ) → AreSites k → Leaves (resumes.resume_outcome pipe k walker moment)
+pub resume : (pipe : PipeState) (k : KernelState) (walker moment : ℕ) → AreSites k → Leaves (resumes.resume_at pipe k walker moment)
 resume pipe k walker moment h =
     either (is_some (mount_of k.uses walker)) _ _ (fails _)
     (resumed_at (wait_of k.waits.waits walker) pipe k moment

@@ -22,6 +22,7 @@ use Rattle.am_expire.specs.Uses.{is_used, leave_refusal}
 use Rattle.am_kernel.specs.State.{KernelState}
 use Rattle.am_kernel.specs.declared.row.Attached.{Attached}
 use Rattle.am_kernel.specs.Outcome as kernel
+use Rattle.am_kernel.specs.Outcome.{moment_of}
 use Rattle.am_kernel.specs.Sites.{is_live, is_current, position_at, from_position, fs_of_attach}
 use Rattle.am_kernel.specs.Administration.{mount_refusal, with_plain, bind_refusal, with_bind, bound_at, plain_umount_refusal, without_plain, plain_change_refusal, with_changed, changed_at, kind_refusal, kind_at}
 use Rattle.am_kernel.specs.Directories.{mkdir_refusal, with_directory, rmdir_refusal, without_directory}
@@ -45,7 +46,7 @@ use Rattle.am_machine.specs.declared.event.Event.{Event}
 use Rattle.am_machine.specs.declared.event.Event.TheVariants as events
 use Rattle.am_machine.specs.declared.answer.Answer.{Answer}
 use Rattle.am_machine.specs.State.{State}
-use Rattle.am_machine.specs.Outcome.{Outcome, refused, unless, moment_of}
+use Rattle.am_machine.specs.Outcome.{Outcome, refused, unless}
 use Rattle.am_machine.specs.Machine.{outcome_of}
 use Rattle.am_machine.specs.Events.Administration as administration
 use Rattle.am_machine.specs.Events.Walkers.{leave_outcome, goes}
@@ -179,8 +180,10 @@ admin_catatonic s fs =
 
 -- ---- walkers
 
-goes_on : (o : kernel.Outcome) (s : State) (moment : ℕ) → (AreSites s.kernel → begins.Leaves o) → Keeps s (goes o s moment)
-goes_on (kernel.Goes begun shown made) s moment h = record { keeps = λ c held. record { kernel = (h held.kernel).well; plans = held.plans } }
+goes_on : (o : kernel.Outcome) (s : State) (moment : ℕ) → (AreSites s.kernel → begins.Leaves o) → Keeps s (goes (kernel.at_moment moment o) s)
+goes_on (kernel.Goes begun shown made) s moment h = record {
+  keeps = λ c held. record { kernel = sites_same made (kernel.with_latest moment made) (λ g own. own) refl refl refl refl (h held.kernel).well; plans = held.plans };
+}
 goes_on (kernel.Fails e) s moment h = refuses s e
 
 leave : (s : State) (walker : ℕ) → Keeps s (leave_outcome s walker)
@@ -310,10 +313,10 @@ outcome_keeps s (events.Change ns path change) = change_mount s ns path change
 outcome_keeps s (events.Kind ns path) = kind s ns path
 outcome_keeps s (events.CopyNamespace ns form) = copy_namespace s ns form
 outcome_keeps s (events.DropNamespace ns) = drop_namespace s ns
-outcome_keeps s (events.Walk walker ns path now pipe) = goes_on _ s (moment_of s now) (begins.walk pipe s.kernel (first_begin walker ns path (moment_of s now)))
-outcome_keeps s (events.Resume walker now pipe) = goes_on _ s (moment_of s now) (begins.resume pipe s.kernel walker (moment_of s now))
+outcome_keeps s (events.Walk walker ns path now pipe) = goes_on _ s (moment_of s.kernel now) (begins.walk pipe s.kernel (first_begin walker ns path (moment_of s.kernel now)))
+outcome_keeps s (events.Resume walker now pipe) = goes_on _ s (moment_of s.kernel now) (begins.resume pipe s.kernel walker (moment_of s.kernel now))
 outcome_keeps s (events.Leave walker) = leave s walker
-outcome_keeps s (events.Expire walker fs now immediate pipe) = goes_on _ s (moment_of s now) (begins.expire pipe s.kernel walker fs (moment_of s now) immediate)
+outcome_keeps s (events.Expire walker fs now immediate pipe) = goes_on _ s (moment_of s.kernel now) (begins.expire pipe s.kernel walker fs (moment_of s.kernel now) immediate)
 outcome_keeps s (events.Deliver token bytes) = deliver s token bytes
 outcome_keeps s (events.Act job ok) = acted_at (job_of s.daemon.jobs job) s ok
 outcome_keeps s (events.Repeat attach token status) = repeat s attach token

@@ -21,6 +21,7 @@ use Rattle.am_kernel.specs.declared.begun.Begun.{Begun}
 use Rattle.am_kernel.specs.declared.begun.Begun.TheVariants as begun
 use Rattle.am_kernel.specs.declared.row.WalkRow.{WalkRow}
 use Rattle.am_kernel.specs.Outcome as kernel
+use Rattle.am_kernel.specs.Outcome.{moment_of}
 use Rattle.am_kernel.specs.Sites.{is_live, attach_of, scene_of}
 use Rattle.am_kernel.specs.Requests.{queued_of}
 use Rattle.am_kernel.specs.Attachments.{autofs_refusal, closed_if_live, closing_if_live}
@@ -31,7 +32,7 @@ use Rattle.am_laws.proofs.Packets.{nat_is, nat_same}
 use Rattle.am_machine.specs.declared.event.Event.TheVariants as events
 use Rattle.am_machine.specs.declared.answer.Answer.TheVariants as answers
 use Rattle.am_machine.specs.State.{State}
-use Rattle.am_machine.specs.Outcome.{Outcome, unless, with_kernel, moment_of}
+use Rattle.am_machine.specs.Outcome.{Outcome, unless, with_kernel}
 use Rattle.am_machine.specs.Machine.{after, outcome_of}
 use Rattle.am_machine.specs.Events.Walkers.{answer_of, goes}
 use Rattle.am_machine.proofs.TraceRows.{some_is, found_passes}
@@ -59,7 +60,7 @@ told_goes (begun.Waits token) = refl
 told_goes (begun.Failed e) = refl
 told_goes begun.Expired = refl
 
-goes_done : (o : kernel.Outcome) (s : State) (moment : ℕ) → Goes o → is_refused (goes o s moment).answer ≡ false
+goes_done : (o : kernel.Outcome) (s : State) (moment : ℕ) → Goes o → is_refused (goes (kernel.at_moment moment o) s).answer ≡ false
 goes_done (kernel.Goes begun shown made) s moment h = told_goes begun
 goes_done (kernel.Fails e) s moment h = absurd h
 
@@ -94,9 +95,9 @@ resumed_walk : (row : Option WalkRow) (status : Status) (pipe : PipeState) (k : 
 resumed_walk None status pipe k wait moment walks = told_as wait.kind status k wait moment (λ missing. let no : false ≡ true = walks missing in cc)
 resumed_walk (Some row) status pipe k wait moment walks = resumed_as wait.kind status pipe k wait row moment
 
-resumes_by : (pipe : PipeState) (k : KernelState) (walker moment : ℕ) (row : WaitRow) (status : Status) → mount_of k.uses walker ≡ None → wait_of k.waits.waits walker ≡ Some row → row.status ≡ Some status → (row.kind ≡ Missing → is_some (resumes.walk_in k.walks row.walker) ≡ true) → Goes (resumes.resume_outcome pipe k walker moment)
+resumes_by : (pipe : PipeState) (k : KernelState) (walker moment : ℕ) (row : WaitRow) (status : Status) → mount_of k.uses walker ≡ None → wait_of k.waits.waits walker ≡ Some row → row.status ≡ Some status → (row.kind ≡ Missing → is_some (resumes.walk_in k.walks row.walker) ≡ true) → Goes (resumes.resume_at pipe k walker moment)
 resumes_by pipe k walker moment row status out is its walks =
-    let same : resumes.resume_outcome pipe k walker moment ≡ resumes.resumed_walk (resumes.walk_in k.walks row.walker) status pipe k row moment =
+    let same : resumes.resume_at pipe k walker moment ≡ resumes.resumed_walk (resumes.walk_in k.walks row.walker) status pipe k row moment =
     ap (λ (o : Option ℕ). if is_some o then kernel.Fails EINVAL else resumes.resumed_at (wait_of k.waits.waits walker) pipe k moment) out
     ∙ ap (λ (o : Option WaitRow). resumes.resumed_at o pipe k moment) is
     ∙ ap (λ (o : Option Status). resumes.resumed_by o pipe k row moment) its in
@@ -112,8 +113,8 @@ resumes_on s world walker row status is its now pipe =
     let out : mount_of k.uses walker ≡ None =
     subst (λ (n : ℕ). mount_of k.uses n ≡ None) (wait_number k.waits.waits walker row is)
     (all_found (λ (r : WaitRow). mount_of k.uses r.walker ≡ None) (λ (r : WaitRow). r.walker == walker) k.waits.waits row world.holds.kernel.outside is) in
-    goes_done (resumes.resume_outcome pipe k walker (moment_of s now)) s (moment_of s now)
-    (resumes_by pipe k walker (moment_of s now) row status out is its ((in_step s world.consistent world.named).walks walker row is))
+    goes_done (resumes.resume_at pipe k walker (moment_of s.kernel now)) s (moment_of s.kernel now)
+    (resumes_by pipe k walker (moment_of s.kernel now) row status out is its ((in_step s world.consistent world.named).walks walker row is))
 
 -- ---- a walker that waits
 

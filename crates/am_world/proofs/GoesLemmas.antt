@@ -1,5 +1,5 @@
 -- What becomes of an event, by what its calls came to.
-use Rattle.std.proofs.Common.{◌≡◌, ℕ, List, [], Option, None, refl, sym, ap, ◌∙◌, subst, inl, inr}
+use Rattle.std.proofs.Common.{◌≡◌, List, [], Option, None, refl, sym, ap, ◌∙◌, subst, inl, inr}
 use Rattle.std.specs.Prelude.{Result, Ok, Err}
 use Rattle.std.proofs.lemmas.List.{append-nil}
 use Rattle.am_names.specs.declared.errno.Errno.{Errno}
@@ -48,18 +48,18 @@ both_same : (k : KernelState) (trace : List Obs) (s : State) → k ≡ s.kernel 
 both_same k trace s e t = ap (λ (x : KernelState). with_both x trace s) e ∙ ap (λ (x : List Obs). record s { trace = x }) t
 
 -- a walk that goes on
-pub walk_goes : (o : kernel.Outcome) (s : State) (moment : ℕ) (begun : Begun) (k : KernelState) (trace : List Obs) → kernel.Meets o (Ok begun) s.kernel k s.trace trace →
-    Goes (goes o s moment) s (Ok (answer_of begun)) (record s { kernel = k; latest = moment; trace = trace })
-walk_goes (kernel.Goes answer shown made) s moment begun k trace h =
-    (ap answer_of h.0, ap (λ (x : KernelState). record s { kernel = x; latest = moment; trace = trace }) h.1.state ∙ ap (λ (x : List Obs). record s { kernel = made; latest = moment; trace = x }) h.1.seen)
-walk_goes (kernel.Fails e) s moment begun k trace h = absurd h
+pub walk_goes : (o : kernel.Outcome) (s : State) (begun : Begun) (k : KernelState) (trace : List Obs) → kernel.Meets o (Ok begun) s.kernel k s.trace trace →
+    Goes (goes o s) s (Ok (answer_of begun)) (with_both k trace s)
+walk_goes (kernel.Goes answer shown made) s begun k trace h =
+    (ap answer_of h.0, ap (λ (x : KernelState). with_both x trace s) h.1.state ∙ ap (λ (x : List Obs). with_both made x s) h.1.seen)
+walk_goes (kernel.Fails e) s begun k trace h = absurd h
 
 -- one that doesn't
-pub walk_fails : (o : kernel.Outcome) (s : State) (moment : ℕ) (e : Errno) (k : KernelState) (trace : List Obs) → kernel.Meets o (Err e) s.kernel k s.trace trace →
-    Goes (goes o s moment) s (Err e) (with_both k trace s)
-walk_fails (kernel.Goes answer shown made) s moment e k trace h = (both_same k trace s h.1.state h.1.seen, inl h.0)
-walk_fails (kernel.Fails f) s moment NoMemory k trace h = (both_same k trace s h.state h.seen, inl refl)
-walk_fails (kernel.Fails f) s moment _ k trace h = (both_same k trace s h.1.state h.1.seen, inr (ap (refused s) (sym h.0)))
+pub walk_fails : (o : kernel.Outcome) (s : State) (e : Errno) (k : KernelState) (trace : List Obs) → kernel.Meets o (Err e) s.kernel k s.trace trace →
+    Goes (goes o s) s (Err e) (with_both k trace s)
+walk_fails (kernel.Goes answer shown made) s e k trace h = (both_same k trace s h.1.state h.1.seen, inl h.0)
+walk_fails (kernel.Fails f) s NoMemory k trace h = (both_same k trace s h.state h.seen, inl refl)
+walk_fails (kernel.Fails f) s _ k trace h = (both_same k trace s h.1.state h.1.seen, inr (ap (refused s) (sym h.0)))
 
 -- ---- steps
 

@@ -21,6 +21,7 @@ use Rattle.am_kernel.specs.State.{KernelState}
 use Rattle.am_kernel.specs.Sites.{is_current, is_busy, attach_of, fs_of_attach}
 use Rattle.am_kernel.specs.Previews.{is_trigger}
 use Rattle.am_kernel.specs.Outcome as kernel
+use Rattle.am_kernel.specs.Outcome.{moment_of}
 use Rattle.am_kernel.specs.Expires as expires
 use Rattle.am_kernel.specs.Administration.{mount_refusal, bind_refusal, plain_change_refusal, kind_refusal, kind_at}
 use Rattle.am_kernel.specs.Attachments.{catatonic_refusal, autofs_refusal}
@@ -35,7 +36,7 @@ use Rattle.am_daemon.specs.Deliveries.{job_of}
 use Rattle.am_machine.specs.declared.event.Event.{Event}
 use Rattle.am_machine.specs.declared.event.Event.TheVariants as events
 use Rattle.am_machine.specs.State.{State}
-use Rattle.am_machine.specs.Outcome.{Outcome, unless, moment_of}
+use Rattle.am_machine.specs.Outcome.{Outcome, unless}
 use Rattle.am_machine.specs.Machine.{outcome_of}
 use Rattle.am_machine.specs.Events.Walkers.{goes}
 use Rattle.am_machine.specs.Events.Administration.{attach_refusal, attached_as, kind_told}
@@ -68,35 +69,41 @@ kind_free (Some kind) s = refl
 
 -- ---- expiries
 
-record Goes_free (s : State) (moment : ℕ) (o : kernel.Outcome) : Type 0 where
-  goes_free : owns (goes o s moment).answer ≡ false
+record Goes_free (s : State) (o : kernel.Outcome) : Type 0 where
+  goes_free : owns (goes o s).answer ≡ false
 
-either_goes : (s : State) (moment : ℕ) (b : Bool) (first second : kernel.Outcome) → Goes_free s moment first → Goes_free s moment second → Goes_free s moment (if b then first else second)
-either_goes s moment true first second h g = h
-either_goes s moment false first second h g = g
+either_goes : (s : State) (b : Bool) (first second : kernel.Outcome) → Goes_free s first → Goes_free s second → Goes_free s (if b then first else second)
+either_goes s true first second h g = h
+either_goes s false first second h g = g
 
-fails : (s : State) (moment : ℕ) (e : Errno) → Goes_free s moment (kernel.Fails e)
-fails s moment e = record { goes_free = refl }
+fails : (s : State) (e : Errno) → Goes_free s (kernel.Fails e)
+fails s e = record { goes_free = refl }
 
-expires_by : (pipe : PipeState) (s : State) (moment : ℕ) (k : KernelState) (walker : ℕ) (trigger : Trigger) (attach : ℕ) → Goes_free s moment (expires.expires_by pipe k walker trigger attach)
-expires_by Room s moment k walker trigger attach = record { goes_free = refl }
-expires_by Full s moment k walker trigger attach = record { goes_free = refl }
-expires_by Gone s moment k walker trigger attach = record { goes_free = refl }
+expires_by : (pipe : PipeState) (s : State) (k : KernelState) (walker : ℕ) (trigger : Trigger) (attach : ℕ) → Goes_free s (expires.expires_by pipe k walker trigger attach)
+expires_by Room s k walker trigger attach = record { goes_free = refl }
+expires_by Full s k walker trigger attach = record { goes_free = refl }
+expires_by Gone s k walker trigger attach = record { goes_free = refl }
 
-expires_next : (next : Option Trigger) (pipe : PipeState) (s : State) (moment : ℕ) (k : KernelState) (walker attach : ℕ) → Goes_free s moment (expires.expires_next next pipe k walker attach)
-expires_next None pipe s moment k walker attach = fails s moment _
-expires_next (Some trigger) pipe s moment k walker attach =
-    either_goes s moment (is_exhausted k.waits) _ _ (fails s moment _) (either_goes s moment (is_full k.waits) _ _ (fails s moment _) (expires_by pipe s moment k walker trigger attach))
+expires_next : (next : Option Trigger) (pipe : PipeState) (s : State) (k : KernelState) (walker attach : ℕ) → Goes_free s (expires.expires_next next pipe k walker attach)
+expires_next None pipe s k walker attach = fails s _
+expires_next (Some trigger) pipe s k walker attach =
+    either_goes s (is_exhausted k.waits) _ _ (fails s _) (either_goes s (is_full k.waits) _ _ (fails s _) (expires_by pipe s k walker trigger attach))
 
-expires_under : (attach : Option ℕ) (pipe : PipeState) (s : State) (moment : ℕ) (k : KernelState) (walker : ℕ) (next : Option Trigger) → Goes_free s moment (expires.expires_under attach pipe k walker next)
-expires_under None pipe s moment k walker next = fails s moment _
-expires_under (Some attach) pipe s moment k walker next = expires_next next pipe s moment k walker attach
+expires_under : (attach : Option ℕ) (pipe : PipeState) (s : State) (k : KernelState) (walker : ℕ) (next : Option Trigger) → Goes_free s (expires.expires_under attach pipe k walker next)
+expires_under None pipe s k walker next = fails s _
+expires_under (Some attach) pipe s k walker next = expires_next next pipe s k walker attach
 
-expire_free : (pipe : PipeState) (s : State) (walker fs moment : ℕ) (immediate : Bool) → Goes_free s moment (expires.expire_outcome pipe s.kernel walker fs moment immediate)
-expire_free pipe s walker fs moment immediate =
-    either_goes s moment (is_none (autofs_of s.kernel.triggers fs)) _ _ (fails s moment _)
-    (either_goes s moment (is_busy s.kernel walker) _ _ (fails s moment _)
-    (expires_under (attach_of s.kernel fs) pipe s moment s.kernel walker (expires.next_of s.kernel fs moment immediate)))
+at_moment : (o : kernel.Outcome) (s : State) (moment : ℕ) → Goes_free s o → Goes_free s (kernel.at_moment moment o)
+at_moment (kernel.Goes answer shown made) s moment h = record { goes_free = h.goes_free }
+at_moment (kernel.Fails e) s moment h = h
+
+expire_free : (pipe : PipeState) (s : State) (walker fs now : ℕ) (immediate : Bool) → Goes_free s (expires.expire_outcome pipe s.kernel walker fs now immediate)
+expire_free pipe s walker fs now immediate =
+    let moment = moment_of s.kernel now in
+    at_moment (expires.expire_at pipe s.kernel walker fs moment immediate) s moment
+    (either_goes s (is_none (autofs_of s.kernel.triggers fs)) _ _ (fails s _)
+    (either_goes s (is_busy s.kernel walker) _ _ (fails s _)
+    (expires_under (attach_of s.kernel fs) pipe s s.kernel walker (expires.next_of s.kernel fs moment immediate))))
 
 -- ---- deliveries and acts
 
@@ -163,7 +170,7 @@ others_free s (events.DropNamespace ns) h = absurd h
 others_free s (events.Walk walker ns path now pipe) h = absurd h
 others_free s (events.Resume walker now pipe) h = absurd h
 others_free s (events.Leave walker) h = unless_free (leave_refusal walker s.kernel.uses) s _ refl
-others_free s (events.Expire walker fs now immediate pipe) h = record { free = (expire_free pipe s walker fs (moment_of s now) immediate).goes_free }
+others_free s (events.Expire walker fs now immediate pipe) h = record { free = (expire_free pipe s walker fs now immediate).goes_free }
 others_free s (events.Deliver token bytes) h = delivered_free (queued_of s.kernel.queue token) s bytes
 others_free s (events.Act job ok) h = act_free (job_of s.daemon.jobs job) s ok
 others_free s (events.Repeat attach token status) h =

@@ -5,7 +5,7 @@ use Rattle.am_machine.specs.State.{State}
 use Rattle.am_world.specs.Table.{WorldTable, state_of}
 
 abbrev pub kept : WorldTable → State
-kept t = record { kernel = t.kernel; daemon = rows_of t.daemon; latest = t.latest; trace = t.trace }
+kept t = record { kernel = t.kernel; daemon = rows_of t.daemon; trace = t.trace }
 
 pub state_is : (t : WorldTable) → state_of t ≡ kept t
 unfolding state_of

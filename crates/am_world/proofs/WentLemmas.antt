@@ -38,7 +38,7 @@ use Rattle.am_world.specs.Halves.{written, Goes}
 use Rattle.am_world.specs.Acts.{as_made, as_removed, is_no_memory}
 
 abbrev pub halves : KernelState → DaemonState → List Obs → State → State
-halves k d trace s = record { kernel = k; daemon = d; latest = s.latest; trace = trace }
+halves k d trace s = record { kernel = k; daemon = d; trace = trace }
 
 pub went : (s : State) (row : JobPlan) (number : ℕ) (outcome : job.Outcome) (answer : Answer) (shown : List Obs) (k new : KernelState) (d : DaemonState) (trace : List Obs) →
     row.token ≡ number → d ≡ finished number outcome s.daemon → new ≡ k → trace ≡ s.trace ++ shown → halves new d trace s ≡ after s (goes_on s row outcome answer shown k)

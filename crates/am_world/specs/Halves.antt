@@ -18,11 +18,11 @@ abbrev pub daemon_of : DaemonTable → DaemonState
 daemon_of d = rows_of d
 
 abbrev pub table_of : Halves → WorldTable
-table_of h = record { kernel = h.kernel; daemon = h.daemon; latest = h.latest; trace = h.trace.items }
+table_of h = record { kernel = h.kernel; daemon = h.daemon; trace = h.trace.items }
 
 -- the machine's state
 abbrev pub state_of : Halves → State
-state_of h = record { kernel = h.kernel; daemon = rows_of h.daemon; latest = h.latest; trace = h.trace.items }
+state_of h = record { kernel = h.kernel; daemon = rows_of h.daemon; trace = h.trace.items }
 
 -- The outcome has come; or it is a refusal, or memory ran out, and nothing has changed.
 abbrev pub Goes : Outcome → State → Result Answer Errno → State → Type 0

@@ -1,5 +1,5 @@
 -- A world as it is kept.
-use Rattle.std.specs.Prelude.{ℕ, List}
+use Rattle.std.specs.Prelude.{List}
 use Rattle.am_state.specs.declared.obs.Obs.{Obs}
 use Rattle.am_kernel.specs.State.{KernelState}
 use Rattle.am_daemon.specs.State.{DaemonTable, rows_of}
@@ -10,9 +10,8 @@ use Rattle.am_machine.specs.State.{State}
 pub record WorldTable : Type 0 where
   pub kernel : KernelState
   pub daemon : DaemonTable
-  pub latest : ℕ
   pub trace : List Obs
 
 -- the machine's state
 unfoldable pub state_of : WorldTable → State
-state_of t = record { kernel = t.kernel; daemon = rows_of t.daemon; latest = t.latest; trace = t.trace }
+state_of t = record { kernel = t.kernel; daemon = rows_of t.daemon; trace = t.trace }

@@ -1,8 +1,6 @@
 //! The daemon's jobs go on, act by act.
 
-ghost use Rattle.std.specs.Prelude.{◌≡◌, ◌≤◌, ◌+◌, ◌∷◌, ◌++◌, length, vec_len, vec_capacity};
-ghost use Rattle.am_state.specs.declared.obs.Obs.TheVariants.{Answered};
-ghost use Rattle.am_kernel.specs.Walks.{releases};
+ghost use Rattle.std.specs.Prelude.{◌≡◌};
 ghost use Rattle.am_kernel.specs.Directories.{mkdir_refusal, rmdir_refusal};
 ghost use Rattle.am_kernel.specs.Requests.{answer_refusal};
 ghost use Rattle.am_daemon.specs.Acts.{finished};
@@ -15,7 +13,7 @@ use crate::halves::Halves;
 use am_daemon::Daemon;
 use am_job::{Act, Outcome};
 use am_machine::Answer;
-use am_names::{Attach, Errno, JobId, Status, Token, Trigger, WalkerId};
+use am_names::{Attach, Errno, JobId, Status, Token, Trigger};
 use am_state::{Obs, Record};
 use std::alloc::Global;
 
@@ -78,21 +76,6 @@ fn turn_of(daemon: &Daemon, job: JobId) -> Option<Turn>
         attach: row.attach(),
         deed: deed_of(act),
     })
-}
-
-/// Tells an answer, and that these walkers are released by it. There is room for it.
-fn tell_answer(trace: &mut Vec<Obs>, token: Token, status: Status, walkers: &[WalkerId])
-    requires { vec_len trace.old + length walkers.now + 1 ≤ vec_capacity trace.old }
-    ensures { trace.new.items ≡ trace.old.items ++ Answered token status ∷ releases token status walkers.now }
-{
-    trace.push_reserved(Obs::Answered { token, status });
-    for walker in walkers {
-        trace.push_reserved(Obs::Released {
-            walker: *walker,
-            token,
-            status,
-        });
-    }
 }
 
 /// This has come of the next act of a job, which writes nothing into the book.
@@ -258,10 +241,11 @@ impl Halves {
     {
         let job = turn.job;
         let token = Token(job.0);
-        let walkers = self.kernel.waits().waiters_of(alloc, token)?;
-        self.trace.reserve(walkers.len() + 1)?;
+        let mut shown = self.kernel.answering_seen(alloc, token, status)?;
+        self.trace.reserve(shown.len())?;
         self.kernel.answer(turn.attach, token, status)?;
-        tell_answer(&mut self.trace, token, status, walkers.as_slice());
+        // There is room for it.
+        self.trace.append(&mut shown)?;
         finish(&mut self.daemon, turn.job, Outcome::Done);
         Ok(Answer::DidReply)
     }

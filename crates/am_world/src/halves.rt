@@ -1,41 +1,25 @@
 //! The two halves of a world, and what they make of each event.
 
-ghost use Rattle.std.specs.Prelude.{◌≡◌, max};
-ghost use Rattle.am_machine.specs.Outcome.{moment_of};
+ghost use Rattle.std.specs.Prelude.{◌≡◌};
 ghost use Rattle.am_machine.specs.Machine.{outcome_of};
 ghost use Rattle.am_world.specs.Halves.{state_of, Goes};
 
 use am_daemon::Daemon;
 use am_kernel::Kernel;
 use am_machine::{Answer, Event};
-use am_names::{Errno, Seconds};
+use am_names::Errno;
 use am_state::Obs;
 use std::alloc::Global;
 
-/// The kernel's half and the daemon's, the latest moment, and what was observed.
+/// The kernel's half and the daemon's, and what was observed.
 #[derive(Drop)]
 pub struct Halves {
     pub kernel: Kernel,
     pub daemon: Daemon,
-    pub latest: Seconds,
     pub trace: Vec<Obs>,
 }
 
-/// The later of two moments.
-fn later(one: Seconds, other: Seconds) -> Seconds
-    ensures { result ≡ max one other }
-{
-    if one < other { other } else { one }
-}
-
 impl Halves {
-    /// The moment of an event: its own, or the latest so far.
-    pub fn moment(&self, now: Seconds) -> Seconds
-        ensures { result ≡ moment_of (state_of self.now) now }
-    {
-        later(self.latest, now)
-    }
-
     /// What becomes of an event.
     pub fn handle(&mut self, alloc: Global, event: &Event) -> Result<Answer, Errno>
         ensures { Goes (outcome_of (state_of self.old) event.now) (state_of self.old) result (state_of self.new) }

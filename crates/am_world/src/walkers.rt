@@ -35,16 +35,12 @@ impl Halves {
     ) -> Result<Answer, Errno>
         ensures { Goes (walk_outcome (state_of self.old) walker ns path.now now pipe) (state_of self.old) result (state_of self.new) }
     {
-        let moment = self.moment(now);
         let path = path.path();
         let came = self
             .kernel
-            .walk(alloc, walker, ns, &path, moment, pipe, &mut self.trace);
+            .walk(alloc, walker, ns, &path, now, pipe, &mut self.trace);
         match came {
-            Ok(begun) => {
-                self.latest = moment;
-                Ok(answer_of(begun))
-            }
+            Ok(begun) => Ok(answer_of(begun)),
             Err(errno) => Err(errno),
         }
     }
@@ -59,11 +55,9 @@ impl Halves {
     ) -> Result<Answer, Errno>
         ensures { Goes (resume_outcome (state_of self.old) walker now pipe) (state_of self.old) result (state_of self.new) }
     {
-        let moment = self.moment(now);
         let begun = self
             .kernel
-            .resume(alloc, walker, moment, pipe, &mut self.trace)?;
-        self.latest = moment;
+            .resume(alloc, walker, now, pipe, &mut self.trace)?;
         Ok(answer_of(begun))
     }
 
@@ -79,13 +73,11 @@ impl Halves {
     ) -> Result<Answer, Errno>
         ensures { Goes (expire_outcome (state_of self.old) walker fs now immediate pipe) (state_of self.old) result (state_of self.new) }
     {
-        let moment = self.moment(now);
-        let came = self.kernel.expire(alloc, walker, fs, moment, immediate, pipe, &mut self.trace);
+        let came = self
+            .kernel
+            .expire(alloc, walker, fs, now, immediate, pipe, &mut self.trace);
         match came {
-            Ok(begun) => {
-                self.latest = moment;
-                Ok(answer_of(begun))
-            }
+            Ok(begun) => Ok(answer_of(begun)),
             Err(errno) => Err(errno),
         }
     }

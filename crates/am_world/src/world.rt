@@ -30,7 +30,7 @@ use am_kernel::Kernel;
 use am_machine::{Answer, Event};
 use am_map::Map;
 use am_master::Master;
-use am_names::{Errno, JobId, Limits, Seconds, Token, WalkerId};
+use am_names::{Errno, JobId, Limits, Token, WalkerId};
 use am_state::Obs;
 use std::alloc::Global;
 use std::marker::Model;
@@ -117,7 +117,6 @@ impl World {
             halves: Halves {
                 kernel,
                 daemon,
-                latest: Seconds(0),
                 trace: Vec::new(alloc),
             },
         })

@@ -5,7 +5,8 @@ use crate::tests::script::{Stage, Step, plays_all};
 use crate::tests::trap::Trap;
 use am_kernel::{Begun, Granted, Kernel};
 use am_names::{
-    AbsPath, Attach, Errno, FsId, Limits, MountId, Name, NsId, PipeState, Seconds, Token, WalkerId,
+    AbsPath, Attach, Errno, FsId, Limits, MountId, Name, NsId, PipeState, Seconds, Status, Token,
+    WalkerId,
 };
 use am_state::Obs;
 use am_wire::Request;
@@ -84,6 +85,52 @@ impl Asked {
     }
 }
 
+/// What is seen of a request.
+#[derive(Clone, Copy)]
+enum Sight {
+    /// The token whose packet it is.
+    Queued(u32),
+    /// The walker, and the token.
+    Waits(u32, u32),
+    Answered(u32, Status),
+    /// The walker, and the token.
+    Released(u32, u32, Status),
+    Catatonic(u32),
+}
+
+impl Sight {
+    fn is(self, seen: &Obs) -> bool {
+        match (self, seen) {
+            (Sight::Queued(of), Obs::Queued { token, .. }) => *token == Token(of),
+            (Sight::Waits(who, on), Obs::Waits { walker, token }) => {
+                *walker == WalkerId(who) && *token == Token(on)
+            }
+            (Sight::Answered(of, with), Obs::Answered { token, status }) => {
+                *token == Token(of) && *status == with
+            }
+            (
+                Sight::Released(who, from, with),
+                Obs::Released {
+                    walker,
+                    token,
+                    status,
+                },
+            ) => *walker == WalkerId(who) && *token == Token(from) && *status == with,
+            (Sight::Catatonic(of), Obs::Catatonic { fs }) => *fs == FsId(of),
+            _ => false,
+        }
+    }
+}
+
+/// Just this is seen, in this order.
+fn are(sights: &[Sight], seen: &[Obs]) -> bool {
+    sights.len() == seen.len()
+        && sights
+            .iter()
+            .zip(seen.iter())
+            .all(|(sight, seen)| sight.is(seen))
+}
+
 /// A call, and what it answers. What a daemon asks for begins with its attachment.
 #[derive(Clone, Copy)]
 enum Call {
@@ -99,6 +146,8 @@ enum Call {
     Walk(u32, &'static [u8], u64, Told),
     Leave(u32),
     Asks(Asked, Told),
+    /// And what is seen of it.
+    Sees(Asked, Told, &'static [Sight]),
 }
 
 fn attach(
@@ -193,6 +242,19 @@ fn asks(
     Ok(told.is(&granted))
 }
 
+/// What was seen before is forgotten.
+fn sees(
+    alloc: Global,
+    kernel: &mut Kernel,
+    asked: Asked,
+    told: Told,
+    sights: &[Sight],
+    seen: &mut Vec<Obs>,
+) -> Result<bool, Errno> {
+    seen.clear();
+    Ok(asks(alloc, kernel, asked, told, seen)? && are(sights, seen.as_slice()))
+}
+
 fn make(
     alloc: Global,
     kernel: &mut Kernel,
@@ -214,6 +276,7 @@ fn make(
         }
         Call::Leave(walker) => leave(kernel, walker, seen),
         Call::Asks(asked, told) => asks(alloc, kernel, asked, told, seen),
+        Call::Sees(asked, told, sights) => sees(alloc, kernel, asked, told, sights, seen),
     }
 }
 
@@ -321,38 +384,72 @@ const ANSWERS: &[Step<Call>] = &[
     Step::Refused(Call::Asks(Asked::Fail(3, 2), Told::Done), Errno::EINVAL),
 ];
 
-/// Home is last used at 100, and due at 160 by a timeout of 60 seconds; work is last used at 200.
-const REQUESTS: &[Step<Call>] = &[
+/// Home and work are mounted. Home is last used at 100, and due after 60 seconds.
+const USED: &[Step<Call>] = &[
     Step::Does(Call::Indirect(b"/auto", 2)),
     Step::Does(Call::Mkdir(1, Trap(2, b"home"))),
     Step::Does(Call::MountOn(1, Trap(2, b"home"), 3)),
     Step::Does(Call::Mkdir(1, Trap(2, b"work"))),
     Step::Does(Call::MountOn(1, Trap(2, b"work"), 4)),
-    Step::Does(Call::Walk(7, b"/auto/work", 200, Told::Arrives(4))),
-    Step::Does(Call::Leave(7)),
     Step::Does(Call::Walk(7, b"/auto/home", 100, Told::Arrives(3))),
     Step::Does(Call::Leave(7)),
-    Step::Does(Call::Asks(Asked::SetTimeout(1, 2, 60), Told::Done)),
+    Step::Does(Call::Sees(Asked::SetTimeout(1, 2, 60), Told::Done, &[])),
+];
+
+/// Home is due at 160; work is last used at 130.
+const REQUESTS: &[Step<Call>] = &[
+    Step::Does(Call::Walk(7, b"/auto/work", 130, Told::Arrives(4))),
+    Step::Does(Call::Leave(7)),
     Step::Refused(
         Call::Asks(Asked::Expire(7, 2, 159, false), Told::Waits(1)),
         Errno::EAGAIN,
     ),
-    Step::Does(Call::Asks(Asked::Expire(7, 2, 160, false), Told::Waits(1))),
+    Step::Does(Call::Sees(
+        Asked::Expire(7, 2, 160, false),
+        Told::Waits(1),
+        &[Sight::Queued(1), Sight::Waits(7, 1)],
+    )),
     Step::Refused(
         Call::Asks(Asked::Expire(7, 2, 160, false), Told::Waits(1)),
         Errno::EINVAL,
     ),
     Step::Does(Call::Asks(Asked::Expire(8, 2, 160, true), Told::Waits(2))),
-    Step::Does(Call::Asks(Asked::Fail(1, 1), Told::Done)),
+    Step::Does(Call::Walk(9, b"/auto/work", 160, Told::Waits(2))),
+    Step::Does(Call::Sees(
+        Asked::Fail(1, 1),
+        Told::Done,
+        &[
+            Sight::Answered(1, Status::Fail),
+            Sight::Released(7, 1, Status::Fail),
+        ],
+    )),
     Step::Refused(Call::Asks(Asked::Fail(1, 1), Told::Done), Errno::EINVAL),
-    Step::Does(Call::Asks(Asked::Ready(1, 2), Told::Done)),
+    Step::Does(Call::Sees(
+        Asked::Ready(1, 2),
+        Told::Done,
+        &[
+            Sight::Answered(2, Status::Ready),
+            Sight::Released(8, 2, Status::Ready),
+            Sight::Released(9, 2, Status::Ready),
+        ],
+    )),
     Step::Refused(
         Call::Asks(Asked::SetPipe(2), Told::Attached(2)),
         Errno::EBUSY,
     ),
-    Step::Does(Call::Asks(Asked::Catatonic(1, 2), Told::Done)),
+    Step::Does(Call::Walk(10, b"/auto/none", 160, Told::Waits(3))),
+    Step::Does(Call::Walk(11, b"/auto/none", 160, Told::Waits(3))),
+    Step::Does(Call::Sees(
+        Asked::Catatonic(1, 2),
+        Told::Done,
+        &[
+            Sight::Catatonic(2),
+            Sight::Released(10, 3, Status::Fail),
+            Sight::Released(11, 3, Status::Fail),
+        ],
+    )),
     Step::Refused(Call::Asks(Asked::Catatonic(1, 2), Told::Done), Errno::EPERM),
-    Step::Does(Call::Asks(Asked::SetPipe(2), Told::Attached(2))),
+    Step::Does(Call::Sees(Asked::SetPipe(2), Told::Attached(2), &[])),
     Step::Refused(Call::Asks(Asked::Ready(1, 2), Told::Done), Errno::EPERM),
     Step::Refused(
         Call::Asks(Asked::SetTimeout(1, 2, 60), Told::Done),
@@ -360,11 +457,29 @@ const REQUESTS: &[Step<Call>] = &[
     ),
 ];
 
-static EXAMPLES: [(&str, &[&[Step<Call>]]); 4] = [
+/// A walk at 50 counts as one at 100, so work is due at 160 too. A walk at 900 that is refused doesn't
+/// count.
+const MOMENTS: &[Step<Call>] = &[
+    Step::Does(Call::Walk(7, b"/auto/work", 50, Told::Arrives(4))),
+    Step::Refused(
+        Call::Walk(7, b"/auto/work", 900, Told::Arrives(4)),
+        Errno::EINVAL,
+    ),
+    Step::Does(Call::Leave(7)),
+    Step::Refused(
+        Call::Asks(Asked::Expire(7, 2, 159, false), Told::Waits(1)),
+        Errno::EAGAIN,
+    ),
+    Step::Does(Call::Asks(Asked::Expire(7, 2, 160, false), Told::Waits(1))),
+    Step::Does(Call::Asks(Asked::Expire(8, 2, 0, false), Told::Waits(2))),
+];
+
+static EXAMPLES: [(&str, &[&[Step<Call>]]); 5] = [
     ("directories", &[ATTACHED, DIRECTORIES]),
     ("mounts", &[ATTACHED, MOUNTS]),
     ("acknowledgements", &[ATTACHED, ANSWERS]),
-    ("each request as one call", &[REQUESTS]),
+    ("each request as one call", &[USED, REQUESTS]),
+    ("moments", &[USED, MOMENTS]),
 ];
 
 #[test]

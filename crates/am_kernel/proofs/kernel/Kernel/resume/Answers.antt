@@ -1,87 +1,10 @@
-use Rattle.std.proofs.Common.{◌≡◌, Some, None, true, false, sym, ap, subst, ◌∙◌, inl, inr}
-use Rattle.std.specs.Prelude.{is_some}
-use Rattle.std.specs.Option.{option_copied}
-use Rattle.am_wait.specs.Rows.{wait_of}
-use Rattle.am_wait.proofs.CallLemmas.{is_none_of}
-use Rattle.am_expire.specs.Uses.{mount_of}
-use Rattle.am_kernel.specs.State.{KernelState}
-use Rattle.am_kernel.specs.Outcome.{Outcome, Meets}
-use Rattle.am_kernel.specs.Resumes.{walk_in, resumed_walk}
-use Rattle.am_kernel.proofs.AgainLemmas.{resume_is, resume_failed, resume_again, resume_outside, resume_free, copied_some}
+use Rattle.std.proofs.Common.{ℕ}
+use Rattle.am_kernel.specs.Resumes.{resume_at}
+use Rattle.am_kernel.proofs.MomentLemmas.{counts}
 use Rattle.am_kernel.proofs.kernel.Kernel.resume.Goals as goal
 
-pub returns-then-is_none : goal.returns-then-is_none
-returns-then-is_none c =
+pub returns : goal.returns
+returns c =
     let k = c.args.self.now in
-    let n = c.args.walker in
-    let outside : is_some (mount_of k.uses n) ≡ false = ap (λ (s : KernelState). is_some (mount_of s.uses n)) (sym c.self.view_is) ∙ ap (λ o. is_some o) (sym c.mount_of.ensures) ∙ sym c.is_some.ensures ∙ c.if-is_some.false in
-    let waits : wait_of k.waits.waits n ≡ Some c.in-Some.wait = ap (λ (s : KernelState). wait_of s.waits.waits n) (sym c.self.view_is) ∙ sym c.wait_of.ensures.wait ∙ c.in-Some.is in
-    let lost : walk_in k.walks n ≡ None = sym c.walk_row.ensures ∙ ap (λ o. option_copied o) (is_none_of c.walk_row.result c.if-is_none.ensures) in
-    subst (λ (o : Outcome). Meets o c.tell.result k c.tell.new.self c.args.seen.now.items c.tell.new.seen.items)
-    (sym (resume_is c.args.pipe k n c.args.moment c.in-Some.wait c.in-Some-status.status outside waits c.in-Some-status.is ∙ ap (λ o. resumed_walk o c.in-Some-status.status c.args.pipe k c.in-Some.wait c.args.moment) lost))
-    c.tell.ensures
-
-pub tell-requires : goal.tell-requires
-tell-requires c =
-    let n = c.args.walker in
-    resume_free c.args.self.now n c.in-Some.wait c.in-Some-status.status
-    (ap (λ (s : KernelState). wait_of s.waits.waits n) (sym c.self.view_is) ∙ sym c.wait_of.ensures.wait ∙ c.in-Some.is) c.in-Some-status.is
-
-pub returns-in-Missing-Fail : goal.returns-in-Missing-Fail
-returns-in-Missing-Fail c =
-    let k = c.args.self.now in
-    let n = c.args.walker in
-    let outside : is_some (mount_of k.uses n) ≡ false = ap (λ (s : KernelState). is_some (mount_of s.uses n)) (sym c.self.view_is) ∙ ap (λ o. is_some o) (sym c.mount_of.ensures) ∙ sym c.is_some.ensures ∙ c.if-is_some.false in
-    let waits : wait_of k.waits.waits n ≡ Some c.in-Some.wait = ap (λ (s : KernelState). wait_of s.waits.waits n) (sym c.self.view_is) ∙ sym c.wait_of.ensures.wait ∙ c.in-Some.is in
-    let there : is_some (walk_in k.walks n) ≡ true = ap (λ o. is_some o) (sym c.walk_row.ensures) ∙ copied_some c.walk_row.result c.if-is_none.ensures in
-    subst (λ (o : Outcome). Meets o c.fail.result k c.fail.new.self c.args.seen.now.items c.fail.new.seen.items)
-    (sym (resume_failed c.args.pipe k n c.args.moment c.in-Some.wait c.in-Some-status.status outside waits c.in-Some-status.is there c.in-Missing-Fail.is-0 c.in-Missing-Fail.is-1))
-    c.fail.ensures
-
-pub again-requires-clause-outside : goal.again-requires-clause-outside
-again-requires-clause-outside c =
-    let k = c.args.self.now in
-    let n = c.args.walker in
-    resume_outside k n c.in-Some.wait
-    (ap (λ (s : KernelState). is_some (mount_of s.uses n)) (sym c.self.view_is) ∙ ap (λ o. is_some o) (sym c.mount_of.ensures) ∙ sym c.is_some.ensures ∙ c.if-is_some.false)
-    (ap (λ (s : KernelState). wait_of s.waits.waits n) (sym c.self.view_is) ∙ sym c.wait_of.ensures.wait ∙ c.in-Some.is)
-
-pub again-requires-clause-free : goal.again-requires-clause-free
-again-requires-clause-free c =
-    let n = c.args.walker in
-    resume_free c.args.self.now n c.in-Some.wait c.in-Some-status.status
-    (ap (λ (s : KernelState). wait_of s.waits.waits n) (sym c.self.view_is) ∙ sym c.wait_of.ensures.wait ∙ c.in-Some.is) c.in-Some-status.is
-
-pub again-requires-in-Expire-default-clause-outside : goal.again-requires-in-Expire-default-clause-outside
-again-requires-in-Expire-default-clause-outside c =
-    let k = c.args.self.now in
-    let n = c.args.walker in
-    resume_outside k n c.in-Some.wait
-    (ap (λ (s : KernelState). is_some (mount_of s.uses n)) (sym c.self.view_is) ∙ ap (λ o. is_some o) (sym c.mount_of.ensures) ∙ sym c.is_some.ensures ∙ c.if-is_some.false)
-    (ap (λ (s : KernelState). wait_of s.waits.waits n) (sym c.self.view_is) ∙ sym c.wait_of.ensures.wait ∙ c.in-Some.is)
-
-pub again-requires-in-Expire-default-clause-free : goal.again-requires-in-Expire-default-clause-free
-again-requires-in-Expire-default-clause-free c =
-    let n = c.args.walker in
-    resume_free c.args.self.now n c.in-Some.wait c.in-Some-status.status
-    (ap (λ (s : KernelState). wait_of s.waits.waits n) (sym c.self.view_is) ∙ sym c.wait_of.ensures.wait ∙ c.in-Some.is) c.in-Some-status.is
-
-pub returns-in-Missing-Ready : goal.returns-in-Missing-Ready
-returns-in-Missing-Ready c =
-    let k = c.args.self.now in
-    let n = c.args.walker in
-    let outside : is_some (mount_of k.uses n) ≡ false = ap (λ (s : KernelState). is_some (mount_of s.uses n)) (sym c.self.view_is) ∙ ap (λ o. is_some o) (sym c.mount_of.ensures) ∙ sym c.is_some.ensures ∙ c.if-is_some.false in
-    let waits : wait_of k.waits.waits n ≡ Some c.in-Some.wait = ap (λ (s : KernelState). wait_of s.waits.waits n) (sym c.self.view_is) ∙ sym c.wait_of.ensures.wait ∙ c.in-Some.is in
-    let there : is_some (walk_in k.walks n) ≡ true = ap (λ o. is_some o) (sym c.walk_row.ensures) ∙ copied_some c.walk_row.result c.if-is_none.ensures in
-    subst (λ (o : Outcome). Meets o c.again.result k c.again.new.self c.args.seen.now.items c.again.new.seen.items)
-    (sym (resume_again c.args.pipe k n c.args.moment c.in-Some.wait c.in-Some-status.status outside waits c.in-Some-status.is there (inl (c.in-Missing-Ready.is-0, c.in-Missing-Ready.is-1)))) c.again.ensures
-
-pub returns-in-Expire-default : goal.returns-in-Expire-default
-returns-in-Expire-default c =
-    let k = c.args.self.now in
-    let n = c.args.walker in
-    let outside : is_some (mount_of k.uses n) ≡ false = ap (λ (s : KernelState). is_some (mount_of s.uses n)) (sym c.self.view_is) ∙ ap (λ o. is_some o) (sym c.mount_of.ensures) ∙ sym c.is_some.ensures ∙ c.if-is_some.false in
-    let waits : wait_of k.waits.waits n ≡ Some c.in-Some.wait = ap (λ (s : KernelState). wait_of s.waits.waits n) (sym c.self.view_is) ∙ sym c.wait_of.ensures.wait ∙ c.in-Some.is in
-    let there : is_some (walk_in k.walks n) ≡ true = ap (λ o. is_some o) (sym c.walk_row.ensures) ∙ copied_some c.walk_row.result c.if-is_none.ensures in
-    subst (λ (o : Outcome). Meets o c.again-in-Expire-default.result k c.again-in-Expire-default.new.self c.args.seen.now.items c.again-in-Expire-default.new.seen.items)
-    (sym (resume_again c.args.pipe k n c.args.moment c.in-Some.wait c.in-Some-status.status outside waits c.in-Some-status.is there (inr c.in-Expire-default.is-0))) c.again-in-Expire-default.ensures
+    let of = λ (m : ℕ). resume_at c.args.pipe k c.args.walker m in
+    counts of c.args.now c.moment-moment.result c.in_ok-begun.begun k c.resume_at.new.self _ _ _ c.moment-moment.ensures c.self.view_is c.in_ok-begun.ensures

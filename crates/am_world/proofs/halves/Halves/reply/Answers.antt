@@ -1,10 +1,7 @@
-use Rattle.std.proofs.Common.{◌≡◌, ℕ, ◌∷◌, ◌++◌, List, Option, None, refl, sym, ap, ◌∙◌}
+use Rattle.std.proofs.Common.{◌≡◌, ℕ, ◌++◌, List, Option, None, refl, sym, ap, ◌∙◌}
 use Rattle.am_names.specs.declared.errno.Errno.{Errno}
 use Rattle.am_job.specs.declared.act.Outcome.TheVariants as came
 use Rattle.am_state.specs.declared.obs.Obs.{Obs}
-use Rattle.am_state.specs.declared.obs.Obs.TheVariants as seen
-use Rattle.am_wait.specs.Rows.{WaitRows, waiters_of}
-use Rattle.am_kernel.specs.Walks.{releases}
 use Rattle.am_kernel.specs.Requests.{answer_refusal, acknowledged, answering}
 use Rattle.am_machine.specs.declared.answer.Answer.TheVariants as answers
 use Rattle.am_machine.specs.Events.Acts.{reply_by}
@@ -27,7 +24,7 @@ returns c =
     (ap (λ (f : Option Errno). reply_by f s row status) (ap (λ (n : ℕ). answer_refusal s.kernel c.args.turn.now.attach n) (sym c.job.view_is) ∙ c.in_ok-answer.ensures.refusal)) refl
     (went s row number came.Done answers.DidReply (answering row.token status s.kernel) (acknowledged row.token status s.kernel) c.answer.new.self _ _ token c.finish.ensures
     (c.in_ok-answer.ensures.ok ∙ ap (λ (n : ℕ). acknowledged n status s.kernel) its)
-    (c.tell_answer.ensures
-    ∙ ap (λ (t : List Obs). t ++ seen.Answered shown status ∷ releases shown status c.as_slice.result.now) c.reserve.ensures.items
-    ∙ ap (λ (ws : List ℕ). s.trace ++ seen.Answered shown status ∷ releases shown status ws) (c.as_slice.ensures.value ∙ c.in_ok-walkers.ensures ∙ ap (λ (w : WaitRows). waiters_of w.tokens shown) c.waits.ensures)
+    (c.in_ok-append.ensures.items
+    ∙ ap (λ (more : List Obs). c.reserve.new.self.items ++ more) c.in_ok-shown.ensures
+    ∙ ap (λ (t : List Obs). t ++ answering shown status s.kernel) c.reserve.ensures.items
     ∙ ap (λ (n : ℕ). s.trace ++ answering n status s.kernel) its))

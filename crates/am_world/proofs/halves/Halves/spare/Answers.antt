@@ -1,4 +1,3 @@
-use Rattle.am_machine.specs.Outcome.{moment_of}
 use Rattle.am_world.specs.Halves.{state_of}
 use Rattle.am_world.proofs.SpareLemmas.{resume_spares}
 use Rattle.am_world.proofs.OtherLemmas.{other_is, others_free}
@@ -7,7 +6,7 @@ use Rattle.am_world.proofs.halves.Halves.spare.Goals as goal
 pub returns-in_ok-arrival_again-in-Resume : goal.returns-in_ok-arrival_again-in-Resume
 returns-in_ok-arrival_again-in-Resume c =
     let s = state_of c.args.self.now in
-    rw (c.arrival_told-in-Resume.ensures, c.in_ok-arrival_again-in-Resume.ensures, c.in-Resume.is) (resume_spares c.in-Resume.pipe s c.in-Resume.walker (moment_of s c.in-Resume.now))
+    rw (c.arrival_told-in-Resume.ensures, c.in_ok-arrival_again-in-Resume.ensures, c.in-Resume.is) (resume_spares c.in-Resume.pipe s c.in-Resume.walker c.in-Resume.now)
 
 pub returns-in_default : goal.returns-in_default
 returns-in_default c =
