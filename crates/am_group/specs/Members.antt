@@ -33,31 +33,39 @@ abbrev pub with_member : MemberRow → PeerGroups → PeerGroups
 with_member row s =
     record s { members = below row.mount s.members ++ row ∷ above row.mount s.members }
 
--- own (docs/DECISIONS.md, "A fresh group's master has members"):
--- there may be no master without members
+-- the peer group is there
+abbrev pub is_group : PeerGroups → ℕ → Bool
+is_group s g = is_some (group_row s.groups g)
+
+-- there is no master, or the group is there
 abbrev pub may_be_master : PeerGroups → Option ℕ → Bool
 may_be_master s None = true
-may_be_master s (Some g) = has_members s.members g
+may_be_master s (Some g) = is_group s g
 
--- the group is there, and the master has members
+-- the group is there, in which the mount is or of which it is a slave
 abbrev pub may_have : PeerGroups → Membership → Bool
-may_have s (InGroup g) = is_some (group_row s.groups g)
-may_have s (SlaveOf g) = has_members s.members g
+may_have s (InGroup g) = is_group s g
+may_have s (SlaveOf g) = is_group s g
 may_have s Private = true
 may_have s Unbindable = true
+
+-- there is no master, or it has members
+abbrev pub has_peopled_master : PeerGroups → Option ℕ → Bool
+has_peopled_master s None = true
+has_peopled_master s (Some g) = has_members s.members g
 
 -- the numbers of groups are exhausted: they have 64 bits
 abbrev pub is_exhausted : PeerGroups → Bool
 is_exhausted s = s.last_group == 18446744073709551615
 
--- the tests of `fresh`: the master may be one, a number is left
+-- the tests of `fresh`: the master is there, a number is left
 abbrev pub fresh_refusal : Option ℕ → PeerGroups → Option Errno
 fresh_refusal master s =
     if not (may_be_master s master) then Some EINVAL
     else if is_exhausted s then Some ENOSPC
     else None
 
--- the tests of `add`: the number is new, the mount may have this membership
+-- the tests of `add`: the number is new, the group is there
 abbrev pub add_refusal : ℕ → Membership → PeerGroups → Option Errno
 add_refusal m membership s =
     if is_some (member_row s.members m) then Some EEXIST
