@@ -1,5 +1,5 @@
 -- Mounts and peer groups that are added, and the order of a call's tests.
-use Rattle.std.specs.Prelude.{◌==◌, ◌&&◌, ℕ, Bool, true, false, not, nat_lt, List, [], ◌∷◌, ◌++◌, filter, Option, Some, None, is_some, if◌then◌else◌}
+use Rattle.std.specs.Prelude.{◌≡◌, ◌==◌, ◌&&◌, ℕ, Bool, true, false, not, nat_lt, List, [], ◌∷◌, ◌++◌, filter, Option, Some, None, is_some, if◌then◌else◌}
 use Rattle.am_names.specs.declared.row.MemberRow.{MemberRow}
 use Rattle.am_names.specs.declared.errno.Errno.{Errno}
 use Rattle.am_names.specs.declared.errno.Errno.TheVariants.{EEXIST, EINVAL, ENOSPC}
@@ -10,6 +10,7 @@ use Rattle.am_group.specs.declared.membership.Membership.{Membership}
 use Rattle.am_group.specs.declared.membership.Membership.TheVariants.{InGroup, SlaveOf, Private, Unbindable}
 use Rattle.am_group.specs.Propagation.{member_row, group_row, group_of}
 use Rattle.am_group.specs.Changes.{has_members}
+use Rattle.am_group.specs.Invariant.{IsPeopled}
 
 -- no mount and no peer group
 abbrev pub no_mounts : PeerGroups
@@ -53,6 +54,11 @@ may_have s Unbindable = true
 abbrev pub has_peopled_master : PeerGroups → Option ℕ → Bool
 has_peopled_master s None = true
 has_peopled_master s (Some g) = has_members s.members g
+
+-- where every master has members, and the one that is named does, each master has some afterwards
+abbrev pub KeepsPeopled : Option ℕ → PeerGroups → PeerGroups → Type 0
+KeepsPeopled master old new =
+    IsPeopled old → has_peopled_master old master ≡ true → IsPeopled new
 
 -- the numbers of groups are exhausted: they have 64 bits
 abbrev pub is_exhausted : PeerGroups → Bool

@@ -1,13 +1,13 @@
 //! The peer groups of all mounts.
 
-ghost use Rattle.std.specs.Prelude.{◌≡◌, ◌+◌, ◌^◌, ◌<◌, ◌≤◌, true, length, IfOk, IfSome, OnOk, OnErr};
+ghost use Rattle.std.specs.Prelude.{◌≡◌, ◌+◌, ◌^◌, ◌<◌, ◌≤◌, length, IfOk, IfSome, OnOk, OnErr};
 ghost use Rattle.am_names.specs.Errno.{RefusedAs};
 ghost use Rattle.am_group.specs.Propagation.{member_row, group_of, master_of_group};
 ghost use Rattle.am_group.specs.Changes.{with_group};
 ghost use Rattle.am_group.specs.Copies.{all_added};
 ghost use Rattle.am_group.specs.Invariant.{AddsNoReceivers, IsOrderly, IsPeopled, IsSound};
 ghost use Rattle.am_group.specs.Kinds.{kind_of_row, kind_of};
-ghost use Rattle.am_group.specs.Members.{no_mounts, below, row_with, with_member, is_exhausted, is_group, may_be_master, may_have, has_peopled_master, fresh_refusal, add_refusal};
+ghost use Rattle.am_group.specs.Members.{no_mounts, below, row_with, with_member, is_exhausted, is_group, may_be_master, may_have, KeepsPeopled, fresh_refusal, add_refusal};
 
 use crate::kind::Kind;
 use crate::membership::Membership;
@@ -167,7 +167,7 @@ impl Groups {
         ensures ok { OnOk result (self.new ≡ with_group master self.old) }
         ensures err { OnErr result (self.new ≡ self.old) }
         ensures law { AddsNoReceivers self.old self.new }
-        ensures peopled { IsPeopled self.old → has_peopled_master self.old master ≡ true → IsPeopled self.new }
+        ensures peopled { KeepsPeopled master self.old self.new }
     {
         if !self.may_be_master(&master) {
             return Err(Errno::EINVAL);
@@ -188,7 +188,7 @@ impl Groups {
         ensures ok { OnOk result (self.new ≡ with_member (row_with membership mount) self.old) }
         ensures err { OnErr result (self.new ≡ self.old) }
         ensures law { IsPeopled self.old → AddsNoReceivers self.old self.new }
-        ensures peopled { IsPeopled self.old → has_peopled_master self.old (row_with membership mount).master ≡ true → IsPeopled self.new }
+        ensures peopled { KeepsPeopled (row_with membership mount).master self.old self.new }
     {
         if self.member(mount).is_some() {
             return Err(Errno::EEXIST);
