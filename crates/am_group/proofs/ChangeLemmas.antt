@@ -1,17 +1,18 @@
 -- The law of receivers for each change, and that each keeps the invariant.
-use Rattle.std.proofs.Common.{◌≡◌, ◌⊎◌, ℕ, Bool, true, false, cond, List, Option, Some, None, refl, sym, ap, subst, inl, inr, ◌∙◌}
+use Rattle.std.proofs.Common.{◌≡◌, ◌⊎◌, ℕ, Bool, true, false, cond, ◌||◌, List, Option, Some, None, refl, sym, ap, subst, inl, inr, ◌∙◌}
 use Rattle.std.specs.Prelude.{map, option_map, is_some, not, ◌==◌}
 use Rattle.am_names.specs.declared.row.MemberRow.{MemberRow}
 use Rattle.am_names.specs.declared.row.GroupRow.{GroupRow}
 use Rattle.am_names.specs.PeerGroups.{PeerGroups}
 use Rattle.am_group.specs.Propagation.{member_row, group_row, group_in, slave_in, master_in, group_of, master_of_group}
-use Rattle.am_group.specs.Changes.{settled, left, slave_from, slave_row, at_row, private_row, unbindable_row, with_row, made_slave, made_private, made_unbindable, with_only, without}
-use Rattle.am_group.specs.Invariant.{RiseFrom, RiseBy, IsGroup, IsMaster, IsOrderly, IsSound, AddsNoReceivers}
+use Rattle.am_group.specs.Changes.{has_members, is_kept, settled, left, slave_from, slave_row, at_row, private_row, unbindable_row, with_row, made_slave, made_private, made_unbindable, with_only, without}
+use Rattle.am_group.specs.Invariant.{RiseFrom, RiseBy, IsGroup, IsMaster, IsOrderly, IsPeopled, IsSound, AddsNoReceivers}
 use Rattle.am_group.proofs.ReceiveLemmas.{home_where, home_of}
-use Rattle.am_group.proofs.LookupLemmas.{find_map_same, find_filter, RiseFrom-map, RiseFrom-filter}
-use Rattle.am_group.proofs.SettleLemmas.{leads_same, settled_sound}
+use Rattle.am_group.proofs.LookupLemmas.{find_map_same, find_filter, RiseFrom-map, RiseFrom-filter, members_from_test}
+use Rattle.am_group.proofs.SettleLemmas.{leads_same, group_of-settled, master-settled-stays, settled_orderly, has_lifted}
 use Rattle.am_group.proofs.LawLemmas.{BringsNoneUnder, law_from_under, none_under-settled}
-use Rattle.am_group.proofs.ClearLemmas.{cleared_sound, none_under-cleared}
+use Rattle.am_group.proofs.ClearLemmas.{test_from_member, cleared_orderly, cleared_peopled, none_under-cleared}
+use Rattle.am_group.proofs.ScanLemmas.{or_left}
 
 -- rows leave groups, masters and homes, or stay: nothing is named that was not named by them
 pub record Thins (old : PeerGroups) (new : PeerGroups) : Type 0 where
@@ -57,20 +58,65 @@ thin_under old new thin b c g stands_b stands_c other in_g under = (
   },
 )
 
--- the law and the invariant, for a change that is a thinning, after which masters are lifted and
--- emptied groups go
+-- the law and the invariant, for a change that is a thinning, after which emptied groups go
 pub record KeepsLaw (old : PeerGroups) (new : PeerGroups) : Type 0 where
   pub sound : IsSound new
   pub law : AddsNoReceivers old new
 
+-- what has members stays
+pub live_stays : (old new : PeerGroups) (g : ℕ) → has_members new.members g ≡ true → is_kept old.members new.members g ≡ true
+live_stays old new g has = or_left (has_members new.members g) (not (has_members old.members g)) has
+
+pub left_orderly : (old raw : PeerGroups) → IsOrderly raw → IsOrderly (left old raw)
+left_orderly old raw orderly =
+    let stays = is_kept old.members raw.members in
+    cleared_orderly stays (settled stays raw) (settled_orderly stays raw orderly)
+    (λ g has. live_stays old raw g (sym (has_lifted stays raw raw.members g) ∙ has))
+    (λ g is_master. (master-settled-stays stays raw g is_master).1)
+
+-- what stays and had members has members
+stayed_has : (old new : PeerGroups) (g : ℕ) → is_kept old.members new.members g ≡ true → has_members old.members g ≡ true → has_members new.members g ≡ true
+stayed_has old new g stays had = go (has_members new.members g) (rw had at stays)
+  where
+    go : (b : Bool) → (b || not true) ≡ true → b ≡ true
+    go true e = refl
+    go false e = absurd cc
+
+-- what a thinning names as a master had members, where every master had
+thin_had : (old new : PeerGroups) → Thins old new → IsPeopled old → (g : ℕ) → IsMaster new g → has_members old.members g ≡ true
+thin_had old new thin peopled g (inl (m, e)) = go (thin.masters_named m g e)
+  where
+    go : (group_of old m ≡ Some g) ⊎ (slave_in (member_row old.members m) ≡ Some g) → has_members old.members g ≡ true
+    go (inl in_g) = test_from_member old.members m g in_g
+    go (inr up) = let member = peopled g (inl (m, up)) in test_from_member old.members member.0 g member.1
+thin_had old new thin peopled g (inr (h, e)) =
+    let member = peopled g (inr (h, sym (same_masters old new thin h) ∙ e)) in
+    test_from_member old.members member.0 g member.1
+
+pub thin_peopled : (old new : PeerGroups) → Thins old new → IsPeopled old → IsPeopled (left old new)
+thin_peopled old new thin peopled =
+    let stays = is_kept old.members new.members in
+    cleared_peopled stays (settled stays new) (λ g is_master.
+    let was = master-settled-stays stays new g is_master in
+    let has : has_members new.members g ≡ true = stayed_has old new g was.1 (thin_had old new thin peopled g was.0) in
+    let member = members_from_test new g thin.rising has in
+    (member.0, group_of-settled stays new member.0 ∙ member.1))
+
+pub thin_law : (old new : PeerGroups) → Thins old new → IsPeopled old → AddsNoReceivers old (left old new)
+thin_law old new thin peopled =
+    let stays = is_kept old.members new.members in
+    law_from_under old (left old new) peopled
+    (none_under-cleared stays (settled stays new) old
+    (none_under-settled stays old new (thin_under old new thin)))
+
 pub thinned :
     (old new : PeerGroups) → Thins old new → IsSound old → KeepsLaw old (left old new)
 thinned old new thin sound = record {
-  sound = cleared_sound old (settled new) (settled_sound new (thin_orderly old new thin sound.orderly));
-  law =
-      law_from_under old (left old new) sound
-      (none_under-cleared old old (settled new)
-      (none_under-settled old new (thin_under old new thin)));
+  sound = record {
+    orderly = left_orderly old new (thin_orderly old new thin sound.orderly);
+    peopled = thin_peopled old new thin sound.peopled;
+  };
+  law = thin_law old new thin sound.peopled;
 }
 
 -- one row changes to what names nothing new
@@ -191,8 +237,11 @@ only_thins s keeps orderly = record {
     master g true o e = e
     master g false o e = absurd cc
 
-pub only_orderly : (gone : ℕ → Bool) (s : PeerGroups) → IsSound s → IsOrderly (with_only (λ m. not (gone m)) s)
-only_orderly gone s sound = thin_orderly s (with_only (λ m. not (gone m)) s) (only_thins s (λ m. not (gone m)) sound.orderly) sound.orderly
+pub only_orderly : (gone : ℕ → Bool) (s : PeerGroups) → IsOrderly s → IsOrderly (with_only (λ m. not (gone m)) s)
+only_orderly gone s orderly = thin_orderly s (with_only (λ m. not (gone m)) s) (only_thins s (λ m. not (gone m)) orderly) orderly
+
+pub without_orderly : (gone : ℕ → Bool) (s : PeerGroups) → IsOrderly s → IsOrderly (without gone s)
+without_orderly gone s orderly = left_orderly s (with_only (λ m. not (gone m)) s) (only_orderly gone s orderly)
 
 pub without_keeps : (gone : ℕ → Bool) (s : PeerGroups) → IsSound s → KeepsLaw s (without gone s)
 without_keeps gone s sound = thinned s (with_only (λ m. not (gone m)) s) (only_thins s (λ m. not (gone m)) sound.orderly) sound

@@ -1,11 +1,11 @@
 -- The lift, a step at a time.
-use Rattle.std.proofs.Common.{◌≡◌, ◌<◌, ℕ, zero, suc, true, false, List, [], ◌∷◌, Option, Some, None, refl, sym, ap, ◌∙◌, arith}
-use Rattle.std.specs.Prelude.{find, map, filter}
+use Rattle.std.proofs.Common.{◌≡◌, ◌<◌, ℕ, zero, suc, Bool, true, false, List, [], ◌∷◌, Option, Some, None, refl, sym, ap, ◌∙◌, arith}
+use Rattle.std.specs.Prelude.{find}
 use Rattle.am_names.specs.declared.row.MemberRow.{MemberRow}
 use Rattle.am_names.specs.declared.row.GroupRow.{GroupRow}
 use Rattle.am_names.specs.PeerGroups.{PeerGroups}
 use Rattle.am_group.specs.Propagation.{master_of_group}
-use Rattle.am_group.specs.Changes.{has_members, up_within, up, lifted, lifted_member, lifted_group, settled, is_kept, left}
+use Rattle.am_group.specs.Changes.{up_within, up, lifted}
 use Rattle.am_group.specs.Invariant.{IsOrderly}
 
 abbrev pub height : Option ℕ → ℕ
@@ -32,11 +32,11 @@ up_master s orderly g = go (master_of_group s g) refl
     go None e = up_none g s
     go (Some n) e = let lower : n < g = orderly.down g n e in up_same s orderly g (suc n) n lower (omega arith)
 
-pub lifted_here : (s : PeerGroups) (g : ℕ) → has_members s.members g ≡ true → lifted s (Some g) ≡ Some g
-lifted_here s g has = rw has refl
+pub lifted_here : (stays : ℕ → Bool) (s : PeerGroups) (g : ℕ) → stays g ≡ true → lifted stays s (Some g) ≡ Some g
+lifted_here stays s g here = rw here refl
 
-pub lifted_step : (s : PeerGroups) → IsOrderly s → (g : ℕ) → has_members s.members g ≡ false → lifted s (Some g) ≡ lifted s (master_of_group s g)
-lifted_step s orderly g none = rw none (ap (find (has_members s.members)) (up_master s orderly g))
+pub lifted_step : (stays : ℕ → Bool) (s : PeerGroups) → IsOrderly s → (g : ℕ) → stays g ≡ false → lifted stays s (Some g) ≡ lifted stays s (master_of_group s g)
+lifted_step stays s orderly g gone = rw gone (ap (find stays) (up_master s orderly g))
 
 pub height_falls : (s : PeerGroups) → IsOrderly s → (g : ℕ) → height (master_of_group s g) < suc g
 height_falls s orderly g = go (master_of_group s g) refl
@@ -44,13 +44,6 @@ height_falls s orderly g = go (master_of_group s g) refl
     go : (o : Option ℕ) → master_of_group s g ≡ o → height o < suc g
     go None e = omega arith
     go (Some n) e = let lower : n < g = orderly.down g n e in omega arith
-
--- lifted rows put together
-pub put_together : (raw : PeerGroups) (members : List MemberRow) (groups : List GroupRow) → members ≡ map (lifted_member raw) raw.members → groups ≡ map (lifted_group raw) raw.groups → (record { members = members; groups = groups; last_group = raw.last_group }) ≡ settled raw
-put_together raw members groups a b = rw (a, b) refl
-
-pub left_together : (old raw : PeerGroups) (members : List MemberRow) (lifted kept : List GroupRow) → members ≡ map (lifted_member raw) raw.members → lifted ≡ map (lifted_group raw) raw.groups → kept ≡ filter (λ row. is_kept old.members (map (lifted_member raw) raw.members) row.group) lifted → (record { members = members; groups = kept; last_group = raw.last_group }) ≡ left old raw
-left_together old raw members lifted kept a b e = rw (e, b, a) refl
 
 -- rows that are those of a state
 pub same_state : (s : PeerGroups) (members : List MemberRow) (groups : List GroupRow) (last : ℕ) → members ≡ s.members → groups ≡ s.groups → last ≡ s.last_group → (record { members = members; groups = groups; last_group = last }) ≡ s

@@ -13,11 +13,12 @@ use Rattle.am_group.specs.declared.membership.Membership.{Membership}
 use Rattle.am_group.specs.declared.membership.Membership.TheVariants.{InGroup, SlaveOf, Private, Unbindable}
 use Rattle.am_group.specs.Propagation.{member_row, group_row}
 use Rattle.am_group.specs.Changes.{has_members}
-use Rattle.am_group.specs.Members.{row_with, below, above, with_member, may_have}
-use Rattle.am_group.specs.Invariant.{RiseFrom, IsGroup, HasMembers, IsSound}
+use Rattle.am_group.specs.Members.{row_with, below, above, with_member, is_group, may_have, has_peopled_master}
+use Rattle.am_group.specs.Invariant.{RiseFrom, IsGroup, IsOrderly, IsPeopled, IsSound, AddsNoReceivers}
 use Rattle.am_group.proofs.LookupLemmas.{find_filter, RiseFrom-lower, members_from_test}
 use Rattle.am_group.proofs.ChangeLemmas.{KeepsLaw}
-use Rattle.am_group.proofs.GrowLemmas.{grown_keeps, old_is_group, old_member}
+use Rattle.am_group.proofs.JoinLemmas.{master_member}
+use Rattle.am_group.proofs.GrowLemmas.{grown_law, grown_orderly, grown_peopled, old_is_group, old_member}
 
 pub none_of : {A : Type 0} (o : Option A) → is_some o ≡ false → o ≡ None
 none_of None e = refl
@@ -120,7 +121,7 @@ between_or row rows new m =
     go false false false e f g o k = absurd (grind (arith, nat_tests))
 
 -- a mount that is added so keeps the invariant and the law
-module _ (s : PeerGroups) (sound : IsSound s) (m : ℕ) (membership : Membership) (new : member_row s.members m ≡ None) (may : may_have s membership ≡ true) where
+module _ (s : PeerGroups) (orderly : IsOrderly s) (m : ℕ) (membership : Membership) (new : member_row s.members m ≡ None) where
   row_mount : (k : Membership) → (row_with k m).mount ≡ m
   row_mount (InGroup g) = refl
   row_mount (SlaveOf g) = refl
@@ -131,7 +132,7 @@ module _ (s : PeerGroups) (sound : IsSound s) (m : ℕ) (membership : Membership
   row_new = subst (λ (x : ℕ). member_row s.members x ≡ None) (sym (row_mount membership)) new
 
   pub put_rows : insert s.members (length (below m s.members)) (row_with membership m) ≡ below (row_with membership m).mount s.members ++ row_with membership m ∷ above (row_with membership m).mount s.members
-  put_rows = subst (λ (x : ℕ). insert s.members (length (below x s.members)) (row_with membership m) ≡ below (row_with membership m).mount s.members ++ row_with membership m ∷ above (row_with membership m).mount s.members) (row_mount membership) (put_between (row_with membership m) 0 s.members sound.orderly.rising row_new)
+  put_rows = subst (λ (x : ℕ). insert s.members (length (below x s.members)) (row_with membership m) ≡ below (row_with membership m).mount s.members ++ row_with membership m ∷ above (row_with membership m).mount s.members) (row_mount membership) (put_between (row_with membership m) 0 s.members orderly.rising row_new)
 
   rows_or : (c : ℕ) → member_row (with_member (row_with membership m) s).members c ≡ option_or (member_row s.members c) (new_row (row_with membership m) c)
   rows_or c = between_or (row_with membership m) s.members row_new c
@@ -150,30 +151,66 @@ module _ (s : PeerGroups) (sound : IsSound s) (m : ℕ) (membership : Membership
       go true e = cc
       go false e = absurd cc
 
+  old_group : (g : ℕ) → IsGroup s g → IsGroup (with_member (row_with membership m) s) g
+  old_group = old_is_group s (with_member (row_with membership m) s) (new_row (row_with membership m)) (λ h. None) rows_or groups_or
+
   group_there : (k : Membership) (g : ℕ) → may_have s k ≡ true → (row_with k m).group ≡ Some g → IsGroup s g
   group_there (InGroup h) g may e = subst (λ (x : ℕ). IsGroup s x) (let same : h ≡ g = cc in same) may
   group_there (SlaveOf h) g may e = absurd cc
   group_there Private g may e = absurd cc
   group_there Unbindable g may e = absurd cc
 
-  master_peopled : (k : Membership) (g : ℕ) → may_have s k ≡ true → (row_with k m).master ≡ Some g → HasMembers s g
-  master_peopled (InGroup h) g may e = absurd cc
-  master_peopled (SlaveOf h) g may e = members_from_test s g sound.orderly.rising (subst (λ (x : ℕ). has_members s.members x ≡ true) (let same : h ≡ g = cc in same) may)
-  master_peopled Private g may e = absurd cc
-  master_peopled Unbindable g may e = absurd cc
+  master_there : (k : Membership) (g : ℕ) → may_have s k ≡ true → (row_with k m).master ≡ Some g → IsGroup s g
+  master_there (InGroup h) g may e = absurd cc
+  master_there (SlaveOf h) g may e = subst (λ (x : ℕ). IsGroup s x) (let same : h ≡ g = cc in same) may
+  master_there Private g may e = absurd cc
+  master_there Unbindable g may e = absurd cc
 
-  old_group : (g : ℕ) → IsGroup s g → IsGroup (with_member (row_with membership m) s) g
-  old_group = old_is_group s (with_member (row_with membership m) s) (new_row (row_with membership m)) (λ h. None) rows_or groups_or
-
-  pub member_keeps : KeepsLaw s (with_member (row_with membership m) s)
-  member_keeps = grown_keeps s (with_member (row_with membership m) s) (new_row (row_with membership m)) (λ h. None) rows_or groups_or sound (record {
-    rising = between_rises (row_with membership m) 0 s.members (omega arith) sound.orderly.rising;
-    groups_rising = sound.orderly.groups_rising;
+  pub member_orderly : may_have s membership ≡ true → IsOrderly (with_member (row_with membership m) s)
+  member_orderly may = grown_orderly s (with_member (row_with membership m) s) (new_row (row_with membership m)) (λ h. None) rows_or groups_or orderly (record {
+    rising = between_rises (row_with membership m) 0 s.members (omega arith) orderly.rising;
+    groups_rising = orderly.groups_rising;
     row_group = λ c g r found e. old_group g (group_there membership g may (sym (ap (λ (x : MemberRow). x.group) (is_new c r found)) ∙ e));
-    row_master = λ c g r found e.
-        let member = master_peopled membership g may (sym (ap (λ (x : MemberRow). x.master) (is_new c r found)) ∙ e) in
-        (old_group g (sound.orderly.group_named member.0 g member.1), old_member s (with_member (row_with membership m) s) (new_row (row_with membership m)) (λ h. None) rows_or groups_or g member);
+    row_master = λ c g r found e. old_group g (master_there membership g may (sym (ap (λ (x : MemberRow). x.master) (is_new c r found)) ∙ e));
     group_master = λ h g r found e. absurd cc;
     group_last = λ h r found. absurd cc;
     last_rises = omega arith;
   })
+
+  pub member_law : IsPeopled s → AddsNoReceivers s (with_member (row_with membership m) s)
+  member_law peopled = grown_law s (with_member (row_with membership m) s) (new_row (row_with membership m)) (λ h. None) rows_or groups_or (record { orderly = orderly; peopled = peopled })
+
+  pub member_peopled : IsPeopled s → has_peopled_master s (row_with membership m).master ≡ true → IsPeopled (with_member (row_with membership m) s)
+  member_peopled peopled has = grown_peopled s (with_member (row_with membership m) s) (new_row (row_with membership m)) (λ h. None) rows_or groups_or peopled
+      (λ c g r found e.
+      old_member s (with_member (row_with membership m) s) (new_row (row_with membership m)) (λ h. None) rows_or groups_or g
+      (master_member s orderly (row_with membership m).master has g (sym (ap (λ (x : MemberRow). x.master) (is_new c r found)) ∙ e)))
+      (λ h g r found e. absurd cc)
+
+-- a mount in a group that is there, or a slave of one that has members
+abbrev pub names_peopled : PeerGroups → Membership → Bool
+names_peopled s (InGroup g) = is_group s g
+names_peopled s (SlaveOf g) = has_members s.members g
+names_peopled s Private = true
+names_peopled s Unbindable = true
+
+pub member_keeps : (s : PeerGroups) → IsSound s → (m : ℕ) (membership : Membership) → member_row s.members m ≡ None → names_peopled s membership ≡ true → KeepsLaw s (with_member (row_with membership m) s)
+member_keeps s sound m membership new names = record {
+  sound = record {
+    orderly = member_orderly s sound.orderly m membership new (may membership names);
+    peopled = member_peopled s sound.orderly m membership new sound.peopled (has membership names);
+  };
+  law = member_law s sound.orderly m membership new sound.peopled;
+}
+  where
+    may : (k : Membership) → names_peopled s k ≡ true → may_have s k ≡ true
+    may (InGroup g) e = e
+    may (SlaveOf g) e = let member = members_from_test s g sound.orderly.rising e in sound.orderly.group_named member.0 g member.1
+    may Private e = refl
+    may Unbindable e = refl
+
+    has : (k : Membership) → names_peopled s k ≡ true → has_peopled_master s (row_with k m).master ≡ true
+    has (InGroup g) e = refl
+    has (SlaveOf g) e = e
+    has Private e = refl
+    has Unbindable e = refl

@@ -1,14 +1,14 @@
--- Lifting masters: what a settled state keeps, and that nothing new comes under a group.
-use Rattle.std.proofs.Common.{◌≡◌, ◌≤◌, ◌<◌, ℕ, zero, suc, Bool, true, false, cond, List, [], ◌∷◌, ◌++◌, Option, Some, None, refl, sym, ap, subst, inl, inr, ◌∙◌, arith}
-use Rattle.std.specs.Prelude.{find, option_map, is_some}
+-- Lifting masters that do not stay: what a settled state keeps, and that nothing new comes under a group.
+use Rattle.std.proofs.Common.{◌≡◌, ◌≤◌, ◌<◌, ℕ, zero, suc, Bool, true, false, cond, ◌||◌, List, [], ◌∷◌, ◌++◌, Option, Some, None, refl, sym, ap, subst, inl, inr, ◌∙◌, arith}
+use Rattle.std.specs.Prelude.{find, map, option_map, is_some}
 use Rattle.am_names.specs.declared.row.MemberRow.{MemberRow}
 use Rattle.am_names.specs.declared.row.GroupRow.{GroupRow}
 use Rattle.am_names.specs.PeerGroups.{PeerGroups}
 use Rattle.am_group.specs.Propagation.{member_row, group_row, group_in, slave_in, master_in, group_of, master_of_group}
-use Rattle.am_group.specs.Changes.{has_members, up_within, up, lifted, lifted_member, lifted_group, settled}
-use Rattle.am_group.specs.Invariant.{IsMaster, IsOrderly, IsSound}
+use Rattle.am_group.specs.Changes.{is_just, has_members, up_within, up, lifted, lifted_member, lifted_group, settled}
+use Rattle.am_group.specs.Invariant.{IsMaster, IsOrderly}
 use Rattle.am_group.proofs.ReceiveLemmas.{LeadsUp, home_where, IsUnder}
-use Rattle.am_group.proofs.LookupLemmas.{find_map_same, found_passes, RiseFrom-map, RiseBy-map, members_from_test}
+use Rattle.am_group.proofs.LookupLemmas.{find_map_same, found_passes, RiseFrom-map, RiseBy-map}
 
 pub leads_append : (s : PeerGroups) (way more : List ℕ) (h n g : ℕ) → LeadsUp s way h n → LeadsUp s more n g → LeadsUp s (way ++ more) h g
 leads_append s [] more h n g here there = subst (λ (x : ℕ). LeadsUp s more x g) (sym here) there
@@ -29,70 +29,68 @@ found_above s test (suc steps) (Some m) n e = go (test m) e (found_above s test 
     go true e ih = let same : m ≡ n = cc in (m, refl, [], same)
     go false e ih = let rest = ih e in (m, refl, rest.0 ∷ rest.2, (rest.1, rest.3))
 
-pub lifted_above : (s : PeerGroups) (start : Option ℕ) (n : ℕ) → lifted s start ≡ Some n → (m : ℕ) × (start ≡ Some m) × (way : List ℕ) × LeadsUp s way m n
-lifted_above s None n e = absurd cc
-lifted_above s (Some m) n e = found_above s (has_members s.members) (suc m) (Some m) n e
+module _ (stays : ℕ → Bool) (s : PeerGroups) where
+  pub lifted_above : (start : Option ℕ) (n : ℕ) → lifted stays s start ≡ Some n → (m : ℕ) × (start ≡ Some m) × (way : List ℕ) × LeadsUp s way m n
+  lifted_above None n e = absurd cc
+  lifted_above (Some m) n e = found_above s stays (suc m) (Some m) n e
 
-pub lifted_has : (s : PeerGroups) (start : Option ℕ) (n : ℕ) → lifted s start ≡ Some n → has_members s.members n ≡ true
-lifted_has s start n e = found_passes (has_members s.members) (up s start) n e
+  pub lifted_stays : (start : Option ℕ) (n : ℕ) → lifted stays s start ≡ Some n → stays n ≡ true
+  lifted_stays start n e = found_passes stays (up s start) n e
 
--- the look-ups of a settled state
-group_in_lifted : (s : PeerGroups) (o : Option MemberRow) → group_in (option_map (lifted_member s) o) ≡ group_in o
-group_in_lifted s None = refl
-group_in_lifted s (Some row) = refl
+  -- the look-ups of a settled state
+  group_in_lifted : (o : Option MemberRow) → group_in (option_map (lifted_member stays s) o) ≡ group_in o
+  group_in_lifted None = refl
+  group_in_lifted (Some row) = refl
 
-slave_in_lifted : (s : PeerGroups) (o : Option MemberRow) → slave_in (option_map (lifted_member s) o) ≡ lifted s (slave_in o)
-slave_in_lifted s None = refl
-slave_in_lifted s (Some row) = refl
+  slave_in_lifted : (o : Option MemberRow) → slave_in (option_map (lifted_member stays s) o) ≡ lifted stays s (slave_in o)
+  slave_in_lifted None = refl
+  slave_in_lifted (Some row) = refl
 
-master_in_lifted : (s : PeerGroups) (o : Option GroupRow) → master_in (option_map (lifted_group s) o) ≡ lifted s (master_in o)
-master_in_lifted s None = refl
-master_in_lifted s (Some row) = refl
+  master_in_lifted : (o : Option GroupRow) → master_in (option_map (lifted_group stays s) o) ≡ lifted stays s (master_in o)
+  master_in_lifted None = refl
+  master_in_lifted (Some row) = refl
 
-is_some_mapped : {A B : Type 0} (f : A → B) (o : Option A) → is_some (option_map f o) ≡ is_some o
-is_some_mapped f None = refl
-is_some_mapped f (Some x) = refl
+  is_some_mapped : {A B : Type 0} (f : A → B) (o : Option A) → is_some (option_map f o) ≡ is_some o
+  is_some_mapped f None = refl
+  is_some_mapped f (Some x) = refl
 
-pub member_row-settled : (s : PeerGroups) (m : ℕ) → member_row (settled s).members m ≡ option_map (lifted_member s) (member_row s.members m)
-member_row-settled s m = find_map_same (λ (r : MemberRow). r.mount) m (lifted_member s) (λ r. refl) s.members
+  pub member_row-settled : (m : ℕ) → member_row (settled stays s).members m ≡ option_map (lifted_member stays s) (member_row s.members m)
+  member_row-settled m = find_map_same (λ (r : MemberRow). r.mount) m (lifted_member stays s) (λ r. refl) s.members
 
-group_row-settled : (s : PeerGroups) (g : ℕ) → group_row (settled s).groups g ≡ option_map (lifted_group s) (group_row s.groups g)
-group_row-settled s g = find_map_same (λ (r : GroupRow). r.group) g (lifted_group s) (λ r. refl) s.groups
+  group_row-settled : (g : ℕ) → group_row (settled stays s).groups g ≡ option_map (lifted_group stays s) (group_row s.groups g)
+  group_row-settled g = find_map_same (λ (r : GroupRow). r.group) g (lifted_group stays s) (λ r. refl) s.groups
 
-pub group_of-settled : (s : PeerGroups) (m : ℕ) → group_of (settled s) m ≡ group_of s m
-group_of-settled s m = ap group_in (member_row-settled s m) ∙ group_in_lifted s (member_row s.members m)
+  pub group_of-settled : (m : ℕ) → group_of (settled stays s) m ≡ group_of s m
+  group_of-settled m = ap group_in (member_row-settled m) ∙ group_in_lifted (member_row s.members m)
 
-pub slave-settled : (s : PeerGroups) (m : ℕ) → slave_in (member_row (settled s).members m) ≡ lifted s (slave_in (member_row s.members m))
-slave-settled s m = ap slave_in (member_row-settled s m) ∙ slave_in_lifted s (member_row s.members m)
+  pub slave-settled : (m : ℕ) → slave_in (member_row (settled stays s).members m) ≡ lifted stays s (slave_in (member_row s.members m))
+  slave-settled m = ap slave_in (member_row-settled m) ∙ slave_in_lifted (member_row s.members m)
 
-pub master-settled : (s : PeerGroups) (h : ℕ) → master_of_group (settled s) h ≡ lifted s (master_of_group s h)
-master-settled s h = ap master_in (group_row-settled s h) ∙ master_in_lifted s (group_row s.groups h)
+  pub master-settled : (h : ℕ) → master_of_group (settled stays s) h ≡ lifted stays s (master_of_group s h)
+  master-settled h = ap master_in (group_row-settled h) ∙ master_in_lifted (group_row s.groups h)
 
-pub IsGroup-settled : (s : PeerGroups) (g : ℕ) → is_some (group_row (settled s).groups g) ≡ is_some (group_row s.groups g)
-IsGroup-settled s g = ap is_some (group_row-settled s g) ∙ is_some_mapped (lifted_group s) (group_row s.groups g)
+  pub IsGroup-settled : (g : ℕ) → is_some (group_row (settled stays s).groups g) ≡ is_some (group_row s.groups g)
+  IsGroup-settled g = ap is_some (group_row-settled g) ∙ is_some_mapped (lifted_group stays s) (group_row s.groups g)
 
-pub stands-settled : (s : PeerGroups) (m : ℕ) → is_some (member_row (settled s).members m) ≡ is_some (member_row s.members m)
-stands-settled s m = ap is_some (member_row-settled s m) ∙ is_some_mapped (lifted_member s) (member_row s.members m)
+  -- what leads up in the settled state led up before
+  leads-settled : (way : List ℕ) (h g : ℕ) → LeadsUp (settled stays s) way h g → (before : List ℕ) × LeadsUp s before h g
+  leads-settled [] h g leads = ([], leads)
+  leads-settled (n ∷ way) h g leads =
+      let rest = leads-settled way n g leads.1 in
+      let first = lifted_above (master_of_group s h) n (sym (master-settled h) ∙ leads.0) in
+      (first.0 ∷ first.2 ++ rest.0, (first.1, leads_append s first.2 rest.0 first.0 n g first.3 rest.1))
 
--- what leads up in the settled state led up before
-leads-settled : (s : PeerGroups) (way : List ℕ) (h g : ℕ) → LeadsUp (settled s) way h g → (before : List ℕ) × LeadsUp s before h g
-leads-settled s [] h g leads = ([], leads)
-leads-settled s (n ∷ way) h g leads =
-    let rest = leads-settled s way n g leads.1 in
-    let first = lifted_above s (master_of_group s h) n (sym (master-settled s h) ∙ leads.0) in
-    (first.0 ∷ first.2 ++ rest.0, (first.1, leads_append s first.2 rest.0 first.0 n g first.3 rest.1))
-
-pub under-settled : (s : PeerGroups) (c g : ℕ) → IsUnder (settled s) c g → IsUnder s c g
-under-settled s c g under = go (group_of s c) refl (rw (group_of-settled s c, slave-settled s c) at under.is_home)
-  where
-    go : (in_group : Option ℕ) → group_of s c ≡ in_group → home_where (group_of s c) (lifted s (slave_in (member_row s.members c))) ≡ Some under.home → IsUnder s c g
-    go (Some h) e home =
-        let before = leads-settled s under.way under.home g under.leads in
-        record { home = under.home; is_home = rw e (rw e at home); way = before.0; leads = before.1 }
-    go None e home =
-        let before = leads-settled s under.way under.home g under.leads in
-        let first = lifted_above s (slave_in (member_row s.members c)) under.home (rw e at home) in
-        record { home = first.0; is_home = rw e first.1; way = first.2 ++ before.0; leads = leads_append s first.2 before.0 first.0 under.home g first.3 before.1 }
+  pub under-settled : (c g : ℕ) → IsUnder (settled stays s) c g → IsUnder s c g
+  under-settled c g under = go (group_of s c) refl (rw (group_of-settled c, slave-settled c) at under.is_home)
+    where
+      go : (in_group : Option ℕ) → group_of s c ≡ in_group → home_where (group_of s c) (lifted stays s (slave_in (member_row s.members c))) ≡ Some under.home → IsUnder s c g
+      go (Some h) e home =
+          let before = leads-settled under.way under.home g under.leads in
+          record { home = under.home; is_home = rw e (rw e at home); way = before.0; leads = before.1 }
+      go None e home =
+          let before = leads-settled under.way under.home g under.leads in
+          let first = lifted_above (slave_in (member_row s.members c)) under.home (rw e at home) in
+          record { home = first.0; is_home = rw e first.1; way = first.2 ++ before.0; leads = leads_append s first.2 before.0 first.0 under.home g first.3 before.1 }
 
 -- what stands above a master is a master
 master_above : (s : PeerGroups) (way : List ℕ) (m g : ℕ) → IsMaster s m → LeadsUp s way m g → IsMaster s g
@@ -107,48 +105,34 @@ not_below s orderly (n ∷ way) m g leads =
     let rest : g ≤ n = not_below s orderly way n g leads.1 in
     omega arith
 
--- a master of the settled state was one before, and has members
-master-settled-has : (s : PeerGroups) (g : ℕ) → IsMaster (settled s) g → IsMaster s g × (has_members s.members g ≡ true)
-master-settled-has s g (inl (m, e)) =
-    let lift : lifted s (slave_in (member_row s.members m)) ≡ Some g = sym (slave-settled s m) ∙ e in
-    let above = lifted_above s (slave_in (member_row s.members m)) g lift in
-    (master_above s above.2 above.0 g (inl (m, above.1)) above.3, lifted_has s _ g lift)
-master-settled-has s g (inr (h, e)) =
-    let lift : lifted s (master_of_group s h) ≡ Some g = sym (master-settled s h) ∙ e in
-    let above = lifted_above s (master_of_group s h) g lift in
-    (master_above s above.2 above.0 g (inr (h, above.1)) above.3, lifted_has s _ g lift)
+module _ (stays : ℕ → Bool) (s : PeerGroups) where
+  -- a master of the settled state was one before, and stays
+  pub master-settled-stays : (g : ℕ) → IsMaster (settled stays s) g → IsMaster s g × (stays g ≡ true)
+  master-settled-stays g (inl (m, e)) =
+      let lift : lifted stays s (slave_in (member_row s.members m)) ≡ Some g = sym (slave-settled stays s m) ∙ e in
+      let above = lifted_above stays s (slave_in (member_row s.members m)) g lift in
+      (master_above s above.2 above.0 g (inl (m, above.1)) above.3, lifted_stays stays s _ g lift)
+  master-settled-stays g (inr (h, e)) =
+      let lift : lifted stays s (master_of_group s h) ≡ Some g = sym (master-settled stays s h) ∙ e in
+      let above = lifted_above stays s (master_of_group s h) g lift in
+      (master_above s above.2 above.0 g (inr (h, above.1)) above.3, lifted_stays stays s _ g lift)
 
--- an orderly state settles into a sound one
-pub settled_sound : (s : PeerGroups) → IsOrderly s → IsSound (settled s)
-settled_sound s orderly = record {
-  orderly = record {
-    rising = RiseFrom-map (lifted_member s) (λ r. refl) 0 s.members orderly.rising;
-    groups_rising = RiseBy-map (λ (r : GroupRow). r.group) (lifted_group s) (λ r. refl) 0 s.groups orderly.groups_rising;
-    group_named = λ m g e. IsGroup-settled s g ∙ orderly.group_named m g (sym (group_of-settled s m) ∙ e);
-    master_named = λ g is_master. IsGroup-settled s g ∙ orderly.master_named g (master-settled-has s g is_master).0;
+  -- an orderly state settles into an orderly one
+  pub settled_orderly : IsOrderly s → IsOrderly (settled stays s)
+  settled_orderly orderly = record {
+    rising = RiseFrom-map (lifted_member stays s) (λ r. refl) 0 s.members orderly.rising;
+    groups_rising = RiseBy-map (λ (r : GroupRow). r.group) (lifted_group stays s) (λ r. refl) 0 s.groups orderly.groups_rising;
+    group_named = λ m g e. IsGroup-settled stays s g ∙ orderly.group_named m g (sym (group_of-settled stays s m) ∙ e);
+    master_named = λ g is_master. IsGroup-settled stays s g ∙ orderly.master_named g (master-settled-stays g is_master).0;
     down = λ h g e.
-        let above = lifted_above s (master_of_group s h) g (sym (master-settled s h) ∙ e) in
+        let above = lifted_above stays s (master_of_group s h) g (sym (master-settled stays s h) ∙ e) in
         let first : above.0 < h = orderly.down h above.0 above.1 in
         let rest : g ≤ above.0 = not_below s orderly above.2 above.0 g above.3 in
         omega arith;
-    fresh = λ g is_group. orderly.fresh g (sym (IsGroup-settled s g) ∙ is_group);
-  };
-  peopled = λ g is_master.
-      let member = members_from_test s g orderly.rising (master-settled-has s g is_master).1 in
-      (member.0, group_of-settled s member.0 ∙ member.1);
-}
+    fresh = λ g is_group. orderly.fresh g (sym (IsGroup-settled stays s g) ∙ is_group);
+  }
 
--- the steps of `up` are enough: where a group above has members, the lift finds one
-found_within : (s : PeerGroups) → IsOrderly s → (test : ℕ → Bool) (steps m : ℕ) → m < steps → (way : List ℕ) (g : ℕ) → LeadsUp s way m g → test g ≡ true → is_some (find test (up_within steps s (Some m))) ≡ true
-found_within s orderly test zero m fits way g leads passes = absurd (omega arith)
-found_within s orderly test (suc steps) m fits [] g leads passes = rw (leads, passes) refl
-found_within s orderly test (suc steps) m fits (n ∷ way) g leads passes =
-    let lower : n < m = orderly.down m n leads.0 in
-    rw (leads.0) (go (test m) (found_within s orderly test steps n (omega arith) way g leads.1 passes))
-  where
-    go : (b : Bool) → is_some (find test (up_within steps s (Some n))) ≡ true → is_some (cond b (Some m) (find test (up_within steps s (Some n)))) ≡ true
-    go true ih = refl
-    go false ih = ih
-
-pub lifted_finds : (s : PeerGroups) → IsOrderly s → (m : ℕ) (way : List ℕ) (g : ℕ) → LeadsUp s way m g → has_members s.members g ≡ true → is_some (lifted s (Some m)) ≡ true
-lifted_finds s orderly m way g leads has = found_within s orderly (has_members s.members) (suc m) m (omega arith) way g leads has
+  -- lifting changes no member's group
+  pub has_lifted : (rows : List MemberRow) (g : ℕ) → has_members (map (lifted_member stays s) rows) g ≡ has_members rows g
+  has_lifted [] g = refl
+  has_lifted (r ∷ rows) g = ap (λ (b : Bool). is_just g r.group || b) (has_lifted rows g)

@@ -8,12 +8,11 @@ use Rattle.am_names.specs.declared.row.MemberRow.{MemberRow}
 use Rattle.am_names.specs.declared.row.GroupRow.{GroupRow}
 use Rattle.am_names.specs.PeerGroups.{PeerGroups}
 use Rattle.am_group.specs.Propagation.{member_row, group_row, group_in, slave_in, master_in, group_of, master_of_group}
-use Rattle.am_group.specs.Changes.{settled, at_row, with_row, with_group, shared_from, shared_row, shared_where, made_shared}
-use Rattle.am_group.specs.Invariant.{IsGroup, IsMaster, IsOrderly, IsSound}
+use Rattle.am_group.specs.Changes.{at_row, with_row, with_group, shared_from, shared_row, shared_where, made_shared}
+use Rattle.am_group.specs.Invariant.{IsGroup, IsMaster, HasMembers, IsOrderly, IsPeopled, IsSound}
 use Rattle.am_group.proofs.ReceiveLemmas.{LeadsUp, home_where, home_of, IsUnder}
 use Rattle.am_group.proofs.LookupLemmas.{found_passes, RiseFrom-map, groups_follow}
-use Rattle.am_group.proofs.SettleLemmas.{settled_sound}
-use Rattle.am_group.proofs.LawLemmas.{BringsNoneUnder, law_from_under, none_under-settled}
+use Rattle.am_group.proofs.LawLemmas.{BringsNoneUnder, law_from_under}
 use Rattle.am_group.proofs.ChangeLemmas.{KeepsLaw, member_row-map, at_row_mount}
 
 -- look-ups in group rows with one more, of a number that none has
@@ -195,6 +194,25 @@ module _ (s : PeerGroups) (orderly : IsOrderly s) (m : ℕ) (row : MemberRow) (i
                 (cases_eq c m),
           )
 
+  -- the mount that changes was in no group, so that each master keeps its members
+  still_has : IsPeopled s → (g : ℕ) → IsMaster s g → HasMembers (after s m row) g
+  still_has peopled g is_master =
+      let member = peopled g is_master in
+      let other : member.0 ≡ m → ⊥ = λ same.
+      (let none : None ≡ Some g = sym alone ∙ sym (ap group_in is_row) ∙ ap (λ (x : ℕ). group_of s x) (sym same) ∙ member.1 in cc) in
+      (member.0, ap group_in (other_row member.0 other) ∙ member.1)
+
+  -- a master was one before, and keeps its members
+  pub shared_peopled : IsPeopled s → IsPeopled (after s m row)
+  shared_peopled peopled g (inl (c, e)) = ⊎_elim
+      (λ same. absurd (let no : None ≡ Some g = sym (own_master c same) ∙ e in cc))
+      (λ other. still_has peopled g (inl (c, sym (ap slave_in (other_row c other)) ∙ e)))
+      (cases_eq c m)
+  shared_peopled peopled g (inr (h, e)) = ⊎_elim
+      (λ p. still_has peopled g (inr (h, p.1)))
+      (λ p. still_has peopled g (inl (m, old_slave g p.1)))
+      (master_cases h g e)
+
 pub made_shared_keeps : (m : ℕ) (s : PeerGroups) → IsSound s → KeepsLaw s (made_shared m s)
 made_shared_keeps m s sound = go (member_row s.members m) (group_of s m) refl refl
   where
@@ -205,10 +223,13 @@ made_shared_keeps m s sound = go (member_row s.members m) (group_of s m) refl re
     go None in_group e f = same
     go (Some row) (Some g) e f = same
     go (Some row) None e f = record {
-      sound = settled_sound (after s m row) (shared_orderly s sound.orderly m row e f);
-      law = law_from_under s (settled (after s m row)) sound (none_under-settled s (after s m row) (shared_under s sound.orderly m row e f));
+      sound = record {
+        orderly = shared_orderly s sound.orderly m row e f;
+        peopled = shared_peopled s sound.orderly m row e f sound.peopled;
+      };
+      law = law_from_under s (after s m row) sound.peopled (shared_under s sound.orderly m row e f);
     }
 
 -- what make-shared makes of a mount in no group
-pub shared_here : (s : PeerGroups) (m : ℕ) (row : MemberRow) → member_row s.members m ≡ Some row → row.group ≡ None → made_shared m s ≡ settled (after s m row)
+pub shared_here : (s : PeerGroups) (m : ℕ) (row : MemberRow) → member_row s.members m ≡ Some row → row.group ≡ None → made_shared m s ≡ after s m row
 shared_here s m row is_row alone = rw (is_row, alone) refl

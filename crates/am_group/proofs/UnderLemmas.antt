@@ -1,6 +1,6 @@
 -- The peer groups under another, by one look over rising rows, and the mounts whose home they are.
 use Rattle.std.proofs.Common.{◌≡◌, ◌≤◌, ◌<◌, ◌+◌, ◌↔◌, ℕ, zero, suc, Bool, true, false, cond, ◌||◌, ◌&&◌, List, [], ◌∷◌, ◌++◌, length, take, get_or, Option, Some, None, refl, sym, ap, subst, inl, inr, ◌∙◌, arith}
-use Rattle.std.specs.Prelude.{filter, not, is_some, ◌==◌}
+use Rattle.std.specs.Prelude.{filter, take_while, not, is_some, ◌==◌}
 use Rattle.std.specs.List.{Contains}
 use Rattle.std.specs.List.Sorted.{IsNonDecreasing, IsStrictlyIncreasing}
 use Rattle.std.specs.Option.{option_or}
@@ -11,15 +11,16 @@ use Rattle.am_names.specs.declared.row.MemberRow.{MemberRow}
 use Rattle.am_names.specs.declared.row.GroupRow.{GroupRow}
 use Rattle.am_names.specs.PeerGroups.{PeerGroups}
 use Rattle.am_group.specs.Propagation.{member_row, group_row, group_in, slave_in, master_in, group_of, master_of_group, Receives}
-use Rattle.am_group.specs.Changes.{up, is_among}
-use Rattle.am_group.specs.Invariant.{RiseBy, IsGroup, IsOrderly, IsSound}
+use Rattle.am_group.specs.Changes.{has_members, up_within, is_among}
+use Rattle.am_group.specs.Invariant.{RiseBy, IsGroup, IsOrderly}
 use Rattle.am_group.specs.Scan.{numbers, is_one_of}
-use Rattle.am_group.specs.Receivers.{home_group, is_under, receives, receivers_of, home_in, is_at_or_under, group_numbers, groups_under, under_these}
+use Rattle.am_group.specs.Tables.{AreLive}
+use Rattle.am_group.specs.Receivers.{home_group, peopled_up, is_under, receives, receivers_of, home_in, is_at_or_under, group_numbers, groups_under, under_these}
 use Rattle.am_group.proofs.LookupLemmas.{RiseBy-filter}
 use Rattle.am_group.proofs.FindLemmas.{found_at}
 use Rattle.am_group.proofs.LiftLemmas.{up_master}
 use Rattle.am_group.proofs.ScanLemmas.{has, or_left, has-filter, has-from_filter, has_number, numbers_rise}
-use Rattle.am_group.proofs.ReceiverLemmas.{under_test, receives_test, receives_found, has_from_Contains, Contains_from_has}
+use Rattle.am_group.proofs.ReceiverLemmas.{among_step, under_test, receives_test, receives_found, has_from_Contains, Contains_from_has}
 
 -- ---- rising rows
 
@@ -178,49 +179,65 @@ numbers_more p rows i d within =
 
 -- ---- one look over the groups
 
+-- a chain as far as its groups have members: that of its start, and of the start's master
+up_step : (s : PeerGroups) → IsOrderly s → (own g : ℕ) → is_at_or_under s own g ≡ ((g == own || is_among (peopled_up s (master_of_group s g)) own) && has_members s.members g)
+up_step s orderly own g =
+    among_step (has_members s.members) own g (up_within g s (master_of_group s g)) ∙
+    ap (λ (xs : List ℕ). has_members s.members g && (g == own || is_among (take_while (has_members s.members) xs) own)) (up_master s orderly g) ∙
+    swap (has_members s.members g) (g == own || is_among (peopled_up s (master_of_group s g)) own)
+  where
+    swap : (a b : Bool) → (a && b) ≡ (b && a)
+    swap true true = refl
+    swap true false = refl
+    swap false true = refl
+    swap false false = refl
+
 module _ (s : PeerGroups) (orderly : IsOrderly s) (own : ℕ) where
   -- a group that stands is under where it passes, and so is none
   under_among :
       (rows : List GroupRow) (o : Option ℕ) →
       ((n : ℕ) → o ≡ Some n → is_some (group_row rows n) ≡ true) →
       is_one_of (group_numbers (filter (λ row. is_at_or_under s own row.group) rows)) o ≡
-      is_among (up s o) own
+      is_among (peopled_up s o) own
   under_among rows None there = refl
   under_among rows (Some n) there = kept_among (is_at_or_under s own) rows n (there n refl)
 
   -- the test of a row, by those before it
   pub row_test :
       (i : ℕ) (d : GroupRow) → i < length s.groups →
-      ((get_or s.groups i d).group == own ||
-      is_one_of (group_numbers (filter (λ row. is_at_or_under s own row.group) (take i s.groups))) (get_or s.groups i d).master) ≡
+      (((get_or s.groups i d).group == own ||
+      is_one_of (group_numbers (filter (λ row. is_at_or_under s own row.group) (take i s.groups))) (get_or s.groups i d).master) &&
+      has_members s.members (get_or s.groups i d).group) ≡
       is_at_or_under s own (get_or s.groups i d).group
   row_test i d within =
       let row = get_or s.groups i d in
       let found = row_at 0 s.groups orderly.groups_rising i d within in
       let master : master_of_group s row.group ≡ row.master = ap master_in found.1 in
-      ap (λ (b : Bool). row.group == own || b)
+      ap (λ (b : Bool). (row.group == own || b) && has_members s.members row.group)
       (under_among (take i s.groups) row.master (λ n e.
       stands_before 0 s.groups orderly.groups_rising i n d within (orderly.down row.group n (master ∙ e))
       (orderly.master_named n (inr (row.group, master ∙ e)))) ∙
-      ap (λ (o : Option ℕ). is_among (up s o) own) (sym master) ∙
-      ap (λ (xs : List ℕ). is_among xs own) (sym (up_master s orderly row.group)))
+      ap (λ (o : Option ℕ). is_among (peopled_up s o) own) (sym master)) ∙
+      sym (up_step s orderly own row.group)
 
   -- so one row more comes to those that were taken before
   pub next_under :
       (i : ℕ) (row : GroupRow) → i < length s.groups → get_or s.groups i row ≡ row →
       (before after : List ℕ) →
       before ≡ group_numbers (filter (λ r. is_at_or_under s own r.group) (take i s.groups)) →
-      (passes : Bool) → passes ≡ (row.group == own || is_one_of before row.master) →
+      (live : List ℕ) → AreLive s.members live → (passes : Bool) →
+      passes ≡ ((row.group == own || is_one_of before row.master) && is_among live row.group) →
       after ≡ before ++ cond passes (row.group ∷ []) [] →
       after ≡ group_numbers (filter (λ r. is_at_or_under s own r.group) (take (i + 1) s.groups))
-  next_under i row within at before after were passes tested is =
+  next_under i row within at before after were live are passes tested is =
       let taken = group_numbers (filter (λ (r : GroupRow). is_at_or_under s own r.group) (take i s.groups)) in
-      let test : (row.group == own || is_one_of taken row.master) ≡ is_at_or_under s own row.group =
-      subst (λ (r : GroupRow). (r.group == own || is_one_of taken r.master) ≡ is_at_or_under s own r.group) at (row_test i row within) in
+      let test : ((row.group == own || is_one_of taken row.master) && has_members s.members row.group) ≡ is_at_or_under s own row.group =
+      subst (λ (r : GroupRow). ((r.group == own || is_one_of taken r.master) && has_members s.members r.group) ≡ is_at_or_under s own r.group) at (row_test i row within) in
       let more : group_numbers (filter (λ (r : GroupRow). is_at_or_under s own r.group) (take (i + 1) s.groups)) ≡ taken ++ cond (is_at_or_under s own row.group) (row.group ∷ []) [] =
       subst (λ (r : GroupRow). group_numbers (filter (λ (x : GroupRow). is_at_or_under s own x.group) (take (i + 1) s.groups)) ≡ taken ++ cond (is_at_or_under s own r.group) (r.group ∷ []) []) at (numbers_more (is_at_or_under s own) s.groups i row within) in
       let same : passes ≡ is_at_or_under s own row.group =
-      tested ∙ ap (λ (xs : List ℕ). row.group == own || is_one_of xs row.master) were ∙ test in
+      tested ∙ ap (λ (xs : List ℕ). (row.group == own || is_one_of xs row.master) && is_among live row.group) were ∙
+      ap (λ (b : Bool). (row.group == own || is_one_of taken row.master) && b) (are row.group) ∙ test in
       is ∙
       ap (λ (xs : List ℕ). xs ++ cond passes (row.group ∷ []) []) were ∙
       ap (λ (b : Bool). taken ++ cond b (row.group ∷ []) []) same ∙
@@ -241,13 +258,13 @@ module _ (s : PeerGroups) (orderly : IsOrderly s) (own : ℕ) where
 
 -- ---- one look over the mounts
 
-module _ (s : PeerGroups) (sound : IsSound s) (b own : ℕ) (in_own : group_of s b ≡ Some own) where
+module _ (s : PeerGroups) (orderly : IsOrderly s) (b own : ℕ) (in_own : group_of s b ≡ Some own) where
   home_named : (row : MemberRow) → member_row s.members row.mount ≡ Some row → (n : ℕ) → home_in row ≡ Some n → IsGroup s n
   home_named row found n e = go row.group refl e
     where
       go : (o : Option ℕ) → row.group ≡ o → option_or o row.master ≡ Some n → IsGroup s n
-      go (Some g) f e = sound.orderly.group_named row.mount n (ap group_in found ∙ f ∙ e)
-      go None f e = sound.orderly.master_named n (inl (row.mount, ap slave_in found ∙ e))
+      go (Some g) f e = orderly.group_named row.mount n (ap group_in found ∙ f ∙ e)
+      go None f e = orderly.master_named n (inl (row.mount, ap slave_in found ∙ e))
 
   mount_test :
       (row : MemberRow) → member_row s.members row.mount ≡ Some row →
@@ -255,8 +272,8 @@ module _ (s : PeerGroups) (sound : IsSound s) (b own : ℕ) (in_own : group_of s
   mount_test row found =
       let home : home_group s row.mount ≡ home_in row = ap (λ (o : Option MemberRow). option_or (group_in o) (slave_in o)) found in
       ap (λ (x : Bool). not (row.mount == b) && x)
-      (under_among s sound.orderly own s.groups (home_in row) (home_named row found) ∙
-      ap (λ (o : Option ℕ). is_among (up s o) own) (sym home) ∙
+      (under_among s orderly own s.groups (home_in row) (home_named row found) ∙
+      ap (λ (o : Option ℕ). is_among (peopled_up s o) own) (sym home) ∙
       ap (λ (o : Option ℕ). is_under s o row.mount) (sym in_own))
 
   rows_test :
@@ -279,7 +296,7 @@ module _ (s : PeerGroups) (sound : IsSound s) (b own : ℕ) (in_own : group_of s
   pub homed_listed : under_these (groups_under s own) b s.members ≡ receivers_of s b
   homed_listed =
       rows_test s.members
-      (λ i d within. found_at 0 s.members sound.orderly.rising i (get_or s.members i d).mount d within refl)
+      (λ i d within. found_at 0 s.members orderly.rising i (get_or s.members i d).mount d within refl)
 
 -- ---- the list of receivers
 
@@ -293,20 +310,20 @@ has_home s c m e = go (member_row s.members c) refl e
     go None f e = absurd cc
 
 pub receivers_exact :
-    (s : PeerGroups) → IsSound s → (b c : ℕ) → Contains (receivers_of s b) c ↔ Receives s b c
-receivers_exact s sound b c = (
-  λ h. receives_test s sound b c (has-from_filter (receives s b) (numbers s.members) c (has_from_Contains c _ h)).1,
+    (s : PeerGroups) → IsOrderly s → (b c : ℕ) → Contains (receivers_of s b) c ↔ Receives s b c
+receivers_exact s orderly b c = (
+  λ h. receives_test s orderly b c (has-from_filter (receives s b) (numbers s.members) c (has_from_Contains c _ h)).1,
   λ r.
-      let passes = receives_found s sound b c r in
+      let passes = receives_found s orderly b c r in
       let both = and_parts (not (c == b)) (is_under s (group_of s b) c) passes in
       Contains_from_has c _ (has-filter (receives s b) (numbers s.members) c (stands (group_of s b) both.1) passes),
 )
   where
     stands : (o : Option ℕ) → is_under s o c ≡ true → has c (numbers s.members) ≡ true
     stands None e = absurd cc
-    stands (Some g) e = let up = under_test s (home_group s c) g e in has_home s c up.0 up.1
+    stands (Some g) e = let up = under_test s orderly (home_group s c) g e in has_home s c up.0 up.1
 
-pub receivers_rise : (s : PeerGroups) → IsSound s → (b : ℕ) → IsStrictlyIncreasing (receivers_of s b)
-receivers_rise s sound b =
+pub receivers_rise : (s : PeerGroups) → IsOrderly s → (b : ℕ) → IsStrictlyIncreasing (receivers_of s b)
+receivers_rise s orderly b =
     IsStrictlyIncreasing-filter (receives s b) (numbers s.members)
-    (numbers_rise 0 s.members sound.orderly.rising)
+    (numbers_rise 0 s.members orderly.rising)

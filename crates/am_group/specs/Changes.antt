@@ -28,24 +28,29 @@ abbrev pub up : PeerGroups → Option ℕ → List ℕ
 up s None = []
 up s (Some g) = up_within (suc g) s (Some g)
 
--- own (docs/DECISIONS.md, "A group without members is gone"):
--- in place of a master without members the first group up its chain of masters that has members,
--- else none
-abbrev pub lifted : PeerGroups → Option ℕ → Option ℕ
-lifted s master = find (has_members s.members) (up s master)
+-- in place of a master that doesn't stay the first group up its chain of masters that does, else
+-- none
+abbrev pub lifted : (ℕ → Bool) → PeerGroups → Option ℕ → Option ℕ
+lifted stays s master = find stays (up s master)
 
-abbrev pub lifted_member : PeerGroups → MemberRow → MemberRow
-lifted_member s row = record row { master = lifted s row.master }
+-- the same of a mount's master
+abbrev pub lifted_member : (ℕ → Bool) → PeerGroups → MemberRow → MemberRow
+lifted_member stays s row = record row { master = lifted stays s row.master }
 
-abbrev pub lifted_group : PeerGroups → GroupRow → GroupRow
-lifted_group s row = record row { master = lifted s row.master }
+-- and of a peer group's
+abbrev pub lifted_group : (ℕ → Bool) → PeerGroups → GroupRow → GroupRow
+lifted_group stays s row = record row { master = lifted stays s row.master }
 
--- every master is lifted
-abbrev pub settled : PeerGroups → PeerGroups
-settled s = record s {
-  members = map (lifted_member s) s.members;
-  groups = map (lifted_group s) s.groups;
+-- every master that doesn't stay is lifted
+abbrev pub settled : (ℕ → Bool) → PeerGroups → PeerGroups
+settled stays s = record s {
+  members = map (lifted_member stays s) s.members;
+  groups = map (lifted_group stays s) s.groups;
 }
+
+-- the peer groups that don't stay go
+abbrev pub cleared : (ℕ → Bool) → PeerGroups → PeerGroups
+cleared stays s = record s { groups = filter (λ row. stays row.group) s.groups }
 
 -- slave: of the peer group that it leaves; what is in none stays as it is
 abbrev pub slave_from : Option ℕ → MemberRow → MemberRow
@@ -88,24 +93,22 @@ abbrev pub shared_where : Option MemberRow → Option ℕ → ℕ → PeerGroups
 shared_where None group m s = s
 shared_where (Some row) (Some group) m s = s
 shared_where (Some row) None m s =
-    settled (with_row (shared_row (s.last_group + 1)) m (with_group row.master s))
+    with_row (shared_row (s.last_group + 1)) m (with_group row.master s)
 
 -- own (docs/DECISIONS.md, "A group without members is gone"):
 -- a peer group stays where it has members, or where it had none before
 abbrev pub is_kept : List MemberRow → List MemberRow → ℕ → Bool
 is_kept old new g = has_members new g || not (has_members old g)
 
--- the peer groups that lost their last member go
-abbrev pub cleared : PeerGroups → PeerGroups → PeerGroups
-cleared old s =
-    record s { groups = filter (λ row. is_kept old.members s.members row.group) s.groups }
-
--- the rows of a state that comes after the old one: every master is lifted, and the peer groups
--- that lost their last member go
+-- own (docs/DECISIONS.md, "A group without members is gone"):
+-- the rows of a state that comes after the old one: the peer groups that lost their last member go,
+-- and in place of each as a master the first group up its chain of masters that stays, else none
 abbrev pub left : PeerGroups → PeerGroups → PeerGroups
-left old raw = cleared old (settled raw)
+left old raw =
+    let stays = is_kept old.members raw.members in
+    cleared stays (settled stays raw)
 
--- the four changes: the mount's row, then the masters that it leaves without members
+-- the four changes: the mount's row, then the peer group that it leaves without members
 abbrev pub made_shared : ℕ → PeerGroups → PeerGroups
 made_shared m s = shared_where (member_row s.members m) (group_of s m) m s
 

@@ -37,10 +37,14 @@ pub record IsOrderly (s : PeerGroups) : Type 0 where
   pub down : (h g : ℕ) → master_of_group s h ≡ Some g → g < h
   pub fresh : (g : ℕ) → IsGroup s g → g ≤ s.last_group
 
--- and every master has members
+-- every master has members
+abbrev pub IsPeopled : PeerGroups → Type 0
+IsPeopled s = (g : ℕ) → IsMaster s g → HasMembers s g
+
+-- both
 pub record IsSound (s : PeerGroups) : Type 0 where
   pub orderly : IsOrderly s
-  pub peopled : (g : ℕ) → IsMaster s g → HasMembers s g
+  pub peopled : IsPeopled s
 
 -- the law of receivers: of two mounts that were there before, none receives from the other
 -- unless it did already

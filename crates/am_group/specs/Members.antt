@@ -1,5 +1,5 @@
 -- Mounts and peer groups that are added, and the order of a call's tests.
-use Rattle.std.specs.Prelude.{◌==◌, ◌&&◌, ℕ, Bool, true, false, not, nat_lt, List, [], ◌∷◌, ◌++◌, filter, Option, Some, None, is_some, if◌then◌else◌}
+use Rattle.std.specs.Prelude.{◌≡◌, ◌==◌, ◌&&◌, ℕ, Bool, true, false, not, nat_lt, List, [], ◌∷◌, ◌++◌, filter, Option, Some, None, is_some, if◌then◌else◌}
 use Rattle.am_names.specs.declared.row.MemberRow.{MemberRow}
 use Rattle.am_names.specs.declared.errno.Errno.{Errno}
 use Rattle.am_names.specs.declared.errno.Errno.TheVariants.{EEXIST, EINVAL, ENOSPC}
@@ -10,6 +10,7 @@ use Rattle.am_group.specs.declared.membership.Membership.{Membership}
 use Rattle.am_group.specs.declared.membership.Membership.TheVariants.{InGroup, SlaveOf, Private, Unbindable}
 use Rattle.am_group.specs.Propagation.{member_row, group_row, group_of}
 use Rattle.am_group.specs.Changes.{has_members}
+use Rattle.am_group.specs.Invariant.{IsPeopled}
 
 -- no mount and no peer group
 abbrev pub no_mounts : PeerGroups
@@ -33,31 +34,44 @@ abbrev pub with_member : MemberRow → PeerGroups → PeerGroups
 with_member row s =
     record s { members = below row.mount s.members ++ row ∷ above row.mount s.members }
 
--- own (docs/DECISIONS.md, "A fresh group's master has members"):
--- there may be no master without members
+-- the peer group is there
+abbrev pub is_group : PeerGroups → ℕ → Bool
+is_group s g = is_some (group_row s.groups g)
+
+-- there is no master, or the group is there
 abbrev pub may_be_master : PeerGroups → Option ℕ → Bool
 may_be_master s None = true
-may_be_master s (Some g) = has_members s.members g
+may_be_master s (Some g) = is_group s g
 
--- the group is there, and the master has members
+-- the group is there, in which the mount is or of which it is a slave
 abbrev pub may_have : PeerGroups → Membership → Bool
-may_have s (InGroup g) = is_some (group_row s.groups g)
-may_have s (SlaveOf g) = has_members s.members g
+may_have s (InGroup g) = is_group s g
+may_have s (SlaveOf g) = is_group s g
 may_have s Private = true
 may_have s Unbindable = true
+
+-- there is no master, or it has members
+abbrev pub has_peopled_master : PeerGroups → Option ℕ → Bool
+has_peopled_master s None = true
+has_peopled_master s (Some g) = has_members s.members g
+
+-- where every master has members, and the one that is named does, each master has some afterwards
+abbrev pub KeepsPeopled : Option ℕ → PeerGroups → PeerGroups → Type 0
+KeepsPeopled master old new =
+    IsPeopled old → has_peopled_master old master ≡ true → IsPeopled new
 
 -- the numbers of groups are exhausted: they have 64 bits
 abbrev pub is_exhausted : PeerGroups → Bool
 is_exhausted s = s.last_group == 18446744073709551615
 
--- the tests of `fresh`: the master may be one, a number is left
+-- the tests of `fresh`: the master is there, a number is left
 abbrev pub fresh_refusal : Option ℕ → PeerGroups → Option Errno
 fresh_refusal master s =
     if not (may_be_master s master) then Some EINVAL
     else if is_exhausted s then Some ENOSPC
     else None
 
--- the tests of `add`: the number is new, the mount may have this membership
+-- the tests of `add`: the number is new, the group is there
 abbrev pub add_refusal : ℕ → Membership → PeerGroups → Option Errno
 add_refusal m membership s =
     if is_some (member_row s.members m) then Some EEXIST

@@ -1,4 +1,4 @@
--- The rows of a change before the masters are lifted.
+-- The rows of a change before masters are lifted.
 use Rattle.std.specs.Prelude.{◌≡◌, ◌||◌, ◌&&◌, ℕ, Bool, true, false, not, List, filter}
 use Rattle.std.specs.List.{list_all}
 use Rattle.am_names.specs.declared.row.MemberRow.{MemberRow}
@@ -49,10 +49,9 @@ abbrev pub without_groups : List ℕ → PeerGroups → PeerGroups
 without_groups lost s =
     record s { groups = filter (λ row. not (is_among lost row.group)) s.groups }
 
--- of these rows those are left whose group is among the new ones, or isn't among the old
-abbrev pub left_among : List ℕ → List ℕ → List GroupRow → List GroupRow
-left_among old new rows =
-    filter (λ row. is_among new row.group || not (is_among old row.group)) rows
+-- the peer group is among the new ones, or isn't among the old
+abbrev pub is_left : List ℕ → List ℕ → ℕ → Bool
+is_left old new g = is_among new g || not (is_among old g)
 
 -- what a change makes of a row
 abbrev pub row_of : Change → ℕ → MemberRow → MemberRow

@@ -5,13 +5,13 @@ ghost use Rattle.am_names.specs.Errno.{RefusedAs};
 ghost use Rattle.am_group.specs.Propagation.{member_row, group_of, master_of_group};
 ghost use Rattle.am_group.specs.Changes.{with_group};
 ghost use Rattle.am_group.specs.Copies.{all_added};
-ghost use Rattle.am_group.specs.Invariant.{AddsNoReceivers, IsSound};
+ghost use Rattle.am_group.specs.Invariant.{AddsNoReceivers, IsOrderly, IsPeopled, IsSound};
 ghost use Rattle.am_group.specs.Kinds.{kind_of_row, kind_of};
-ghost use Rattle.am_group.specs.Members.{no_mounts, below, row_with, with_member, is_exhausted, may_be_master, may_have, fresh_refusal, add_refusal};
+ghost use Rattle.am_group.specs.Members.{no_mounts, below, row_with, with_member, is_exhausted, is_group, may_be_master, may_have, KeepsPeopled, fresh_refusal, add_refusal};
 
 use crate::kind::Kind;
 use crate::membership::Membership;
-use crate::tables::{group_row, has_members, member_row};
+use crate::tables::{group_row, member_row};
 use am_names::{Errno, GroupId, GroupRow, MemberRow, MountId};
 use std::alloc::{AllocError, Global};
 use std::marker::Model;
@@ -20,7 +20,7 @@ mod changes;
 mod receivers;
 
 /// Mounts in rising order of number, and peer groups with their masters (sharedsubtree.rst, 5a).
-/// A master has a lower number than the groups under it, and has members.
+/// A master has a lower number than the groups under it.
 #[derive(Drop)]
 pub struct Groups {
     members: Vec<MemberRow>,
@@ -33,12 +33,12 @@ impl Model for Groups {
 
     ghost Value = { PeerGroups };
 
-    ghost use Rattle.am_group.specs.Invariant.{IsSound};
+    ghost use Rattle.am_group.specs.Invariant.{IsOrderly};
     ghost use Rattle.am_group.specs.Inside.{view_of};
 
     ghost view = { view_of };
 
-    ghost invariant = { λ g. IsSound (view_of g) };
+    ghost invariant = { λ g. IsOrderly (view_of g) };
 }
 
 impl Groups {
@@ -56,7 +56,7 @@ impl Groups {
     /// The mounts, in rising order of number.
     pub fn members(&self) -> &[MemberRow]
         ensures rows { result.now ≡ self.now.members }
-        ensures sound { IsSound self.now }
+        ensures orderly { IsOrderly self.now }
     {
         self.members.as_slice()
     }
@@ -135,11 +135,17 @@ impl Groups {
         self.last_group == u64::MAX
     }
 
+    fn is_group(&self, group: GroupId) -> bool
+        ensures { result ≡ is_group self.now group }
+    {
+        group_row(self.groups.as_slice(), group).is_some()
+    }
+
     fn may_be_master(&self, master: &Option<GroupId>) -> bool
         ensures { result ≡ may_be_master self.now master.now }
     {
         match master {
-            Some(group) => has_members(self.members.as_slice(), *group),
+            Some(group) => self.is_group(*group),
             None => true,
         }
     }
@@ -148,20 +154,20 @@ impl Groups {
         ensures { result ≡ may_have self.now membership.now }
     {
         match membership {
-            Membership::InGroup(group) => group_row(self.groups.as_slice(), *group).is_some(),
-            Membership::SlaveOf(group) => has_members(self.members.as_slice(), *group),
+            Membership::InGroup(group) => self.is_group(*group),
+            Membership::SlaveOf(group) => self.is_group(*group),
             Membership::Private | Membership::Unbindable => true,
         }
     }
 
-    /// A fresh peer group, of the next number. Its master must have members already, so that no
-    /// master is ever without: own (docs/DECISIONS.md, "A fresh group's master has members").
+    /// A fresh peer group, of the next number. Members may come to it, and to its master, later.
     pub fn fresh(&mut self, master: Option<GroupId>) -> Result<GroupId, Errno>
         ensures refusal { RefusedAs (fresh_refusal master self.old) result }
         ensures number { IfOk result (λ group. group ≡ self.old.last_group + 1) }
         ensures ok { OnOk result (self.new ≡ with_group master self.old) }
         ensures err { OnErr result (self.new ≡ self.old) }
         ensures law { AddsNoReceivers self.old self.new }
+        ensures peopled { KeepsPeopled master self.old self.new }
     {
         if !self.may_be_master(&master) {
             return Err(Errno::EINVAL);
@@ -176,13 +182,13 @@ impl Groups {
         Ok(group)
     }
 
-    /// A mount that isn't there yet. A slave's master must have members already:
-    /// own (docs/DECISIONS.md, "A fresh group's master has members").
+    /// A mount that isn't there yet. The peer group that it names may be one without members.
     pub fn add(&mut self, mount: MountId, membership: Membership) -> Result<(), Errno>
         ensures refusal { RefusedAs (add_refusal mount membership self.old) result }
         ensures ok { OnOk result (self.new ≡ with_member (row_with membership mount) self.old) }
         ensures err { OnErr result (self.new ≡ self.old) }
-        ensures law { AddsNoReceivers self.old self.new }
+        ensures law { IsPeopled self.old → AddsNoReceivers self.old self.new }
+        ensures peopled { KeepsPeopled (row_with membership mount).master self.old self.new }
     {
         if self.member(mount).is_some() {
             return Err(Errno::EEXIST);
@@ -210,7 +216,8 @@ impl Groups {
         requires sound { IsSound (all_added members.items groups.items self.old) }
         ensures ok { OnOk result (self.new ≡ all_added members.items groups.items self.old) }
         ensures err { OnErr result (self.new ≡ self.old) }
-        ensures law { AddsNoReceivers self.old self.new }
+        ensures law { IsPeopled self.old → AddsNoReceivers self.old self.new }
+        ensures peopled { IsPeopled self.old → IsPeopled self.new }
     {
         let count = groups.len();
         self.members.reserve(members.len())?;

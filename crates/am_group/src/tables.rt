@@ -1,13 +1,13 @@
-//! The rows of a change before the masters are lifted.
+//! The rows of a change before masters are lifted.
 
 ghost use Rattle.std.specs.List.{list_all};
 ghost use Rattle.std.specs.List.Sorted.{IsNonDecreasing};
-ghost use Rattle.std.specs.Prelude.{◌≡◌, ◌||◌, not, map, IfOk};
+ghost use Rattle.std.specs.Prelude.{◌≡◌, not, map, filter, IfOk};
 ghost use Rattle.am_group.specs.Propagation.{member_row, group_row, master_of_group};
-ghost use Rattle.am_group.specs.Changes.{is_just, has_members, is_among, lifted, lifted_member, lifted_group};
+ghost use Rattle.am_group.specs.Changes.{is_among, lifted, lifted_member, lifted_group};
 ghost use Rattle.am_group.specs.Invariant.{RiseFrom, IsOrderly};
 ghost use Rattle.am_group.specs.Scan.{is_one_of};
-ghost use Rattle.am_group.specs.Tables.{state_of, AreLive, AreLiveAmong, AreOthers, left_among, is_free_group, is_free_of, without_groups};
+ghost use Rattle.am_group.specs.Tables.{state_of, AreLive, AreLiveAmong, AreOthers, is_left, is_free_group, is_free_of, without_groups};
 
 use am_names::{GroupId, GroupRow, MemberRow, MountId};
 use std::alloc::{AllocError, Global};
@@ -20,16 +20,6 @@ pub struct Tables {
     pub last_group: u64,
 }
 
-/// Whether the group of a mount, or its master, is this one.
-pub fn is_just(group: GroupId, of: Option<GroupId>) -> bool
-    ensures { result ≡ is_just group of }
-{
-    match of {
-        Some(other) => other == group,
-        None => false,
-    }
-}
-
 /// The mount's row. The rows rise by number, so that halves of them are left out at a time.
 pub fn member_row(members: &[MemberRow], mount: MountId) -> Option<MemberRow>
     requires { RiseFrom 0 members.now }
@@ -40,13 +30,6 @@ pub fn member_row(members: &[MemberRow], mount: MountId) -> Option<MemberRow>
         Ok(at) => Some(members[at]),
         Err(_) => None,
     }
-}
-
-/// Whether a mount is in the peer group.
-pub fn has_members(members: &[MemberRow], group: GroupId) -> bool
-    ensures { result ≡ has_members members.now group }
-{
-    members.iter().copied().any(|row| is_just(group, row.group))
 }
 
 /// The peer groups of these mounts.
@@ -175,7 +158,7 @@ fn is_free_group(row: &GroupRow, lost: &[GroupId]) -> bool
 fn is_kept(old: &[GroupId], new: &[GroupId], group: GroupId) -> bool
     requires old { IsNonDecreasing old.now }
     requires new { IsNonDecreasing new.now }
-    ensures { result ≡ (is_among new.now group || not (is_among old.now group)) }
+    ensures { result ≡ is_left old.now new.now group }
 {
     if is_among(new, group) {
         return true;
@@ -187,7 +170,7 @@ fn is_kept(old: &[GroupId], new: &[GroupId], group: GroupId) -> bool
 pub fn clear(groups: &mut Vec<GroupRow>, old: &[GroupId], new: &[GroupId])
     requires old { IsNonDecreasing old.now }
     requires new { IsNonDecreasing new.now }
-    ensures { groups.new.items ≡ left_among old.now new.now groups.old.items }
+    ensures { groups.new.items ≡ filter (λ row. is_left old.now new.now row.group) groups.old.items }
 {
     groups.retain(|row| is_kept(old, new, row.group));
 }
@@ -233,15 +216,17 @@ impl Tables {
         }
     }
 
-    fn lifted(&self, live: &[GroupId], master: Option<GroupId>) -> Option<GroupId>
+    /// The first peer group up the chain that stays: of the old and the new ones that have
+    /// members, it is among the new, or isn't among the old.
+    fn lifted(&self, old: &[GroupId], new: &[GroupId], master: Option<GroupId>) -> Option<GroupId>
         requires orderly { IsOrderly (state_of self.now) }
-        requires ordered { IsNonDecreasing live.now }
-        requires exact { AreLive (state_of self.now).members live.now }
-        ensures { result ≡ lifted (state_of self.now) master }
+        requires old { IsNonDecreasing old.now }
+        requires new { IsNonDecreasing new.now }
+        ensures { result ≡ lifted (is_left old.now new.now) (state_of self.now) master }
     {
         let mut current = master;
         while let Some(group) = current {
-            if is_among(live, group) {
+            if is_kept(old, new, group) {
                 return Some(group);
             }
             current = self.master_of_group(group);
@@ -253,16 +238,17 @@ impl Tables {
     pub fn settled_members(
         &self,
         alloc: Global,
-        live: &[GroupId],
+        old: &[GroupId],
+        new: &[GroupId],
     ) -> Result<Vec<MemberRow>, AllocError>
         requires orderly { IsOrderly (state_of self.now) }
-        requires ordered { IsNonDecreasing live.now }
-        requires exact { AreLive (state_of self.now).members live.now }
-        ensures { IfOk result (λ v. v.items ≡ map (lifted_member (state_of self.now)) (state_of self.now).members) }
+        requires old { IsNonDecreasing old.now }
+        requires new { IsNonDecreasing new.now }
+        ensures { IfOk result (λ v. v.items ≡ map (lifted_member (is_left old.now new.now) (state_of self.now)) (state_of self.now).members) }
     {
         let mut rows = Vec::new(alloc);
         for row in self.members.iter() {
-            let master = self.lifted(live, row.master);
+            let master = self.lifted(old, new, row.master);
             rows.push(MemberRow { master, ..*row })?;
         }
         Ok(rows)
@@ -272,16 +258,17 @@ impl Tables {
     pub fn settled_groups(
         &self,
         alloc: Global,
-        live: &[GroupId],
+        old: &[GroupId],
+        new: &[GroupId],
     ) -> Result<Vec<GroupRow>, AllocError>
         requires orderly { IsOrderly (state_of self.now) }
-        requires ordered { IsNonDecreasing live.now }
-        requires exact { AreLive (state_of self.now).members live.now }
-        ensures { IfOk result (λ v. v.items ≡ map (lifted_group (state_of self.now)) (state_of self.now).groups) }
+        requires old { IsNonDecreasing old.now }
+        requires new { IsNonDecreasing new.now }
+        ensures { IfOk result (λ v. v.items ≡ map (lifted_group (is_left old.now new.now) (state_of self.now)) (state_of self.now).groups) }
     {
         let mut rows = Vec::new(alloc);
         for row in self.groups.iter() {
-            let master = self.lifted(live, row.master);
+            let master = self.lifted(old, new, row.master);
             rows.push(GroupRow { master, ..*row })?;
         }
         Ok(rows)

@@ -131,8 +131,8 @@ number_has (r ∷ rows) m e = go (eqb m r.mount) refl e (number_has rows m)
 module _ (s : PeerGroups) (sound : IsSound s) (b : ℕ) where
   pub receiver_exact : (r : ℕ) → (has r (receivers_of s b) ≡ true) ↔ Receives s b r
   receiver_exact r = (
-    λ h. receives_test s sound b r (has-from_filter (receives s b) (numbers s.members) r h).1,
-    λ h. has-filter (receives s b) (numbers s.members) r (has_number s.members r (there r h)) (receives_found s sound b r h),
+    λ h. receives_test s sound.orderly b r (has-from_filter (receives s b) (numbers s.members) r h).1,
+    λ h. has-filter (receives s b) (numbers s.members) r (has_number s.members r (there r h)) (receives_found s sound.orderly b r h),
   )
     where
       home_there : (o : Option MemberRow) (h : ℕ) → home_where (group_in o) (slave_in o) ≡ Some h → is_some o ≡ true

@@ -6,7 +6,7 @@ use Rattle.am_names.specs.PeerGroups.{PeerGroups}
 use Rattle.am_group.specs.declared.kind.Change.{Change}
 use Rattle.am_group.specs.declared.kind.Change.TheVariants.{MakeShared, MakeSlave, MakePrivate, MakeUnbindable}
 use Rattle.am_group.specs.Propagation.{member_row, group_of}
-use Rattle.am_group.specs.Changes.{slave_row, private_row, unbindable_row, shared_row, at_row, with_row, with_group, shared_where, changed}
+use Rattle.am_group.specs.Changes.{is_kept, slave_row, private_row, unbindable_row, shared_row, at_row, with_row, shared_where, changed}
 use Rattle.am_group.specs.Invariant.{IsSound}
 use Rattle.am_group.specs.Scan.{numbers}
 use Rattle.am_group.proofs.ChangeLemmas.{KeepsLaw, slave_row_thins, at_row_mount, made_slave_keeps, made_private_keeps, made_unbindable_keeps}
@@ -33,14 +33,13 @@ shared_numbers : (o : Option MemberRow) (g : Option ℕ) (m : ℕ) (s : PeerGrou
 shared_numbers None g m s = refl
 shared_numbers (Some row) (Some g) m s = refl
 shared_numbers (Some row) None m s =
-    numbers-settled (with_row (shared_row (s.last_group + 1)) m (with_group row.master s)) (map (at_row (shared_row (s.last_group + 1)) m) s.members) ∙
     row_numbers (shared_row (s.last_group + 1)) (shared_mount (s.last_group + 1)) m s
 
 changed_numbers : (change : Change) (m : ℕ) (s : PeerGroups) → numbers (changed change m s).members ≡ numbers s.members
 changed_numbers MakeShared m s = shared_numbers (member_row s.members m) (group_of s m) m s
-changed_numbers MakeSlave m s = numbers-settled (with_row slave_row m s) (map (at_row slave_row m) s.members) ∙ row_numbers slave_row slave_row_thins.same_mount m s
-changed_numbers MakePrivate m s = numbers-settled (with_row private_row m s) (map (at_row private_row m) s.members) ∙ row_numbers private_row (λ r. refl) m s
-changed_numbers MakeUnbindable m s = numbers-settled (with_row unbindable_row m s) (map (at_row unbindable_row m) s.members) ∙ row_numbers unbindable_row (λ r. refl) m s
+changed_numbers MakeSlave m s = numbers-settled (is_kept s.members (map (at_row slave_row m) s.members)) (with_row slave_row m s) (map (at_row slave_row m) s.members) ∙ row_numbers slave_row slave_row_thins.same_mount m s
+changed_numbers MakePrivate m s = numbers-settled (is_kept s.members (map (at_row private_row m) s.members)) (with_row private_row m s) (map (at_row private_row m) s.members) ∙ row_numbers private_row (λ r. refl) m s
+changed_numbers MakeUnbindable m s = numbers-settled (is_kept s.members (map (at_row unbindable_row m) s.members)) (with_row unbindable_row m s) (map (at_row unbindable_row m) s.members) ∙ row_numbers unbindable_row (λ r. refl) m s
 
 pub changed_whole : (t : MountTable) → IsWhole t → (change : Change) (m : ℕ) → IsWhole (with_change change m t)
 changed_whole t whole change m = record {

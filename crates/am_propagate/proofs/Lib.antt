@@ -5,6 +5,7 @@ pub mod KindLemmas
 pub mod LoopLemmas
 pub mod NamespaceLemmas
 pub mod NumberLemmas
+pub mod OpeningLemmas
 pub mod RemovalLemmas
 pub mod SearchLemmas
 pub mod StandLemmas

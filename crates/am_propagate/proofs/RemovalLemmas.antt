@@ -10,7 +10,7 @@ use Rattle.am_names.specs.declared.row.MemberRow.{MemberRow}
 use Rattle.am_names.specs.declared.row.Position.{Position}
 use Rattle.am_names.specs.PeerGroups.{PeerGroups}
 use Rattle.am_group.specs.Propagation.{member_row, group_in, slave_in, master_where, PropagatesTo, PropagatesBy, Receives}
-use Rattle.am_group.specs.Changes.{lifted_member, with_only}
+use Rattle.am_group.specs.Changes.{is_kept, lifted_member, with_only}
 use Rattle.am_group.specs.Invariant.{AddsNoReceivers}
 use Rattle.am_group.specs.Receivers.{receivers_of}
 use Rattle.am_group.specs.Scan.{numbers}
@@ -31,9 +31,9 @@ keys-filter {R} key keeps (r ∷ rows) = go (keeps (key r)) (keys-filter key kee
     go true ih = ap (λ (xs : List ℕ). key r ∷ xs) ih
     go false ih = ih
 
-pub numbers-settled : (s : PeerGroups) (rows : List MemberRow) → numbers (map (lifted_member s) rows) ≡ numbers rows
-numbers-settled s [] = refl
-numbers-settled s (r ∷ rows) = ap (λ (xs : List ℕ). r.mount ∷ xs) (numbers-settled s rows)
+pub numbers-settled : (stays : ℕ → Bool) (s : PeerGroups) (rows : List MemberRow) → numbers (map (lifted_member stays s) rows) ≡ numbers rows
+numbers-settled stays s [] = refl
+numbers-settled stays s (r ∷ rows) = ap (λ (xs : List ℕ). r.mount ∷ xs) (numbers-settled stays s rows)
 
 -- a number is found just where it is among the numbers
 found_named : {R : Type 0} (key : R → ℕ) (rows : List R) (m : ℕ) → is_some (find (λ r. key r == m) rows) ≡ is_among (map key rows) m
@@ -103,7 +103,7 @@ module _ (t : MountTable) (whole : IsWhole t) where
         keys-filter (λ (r : MountRow). r.mount) (λ n. not (is_among gone n)) t.rows ∙
         ap (filter (λ n. not (is_among gone n))) whole.same_mounts ∙
         sym (keys-filter (λ (r : MemberRow). r.mount) (λ n. not (is_among gone n)) t.groups.members) ∙
-        sym (numbers-settled (with_only (λ n. not (is_among gone n)) t.groups) (with_only (λ n. not (is_among gone n)) t.groups).members);
+        sym (numbers-settled (is_kept t.groups.members (with_only (λ n. not (is_among gone n)) t.groups).members) (with_only (λ n. not (is_among gone n)) t.groups) (with_only (λ n. not (is_among gone n)) t.groups).members);
     numbered = λ m row e. whole.numbered m row (was_row gone m row e).1;
     parents = λ m p row e on.
         let was = was_row gone m row e in

@@ -4,8 +4,8 @@ ghost use Rattle.std.specs.Prelude.{◌≡◌, true, not, filter, None, IfOk, On
 ghost use Rattle.std.specs.Bool.{OnTrue};
 ghost use Rattle.std.specs.List.Sorted.{IsNonDecreasing};
 ghost use Rattle.am_names.specs.Errno.{RefusedAs};
-ghost use Rattle.am_group.specs.Changes.{settled, left, with_row, made_shared, made_slave, made_private, made_unbindable, changed, is_among, with_only, without};
-ghost use Rattle.am_group.specs.Invariant.{IsOrderly, IsSound, AddsNoReceivers};
+ghost use Rattle.am_group.specs.Changes.{left, with_row, made_shared, made_slave, made_private, made_unbindable, changed, is_among, with_only, without};
+ghost use Rattle.am_group.specs.Invariant.{IsOrderly, IsPeopled, AddsNoReceivers};
 ghost use Rattle.am_group.specs.Kinds.{FollowsTable};
 ghost use Rattle.am_group.specs.Members.{change_refusal};
 ghost use Rattle.am_group.specs.Tables.{state_of, AreLost, without_groups, row_of, gives_up};
@@ -95,22 +95,18 @@ impl Groups {
         })
     }
 
-    /// Takes these rows, and lifts the masters that are left without members.
-    fn settle(&mut self, alloc: Global, raw: Tables) -> Result<(), AllocError>
+    /// Takes these rows.
+    fn settle(&mut self, raw: Tables)
         requires { IsOrderly (state_of raw) }
-        ensures ok { OnOk result (self.new ≡ settled (state_of raw)) }
-        ensures err { OnErr result (self.new ≡ self.old) }
+        ensures { self.new ≡ state_of raw }
     {
-        let live = live_groups(alloc, raw.members.as_slice())?;
-        let members = raw.settled_members(alloc, live.as_slice())?;
-        let groups = raw.settled_groups(alloc, live.as_slice())?;
-        self.members = members;
-        self.groups = groups;
+        self.members = raw.members;
+        self.groups = raw.groups;
         self.last_group = raw.last_group;
-        Ok(())
     }
 
-    /// Takes these rows as `settle` does, and the peer groups that lose their last member go.
+    /// Takes these rows. The peer groups that lose their last member go, and their slaves get the
+    /// first master up the chain that stays.
     fn settle_left(&mut self, alloc: Global, raw: Tables) -> Result<(), AllocError>
         requires { IsOrderly (state_of raw) }
         ensures ok { OnOk result (self.new ≡ left self.old (state_of raw)) }
@@ -118,8 +114,8 @@ impl Groups {
     {
         let old = live_groups(alloc, self.members.as_slice())?;
         let live = live_groups(alloc, raw.members.as_slice())?;
-        let members = raw.settled_members(alloc, live.as_slice())?;
-        let mut groups = raw.settled_groups(alloc, live.as_slice())?;
+        let members = raw.settled_members(alloc, old.as_slice(), live.as_slice())?;
+        let mut groups = raw.settled_groups(alloc, old.as_slice(), live.as_slice())?;
         clear(&mut groups, old.as_slice(), live.as_slice());
         self.members = members;
         self.groups = groups;
@@ -132,7 +128,8 @@ impl Groups {
         ensures refusal { RefusedAs (change_refusal change mount self.old) result }
         ensures ok { OnOk result (self.new ≡ left self.old (with_row (row_of change 0) mount self.old)) }
         ensures err { OnErr result (self.new ≡ self.old) }
-        ensures law { AddsNoReceivers self.old self.new }
+        ensures law { IsPeopled self.old → AddsNoReceivers self.old self.new }
+        ensures peopled { IsPeopled self.old → IsPeopled self.new }
     {
         let _members = &self.members;
         if self.member(mount).is_none() {
@@ -149,7 +146,8 @@ impl Groups {
         ensures refusal { RefusedAs (change_refusal Change.MakeShared mount self.old) result }
         ensures ok { OnOk result (self.new ≡ made_shared mount self.old) }
         ensures err { OnErr result (self.new ≡ self.old) }
-        ensures law { AddsNoReceivers self.old self.new }
+        ensures law { IsPeopled self.old → AddsNoReceivers self.old self.new }
+        ensures peopled { IsPeopled self.old → IsPeopled self.new }
     {
         let Some(row) = self.member(mount) else {
             return Err(Errno::EINVAL);
@@ -167,7 +165,7 @@ impl Groups {
             master: row.master,
         })?;
         raw.last_group = group.0;
-        self.settle(alloc, raw)?;
+        self.settle(raw);
         Ok(())
     }
 
@@ -178,7 +176,8 @@ impl Groups {
         ensures refusal { RefusedAs (change_refusal Change.MakeSlave mount self.old) result }
         ensures ok { OnOk result (self.new ≡ made_slave mount self.old) }
         ensures err { OnErr result (self.new ≡ self.old) }
-        ensures law { AddsNoReceivers self.old self.new }
+        ensures law { IsPeopled self.old → AddsNoReceivers self.old self.new }
+        ensures peopled { IsPeopled self.old → IsPeopled self.new }
     {
         self.give_up(alloc, Change::MakeSlave, mount)
     }
@@ -188,7 +187,8 @@ impl Groups {
         ensures refusal { RefusedAs (change_refusal Change.MakePrivate mount self.old) result }
         ensures ok { OnOk result (self.new ≡ made_private mount self.old) }
         ensures err { OnErr result (self.new ≡ self.old) }
-        ensures law { AddsNoReceivers self.old self.new }
+        ensures law { IsPeopled self.old → AddsNoReceivers self.old self.new }
+        ensures peopled { IsPeopled self.old → IsPeopled self.new }
     {
         self.give_up(alloc, Change::MakePrivate, mount)
     }
@@ -198,7 +198,8 @@ impl Groups {
         ensures refusal { RefusedAs (change_refusal Change.MakeUnbindable mount self.old) result }
         ensures ok { OnOk result (self.new ≡ made_unbindable mount self.old) }
         ensures err { OnErr result (self.new ≡ self.old) }
-        ensures law { AddsNoReceivers self.old self.new }
+        ensures law { IsPeopled self.old → AddsNoReceivers self.old self.new }
+        ensures peopled { IsPeopled self.old → IsPeopled self.new }
     {
         self.give_up(alloc, Change::MakeUnbindable, mount)
     }
@@ -209,7 +210,8 @@ impl Groups {
         ensures ok { OnOk result (self.new ≡ changed change mount self.old) }
         ensures table { OnOk result (FollowsTable change mount self.old self.new) }
         ensures err { OnErr result (self.new ≡ self.old) }
-        ensures law { AddsNoReceivers self.old self.new }
+        ensures law { IsPeopled self.old → AddsNoReceivers self.old self.new }
+        ensures peopled { IsPeopled self.old → IsPeopled self.new }
     {
         let _members = &self.members;
         match change {
@@ -239,32 +241,21 @@ impl Groups {
         Ok(lost)
     }
 
-    /// Takes these rows, where no master of theirs has lost its last member: the peer groups that
-    /// did go, and none is lifted.
-    fn settle_free(&mut self, mut raw: Tables, lost: &[GroupId])
-        requires ordered { IsNonDecreasing lost.now }
-        requires sound { IsSound (without_groups lost.now (state_of raw)) }
-        ensures { self.new ≡ without_groups lost.now (state_of raw) }
-    {
-        raw.drop_groups(lost);
-        self.members = raw.members;
-        self.groups = raw.groups;
-        self.last_group = raw.last_group;
-    }
-
     /// Takes these mounts away, as an unmount does. Of the numbers that are no mount's, nothing
-    /// comes. Masters that are left without members are lifted once, at the end.
+    /// comes. The peer groups that lose their last member go once, at the end.
     pub fn leave(&mut self, alloc: Global, gone: &[MountId]) -> Result<(), Errno>
         ensures refusal { RefusedAs None result }
         ensures ok { OnOk result (self.new ≡ without (is_among gone.now) self.old) }
         ensures err { OnErr result (self.new ≡ self.old) }
-        ensures law { AddsNoReceivers self.old self.new }
+        ensures law { IsPeopled self.old → AddsNoReceivers self.old self.new }
+        ensures peopled { IsPeopled self.old → IsPeopled self.new }
     {
         let _members = &self.members;
-        let raw = self.with_only(alloc, gone)?;
+        let mut raw = self.with_only(alloc, gone)?;
         let lost = self.lost(alloc, raw.members.as_slice(), gone)?;
         if raw.is_free_of(lost.as_slice()) {
-            self.settle_free(raw, lost.as_slice());
+            raw.drop_groups(lost.as_slice());
+            self.settle(raw);
             return Ok(());
         }
         self.settle_left(alloc, raw)?;

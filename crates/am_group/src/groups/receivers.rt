@@ -9,10 +9,11 @@ ghost use Rattle.am_group.specs.Changes.{is_among};
 ghost use Rattle.am_group.specs.Copies.{AreOfReceivers, receiving_groups};
 ghost use Rattle.am_group.specs.Propagation.{Receives};
 ghost use Rattle.am_group.specs.Scan.{is_one_of};
+ghost use Rattle.am_group.specs.Tables.{AreLive};
 ghost use Rattle.am_group.specs.Receivers.{home_in, groups_under, under_these, receivers_of};
 
 use crate::groups::Groups;
-use crate::tables::{is_among, is_one_of};
+use crate::tables::{is_among, is_one_of, live_groups};
 use am_names::{Errno, GroupId, GroupRow, MemberRow, MountId};
 use std::alloc::{AllocError, Global};
 
@@ -35,6 +36,18 @@ fn is_next(row: &GroupRow, own: GroupId, under: &[GroupId]) -> bool
         return true;
     }
     is_one_of(row.master, under)
+}
+
+/// Whether it is next, and has members.
+fn is_live_next(row: &GroupRow, own: GroupId, under: &[GroupId], live: &[GroupId]) -> bool
+    requires under { IsNonDecreasing under.now }
+    requires live { IsNonDecreasing live.now }
+    ensures { result ≡ (((row.now.group == own) || is_one_of under.now row.now.master) && is_among live.now row.now.group) }
+{
+    if !is_next(row, own, under) {
+        return false;
+    }
+    is_among(live, row.group)
 }
 
 /// Those of the peer groups, without the mount's own, that are among these, which stand in order
@@ -69,15 +82,23 @@ fn is_under(row: &MemberRow, mount: MountId, groups: &[GroupId]) -> bool
 }
 
 impl Groups {
-    /// The peer group and those under it, in rising order. A master has a lower number than its
-    /// groups, so that one look is enough.
-    fn groups_under(&self, alloc: Global, own: GroupId) -> Result<Vec<GroupId>, AllocError>
+    /// The peer group and those under it, in rising order, without those that have no members, and
+    /// what is under those alone. A master has a lower number than its groups, so that one look is
+    /// enough.
+    fn groups_under(
+        &self,
+        alloc: Global,
+        own: GroupId,
+        live: &[GroupId],
+    ) -> Result<Vec<GroupId>, AllocError>
+        requires ordered { IsNonDecreasing live.now }
+        requires exact { AreLive self.now.members live.now }
         ensures { IfOk result (λ v. v.items ≡ groups_under self.now own) }
     {
         let _members = &self.members;
         let mut under = Vec::new(alloc);
         for row in self.groups.iter() {
-            if is_next(row, own, under.as_slice()) {
+            if is_live_next(row, own, under.as_slice(), live) {
                 under.push(row.group)?;
             }
         }
@@ -114,7 +135,8 @@ impl Groups {
         let Some(own) = self.group_of(mount) else {
             return Ok(Vec::new(alloc));
         };
-        let under = self.groups_under(alloc, own)?;
+        let live = live_groups(alloc, self.members.as_slice())?;
+        let under = self.groups_under(alloc, own, live.as_slice())?;
         let homed = self.homed(alloc, mount, under.as_slice())?;
         Ok(homed)
     }

@@ -46,6 +46,8 @@ enum Call {
     Changes(u64, Change),
     Leaves(u64),
     HasState(u64, Option<Kind>),
+    /// The mounts that receive from this one.
+    Receive(u64, &'static [u64]),
     LastGroup(u64),
     AreGroups(&'static [u64]),
     Members(usize),
@@ -95,6 +97,16 @@ fn leave(alloc: Global, groups: &mut Groups, mount: u64) -> Result<bool, Errno> 
     Ok(true)
 }
 
+fn receive(alloc: Global, groups: &Groups, mount: u64, expected: &[u64]) -> Result<bool, Errno> {
+    let receivers = groups.receivers(alloc, MountId(mount))?;
+    Ok(
+        receivers
+            .iter()
+            .map(|receiver| receiver.0)
+            .eq(expected.iter().copied()),
+    )
+}
+
 fn are_groups(groups: &Groups, expected: &[u64]) -> bool {
     groups
         .groups()
@@ -131,6 +143,7 @@ impl Stage for Table {
             Call::Changes(mount, to) => change(alloc, &mut self.0, mount, to),
             Call::Leaves(mount) => leave(alloc, &mut self.0, mount),
             Call::HasState(mount, state) => Ok(self.0.kind(MountId(mount)) == state),
+            Call::Receive(mount, expected) => receive(alloc, &self.0, mount, expected),
             Call::LastGroup(group) => Ok(self.0.last_group() == GroupId(group)),
             Call::AreGroups(expected) => Ok(are_groups(&self.0, expected)),
             Call::Members(count) => Ok(self.0.members().len() == count),
@@ -149,10 +162,7 @@ const TESTS_IN_ORDER: &[Step<Call>] = &[
     Step::Refused(Call::Adds(1, Part::InGroup(ABSENT)), Errno::EINVAL),
     Step::Refused(Call::Adds(1, Part::SlaveOf(ABSENT)), Errno::EINVAL),
     Step::Refused(Call::FreshUnder(ABSENT, ABSENT), Errno::EINVAL),
-    // A group without members is no master yet.
     Step::Does(Call::Fresh(3)),
-    Step::Refused(Call::FreshUnder(3, 4), Errno::EINVAL),
-    Step::Refused(Call::Adds(1, Part::SlaveOf(3)), Errno::EINVAL),
     Step::Does(Call::Adds(1, Part::InGroup(3))),
     Step::Does(Call::Adds(2, Part::SlaveOf(3))),
     Step::Refused(Call::Changes(99, Change::MakeShared), Errno::EINVAL),
@@ -164,6 +174,58 @@ const TESTS_IN_ORDER: &[Step<Call>] = &[
     Step::Does(Call::Fresh(4)),
     Step::Does(Call::Leaves(20)),
     Step::Does(Call::AreGroups(&[FIRST, 3, 4])),
+];
+
+/// Both groups are there before any mount is.
+const GROUPS_FIRST: &[Step<Call>] = &[
+    Step::Does(Call::Fresh(FIRST)),
+    Step::Does(Call::FreshUnder(FIRST, SECOND)),
+    Step::Does(Call::Adds(2, Part::InGroup(FIRST))),
+    Step::Does(Call::Adds(3, Part::InGroup(FIRST))),
+    Step::Does(Call::Adds(4, Part::InGroup(SECOND))),
+    Step::Does(Call::Adds(5, Part::SlaveOf(SECOND))),
+    Step::Does(Call::HasState(3, Some(Kind::Shared))),
+    Step::Does(Call::HasState(4, Some(Kind::SharedSlave))),
+    Step::Does(Call::HasState(5, Some(Kind::Slave))),
+    Step::Does(Call::Receive(2, &[3, 4, 5])),
+    Step::Does(Call::Receive(4, &[5])),
+    Step::Does(Call::Receive(5, &[])),
+    Step::Does(Call::Makes(4, Change::MakePrivate)),
+    Step::Does(Call::HasState(5, Some(Kind::Slave))),
+    Step::Does(Call::Receive(3, &[2, 5])),
+    Step::Does(Call::Makes(2, Change::MakeSlave)),
+    Step::Does(Call::Makes(3, Change::MakeSlave)),
+    Step::Does(Call::HasState(2, Some(Kind::Private))),
+    Step::Does(Call::HasState(3, Some(Kind::Private))),
+    Step::Does(Call::HasState(5, Some(Kind::Private))),
+];
+
+/// The groups 1, 2 and 3, each under the one before. What is under 2 receives nothing until 2 has
+/// a member, and a change of another mount leaves 2 as it is. Its last member takes it along.
+const MEMBERS_LAST: &[Step<Call>] = &[
+    Step::Does(Call::Fresh(FIRST)),
+    Step::Does(Call::FreshUnder(FIRST, SECOND)),
+    Step::Does(Call::FreshUnder(SECOND, 3)),
+    Step::Does(Call::Adds(5, Part::SlaveOf(SECOND))),
+    Step::Does(Call::Adds(6, Part::InGroup(3))),
+    Step::Does(Call::HasState(5, Some(Kind::Slave))),
+    Step::Does(Call::HasState(6, Some(Kind::SharedSlave))),
+    Step::Does(Call::Adds(1, Part::InGroup(FIRST))),
+    Step::Does(Call::Receive(1, &[])),
+    Step::Does(Call::Adds(9, Part::Private)),
+    Step::Does(Call::Makes(9, Change::MakeShared)),
+    Step::Does(Call::Makes(9, Change::MakePrivate)),
+    Step::Does(Call::Leaves(9)),
+    Step::Does(Call::Makes(5, Change::MakeSlave)),
+    Step::Does(Call::HasState(5, Some(Kind::Slave))),
+    Step::Does(Call::Receive(1, &[])),
+    Step::Does(Call::Adds(4, Part::InGroup(SECOND))),
+    Step::Does(Call::Receive(1, &[4, 5, 6])),
+    Step::Does(Call::Receive(4, &[5, 6])),
+    Step::Does(Call::Leaves(4)),
+    Step::Does(Call::AreGroups(&[FIRST, 3])),
+    Step::Does(Call::Receive(1, &[5, 6])),
+    Step::Refused(Call::FreshUnder(SECOND, 5), Errno::EINVAL),
 ];
 
 const ALL_TOGETHER: &[Step<Call>] = &[
@@ -178,7 +240,8 @@ const NUMBERS: &[Step<Call>] = &[
     Step::Does(Call::LastGroup(0)),
     Step::Does(Call::Fresh(FIRST)),
     Step::Does(Call::LastGroup(FIRST)),
-    Step::Refused(Call::FreshUnder(FIRST, SECOND), Errno::EINVAL),
+    Step::Refused(Call::FreshUnder(ABSENT, SECOND), Errno::EINVAL),
+    Step::Does(Call::LastGroup(FIRST)),
     Step::Does(Call::Adds(1, Part::InGroup(FIRST))),
     Step::Does(Call::Adds(2, Part::Private)),
     Step::Refused(Call::Makes(3, Change::MakeShared), Errno::EINVAL),
@@ -192,8 +255,10 @@ const NUMBERS: &[Step<Call>] = &[
     Step::Does(Call::Makes(1, Change::MakeSlave)),
 ];
 
-static EXAMPLES: [(&str, &[&[Step<Call>]]); 3] = [
+static EXAMPLES: [(&str, &[&[Step<Call>]]); 5] = [
     ("each call tests in order", &[TESTS_IN_ORDER]),
+    ("groups are there before their members", &[GROUPS_FIRST]),
+    ("a group without members hands nothing on", &[MEMBERS_LAST]),
     ("mounts added all together", &[ALL_TOGETHER]),
     ("numbers go up with each group that is made", &[NUMBERS]),
 ];

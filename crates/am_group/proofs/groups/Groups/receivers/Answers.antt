@@ -3,7 +3,7 @@ use Rattle.std.specs.List.{Contains}
 use Rattle.std.specs.List.Sorted.{IsNonDecreasing, IsStrictlyIncreasing}
 use Rattle.am_names.specs.PeerGroups.{PeerGroups}
 use Rattle.am_group.specs.Propagation.{group_of, Receives}
-use Rattle.am_group.specs.Invariant.{IsSound}
+use Rattle.am_group.specs.Invariant.{IsOrderly}
 use Rattle.am_group.specs.Receivers.{under_these, receivers_of}
 use Rattle.am_group.proofs.EarlyLemmas.{none_exact, none_listed}
 use Rattle.am_group.proofs.UnderLemmas.{under_ordered, homed_listed, receivers_exact, receivers_rise}
@@ -25,44 +25,44 @@ returns-in_default-clause-listed c =
 pub homed-requires : goal.homed-requires
 homed-requires c =
     let s = c.args.self.now in
-    let sound : IsSound s = subst (λ (v : PeerGroups). IsSound v) c.self.view_is c.self.invariant in
-    subst (λ (xs : List ℕ). IsNonDecreasing xs) (sym (c.as_slice.ensures.value ∙ c.in_ok-under.ensures))
-    (under_ordered s sound.orderly c.in-Some.own)
+    let orderly : IsOrderly s = subst (λ (v : PeerGroups). IsOrderly v) c.self.view_is c.self.invariant in
+    subst (λ (xs : List ℕ). IsNonDecreasing xs) (sym (c.as_slice-3.ensures.value ∙ c.in_ok-under.ensures))
+    (under_ordered s orderly c.in-Some.own)
 
 pub returns-clause-exact : goal.returns-clause-exact
 returns-clause-exact c =
     let s = c.args.self.now in
     let mount = c.args.mount in
     let own = c.in-Some.own in
-    let sound : IsSound s = subst (λ (v : PeerGroups). IsSound v) c.self.view_is c.self.invariant in
+    let orderly : IsOrderly s = subst (λ (v : PeerGroups). IsOrderly v) c.self.view_is c.self.invariant in
     let in_own : group_of s mount ≡ Some own = sym c.group_of.ensures ∙ c.in-Some.is in
     let listed : c.in_ok-homed.homed.items ≡ receivers_of s mount =
     c.in_ok-homed.ensures ∙
-    ap (λ (xs : List ℕ). under_these xs mount s.members) (c.as_slice.ensures.value ∙ c.in_ok-under.ensures) ∙
-    homed_listed s sound mount own in_own in
+    ap (λ (xs : List ℕ). under_these xs mount s.members) (c.as_slice-3.ensures.value ∙ c.in_ok-under.ensures) ∙
+    homed_listed s orderly mount own in_own in
     λ other. subst (λ (xs : List ℕ). Contains xs other ↔ Receives s mount other) (sym listed)
-    (receivers_exact s sound mount other)
+    (receivers_exact s orderly mount other)
 
 pub returns-clause-rising : goal.returns-clause-rising
 returns-clause-rising c =
     let s = c.args.self.now in
     let mount = c.args.mount in
     let own = c.in-Some.own in
-    let sound : IsSound s = subst (λ (v : PeerGroups). IsSound v) c.self.view_is c.self.invariant in
+    let orderly : IsOrderly s = subst (λ (v : PeerGroups). IsOrderly v) c.self.view_is c.self.invariant in
     let in_own : group_of s mount ≡ Some own = sym c.group_of.ensures ∙ c.in-Some.is in
     let listed : c.in_ok-homed.homed.items ≡ receivers_of s mount =
     c.in_ok-homed.ensures ∙
-    ap (λ (xs : List ℕ). under_these xs mount s.members) (c.as_slice.ensures.value ∙ c.in_ok-under.ensures) ∙
-    homed_listed s sound mount own in_own in
-    subst (λ (xs : List ℕ). IsStrictlyIncreasing xs) (sym listed) (receivers_rise s sound mount)
+    ap (λ (xs : List ℕ). under_these xs mount s.members) (c.as_slice-3.ensures.value ∙ c.in_ok-under.ensures) ∙
+    homed_listed s orderly mount own in_own in
+    subst (λ (xs : List ℕ). IsStrictlyIncreasing xs) (sym listed) (receivers_rise s orderly mount)
 
 pub returns-clause-listed : goal.returns-clause-listed
 returns-clause-listed c =
     let s = c.args.self.now in
     let mount = c.args.mount in
     let own = c.in-Some.own in
-    let sound : IsSound s = subst (λ (v : PeerGroups). IsSound v) c.self.view_is c.self.invariant in
+    let orderly : IsOrderly s = subst (λ (v : PeerGroups). IsOrderly v) c.self.view_is c.self.invariant in
     let in_own : group_of s mount ≡ Some own = sym c.group_of.ensures ∙ c.in-Some.is in
     c.in_ok-homed.ensures ∙
-    ap (λ (xs : List ℕ). under_these xs mount s.members) (c.as_slice.ensures.value ∙ c.in_ok-under.ensures) ∙
-    homed_listed s sound mount own in_own
+    ap (λ (xs : List ℕ). under_these xs mount s.members) (c.as_slice-3.ensures.value ∙ c.in_ok-under.ensures) ∙
+    homed_listed s orderly mount own in_own

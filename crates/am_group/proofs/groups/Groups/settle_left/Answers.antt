@@ -1,14 +1,14 @@
 use Rattle.std.proofs.Common.{◌≡◌, List, ℕ, sym, ap, subst, ◌∙◌}
+use Rattle.std.specs.Prelude.{map, filter}
 use Rattle.am_names.specs.declared.row.MemberRow.{MemberRow}
+use Rattle.am_names.specs.declared.row.GroupRow.{GroupRow}
 use Rattle.am_names.specs.PeerGroups.{PeerGroups}
-use Rattle.am_group.specs.Changes.{settled, left}
-use Rattle.am_group.specs.Invariant.{IsSound}
+use Rattle.am_group.specs.Changes.{lifted_member, lifted_group, left}
+use Rattle.am_group.specs.Invariant.{IsOrderly}
 use Rattle.am_group.specs.Inside.{view_of}
-use Rattle.am_group.specs.Tables.{state_of, AreLive, left_among}
-use Rattle.am_group.proofs.SettleLemmas.{settled_sound}
-use Rattle.am_group.proofs.ClearLemmas.{cleared_sound}
-use Rattle.am_group.proofs.AmongLemmas.{left_live}
-use Rattle.am_group.proofs.LiftLemmas.{left_together}
+use Rattle.am_group.specs.Tables.{state_of, AreLive, is_left}
+use Rattle.am_group.proofs.ChangeLemmas.{left_orderly}
+use Rattle.am_group.proofs.AmongLemmas.{left_together}
 use Rattle.am_group.proofs.groups.Groups.settle_left.Goals as goal
 
 pub invariant_of-self : goal.invariant_of-self
@@ -23,15 +23,20 @@ invariant_of-self c =
     subst (λ (rows : List MemberRow). AreLive rows before) c.as_slice.ensures.value c.in_ok-old.ensures.exact in
     let are : AreLive raw.members live =
     subst (λ (rows : List MemberRow). AreLive rows live) c.as_slice-2.ensures.value c.in_ok-live.ensures.exact in
-    let kept : c.clear.new.groups.items ≡ left_among before live groups =
+    let mounts : members ≡ map (lifted_member (is_left before live) raw) raw.members =
+    c.in_ok-members.ensures ∙
+    ap (λ (xs : List ℕ). map (lifted_member (is_left xs c.as_slice-4.result.now) raw) raw.members) c.as_slice-3.ensures.value ∙
+    ap (λ (xs : List ℕ). map (lifted_member (is_left before xs) raw) raw.members) c.as_slice-4.ensures.value in
+    let masters : groups ≡ map (lifted_group (is_left before live) raw) raw.groups =
+    c.in_ok-groups.ensures ∙
+    ap (λ (xs : List ℕ). map (lifted_group (is_left xs c.as_slice-6.result.now) raw) raw.groups) c.as_slice-5.ensures.value ∙
+    ap (λ (xs : List ℕ). map (lifted_group (is_left before xs) raw) raw.groups) c.as_slice-6.ensures.value in
+    let kept : c.clear.new.groups.items ≡ filter (λ row. is_left before live row.group) groups =
     c.clear.ensures ∙
-    ap (λ (xs : List ℕ). left_among xs c.as_slice-6.result.now groups) c.as_slice-5.ensures.value ∙
-    ap (λ (xs : List ℕ). left_among before xs groups) c.as_slice-6.ensures.value in
-    let made =
-    left_together old raw members groups c.clear.new.groups.items c.in_ok-members.ensures c.in_ok-groups.ensures
-    (kept ∙ left_live raw old.members raw.members before live were are groups) in
-    subst (λ (x : PeerGroups). IsSound x) (sym made)
-    (cleared_sound old (settled raw) (settled_sound raw c.requires))
+    ap (λ (xs : List ℕ). filter (λ (row : GroupRow). is_left xs c.as_slice-8.result.now row.group) groups) c.as_slice-7.ensures.value ∙
+    ap (λ (xs : List ℕ). filter (λ (row : GroupRow). is_left before xs row.group) groups) c.as_slice-8.ensures.value in
+    let made = left_together old raw before live were are members groups c.clear.new.groups.items mounts masters kept in
+    subst (λ (x : PeerGroups). IsOrderly x) (sym made) (left_orderly old raw c.requires)
 
 pub returns-clause-ok : goal.returns-clause-ok
 returns-clause-ok c =
@@ -45,11 +50,17 @@ returns-clause-ok c =
     subst (λ (rows : List MemberRow). AreLive rows before) c.as_slice.ensures.value c.in_ok-old.ensures.exact in
     let are : AreLive raw.members live =
     subst (λ (rows : List MemberRow). AreLive rows live) c.as_slice-2.ensures.value c.in_ok-live.ensures.exact in
-    let kept : c.clear.new.groups.items ≡ left_among before live groups =
+    let mounts : members ≡ map (lifted_member (is_left before live) raw) raw.members =
+    c.in_ok-members.ensures ∙
+    ap (λ (xs : List ℕ). map (lifted_member (is_left xs c.as_slice-4.result.now) raw) raw.members) c.as_slice-3.ensures.value ∙
+    ap (λ (xs : List ℕ). map (lifted_member (is_left before xs) raw) raw.members) c.as_slice-4.ensures.value in
+    let masters : groups ≡ map (lifted_group (is_left before live) raw) raw.groups =
+    c.in_ok-groups.ensures ∙
+    ap (λ (xs : List ℕ). map (lifted_group (is_left xs c.as_slice-6.result.now) raw) raw.groups) c.as_slice-5.ensures.value ∙
+    ap (λ (xs : List ℕ). map (lifted_group (is_left before xs) raw) raw.groups) c.as_slice-6.ensures.value in
+    let kept : c.clear.new.groups.items ≡ filter (λ row. is_left before live row.group) groups =
     c.clear.ensures ∙
-    ap (λ (xs : List ℕ). left_among xs c.as_slice-6.result.now groups) c.as_slice-5.ensures.value ∙
-    ap (λ (xs : List ℕ). left_among before xs groups) c.as_slice-6.ensures.value in
-    let made =
-    left_together old raw members groups c.clear.new.groups.items c.in_ok-members.ensures c.in_ok-groups.ensures
-    (kept ∙ left_live raw old.members raw.members before live were are groups) in
+    ap (λ (xs : List ℕ). filter (λ (row : GroupRow). is_left xs c.as_slice-8.result.now row.group) groups) c.as_slice-7.ensures.value ∙
+    ap (λ (xs : List ℕ). filter (λ (row : GroupRow). is_left before xs row.group) groups) c.as_slice-8.ensures.value in
+    let made = left_together old raw before live were are members groups c.clear.new.groups.items mounts masters kept in
     made ∙ ap (λ (x : PeerGroups). left x raw) c.self.view_is
