@@ -3,6 +3,7 @@ pub mod CameLemmas
 pub mod GrowthLemmas
 pub mod KindLemmas
 pub mod LoopLemmas
+pub mod NamespaceCopyLemmas
 pub mod NamespaceLemmas
 pub mod NumberLemmas
 pub mod RemovalLemmas

@@ -7,3 +7,5 @@ pub mod Joining
 pub mod Grown
 pub mod Changed
 pub mod Namespaces
+pub mod NewMounts
+pub mod NamespaceCopies
