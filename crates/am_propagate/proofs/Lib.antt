@@ -5,7 +5,9 @@ pub mod KindLemmas
 pub mod LoopLemmas
 pub mod NamespaceCopyLemmas
 pub mod NamespaceLemmas
+pub mod NewMountLemmas
 pub mod NumberLemmas
+pub mod ReceiverCopyLemmas
 pub mod RemovalLemmas
 pub mod SearchLemmas
 pub mod StandLemmas

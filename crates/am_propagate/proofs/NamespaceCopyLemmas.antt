@@ -1,19 +1,17 @@
 -- A copied namespace is a bijection that rises.
-use Rattle.std.proofs.Common.{◌≡◌, ◌≤◌, ◌<◌, ◌+◌, ℕ, true, false, List, ◌++◌, Option, Some, None, refl, sym, ap, subst, ◌∙◌, arith}
-use Rattle.std.specs.Prelude.{filter, map, option_map, is_some, ◌==◌}
-use Rattle.std.specs.Option.{option_or}
+use Rattle.std.proofs.Common.{◌≡◌, ◌≤◌, ◌+◌, ℕ, true, false, [], Option, Some, None, refl, sym, ap, subst, ◌∙◌, arith}
+use Rattle.std.specs.Prelude.{option_map, is_some, ◌==◌}
 use Rattle.std.proofs.lemmas.List.{append-nil}
 use Rattle.std.proofs.lemmas.List.Folds.{find-append}
 use Rattle.std.proofs.lemmas.Bool.{eqb-true, eq-eqb}
 use Rattle.am_names.specs.declared.row.MountRow.{MountRow}
 use Rattle.am_names.specs.declared.row.MemberRow.{MemberRow}
-use Rattle.am_names.specs.declared.row.GroupRow.{GroupRow}
-use Rattle.am_group.specs.Propagation.{member_row, group_row}
+use Rattle.am_group.specs.Propagation.{member_row}
 use Rattle.am_group.specs.Changes.{slave_from}
 use Rattle.am_group.proofs.ScanLemmas.{has}
 use Rattle.am_group.proofs.ReceiverLemmas.{has_from_Contains}
 use Rattle.am_group.proofs.LookupLemmas.{found_passes}
-use Rattle.am_mount.specs.Rows.{mount_row, is_among, is_in, HasRow, IsIn}
+use Rattle.am_mount.specs.Rows.{mount_row, is_among, HasRow, IsIn}
 use Rattle.am_mount.proofs.RowLemmas.{in_every}
 use Rattle.am_propagate.specs.declared.subtree.namespace.CopyForm.{CopyForm}
 use Rattle.am_propagate.specs.declared.subtree.namespace.CopyForm.TheVariants.{Full, Reduced}
@@ -23,6 +21,7 @@ use Rattle.am_propagate.specs.Removed.{mounts_in}
 use Rattle.am_propagate.specs.Namespaces.{count_up_to, copy_number, position_in, row_in, member_in, with_copy}
 use Rattle.am_propagate.specs.NewMounts.{IsNewMount}
 use Rattle.am_propagate.specs.NamespaceCopies.{IsReduced, IsJoinedIn, AreCopies}
+use Rattle.am_propagate.proofs.NewMountLemmas.{takes_second, none_above, keeps_mounts}
 use Rattle.am_propagate.proofs.RemovalLemmas.{some_of, same_there, among_has}
 use Rattle.am_propagate.proofs.NamespaceLemmas.{count_some, rises_members, mapped_there, strict, apart, row_from, copy_there, found_mount}
 
@@ -34,24 +33,6 @@ joined_in Reduced number row = go row.group
     go : (o : Option ℕ) → IsReduced o row (record (slave_from o row) { mount = number row.mount })
     go (Some g) = record { in_no_group = refl; has_master = refl; can_be_bound = refl }
     go None = record { same_group = refl; same_master = refl; same_unbindable = refl }
-
--- what is found in the first rows, and what is not
-pub keeps_first : {A : Type 0} (o p : Option A) (x : A) → o ≡ Some x → option_or o p ≡ Some x
-keeps_first None p x e = absurd cc
-keeps_first (Some y) p x e = e
-
-pub takes_second : {A : Type 0} (o p : Option A) → is_some o ≡ false → option_or o p ≡ p
-takes_second None p e = refl
-takes_second (Some x) p e = absurd cc
-
-module _ (t : MountTable) (whole : IsWhole t) where
-  -- numbers above the greatest are no mount's
-  pub none_above : (m : ℕ) → t.last_mount < m → is_mount t m ≡ false
-  none_above m above = go (mount_row t.rows m) refl
-    where
-      go : (o : Option MountRow) → mount_row t.rows m ≡ o → is_some o ≡ false
-      go None e = refl
-      go (Some row) e = let le : m ≤ t.last_mount = (whole.numbered m row e).0 in absurd (omega arith)
 
 module _ (t : MountTable) (whole : IsWhole t) (ns : ℕ) (form : CopyForm) where
   has_mount : (m : ℕ) → HasRow (IsIn ns) t.rows m → has m (mounts_in t ns) ≡ true
@@ -113,10 +94,6 @@ module _ (t : MountTable) (whole : IsWhole t) (ns : ℕ) (form : CopyForm) where
         let le : there.0.ns ≤ t.last_ns = (whole.numbered m there.0 there.1).1 in
         let is : there.0.ns ≡ t.last_ns + 1 = there.2 in
         omega arith;
-    stay = record {
-      rows = λ m row e. find-append (λ (r : MountRow). r.mount == m) t.rows _ ∙ keeps_first (mount_row t.rows m) _ row e;
-      members = λ m row e. find-append (λ (r : MemberRow). r.mount == m) t.groups.members _ ∙ keeps_first (member_row t.groups.members m) _ row e;
-      groups = λ g row e. find-append (λ (r : GroupRow). r.group == g) t.groups.groups _ ∙ keeps_first (group_row t.groups.groups g) _ row e;
-    };
+    stay = keeps_mounts t (with_copy form ns t) _ _ [] refl refl refl;
     same_groups = append-nil t.groups.groups;
   }

@@ -43,7 +43,7 @@ count_at_most a b le (x ∷ xs) = go (nat_le x a) (nat_le x b) refl refl (count_
     go false true e f ih = omega arith
     go false false e f ih = ih
 
-count_less : (a b : ℕ) → a < b → (xs : List ℕ) → has b xs ≡ true → count_up_to a xs < count_up_to b xs
+pub count_less : (a b : ℕ) → a < b → (xs : List ℕ) → has b xs ≡ true → count_up_to a xs < count_up_to b xs
 count_less a b lt [] h = absurd cc
 count_less a b lt (x ∷ xs) h = go (nat_le x a) (nat_le x b) refl refl (eqb b x) refl h (count_at_most a b (omega arith) xs) (count_less a b lt xs)
   where

@@ -9,3 +9,4 @@ pub mod Changed
 pub mod Namespaces
 pub mod NewMounts
 pub mod NamespaceCopies
+pub mod ReceiverCopies

@@ -42,9 +42,10 @@ pub record IsMountedAlike (copy_of : ℕ → ℕ) (to : ℕ) (source copy : Moun
   pub root : source.mountpoint ≡ None → copy.mountpoint ≡ None
 
 -- a bijection from the mounts of the namespace to the mounts that come, which rises with the
--- numbers; the namespace of these had no mounts, and nothing else changes
+-- numbers; the namespace of these had no mounts
 pub record AreCopies (form : CopyForm) (ns to : ℕ) (old new : MountTable) : Type 0 where
   pub copy_of : ℕ → ℕ
+  -- each mount has a copy, which is new, mounted alike, and joined in this form
   pub each_is_new : (m : ℕ) → HasRow (IsIn ns) old.rows m → IsNewMount old new (copy_of m)
   pub mounted :
       (m : ℕ) (row : MountRow) → mount_row old.rows m ≡ Some row → IsIn ns row →
@@ -53,11 +54,13 @@ pub record AreCopies (form : CopyForm) (ns to : ℕ) (old new : MountTable) : Ty
       (m : ℕ) (row : MemberRow) → HasRow (IsIn ns) old.rows m →
       member_row old.groups.members m ≡ Some row →
       HasMember (IsJoinedIn form row) new.groups.members (copy_of m)
+  -- and no other mount comes
   pub no_other :
       (c : ℕ) → IsNewMount old new c → (m : ℕ) × HasRow (IsIn ns) old.rows m × (copy_of m ≡ c)
   pub rising :
       (a b : ℕ) → HasRow (IsIn ns) old.rows a → HasRow (IsIn ns) old.rows b → a < b →
       copy_of a < copy_of b
   pub new_ns : (m : ℕ) → HasRow (IsIn to) old.rows m → ⊥
+  -- what was there stays, and no peer group is made
   pub stay : KeepsMounts old new
   pub same_groups : new.groups.groups ≡ old.groups.groups

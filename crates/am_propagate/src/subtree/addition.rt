@@ -7,9 +7,10 @@ ghost use Rattle.am_group.specs.Invariant.{AddsNoReceivers};
 ghost use Rattle.am_group.specs.Propagation.{group_of};
 ghost use Rattle.am_group.specs.declared.membership.Membership.TheVariants.{Private};
 ghost use Rattle.am_group.specs.Receivers.{receivers_of};
-ghost use Rattle.am_mount.specs.Rows.{mount_row};
+ghost use Rattle.am_mount.specs.Rows.{mount_row, HasRow};
 ghost use Rattle.am_propagate.specs.MountTable.{is_mount, all_mounts};
 ghost use Rattle.am_propagate.specs.Joining.{others_of};
+ghost use Rattle.am_propagate.specs.ReceiverCopies.{ComesWithCopies};
 ghost use Rattle.am_propagate.specs.Added.{ns_in, row_at, rows_at, membership_where, membership_of, is_unbindable, fresh_count, numbers_after, new_mounts, mounts_made, made_beside, mount_refusal, bind_refusal, mounted, bound, numbers_refusal, HasSource};
 
 use crate::subtree::Subtree;
@@ -187,6 +188,7 @@ impl Subtree {
         ensures first { IfOk result (λ v. slice_get v.items 0 ≡ Some (self.old.last_mount + 1)) }
         ensures came { IfOk result (λ v. all_mounts self.new ≡ all_mounts self.old ++ v.items) }
         ensures ok { OnOk result (self.new ≡ mounted at.now fs membership self.old) }
+        ensures copies { OnOk result (ComesWithCopies at.now fs (self.old.last_mount + 1) self.old self.new) }
         ensures err { OnErr result (self.new ≡ self.old) }
         ensures law { AddsNoReceivers self.old.groups self.new.groups }
     {
@@ -207,6 +209,7 @@ impl Subtree {
         ensures first { IfOk result (λ v. slice_get v.items 0 ≡ Some (self.old.last_mount + 1)) }
         ensures came { IfOk result (λ v. all_mounts self.new ≡ all_mounts self.old ++ v.items) }
         ensures ok { OnOk result (self.new ≡ mounted at.now fs Private self.old) }
+        ensures copies { OnOk result (ComesWithCopies at.now fs (self.old.last_mount + 1) self.old self.new) }
         ensures err { OnErr result (self.new ≡ self.old) }
         ensures law { AddsNoReceivers self.old.groups self.new.groups }
     {
@@ -238,6 +241,7 @@ impl Subtree {
         ensures first { IfOk result (λ v. slice_get v.items 0 ≡ Some (self.old.last_mount + 1)) }
         ensures came { IfOk result (λ v. all_mounts self.new ≡ all_mounts self.old ++ v.items) }
         ensures ok { OnOk result (self.new ≡ bound source at.now self.old) }
+        ensures copies { OnOk result (HasRow (λ row. ComesWithCopies at.now row.fs (self.old.last_mount + 1) self.old self.new) self.old.rows source) }
         ensures err { OnErr result (self.new ≡ self.old) }
         ensures law { AddsNoReceivers self.old.groups self.new.groups }
     {
