@@ -156,7 +156,7 @@ module _ (t : MountTable) (whole : IsWhole t) (at : Position) (fs : ℕ) (member
       omega arith
 
   -- the source, where it is shared or a slave
-  in_group : (g : ℕ) → membership ≡ InGroup g → (a : ℕ) × (row : MountRow) × (mount_row t.rows a ≡ Some row) × (row.fs ≡ fs) × (group_of t.groups a ≡ Some g)
+  pub in_group : (g : ℕ) → membership ≡ InGroup g → (a : ℕ) × (row : MountRow) × (mount_row t.rows a ≡ Some row) × (row.fs ≡ fs) × (group_of t.groups a ≡ Some g)
   in_group g e = ⊎_elim
       (λ private. absurd (let no : InGroup g ≡ Private = sym e ∙ private in cc))
       (λ has. (has.0, has.1, has.2, has.3, in_group_of (member_row t.groups.members has.0) g (has.4 ∙ e)))

@@ -10,3 +10,4 @@ pub mod Namespaces
 pub mod NewMounts
 pub mod NamespaceCopies
 pub mod ReceiverCopies
+pub mod GroupsOfCopies

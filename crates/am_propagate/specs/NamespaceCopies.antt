@@ -1,6 +1,6 @@
 -- What a copy of a namespace is (sharedsubtree.rst, 5g; mount_namespaces(7), "Restrictions on mount
 -- namespaces"), whatever numbers the copies have.
-use Rattle.std.specs.Prelude.{◌≡◌, ◌<◌, ℕ, false, List, Option, Some, None}
+use Rattle.std.specs.Prelude.{◌≡◌, ◌<◌, ℕ, List, Option, Some, None}
 use Rattle.am_names.specs.declared.row.MountRow.{MountRow}
 use Rattle.am_names.specs.declared.row.MemberRow.{MemberRow}
 use Rattle.am_group.specs.Propagation.{member_row}
@@ -8,19 +8,13 @@ use Rattle.am_mount.specs.Rows.{mount_row, HasRow, IsIn, IsAt}
 use Rattle.am_propagate.specs.declared.subtree.namespace.CopyForm.{CopyForm}
 use Rattle.am_propagate.specs.declared.subtree.namespace.CopyForm.TheVariants.{Full, Reduced}
 use Rattle.am_propagate.specs.MountTable.{MountTable}
-use Rattle.am_propagate.specs.NewMounts.{IsNewMount, HasMember, KeepsMounts}
+use Rattle.am_propagate.specs.NewMounts.{IsNewMount, HasMember, IsSlave, KeepsMounts}
 
 -- both are in the same peer group or in none, have the same master, and can or can't be bound
 pub record IsAlike (source copy : MemberRow) : Type 0 where
   pub same_group : copy.group ≡ source.group
   pub same_master : copy.master ≡ source.master
   pub same_unbindable : copy.unbindable ≡ source.unbindable
-
--- the mount is a slave of this peer group
-pub record IsSlave (group : ℕ) (copy : MemberRow) : Type 0 where
-  pub in_no_group : copy.group ≡ None
-  pub has_master : copy.master ≡ Some group
-  pub can_be_bound : copy.unbindable ≡ false
 
 -- the copy of a mount in a peer group is a slave of that group, and any other is like its source
 abbrev pub IsReduced : Option ℕ → MemberRow → MemberRow → Type 0

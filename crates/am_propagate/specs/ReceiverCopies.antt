@@ -41,3 +41,8 @@ pub record ComesWithCopies (at : Position) (fs mount : ℕ) (old new : MountTabl
   -- the mount itself is the first that comes, and what was there stays
   pub first : (m : ℕ) → IsNewMount old new m → mount ≤ m
   pub stay : KeepsMounts old new
+
+-- a bind mounts what the source has mounted
+abbrev pub BindsWithCopies : ℕ → Position → ℕ → MountTable → MountTable → Type 0
+BindsWithCopies source at mount old new =
+    HasRow (λ row. ComesWithCopies at row.fs mount old new) old.rows source
