@@ -55,8 +55,8 @@ pub record ComesUnshared (by : Membership) (mount : ℕ) (old new : PeerGroups) 
   pub itself : HasMember (IsAsSource by) new.members mount
   pub same_groups : new.groups ≡ old.groups
 
--- on the shared mount b: a peer group stands for each that is concerned, other ones for others, and
--- "is the master of" is kept
+-- on the shared mount b: for each peer group that is concerned one stands, for another another one,
+-- and "is the master of" is kept
 pub record ComesShared (by : Membership) (b own mount : ℕ) (old new : MountTable) : Type 0 where
   pub stand : ℕ → ℕ
   pub injective :
@@ -93,6 +93,7 @@ pub record ComesShared (by : Membership) (b own mount : ℕ) (old new : MountTab
       (h : ℕ) → IsGroup new.groups h →
       IsGroup old.groups h ⊎ ((g : ℕ) × IsConcerned old.groups b g × (h ≡ stand g))
 
+-- where the mount b is in this peer group or in none
 abbrev pub JoinsBy : Membership → ℕ → Option ℕ → ℕ → MountTable → MountTable → Type 0
 JoinsBy membership b (Some own) mount old new = ComesShared membership b own mount old new
 JoinsBy membership b None mount old new =
