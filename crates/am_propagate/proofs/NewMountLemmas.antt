@@ -29,11 +29,23 @@ takes_second None p e = refl
 takes_second (Some x) p e = absurd cc
 
 -- where rows are added, those that were there stay
-pub keeps_mounts : (t new : MountTable) (rows : List MountRow) (members : List MemberRow) (groups : List GroupRow) → new.rows ≡ t.rows ++ rows → new.groups.members ≡ t.groups.members ++ members → new.groups.groups ≡ t.groups.groups ++ groups → KeepsMounts t new
+pub keeps_mounts :
+    (t new : MountTable) (rows : List MountRow) (members : List MemberRow) (groups : List GroupRow) →
+    new.rows ≡ t.rows ++ rows → new.groups.members ≡ t.groups.members ++ members →
+    new.groups.groups ≡ t.groups.groups ++ groups → KeepsMounts t new
 keeps_mounts t new rows members groups rows_are members_are groups_are = record {
-  rows = λ m row e. ap (λ (xs : List MountRow). mount_row xs m) rows_are ∙ find-append (λ (r : MountRow). r.mount == m) t.rows rows ∙ keeps_first (mount_row t.rows m) (mount_row rows m) row e;
-  members = λ m row e. ap (λ (xs : List MemberRow). member_row xs m) members_are ∙ find-append (λ (r : MemberRow). r.mount == m) t.groups.members members ∙ keeps_first (member_row t.groups.members m) (member_row members m) row e;
-  groups = λ g row e. ap (λ (xs : List GroupRow). group_row xs g) groups_are ∙ find-append (λ (r : GroupRow). r.group == g) t.groups.groups groups ∙ keeps_first (group_row t.groups.groups g) (group_row groups g) row e;
+  rows =
+      λ m row e. ap (λ (xs : List MountRow). mount_row xs m) rows_are ∙
+      find-append (λ (r : MountRow). r.mount == m) t.rows rows ∙
+      keeps_first (mount_row t.rows m) (mount_row rows m) row e;
+  members =
+      λ m row e. ap (λ (xs : List MemberRow). member_row xs m) members_are ∙
+      find-append (λ (r : MemberRow). r.mount == m) t.groups.members members ∙
+      keeps_first (member_row t.groups.members m) (member_row members m) row e;
+  groups =
+      λ g row e. ap (λ (xs : List GroupRow). group_row xs g) groups_are ∙
+      find-append (λ (r : GroupRow). r.group == g) t.groups.groups groups ∙
+      keeps_first (group_row t.groups.groups g) (group_row groups g) row e;
 }
 
 module _ (t : MountTable) (whole : IsWhole t) where
@@ -43,14 +55,18 @@ module _ (t : MountTable) (whole : IsWhole t) where
     where
       go : (o : Option MountRow) → mount_row t.rows m ≡ o → is_some o ≡ false
       go None e = refl
-      go (Some row) e = let le : m ≤ t.last_mount = (whole.numbered m row e).0 in absurd (omega arith)
+      go (Some row) e =
+          let le : m ≤ t.last_mount = (whole.numbered m row e).0 in absurd (omega arith)
 
 -- of rising numbers each is counted after those below it
 at_least : (low : ℕ) (xs : List ℕ) → RiseOn low xs → (p : ℕ) → has p xs ≡ true → low ≤ p
 at_least low [] rises p h = absurd cc
 at_least low (x ∷ xs) rises p h = ⊎_elim
     (λ same. let first : low ≤ x = rises.0 in let e : p ≡ x = eqb-true p x same in omega arith)
-    (λ rest. let first : low ≤ x = rises.0 in let up : x + 1 ≤ p = at_least (x + 1) xs rises.1 p rest in omega arith)
+    (λ rest.
+    let first : low ≤ x = rises.0 in
+    let up : x + 1 ≤ p = at_least (x + 1) xs rises.1 p rest in
+    omega arith)
     (or_cases (eqb p x) (has p xs) h)
 
 counts_itself : (x : ℕ) (xs : List ℕ) → RiseOn (x + 1) xs → count_up_to x (x ∷ xs) ≡ 1
@@ -60,7 +76,8 @@ counts_itself x xs rises =
     let none : count_up_to x xs ≡ 0 = none_up_to x (x + 1) xs (omega arith) rises in
     omega arith
 
-counts_first : (x : ℕ) (xs : List ℕ) → RiseOn (x + 1) xs → (p : ℕ) → has p xs ≡ true → count_up_to p (x ∷ xs) ≡ suc (count_up_to p xs)
+counts_first : (x : ℕ) (xs : List ℕ) → RiseOn (x + 1) xs → (p : ℕ) → has p xs ≡ true →
+    count_up_to p (x ∷ xs) ≡ suc (count_up_to p xs)
 counts_first x xs rises p h =
     let above : x + 1 ≤ p = at_least (x + 1) xs rises p h in
     let counted : nat_le x p ≡ true = grind (arith, nat_tests) in
@@ -73,32 +90,59 @@ one_each make number (x ∷ xs) = make number x ∷ one_each make (number + 1) x
 
 module _ {R : Type 0} (key : R → ℕ) (make : ℕ → ℕ → R) (named : (n x : ℕ) → key (make n x) ≡ n) where
   -- a row that is found is that for one of them, and has its number
-  pub each_found : (last low : ℕ) (xs : List ℕ) → RiseOn low xs → (m : ℕ) (r : R) → find (λ y. key y == m) (one_each make (last + 1) xs) ≡ Some r → (p : ℕ) × (has p xs ≡ true) × (m ≡ last + count_up_to p xs) × (r ≡ make m p)
+  pub each_found : (last low : ℕ) (xs : List ℕ) → RiseOn low xs → (m : ℕ) (r : R) →
+      find (λ y. key y == m) (one_each make (last + 1) xs) ≡ Some r →
+      (p : ℕ) × (has p xs ≡ true) × (m ≡ last + count_up_to p xs) × (r ≡ make m p)
   each_found last low [] rises m r e = absurd cc
-  each_found last low (x ∷ xs) rises m r e = go (key (make (last + 1) x) == m) refl e (each_found (last + 1) (x + 1) xs rises.1 m r)
+  each_found last low (x ∷ xs) rises m r e =
+      go (key (make (last + 1) x) == m) refl e (each_found (last + 1) (x + 1) xs rises.1 m r)
     where
-      go : (b : Bool) → (key (make (last + 1) x) == m) ≡ b → cond b (Some (make (last + 1) x)) (find (λ y. key y == m) (one_each make (last + 1 + 1) xs)) ≡ Some r → (find (λ y. key y == m) (one_each make (last + 1 + 1) xs) ≡ Some r → (p : ℕ) × (has p xs ≡ true) × (m ≡ last + 1 + count_up_to p xs) × (r ≡ make m p)) → (p : ℕ) × (has p (x ∷ xs) ≡ true) × (m ≡ last + count_up_to p (x ∷ xs)) × (r ≡ make m p)
+      go : (b : Bool) → (key (make (last + 1) x) == m) ≡ b →
+          cond b (Some (make (last + 1) x)) (find (λ y. key y == m) (one_each make (last + 1 + 1) xs)) ≡
+          Some r →
+          (find (λ y. key y == m) (one_each make (last + 1 + 1) xs) ≡ Some r →
+          (p : ℕ) × (has p xs ≡ true) × (m ≡ last + 1 + count_up_to p xs) × (r ≡ make m p)) →
+          (p : ℕ) × (has p (x ∷ xs) ≡ true) × (m ≡ last + count_up_to p (x ∷ xs)) × (r ≡ make m p)
       go true f e ih =
-          let at : last + 1 ≡ m = sym (named (last + 1) x) ∙ eqb-true (key (make (last + 1) x)) m f in
+          let at : last + 1 ≡ m = sym (named (last + 1) x) ∙
+          eqb-true (key (make (last + 1) x)) m f in
           let one : count_up_to x (x ∷ xs) ≡ 1 = counts_itself x xs rises.1 in
-          let is : make (last + 1) x ≡ r = cc in
-          (x, or_left (eqb x x) (has x xs) (eq-eqb x x refl), omega arith, sym is ∙ ap (λ (n : ℕ). make n x) at)
+          let is : make (last + 1) x ≡ r = cc in (
+            x,
+            or_left (eqb x x) (has x xs) (eq-eqb x x refl),
+            omega arith,
+            sym is ∙ ap (λ (n : ℕ). make n x) at,
+          )
       go false f e ih =
           let rest = ih e in
-          let more : count_up_to rest.0 (x ∷ xs) ≡ suc (count_up_to rest.0 xs) = counts_first x xs rises.1 rest.0 rest.1 in
+          let more : count_up_to rest.0 (x ∷ xs) ≡ suc (count_up_to rest.0 xs) =
+          counts_first x xs rises.1 rest.0 rest.1
+          in
           let at : m ≡ last + 1 + count_up_to rest.0 xs = rest.2 in
           (rest.0, or_right (eqb rest.0 x) (has rest.0 xs) rest.1, omega arith, rest.3)
 
   -- and that for each is found by its number
-  pub each_there : (last low : ℕ) (xs : List ℕ) → RiseOn low xs → (p : ℕ) → has p xs ≡ true → find (λ y. key y == last + count_up_to p xs) (one_each make (last + 1) xs) ≡ Some (make (last + count_up_to p xs) p)
+  pub each_there : (last low : ℕ) (xs : List ℕ) → RiseOn low xs → (p : ℕ) → has p xs ≡ true →
+      find (λ y. key y == last + count_up_to p xs) (one_each make (last + 1) xs) ≡
+      Some (make (last + count_up_to p xs) p)
   each_there last low [] rises p h = absurd cc
-  each_there last low (x ∷ xs) rises p h = go (eqb p x) refl h (each_there (last + 1) (x + 1) xs rises.1 p)
+  each_there last low (x ∷ xs) rises p h =
+      go (eqb p x) refl h (each_there (last + 1) (x + 1) xs rises.1 p)
     where
-      go : (b : Bool) → eqb p x ≡ b → (b || has p xs) ≡ true → (has p xs ≡ true → find (λ y. key y == last + 1 + count_up_to p xs) (one_each make (last + 1 + 1) xs) ≡ Some (make (last + 1 + count_up_to p xs) p)) → find (λ y. key y == last + count_up_to p (x ∷ xs)) (one_each make (last + 1) (x ∷ xs)) ≡ Some (make (last + count_up_to p (x ∷ xs)) p)
+      go : (b : Bool) → eqb p x ≡ b → (b || has p xs) ≡ true →
+          (has p xs ≡ true →
+          find (λ y. key y == last + 1 + count_up_to p xs) (one_each make (last + 1 + 1) xs) ≡
+          Some (make (last + 1 + count_up_to p xs) p)) →
+          find (λ y. key y == last + count_up_to p (x ∷ xs)) (one_each make (last + 1) (x ∷ xs)) ≡
+          Some (make (last + count_up_to p (x ∷ xs)) p)
       go true f h ih =
           let same : p ≡ x = eqb-true p x f in
           let one : count_up_to x (x ∷ xs) ≡ 1 = counts_itself x xs rises.1 in
-          subst (λ (q : ℕ). find (λ y. key y == last + count_up_to q (x ∷ xs)) (one_each make (last + 1) (x ∷ xs)) ≡ Some (make (last + count_up_to q (x ∷ xs)) q)) (sym same)
+          subst
+          (λ (q : ℕ).
+          find (λ y. key y == last + count_up_to q (x ∷ xs)) (one_each make (last + 1) (x ∷ xs)) ≡
+          Some (make (last + count_up_to q (x ∷ xs)) q))
+          (sym same)
           (rw (one, eq-eqb (key (make (last + 1) x)) (last + 1) (named (last + 1) x)) refl)
       go false f h ih =
           let more : count_up_to p (x ∷ xs) ≡ suc (count_up_to p xs) = counts_first x xs rises.1 p h in
