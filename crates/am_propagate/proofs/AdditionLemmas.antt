@@ -142,7 +142,7 @@ module _ (s : PeerGroups) (sound : IsSound s) (b : ℕ) where
       there : (r : ℕ) → Receives s b r → is_some (member_row s.members r) ≡ true
       there r h = let under = under_from_way s h.way b r h.arrives in home_there (member_row s.members r) under.2.home under.2.is_home
 
-  receiver_there : (r : ℕ) → has r (receivers_of s b) ≡ true → is_some (member_row s.members r) ≡ true
+  pub receiver_there : (r : ℕ) → has r (receivers_of s b) ≡ true → is_some (member_row s.members r) ≡ true
   receiver_there r h = number_has s.members r (has-from_filter (receives s b) (numbers s.members) r h).0
 
 module _ (t : MountTable) (whole : IsWhole t) (at : Position) (fs : ℕ) (membership : Membership) (there : is_mount t at.mount ≡ true) (source : HasSource t fs membership) where
@@ -156,7 +156,7 @@ module _ (t : MountTable) (whole : IsWhole t) (at : Position) (fs : ℕ) (member
       omega arith
 
   -- the source, where it is shared or a slave
-  in_group : (g : ℕ) → membership ≡ InGroup g → (a : ℕ) × (row : MountRow) × (mount_row t.rows a ≡ Some row) × (row.fs ≡ fs) × (group_of t.groups a ≡ Some g)
+  pub in_group : (g : ℕ) → membership ≡ InGroup g → (a : ℕ) × (row : MountRow) × (mount_row t.rows a ≡ Some row) × (row.fs ≡ fs) × (group_of t.groups a ≡ Some g)
   in_group g e = ⊎_elim
       (λ private. absurd (let no : InGroup g ≡ Private = sym e ∙ private in cc))
       (λ has. (has.0, has.1, has.2, has.3, in_group_of (member_row t.groups.members has.0) g (has.4 ∙ e)))

@@ -34,7 +34,7 @@ come_made t at last receivers comes last_is receivers_are comes_are =
     ap (λ (xs : List ℕ). numbers_after t.last_mount (suc (length xs))) receivers_are
 
 -- of rising numbers that are above this one, none counts up to it
-none_up_to : (a low : ℕ) (xs : List ℕ) → a < low → RiseOn low xs → count_up_to a xs ≡ 0
+pub none_up_to : (a low : ℕ) (xs : List ℕ) → a < low → RiseOn low xs → count_up_to a xs ≡ 0
 none_up_to a low [] above rises = refl
 none_up_to a low (x ∷ xs) above rises =
     let first : low ≤ x = rises.0 in

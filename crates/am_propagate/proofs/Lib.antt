@@ -1,11 +1,15 @@
 pub mod AdditionLemmas
 pub mod CameLemmas
+pub mod GroupCopyLemmas
 pub mod GrowthLemmas
 pub mod KindLemmas
 pub mod LoopLemmas
+pub mod NamespaceCopyLemmas
 pub mod NamespaceLemmas
+pub mod NewMountLemmas
 pub mod NumberLemmas
 pub mod OpeningLemmas
+pub mod ReceiverCopyLemmas
 pub mod RemovalLemmas
 pub mod SearchLemmas
 pub mod StandLemmas

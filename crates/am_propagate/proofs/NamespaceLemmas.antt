@@ -43,7 +43,7 @@ count_at_most a b le (x ∷ xs) = go (nat_le x a) (nat_le x b) refl refl (count_
     go false true e f ih = omega arith
     go false false e f ih = ih
 
-count_less : (a b : ℕ) → a < b → (xs : List ℕ) → has b xs ≡ true → count_up_to a xs < count_up_to b xs
+pub count_less : (a b : ℕ) → a < b → (xs : List ℕ) → has b xs ≡ true → count_up_to a xs < count_up_to b xs
 count_less a b lt [] h = absurd cc
 count_less a b lt (x ∷ xs) h = go (nat_le x a) (nat_le x b) refl refl (eqb b x) refl h (count_at_most a b (omega arith) xs) (count_less a b lt xs)
   where
@@ -63,7 +63,7 @@ count_within a (x ∷ xs) = go (nat_le x a) (count_within a xs)
     go true ih = omega arith
     go false ih = omega arith
 
-count_some : (a : ℕ) (xs : List ℕ) → has a xs ≡ true → 1 ≤ count_up_to a xs
+pub count_some : (a : ℕ) (xs : List ℕ) → has a xs ≡ true → 1 ≤ count_up_to a xs
 count_some a [] h = absurd cc
 count_some a (x ∷ xs) h = go (nat_le x a) refl (eqb a x) refl h (count_some a xs)
   where
@@ -80,7 +80,7 @@ rises_rows : (low : ℕ) (rows : List MountRow) → RowsRise low rows → RiseOn
 rises_rows low [] rises = tt
 rises_rows low (r ∷ rows) rises = (rises.0, rises_rows (r.mount + 1) rows rises.1)
 
-rises_members : (low : ℕ) (rows : List MemberRow) → RiseFrom low rows → RiseOn low (map (λ r. r.mount) rows)
+pub rises_members : (low : ℕ) (rows : List MemberRow) → RiseFrom low rows → RiseOn low (map (λ r. r.mount) rows)
 rises_members low [] rises = tt
 rises_members low (r ∷ rows) rises = (rises.0, rises_members (r.mount + 1) rows rises.1)
 
@@ -113,7 +113,7 @@ module _ {R : Type 0} (key : R → ℕ) (f : R → R) (keep : R → Bool) where
       go false k e ih = later (ih e)
 
   -- and it is found by its new number
-  mapped_there : (number : ℕ → ℕ) → ((x : R) → key (f x) ≡ number (key x)) → (low : ℕ) (rows : List R) → RiseOn low (map key rows) → (p : ℕ) (x : R) → look key rows p ≡ Some x → keep x ≡ true → ((y : R) → keep y ≡ true → look key rows (key y) ≡ Some y → key y ≢ p → number (key y) ≢ number p) → look key (map f (filter keep rows)) (number p) ≡ Some (f x)
+  pub mapped_there : (number : ℕ → ℕ) → ((x : R) → key (f x) ≡ number (key x)) → (low : ℕ) (rows : List R) → RiseOn low (map key rows) → (p : ℕ) (x : R) → look key rows p ≡ Some x → keep x ≡ true → ((y : R) → keep y ≡ true → look key rows (key y) ≡ Some y → key y ≢ p → number (key y) ≢ number p) → look key (map f (filter keep rows)) (number p) ≡ Some (f x)
   mapped_there number named low [] rises p x e k apart = absurd cc
   mapped_there number named low (y ∷ rows) rises p x e k apart =
       go (key y == p) refl e (mapped_there number named (key y + 1) rows rises.1 p x) (λ z kz ez. apart z kz (later z ez))
@@ -248,10 +248,10 @@ module _ (t : MountTable) (whole : IsWhole t) (ns : ℕ) (form : CopyForm) where
   in_mounts : (x : MountRow) → mount_row t.rows x.mount ≡ Some x → is_in ns x ≡ true → has x.mount (mounts_in t ns) ≡ true
   in_mounts x e h = among_has x.mount (mounts_in t ns) ∙ among_is x e ∙ h
 
-  strict : (a b : ℕ) → a < b → has b (mounts_in t ns) ≡ true → copy_number t.last_mount (mounts_in t ns) a < copy_number t.last_mount (mounts_in t ns) b
+  pub strict : (a b : ℕ) → a < b → has b (mounts_in t ns) ≡ true → copy_number t.last_mount (mounts_in t ns) a < copy_number t.last_mount (mounts_in t ns) b
   strict a b lt h = let less : count_up_to a (mounts_in t ns) < count_up_to b (mounts_in t ns) = count_less a b lt (mounts_in t ns) h in omega arith
 
-  apart : (a b : ℕ) → has a (mounts_in t ns) ≡ true → has b (mounts_in t ns) ≡ true → a ≢ b → copy_number t.last_mount (mounts_in t ns) a ≢ copy_number t.last_mount (mounts_in t ns) b
+  pub apart : (a b : ℕ) → has a (mounts_in t ns) ≡ true → has b (mounts_in t ns) ≡ true → a ≢ b → copy_number t.last_mount (mounts_in t ns) a ≢ copy_number t.last_mount (mounts_in t ns) b
   apart a b ha hb other same = go (nat_lt a b) refl
     where
       go : (c : Bool) → nat_lt a b ≡ c → ⊥
@@ -291,7 +291,7 @@ module _ (t : MountTable) (whole : IsWhole t) (ns : ℕ) (form : CopyForm) where
   member_from : (m : ℕ) (r : MemberRow) → member_row members m ≡ Some r → (x : MemberRow) × (0 ≤ x.mount) × (member_row t.groups.members x.mount ≡ Some x) × (is_among (mounts_in t ns) x.mount ≡ true) × (r ≡ member_in form (copy_number t.last_mount (mounts_in t ns)) x)
   member_from m r e = mapped_from (λ (x : MemberRow). x.mount) (member_in form (copy_number t.last_mount (mounts_in t ns))) (λ x. is_among (mounts_in t ns) x.mount) 0 t.groups.members (rises_members 0 t.groups.members whole.sound.orderly.rising) m r e
 
-  row_from : (m : ℕ) (r : MountRow) → mount_row rows m ≡ Some r → (x : MountRow) × (0 ≤ x.mount) × (mount_row t.rows x.mount ≡ Some x) × (is_in ns x ≡ true) × (r ≡ row_in (copy_number t.last_mount (mounts_in t ns)) (t.last_ns + 1) x)
+  pub row_from : (m : ℕ) (r : MountRow) → mount_row rows m ≡ Some r → (x : MountRow) × (0 ≤ x.mount) × (mount_row t.rows x.mount ≡ Some x) × (is_in ns x ≡ true) × (r ≡ row_in (copy_number t.last_mount (mounts_in t ns)) (t.last_ns + 1) x)
   row_from m r e = mapped_from (λ (x : MountRow). x.mount) (row_in (copy_number t.last_mount (mounts_in t ns)) (t.last_ns + 1)) (is_in ns) 0 t.rows (rises_rows 0 t.rows whole.rising) m r e
 
   above : (m : ℕ) → is_some (member_row t.groups.members m) ≡ true → m < t.last_mount + 1
@@ -317,7 +317,7 @@ module _ (t : MountTable) (whole : IsWhole t) (ns : ℕ) (form : CopyForm) where
       no_more n = omega arith
 
   -- the copy of a parent is there
-  copy_there : (p : ℕ) (x : MountRow) → mount_row t.rows p ≡ Some x → x.mount ≡ p → is_in ns x ≡ true → mount_row (t.rows ++ rows) (copy_number t.last_mount (mounts_in t ns) p) ≡ Some (row_in (copy_number t.last_mount (mounts_in t ns)) (t.last_ns + 1) x)
+  pub copy_there : (p : ℕ) (x : MountRow) → mount_row t.rows p ≡ Some x → x.mount ≡ p → is_in ns x ≡ true → mount_row (t.rows ++ rows) (copy_number t.last_mount (mounts_in t ns) p) ≡ Some (row_in (copy_number t.last_mount (mounts_in t ns)) (t.last_ns + 1) x)
   copy_there p x e at h =
       find-append (λ (r : MountRow). r.mount == copy_number t.last_mount (mounts_in t ns) p) t.rows rows ∙
       rw (none_old (mount_row t.rows (copy_number t.last_mount (mounts_in t ns) p)) refl) (mapped_there (λ (r : MountRow). r.mount) (row_in (copy_number t.last_mount (mounts_in t ns)) (t.last_ns + 1)) (is_in ns) (copy_number t.last_mount (mounts_in t ns)) (λ y. refl) 0 t.rows (rises_rows 0 t.rows whole.rising) p x e h (λ y k ey other. apart y.mount p (in_mounts y ey k) has_p other))
@@ -347,7 +347,7 @@ module _ (t : MountTable) (whole : IsWhole t) (ns : ℕ) (form : CopyForm) where
   mounted_on number None q place e = absurd cc
   mounted_on number (Some p) q place e = (p.mount, ap mount_at e, ap (λ (names : List (List ℕ)). Some (at_place p.mount names)) (ap place_of e))
 
-  found_mount : (m : ℕ) (x : MountRow) → mount_row t.rows m ≡ Some x → x.mount ≡ m
+  pub found_mount : (m : ℕ) (x : MountRow) → mount_row t.rows m ≡ Some x → x.mount ≡ m
   found_mount m x e = eqb-true x.mount m (found_passes (λ (r : MountRow). r.mount == m) t.rows x e)
 
   copy_well : ComesWell t rows members [] (t.last_ns + 1) 0

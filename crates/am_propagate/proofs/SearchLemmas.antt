@@ -25,7 +25,7 @@ rise_from n (m ∷ xs) steps =
     let rest : RiseOn m (m ∷ xs) = rise_from m xs (λ k h. rw (add-one) (rw (add-one) at (steps (suc k) (omega arith)))) in
     (omega arith, rise_lower (n + 1) m (m ∷ xs) (omega arith) rest)
 
-rise_all : (xs : List ℕ) → IsStrictlyIncreasing xs → RiseOn 0 xs
+pub rise_all : (xs : List ℕ) → IsStrictlyIncreasing xs → RiseOn 0 xs
 rise_all [] steps = tt
 rise_all (n ∷ xs) steps = rise_lower 0 n (n ∷ xs) (omega arith) (rise_from n xs steps)
 

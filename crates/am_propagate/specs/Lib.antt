@@ -7,3 +7,7 @@ pub mod Joining
 pub mod Grown
 pub mod Changed
 pub mod Namespaces
+pub mod NewMounts
+pub mod NamespaceCopies
+pub mod ReceiverCopies
+pub mod GroupsOfCopies

@@ -1,6 +1,6 @@
 //! Mounts and binds, with the copies on the mounts that receive them.
 
-ghost use Rattle.std.specs.Prelude.{◌≡◌, ◌+◌, ◌^◌, ◌<◌, ◌∷◌, ◌++◌, true, length, Some, None, IfOk, OnOk, OnErr};
+ghost use Rattle.std.specs.Prelude.{◌≡◌, ◌+◌, ◌^◌, ◌<◌, ◌∷◌, ◌++◌, true, false, length, Some, None, IfOk, OnOk, OnErr};
 ghost use Rattle.std.specs.List.{slice_get};
 ghost use Rattle.am_names.specs.Errno.{RefusedAs};
 ghost use Rattle.am_group.specs.Invariant.{AddsNoReceivers};
@@ -9,7 +9,9 @@ ghost use Rattle.am_group.specs.declared.membership.Membership.TheVariants.{Priv
 ghost use Rattle.am_group.specs.Receivers.{receivers_of};
 ghost use Rattle.am_mount.specs.Rows.{mount_row};
 ghost use Rattle.am_propagate.specs.MountTable.{is_mount, all_mounts};
+ghost use Rattle.am_propagate.specs.GroupsOfCopies.{Joins};
 ghost use Rattle.am_propagate.specs.Joining.{others_of};
+ghost use Rattle.am_propagate.specs.ReceiverCopies.{ComesWithCopies, BindsWithCopies};
 ghost use Rattle.am_propagate.specs.Added.{ns_in, row_at, rows_at, membership_where, membership_of, is_unbindable, fresh_count, numbers_after, new_mounts, mounts_made, made_beside, mount_refusal, bind_refusal, mounted, bound, numbers_refusal, HasSource};
 
 use crate::subtree::Subtree;
@@ -182,11 +184,14 @@ impl Subtree {
     ) -> Result<Vec<MountId>, Errno>
         requires there { is_mount self.old at.now.mount ≡ true }
         requires source { HasSource self.old fs membership }
+        requires bindable { is_unbindable membership ≡ false }
         ensures refusal { RefusedAs (numbers_refusal at.now.mount membership self.old) result }
         ensures made { IfOk result (λ v. v.items ≡ new_mounts self.old (mounts_made at.now.mount self.old)) }
         ensures first { IfOk result (λ v. slice_get v.items 0 ≡ Some (self.old.last_mount + 1)) }
         ensures came { IfOk result (λ v. all_mounts self.new ≡ all_mounts self.old ++ v.items) }
         ensures ok { OnOk result (self.new ≡ mounted at.now fs membership self.old) }
+        ensures copies { OnOk result (ComesWithCopies at.now fs (self.old.last_mount + 1) self.old self.new) }
+        ensures groups { OnOk result (Joins membership at.now.mount (self.old.last_mount + 1) self.old self.new) }
         ensures err { OnErr result (self.new ≡ self.old) }
         ensures law { AddsNoReceivers self.old.groups self.new.groups }
     {
@@ -207,6 +212,8 @@ impl Subtree {
         ensures first { IfOk result (λ v. slice_get v.items 0 ≡ Some (self.old.last_mount + 1)) }
         ensures came { IfOk result (λ v. all_mounts self.new ≡ all_mounts self.old ++ v.items) }
         ensures ok { OnOk result (self.new ≡ mounted at.now fs Private self.old) }
+        ensures copies { OnOk result (ComesWithCopies at.now fs (self.old.last_mount + 1) self.old self.new) }
+        ensures groups { OnOk result (Joins Private at.now.mount (self.old.last_mount + 1) self.old self.new) }
         ensures err { OnErr result (self.new ≡ self.old) }
         ensures law { AddsNoReceivers self.old.groups self.new.groups }
     {
@@ -238,6 +245,8 @@ impl Subtree {
         ensures first { IfOk result (λ v. slice_get v.items 0 ≡ Some (self.old.last_mount + 1)) }
         ensures came { IfOk result (λ v. all_mounts self.new ≡ all_mounts self.old ++ v.items) }
         ensures ok { OnOk result (self.new ≡ bound source at.now self.old) }
+        ensures copies { OnOk result (BindsWithCopies source at.now (self.old.last_mount + 1) self.old self.new) }
+        ensures groups { OnOk result (Joins (membership_of self.old source) at.now.mount (self.old.last_mount + 1) self.old self.new) }
         ensures err { OnErr result (self.new ≡ self.old) }
         ensures law { AddsNoReceivers self.old.groups self.new.groups }
     {

@@ -8,6 +8,7 @@ ghost use Rattle.am_mount.specs.Rows.{is_among, is_in};
 ghost use Rattle.am_propagate.specs.MountTable.{all_mounts};
 ghost use Rattle.am_propagate.specs.Added.{new_mounts};
 ghost use Rattle.am_propagate.specs.Removed.{mounts_in};
+ghost use Rattle.am_propagate.specs.NamespaceCopies.{AreCopies};
 ghost use Rattle.am_propagate.specs.Namespaces.{count_up_to, copy_number, row_in, in_form, member_in, copy_refusal, with_copy};
 
 use crate::subtree::Subtree;
@@ -157,6 +158,7 @@ impl Subtree {
         ensures made { IfOk result (λ made. made.mounts.items ≡ new_mounts self.old (length (mounts_in self.old ns))) }
         ensures came { IfOk result (λ made. all_mounts self.new ≡ all_mounts self.old ++ made.mounts.items) }
         ensures ok { OnOk result (self.new ≡ with_copy form ns self.old) }
+        ensures copies { IfOk result (λ made. AreCopies form ns made.ns self.old self.new) }
         ensures err { OnErr result (self.new ≡ self.old) }
         ensures law { AddsNoReceivers self.old.groups self.new.groups }
     {

@@ -5,8 +5,12 @@ use Rattle.am_group.specs.Receivers.{receivers_of}
 use Rattle.am_propagate.specs.MountTable.{MountTable, all_mounts}
 use Rattle.am_propagate.specs.Invariant.{IsWhole}
 use Rattle.am_propagate.specs.Added.{numbers_after}
+use Rattle.am_propagate.specs.ReceiverCopies.{ComesWithCopies}
+use Rattle.am_propagate.specs.GroupsOfCopies.{Joins}
 use Rattle.am_propagate.proofs.AdditionLemmas.{mounted_law}
 use Rattle.am_propagate.proofs.CameLemmas.{mounted_came, come_made}
+use Rattle.am_propagate.proofs.ReceiverCopyLemmas.{with_copies}
+use Rattle.am_propagate.proofs.GroupCopyLemmas.{joins}
 use Rattle.am_propagate.proofs.subtree.Subtree.add_at.Goals as goal
 
 pub returns-clause-made : goal.returns-clause-made
@@ -33,3 +37,17 @@ returns-clause-law c =
     let t = c.args.self.now in
     let whole : IsWhole t = subst (λ (x : MountTable). IsWhole x) c.self.view_is c.self.invariant in
     subst (λ (x : MountTable). AddsNoReceivers t.groups x.groups) (sym c.in_ok-add_with.ensures.ok) (mounted_law t whole c.args.at.now c.args.fs c.args.membership)
+
+pub returns-clause-copies : goal.returns-clause-copies
+returns-clause-copies c =
+    let t = c.args.self.now in
+    let whole : IsWhole t = subst (λ (x : MountTable). IsWhole x) c.self.view_is c.self.invariant in
+    subst (λ (x : MountTable). ComesWithCopies c.args.at.now c.args.fs (t.last_mount + 1) t x) (sym c.in_ok-add_with.ensures.ok)
+    (with_copies t whole c.args.at.now c.args.fs c.args.membership c.requires.there)
+
+pub returns-clause-groups : goal.returns-clause-groups
+returns-clause-groups c =
+    let t = c.args.self.now in
+    let whole : IsWhole t = subst (λ (x : MountTable). IsWhole x) c.self.view_is c.self.invariant in
+    subst (λ (x : MountTable). Joins c.args.membership c.args.at.now.mount (t.last_mount + 1) t x) (sym c.in_ok-add_with.ensures.ok)
+    (joins t whole c.args.at.now c.args.fs c.args.membership c.requires.there c.requires.source c.requires.bindable)

@@ -7,8 +7,10 @@ use Rattle.am_propagate.specs.Invariant.{IsWhole}
 use Rattle.am_propagate.specs.Added.{numbers_after, new_mounts}
 use Rattle.am_propagate.specs.Removed.{mounts_in}
 use Rattle.am_propagate.specs.Namespaces.{copy_number, member_in, with_copy}
+use Rattle.am_propagate.specs.NamespaceCopies.{AreCopies}
 use Rattle.am_propagate.proofs.NamespaceLemmas.{with_copy_whole, with_copy_law, copy_grown}
 use Rattle.am_propagate.proofs.CameLemmas.{copied_came}
+use Rattle.am_propagate.proofs.NamespaceCopyLemmas.{copies_rise}
 use Rattle.am_propagate.proofs.subtree.Subtree.copy_namespace.Goals as goal
 
 pub grow-requires-clause-whole : goal.grow-requires-clause-whole
@@ -61,3 +63,11 @@ returns-clause-law c =
     let members : c.in_ok-members.members.items ≡ map (member_in c.args.form (copy_number t.last_mount c.as_slice.result.now)) (filter (λ row. is_among c.as_slice.result.now row.mount) t.groups.members) = c.in_ok-members.ensures ∙ ap (λ (xs : List ℕ). map (member_in c.args.form (copy_number t.last_mount xs)) (filter (λ row. is_among xs row.mount) t.groups.members)) first in
     let made : c.grow.new.self ≡ with_copy c.args.form c.args.ns t = c.in_ok-grow.ensures.ok ∙ copy_grown t whole c.args.ns c.args.form c.as_slice.result.now (c.self.inside.last_ns + 1) c.in_ok-rows.rows.items c.in_ok-members.members.items c.new.result.items (c.as_slice.ensures.value ∙ items) to c.in_ok-rows.ensures members c.new.ensures.items in
     subst (λ (x : MountTable). AddsNoReceivers t.groups x.groups) (sym made) (with_copy_law t whole c.args.ns c.args.form)
+
+pub returns-clause-copies : goal.returns-clause-copies
+returns-clause-copies c =
+    let t = c.args.self.now in
+    let whole : IsWhole t = subst (λ (x : MountTable). IsWhole x) c.self.view_is c.self.invariant in
+    let to : c.self.inside.last_ns + 1 ≡ t.last_ns + 1 = ap (λ (x : MountTable). x.last_ns + 1) c.self.view_is in
+    subst (λ (x : MountTable). AreCopies c.args.form c.args.ns (c.self.inside.last_ns + 1) t x) (sym (returns-clause-ok c))
+    (subst (λ (n : ℕ). AreCopies c.args.form c.args.ns n t (with_copy c.args.form c.args.ns t)) (sym to) (copies_rise t whole c.args.ns c.args.form))
