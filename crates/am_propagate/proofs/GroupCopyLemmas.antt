@@ -438,7 +438,7 @@ module _
 
     -- the rows of the mounts
     rise : RiseOn 0 rs
-    rise = rise_all rs (receivers_rise t.groups whole.sound at.mount)
+    rise = rise_all rs (receivers_rise t.groups whole.sound.orderly at.mount)
 
     itself_there :
         member_row (groups_with (Some own)).members first ≡

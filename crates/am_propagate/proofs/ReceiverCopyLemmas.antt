@@ -60,7 +60,7 @@ module _
   after = mounted at fs membership t
 
   rise : RiseOn 0 rs
-  rise = rise_all rs (receivers_rise t.groups whole.sound at.mount)
+  rise = rise_all rs (receivers_rise t.groups whole.sound.orderly at.mount)
 
   exact_has : (r : ℕ) → Receives t.groups at.mount r → has r rs ≡ true
   exact_has r receives = (receiver_exact t.groups whole.sound at.mount r).1 receives
