@@ -43,6 +43,7 @@ line_for d path =
     option_or (find (λ line. has_point path line.1.0.point) (lines_of d))
     (find (λ line. has_key path line.1.0.point line.1.1) (lines_of d))
 
+-- the place of the line, and whether it is of a direct map
 abbrev pub point_at : Line → Point
 point_at line = record { entry = line.0; direct = is_direct line.1.0.point }
 

@@ -67,6 +67,7 @@ abbrev pub rest_of_mount : Trigger → Outcome → Plan
 rest_of_mount trigger (Made mount) = after_mount trigger mount
 rest_of_mount trigger outcome = after_failed_mount trigger
 
+-- the entry is mounted, and the rest goes by what comes of that
 abbrev pub mount_entry : Trigger → EntryText → Plan
 mount_entry trigger entry = Next (act.Mount trigger entry) (rest_of_mount trigger)
 
@@ -97,6 +98,7 @@ abbrev pub rest_of_umount : Trigger → ℕ → Outcome → Plan
 rest_of_umount trigger mount Failed = after_failed_umount trigger mount
 rest_of_umount trigger mount outcome = after_umount trigger
 
+-- it is unmounted, and the rest goes by what comes of that
 abbrev pub unmounting : Trigger → ℕ → Plan
 unmounting trigger mount = Next (act.Umount trigger) (rest_of_umount trigger mount)
 
