@@ -23,7 +23,7 @@ pub struct Summary {
 ///
 /// The first fault ends it. A fault of the head leaves the writer as it was, and one behind
 /// `events` the lines of all answers before it. Where the reader fails, or was asked
-/// 281,474,976,710,656 times, the lines that were read whole are played first; the fault comes at the
+/// 4,294,967,295 times, the lines that were read whole are played first; the fault comes at the
 /// line behind them. No memory for the head or the world is told at the line that asked for it.
 pub fn run_script<R: Read, W: Write>(
     alloc: Global,

@@ -13,7 +13,7 @@ use std::alloc::Global;
 use std::io::{Read, Write};
 
 /// How often a reader is asked, so that the numbers of lines fit.
-const MOST_READS: u64 = 1 << 48;
+const MOST_READS: u64 = 4_294_967_295;
 
 /// How many bytes a reader is asked for.
 const READ: usize = 4096;

@@ -4,7 +4,8 @@ use am_job::Act;
 use am_map::{Map, MapKind};
 use am_master::Master;
 use am_names::{
-    AbsPath, Errno, JobId, Limits, MountId, NsId, PipeState, Place, Seconds, Token, WalkerId,
+    AbsPath, Attach, Errno, FsId, JobId, Limits, MountId, NsId, PipeState, Place, Position,
+    Seconds, Token, WalkerId,
 };
 use am_world::laws::trace_holds;
 use am_world::{Answer, Event, Obs, Ran, World, run};
@@ -67,10 +68,10 @@ fn act() -> Event {
     }
 }
 
-fn resume() -> Event {
+fn resume(now: u64) -> Event {
     Event::Resume {
         walker: WalkerId(7),
-        now: Seconds(101),
+        now: Seconds(now),
         pipe: PipeState::Room,
     }
 }
@@ -78,11 +79,6 @@ fn resume() -> Event {
 /// The walker waits on token 1.
 fn is_wait(answer: &Answer) -> bool {
     matches!(answer, Answer::Wait { token } if *token == Token(1))
-}
-
-/// The walk has arrived in mount 3.
-fn is_arrival(answer: &Answer) -> bool {
-    matches!(answer, Answer::At { position } if position.mount == MountId(3))
 }
 
 /// Walker 7 was released.
@@ -112,33 +108,68 @@ fn a_walk_waits_for_the_daemon(rt: HostRuntime) -> Result<(), Fail> {
     Ok(())
 }
 
+/// The walker asks too early, is served, and asks again.
 fn events(alloc: Global) -> Result<Vec<Event>, Errno> {
     let (attach, walk) = (attach(alloc)?, walk(alloc)?);
     Ok(vec![in alloc;
         attach,
         walk,
+        resume(100),
         deliver(),
         act(),
         act(),
         act(),
         act(),
-        resume(),
+        resume(101),
     ]?)
 }
 
-/// The walk arrives, its release is in the trace, and the laws hold of the trace.
-fn is_served(ran: &Ran) -> bool {
+/// What these events come to.
+fn answers(alloc: Global) -> Result<Vec<Answer>, Errno> {
+    let position = Position {
+        mount: MountId(3),
+        place: Place::root(alloc),
+    };
+    Ok(vec![in alloc;
+        Answer::Attached {
+            fs: FsId(2),
+            attach: Attach(1),
+            mount: MountId(2),
+        },
+        Answer::Wait { token: Token(1) },
+        Answer::Refused {
+            errno: Errno::NotReleased,
+        },
+        Answer::Job { job: JobId(1) },
+        Answer::DidMkdir,
+        Answer::DidMount { mount: MountId(3) },
+        Answer::DidRecord,
+        Answer::DidReply,
+        Answer::At { position },
+    ]?)
+}
+
+fn are_same(answers: &[Answer], others: &[Answer]) -> bool {
+    answers.len() == others.len()
+        && answers
+            .iter()
+            .zip(others.iter())
+            .all(|(answer, other)| answer.is_same(other))
+}
+
+/// The answers are these, the release is in the trace, and the laws hold of the trace.
+fn is_served(ran: &Ran, answers: &[Answer]) -> bool {
     let trace = ran.world.trace();
-    let arrives = ran.answers.last().is_some_and(is_arrival);
-    arrives && trace.iter().any(is_release) && trace_holds(trace)
+    are_same(ran.answers.as_slice(), answers) && trace.iter().any(is_release) && trace_holds(trace)
 }
 
 #[test]
 fn a_run_serves_the_walk(rt: HostRuntime) -> Result<(), Fail> {
     let events = events(rt.alloc())?;
+    let answers = answers(rt.alloc())?;
     let Ok(ran) = run(rt.alloc(), world(rt.alloc())?, events.as_slice()) else {
         return Err(Fail::new("no room for the answers"));
     };
-    assert!(rt; is_served(&ran));
+    assert!(rt; is_served(&ran, answers.as_slice()));
     Ok(())
 }
