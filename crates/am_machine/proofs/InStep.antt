@@ -6,6 +6,7 @@ use Rattle.am_names.specs.declared.errno.Errno.{Errno}
 use Rattle.am_names.specs.declared.errno.Errno.TheVariants.{ENOENT, EBUSY, EINVAL}
 use Rattle.am_names.specs.Trigger.{same_trigger}
 use Rattle.am_names.specs.declared.trigger.Trigger.{Trigger}
+use Rattle.am_trigger.specs.declared.autofs.Autofs.{Autofs}
 use Rattle.am_names.specs.declared.row.TokenKind.TheVariants.{Missing}
 use Rattle.am_names.specs.declared.row.WaitRow.{WaitRow}
 use Rattle.am_trigger.specs.Rows.{autofs_of}
@@ -18,7 +19,7 @@ use Rattle.am_names.proofs.SameTriggers.{is_itself}
 use Rattle.am_kernel.specs.State.{KernelState}
 use Rattle.am_kernel.specs.declared.row.Attached.{Attached}
 use Rattle.am_kernel.specs.declared.row.WalkRow.{WalkRow}
-use Rattle.am_kernel.specs.Sites.{is_live, attach_of, latest_attach, attach_refusal, or_else}
+use Rattle.am_kernel.specs.Sites.{is_live, is_live_row, attach_of, latest_attach, attach_refusal, or_else}
 use Rattle.am_kernel.specs.Attachments.{pipe_refusal}
 use Rattle.am_kernel.specs.Resumes.{walk_in}
 use Rattle.am_kernel.specs.Requests.{queued_of}
@@ -152,6 +153,13 @@ taken_by true false busy h free = refl
 taken_by false true busy h free = absurd (let no : false ≡ true = h refl in cc)
 taken_by false false busy h free = refl
 
+live_is_there : (row : Option Autofs) → is_live_row row ≡ true → is_some row ≡ true
+live_is_there None live = absurd cc
+live_is_there (Some row) live = refl
+
+attach_found : (k : KernelState) (fs : ℕ) → is_live k fs ≡ true → is_some (latest_attach k.attached fs) ≡ true → is_some (attach_of k fs) ≡ true
+attach_found k fs live found = rw live found
+
 pub refuses_in_step : (s : State) → AreInStep s → RefusesInStep s
 refuses_in_step s h =
     let d = s.daemon in
@@ -159,5 +167,6 @@ refuses_in_step s h =
       reattach = λ fs. reattach_by s.kernel d fs (pipe_refusal s.kernel fs) refl (h.known fs);
       deliver = λ token row bytes is. ap (λ (b : Bool). has_bytes bytes row && b)
           (taken_by (knows d row.packet.dev) (holds d row.packet.dev row.attach) (is_busy d row.packet) (h.held row.packet.dev row.attach) (h.free token row is));
+      attached = λ fs live. attach_found s.kernel fs live (h.attached fs (live_is_there (autofs_of s.kernel.triggers fs) live));
       resume = h.walks;
     }

@@ -6,7 +6,7 @@ use Rattle.am_names.specs.declared.row.WaitRow.{WaitRow}
 use Rattle.am_trigger.specs.Rows.{autofs_of}
 use Rattle.am_wait.specs.Rows.{token_of, wait_of}
 use Rattle.am_state.specs.declared.kernel_row.QueuedRow.{QueuedRow}
-use Rattle.am_kernel.specs.Sites.{latest_attach}
+use Rattle.am_kernel.specs.Sites.{is_live, latest_attach, attach_of}
 use Rattle.am_kernel.specs.Requests.{queued_of}
 use Rattle.am_kernel.specs.Attachments.{pipe_refusal}
 use Rattle.am_kernel.specs.Resumes.{walk_in}
@@ -50,6 +50,8 @@ pub record RefusesInStep (s : State) : Type 0 where
   pub deliver : (token : ℕ) (row : QueuedRow) (bytes : Option (List ℕ)) →
       queued_of s.kernel.queue token ≡ Some row →
       may_take s row bytes ≡ (has_bytes bytes row && holds s.daemon row.packet.dev row.attach)
+  -- a walk and an expiry find the attachment of an autofs to which a daemon is attached
+  pub attached : (fs : ℕ) → is_live s.kernel fs ≡ true → is_some (attach_of s.kernel fs) ≡ true
   -- a walker that waits on a mount goes on with its walk
   pub resume : (walker : ℕ) (row : WaitRow) → wait_of s.kernel.waits.waits walker ≡ Some row →
       row.kind ≡ Missing → is_some (walk_in s.kernel.walks row.walker) ≡ true
