@@ -1,14 +1,15 @@
 #!/bin/sh
 # tools/refuse_all.sh: plays worked examples and other scripts with each of their allocations refused in
-# turn: the event then finds no memory and changes nothing, and all goes on when it is made again. The gate
-# or `rt run` in crates/am_tests has built what plays them. The last line counts the scripts.
+# turn: the event then finds no memory and changes nothing, and all goes on when it is made again. So it does
+# with a test of the command line. The gate, or `rt run` in crates/am_tests and `rt test` in crates/automount_cli,
+# has built what plays them. The last line counts the scripts and tests.
 set -u
 . "$(dirname "$0")/common.sh"
 expect_nothing "$@"
 passed=0
 failed=0
-while read -r name; do
-    if "$(dirname "$0")/refuse_each.sh" "$name" < /dev/null; then
+while read -r name test; do
+    if "$(dirname "$0")/refuse_each.sh" "$name" ${test:+"$test"} < /dev/null; then
         passed=$((passed + 1))
     else
         failed=$((failed + 1))
@@ -24,6 +25,7 @@ an_expiry_and_a_death_among_shared_mounts
 a_use_and_a_wait
 events_said_twice
 a_head_of_two_maps
+automount_cli tests::memory_may_run_out_before_words_are_read
 SCRIPTS
 echo "$passed passed, $failed failed"
 [ "$failed" -eq 0 ]

@@ -11,6 +11,34 @@ mod shows;
 mod taker;
 mod worlds;
 
+/// Words for which there was no memory are read once more.
+fn read_in_the_end(alloc: Global, words: &[&str]) -> Result<Args, ArgsFault> {
+    match read_args(alloc, words) {
+        Err(ArgsFault::NoMemory) => read_args(alloc, words),
+        read => read,
+    }
+}
+
+#[test]
+fn memory_may_run_out_before_words_are_read(rt: HostRuntime) {
+    let alloc = rt.alloc();
+    assert_eq!(rt;
+        read_in_the_end(alloc, &["cli", "script"]),
+        Ok(Args::Script)
+    );
+    assert_eq!(rt;
+        read_in_the_end(alloc, &["cli", "draw", "--from", "3"]),
+        Ok(Args::Draw {
+            first: 3,
+            last: 4_294_967_295
+        })
+    );
+    assert_eq!(rt;
+        read_in_the_end(alloc, &["cli", "scrip"]),
+        Err(ArgsFault::Usage)
+    );
+}
+
 #[test]
 fn script_takes_no_words(rt: HostRuntime) {
     let alloc = rt.alloc();
