@@ -1,7 +1,8 @@
 //! The order in which triggers come to expire.
 
-ghost use Rattle.std.specs.Prelude.{◌≡◌, ◌+◌, ◌≤◌, ◌<◌, [], length, Contains, false, true, filter, vec_len, vec_capacity, Some, IfSome, OnOk};
+ghost use Rattle.std.specs.Prelude.{◌≡◌, ◌+◌, ◌≤◌, ◌<◌, [], length, Contains, ◌-◌, false, true, filter, vec_len, vec_capacity, Some, IfSome, OnOk};
 ghost use Rattle.std.specs.Cmp.Lexicographic.{slice_cmp};
+ghost use Rattle.std.specs.List.{insert, remove};
 ghost use Rattle.std.specs.List.Sorted.{IsSorted, IsPartitionPoint};
 ghost use Rattle.std.specs.Option.{option_cmp};
 ghost use Rattle.std.specs.Ordering.{nat_cmp, is_lt};
@@ -120,6 +121,20 @@ impl Order {
         // There is room for it.
         let _put = self.rows.insert(at, row);
     }
+    /// The row at the first place goes, and the rows behind it, up to the second, move one down, so
+    /// that the other stands behind them.
+    fn shift(&mut self, from: usize, to: usize, other: (Trigger, Seconds))
+        requires up { from < to }
+        requires within { to ≤ vec_len self.old.rows }
+        requires known { to ≤ length self.old.rows.items }
+        ensures rows { self.new.rows.items ≡ insert (remove self.old.rows.items from) (to - 1) other }
+        ensures len { vec_len self.new.rows ≡ vec_len self.old.rows }
+        ensures capacity { vec_capacity self.new.rows ≡ vec_capacity self.old.rows }
+    {
+        self.rows.copy_within(from + 1..to, from);
+        self.rows[to - 1] = other;
+    }
+
     /// The first row gives way to the other; nothing moves where they are the same.
     fn exchange(&mut self, row: &(Trigger, Seconds), other: (Trigger, Seconds))
         requires rising { IsSorted use_cmp self.old.rows.items }
@@ -134,8 +149,14 @@ impl Order {
         if row.1.0 == other.1.0 {
             return;
         }
-        self.take_out(row);
-        self.put_in(other);
+        let from = rank(self.rows.as_slice(), row);
+        let to = rank(self.rows.as_slice(), &other);
+        if from < to {
+            self.shift(from, to, other);
+        } else {
+            self.take_out(row);
+            self.put_in(other);
+        }
     }
 
     /// The trigger was used at this moment, and there is room for that; `last` is when it was used
