@@ -1,7 +1,6 @@
 use Rattle.std.proofs.Common.{◌≡◌, ◌+◌, ◌-◌, length, drop, ap, ◌∙◌, arith}
 use Rattle.std.proofs.lemmas.List.{length-drop}
 use Rattle.std.proofs.lemmas.List.Edits.{length-paste}
-use Rattle.am_names.specs.declared.trigger.Trigger.{Trigger}
 use Rattle.am_expire.proofs.ShiftLemmas.{shifted}
 use Rattle.am_expire.proofs.order.Order.shift.Goals as goal
 
