@@ -16,7 +16,7 @@ use Rattle.am_names.specs.Trigger.{same_trigger}
 use Rattle.am_names.specs.declared.trigger.Trigger.{Trigger}
 use Rattle.am_names.proofs.SameTriggers.{is_one}
 use Rattle.am_trigger.specs.Rows.{last_use_in, used_in}
-use Rattle.am_expire.specs.Order.{use_cmp, is_of, has_last, AreSame, IsOrder, HasRowMore, HasLastMore}
+use Rattle.am_expire.specs.Order.{use_cmp, is_of, has_last, AreSame, IsOrder, IsTouched}
 use Rattle.am_expire.proofs.OrderLemmas.{use_total, use_exact, is_before}
 
 -- ---- rows that are the same, each as often
@@ -109,17 +109,16 @@ used_count test trigger moment (row ∷ uses) =
 
 -- the order after a use
 pub order_of_used :
-    (uses rows left new : List (Trigger × ℕ)) (trigger : Trigger) (moment : ℕ) → IsOrder uses rows →
-    HasLastMore trigger (last_use_in uses trigger) left rows → HasRowMore (trigger, moment) left new →
+    (uses rows new : List (Trigger × ℕ)) (trigger : Trigger) (moment : ℕ) → IsOrder uses rows →
+    IsTouched trigger (last_use_in uses trigger) moment rows new →
     IsSorted use_cmp new → IsOrder (used_in trigger moment uses) new
-order_of_used uses rows left new trigger moment order less more rising = record {
+order_of_used uses rows new trigger moment order touched rising = record {
   rising = rising;
   same = λ test. (
       let a = order.same test in
-      let b = less test in
-      let c = more test in
+      let b = touched test in
       let d = used_count test trigger moment uses in
-      omega (arith, a, b, c, d));
+      omega (arith, a, b, d));
 }
 
 -- ---- the order of one file system

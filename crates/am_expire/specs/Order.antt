@@ -41,12 +41,19 @@ abbrev pub has_last : Trigger → (Trigger × ℕ → Bool) → Option ℕ → �
 has_last trigger test None = 0
 has_last trigger test (Some last) = cond (test (trigger, last)) 1 0
 
--- the second has the trigger's last use too, if there was one
-abbrev pub HasLastMore :
-    Trigger → Option ℕ → List (Trigger × ℕ) → List (Trigger × ℕ) → Type 0
-HasLastMore trigger last less more =
+-- the second has the other row in the place of this one
+abbrev pub HasInstead :
+    Trigger × ℕ → Trigger × ℕ → List (Trigger × ℕ) → List (Trigger × ℕ) → Type 0
+HasInstead row other old new =
     (test : Trigger × ℕ → Bool) →
-    count_by test more ≡ count_by test less + has_last trigger test last
+    count_by test new + cond (test row) 1 0 ≡ count_by test old + cond (test other) 1 0
+
+-- the second has the trigger's use at this moment, and no longer its last use, if there was one
+abbrev pub IsTouched :
+    Trigger → Option ℕ → ℕ → List (Trigger × ℕ) → List (Trigger × ℕ) → Type 0
+IsTouched trigger last moment old new =
+    (test : Trigger × ℕ → Bool) →
+    count_by test new + has_last trigger test last ≡ count_by test old + cond (test (trigger, moment)) 1 0
 
 -- ---- how far a pick goes up
 

@@ -1,11 +1,12 @@
 //! The order in which triggers come to expire.
 
-ghost use Rattle.std.specs.Prelude.{◌≡◌, ◌+◌, ◌≤◌, ◌<◌, [], length, Contains, false, true, filter, vec_len, vec_capacity, Some, IfSome, OnOk};
+ghost use Rattle.std.specs.Prelude.{◌≡◌, ◌+◌, ◌≤◌, ◌<◌, [], length, Contains, ◌-◌, false, true, filter, vec_len, vec_capacity, Some, IfSome, OnOk};
 ghost use Rattle.std.specs.Cmp.Lexicographic.{slice_cmp};
+ghost use Rattle.std.specs.List.{insert, remove};
 ghost use Rattle.std.specs.List.Sorted.{IsSorted, IsPartitionPoint};
 ghost use Rattle.std.specs.Option.{option_cmp};
 ghost use Rattle.std.specs.Ordering.{nat_cmp, is_lt};
-ghost use Rattle.am_expire.specs.Order.{use_cmp, is_of, HasRowMore, HasLastMore};
+ghost use Rattle.am_expire.specs.Order.{use_cmp, is_of, HasRowMore, HasInstead, IsTouched};
 
 use am_names::{FsId, Name, Seconds, Trigger};
 use std::alloc::{AllocError, Global};
@@ -107,20 +108,6 @@ impl Order {
         let _taken = self.rows.remove(at);
     }
 
-    /// The trigger's last use is no longer in the order.
-    pub(crate) fn forget(&mut self, trigger: &Trigger, last: Option<Seconds>)
-        requires rising { IsSorted use_cmp self.old.rows.items }
-        requires there { IfSome last (λ last. Contains self.old.rows.items (trigger.now, last)) }
-        ensures rising { IsSorted use_cmp self.new.rows.items }
-        ensures rows { HasLastMore trigger.now last self.new.rows.items self.old.rows.items }
-        ensures len { vec_len self.new.rows ≤ vec_len self.old.rows }
-        ensures capacity { vec_capacity self.new.rows ≡ vec_capacity self.old.rows }
-    {
-        if let Some(last) = last {
-            self.take_out(&(*trigger, last));
-        }
-    }
-
     /// One row more, for which there is room.
     pub(crate) fn put_in(&mut self, row: (Trigger, Seconds))
         requires rising { IsSorted use_cmp self.old.rows.items }
@@ -133,5 +120,59 @@ impl Order {
         let at = rank(self.rows.as_slice(), &row);
         // There is room for it.
         let _put = self.rows.insert(at, row);
+    }
+    /// The row at the first place goes, and the rows behind it, up to the second, move one down, so
+    /// that the other stands behind them.
+    fn shift(&mut self, from: usize, to: usize, other: (Trigger, Seconds))
+        requires up { from < to }
+        requires within { to ≤ vec_len self.old.rows }
+        requires known { to ≤ length self.old.rows.items }
+        ensures rows { self.new.rows.items ≡ insert (remove self.old.rows.items from) (to - 1) other }
+        ensures len { vec_len self.new.rows ≡ vec_len self.old.rows }
+        ensures capacity { vec_capacity self.new.rows ≡ vec_capacity self.old.rows }
+    {
+        self.rows.copy_within(from + 1..to, from);
+        self.rows[to - 1] = other;
+    }
+
+    /// The first row gives way to the other; nothing moves where they are the same.
+    fn exchange(&mut self, row: &(Trigger, Seconds), other: (Trigger, Seconds))
+        requires rising { IsSorted use_cmp self.old.rows.items }
+        requires there { Contains self.old.rows.items row.now }
+        requires same { row.now.0 ≡ other.0 }
+        requires room { vec_len self.old.rows < vec_capacity self.old.rows }
+        ensures rising { IsSorted use_cmp self.new.rows.items }
+        ensures rows { HasInstead row.now other self.old.rows.items self.new.rows.items }
+        ensures len { vec_len self.new.rows ≡ vec_len self.old.rows }
+        ensures capacity { vec_capacity self.new.rows ≡ vec_capacity self.old.rows }
+    {
+        if row.1.0 == other.1.0 {
+            return;
+        }
+        let from = rank(self.rows.as_slice(), row);
+        let to = rank(self.rows.as_slice(), &other);
+        if from < to {
+            self.shift(from, to, other);
+        } else {
+            self.take_out(row);
+            self.put_in(other);
+        }
+    }
+
+    /// The trigger was used at this moment, and there is room for that; `last` is when it was used
+    /// before.
+    pub(crate) fn touch(&mut self, trigger: &Trigger, last: Option<Seconds>, moment: Seconds)
+        requires rising { IsSorted use_cmp self.old.rows.items }
+        requires there { IfSome last (λ last. Contains self.old.rows.items (trigger.now, last)) }
+        requires room { vec_len self.old.rows < vec_capacity self.old.rows }
+        ensures rising { IsSorted use_cmp self.new.rows.items }
+        ensures rows { IsTouched trigger.now last moment self.old.rows.items self.new.rows.items }
+        ensures len { vec_len self.new.rows ≤ vec_len self.old.rows + 1 }
+        ensures capacity { vec_capacity self.new.rows ≡ vec_capacity self.old.rows }
+    {
+        match last {
+            Some(last) => self.exchange(&(*trigger, last), (*trigger, moment)),
+            None => self.put_in((*trigger, moment)),
+        }
     }
 }

@@ -148,8 +148,7 @@ impl OrderedTriggers {
         ensures kept { self.new.autofs_room ≡ self.old.autofs_room }
     {
         let last = self.triggers.last_use(trigger);
-        self.order.forget(trigger, last);
-        self.order.put_in((*trigger, moment));
+        self.order.touch(trigger, last, moment);
         self.triggers.touch_reserved(trigger, moment);
     }
 
