@@ -4,4 +4,5 @@ pub mod FreeLemmas
 pub mod MomentLemmas
 pub mod MountLemmas
 pub mod NotifyLemmas
+pub mod WaitingLemmas
 pub mod WalkLemmas

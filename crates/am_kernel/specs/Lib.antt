@@ -12,4 +12,5 @@ pub mod DaemonMounts
 pub mod Granted
 pub mod Administration
 pub mod Namespaces
+pub mod WalkTable
 pub mod Inside

@@ -18,7 +18,7 @@ ghost use Rattle.am_kernel.specs.Inside.{expired_uses, forgotten_waits, forgotte
 use crate::begun::{Begin, Begun};
 use crate::kernel::Kernel;
 use crate::packet::packet_for;
-use crate::row::WalkRow;
+use crate::walks::Walks;
 use am_expire::OrderedTriggers;
 use am_names::{
     Attach, Errno, FsId, PipeState, Position, Seconds, Status, Token, TokenKind, Trigger, WalkerId,
@@ -63,32 +63,14 @@ pub fn forget(waits: &mut Waits, waited: &Waited, walker: WalkerId)
     }
 }
 
-/// The walk of a walker is over.
-fn take_walk(walks: &mut Vec<WalkRow>, walker: WalkerId)
-    ensures items { walks.new.items ≡ without_walk walker walks.old.items }
-    ensures len { vec_len walks.new ≤ vec_len walks.old }
-    ensures capacity { vec_capacity walks.new ≡ vec_capacity walks.old }
-{
-    walks.retain(|row| row.walker != walker);
-}
-
 /// The walk of a walker that waited is over.
-pub fn forget_walk(walks: &mut Vec<WalkRow>, waited: &Waited, walker: WalkerId)
-    ensures { walks.new.items ≡ forgotten_walks waited.now walker walks.old.items }
+pub fn forget_walk(walks: &mut Walks, waited: &Waited, walker: WalkerId)
+    ensures { walks.new.rows ≡ forgotten_walks waited.now walker walks.old.rows }
 {
     match waited {
         Waited::Idle => {}
-        Waited::OnMount | Waited::OnExpiry { .. } => take_walk(walks, walker),
+        Waited::OnMount | Waited::OnExpiry { .. } => walks.take(walker),
     }
-}
-
-/// The walk of a walker that waits, in place of the one that it had.
-fn put_walk(walks: &mut Vec<WalkRow>, row: WalkRow)
-    requires { vec_len walks.old < vec_capacity walks.old }
-    ensures { walks.new.items ≡ without_walk row.walker walks.old.items ++ row ∷ [] }
-{
-    take_walk(walks, row.walker);
-    walks.push_reserved(row);
 }
 
 /// Tells which triggers a walk passed.
@@ -201,11 +183,11 @@ impl Kernel {
         let row = begin.to_row(alloc)?;
         seen.reserve(passed.len() + 1)?;
         self.triggers.reserve_uses(passed.len() + 1)?;
-        self.walks.reserve(1)?;
+        self.walks.reserve()?;
         self.waits.rejoin(token, walker)?;
         touch_expired(&mut self.triggers, waited, moment);
         self.triggers.touch_all_reserved(passed, moment);
-        put_walk(&mut self.walks, row);
+        self.walks.put(row);
         tell_passes(seen, walker, passed);
         seen.push_reserved(Obs::Waits { walker, token });
         Ok(Begun::Waits(token))
@@ -230,7 +212,7 @@ impl Kernel {
         let moment = begin.moment;
         seen.reserve(passed.len() + 2)?;
         self.triggers.reserve_uses(passed.len() + 2)?;
-        self.walks.reserve(1)?;
+        self.walks.reserve()?;
         self.queue.reserve(1)?;
         let row = begin.to_row(alloc)?;
         let token = self
@@ -244,7 +226,7 @@ impl Kernel {
         touch_expired(&mut self.triggers, waited, moment);
         self.triggers.touch_all_reserved(passed, moment);
         self.triggers.touch_reserved(trigger, moment);
-        put_walk(&mut self.walks, row);
+        self.walks.put(row);
         tell_queued(seen, walker, passed, &queued);
         self.queue.push_reserved(queued);
         Ok(Begun::Waits(token))

@@ -8,6 +8,7 @@ ghost use Rattle.am_kernel.specs.Outcome.{moment_of};
 ghost use Rattle.am_kernel.specs.Sites.{is_live, latest_attach, attach_of, fs_of_attach, is_current, is_busy, position_at, is_on_autofs, is_root};
 
 use crate::row::{Attached, WalkRow};
+use crate::walks::Walks;
 use am_expire::{OrderedTriggers, Uses};
 use am_names::{
     AbsPath, Attach, Errno, FsId, Limits, MountId, NsId, Place, Position, Seconds, WalkerId,
@@ -30,7 +31,7 @@ pub struct Kernel {
     pub(crate) waits: Waits,
     pub(crate) uses: Uses,
     pub(crate) attached: Vec<Attached>,
-    pub(crate) walks: Vec<WalkRow>,
+    pub(crate) walks: Walks,
     pub(crate) queue: Vec<QueuedRow>,
     pub(crate) last_fs: u32,
     pub(crate) last_attach: u32,
@@ -75,7 +76,7 @@ impl Kernel {
             waits: Waits::new(alloc, limits.waiters, limits.tokens),
             uses: Uses::new(alloc),
             attached: Vec::new(alloc),
-            walks: Vec::new(alloc),
+            walks: Walks::new(alloc),
             queue: Vec::new(alloc),
             last_fs: 1,
             last_attach: 0,

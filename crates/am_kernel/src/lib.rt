@@ -19,6 +19,7 @@ mod requests;
 pub mod row;
 mod table;
 mod walker;
+mod walks;
 
 pub use begun::{Begin, Begun};
 pub use kernel::Kernel;

@@ -109,7 +109,7 @@ impl Kernel {
     pub(crate) fn walk_row(&self, walker: WalkerId) -> Option<&WalkRow>
         ensures { option_copied result ≡ walk_in self.now.walks walker }
     {
-        self.walks.iter().find(|row| row.walker == walker)
+        self.walks.get(walker)
     }
 
     /// The walker's wait is collected, and it is idle.

@@ -26,7 +26,7 @@ returns-in_err-rejoin c =
     rw (p.1, p.2)
     (joins_wants ⊤ c.args.waited.now (kernel_of c.self.inside) k _ b c.args.token c.args.passed.now c.in_err-rejoin.field-0.0 c.args.seen.now.items _ c.requires.free c.requires.open room c.self.view_is
     c.in_err-rejoin.ensures.refusal
-    (rw (c.reserve_uses.ensures.rows, c.in_err-rejoin.ensures.err, c.reserve-2.ensures.items) refl)
+    (rw (c.reserve_uses.ensures.rows, c.in_err-rejoin.ensures.err, c.reserve-2.ensures.rows) refl)
     c.reserve.ensures.items)
 
 pub returns : goal.returns
@@ -39,8 +39,8 @@ returns c =
     let triggers : c.touch_all_reserved.new.self.rows ≡ all_used c.args.passed.now b.moment (expired_uses w b.moment old.triggers) =
     c.touch_all_reserved.ensures.rows ∙ ap (all_used c.args.passed.now b.moment) (c.touch_expired.ensures.rows ∙ ap (expired_uses w b.moment) c.reserve_uses.ensures.rows) in
     let waits : c.rejoin.new.self ≡ rejoined c.args.token b.walker old.waits = c.in_ok-rejoin.ensures.ok in
-    let walks : c.put_walk.new.walks.items ≡ with_walk b (forgotten_walks w b.walker old.walks) =
-    c.put_walk.ensures ∙ ap (λ (row : WalkRow). without_walk row.walker c.reserve-2.new.self.items ++ row ∷ []) c.in_ok-row.ensures ∙ ap (with_walk b) c.reserve-2.ensures.items ∙ sym (put_again w b old.walks) in
+    let walks : c.put.new.self.rows ≡ with_walk b (forgotten_walks w b.walker old.walks) =
+    c.put.ensures ∙ ap (λ (row : WalkRow). without_walk row.walker c.reserve-2.new.self.rows ++ row ∷ []) c.in_ok-row.ensures ∙ ap (with_walk b) c.reserve-2.ensures.rows ∙ sym (put_again w b old.walks) in
     joins_as w k _ b c.args.token c.args.passed.now c.args.seen.now.items _ c.requires.free room
     ((rw (triggers, waits, walks) refl) ∙ ap (λ (s : KernelState). with_joined b c.args.token c.args.passed.now (without_wait w b.walker b.moment s)) c.self.view_is)
     (c.push_reserved.ensures.items ∙ ap (λ (xs : List Obs). xs ++ seen.Waits b.walker c.args.token ∷ []) (c.tell_passes.ensures.seen ∙ ap (λ (xs : List Obs). xs ++ passes b.walker c.args.passed.now) c.reserve.ensures.items))

@@ -27,8 +27,8 @@ returns c =
     let triggers : c.touch_reserved.new.self.rows ≡ used trigger b.moment (all_used passed b.moment (expired_uses w b.moment old.triggers)) =
     c.touch_reserved.ensures.rows ∙ ap (used trigger b.moment) (c.touch_all_reserved.ensures.rows ∙ ap (all_used passed b.moment) (c.touch_expired.ensures.rows ∙ ap (expired_uses w b.moment) c.reserve_uses.ensures.rows)) in
     let waits : c.reopen.new.self ≡ reopened trigger Missing b.walker old.waits = c.in_ok-token.ensures.ok in
-    let walks : c.put_walk.new.walks.items ≡ with_walk b (forgotten_walks w b.walker old.walks) =
-    c.put_walk.ensures ∙ ap (λ (r : WalkRow). without_walk r.walker c.reserve-2.new.self.items ++ r ∷ []) c.in_ok-row.ensures ∙ ap (with_walk b) c.reserve-2.ensures.items ∙ sym (put_again w b old.walks) in
+    let walks : c.put.new.self.rows ≡ with_walk b (forgotten_walks w b.walker old.walks) =
+    c.put.ensures ∙ ap (λ (r : WalkRow). without_walk r.walker c.reserve-2.new.self.rows ++ r ∷ []) c.in_ok-row.ensures ∙ ap (with_walk b) c.reserve-2.ensures.rows ∙ sym (put_again w b old.walks) in
     let queue : c.push_reserved.new.self.items ≡ old.queue ++ row (old.waits.last_token + 1) (packet_of b trigger (old.waits.last_token + 1)) ∷ [] =
     c.push_reserved.ensures.items ∙ ap (λ (rows : List QueuedRow). rows ++ row c.in_ok-token.token c.packet_for.result ∷ []) c.reserve-3.ensures.items ∙ ap (λ (packet : Packet). old.queue ++ row c.in_ok-token.token packet ∷ []) c.packet_for.ensures ∙ ap (λ (token : ℕ). old.queue ++ row token (packet_of b trigger token) ∷ []) next in
     let next_now : c.in_ok-token.token ≡ k.waits.last_token + 1 = next ∙ ap (λ (s : KernelState). s.waits.last_token + 1) c.self.view_is in

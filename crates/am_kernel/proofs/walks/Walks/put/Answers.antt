@@ -1,0 +1,9 @@
+use Rattle.std.proofs.Common.{◌≡◌, ◌≤◌, ◌+◌, ◌==◌, ℕ, Bool, true, false, not, cond, List, [], ◌∷◌, ◌++◌, Option, Some, None, refl, sym, ap, subst, ◌∙◌, arith}
+use Rattle.am_kernel.specs.declared.row.WalkRow.{WalkRow}
+use Rattle.am_kernel.specs.Resumes.{walk_in}
+use Rattle.am_kernel.proofs.WaitingLemmas.{none_left}
+use Rattle.am_kernel.proofs.walks.Walks.put.Goals as goal
+
+pub push-requires-clause-none : goal.push-requires-clause-none
+push-requires-clause-none c =
+    ap (λ (rows : List WalkRow). walk_in rows c.args.row.walker) c.take.ensures.rows ∙ none_left c.args.row.walker c.args.self.now.rows

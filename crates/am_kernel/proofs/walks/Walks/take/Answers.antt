@@ -1,0 +1,26 @@
+use Rattle.std.proofs.Common.{◌≡◌, ◌≤◌, ◌+◌, ◌==◌, ℕ, Bool, true, false, not, cond, List, [], ◌∷◌, ◌++◌, Option, Some, None, refl, sym, ap, subst, ◌∙◌, arith}
+use Rattle.std.specs.Prelude.{drop, is_some}
+use Rattle.am_kernel.specs.declared.row.WalkRow.{WalkRow}
+use Rattle.am_kernel.specs.Walks.{without_walk}
+use Rattle.am_kernel.specs.Resumes.{walk_in}
+use Rattle.am_kernel.specs.WalkTable.{WalkTable, IsSingle}
+use Rattle.am_kernel.proofs.WaitingLemmas.{nothing, none_taken, single_taken, has_others}
+use Rattle.am_kernel.proofs.walks.Walks.take.Goals as goal
+
+pub returns-then-not-is_among-clause-rows : goal.returns-then-not-is_among-clause-rows
+returns-then-not-is_among-clause-rows c =
+    let none : is_some (walk_in (drop c.self.inside.over c.self.inside.rows.items) c.args.walker) ≡ false =
+    sym (c.self.invariant.known c.args.walker) ∙ sym c.is_among.ensures ∙ c.if-not-is_among.true in
+    sym (none_taken c.args.walker c.args.self.now.rows
+    (nothing _ (ap (λ (t : WalkTable). is_some (walk_in t.rows c.args.walker)) (sym c.self.view_is) ∙ none)))
+
+pub invariant_of-self : goal.invariant_of-self
+invariant_of-self c =
+    let w = c.args.walker in
+    let rows : List WalkRow = drop c.self.inside.over c.self.inside.rows.items in
+    record {
+      within = c.take_row.ensures.within;
+      single = subst IsSingle (sym c.take_row.ensures.rows) (single_taken w rows c.self.invariant.single);
+      known = λ q. c.take_walker.ensures.among q ∙ ap (cond (w == q) false) (c.self.invariant.known q) ∙ sym (has_others w rows q)
+          ∙ ap (λ (left : List WalkRow). is_some (walk_in left q)) (sym c.take_row.ensures.rows);
+    }

@@ -1,0 +1,38 @@
+-- The walks of those who wait, as a table, and what its fields keep.
+use Rattle.std.specs.Prelude.{◌≡◌, ◌≤◌, ℕ, ◌==◌, ◌-◌, Bool, List, [], ◌∷◌, drop, length, None, is_some, vec_len, vec_capacity}
+use Rattle.std.specs.List.{list_any}
+use Rattle.indexmap.specs.IndexSet.{spare}
+use Rattle.am_kernel.specs.declared.row.WalkRow.{WalkRow}
+use Rattle.am_kernel.specs.Resumes.{walk_in}
+use Rattle.am_kernel.specs.declared.walks.Walks.TheInside.{Inside}
+
+pub record WalkTable : Type 0 where
+  -- the walk that each waiting walker began, in order of waiting
+  pub rows : List WalkRow
+  -- for how many walks more there is room, and for how many walkers
+  pub room : ℕ
+  pub seats : ℕ
+
+abbrev pub table_of : Inside → WalkTable
+table_of w = record {
+  rows = drop w.over w.rows.items;
+  room = vec_capacity w.rows - vec_len w.rows;
+  seats = spare w.walkers;
+}
+
+abbrev pub is_among : ℕ → List ℕ → Bool
+is_among walker walkers = list_any (λ other. other == walker) walkers
+
+-- each walker has one walk at most
+abbrev pub IsSingle : List WalkRow → Type 0
+IsSingle [] = Unit {0}
+IsSingle (row ∷ rows) = (walk_in rows row.walker ≡ None) × IsSingle rows
+
+-- the walkers are those that have a walk
+abbrev pub AreKnown : List ℕ → List WalkRow → Type 0
+AreKnown walkers rows = (walker : ℕ) → is_among walker walkers ≡ is_some (walk_in rows walker)
+
+pub record IsKept (w : Inside) : Type 0 where
+  pub within : w.over ≤ vec_len w.rows
+  pub single : IsSingle (drop w.over w.rows.items)
+  pub known : AreKnown w.walkers.keys (drop w.over w.rows.items)
