@@ -4,7 +4,7 @@ use Rattle.std.specs.Prelude.{find, if◌then◌else◌}
 use Rattle.std.specs.List.{list_any, AllByRecursion, IsDistinct}
 use Rattle.std.specs.Map.{lookup, keys_of}
 use Rattle.std.specs.Option.{option_map}
-use Rattle.indexmap.specs.IndexMap.{insert_entry}
+use Rattle.indexmap.specs.IndexMap.{insert_entry, shift_remove_entry}
 use Rattle.am_names.specs.Trigger.{same_trigger}
 use Rattle.am_names.specs.declared.trigger.Trigger.{Trigger}
 use Rattle.am_state.specs.declared.daemon_row.Record.{Record}
@@ -86,6 +86,27 @@ module _ (eq : Trigger → Trigger → Bool) (says : (a b : Trigger) → eq a b 
       by later false h =
           let differs : same_trigger pair.0 trigger ≡ false = sym (says trigger pair.0) ∙ h in
           rw (h, differs) (ap (λ (rows : List RecordRow). row_of pair ∷ rows) later ∙ further (list_any (λ row. same_trigger row.trigger trigger) (rows_of pairs)) (map (record_row trigger entry) (rows_of pairs)) (rows_of pairs ++ (record { trigger = trigger; entry = entry }) ∷ []))
+
+  -- no row of another trigger goes
+  none_go : (trigger : Trigger) (pairs : List (Trigger × Record)) → AllByRecursion (λ key. eq trigger key ≡ false) (keys_of pairs) → without_record trigger (rows_of pairs) ≡ rows_of pairs
+  none_go trigger [] h = refl
+  none_go trigger (pair ∷ pairs) h = rw (sym (says trigger pair.0) ∙ h.0, none_go trigger pairs h.1) refl
+
+  -- the index gives a record up as the rows do
+  pub remove_is : (trigger : Trigger) (pairs : List (Trigger × Record)) → IsDistinct eq (keys_of pairs) → rows_of (shift_remove_entry (eq trigger) pairs) ≡ without_record trigger (rows_of pairs)
+  unfolding IsDistinct
+  remove_is trigger [] distinct = refl
+  remove_is trigger (pair ∷ pairs) distinct = by (remove_is trigger pairs distinct.1) (eq trigger pair.0) refl
+    where
+      by : rows_of (shift_remove_entry (eq trigger) pairs) ≡ without_record trigger (rows_of pairs) → (b : Bool) → eq trigger pair.0 ≡ b →
+          rows_of (shift_remove_entry (eq trigger) (pair ∷ pairs)) ≡ without_record trigger (rows_of (pair ∷ pairs))
+      by later true h =
+          let same : same_trigger pair.0 trigger ≡ true = sym (says trigger pair.0) ∙ h in
+          let apart : AllByRecursion (λ key. eq trigger key ≡ false) (keys_of pairs) = subst (λ (x : Trigger). AllByRecursion (λ key. eq x key ≡ false) (keys_of pairs)) (is_one pair.0 trigger same) distinct.0 in
+          rw (h, same) (sym (none_go trigger pairs apart))
+      by later false h =
+          let differs : same_trigger pair.0 trigger ≡ false = sym (says trigger pair.0) ∙ h in
+          rw (h, differs) (ap (λ (rows : List RecordRow). row_of pair ∷ rows) later)
 
   -- what the index says after a change of one key, the rows say
   pub recorded_is : (trigger g : Trigger) (entry : Option Record) (old new : List (Trigger × Record)) → lookup (eq g) new ≡ cond (eq trigger g) entry (lookup (eq g) old) → record_of (rows_of new) g ≡ (if same_trigger trigger g then entry else record_of (rows_of old) g)

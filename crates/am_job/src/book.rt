@@ -105,7 +105,7 @@ impl Book {
         ensures map { IsRecorded trigger.now None self.old.rows self.new.rows }
         ensures room { self.old.room ≤ self.new.room }
     {
-        self.records.retain(|key, _| !key.is_same(trigger));
+        let _gone = self.records.shift_remove(trigger);
     }
 
     /// Forgets a file system. It takes no memory.
