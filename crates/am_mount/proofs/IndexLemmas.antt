@@ -1,18 +1,19 @@
 -- Rows by a number that they share: one row more, one row less, and what is found of them.
-use Rattle.std.proofs.Common.{◌≡◌, ◌≤◌, ◌<◌, ◌+◌, ◌-◌, length-append, ℕ, Bool, true, false, cond, not, ◌&&◌, ◌||◌, List, [], ◌∷◌, ◌++◌, length, take, get_or, Option, Some, None, refl, sym, ap, subst, ◌∙◌, arith}
+use Rattle.std.proofs.Common.{◌≡◌, ◌≤◌, ◌<◌, ◌+◌, ◌-◌, length-append, ℕ, Bool, true, false, cond, not, ◌&&◌, ◌||◌, List, [], ◌∷◌, ◌++◌, length, take, drop, get_or, Option, Some, None, refl, sym, ap, subst, ◌∙◌, arith}
 use Rattle.std.specs.Prelude.{map, filter, find, ◌==◌, option_map, is_none, Result, Ok, Err, IfOk, Vec}
 use Rattle.std.specs.List.{list_any}
+use Rattle.std.specs.List.Sorted.{IsStrictlyIncreasing}
 use Rattle.std.proofs.lemmas.Bool.{eqb-true, eq-eqb, ne_eqb}
 use Rattle.std.proofs.lemmas.Bool.Decides.{nat_tests}
-use Rattle.std.proofs.lemmas.List.{take_more, take-take, length-take-le}
+use Rattle.std.proofs.lemmas.List.{take_more, drop_more, take-take, length-take-le}
 use Rattle.am_names.specs.Path.{text_of}
 use Rattle.am_names.specs.declared.row.MountRow.{MountRow}
 use Rattle.am_mount.specs.Rows.{RiseFrom, IsRising, mount_row, is_among, mounts_where, is_in, is_child, is_at, last_of, top_of, root_of}
 use Rattle.am_mount.specs.Buckets.{bucket, is_position_in, is_in_bucket}
 use Rattle.am_mount.specs.Found.{passes, stands_at, stands_alone}
-use Rattle.am_mount.specs.Index.{listed, but, AreWith, AreWithout, HaveSameLists, AreIndexed}
+use Rattle.am_mount.specs.Index.{listed, but, AreWith, AreWithout, HaveSameLists, AreIndexed, AllRise}
 use Rattle.am_mount.specs.declared.indexes.Indexes.{Indexes}
-use Rattle.am_mount.proofs.RowLemmas.{found_above, at_decides, last_of_append}
+use Rattle.am_mount.proofs.RowLemmas.{found_above, at_decides, last_of_append, where_rises}
 
 and_true : (b : Bool) → (b && true) ≡ b
 and_true true = refl
@@ -472,41 +473,47 @@ pub ok_copy :
 ok_copy Q xs (Ok v) q e = subst Q (sym e) q
 ok_copy Q xs (Err e) q h = tt
 
-among_append : (ys : List ℕ) (x m : ℕ) → is_among (ys ++ x ∷ []) m ≡ (is_among ys m || (x == m))
-among_append [] x m = go (x == m)
+-- one more of those that go, from the last on
+pub gone_earlier :
+    (gone : List ℕ) (left x : ℕ) → 0 < left → left ≤ length gone → x ≡ get_or gone (left - 1) x → (r : MountRow) →
+    not (is_among (drop (left - 1) gone) r.mount) ≡ (not (is_among (drop left gone) r.mount) && not (x == r.mount))
+gone_earlier gone left x some bound is r =
+    let next : (left - 1) + 1 ≡ left = omega arith in
+    ap (λ (ys : List ℕ). not (is_among ys r.mount))
+    (drop_more gone (left - 1) x (omega arith) ∙ ap (λ (y : ℕ). y ∷ drop ((left - 1) + 1) gone) (sym is)) ∙
+    ap (λ (n : ℕ). not ((x == r.mount) || is_among (drop n gone) r.mount)) next ∙
+    go (x == r.mount) (is_among (drop left gone) r.mount)
   where
-    go : (b : Bool) → (b || false) ≡ b
-    go true = refl
-    go false = refl
-among_append (y ∷ ys) x m = go (y == m) (among_append ys x m)
-  where
-    go :
-        (b : Bool) → is_among (ys ++ x ∷ []) m ≡ (is_among ys m || (x == m)) →
-        (b || is_among (ys ++ x ∷ []) m) ≡ ((b || is_among ys m) || (x == m))
-    go true ih = refl
-    go false ih = ih
+    go : (a b : Bool) → not (a || b) ≡ (not b && not a)
+    go true true = refl
+    go true false = refl
+    go false true = refl
+    go false false = refl
 
-among_more :
-    (gone : List ℕ) (i x : ℕ) → i < length gone → x ≡ get_or gone i x → (m : ℕ) →
-    is_among (take (i + 1) gone) m ≡ (is_among (take i gone) m || (x == m))
-among_more gone i x h is m =
-    ap (λ (ys : List ℕ). is_among ys m) (take_more gone i x h ∙ ap (λ (y : ℕ). take i gone ++ y ∷ []) (sym is)) ∙
-    among_append (take i gone) x m
+none_left : (gone : List ℕ) → drop (length gone) gone ≡ []
+none_left [] = refl
+none_left (x ∷ gone) = none_left gone
 
--- one more of those that go
-pub gone_more :
-    (gone : List ℕ) (i x : ℕ) → i < length gone → x ≡ get_or gone i x → (r : MountRow) →
-    not (is_among (take (i + 1) gone) r.mount) ≡ (not (is_among (take i gone) r.mount) && not (x == r.mount))
-gone_more gone i x h is r =
-    ap not (among_more gone i x h is r.mount) ∙ go (is_among (take i gone) r.mount) (x == r.mount)
-  where
-    go : (a b : Bool) → not (a || b) ≡ (not a && not b)
-    go true b = refl
-    go false b = refl
-
-pub all_kept : (rows : List MountRow) → filter (λ r. true) rows ≡ rows
+all_kept : (rows : List MountRow) → filter (λ r. true) rows ≡ rows
 all_kept [] = refl
 all_kept (r ∷ rows) = ap (λ (xs : List MountRow). r ∷ xs) (all_kept rows)
+
+-- none goes yet
+pub none_gone :
+    (gone : List ℕ) (rows : List MountRow) →
+    filter (λ r. not (is_among (drop (length gone) gone) r.mount)) rows ≡ rows
+none_gone gone rows =
+    ap (λ (ys : List ℕ). filter (λ r. not (is_among ys r.mount)) rows) (none_left gone) ∙ all_kept rows
+
+-- the lists of rows that rise do so too
+pub lists_rise : (rows : List MountRow) (t : Indexes) → IsRising rows → AreIndexed rows t → AllRise t
+lists_rise rows t rises o = record {
+  by_ns = λ n. subst (λ (xs : List ℕ). IsStrictlyIncreasing xs) (sym (o.by_ns n)) (where_rises (is_in n) rows rises);
+  by_parent = λ n.
+      subst (λ (xs : List ℕ). IsStrictlyIncreasing xs) (sym (o.by_parent n)) (where_rises (is_child n) rows rises);
+  by_place = λ n.
+      subst (λ (xs : List ℕ). IsStrictlyIncreasing xs) (sym (o.by_place n)) (where_rises (is_in_bucket n) rows rises);
+}
 
 -- one more is taken back
 pub back_more :

@@ -1,3 +1,4 @@
 pub mod FindLemmas
 pub mod IndexLemmas
 pub mod RowLemmas
+pub mod TakeLemmas

@@ -1,6 +1,7 @@
 -- The mounts that share a number: a namespace, a parent, or a bucket of places.
 use Rattle.std.specs.Prelude.{◌≡◌, ◌<◌, ◌==◌, ℕ, Bool, nat_eq, not, List, [], ◌∷◌, ◌++◌, filter, Option, Some, None, Vec, if◌then◌else◌}
 use Rattle.std.specs.Vec.{vec_len, vec_capacity}
+use Rattle.std.specs.List.Sorted.{IsStrictlyIncreasing}
 use Rattle.indexmap.specs.IndexMap.{get}
 use Rattle.am_names.specs.declared.row.MountRow.{MountRow}
 use Rattle.am_names.specs.declared.row.Position.{Position}
@@ -72,6 +73,16 @@ pub record AreWithout (row : MountRow) (old new : Indexes) : Type 0 where
 -- each number has the list of the mounts whose rows pass its test
 abbrev pub IsIndex : (ℕ → MountRow → Bool) → List MountRow → Index → Type 0
 IsIndex test rows index = (n : ℕ) → listed index n ≡ mounts_where (test n) rows
+
+-- each of its lists rises
+abbrev pub ListsRise : Index → Type 0
+ListsRise index = (n : ℕ) → IsStrictlyIncreasing (listed index n)
+
+-- the lists of all three rise
+pub record AllRise (t : Indexes) : Type 0 where
+  pub by_ns : ListsRise t.by_ns
+  pub by_parent : ListsRise t.by_parent
+  pub by_place : ListsRise t.by_place
 
 -- the rows by namespace, by parent and by bucket
 pub record AreIndexed (rows : List MountRow) (t : Indexes) : Type 0 where

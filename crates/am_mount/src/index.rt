@@ -1,6 +1,7 @@
 //! The mounts that share a number.
 
 ghost use Rattle.std.specs.Prelude.{◌≡◌, ◌++◌, ◌∷◌, ◌==◌, ℕ, nat_eq, [], length, OnOk};
+ghost use Rattle.std.specs.List.Sorted.{IsStrictlyIncreasing};
 ghost use Rattle.am_mount.specs.Index.{listed, but, HasRoom, SameLists, AddsTo, TakesFrom};
 
 use am_names::MountId;
@@ -14,10 +15,15 @@ pub struct Index {
     lists: IndexMap<u64, Vec<MountId>>,
 }
 
+/// Takes the mount out of a list that rises, in which it is found by halves.
 fn take_out(mounts: &mut Vec<MountId>, mount: MountId)
+    requires { IsStrictlyIncreasing mounts.old.items }
     ensures { mounts.new.items ≡ but mount mounts.old.items }
 {
-    mounts.retain(|other| *other != mount);
+    let number = mount.0;
+    if let Ok(at) = mounts.binary_search_by_key(&number, |other| other.0) {
+        let _mount = mounts.remove(at);
+    }
 }
 
 impl Index {
@@ -76,6 +82,7 @@ impl Index {
 
     /// Takes the mount out of the list of the number.
     fn shorten(&mut self, number: u64, mount: MountId)
+        requires { IsStrictlyIncreasing (listed self.old number) }
         ensures { TakesFrom (λ n. nat_eq number n) mount self.old self.new }
     {
         if let Some(list) = self.lists.get_mut(&number) {
@@ -92,8 +99,9 @@ impl Index {
         }
     }
 
-    /// Takes out a mount that has the number.
+    /// Takes out a mount that has the number, whose list rises.
     pub fn remove(&mut self, number: u64, mount: MountId)
+        requires { IsStrictlyIncreasing (listed self.old number) }
         ensures { TakesFrom (λ n. nat_eq number n) mount self.old self.new }
     {
         self.shorten(number, mount);

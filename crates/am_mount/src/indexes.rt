@@ -1,7 +1,7 @@
 //! The rows by namespace, by parent and by place.
 
 ghost use Rattle.std.specs.Prelude.{◌≡◌, [], OnOk};
-ghost use Rattle.am_mount.specs.Index.{HaveSameLists, HaveRoom, AreWith, AreWithout, AreIndexed};
+ghost use Rattle.am_mount.specs.Index.{HaveSameLists, HaveRoom, AreWith, AreWithout, AreIndexed, AllRise};
 
 use crate::buckets::bucket_at;
 use crate::index::Index;
@@ -55,6 +55,7 @@ impl Indexes {
 
     /// Takes the row out.
     pub fn remove(&mut self, row: &MountRow)
+        requires { AllRise self.old }
         ensures { AreWithout row.now self.old self.new }
     {
         self.by_ns.remove(row.ns.0 as u64, row.mount);

@@ -127,14 +127,17 @@ fn first_alone(rows: &[MountRow], mounts: &[MountId]) -> Option<MountId>
         .find(|mount| stands_alone(rows, *mount))
 }
 
-/// Takes the rows of these mounts out of the indexes.
+/// Takes the rows of these mounts out of the indexes, the last first: the newest mounts stand at
+/// the ends of their lists.
 fn unlist(rows: &[MountRow], indexes: &mut Indexes, gone: &[MountId])
     requires rising { IsRising rows.now }
     requires indexed { AreIndexed rows.now indexes.old }
     ensures { AreIndexed (filter (λ row. not (is_among gone.now row.mount)) rows.now) indexes.new }
 {
-    for mount in gone {
-        if let Some(row) = mount_row(rows, *mount) {
+    let mut left = gone.len();
+    while left > 0 {
+        left -= 1;
+        if let Some(row) = mount_row(rows, gone[left]) {
             indexes.remove(row);
         }
     }

@@ -1,9 +1,13 @@
-use Rattle.std.proofs.Common.{take}
+use Rattle.std.proofs.Common.{◌≤◌, length, drop}
 use Rattle.std.specs.Prelude.{filter, not}
 use Rattle.am_mount.specs.Index.{AreIndexed}
 use Rattle.am_mount.specs.Rows.{is_among}
 use Rattle.am_mount.proofs.tree.unlist.Given as goal
 
-abbrev pub invariant-loop-mount : goal.invariant-loop-mount
-invariant-loop-mount l =
-    AreIndexed (filter (λ row. not (is_among (take l.mount-index l.fn.gone) row.mount)) l.fn.rows) l.indexes
+abbrev pub invariant-loop-left : goal.invariant-loop-left
+invariant-loop-left l =
+    (l.left ≤ length l.fn.gone) ×
+    AreIndexed (filter (λ row. not (is_among (drop l.left l.fn.gone) row.mount)) l.fn.rows) l.indexes
+
+abbrev pub decreases-loop-left : goal.decreases-loop-left
+decreases-loop-left l = l.left

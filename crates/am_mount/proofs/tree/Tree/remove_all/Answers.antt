@@ -1,4 +1,4 @@
-use Rattle.std.proofs.Common.{◌≡◌, List, sym, ap, subst, ◌∙◌}
+use Rattle.std.proofs.Common.{List, sym, ap, subst, ◌∙◌}
 use Rattle.std.specs.Prelude.{filter, not}
 use Rattle.am_names.specs.declared.row.MountRow.{MountRow}
 use Rattle.am_mount.specs.Index.{AreIndexed}

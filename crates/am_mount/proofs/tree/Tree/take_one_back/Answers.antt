@@ -3,7 +3,7 @@ use Rattle.std.specs.Option.{option_to_list}
 use Rattle.am_names.specs.declared.row.MountRow.{MountRow}
 use Rattle.am_mount.specs.Index.{AreIndexed}
 use Rattle.am_mount.specs.Rows.{IsRising}
-use Rattle.am_mount.proofs.IndexLemmas.{indexed_back}
+use Rattle.am_mount.proofs.IndexLemmas.{indexed_back, lists_rise}
 use Rattle.am_mount.proofs.RowLemmas.{RiseFrom-take}
 use Rattle.am_mount.proofs.tree.Tree.take_one_back.Goals as goal
 
@@ -34,3 +34,7 @@ invariant_of-self-in-Some-2 c =
           c.remove.ensures
           (subst (λ (rows : List MountRow). AreIndexed rows c.self.inside.indexes) all c.self.invariant.indexed);
     }
+
+pub remove-requires : goal.remove-requires
+remove-requires c =
+    lists_rise c.self.inside.rows.items c.self.inside.indexes c.self.invariant.rising c.self.invariant.indexed

@@ -1,0 +1,53 @@
+-- What is taken out of numbers that rise.
+use Rattle.std.proofs.Common.{◌≡◌, ◌≢◌, ◌≤◌, ◌<◌, ℕ, zero, suc, List, [], ◌∷◌, ◌++◌, length, take, drop, get_or, Ok, Err, refl, ap, arith}
+use Rattle.std.specs.Ordering.{nat_cmp}
+use Rattle.std.specs.List.{AllPairs}
+use Rattle.std.specs.List.Sorted.{IsBinarySearchResult, IsStrictlyIncreasing}
+use Rattle.std.proofs.lemmas.List.Kept.{AllPairs-from_increasing}
+use Rattle.std.proofs.lemmas.List.Sorted.{searched}
+use Rattle.std.proofs.lemmas.Bool.{eq-eqb, ne_eqb}
+use Rattle.am_mount.specs.Index.{but}
+
+but_absent :
+    (m : ℕ) (xs : List ℕ) → ((k : ℕ) → k < length xs → get_or xs k 0 ≢ m) → but m xs ≡ xs
+but_absent m [] others = refl
+but_absent m (x ∷ xs) others =
+    rw (ne_eqb x m (others 0 (omega arith)))
+    (ap (λ (ys : List ℕ). x ∷ ys) (but_absent m xs (λ k within. others (suc k) (omega arith))))
+
+but_at :
+    (m : ℕ) (xs : List ℕ) → AllPairs (λ x y. x < y) xs →
+    (i : ℕ) → i < length xs → get_or xs i 0 ≡ m → but m xs ≡ take i xs ++ drop (suc i) xs
+but_at m [] up i within e = absurd (omega arith)
+but_at m (x ∷ xs) up zero within e =
+    rw (eq-eqb x m e)
+    (but_absent m xs (λ k lt same.
+    let less : x < get_or xs k 0 = up 0 (suc k) 0 (omega arith) (omega arith) in
+    omega arith))
+but_at m (x ∷ xs) up (suc i) within e =
+    let less : x < get_or xs i 0 = up 0 (suc i) 0 (omega arith) (omega arith) in
+    rw (ne_eqb x m (λ same. omega arith))
+    (ap (λ (ys : List ℕ). x ∷ ys)
+    (but_at m xs (λ j k d lt h. up (suc j) (suc k) d (omega arith) (omega arith)) i (omega arith) e))
+
+module _ (m : ℕ) (xs : List ℕ) (up : IsStrictlyIncreasing xs) where
+  rises : (i j : ℕ) → i ≤ j → j < length xs → get_or xs i 0 ≤ get_or xs j 0
+  rises i j le lt =
+      let less = AllPairs-from_increasing xs up i j 0 in
+      grind (arith, less, λ (same : i ≡ j). ap (λ (k : ℕ). get_or xs k 0) same)
+
+  -- where the search finds it, it is taken out
+  pub but_found :
+      (i : ℕ) → IsBinarySearchResult (λ y. nat_cmp y m) xs (Ok i) → but m xs ≡ take i xs ++ drop (suc i) xs
+  but_found i position =
+      let found = searched xs m (Ok i) position rises in
+      but_at m xs (AllPairs-from_increasing xs up) i found.0 found.1
+
+  -- where it finds none, the list has it not
+  pub but_unfound : (i : ℕ) → IsBinarySearchResult (λ y. nat_cmp y m) xs (Err i) → but m xs ≡ xs
+  but_unfound i position =
+      let none = searched xs m (Err i) position rises in
+      but_absent m xs (λ k within same.
+      let before : k < i → get_or xs k 0 < m = none.1 k in
+      let after : i ≤ k → m < get_or xs k 0 = λ le. none.2 k le within in
+      grind (arith, before, after))
