@@ -3,6 +3,7 @@
 mod lines;
 mod maps;
 mod masters;
+mod memory;
 mod names;
 mod packets;
 mod table;
