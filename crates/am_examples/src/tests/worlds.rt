@@ -157,19 +157,23 @@ fn are_same(answers: &[Answer], others: &[Answer]) -> bool {
             .all(|(answer, other)| answer.is_same(other))
 }
 
-/// The answers are these, the release is in the trace, and the laws hold of the trace.
-fn is_served(ran: &Ran, answers: &[Answer]) -> bool {
+/// The answers are those, the release is in the trace, and the laws hold of the trace.
+fn is_served(alloc: Global, ran: &Ran) -> bool {
+    let Ok(answers) = answers(alloc) else {
+        return false;
+    };
     let trace = ran.world.trace();
-    are_same(ran.answers.as_slice(), answers) && trace.iter().any(is_release) && trace_holds(trace)
+    are_same(ran.answers.as_slice(), answers.as_slice())
+        && trace.iter().any(is_release)
+        && trace_holds(trace)
 }
 
 #[test]
 fn a_run_serves_the_walk(rt: HostRuntime) -> Result<(), Fail> {
     let events = events(rt.alloc())?;
-    let answers = answers(rt.alloc())?;
     let Ok(ran) = run(rt.alloc(), world(rt.alloc())?, events.as_slice()) else {
         return Err(Fail::new("no room for the answers"));
     };
-    assert!(rt; is_served(&ran, answers.as_slice()));
+    assert!(rt; is_served(rt.alloc(), &ran));
     Ok(())
 }
