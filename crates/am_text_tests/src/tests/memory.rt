@@ -4,11 +4,11 @@ use am_map::{Map, MapFaultKind, MapKind};
 use am_master::{Master, MasterFaultKind};
 use std::alloc::Global;
 
-/// The third line takes memory, and no other does.
-const MAP: &[u8] = b"# a comment\n\nhome srv:/home\n# another\n";
+/// The third line takes memory. The others have no bytes, and take none.
+const MAP: &[u8] = b"\n\nhome srv:/home\n\n";
 
 /// The same of a master map.
-const MASTER: &[u8] = b"# a comment\n\n/auto auto.home\n# another\n";
+const MASTER: &[u8] = b"\n\n/auto auto.home\n\n";
 
 /// Whether the map is read, or finds no memory at its third line.
 fn is_told_of_a_map(alloc: Global) -> bool {
