@@ -168,12 +168,19 @@ fn is_served(alloc: Global, ran: &Ran) -> bool {
         && trace_holds(trace)
 }
 
+/// Whether the walk is served in a run from this world.
+fn serves(alloc: Global, world: World, events: &[Event]) -> bool {
+    match run(alloc, world, events) {
+        Ok(ran) => is_served(alloc, &ran),
+        Err(_) => false,
+    }
+}
+
 #[test]
 fn a_run_serves_the_walk(rt: HostRuntime) -> Result<(), Fail> {
     let events = events(rt.alloc())?;
-    let Ok(ran) = run(rt.alloc(), world(rt.alloc())?, events.as_slice()) else {
-        return Err(Fail::new("no room for the answers"));
-    };
-    assert!(rt; is_served(rt.alloc(), &ran));
+    let world = world(rt.alloc())?;
+    let is_served = serves(rt.alloc(), world, events.as_slice());
+    assert!(rt; is_served);
     Ok(())
 }
