@@ -1,6 +1,7 @@
 pub mod Errno
 pub mod Limits
 pub mod Name
+pub mod NameHash
 pub mod NameInside
 pub mod Path
 pub mod PathFaults

@@ -25,6 +25,10 @@ name_read bytes = if nat_lt 255 (length bytes) then Err ENAMETOOLONG else if is_
 abbrev pub padded : List ℕ → List ℕ
 padded bytes = bytes ++ replicate (255 - length bytes) 0
 
+-- what a hash is made of: the bytes, and a slash behind them
+abbrev pub hashed : List ℕ → List (List ℕ)
+hashed bytes = bytes ∷ (47 ∷ []) ∷ []
+
 -- the buffer has a name of this length, and zeros behind it
 pub record IsStored (buf : List ℕ) (len : ℕ) : Type 0 where
   pub long : length buf ≡ 255

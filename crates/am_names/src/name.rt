@@ -2,13 +2,15 @@
 
 ghost use Rattle.std.specs.Prelude.{◌≡◌, ◌≤◌, ◌↔◌, IsTrue, length};
 ghost use Rattle.std.specs.List.{list_all};
-ghost use Rattle.am_names.specs.Name.{name_read, is_name, is_dots, is_name_byte};
+ghost use Rattle.am_names.specs.NameHash.{same_hashed};
+ghost use Rattle.am_names.specs.Name.{name_read, is_name, is_dots, is_name_byte, hashed};
 
 use crate::errno::Errno;
+use std::hash::{Hash, Hasher};
 use std::marker::Model;
 
 /// A name of 1 to 255 bytes: no slash, no zero byte, and neither `.` nor `..`. It takes no memory.
-#[derive(Clone, Copy, PartialEq, Eq, Hash, Debug)]
+#[derive(Clone, Copy, PartialEq, Eq, Debug)]
 pub struct Name {
     buf: [u8; 255],
     len: u8,
@@ -66,6 +68,18 @@ impl Name {
         ensures name { IsTrue (is_name result.now) }
     {
         &self.buf[..self.len as usize]
+    }
+}
+
+/// The bytes alone are hashed, and not the zeros behind them. The slash, which no name has, ends them.
+impl Hash for Name {
+    ghost hash_input = { hashed };
+
+    ghost respects_eq = { same_hashed };
+
+    fn hash<H: Hasher>(&self, state: &mut H) {
+        state.write(self.as_bytes());
+        state.write_u8(b'/');
     }
 }
 
