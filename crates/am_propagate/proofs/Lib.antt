@@ -13,3 +13,4 @@ pub mod ReceiverCopyLemmas
 pub mod RemovalLemmas
 pub mod SearchLemmas
 pub mod StandLemmas
+pub mod UnmountLemmas

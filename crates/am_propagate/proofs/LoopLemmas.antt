@@ -1,5 +1,10 @@
 -- One row more, for one receiver more, and one number more.
-use Rattle.std.proofs.Common.{◌≡◌, ◌<◌, ◌+◌, ℕ, zero, suc, List, [], ◌∷◌, ◌++◌, length, take, get_or, sym, ap, ◌∙◌, arith, add-one}
+use Rattle.std.proofs.Common.{◌≡◌, ◌<◌, ◌+◌, ℕ, zero, suc, List, [], ◌∷◌, ◌++◌, length, take, get_or, Option, Some, None, sym, ap, ◌∙◌, arith, add-one}
+use Rattle.std.specs.Prelude.{filter_map}
+use Rattle.std.specs.List.{cons_option}
+use Rattle.std.proofs.Math.Seq.{take-suc}
+use Rattle.std.proofs.lemmas.List.{append-nil}
+use Rattle.std.proofs.lemmas.List.Elements.{filter_map-append}
 use Rattle.am_names.specs.declared.row.MountRow.{MountRow}
 use Rattle.am_names.specs.declared.row.MemberRow.{MemberRow}
 use Rattle.am_names.specs.PeerGroups.{PeerGroups}
@@ -67,3 +72,18 @@ pub numbers_more : (last i number : ℕ) → number ≡ last + 1 + i → numbers
 numbers_more last i number at =
     ap (numbers_after last) (add-one i) ∙ numbers_one_more last i ∙
     ap (λ (n : ℕ). numbers_after last i ++ n ∷ []) (sym at)
+
+-- what one more of them gives, if it gives something
+module _ (h : ℕ → Option ℕ) (xs : List ℕ) (i x : ℕ) (within : i < length xs) (is : x ≡ get_or xs i x) where
+  one_more : filter_map h (take (i + 1) xs) ≡ filter_map h (take i xs) ++ filter_map h (x ∷ [])
+  one_more =
+      ap (λ (k : ℕ). filter_map h (take k xs)) (add-one i) ∙
+      ap (filter_map h) (take-suc xs i x within) ∙
+      filter_map-append h (take i xs) (get_or xs i x ∷ []) ∙
+      ap (λ (y : ℕ). filter_map h (take i xs) ++ filter_map h (y ∷ [])) (sym is)
+
+  pub gives_more : (y : ℕ) → h x ≡ Some y → filter_map h (take (i + 1) xs) ≡ filter_map h (take i xs) ++ y ∷ []
+  gives_more y e = one_more ∙ ap (λ (o : Option ℕ). filter_map h (take i xs) ++ cons_option o []) e
+
+  pub gives_none : h x ≡ None → filter_map h (take (i + 1) xs) ≡ filter_map h (take i xs)
+  gives_none e = one_more ∙ ap (λ (o : Option ℕ). filter_map h (take i xs) ++ cons_option o []) e ∙ append-nil (filter_map h (take i xs))

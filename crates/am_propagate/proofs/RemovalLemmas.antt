@@ -169,14 +169,17 @@ pub among_has : (c : ℕ) (xs : List ℕ) → list_any (λ x. eqb c x) xs ≡ is
 among_has c [] = refl
 among_has c (x ∷ xs) = rw (among_has c xs, eqb_swap c x) refl
 
-among_from : (c : ℕ) (xs : List ℕ) → Contains xs c → is_among xs c ≡ true
+pub among_from : (c : ℕ) (xs : List ℕ) → Contains xs c → is_among xs c ≡ true
 among_from c xs h = sym (among_has c xs) ∙ list_any-from_Contains {eq = eqb} nat_eq_equiv c xs h
+
+pub among_contains : (c : ℕ) (xs : List ℕ) → is_among xs c ≡ true → Contains xs c
+among_contains c xs h = Contains-from_any {eq = eqb} eqb-true c xs (among_has c xs ∙ h)
 
 -- the parent of a mount of another namespace is of that one
 pub dropped_leaves : (t : MountTable) (ns : ℕ) → IsWhole t → LeavesParents (mounts_in t ns) t
 dropped_leaves t ns whole c p row e on stays = not_true (is_among (mounts_in t ns) p) (λ goes.
     let parent = whole.parents c p row e on in
-    let inside : HasRow (IsIn ns) t.rows p = (in_every ns t.rows whole.rising p).0 (contains p (mounts_in t ns) goes) in
+    let inside : HasRow (IsIn ns) t.rows p = (in_every ns t.rows whole.rising p).0 (among_contains p (mounts_in t ns) goes) in
     let same : parent.0 ≡ inside.0 = some_same (sym parent.1 ∙ inside.1) in
     let here : row.ns ≡ ns = sym parent.2 ∙ ap (λ (x : MountRow). x.ns) same ∙ inside.2 in
     let among : is_among (mounts_in t ns) c ≡ true = among_from c (mounts_in t ns) ((in_every ns t.rows whole.rising c).1 (row, e, here)) in
@@ -185,9 +188,6 @@ dropped_leaves t ns whole c p row e on stays = not_true (is_among (mounts_in t n
   where
     some_same : {x y : MountRow} → Some x ≡ Some y → x ≡ y
     some_same e = cc
-
-    contains : (x : ℕ) (xs : List ℕ) → is_among xs x ≡ true → Contains xs x
-    contains x xs h = Contains-from_any {eq = eqb} eqb-true x xs (among_has x xs ∙ h)
 
 -- of rising rows just one is the mount's, where it is there
 pub itself_only : (t : MountTable) (m : ℕ) → IsWhole t → mounts_where (goes_with t m None) t.rows ≡ cond (is_mount t m) (m ∷ []) []

@@ -10,7 +10,7 @@ use Rattle.am_mount.specs.Rows.{is_among}
 use Rattle.am_propagate.specs.Namespaces.{count_up_to}
 
 -- numbers in rising order, from this one on
-abbrev RiseOn : ℕ → List ℕ → Type 0
+abbrev pub RiseOn : ℕ → List ℕ → Type 0
 RiseOn low [] = Unit {0}
 RiseOn low (n ∷ xs) = (low ≤ n) × RiseOn (n + 1) xs
 

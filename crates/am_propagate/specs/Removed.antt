@@ -23,6 +23,14 @@ is_top_at t mounts place m (Some position) =
 abbrev pub is_top_on : MountTable → List ℕ → List (List ℕ) → MountRow → Bool
 is_top_on t mounts place row = is_top_at t mounts place row.mount row.mountpoint
 
+abbrev pub if_bare : MountTable → Option ℕ → Option ℕ
+if_bare t None = None
+if_bare t (Some m) = if is_bare t m then Some m else None
+
+-- the top at this place of the mount, where nothing is mounted on that one
+abbrev pub bare_top : MountTable → List (List ℕ) → ℕ → Option ℕ
+bare_top t place m = if_bare t (top_of t.rows m place)
+
 -- the mount itself goes, and what is the top at the same place of a mount that receives from its
 -- parent, where nothing is mounted on that one
 abbrev pub goes_with : MountTable → ℕ → Option Position → MountRow → Bool

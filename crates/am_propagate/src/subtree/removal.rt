@@ -1,7 +1,7 @@
 //! Unmounts, and namespaces that are dropped.
 
-ghost use Rattle.std.specs.Prelude.{◌≡◌, ◌||◌, ◌==◌, ℕ, true, false, None, IfOk, OnOk, OnErr};
-ghost use Rattle.std.specs.List.{list_any};
+ghost use Rattle.std.specs.Prelude.{◌≡◌, ◌||◌, ◌==◌, ◌∷◌, ℕ, true, false, Some, None, IfOk, OnOk, OnErr};
+ghost use Rattle.std.specs.List.{list_any, filter_map};
 ghost use Rattle.std.specs.List.Sorted.{IsStrictlyIncreasing};
 ghost use Rattle.std.specs.Option.{option_copied};
 ghost use Rattle.am_names.specs.Errno.{RefusedAs};
@@ -11,7 +11,7 @@ ghost use Rattle.am_group.specs.Invariant.{AddsNoReceivers};
 ghost use Rattle.am_group.specs.Receivers.{receivers_of};
 ghost use Rattle.am_mount.specs.Rows.{is_child, is_among, mounts_where};
 ghost use Rattle.am_propagate.specs.MountTable.{is_mount, mountpoint_of};
-ghost use Rattle.am_propagate.specs.Removed.{is_bare, is_top_on, goes_with, unmounted, umount_refusal, mounts_in, is_namespace, drop_refusal, removed, LeavesParents};
+ghost use Rattle.am_propagate.specs.Removed.{is_bare, bare_top, goes_with, unmounted, umount_refusal, mounts_in, is_namespace, drop_refusal, removed, LeavesParents};
 
 use crate::in_use::{InUse, is_used};
 use crate::subtree::Subtree;
@@ -30,6 +30,16 @@ pub fn is_among(mount: MountId, mounts: &[MountId]) -> bool
     }
 }
 
+/// The same mounts in rising order, each once.
+fn in_order(mut mounts: Vec<MountId>) -> Vec<MountId>
+    ensures rising { IsStrictlyIncreasing result.items }
+    ensures same { (m : ℕ) → is_among result.items m ≡ is_among mounts.items m }
+{
+    mounts.sort_unstable_by_key(|mount| mount.0);
+    mounts.dedup();
+    mounts
+}
+
 impl Subtree {
     fn has_children(&self, mount: MountId) -> bool
         ensures { result ≡ list_any (is_child mount) self.now.rows }
@@ -44,67 +54,51 @@ impl Subtree {
         !self.has_children(mount)
     }
 
-    /// Whether this is the top at the place of one of these mounts.
-    fn is_top_on(&self, mounts: &[MountId], place: &[u8], row: &MountRow) -> bool
-        requires canonical { IsCanonical place.now }
-        requires rising { IsStrictlyIncreasing mounts.now }
-        ensures { result ≡ is_top_on self.now mounts.now (names_of place.now) row.now }
+    /// The top at the place of the mount, where nothing is mounted on it.
+    fn bare_top(&self, mount: MountId, place: &[u8]) -> Option<MountId>
+        requires { IsCanonical place.now }
+        ensures { result ≡ bare_top self.now (names_of place.now) mount }
     {
-        let Some(position) = &row.mountpoint else {
-            return false;
-        };
-        if !is_among(position.mount, mounts) {
-            return false;
-        }
-        match self.tree.top(position.mount, place) {
-            Some(top) => top == row.mount,
-            None => false,
-        }
+        let top = self.tree.top(mount, place)?;
+        if self.is_bare(top) { Some(top) } else { None }
     }
 
-    /// Whether an unmount of the mount at this position removes this one.
-    fn goes_with(
+    /// The mount, and the tops that go with it at the same place of these.
+    fn with_bare_tops(
         &self,
+        alloc: Global,
         mount: MountId,
+        place: &[u8],
         receivers: &[MountId],
-        position: &Position,
-        row: &MountRow,
-    ) -> bool
-        requires receivers { receivers.now ≡ receivers_of self.now.groups position.now.mount }
-        requires rising { IsStrictlyIncreasing receivers.now }
-        ensures { result ≡ goes_with self.now mount (Some position.now) row.now }
+    ) -> Result<Vec<MountId>, AllocError>
+        requires { IsCanonical place.now }
+        ensures { IfOk result (λ v. v.items ≡ mount ∷ filter_map (bare_top self.now (names_of place.now)) receivers.now) }
     {
-        if row.mount == mount {
-            return true;
+        let mut going = Vec::new(alloc);
+        going.push(mount)?;
+        for receiver in receivers {
+            if let Some(top) = self.bare_top(*receiver, place) {
+                going.push(top)?;
+            }
         }
-        if !self.is_top_on(receivers, position.place.text(), row) {
-            return false;
-        }
-        self.is_bare(row.mount)
+        Ok(going)
     }
 
+    /// What an unmount of the mount, which is at this position, removes.
     fn unmounted(
         &self,
         alloc: Global,
         mount: MountId,
         position: &Position,
     ) -> Result<Vec<MountId>, Errno>
+        requires { mountpoint_of self.now mount ≡ Some position.now }
         ensures refusal { RefusedAs None result }
         ensures exact { IfOk result (λ v. v.items ≡ mounts_where (goes_with self.now mount (Some position.now)) self.now.rows) }
         ensures rising { IfOk result (λ v. IsStrictlyIncreasing v.items) }
     {
         let receivers = self.groups.receivers(alloc, position.mount)?;
-        if receivers.is_empty() {
-            let alone = self.itself(alloc, mount)?;
-            return Ok(alone);
-        }
-        let mut gone = Vec::new(alloc);
-        for row in self.tree.rows() {
-            if self.goes_with(mount, receivers.as_slice(), position, row) {
-                gone.push(row.mount)?;
-            }
-        }
-        Ok(gone)
+        let going = self.with_bare_tops(alloc, mount, position.place.text(), receivers.as_slice())?;
+        Ok(in_order(going))
     }
 
     /// The mount itself, if it is there.
