@@ -9,10 +9,10 @@ use Rattle.am_names.specs.declared.row.MountRow.{MountRow}
 use Rattle.am_mount.specs.Rows.{RiseFrom, IsRising, mount_row}
 
 -- the number of the mount at this index
-abbrev mount_at : List MountRow → ℕ → MountRow → ℕ
+abbrev pub mount_at : List MountRow → ℕ → MountRow → ℕ
 mount_at rows i d = (get_or rows i d).mount
 
-at_least :
+pub at_least :
     (low : ℕ) (rows : List MountRow) → RiseFrom low rows →
     (i : ℕ) (d : MountRow) → i < length rows → low ≤ mount_at rows i d
 at_least low [] rises i d h = absurd (omega arith)
@@ -64,16 +64,23 @@ module _ (rows : List MountRow) (rises : IsRising rows) (m : ℕ) where
       let up = rows_rise 0 rows rises i j d in
       grind (arith, nat_tests, up, λ (same : i ≡ j). ap (λ (k : ℕ). mount_at rows k d) same)
 
+  pub index_found :
+      (i : ℕ) → i < length rows →
+      IsBinarySearchResult (λ (row : MountRow). nat_cmp row.mount m) rows (Ok i) →
+      (d : MountRow) → mount_at rows i d ≡ m
+  index_found i lt equal d = ranked _ m _ (sym (equal d))
+
   pub found :
       (i : ℕ) → i < length rows →
       IsBinarySearchResult (λ (row : MountRow). nat_cmp row.mount m) rows (Ok i) →
       (d : MountRow) → mount_row rows m ≡ Some (get_or rows i d)
-  found i lt equal d = found_at 0 rows rises i m d lt (ranked _ m _ (sym (equal d)))
+  found i lt equal d = found_at 0 rows rises i m d lt (index_found i lt equal d)
 
-  pub absent :
+  -- where nothing is found, each number is another
+  pub all_differ :
       (i : ℕ) → IsBinarySearchResult (λ (row : MountRow). nat_cmp row.mount m) rows (Err i) →
-      mount_row rows m ≡ None
-  absent i parted = none_at rows m differs
+      (j : ℕ) (d : MountRow) → j < length rows → mount_at rows j d ≢ m
+  all_differ i parted j d h same = grind (arith, before j d, after j d h)
     where
       before : (j : ℕ) (d : MountRow) → j < i → mount_at rows j d < m
       before j d lt = ranked _ m _ (sym ((parted comparisons_rise).0 j d (omega arith) lt))
@@ -81,5 +88,7 @@ module _ (rows : List MountRow) (rises : IsRising rows) (m : ℕ) where
       after : (j : ℕ) (d : MountRow) → j < length rows → i ≤ j → m < mount_at rows j d
       after j d h le = ranked _ m _ (sym ((parted comparisons_rise).1 j d le h))
 
-      differs : (j : ℕ) (d : MountRow) → j < length rows → mount_at rows j d ≢ m
-      differs j d h same = grind (arith, before j d, after j d h)
+  pub absent :
+      (i : ℕ) → IsBinarySearchResult (λ (row : MountRow). nat_cmp row.mount m) rows (Err i) →
+      mount_row rows m ≡ None
+  absent i parted = none_at rows m (all_differ i parted)

@@ -1,4 +1,5 @@
 pub mod FindLemmas
 pub mod IndexLemmas
+pub mod LeaveLemmas
 pub mod RowLemmas
 pub mod TakeLemmas

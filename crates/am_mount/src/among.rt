@@ -1,9 +1,9 @@
 //! Mounts that are among some.
 
-ghost use Rattle.std.specs.Prelude.{◌≡◌, filter, not};
+ghost use Rattle.std.specs.Prelude.{◌≡◌, ◌==◌, filter, not};
 ghost use Rattle.std.specs.Bool.{OnTrue};
 ghost use Rattle.std.specs.List.Sorted.{IsNonDecreasing};
-ghost use Rattle.am_mount.specs.Rows.{is_among};
+ghost use Rattle.am_mount.specs.Rows.{IsRising, is_among};
 
 use am_names::{MountId, MountRow};
 
@@ -31,11 +31,38 @@ fn are_ordered(mounts: &[MountId]) -> bool
     mounts.is_sorted()
 }
 
-/// Leaves out the rows of these mounts. In mounts that stand in order it looks by halves.
-pub fn leave_out(rows: &mut Vec<MountRow>, gone: &[MountId])
+/// Leaves out the mount's row, which is found by halves.
+fn leave_one_out(rows: &mut Vec<MountRow>, mount: MountId)
+    requires { IsRising rows.old.items }
+    ensures { rows.new.items ≡ filter (λ row. not (row.mount == mount)) rows.old.items }
+{
+    let number = mount.0;
+    if let Ok(at) = rows.binary_search_by_key(&number, |row| row.mount.0) {
+        let _row = rows.remove(at);
+    }
+}
+
+/// Leaves out the rows of these mounts, one after another.
+fn leave_each_out(rows: &mut Vec<MountRow>, gone: &[MountId])
+    requires { IsRising rows.old.items }
     ensures { rows.new.items ≡ filter (λ row. not (is_among gone.now row.mount)) rows.old.items }
 {
-    if are_ordered(gone) {
+    for mount in gone {
+        leave_one_out(rows, *mount);
+    }
+}
+
+/// So few mounts are looked for one by one, and of more all rows are gone through.
+const FEW: usize = 4;
+
+/// Leaves out the rows of these mounts. In mounts that stand in order it looks by halves.
+pub fn leave_out(rows: &mut Vec<MountRow>, gone: &[MountId])
+    requires { IsRising rows.old.items }
+    ensures { rows.new.items ≡ filter (λ row. not (is_among gone.now row.mount)) rows.old.items }
+{
+    if gone.len() <= FEW {
+        leave_each_out(rows, gone);
+    } else if are_ordered(gone) {
         rows.retain(|row| !is_found(row.mount, gone));
     } else {
         rows.retain(|row| !is_among(row.mount, gone));

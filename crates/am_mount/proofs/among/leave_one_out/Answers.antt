@@ -1,0 +1,30 @@
+use Rattle.std.proofs.Common.{◌≡◌, ◌++◌, ℕ, List, suc, take, drop, sym, subst, ◌∙◌, rules}
+use Rattle.std.proofs.lemmas.List.Sorted.{answers_always}
+use Rattle.am_names.specs.declared.row.MountRow.{MountRow}
+use Rattle.am_mount.specs.Rows.{IsRising}
+use Rattle.am_mount.proofs.LeaveLemmas.{others, left_found, left_absent}
+use Rattle.am_mount.proofs.among.leave_one_out.Goals as goal
+
+pub returns-in-Ok : goal.returns-in-Ok
+returns-in-Ok c =
+    let slice = c.deref.result.now in
+    let number = c.mount.inside.0 in
+    let own : slice ≡ c.args.rows.now.items = c.deref.ensures.value in
+    let up : IsRising slice = subst (λ (xs : List MountRow). IsRising xs) (sym own) c.requires in
+    let by_number = c.in-Ok.ensures.position (λ (r : MountRow). r.mount)
+    (answers_always _ _ _ (λ f a r g called. search rules)) in
+    let found : others number slice ≡ take c.in-Ok.at slice ++ drop (suc c.in-Ok.at) slice =
+    left_found slice up number c.in-Ok.at c.in-Ok.ensures.bound by_number c.remove-row.result in
+    rw (← c.mount.view_is) (c.remove-row.ensures.items ∙
+    sym (subst (λ (xs : List MountRow). others number xs ≡ take c.in-Ok.at xs ++ drop (suc c.in-Ok.at) xs) own found))
+
+pub returns-in_default : goal.returns-in_default
+returns-in_default c =
+    let slice = c.deref.result.now in
+    let number = c.mount.inside.0 in
+    let own : slice ≡ c.args.rows.now.items = c.deref.ensures.value in
+    let up : IsRising slice = subst (λ (xs : List MountRow). IsRising xs) (sym own) c.requires in
+    let by_number = c.in_default.ensures.position (λ (r : MountRow). r.mount)
+    (answers_always _ _ _ (λ f a r g called. search rules)) in
+    let none : others number slice ≡ slice = left_absent slice up number c.in_default.field-0 by_number in
+    rw (← c.mount.view_is) (sym (subst (λ (xs : List MountRow). others number xs ≡ xs) own none))
