@@ -9,10 +9,10 @@ use Rattle.am_names.specs.declared.row.MountRow.{MountRow}
 use Rattle.am_mount.specs.Rows.{RiseFrom, IsRising, mount_row}
 
 -- the number of the mount at this index
-abbrev pub mount_at : List MountRow → ℕ → MountRow → ℕ
+abbrev mount_at : List MountRow → ℕ → MountRow → ℕ
 mount_at rows i d = (get_or rows i d).mount
 
-pub at_least :
+at_least :
     (low : ℕ) (rows : List MountRow) → RiseFrom low rows →
     (i : ℕ) (d : MountRow) → i < length rows → low ≤ mount_at rows i d
 at_least low [] rises i d h = absurd (omega arith)
@@ -24,7 +24,7 @@ at_least low (row ∷ rows) rises (suc i) d h =
     omega arith
 
 -- a greater index has a greater number
-rows_rise :
+pub rows_rise :
     (low : ℕ) (rows : List MountRow) → RiseFrom low rows →
     (i j : ℕ) (d : MountRow) → i < j → j < length rows → mount_at rows i d < mount_at rows j d
 rows_rise low [] rises i j d less h = absurd (omega arith)
@@ -67,7 +67,7 @@ module _ (rows : List MountRow) (rises : IsRising rows) (m : ℕ) where
   pub index_found :
       (i : ℕ) → i < length rows →
       IsBinarySearchResult (λ (row : MountRow). nat_cmp row.mount m) rows (Ok i) →
-      (d : MountRow) → mount_at rows i d ≡ m
+      (d : MountRow) → (get_or rows i d).mount ≡ m
   index_found i lt equal d = ranked _ m _ (sym (equal d))
 
   pub found :
@@ -79,7 +79,7 @@ module _ (rows : List MountRow) (rises : IsRising rows) (m : ℕ) where
   -- where nothing is found, each number is another
   pub all_differ :
       (i : ℕ) → IsBinarySearchResult (λ (row : MountRow). nat_cmp row.mount m) rows (Err i) →
-      (j : ℕ) (d : MountRow) → j < length rows → mount_at rows j d ≢ m
+      (j : ℕ) (d : MountRow) → j < length rows → (get_or rows j d).mount ≢ m
   all_differ i parted j d h same = grind (arith, before j d, after j d h)
     where
       before : (j : ℕ) (d : MountRow) → j < i → mount_at rows j d < m

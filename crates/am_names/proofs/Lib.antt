@@ -1,3 +1,4 @@
+pub mod LeaveLemmas
 pub mod NameStored
 pub mod Cuts
 pub mod Puts

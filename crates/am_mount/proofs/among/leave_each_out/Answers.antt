@@ -3,11 +3,11 @@ use Rattle.std.specs.Prelude.{filter, not}
 use Rattle.am_names.specs.declared.row.MountRow.{MountRow}
 use Rattle.am_mount.specs.Rows.{IsRising, is_among}
 use Rattle.am_mount.proofs.RowLemmas.{RiseFrom-filter}
-use Rattle.am_mount.proofs.LeaveLemmas.{others, none_out, one_more_out}
+use Rattle.am_names.proofs.LeaveLemmas.{others, none_out, one_more_out}
 use Rattle.am_mount.proofs.among.leave_each_out.Goals as goal
 
 pub loop-mount-init : goal.loop-mount-init
-loop-mount-init c = none_out c.args.rows.now.items
+loop-mount-init c = none_out (λ (row : MountRow). row.mount) c.args.rows.now.items
 
 pub leave_one_out-requires : goal.leave_one_out-requires
 leave_one_out-requires c =
@@ -19,5 +19,5 @@ pub loop-mount-preserved : goal.loop-mount-preserved
 loop-mount-preserved c =
     let within : c.loop-mount.mount-index < length c.args.gone.now = search rules in
     c.leave_one_out.ensures ∙
-    ap (others c.mount-item.result) c.loop-mount.invariant ∙
-    one_more_out c.args.gone.now c.loop-mount.mount-index c.mount-item.result within c.mount-item.is c.args.rows.now.items
+    ap (others (λ (row : MountRow). row.mount) c.mount-item.result) c.loop-mount.invariant ∙
+    one_more_out (λ (row : MountRow). row.mount) c.args.gone.now c.loop-mount.mount-index c.mount-item.result within c.mount-item.is c.args.rows.now.items

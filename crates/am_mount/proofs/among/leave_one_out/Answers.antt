@@ -2,7 +2,8 @@ use Rattle.std.proofs.Common.{◌≡◌, ◌++◌, ℕ, List, suc, take, drop, s
 use Rattle.std.proofs.lemmas.List.Sorted.{answers_always}
 use Rattle.am_names.specs.declared.row.MountRow.{MountRow}
 use Rattle.am_mount.specs.Rows.{IsRising}
-use Rattle.am_mount.proofs.LeaveLemmas.{others, left_found, left_absent}
+use Rattle.am_names.proofs.LeaveLemmas.{others}
+use Rattle.am_mount.proofs.LeaveLemmas.{left_found, left_absent}
 use Rattle.am_mount.proofs.among.leave_one_out.Goals as goal
 
 pub returns-in-Ok : goal.returns-in-Ok
@@ -13,10 +14,10 @@ returns-in-Ok c =
     let up : IsRising slice = subst (λ (xs : List MountRow). IsRising xs) (sym own) c.requires in
     let by_number = c.in-Ok.ensures.position (λ (r : MountRow). r.mount)
     (answers_always _ _ _ (λ f a r g called. search rules)) in
-    let found : others number slice ≡ take c.in-Ok.at slice ++ drop (suc c.in-Ok.at) slice =
+    let found : others (λ (row : MountRow). row.mount) number slice ≡ take c.in-Ok.at slice ++ drop (suc c.in-Ok.at) slice =
     left_found slice up number c.in-Ok.at c.in-Ok.ensures.bound by_number c.remove-row.result in
     rw (← c.mount.view_is) (c.remove-row.ensures.items ∙
-    sym (subst (λ (xs : List MountRow). others number xs ≡ take c.in-Ok.at xs ++ drop (suc c.in-Ok.at) xs) own found))
+    sym (subst (λ (xs : List MountRow). others (λ (row : MountRow). row.mount) number xs ≡ take c.in-Ok.at xs ++ drop (suc c.in-Ok.at) xs) own found))
 
 pub returns-in_default : goal.returns-in_default
 returns-in_default c =
@@ -26,5 +27,5 @@ returns-in_default c =
     let up : IsRising slice = subst (λ (xs : List MountRow). IsRising xs) (sym own) c.requires in
     let by_number = c.in_default.ensures.position (λ (r : MountRow). r.mount)
     (answers_always _ _ _ (λ f a r g called. search rules)) in
-    let none : others number slice ≡ slice = left_absent slice up number c.in_default.field-0 by_number in
-    rw (← c.mount.view_is) (sym (subst (λ (xs : List MountRow). others number xs ≡ xs) own none))
+    let none : others (λ (row : MountRow). row.mount) number slice ≡ slice = left_absent slice up number c.in_default.field-0 by_number in
+    rw (← c.mount.view_is) (sym (subst (λ (xs : List MountRow). others (λ (row : MountRow). row.mount) number xs ≡ xs) own none))
