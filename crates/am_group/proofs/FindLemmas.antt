@@ -25,7 +25,7 @@ at_least low (row ∷ rows) rises (suc i) d h =
     omega arith
 
 -- a greater index has a greater number
-rows_rise :
+pub rows_rise :
     (low : ℕ) (rows : List MemberRow) → RiseFrom low rows →
     (i j : ℕ) (d : MemberRow) → i < j → j < length rows → mount_at rows i d < mount_at rows j d
 rows_rise low [] rises i j d less h = absurd (omega arith)
@@ -65,16 +65,23 @@ module _ (rows : List MemberRow) (rises : RiseFrom 0 rows) (m : ℕ) where
       let up = rows_rise 0 rows rises i j d in
       grind (arith, nat_tests, up, λ (same : i ≡ j). ap (λ (k : ℕ). mount_at rows k d) same)
 
+  pub index_found :
+      (i : ℕ) → i < length rows →
+      IsBinarySearchResult (λ (row : MemberRow). nat_cmp row.mount m) rows (Ok i) →
+      (d : MemberRow) → (get_or rows i d).mount ≡ m
+  index_found i lt equal d = ranked _ m _ (sym (equal d))
+
   pub found :
       (i : ℕ) → i < length rows →
       IsBinarySearchResult (λ (row : MemberRow). nat_cmp row.mount m) rows (Ok i) →
       (d : MemberRow) → member_row rows m ≡ Some (get_or rows i d)
-  found i lt equal d = found_at 0 rows rises i m d lt (ranked _ m _ (sym (equal d)))
+  found i lt equal d = found_at 0 rows rises i m d lt (index_found i lt equal d)
 
-  pub absent :
+  -- where nothing is found, each number is another
+  pub all_differ :
       (i : ℕ) → IsBinarySearchResult (λ (row : MemberRow). nat_cmp row.mount m) rows (Err i) →
-      member_row rows m ≡ None
-  absent i parted = none_at rows m differs
+      (j : ℕ) (d : MemberRow) → j < length rows → (get_or rows j d).mount ≢ m
+  all_differ i parted j d h same = grind (arith, before j d, after j d h)
     where
       before : (j : ℕ) (d : MemberRow) → j < i → mount_at rows j d < m
       before j d lt = ranked _ m _ (sym ((parted comparisons_rise).0 j d (omega arith) lt))
@@ -82,5 +89,7 @@ module _ (rows : List MemberRow) (rises : RiseFrom 0 rows) (m : ℕ) where
       after : (j : ℕ) (d : MemberRow) → j < length rows → i ≤ j → m < mount_at rows j d
       after j d h le = ranked _ m _ (sym ((parted comparisons_rise).1 j d le h))
 
-      differs : (j : ℕ) (d : MemberRow) → j < length rows → mount_at rows j d ≢ m
-      differs j d h same = grind (arith, before j d, after j d h)
+  pub absent :
+      (i : ℕ) → IsBinarySearchResult (λ (row : MemberRow). nat_cmp row.mount m) rows (Err i) →
+      member_row rows m ≡ None
+  absent i parted = none_at rows m (all_differ i parted)

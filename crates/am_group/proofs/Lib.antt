@@ -8,6 +8,7 @@ pub mod SharedLemmas
 pub mod ScanLemmas
 pub mod AddLemmas
 pub mod CopyLemmas
+pub mod LeaveLemmas
 pub mod LiftLemmas
 pub mod KindLemmas
 pub mod ClearLemmas

@@ -1,11 +1,15 @@
 -- Peer groups that lose their last member, where no master of what stays is one of them.
-use Rattle.std.proofs.Common.{◌≡◌, ℕ, Bool, true, false, cond, ◌||◌, ◌&&◌, List, [], ◌∷◌, Option, Some, None, refl, sym, ap, subst, ◌∙◌}
-use Rattle.std.specs.Prelude.{map, filter, not}
+use Rattle.std.proofs.Common.{◌≡◌, ◌≤◌, ◌<◌, ◌+◌, ℕ, Bool, true, false, cond, ◌||◌, ◌&&◌, List, [], ◌∷◌, length, Option, Some, None, refl, sym, ap, subst, ◌∙◌, arith}
+use Rattle.std.specs.Prelude.{map, filter, not, ◌==◌}
+use Rattle.std.proofs.lemmas.Bool.{eqb-true, eq-eqb, ne_eqb, and_from}
 use Rattle.std.specs.List.{list_all}
 use Rattle.am_names.specs.declared.row.MemberRow.{MemberRow}
 use Rattle.am_names.specs.declared.row.GroupRow.{GroupRow}
 use Rattle.am_names.specs.PeerGroups.{PeerGroups}
 use Rattle.am_group.specs.Changes.{is_just, has_members, is_among, is_kept, lifted, lifted_member, lifted_group, settled, cleared, with_only, left, without}
+use Rattle.am_group.specs.Copies.{has_receiver, AreOfReceivers}
+use Rattle.am_group.specs.Invariant.{RiseFrom}
+use Rattle.am_group.specs.Propagation.{member_row, group_in, group_of}
 use Rattle.am_group.specs.Scan.{is_one_of}
 use Rattle.am_group.specs.Tables.{AreLive, AreLiveAmong, AreOthers, AreLost, is_free_group, is_free_of, without_groups}
 use Rattle.am_group.proofs.LiftLemmas.{lifted_here, same_state}
@@ -138,16 +142,129 @@ module _ (old : List MemberRow) (raw : PeerGroups) (lost : List ℕ) (are_lost :
       (same_state (cleared stays (settled stays raw)) raw.members (without_groups lost raw).groups raw.last_group
       (members_stay raw.members (and_left _ _ free)) (groups_stay raw.groups (and_right _ _ free)) refl)
 
--- the same of a state and of numbers that are those
+-- ---- the peer groups of mounts that go
+
+or_left_of : (a b : Bool) → b ≡ false → (a || b) ≡ a
+or_left_of true b e = refl
+or_left_of false b e = e
+
+-- of the members those that pass one test or the other
+has_either :
+    (p q : MemberRow → Bool) (rows : List MemberRow) (g : ℕ) →
+    has_members (filter (λ row. p row || q row) rows) g ≡ (has_members (filter p rows) g || has_members (filter q rows) g)
+has_either p q [] g = refl
+has_either p q (r ∷ rows) g = go (p r) (q r) (has_either p q rows g)
+  where
+    ps : List MemberRow
+    ps = filter p rows
+
+    qs : List MemberRow
+    qs = filter q rows
+
+    both : List MemberRow
+    both = filter (λ row. p row || q row) rows
+
+    twice : (a b c : Bool) → (a || (b || c)) ≡ ((a || b) || (a || c))
+    twice true b c = refl
+    twice false b c = refl
+
+    go :
+        (a b : Bool) → has_members both g ≡ (has_members ps g || has_members qs g) →
+        has_members (cond (a || b) (r ∷ both) both) g ≡ (has_members (cond a (r ∷ ps) ps) g || has_members (cond b (r ∷ qs) qs) g)
+    go true true ih = ap (λ (x : Bool). is_just g r.group || x) ih ∙ twice (is_just g r.group) (has_members ps g) (has_members qs g)
+    go true false ih = ap (λ (x : Bool). is_just g r.group || x) ih ∙ or_assoc (is_just g r.group) (has_members ps g) (has_members qs g)
+    go false true ih = ap (λ (x : Bool). is_just g r.group || x) ih ∙ or_swap (is_just g r.group) (has_members ps g) (has_members qs g)
+    go false false ih = ih
+
+none_pass : (rows : List MemberRow) (g : ℕ) → has_members (filter (λ row. is_among [] row.mount) rows) g ≡ false
+none_pass [] g = refl
+none_pass (r ∷ rows) g = none_pass rows g
+
+none_above :
+    (low x : ℕ) (rows : List MemberRow) → RiseFrom low rows → x < low → (g : ℕ) →
+    has_members (filter (λ row. x == row.mount) rows) g ≡ false
+none_above low x [] rises below g = refl
+none_above low x (r ∷ rows) rises below g =
+    let first : low ≤ r.mount = rises.0 in
+    rw (ne_eqb x r.mount (λ same. omega arith)) (none_above (r.mount + 1) x rows rises.1 (omega arith) g)
+
+-- a mount's row alone has its peer group
+has_own :
+    (low x : ℕ) (rows : List MemberRow) → RiseFrom low rows → (g : ℕ) →
+    has_members (filter (λ row. x == row.mount) rows) g ≡ is_just g (group_in (member_row rows x))
+has_own low x [] rises g = refl
+has_own low x (r ∷ rows) rises g = go (x == r.mount) refl (has_own (r.mount + 1) x rows rises.1 g)
+  where
+    these : List MemberRow
+    these = filter (λ row. x == row.mount) rows
+
+    go :
+        (b : Bool) → (x == r.mount) ≡ b → has_members these g ≡ is_just g (group_in (member_row rows x)) →
+        has_members (cond b (r ∷ these) these) g ≡ is_just g (group_in (member_row (r ∷ rows) x))
+    go true e ih =
+        let same : x ≡ r.mount = eqb-true x r.mount e in
+        rw (eq-eqb r.mount x (sym same))
+        (or_left_of (is_just g r.group) (has_members these g) (none_above (r.mount + 1) x rows rises.1 (omega arith) g))
+    go false e ih = rw (ne_eqb r.mount x (λ same. let bad : true ≡ false = sym (eq-eqb x r.mount (sym same)) ∙ e in cc)) ih
+
+pub groups_that_go :
+    (s : PeerGroups) → RiseFrom 0 s.members → (gone groups : List ℕ) → AreOfReceivers s gone groups →
+    AreLive (filter (λ row. is_among gone row.mount) s.members) groups
+groups_that_go s rises gone groups are g = are g ∙ all gone
+  where
+    all : (xs : List ℕ) → has_receiver s xs g ≡ has_members (filter (λ row. is_among xs row.mount) s.members) g
+    all [] = sym (none_pass s.members g)
+    all (x ∷ xs) =
+        ap (λ (b : Bool). is_just g (group_of s x) || b) (all xs) ∙
+        ap (λ (b : Bool). b || has_members (filter (λ row. is_among xs row.mount) s.members) g) (sym (has_own 0 x s.members rises g)) ∙
+        sym (has_either (λ row. x == row.mount) (λ row. is_among xs row.mount) s.members g)
+
+-- ---- no master is lost
+
+none_lost : (o : Option ℕ) → is_one_of [] o ≡ false
+none_lost None = refl
+none_lost (Some g) = refl
+
+pub free_of_none : (s : PeerGroups) → is_free_of [] s ≡ true
+free_of_none s = rw (members s.members, groups s.groups) refl
+  where
+    members : (rows : List MemberRow) → list_all (λ row. not (is_one_of [] row.master)) rows ≡ true
+    members [] = refl
+    members (r ∷ rows) = rw (none_lost r.master) (members rows)
+
+    groups : (rows : List GroupRow) → list_all (is_free_group []) rows ≡ true
+    groups [] = refl
+    groups (r ∷ rows) = rw (none_lost r.master) (groups rows)
+
+-- so it is of fewer mounts
+pub free_fewer :
+    (lost : List ℕ) (s : PeerGroups) (keeps : ℕ → Bool) → is_free_of lost s ≡ true → is_free_of lost (with_only keeps s) ≡ true
+free_fewer lost s keeps free = and_from _ _ (fewer s.members (and_left _ _ free)) (and_right _ _ free)
+  where
+    fewer :
+        (rows : List MemberRow) → list_all (λ row. not (is_one_of lost row.master)) rows ≡ true →
+        list_all (λ row. not (is_one_of lost row.master)) (filter (λ row. keeps row.mount) rows) ≡ true
+    fewer [] free = refl
+    fewer (r ∷ rows) free = go (keeps r.mount) (fewer rows (and_right _ _ free))
+      where
+        these : List MemberRow
+        these = filter (λ row. keeps row.mount) rows
+
+        go :
+            (b : Bool) → list_all (λ row. not (is_one_of lost row.master)) these ≡ true →
+            list_all (λ row. not (is_one_of lost row.master)) (cond b (r ∷ these) these) ≡ true
+        go true ih = and_from _ _ (and_left _ _ free) ih
+        go false ih = ih
+
+-- the same of a state
 pub left_where :
-    (gone : ℕ → Bool) (s raw : PeerGroups) (kept : List MemberRow) (lost first second : List ℕ) →
-    raw ≡ with_only (λ m. not (gone m)) s → kept ≡ raw.members →
-    AreLost s.members kept lost → first ≡ lost → is_free_of first raw ≡ true → second ≡ lost →
-    without_groups second raw ≡ without gone s
-left_where gone s raw kept lost first second is rows are_lost one free two =
-    let exact : AreLost s.members raw.members lost =
-    subst (λ (x : List MemberRow). AreLost s.members x lost) rows are_lost in
-    let none : is_free_of lost raw ≡ true = sym (ap (λ (xs : List ℕ). is_free_of xs raw) one) ∙ free in
-    ap (λ (xs : List ℕ). without_groups xs raw) two ∙
-    free_left s.members raw lost exact s refl none ∙
-    ap (left s) is
+    (gone : ℕ → Bool) (s : PeerGroups) (lost : List ℕ) →
+    AreLost s.members (filter (λ row. not (gone row.mount)) s.members) lost → is_free_of lost s ≡ true →
+    without_groups lost (with_only (λ m. not (gone m)) s) ≡ without gone s
+left_where gone s lost are_lost free =
+    free_left s.members (with_only (λ m. not (gone m)) s) lost are_lost s refl (free_fewer lost s (λ m. not (gone m)) free)
+
+-- no number
+pub none_of_length : (xs : List ℕ) → (length xs == 0) ≡ true → xs ≡ []
+none_of_length [] e = refl
+none_of_length (x ∷ xs) e = let is : length (x ∷ xs) ≡ 0 = eqb-true (length (x ∷ xs)) 0 e in absurd (omega arith)

@@ -7,7 +7,7 @@ ghost use Rattle.am_group.specs.Propagation.{member_row, group_row, master_of_gr
 ghost use Rattle.am_group.specs.Changes.{is_among, lifted, lifted_member, lifted_group};
 ghost use Rattle.am_group.specs.Invariant.{RiseFrom, IsOrderly};
 ghost use Rattle.am_group.specs.Scan.{is_one_of};
-ghost use Rattle.am_group.specs.Tables.{state_of, AreLive, AreLiveAmong, AreOthers, is_left, is_free_group, is_free_of, without_groups};
+ghost use Rattle.am_group.specs.Tables.{state_of, AreLive, AreOthers, is_left, is_free_group};
 
 use am_names::{GroupId, GroupRow, MemberRow, MountId};
 use std::alloc::{AllocError, Global};
@@ -77,40 +77,6 @@ pub fn is_one_of(group: Option<GroupId>, groups: &[GroupId]) -> bool
     }
 }
 
-fn groups_among(
-    alloc: Global,
-    groups: &[GroupId],
-    members: &[MemberRow],
-) -> Result<Vec<GroupId>, AllocError>
-    requires { IsNonDecreasing groups.now }
-    ensures { IfOk result (λ v. AreLiveAmong groups.now members.now v.items) }
-{
-    let mut live = Vec::new(alloc);
-    for row in members {
-        if let Some(group) = row.group {
-            if is_among(groups, group) {
-                live.push(group)?;
-            }
-        }
-    }
-    Ok(live)
-}
-
-/// Those of these peer groups that have members, in order of number.
-pub fn live_among(
-    alloc: Global,
-    groups: &[GroupId],
-    members: &[MemberRow],
-) -> Result<Vec<GroupId>, AllocError>
-    requires { IsNonDecreasing groups.now }
-    ensures ordered { IfOk result (λ v. IsNonDecreasing v.items) }
-    ensures exact { IfOk result (λ v. AreLiveAmong groups.now members.now v.items) }
-{
-    let mut live = groups_among(alloc, groups, members)?;
-    live.sort_unstable_by_key(|group| group.0);
-    Ok(live)
-}
-
 fn others(alloc: Global, groups: &[GroupId], these: &[GroupId]) -> Result<Vec<GroupId>, AllocError>
     requires { IsNonDecreasing these.now }
     ensures { IfOk result (λ v. AreOthers groups.now these.now v.items) }
@@ -139,7 +105,7 @@ pub fn without_these(
     Ok(others)
 }
 
-fn are_members_free(members: &[MemberRow], lost: &[GroupId]) -> bool
+pub fn are_members_free(members: &[MemberRow], lost: &[GroupId]) -> bool
     requires { IsNonDecreasing lost.now }
     ensures { result ≡ list_all (λ row. not (is_one_of lost.now row.master)) members.now }
 {
@@ -182,7 +148,7 @@ pub fn group_row(groups: &[GroupRow], group: GroupId) -> Option<GroupRow>
     groups.iter().copied().find(|row| row.group == group)
 }
 
-fn are_groups_free(groups: &[GroupRow], lost: &[GroupId]) -> bool
+pub fn are_groups_free(groups: &[GroupRow], lost: &[GroupId]) -> bool
     requires { IsNonDecreasing lost.now }
     ensures { result ≡ list_all (is_free_group lost.now) groups.now }
 {
@@ -190,23 +156,6 @@ fn are_groups_free(groups: &[GroupRow], lost: &[GroupId]) -> bool
 }
 
 impl Tables {
-    /// Whether no mount, and no peer group but one of these, has one of these as its master.
-    pub fn is_free_of(&self, lost: &[GroupId]) -> bool
-        requires { IsNonDecreasing lost.now }
-        ensures { result ≡ is_free_of lost.now (state_of self.now) }
-    {
-        are_members_free(self.members.as_slice(), lost)
-            && are_groups_free(self.groups.as_slice(), lost)
-    }
-
-    /// These peer groups go.
-    pub fn drop_groups(&mut self, lost: &[GroupId])
-        requires { IsNonDecreasing lost.now }
-        ensures { state_of self.new ≡ without_groups lost.now (state_of self.old) }
-    {
-        self.groups.retain(|row| !is_among(lost, row.group));
-    }
-
     fn master_of_group(&self, group: GroupId) -> Option<GroupId>
         ensures { result ≡ master_of_group (state_of self.now) group }
     {

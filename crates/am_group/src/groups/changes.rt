@@ -1,18 +1,20 @@
 //! The changes of a mount's state, and mounts that leave.
 
-ghost use Rattle.std.specs.Prelude.{◌≡◌, true, not, filter, None, IfOk, OnOk, OnErr};
+ghost use Rattle.std.specs.Prelude.{◌≡◌, ◌==◌, true, not, filter, None, IfOk, OnOk, OnErr};
 ghost use Rattle.std.specs.Bool.{OnTrue};
 ghost use Rattle.std.specs.List.Sorted.{IsNonDecreasing};
 ghost use Rattle.am_names.specs.Errno.{RefusedAs};
 ghost use Rattle.am_group.specs.Changes.{left, with_row, made_shared, made_slave, made_private, made_unbindable, changed, is_among, with_only, without};
-ghost use Rattle.am_group.specs.Invariant.{IsOrderly, IsPeopled, AddsNoReceivers};
+ghost use Rattle.am_group.specs.Invariant.{RiseFrom, IsOrderly, IsPeopled, AddsNoReceivers};
 ghost use Rattle.am_group.specs.Kinds.{FollowsTable};
 ghost use Rattle.am_group.specs.Members.{change_refusal};
-ghost use Rattle.am_group.specs.Tables.{state_of, AreLost, without_groups, row_of, gives_up};
+ghost use Rattle.am_group.specs.Tables.{state_of, AreLiveAmong, AreLost, is_free_of, row_of, gives_up};
 
 use crate::groups::Groups;
 use crate::kind::{Change, asked, row_as};
-use crate::tables::{Tables, clear, live_among, live_groups, without_these};
+use crate::tables::{
+    Tables, are_groups_free, are_members_free, clear, is_among as is_live, live_groups, without_these,
+};
 use am_names::{Errno, GroupId, GroupRow, MemberRow, MountId};
 use std::alloc::{AllocError, Global};
 
@@ -39,25 +41,101 @@ fn are_ordered(mounts: &[MountId]) -> bool
     mounts.is_sorted()
 }
 
-/// Leaves out the rows of these mounts. In mounts that stand in order it looks by halves.
-fn leave_out(members: &mut Vec<MemberRow>, gone: &[MountId])
+/// Leaves out the mount's row, which is found by halves.
+fn leave_one_out(members: &mut Vec<MemberRow>, mount: MountId)
+    requires { RiseFrom 0 members.old.items }
+    ensures { members.new.items ≡ filter (λ row. not (row.mount == mount)) members.old.items }
+{
+    let number = mount.0;
+    if let Ok(at) = members.binary_search_by_key(&number, |row| row.mount.0) {
+        let _row = members.remove(at);
+    }
+}
+
+/// Leaves out the rows of these mounts, one after another.
+fn leave_each_out(members: &mut Vec<MemberRow>, gone: &[MountId])
+    requires { RiseFrom 0 members.old.items }
     ensures { members.new.items ≡ filter (λ row. not (is_among gone.now row.mount)) members.old.items }
 {
-    if are_ordered(gone) {
+    for mount in gone {
+        leave_one_out(members, *mount);
+    }
+}
+
+/// So few mounts are looked for one by one, and of more all rows are gone through.
+const FEW: usize = 4;
+
+/// Leaves out the rows of these mounts. In mounts that stand in order it looks by halves.
+fn leave_out(members: &mut Vec<MemberRow>, gone: &[MountId])
+    requires { RiseFrom 0 members.old.items }
+    ensures { members.new.items ≡ filter (λ row. not (is_among gone.now row.mount)) members.old.items }
+{
+    if gone.len() <= FEW {
+        leave_each_out(members, gone);
+    } else if are_ordered(gone) {
         members.retain(|row| !is_found(row.mount, gone));
     } else {
         members.retain(|row| !is_among(row.mount, gone));
     }
 }
 
-/// Leaves only the rows of these mounts.
-fn keep_only(members: &mut Vec<MemberRow>, mounts: &[MountId])
-    ensures { members.new.items ≡ filter (λ row. is_among mounts.now row.mount) members.old.items }
+/// Whether the mount is one of these, by halves where they stand in order.
+fn is_one(mount: MountId, mounts: &[MountId], ordered: bool) -> bool
+    requires { OnTrue ordered (IsNonDecreasing mounts.now) }
+    ensures { result ≡ is_among mounts.now mount }
 {
-    if are_ordered(mounts) {
-        members.retain(|row| is_found(row.mount, mounts));
+    if ordered {
+        is_found(mount, mounts)
     } else {
-        members.retain(|row| is_among(row.mount, mounts));
+        is_among(mount, mounts)
+    }
+}
+
+/// Those of these peer groups that have other members than the mounts that go, in no order.
+fn groups_beside(
+    alloc: Global,
+    groups: &[GroupId],
+    members: &[MemberRow],
+    gone: &[MountId],
+) -> Result<Vec<GroupId>, AllocError>
+    requires { IsNonDecreasing groups.now }
+    ensures { IfOk result (λ v. AreLiveAmong groups.now (filter (λ row. not (is_among gone.now row.mount)) members.now) v.items) }
+{
+    let ordered = are_ordered(gone);
+    let mut beside = Vec::new(alloc);
+    for row in members {
+        if let Some(group) = row.group {
+            if is_live(groups, group) && !is_one(row.mount, gone, ordered) {
+                beside.push(group)?;
+            }
+        }
+    }
+    Ok(beside)
+}
+
+/// The same, in order of number.
+fn still_live(
+    alloc: Global,
+    groups: &[GroupId],
+    members: &[MemberRow],
+    gone: &[MountId],
+) -> Result<Vec<GroupId>, AllocError>
+    requires { IsNonDecreasing groups.now }
+    ensures ordered { IfOk result (λ v. IsNonDecreasing v.items) }
+    ensures exact { IfOk result (λ v. AreLiveAmong groups.now (filter (λ row. not (is_among gone.now row.mount)) members.now) v.items) }
+{
+    let mut live = groups_beside(alloc, groups, members, gone)?;
+    live.sort_unstable_by_key(|group| group.0);
+    Ok(live)
+}
+
+/// These peer groups go.
+fn drop_groups(groups: &mut Vec<GroupRow>, lost: &[GroupId])
+    requires { IsNonDecreasing lost.now }
+    ensures { groups.new.items ≡ filter (λ row. not (is_among lost.now row.group)) groups.old.items }
+{
+    if !lost.is_empty() {
+        groups.retain(|row| !is_live(lost, row.group));
     }
 }
 
@@ -222,23 +300,30 @@ impl Groups {
         }
     }
 
-    /// The peer groups that lose their last member where only these mounts are kept.
-    fn lost(
-        &self,
-        alloc: Global,
-        kept: &[MemberRow],
-        gone: &[MountId],
-    ) -> Result<Vec<GroupId>, AllocError>
-        requires { kept.now ≡ filter (λ row. not (is_among gone.now row.mount)) self.now.members }
+    /// The peer groups that lose their last member where these mounts go.
+    fn lost(&self, alloc: Global, gone: &[MountId]) -> Result<Vec<GroupId>, AllocError>
         ensures ordered { IfOk result (λ v. IsNonDecreasing v.items) }
-        ensures exact { IfOk result (λ v. AreLost self.now.members kept.now v.items) }
+        ensures exact { IfOk result (λ v. AreLost self.now.members (filter (λ row. not (is_among gone.now row.mount)) self.now.members) v.items) }
     {
-        let mut leaving = Vec::from_slice(alloc, self.members.as_slice())?;
-        keep_only(&mut leaving, gone);
-        let left = live_groups(alloc, leaving.as_slice())?;
-        let still = live_among(alloc, left.as_slice(), kept)?;
+        let _members = &self.members;
+        let left = self.groups_in_order(alloc, gone)?;
+        if left.as_slice().is_empty() {
+            return Ok(left);
+        }
+        let still = still_live(alloc, left.as_slice(), self.members.as_slice(), gone)?;
         let lost = without_these(alloc, left.as_slice(), still.as_slice())?;
         Ok(lost)
+    }
+
+    /// Whether no mount, and no peer group but one of these, has one of these as its master.
+    fn is_free_of(&self, lost: &[GroupId]) -> bool
+        requires { IsNonDecreasing lost.now }
+        ensures { OnTrue result (is_free_of lost.now self.now ≡ true) }
+    {
+        let _members = &self.members;
+        lost.is_empty()
+            || (are_members_free(self.members.as_slice(), lost)
+                && are_groups_free(self.groups.as_slice(), lost))
     }
 
     /// Takes these mounts away, as an unmount does. Of the numbers that are no mount's, nothing
@@ -251,13 +336,13 @@ impl Groups {
         ensures peopled { IsPeopled self.old → IsPeopled self.new }
     {
         let _members = &self.members;
-        let mut raw = self.with_only(alloc, gone)?;
-        let lost = self.lost(alloc, raw.members.as_slice(), gone)?;
-        if raw.is_free_of(lost.as_slice()) {
-            raw.drop_groups(lost.as_slice());
-            self.settle(raw);
+        let lost = self.lost(alloc, gone)?;
+        if self.is_free_of(lost.as_slice()) {
+            leave_out(&mut self.members, gone);
+            drop_groups(&mut self.groups, lost.as_slice());
             return Ok(());
         }
+        let raw = self.with_only(alloc, gone)?;
         self.settle_left(alloc, raw)?;
         Ok(())
     }

@@ -155,7 +155,7 @@ impl Groups {
     }
 
     /// The peer groups that the receivers are in, in order of number, for `others_among`.
-    fn groups_in_order(
+    pub(crate) fn groups_in_order(
         &self,
         alloc: Global,
         receivers: &[MountId],

@@ -1,9 +1,12 @@
-use Rattle.std.proofs.Common.{ap, sym, subst, ◌∙◌}
+use Rattle.std.proofs.Common.{◌≡◌, List, ℕ, true, not, sym, ap, subst, rules, ◌∙◌}
+use Rattle.std.specs.Prelude.{filter}
+use Rattle.am_names.specs.declared.row.GroupRow.{GroupRow}
 use Rattle.am_names.specs.PeerGroups.{PeerGroups}
-use Rattle.am_group.specs.Changes.{is_among, left}
+use Rattle.am_group.specs.Changes.{is_among, left, with_only}
 use Rattle.am_group.specs.Invariant.{IsOrderly, IsPeopled, AddsNoReceivers}
+use Rattle.am_group.specs.Tables.{is_free_of, without_groups}
 use Rattle.am_group.proofs.ChangeLemmas.{only_orderly, without_orderly, without_keeps}
-use Rattle.am_group.specs.Tables.{state_of}
+use Rattle.am_group.proofs.LiftLemmas.{same_state}
 use Rattle.am_group.proofs.LostLemmas.{left_where}
 use Rattle.am_group.proofs.groups.Groups.leave.Goals as goal
 
@@ -24,49 +27,81 @@ returns-clause-peopled c = λ peopled.
     let made = c.in_ok-settle_left.ensures.ok ∙ ap (left c.args.self.now) c.in_ok-raw.ensures in
     subst (λ (x : PeerGroups). IsPeopled x) (sym made) (without_keeps (is_among c.args.gone.now) c.args.self.now (record { orderly = orderly; peopled = peopled })).sound.peopled
 
-pub settle-requires : goal.settle-requires
-settle-requires c =
+pub invariant_of-self : goal.invariant_of-self
+invariant_of-self c =
+    let s = c.args.self.now in
+    let gone = c.args.gone.now in
+    let lost = c.in_ok-lost.lost.items in
     let orderly = subst (λ (x : PeerGroups). IsOrderly x) c.self.view_is c.self.invariant in
+    let free : is_free_of lost s ≡ true = search rules in
+    let members : c.leave_out.new.members.items ≡ (with_only (λ m. not (is_among gone m)) s).members =
+        c.leave_out.ensures ∙ ap (λ (x : PeerGroups). (with_only (λ m. not (is_among gone m)) x).members) c.self.view_is in
+    let groups : c.drop_groups.new.groups.items ≡ filter (λ row. not (is_among lost row.group)) s.groups =
+        c.drop_groups.ensures ∙
+        ap (λ (xs : List ℕ). filter (λ (row : GroupRow). not (is_among xs row.group)) c.self.inside.groups.items) c.as_slice-then-is_free_of.ensures.value ∙
+        ap (λ (x : PeerGroups). filter (λ (row : GroupRow). not (is_among lost row.group)) x.groups) c.self.view_is in
     let made =
-    c.drop_groups.ensures ∙
-    left_where (is_among c.args.gone.now) c.args.self.now (state_of c.in_ok-raw.raw) c.as_slice.result.now
-    c.in_ok-lost.lost.items c.as_slice-2.result.now c.as_slice-then-is_free_of.result.now c.in_ok-raw.ensures
-    c.as_slice.ensures.value c.in_ok-lost.ensures.exact c.as_slice-2.ensures.value
-    (sym c.is_free_of.ensures ∙ c.if-is_free_of.true) c.as_slice-then-is_free_of.ensures.value in
-    subst (λ (x : PeerGroups). IsOrderly x) (sym made) (without_orderly (is_among c.args.gone.now) c.args.self.now orderly)
+        same_state (without_groups lost (with_only (λ m. not (is_among gone m)) s)) c.leave_out.new.members.items c.drop_groups.new.groups.items c.self.inside.last_group
+            members groups (ap (λ (x : PeerGroups). x.last_group) c.self.view_is) ∙
+        left_where (is_among gone) s lost c.in_ok-lost.ensures.exact free in
+    subst (λ (x : PeerGroups). IsOrderly x) (sym made) (without_orderly (is_among gone) s orderly)
 
 pub returns-then-is_free_of-clause-ok : goal.returns-then-is_free_of-clause-ok
 returns-then-is_free_of-clause-ok c =
+    let s = c.args.self.now in
+    let gone = c.args.gone.now in
+    let lost = c.in_ok-lost.lost.items in
     let orderly = subst (λ (x : PeerGroups). IsOrderly x) c.self.view_is c.self.invariant in
+    let free : is_free_of lost s ≡ true = search rules in
+    let members : c.leave_out.new.members.items ≡ (with_only (λ m. not (is_among gone m)) s).members =
+        c.leave_out.ensures ∙ ap (λ (x : PeerGroups). (with_only (λ m. not (is_among gone m)) x).members) c.self.view_is in
+    let groups : c.drop_groups.new.groups.items ≡ filter (λ row. not (is_among lost row.group)) s.groups =
+        c.drop_groups.ensures ∙
+        ap (λ (xs : List ℕ). filter (λ (row : GroupRow). not (is_among xs row.group)) c.self.inside.groups.items) c.as_slice-then-is_free_of.ensures.value ∙
+        ap (λ (x : PeerGroups). filter (λ (row : GroupRow). not (is_among lost row.group)) x.groups) c.self.view_is in
     let made =
-    c.drop_groups.ensures ∙
-    left_where (is_among c.args.gone.now) c.args.self.now (state_of c.in_ok-raw.raw) c.as_slice.result.now
-    c.in_ok-lost.lost.items c.as_slice-2.result.now c.as_slice-then-is_free_of.result.now c.in_ok-raw.ensures
-    c.as_slice.ensures.value c.in_ok-lost.ensures.exact c.as_slice-2.ensures.value
-    (sym c.is_free_of.ensures ∙ c.if-is_free_of.true) c.as_slice-then-is_free_of.ensures.value in
-    c.settle.ensures ∙ made
+        same_state (without_groups lost (with_only (λ m. not (is_among gone m)) s)) c.leave_out.new.members.items c.drop_groups.new.groups.items c.self.inside.last_group
+            members groups (ap (λ (x : PeerGroups). x.last_group) c.self.view_is) ∙
+        left_where (is_among gone) s lost c.in_ok-lost.ensures.exact free in
+    made
 
 pub returns-then-is_free_of-clause-law : goal.returns-then-is_free_of-clause-law
 returns-then-is_free_of-clause-law c = λ peopled.
+    let s = c.args.self.now in
+    let gone = c.args.gone.now in
+    let lost = c.in_ok-lost.lost.items in
     let orderly = subst (λ (x : PeerGroups). IsOrderly x) c.self.view_is c.self.invariant in
+    let free : is_free_of lost s ≡ true = search rules in
+    let members : c.leave_out.new.members.items ≡ (with_only (λ m. not (is_among gone m)) s).members =
+        c.leave_out.ensures ∙ ap (λ (x : PeerGroups). (with_only (λ m. not (is_among gone m)) x).members) c.self.view_is in
+    let groups : c.drop_groups.new.groups.items ≡ filter (λ row. not (is_among lost row.group)) s.groups =
+        c.drop_groups.ensures ∙
+        ap (λ (xs : List ℕ). filter (λ (row : GroupRow). not (is_among xs row.group)) c.self.inside.groups.items) c.as_slice-then-is_free_of.ensures.value ∙
+        ap (λ (x : PeerGroups). filter (λ (row : GroupRow). not (is_among lost row.group)) x.groups) c.self.view_is in
     let made =
-    c.drop_groups.ensures ∙
-    left_where (is_among c.args.gone.now) c.args.self.now (state_of c.in_ok-raw.raw) c.as_slice.result.now
-    c.in_ok-lost.lost.items c.as_slice-2.result.now c.as_slice-then-is_free_of.result.now c.in_ok-raw.ensures
-    c.as_slice.ensures.value c.in_ok-lost.ensures.exact c.as_slice-2.ensures.value
-    (sym c.is_free_of.ensures ∙ c.if-is_free_of.true) c.as_slice-then-is_free_of.ensures.value in
-    subst (λ (x : PeerGroups). AddsNoReceivers c.args.self.now x) (sym (c.settle.ensures ∙ made)) (without_keeps (is_among c.args.gone.now) c.args.self.now (record { orderly = orderly; peopled = peopled })).law
+        same_state (without_groups lost (with_only (λ m. not (is_among gone m)) s)) c.leave_out.new.members.items c.drop_groups.new.groups.items c.self.inside.last_group
+            members groups (ap (λ (x : PeerGroups). x.last_group) c.self.view_is) ∙
+        left_where (is_among gone) s lost c.in_ok-lost.ensures.exact free in
+    subst (λ (x : PeerGroups). AddsNoReceivers s x) (sym made) (without_keeps (is_among gone) s (record { orderly = orderly; peopled = peopled })).law
 
 pub returns-then-is_free_of-clause-peopled : goal.returns-then-is_free_of-clause-peopled
 returns-then-is_free_of-clause-peopled c = λ peopled.
+    let s = c.args.self.now in
+    let gone = c.args.gone.now in
+    let lost = c.in_ok-lost.lost.items in
     let orderly = subst (λ (x : PeerGroups). IsOrderly x) c.self.view_is c.self.invariant in
+    let free : is_free_of lost s ≡ true = search rules in
+    let members : c.leave_out.new.members.items ≡ (with_only (λ m. not (is_among gone m)) s).members =
+        c.leave_out.ensures ∙ ap (λ (x : PeerGroups). (with_only (λ m. not (is_among gone m)) x).members) c.self.view_is in
+    let groups : c.drop_groups.new.groups.items ≡ filter (λ row. not (is_among lost row.group)) s.groups =
+        c.drop_groups.ensures ∙
+        ap (λ (xs : List ℕ). filter (λ (row : GroupRow). not (is_among xs row.group)) c.self.inside.groups.items) c.as_slice-then-is_free_of.ensures.value ∙
+        ap (λ (x : PeerGroups). filter (λ (row : GroupRow). not (is_among lost row.group)) x.groups) c.self.view_is in
     let made =
-    c.drop_groups.ensures ∙
-    left_where (is_among c.args.gone.now) c.args.self.now (state_of c.in_ok-raw.raw) c.as_slice.result.now
-    c.in_ok-lost.lost.items c.as_slice-2.result.now c.as_slice-then-is_free_of.result.now c.in_ok-raw.ensures
-    c.as_slice.ensures.value c.in_ok-lost.ensures.exact c.as_slice-2.ensures.value
-    (sym c.is_free_of.ensures ∙ c.if-is_free_of.true) c.as_slice-then-is_free_of.ensures.value in
-    subst (λ (x : PeerGroups). IsPeopled x) (sym (c.settle.ensures ∙ made)) (without_keeps (is_among c.args.gone.now) c.args.self.now (record { orderly = orderly; peopled = peopled })).sound.peopled
+        same_state (without_groups lost (with_only (λ m. not (is_among gone m)) s)) c.leave_out.new.members.items c.drop_groups.new.groups.items c.self.inside.last_group
+            members groups (ap (λ (x : PeerGroups). x.last_group) c.self.view_is) ∙
+        left_where (is_among gone) s lost c.in_ok-lost.ensures.exact free in
+    subst (λ (x : PeerGroups). IsPeopled x) (sym made) (without_keeps (is_among gone) s (record { orderly = orderly; peopled = peopled })).sound.peopled
 
 pub returns-in_err-settle_left-clause-peopled : goal.returns-in_err-settle_left-clause-peopled
 returns-in_err-settle_left-clause-peopled c = λ peopled.

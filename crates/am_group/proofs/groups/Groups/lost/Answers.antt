@@ -1,30 +1,36 @@
-use Rattle.std.proofs.Common.{◌≡◌, List, ℕ, sym, ap, subst, ◌∙◌}
-use Rattle.std.specs.Prelude.{filter}
+use Rattle.std.proofs.Common.{◌≡◌, List, ℕ, [], refl, sym, ap, subst, rules, ◌∙◌}
+use Rattle.std.specs.Prelude.{filter, not}
 use Rattle.am_names.specs.declared.row.MemberRow.{MemberRow}
 use Rattle.am_names.specs.PeerGroups.{PeerGroups}
 use Rattle.am_group.specs.Changes.{is_among}
+use Rattle.am_group.specs.Invariant.{IsOrderly}
 use Rattle.am_group.specs.Tables.{AreLive, AreLiveAmong, AreOthers, AreLost}
-use Rattle.am_group.proofs.LostLemmas.{lost_exact}
+use Rattle.am_group.proofs.LostLemmas.{groups_that_go, lost_exact, none_of_length}
 use Rattle.am_group.proofs.groups.Groups.lost.Goals as goal
 
 pub returns-clause-exact : goal.returns-clause-exact
 returns-clause-exact c =
-    let gone = is_among c.args.gone.now in
-    let rows = c.args.self.now.members in
+    let gone = c.args.gone.now in
+    let s = c.args.self.now in
+    let orderly : IsOrderly s = subst (λ (x : PeerGroups). IsOrderly x) c.self.view_is c.self.invariant in
     let left = c.in_ok-left.left.items in
     let still = c.in_ok-still.still.items in
     let lost = c.in_ok-lost.lost.items in
-    let leaving : c.keep_only.new.members.items ≡ filter (λ row. gone row.mount) rows =
-    c.keep_only.ensures ∙
-    ap (filter (λ (row : MemberRow). gone row.mount))
-    (c.in_ok-leaving.ensures.items ∙ c.as_slice.ensures.value ∙ ap (λ (x : PeerGroups). x.members) c.self.view_is) in
-    let are_left =
-    subst (λ (x : List MemberRow). AreLive x left) (c.as_slice-2.ensures.value ∙ leaving) c.in_ok-left.ensures.exact in
-    let are_still =
-    subst (λ (x : List MemberRow). AreLiveAmong left x still) c.requires
-    (subst (λ (x : List ℕ). AreLiveAmong x c.args.kept.now still) c.as_slice-3.ensures.value c.in_ok-still.ensures.exact) in
-    let are_lost =
-    subst (λ (x : List ℕ). AreOthers left x lost) c.as_slice-5.ensures.value
-    (subst (λ (x : List ℕ). AreOthers x c.as_slice-5.result.now lost) c.as_slice-4.ensures.value c.in_ok-lost.ensures.exact) in
-    subst (λ (x : List MemberRow). AreLost rows x lost) (sym c.requires)
-    (lost_exact gone rows left still lost are_left are_still are_lost)
+    let kept = filter (λ row. not (is_among gone row.mount)) s.members in
+    let are_left = groups_that_go s orderly.rising gone left c.in_ok-left.ensures.exact in
+    let are_still : AreLiveAmong left kept still = Prim.search rules in
+    let are_lost : AreOthers left still lost = Prim.search rules in
+    lost_exact (is_among gone) s.members left still lost are_left are_still are_lost
+
+pub returns-then-is_empty-clause-exact : goal.returns-then-is_empty-clause-exact
+returns-then-is_empty-clause-exact c =
+    let gone = c.args.gone.now in
+    let s = c.args.self.now in
+    let left = c.in_ok-left.left.items in
+    let none : left ≡ [] = sym c.as_slice.ensures.value ∙ none_of_length _ (sym c.is_empty.ensures ∙ c.if-is_empty.true) in
+    let orderly : IsOrderly s = subst (λ (x : PeerGroups). IsOrderly x) c.self.view_is c.self.invariant in
+    let are_left = groups_that_go s orderly.rising gone left c.in_ok-left.ensures.exact in
+    let are_none : AreLive (filter (λ row. is_among gone row.mount) s.members) [] =
+        subst (λ (xs : List ℕ). AreLive (filter (λ row. is_among gone row.mount) s.members) xs) none are_left in
+    subst (λ (xs : List ℕ). AreLost s.members (filter (λ row. not (is_among gone row.mount)) s.members) xs) (sym none)
+        (lost_exact (is_among gone) s.members [] [] [] are_none (λ g. refl) (λ g. refl))

@@ -1,7 +1,7 @@
 use Rattle.std.proofs.Common.{ℕ, sym, rules, ◌∙◌}
 use Rattle.std.specs.Prelude.{◌==◌}
 use Rattle.std.proofs.lemmas.List.Sorted.{list_any-IsPermutation, IsNonDecreasingBy-from_sort_by_key}
-use Rattle.am_group.proofs.tables.live_among.Goals as goal
+use Rattle.am_group.proofs.groups.changes.still_live.Goals as goal
 
 pub returns-clause-ordered : goal.returns-clause-ordered
 returns-clause-ordered c =
