@@ -9,6 +9,7 @@ pub mod ScanLemmas
 pub mod AddLemmas
 pub mod CopyLemmas
 pub mod LeaveLemmas
+pub mod SpareLemmas
 pub mod LiftLemmas
 pub mod KindLemmas
 pub mod ClearLemmas

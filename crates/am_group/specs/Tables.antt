@@ -1,6 +1,6 @@
 -- The rows of a change before masters are lifted.
-use Rattle.std.specs.Prelude.{◌≡◌, ◌||◌, ◌&&◌, ℕ, Bool, true, false, not, List, filter}
-use Rattle.std.specs.List.{list_all}
+use Rattle.std.specs.Prelude.{◌≡◌, ◌||◌, ◌&&◌, ◌==◌, ℕ, Bool, true, false, not, List, filter, Option, Some, None}
+use Rattle.std.specs.List.{list_all, list_any}
 use Rattle.am_names.specs.declared.row.MemberRow.{MemberRow}
 use Rattle.am_names.specs.declared.row.GroupRow.{GroupRow}
 use Rattle.am_names.specs.PeerGroups.{PeerGroups}
@@ -10,7 +10,7 @@ use Rattle.am_group.specs.declared.kind.Kind.TheVariants.{Shared, Slave, SharedS
 use Rattle.am_group.specs.declared.kind.Change.{Change}
 use Rattle.am_group.specs.declared.kind.Change.TheVariants.{MakeShared, MakeSlave, MakePrivate, MakeUnbindable}
 use Rattle.am_group.specs.Scan.{is_one_of}
-use Rattle.am_group.specs.Changes.{has_members, is_among, shared_row, slave_row, private_row, unbindable_row}
+use Rattle.am_group.specs.Changes.{is_just, has_members, is_among, shared_row, slave_row, private_row, unbindable_row}
 
 abbrev pub state_of : Tables → PeerGroups
 state_of t = record { members = t.members.items; groups = t.groups.items; last_group = t.last_group }
@@ -52,6 +52,18 @@ without_groups lost s =
 -- the peer group is among the new ones, or isn't among the old
 abbrev pub is_left : List ℕ → List ℕ → ℕ → Bool
 is_left old new g = is_among new g || not (is_among old g)
+
+-- another mount than this one is in the peer group
+abbrev pub is_other_in : ℕ → ℕ → MemberRow → Bool
+is_other_in m g row = is_just g row.group && not (row.mount == m)
+
+abbrev pub has_others_in : PeerGroups → ℕ → Option ℕ → Bool
+has_others_in s m None = true
+has_others_in s m (Some g) = list_any (is_other_in m g) s.members
+
+-- others are in the peer group of the row, if it is in one
+abbrev pub has_others : PeerGroups → MemberRow → Bool
+has_others s row = has_others_in s row.mount row.group
 
 -- what a change makes of a row
 abbrev pub row_of : Change → ℕ → MemberRow → MemberRow

@@ -1,19 +1,21 @@
 //! The changes of a mount's state, and mounts that leave.
 
-ghost use Rattle.std.specs.Prelude.{◌≡◌, ◌==◌, true, not, filter, None, IfOk, OnOk, OnErr};
+ghost use Rattle.std.specs.Prelude.{◌≡◌, ◌==◌, true, not, map, filter, None, IfOk, OnOk, OnErr};
 ghost use Rattle.std.specs.Bool.{OnTrue};
+ghost use Rattle.std.specs.List.{list_any};
 ghost use Rattle.std.specs.List.Sorted.{IsNonDecreasing};
 ghost use Rattle.am_names.specs.Errno.{RefusedAs};
-ghost use Rattle.am_group.specs.Changes.{left, with_row, made_shared, made_slave, made_private, made_unbindable, changed, is_among, with_only, without};
+ghost use Rattle.am_group.specs.Changes.{left, at_row, with_row, made_shared, made_slave, made_private, made_unbindable, changed, is_among, with_only, without};
 ghost use Rattle.am_group.specs.Invariant.{RiseFrom, IsOrderly, IsPeopled, AddsNoReceivers};
 ghost use Rattle.am_group.specs.Kinds.{FollowsTable};
 ghost use Rattle.am_group.specs.Members.{change_refusal};
-ghost use Rattle.am_group.specs.Tables.{state_of, AreLiveAmong, AreLost, is_free_of, row_of, gives_up};
+ghost use Rattle.am_group.specs.Tables.{state_of, AreLiveAmong, AreLost, is_free_of, is_other_in, has_others, row_of, gives_up};
 
 use crate::groups::Groups;
 use crate::kind::{Change, asked, row_as};
 use crate::tables::{
-    Tables, are_groups_free, are_members_free, clear, is_among as is_live, live_groups, without_these,
+    Tables, are_groups_free, are_members_free, clear, is_among as is_live, live_groups,
+    without_these,
 };
 use am_names::{Errno, GroupId, GroupRow, MemberRow, MountId};
 use std::alloc::{AllocError, Global};
@@ -60,6 +62,31 @@ fn leave_each_out(members: &mut Vec<MemberRow>, gone: &[MountId])
     for mount in gone {
         leave_one_out(members, *mount);
     }
+}
+
+/// Writes the row in place of that of the mount, which is found by halves.
+fn write_row(members: &mut Vec<MemberRow>, mount: MountId, row: MemberRow)
+    requires { RiseFrom 0 members.old.items }
+    ensures { members.new.items ≡ map (at_row (λ _. row) mount) members.old.items }
+{
+    let number = mount.0;
+    if let Ok(at) = members.binary_search_by_key(&number, |other| other.mount.0) {
+        members[at] = row;
+    }
+}
+
+/// Whether another mount than this one is in the peer group.
+fn is_other_in(row: &MemberRow, mount: MountId, group: GroupId) -> bool
+    ensures { result ≡ is_other_in mount group row.now }
+{
+    row.group == Some(group) && row.mount != mount
+}
+
+/// Whether one of the rows is of another mount in the peer group.
+fn has_other_in(members: &[MemberRow], mount: MountId, group: GroupId) -> bool
+    ensures { result ≡ list_any (is_other_in mount group) members.now }
+{
+    members.iter().any(|row| is_other_in(row, mount, group))
 }
 
 /// So few mounts are looked for one by one, and of more all rows are gone through.
@@ -147,6 +174,16 @@ impl Groups {
         row_as(asked(change, kind), fresh, row)
     }
 
+    /// Whether there are others in the row's peer group, if it is in one.
+    fn has_others(&self, row: &MemberRow) -> bool
+        ensures { result ≡ has_others self.now row.now }
+    {
+        match row.group {
+            Some(group) => has_other_in(self.members.as_slice(), row.mount, group),
+            None => true,
+        }
+    }
+
     fn with_row(
         &self,
         alloc: Global,
@@ -209,9 +246,13 @@ impl Groups {
         ensures law { IsPeopled self.old → AddsNoReceivers self.old self.new }
         ensures peopled { IsPeopled self.old → IsPeopled self.new }
     {
-        let _members = &self.members;
-        if self.member(mount).is_none() {
+        let Some(row) = self.member(mount) else {
             return Err(Errno::EINVAL);
+        };
+        if self.has_others(&row) {
+            let changed = self.changed_row(change, GroupId(0), row);
+            write_row(&mut self.members, mount, changed);
+            return Ok(());
         }
         let raw = self.with_row(alloc, change, GroupId(0), mount)?;
         self.settle_left(alloc, raw)?;

@@ -35,15 +35,15 @@ invariant_of-self c =
     let orderly = subst (λ (x : PeerGroups). IsOrderly x) c.self.view_is c.self.invariant in
     let free : is_free_of lost s ≡ true = search rules in
     let members : c.leave_out.new.members.items ≡ (with_only (λ m. not (is_among gone m)) s).members =
-        c.leave_out.ensures ∙ ap (λ (x : PeerGroups). (with_only (λ m. not (is_among gone m)) x).members) c.self.view_is in
+    c.leave_out.ensures ∙ ap (λ (x : PeerGroups). (with_only (λ m. not (is_among gone m)) x).members) c.self.view_is in
     let groups : c.drop_groups.new.groups.items ≡ filter (λ row. not (is_among lost row.group)) s.groups =
-        c.drop_groups.ensures ∙
-        ap (λ (xs : List ℕ). filter (λ (row : GroupRow). not (is_among xs row.group)) c.self.inside.groups.items) c.as_slice-then-is_free_of.ensures.value ∙
-        ap (λ (x : PeerGroups). filter (λ (row : GroupRow). not (is_among lost row.group)) x.groups) c.self.view_is in
+    c.drop_groups.ensures ∙
+    ap (λ (xs : List ℕ). filter (λ (row : GroupRow). not (is_among xs row.group)) c.self.inside.groups.items) c.as_slice-then-is_free_of.ensures.value ∙
+    ap (λ (x : PeerGroups). filter (λ (row : GroupRow). not (is_among lost row.group)) x.groups) c.self.view_is in
     let made =
-        same_state (without_groups lost (with_only (λ m. not (is_among gone m)) s)) c.leave_out.new.members.items c.drop_groups.new.groups.items c.self.inside.last_group
-            members groups (ap (λ (x : PeerGroups). x.last_group) c.self.view_is) ∙
-        left_where (is_among gone) s lost c.in_ok-lost.ensures.exact free in
+    same_state (without_groups lost (with_only (λ m. not (is_among gone m)) s)) c.leave_out.new.members.items c.drop_groups.new.groups.items c.self.inside.last_group
+    members groups (ap (λ (x : PeerGroups). x.last_group) c.self.view_is) ∙
+    left_where (is_among gone) s lost c.in_ok-lost.ensures.exact free in
     subst (λ (x : PeerGroups). IsOrderly x) (sym made) (without_orderly (is_among gone) s orderly)
 
 pub returns-then-is_free_of-clause-ok : goal.returns-then-is_free_of-clause-ok
@@ -54,15 +54,15 @@ returns-then-is_free_of-clause-ok c =
     let orderly = subst (λ (x : PeerGroups). IsOrderly x) c.self.view_is c.self.invariant in
     let free : is_free_of lost s ≡ true = search rules in
     let members : c.leave_out.new.members.items ≡ (with_only (λ m. not (is_among gone m)) s).members =
-        c.leave_out.ensures ∙ ap (λ (x : PeerGroups). (with_only (λ m. not (is_among gone m)) x).members) c.self.view_is in
+    c.leave_out.ensures ∙ ap (λ (x : PeerGroups). (with_only (λ m. not (is_among gone m)) x).members) c.self.view_is in
     let groups : c.drop_groups.new.groups.items ≡ filter (λ row. not (is_among lost row.group)) s.groups =
-        c.drop_groups.ensures ∙
-        ap (λ (xs : List ℕ). filter (λ (row : GroupRow). not (is_among xs row.group)) c.self.inside.groups.items) c.as_slice-then-is_free_of.ensures.value ∙
-        ap (λ (x : PeerGroups). filter (λ (row : GroupRow). not (is_among lost row.group)) x.groups) c.self.view_is in
+    c.drop_groups.ensures ∙
+    ap (λ (xs : List ℕ). filter (λ (row : GroupRow). not (is_among xs row.group)) c.self.inside.groups.items) c.as_slice-then-is_free_of.ensures.value ∙
+    ap (λ (x : PeerGroups). filter (λ (row : GroupRow). not (is_among lost row.group)) x.groups) c.self.view_is in
     let made =
-        same_state (without_groups lost (with_only (λ m. not (is_among gone m)) s)) c.leave_out.new.members.items c.drop_groups.new.groups.items c.self.inside.last_group
-            members groups (ap (λ (x : PeerGroups). x.last_group) c.self.view_is) ∙
-        left_where (is_among gone) s lost c.in_ok-lost.ensures.exact free in
+    same_state (without_groups lost (with_only (λ m. not (is_among gone m)) s)) c.leave_out.new.members.items c.drop_groups.new.groups.items c.self.inside.last_group
+    members groups (ap (λ (x : PeerGroups). x.last_group) c.self.view_is) ∙
+    left_where (is_among gone) s lost c.in_ok-lost.ensures.exact free in
     made
 
 pub returns-then-is_free_of-clause-law : goal.returns-then-is_free_of-clause-law
@@ -73,15 +73,15 @@ returns-then-is_free_of-clause-law c = λ peopled.
     let orderly = subst (λ (x : PeerGroups). IsOrderly x) c.self.view_is c.self.invariant in
     let free : is_free_of lost s ≡ true = search rules in
     let members : c.leave_out.new.members.items ≡ (with_only (λ m. not (is_among gone m)) s).members =
-        c.leave_out.ensures ∙ ap (λ (x : PeerGroups). (with_only (λ m. not (is_among gone m)) x).members) c.self.view_is in
+    c.leave_out.ensures ∙ ap (λ (x : PeerGroups). (with_only (λ m. not (is_among gone m)) x).members) c.self.view_is in
     let groups : c.drop_groups.new.groups.items ≡ filter (λ row. not (is_among lost row.group)) s.groups =
-        c.drop_groups.ensures ∙
-        ap (λ (xs : List ℕ). filter (λ (row : GroupRow). not (is_among xs row.group)) c.self.inside.groups.items) c.as_slice-then-is_free_of.ensures.value ∙
-        ap (λ (x : PeerGroups). filter (λ (row : GroupRow). not (is_among lost row.group)) x.groups) c.self.view_is in
+    c.drop_groups.ensures ∙
+    ap (λ (xs : List ℕ). filter (λ (row : GroupRow). not (is_among xs row.group)) c.self.inside.groups.items) c.as_slice-then-is_free_of.ensures.value ∙
+    ap (λ (x : PeerGroups). filter (λ (row : GroupRow). not (is_among lost row.group)) x.groups) c.self.view_is in
     let made =
-        same_state (without_groups lost (with_only (λ m. not (is_among gone m)) s)) c.leave_out.new.members.items c.drop_groups.new.groups.items c.self.inside.last_group
-            members groups (ap (λ (x : PeerGroups). x.last_group) c.self.view_is) ∙
-        left_where (is_among gone) s lost c.in_ok-lost.ensures.exact free in
+    same_state (without_groups lost (with_only (λ m. not (is_among gone m)) s)) c.leave_out.new.members.items c.drop_groups.new.groups.items c.self.inside.last_group
+    members groups (ap (λ (x : PeerGroups). x.last_group) c.self.view_is) ∙
+    left_where (is_among gone) s lost c.in_ok-lost.ensures.exact free in
     subst (λ (x : PeerGroups). AddsNoReceivers s x) (sym made) (without_keeps (is_among gone) s (record { orderly = orderly; peopled = peopled })).law
 
 pub returns-then-is_free_of-clause-peopled : goal.returns-then-is_free_of-clause-peopled
@@ -92,15 +92,15 @@ returns-then-is_free_of-clause-peopled c = λ peopled.
     let orderly = subst (λ (x : PeerGroups). IsOrderly x) c.self.view_is c.self.invariant in
     let free : is_free_of lost s ≡ true = search rules in
     let members : c.leave_out.new.members.items ≡ (with_only (λ m. not (is_among gone m)) s).members =
-        c.leave_out.ensures ∙ ap (λ (x : PeerGroups). (with_only (λ m. not (is_among gone m)) x).members) c.self.view_is in
+    c.leave_out.ensures ∙ ap (λ (x : PeerGroups). (with_only (λ m. not (is_among gone m)) x).members) c.self.view_is in
     let groups : c.drop_groups.new.groups.items ≡ filter (λ row. not (is_among lost row.group)) s.groups =
-        c.drop_groups.ensures ∙
-        ap (λ (xs : List ℕ). filter (λ (row : GroupRow). not (is_among xs row.group)) c.self.inside.groups.items) c.as_slice-then-is_free_of.ensures.value ∙
-        ap (λ (x : PeerGroups). filter (λ (row : GroupRow). not (is_among lost row.group)) x.groups) c.self.view_is in
+    c.drop_groups.ensures ∙
+    ap (λ (xs : List ℕ). filter (λ (row : GroupRow). not (is_among xs row.group)) c.self.inside.groups.items) c.as_slice-then-is_free_of.ensures.value ∙
+    ap (λ (x : PeerGroups). filter (λ (row : GroupRow). not (is_among lost row.group)) x.groups) c.self.view_is in
     let made =
-        same_state (without_groups lost (with_only (λ m. not (is_among gone m)) s)) c.leave_out.new.members.items c.drop_groups.new.groups.items c.self.inside.last_group
-            members groups (ap (λ (x : PeerGroups). x.last_group) c.self.view_is) ∙
-        left_where (is_among gone) s lost c.in_ok-lost.ensures.exact free in
+    same_state (without_groups lost (with_only (λ m. not (is_among gone m)) s)) c.leave_out.new.members.items c.drop_groups.new.groups.items c.self.inside.last_group
+    members groups (ap (λ (x : PeerGroups). x.last_group) c.self.view_is) ∙
+    left_where (is_among gone) s lost c.in_ok-lost.ensures.exact free in
     subst (λ (x : PeerGroups). IsPeopled x) (sym made) (without_keeps (is_among gone) s (record { orderly = orderly; peopled = peopled })).sound.peopled
 
 pub returns-in_err-settle_left-clause-peopled : goal.returns-in_err-settle_left-clause-peopled

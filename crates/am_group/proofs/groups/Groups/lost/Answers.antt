@@ -31,6 +31,6 @@ returns-then-is_empty-clause-exact c =
     let orderly : IsOrderly s = subst (λ (x : PeerGroups). IsOrderly x) c.self.view_is c.self.invariant in
     let are_left = groups_that_go s orderly.rising gone left c.in_ok-left.ensures.exact in
     let are_none : AreLive (filter (λ row. is_among gone row.mount) s.members) [] =
-        subst (λ (xs : List ℕ). AreLive (filter (λ row. is_among gone row.mount) s.members) xs) none are_left in
+    subst (λ (xs : List ℕ). AreLive (filter (λ row. is_among gone row.mount) s.members) xs) none are_left in
     subst (λ (xs : List ℕ). AreLost s.members (filter (λ row. not (is_among gone row.mount)) s.members) xs) (sym none)
-        (lost_exact (is_among gone) s.members [] [] [] are_none (λ g. refl) (λ g. refl))
+    (lost_exact (is_among gone) s.members [] [] [] are_none (λ g. refl) (λ g. refl))
