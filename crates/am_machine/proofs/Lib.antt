@@ -1,4 +1,6 @@
 pub mod TraceRows
+pub mod Tests
+pub mod Tour
 pub mod TraceGrows
 pub mod TraceQuiet
 pub mod TraceInside
@@ -83,8 +85,7 @@ pub mod StandLemmas
 pub mod Runs
 pub mod NameWalks
 pub mod NameRows
-pub mod NameBegins
-pub mod NameEvents
+pub mod Names
 pub mod NameTheorems
 pub mod SafetyLemmas
 pub mod AgreeMounts

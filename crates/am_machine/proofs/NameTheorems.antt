@@ -8,7 +8,7 @@ use Rattle.am_machine.specs.State.{Opening, State, opening_of}
 use Rattle.am_machine.specs.Machine.{Step, Run, after, outcome_of}
 use Rattle.am_machine.specs.Paths.{HasPaths, HavePaths}
 use Rattle.am_machine.specs.Invariant.Walks.{WalksFit}
-use Rattle.am_machine.proofs.NameEvents.{outcome_names}
+use Rattle.am_machine.proofs.Names.Changes.{outcome_names}
 
 pub initial_named : (opening : Opening) → WalksFit (opening_of opening).kernel
 initial_named opening = record { tokens = All-nil _; waits = All-nil _; used = All-nil _; walks = All-nil _; began = All-nil _ }

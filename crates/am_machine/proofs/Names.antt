@@ -1,0 +1,2 @@
+-- All names stay names.
+pub mod Changes

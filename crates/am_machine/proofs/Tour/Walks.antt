@@ -1,0 +1,263 @@
+-- From what walkers do to the changes of the kernel's rows that it comes to.
+use Rattle.std.proofs.Common.{◌≡◌, ℕ, ◌+◌, Bool, true, false, ◌==◌, List, [], ◌∷◌, ◌++◌, Option, Some, None, refl, sym, subst}
+use Rattle.std.specs.Prelude.{nat_le, is_some, is_none, if◌then◌else◌}
+use Rattle.std.specs.List.{All}
+use Rattle.am_names.specs.declared.errno.Errno.{Errno}
+use Rattle.am_names.specs.declared.errno.Errno.TheVariants.{ENOENT}
+use Rattle.am_names.specs.declared.trigger.Trigger.{Trigger}
+use Rattle.am_names.specs.declared.trigger.Status.{Status}
+use Rattle.am_names.specs.declared.trigger.Status.TheVariants.{Ready, Fail}
+use Rattle.am_names.specs.declared.trigger.PipeState.{PipeState}
+use Rattle.am_names.specs.declared.trigger.PipeState.TheVariants.{Room, Full, Gone}
+use Rattle.am_names.specs.declared.row.Position.{Position}
+use Rattle.am_names.specs.declared.row.WaitRow.{WaitRow}
+use Rattle.am_names.specs.declared.row.TokenKind.{TokenKind}
+use Rattle.am_names.specs.declared.row.TokenKind.TheVariants.{Missing, Expire}
+use Rattle.am_state.specs.declared.obs.Obs.{Obs}
+use Rattle.am_state.specs.declared.obs.Obs.TheVariants as seen
+use Rattle.am_wait.specs.Rows.{wait_of}
+use Rattle.am_wait.specs.Calls.{is_exhausted, is_full}
+use Rattle.am_wait.proofs.CallLemmas.{is_none_of}
+use Rattle.am_wait.proofs.FindLemmas.{no_wait_left}
+use Rattle.am_trigger.specs.Rows.{autofs_of}
+use Rattle.am_expire.specs.Uses.{mount_of}
+use Rattle.am_walk.specs.declared.stop.Stop.{Stop}
+use Rattle.am_walk.specs.declared.stop.Stop.TheVariants as stops
+use Rattle.am_walk.specs.Scene.{Scene}
+use Rattle.am_walk.specs.Walks.{walk_of}
+use Rattle.am_walk.specs.Laws.{IsIdle, StopsWell, IsOrderly}
+use Rattle.am_walk.proofs.LawLemmas.{orderly}
+use Rattle.am_kernel.specs.declared.begun.Begin.{Begin}
+use Rattle.am_kernel.specs.declared.begun.Begun.{Begun}
+use Rattle.am_kernel.specs.declared.row.WalkRow.{WalkRow}
+use Rattle.am_kernel.specs.State.{KernelState}
+use Rattle.am_kernel.specs.Outcome.{Outcome, Goes, Fails}
+use Rattle.am_kernel.specs.Sites.{scene_of, attach_of, is_busy}
+use Rattle.am_kernel.specs.Walks as walks
+use Rattle.am_kernel.specs.Walks.{passes, packet_for, closing, closed}
+use Rattle.am_kernel.specs.Resumes as resumes
+use Rattle.am_kernel.specs.Expires as expires
+use Rattle.am_laws.proofs.Bools.{or_no}
+use Rattle.am_laws.proofs.Packets.{nat_is}
+use Rattle.am_machine.proofs.TraceRows.{found_passes}
+
+-- ---- what is known where a change comes
+
+-- the walker waits on nothing, and is inside no mount
+pub record IsFree (k : KernelState) (walker : ℕ) : Type 0 where
+  pub waits : wait_of k.waits.waits walker ≡ None
+  pub uses : mount_of k.uses walker ≡ None
+
+-- a walker that is free walks along its path, passes idle triggers, and stops so
+pub record Walking (Fits : List (List ℕ) → Type 0) (k : KernelState) (begin : Begin) (stop : Stop) (passed : List Trigger) : Type 0 where
+  pub free : IsFree k begin.walker
+  pub path : Fits begin.path
+  pub scene : Scene
+  pub stop_is : (walk_of scene begin.ns begin.path).stop ≡ stop
+  pub passed_is : (walk_of scene begin.ns begin.path).passed ≡ passed
+  pub passes : All (IsIdle k.waits.tokens) passed
+  pub stops : StopsWell k.waits.tokens stop
+
+-- an acknowledged wait of a walker that is inside no mount
+pub record IsGiven (k : KernelState) (wait : WaitRow) (status : Status) : Type 0 where
+  pub waits : wait_of k.waits.waits wait.walker ≡ Some wait
+  pub given : wait.status ≡ Some status
+  pub outside : mount_of k.uses wait.walker ≡ None
+
+-- the trigger of the file system is next to expire, and the walker that asks is free
+pub record Expires (k : KernelState) (walker fs moment : ℕ) (immediate : Bool) (trigger : Trigger) (attach : ℕ) : Type 0 where
+  pub free : IsFree k walker
+  pub current : attach_of k fs ≡ Some attach
+  pub next : expires.next_of k fs moment immediate ≡ Some trigger
+
+-- what is seen of a notice
+abbrev pub noticed : KernelState → ℕ → ℕ → Trigger → TokenKind → List Obs
+noticed k walker attach trigger kind =
+    let token = k.waits.last_token + 1 in
+    seen.Queued token attach (packet_for kind token walker trigger) ∷ seen.Waits walker token ∷ []
+
+-- ---- a relation that keeps the changes
+
+-- From the first state to the second, with what is seen between. Fits is what is known of the paths of
+-- walks.
+pub record Keeps (Fits : List (List ℕ) → Type 0) (P : KernelState → List Obs → KernelState → Type 0) : Type 0 where
+  pub nothing : (k : KernelState) → P k [] k
+  pub arrived : (k : KernelState) (begin : Begin) (at : Position) (passed : List Trigger) → Walking Fits k begin (stops.Arrive at) passed →
+      P k (passes begin.walker passed ++ seen.Entered begin.walker at.mount ∷ []) (walks.arrived begin at.mount passed k)
+  pub joined : (k : KernelState) (begin : Begin) (token : ℕ) (passed : List Trigger) → Walking Fits k begin (stops.Block token) passed →
+      P k (passes begin.walker passed ++ seen.Waits begin.walker token ∷ []) (walks.with_joined begin token passed k)
+  pub notified : (k : KernelState) (begin : Begin) (trigger : Trigger) (attach : ℕ) (passed : List Trigger) → Walking Fits k begin (stops.Missing trigger) passed → attach_of k trigger.fs ≡ Some attach →
+      P k (passes begin.walker passed ++ noticed k begin.walker attach trigger Missing) (walks.with_notified begin trigger attach passed k)
+  pub expiring : (k : KernelState) (walker fs moment : ℕ) (immediate : Bool) (trigger : Trigger) (attach : ℕ) → Expires k walker fs moment immediate trigger attach →
+      P k (noticed k walker attach trigger Expire) (expires.with_expiring walker trigger attach k)
+  pub closed : (k : KernelState) (fs : ℕ) → P k (closing fs k) (closed fs k)
+  -- the wait is collected, and the walker goes on
+  pub collected : (k : KernelState) (kind : TokenKind) (wait : WaitRow) (status : Status) (moment : ℕ) (shown : List Obs) (made : KernelState) → IsGiven k wait status →
+      P (resumes.freed_from kind wait moment k) shown made → P k shown made
+
+abbrev pub GoesBy : (KernelState → List Obs → KernelState → Type 0) → KernelState → Outcome → Type 0
+GoesBy P k (Goes begun shown made) = P k shown made
+GoesBy P k (Fails e) = Unit {0}
+
+-- where the call goes on it goes by the relation
+pub record Leaves (P : KernelState → List Obs → KernelState → Type 0) (k : KernelState) (o : Outcome) : Type 0 where
+  pub well : GoesBy P k o
+
+not_busy : (k : KernelState) (walker : ℕ) → is_busy k walker ≡ false → IsFree k walker
+not_busy k walker h =
+    let both = or_no (is_some (wait_of k.waits.waits walker)) (is_some (mount_of k.uses walker)) h in
+    record { waits = is_none_of (wait_of k.waits.waits walker) both.0; uses = is_none_of (mount_of k.uses walker) both.1 }
+
+-- the walker is free once its wait is collected
+freed_free : (kind : TokenKind) (k : KernelState) (wait : WaitRow) (status : Status) (moment walker : ℕ) → IsGiven k wait status → walker ≡ wait.walker → IsFree (resumes.freed_from kind wait moment k) walker
+freed_free Missing k wait status moment walker g same =
+    subst (λ (w : ℕ). IsFree (resumes.freed_from Missing wait moment k) w) (sym same) (record { waits = no_wait_left wait.walker k.waits.waits; uses = g.outside })
+freed_free Expire k wait status moment walker g same =
+    subst (λ (w : ℕ). IsFree (resumes.freed_from Expire wait moment k) w) (sym same) (record { waits = no_wait_left wait.walker k.waits.waits; uses = g.outside })
+
+-- what it meets then is as before
+orderly_in : (kind : TokenKind) (k : KernelState) (wait : WaitRow) (row : WalkRow) (moment : ℕ) → IsOrderly (resumes.freed_from kind wait moment k).waits.tokens (walk_of (scene_of k) row.ns row.path)
+orderly_in Missing k wait row moment = orderly k.waits.tokens (scene_of k) refl row.ns row.path
+orderly_in Expire k wait row moment = orderly k.waits.tokens (scene_of k) refl row.ns row.path
+
+module _ (Fits : List (List ℕ) → Type 0) (P : KernelState → List Obs → KernelState → Type 0) (keeps : Keeps Fits P) where
+  fails : (k : KernelState) (e : Errno) → Leaves P k (Fails e)
+  fails k e = record { well = tt }
+
+  nothing : (k : KernelState) (begun : Begun) → Leaves P k (Goes begun [] k)
+  nothing k begun = record { well = keeps.nothing k }
+
+  closes : (k : KernelState) (begun : Begun) (fs : ℕ) → Leaves P k (Goes begun (closing fs k) (closed fs k))
+  closes k begun fs = record { well = keeps.closed k fs }
+
+  either : (k : KernelState) (b : Bool) (first second : Outcome) → Leaves P k first → Leaves P k second → Leaves P k (if b then first else second)
+  either k true first second h g = h
+  either k false first second h g = g
+
+  -- the second, where the test fails
+  where_false : (k : KernelState) (b : Bool) (first second : Outcome) → Leaves P k first → (b ≡ false → Leaves P k second) → Leaves P k (if b then first else second)
+  where_false k true first second h g = h
+  where_false k false first second h g = g refl
+
+  -- ---- a walk begins
+
+  notifies_by : (pipe : PipeState) (k : KernelState) (begin : Begin) (trigger : Trigger) (attach : ℕ) (passed : List Trigger) → Walking Fits k begin (stops.Missing trigger) passed → attach_of k trigger.fs ≡ Some attach →
+      Leaves P k (walks.notifies_by pipe k begin trigger attach passed)
+  notifies_by Room k begin trigger attach passed w is = record { well = keeps.notified k begin trigger attach passed w is }
+  notifies_by Full k begin trigger attach passed w is = fails k _
+  notifies_by Gone k begin trigger attach passed w is = closes k _ trigger.fs
+
+  notifies : (attach : Option ℕ) (pipe : PipeState) (k : KernelState) (begin : Begin) (trigger : Trigger) (passed : List Trigger) → Walking Fits k begin (stops.Missing trigger) passed → attach_of k trigger.fs ≡ attach →
+      Leaves P k (walks.notifies attach pipe k begin trigger passed)
+  notifies None pipe k begin trigger passed w is = fails k _
+  notifies (Some attach) pipe k begin trigger passed w is =
+      either k (is_exhausted k.waits) _ _ (fails k _) (either k (is_full k.waits) _ _ (fails k _) (notifies_by pipe k begin trigger attach passed w is))
+
+  begun_by : (stop : Stop) (pipe : PipeState) (k : KernelState) (begin : Begin) (passed : List Trigger) → Walking Fits k begin stop passed → Leaves P k (walks.begun_by stop pipe k begin passed)
+  begun_by (stops.Arrive at) pipe k begin passed w = record { well = keeps.arrived k begin at passed w }
+  begun_by (stops.Block token) pipe k begin passed w = either k (is_full k.waits) _ _ (fails k _) (record { well = keeps.joined k begin token passed w })
+  begun_by (stops.Missing trigger) pipe k begin passed w = notifies (attach_of k trigger.fs) pipe k begin trigger passed w refl
+  begun_by (stops.Refuse e) pipe k begin passed w = fails k e
+
+  -- in a scene whose tokens are the kernel's
+  begun_with : (scene : Scene) (pipe : PipeState) (k : KernelState) (begin : Begin) → IsFree k begin.walker → Fits begin.path → IsOrderly k.waits.tokens (walk_of scene begin.ns begin.path) →
+      Leaves P k (walks.begun_with (walk_of scene begin.ns begin.path) pipe k begin)
+  begun_with scene pipe k begin free path well =
+      let walked = walk_of scene begin.ns begin.path in
+      begun_by walked.stop pipe k begin walked.passed (record { free = free; path = path; scene = scene; stop_is = refl; passed_is = refl; passes = well.passes; stops = well.stops })
+
+  pub walk : (pipe : PipeState) (k : KernelState) (begin : Begin) → Fits begin.path → Leaves P k (walks.walk_at pipe k begin)
+  walk pipe k begin path =
+      where_false k (is_busy k begin.walker) _ _ (fails k _)
+      (λ idle. begun_with (scene_of k) pipe k begin (not_busy k begin.walker idle) path (orderly k.waits.tokens (scene_of k) refl begin.ns begin.path))
+
+  -- ---- an expiry is asked for
+
+  expires_by : (pipe : PipeState) (k : KernelState) (walker fs moment : ℕ) (immediate : Bool) (trigger : Trigger) (attach : ℕ) → Expires k walker fs moment immediate trigger attach → Leaves P k (expires.expires_by pipe k walker trigger attach)
+  expires_by Room k walker fs moment immediate trigger attach x = record { well = keeps.expiring k walker fs moment immediate trigger attach x }
+  expires_by Full k walker fs moment immediate trigger attach x = fails k _
+  expires_by Gone k walker fs moment immediate trigger attach x = closes k _ trigger.fs
+
+  expires_next : (next : Option Trigger) (pipe : PipeState) (k : KernelState) (walker fs moment : ℕ) (immediate : Bool) (attach : ℕ) → IsFree k walker → attach_of k fs ≡ Some attach → expires.next_of k fs moment immediate ≡ next →
+      Leaves P k (expires.expires_next next pipe k walker attach)
+  expires_next None pipe k walker fs moment immediate attach free is e = fails k _
+  expires_next (Some trigger) pipe k walker fs moment immediate attach free is e =
+      either k (is_exhausted k.waits) _ _ (fails k _)
+      (either k (is_full k.waits) _ _ (fails k _) (expires_by pipe k walker fs moment immediate trigger attach (record { free = free; current = is; next = e })))
+
+  expires_under : (attach : Option ℕ) (pipe : PipeState) (k : KernelState) (walker fs moment : ℕ) (immediate : Bool) → IsFree k walker → attach_of k fs ≡ attach →
+      Leaves P k (expires.expires_under attach pipe k walker (expires.next_of k fs moment immediate))
+  expires_under None pipe k walker fs moment immediate free is = fails k _
+  expires_under (Some attach) pipe k walker fs moment immediate free is = expires_next (expires.next_of k fs moment immediate) pipe k walker fs moment immediate attach free is refl
+
+  pub expire : (pipe : PipeState) (k : KernelState) (walker fs moment : ℕ) (immediate : Bool) → Leaves P k (expires.expire_at pipe k walker fs moment immediate)
+  expire pipe k walker fs moment immediate =
+      either k (is_none (autofs_of k.triggers fs)) _ _ (fails k _)
+      (where_false k (is_busy k walker) _ _ (fails k _) (λ idle. expires_under (attach_of k fs) pipe k walker fs moment immediate (not_busy k walker idle) refl))
+
+  -- ---- a walker goes on
+
+  or_failed : (o : Outcome) (k : KernelState) → Leaves P k o → Leaves P k (resumes.or_failed o k)
+  or_failed (Goes begun shown made) k h = h
+  or_failed (Fails e) k h = nothing k _
+
+  after : (o : Outcome) (k : KernelState) (kind : TokenKind) (wait : WaitRow) (status : Status) (moment : ℕ) → IsGiven k wait status → Leaves P (resumes.freed_from kind wait moment k) o → Leaves P k o
+  after (Goes begun shown made) k kind wait status moment g h = record { well = keeps.collected k kind wait status moment shown made g h.well }
+  after (Fails e) k kind wait status moment g h = fails k e
+
+  again : (kind : TokenKind) (pipe : PipeState) (k : KernelState) (wait : WaitRow) (status : Status) (row : WalkRow) (moment : ℕ) → IsGiven k wait status → row.walker ≡ wait.walker → Fits row.path →
+      Leaves P k (resumes.again pipe k (resumes.freed_from kind wait moment k) row moment)
+  again kind pipe k wait status row moment g same path =
+      let base = resumes.freed_from kind wait moment k in
+      let begin = resumes.next_begin row moment in
+      after (resumes.again pipe k base row moment) k kind wait status moment g
+      (either base (nat_le resumes.most_begins row.begins) _ _ (nothing base _)
+      (or_failed (walks.begun_with (walk_of (scene_of k) row.ns row.path) pipe base begin) base
+      (begun_with (scene_of k) pipe base begin (freed_free kind k wait status moment row.walker g same) path (orderly_in kind k wait row moment))))
+
+  resumed_as : (kind : TokenKind) (status : Status) (pipe : PipeState) (k : KernelState) (wait : WaitRow) (row : WalkRow) (moment : ℕ) → IsGiven k wait status → row.walker ≡ wait.walker → Fits row.path →
+      Leaves P k (resumes.resumed_as kind status pipe k wait row moment)
+  resumed_as Missing Fail pipe k wait row moment g same path = after (resumes.failed ENOENT (resumes.freed_from Missing wait moment k)) k Missing wait Fail moment g (nothing _ _)
+  resumed_as Missing Ready pipe k wait row moment g same path = again Missing pipe k wait Ready row moment g same path
+  resumed_as Expire status pipe k wait row moment g same path = again Expire pipe k wait status row moment g same path
+
+  expired_as : (status : Status) (k : KernelState) → Leaves P k (resumes.expired_as status k)
+  expired_as Ready k = nothing k _
+  expired_as Fail k = nothing k _
+
+  told_as : (kind : TokenKind) (status : Status) (k : KernelState) (wait : WaitRow) (moment : ℕ) → IsGiven k wait status → Leaves P k (resumes.told_as kind status k wait moment)
+  told_as Missing status k wait moment g = fails k _
+  told_as Expire status k wait moment g =
+      let base = resumes.freed_from Expire wait moment k in
+      after (resumes.expired_as status base) k Expire wait status moment g (expired_as status base)
+
+  -- what is known of the paths of the walks that wait
+  abbrev FitWalks : KernelState → Type 0
+  FitWalks k = (walker : ℕ) (row : WalkRow) → resumes.walk_in k.walks walker ≡ Some row → Fits row.path
+
+  resumed_walk : (row : Option WalkRow) (status : Status) (pipe : PipeState) (k : KernelState) (wait : WaitRow) (moment : ℕ) → FitWalks k → IsGiven k wait status → resumes.walk_in k.walks wait.walker ≡ row →
+      Leaves P k (resumes.resumed_walk row status pipe k wait moment)
+  resumed_walk None status pipe k wait moment paths g e = told_as wait.kind status k wait moment g
+  resumed_walk (Some row) status pipe k wait moment paths g e =
+      resumed_as wait.kind status pipe k wait row moment g (nat_is row.walker wait.walker (found_passes (λ (r : WalkRow). r.walker == wait.walker) k.walks row e)) (paths wait.walker row e)
+
+  resumed_by : (status : Option Status) (pipe : PipeState) (k : KernelState) (wait : WaitRow) (moment : ℕ) → FitWalks k → wait.status ≡ status → wait_of k.waits.waits wait.walker ≡ Some wait → mount_of k.uses wait.walker ≡ None →
+      Leaves P k (resumes.resumed_by status pipe k wait moment)
+  resumed_by None pipe k wait moment paths given is outside = fails k _
+  resumed_by (Some status) pipe k wait moment paths given is outside =
+      resumed_walk (resumes.walk_in k.walks wait.walker) status pipe k wait moment paths (record { waits = is; given = given; outside = outside }) refl
+
+  resumed_at : (wait : Option WaitRow) (pipe : PipeState) (k : KernelState) (walker moment : ℕ) → FitWalks k → wait_of k.waits.waits walker ≡ wait → mount_of k.uses walker ≡ None → Leaves P k (resumes.resumed_at wait pipe k moment)
+  resumed_at None pipe k walker moment paths e outside = fails k _
+  resumed_at (Some wait) pipe k walker moment paths e outside =
+      let same = sym (nat_is wait.walker walker (found_passes (λ (r : WaitRow). r.walker == walker) k.waits.waits wait e)) in
+      resumed_by wait.status pipe k wait moment paths refl (subst (λ (w : ℕ). wait_of k.waits.waits w ≡ Some wait) same e) (subst (λ (w : ℕ). mount_of k.uses w ≡ None) same outside)
+
+  pub resume : (pipe : PipeState) (k : KernelState) (walker moment : ℕ) → FitWalks k → Leaves P k (resumes.resume_at pipe k walker moment)
+  resume pipe k walker moment paths =
+      where_false k (is_some (mount_of k.uses walker)) _ _ (fails k _)
+      (λ outside. resumed_at (wait_of k.waits.waits walker) pipe k walker moment paths refl (is_none_of (mount_of k.uses walker) outside))
+
+-- where nothing is asked of paths
+abbrev pub AnyPath : List (List ℕ) → Type 0
+AnyPath path = Unit {0}
