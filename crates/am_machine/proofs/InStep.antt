@@ -40,7 +40,7 @@ use Rattle.am_machine.specs.Invariant.Consistent.{IsConsistent}
 use Rattle.am_machine.specs.InStep.{AreInStep, RefusesInStep}
 use Rattle.am_machine.proofs.TokenLists.{all_found, yes_no}
 use Rattle.am_machine.proofs.KnownRows.{any_found, autofs_is, held_is}
-use Rattle.am_machine.proofs.PlaceEvents.{else_none, not_false}
+use Rattle.am_machine.proofs.Tests.{else_none, not_false}
 use Rattle.am_machine.proofs.TokenClose.{dev_of}
 use Rattle.am_machine.proofs.TokenNames.{reads}
 use Rattle.am_machine.proofs.BookJobs.{holds_one}

@@ -24,9 +24,10 @@ use Rattle.am_machine.proofs.TraceEvents as from
 use Rattle.am_machine.proofs.TraceActs as acts
 use Rattle.am_machine.proofs.TokenAgree.{Agreed}
 use Rattle.am_machine.proofs.TokenTheorems.{initial_given, initial_tokens, initial_planned, outcome_agreed}
-use Rattle.am_machine.proofs.PlaceLemmas.{initial_places, outcome_places}
-use Rattle.am_machine.proofs.BookLemmas.{initial_book, outcome_book}
-use Rattle.am_machine.proofs.StandLemmas.{initial_stands, outcome_stands}
+use Rattle.am_machine.proofs.Places.Initial.{initial_places}
+use Rattle.am_machine.proofs.Places.Changes.{outcome_places}
+use Rattle.am_machine.proofs.Books.Changes.{initial_book, outcome_book}
+use Rattle.am_machine.proofs.Stands.Changes.{initial_stands, outcome_stands}
 
 -- ---- every event
 

@@ -9,7 +9,7 @@ use Rattle.am_machine.specs.Machine.{Step, after, outcome_of}
 use Rattle.am_machine.specs.Invariant.Places.{PlacesAgree}
 use Rattle.am_machine.specs.StepLaws.{StepsAreLawful, AddsNoReceivers, StepsAddNoReceivers, RunsGoOn}
 use Rattle.am_machine.proofs.Runs.{run_more}
-use Rattle.am_machine.proofs.PlaceLemmas.{outcome_receivers}
+use Rattle.am_machine.proofs.Places.Changes.{outcome_receivers}
 use Rattle.am_machine.proofs.SafetyLemmas.{step_lawful, initial_consistent, run_consistent}
 
 pub steps_lawful : StepsAreLawful

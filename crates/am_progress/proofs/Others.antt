@@ -52,7 +52,7 @@ use Rattle.am_machine.proofs.HeldRows.{other_way, held_others}
 use Rattle.am_machine.proofs.GivenActs.{attach_given}
 use Rattle.am_machine.proofs.GivenSites.{pipe_grows, attached_grows, timeout_grows}
 use Rattle.am_machine.proofs.TokenStays.{still}
-use Rattle.am_machine.proofs.PlaceEvents.{else_none}
+use Rattle.am_machine.proofs.Tests.{else_none}
 use Rattle.am_progress.specs.Others.{is_act_of, JobsStay, ends, ServesOn, ServiceLasts}
 use Rattle.am_progress.proofs.Found.{live_of}
 use Rattle.am_progress.proofs.Ends as walkers

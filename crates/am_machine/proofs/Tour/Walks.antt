@@ -258,6 +258,21 @@ module _ (Fits : List (List ℕ) → Type 0) (P : KernelState → List Obs → K
       where_false k (is_some (mount_of k.uses walker)) _ _ (fails k _)
       (λ outside. resumed_at (wait_of k.waits.waits walker) pipe k walker moment paths refl (is_none_of (mount_of k.uses walker) outside))
 
+-- two relations at once
+abbrev pub Both : (KernelState → List Obs → KernelState → Type 0) → (KernelState → List Obs → KernelState → Type 0) → KernelState → List Obs → KernelState → Type 0
+Both P Q k shown made = P k shown made × Q k shown made
+
+pub both : (Fits : List (List ℕ) → Type 0) (P Q : KernelState → List Obs → KernelState → Type 0) → Keeps Fits P → Keeps Fits Q → Keeps Fits (Both P Q)
+both Fits P Q p q = record {
+  nothing = λ k. (p.nothing k, q.nothing k);
+  arrived = λ k begin at passed w. (p.arrived k begin at passed w, q.arrived k begin at passed w);
+  joined = λ k begin token passed w. (p.joined k begin token passed w, q.joined k begin token passed w);
+  notified = λ k begin trigger attach passed w is. (p.notified k begin trigger attach passed w is, q.notified k begin trigger attach passed w is);
+  expiring = λ k walker fs moment immediate trigger attach x. (p.expiring k walker fs moment immediate trigger attach x, q.expiring k walker fs moment immediate trigger attach x);
+  closed = λ k fs. (p.closed k fs, q.closed k fs);
+  collected = λ k kind wait status moment shown made g later. (p.collected k kind wait status moment shown made g later.0, q.collected k kind wait status moment shown made g later.1);
+}
+
 -- where nothing is asked of paths
 abbrev pub AnyPath : List (List ℕ) → Type 0
 AnyPath path = Unit {0}

@@ -1,61 +1,17 @@
--- Every world keeps the agreement on places, and no step adds receivers.
+-- Kernel and triggers agree on places in the initial world.
 use Rattle.std.proofs.Common.{◌≡◌, ℕ, ◌==◌, Bool, true, false, cond, [], ◌∷◌, Some, None, refl, sym, ◌∙◌, ap, inl, inr, arith}
 use Rattle.std.proofs.lemmas.Bool.{eqb-true}
 use Rattle.am_names.specs.declared.row.MountRow.{MountRow}
 use Rattle.am_names.specs.PeerGroups.{PeerGroups}
 use Rattle.am_group.specs.declared.membership.Membership.TheVariants.{Private}
-use Rattle.am_group.specs.Invariant.{IsGroup, IsMaster, IsSound, AddsNoReceivers}
+use Rattle.am_group.specs.Invariant.{IsGroup, IsMaster, IsSound}
 use Rattle.am_group.specs.Members.{no_mounts, row_with, with_member}
 use Rattle.am_group.proofs.MemberLemmas.{member_keeps}
 use Rattle.am_mount.specs.Rows.{mount_row, IsOn}
 use Rattle.am_propagate.specs.MountTable.{opening}
 use Rattle.am_propagate.specs.Invariant.{IsWhole}
-use Rattle.am_kernel.specs.Walks.{first_begin}
-use Rattle.am_machine.specs.declared.event.Event.{Event}
-use Rattle.am_machine.specs.declared.event.Event.TheVariants as events
-use Rattle.am_machine.specs.State.{Opening, State, opening_of}
-use Rattle.am_kernel.specs.Outcome.{moment_of}
-use Rattle.am_machine.specs.Machine.{after, outcome_of}
+use Rattle.am_machine.specs.State.{Opening, opening_of}
 use Rattle.am_machine.specs.Invariant.Places.{PlacesAgree}
-use Rattle.am_machine.proofs.Quiet as quiet
-use Rattle.am_machine.proofs.PlaceEvents as from
-use Rattle.am_machine.proofs.PlaceEvents.{Holds, walks}
-use Rattle.am_machine.proofs.PlaceActs as acts
-
--- ---- every event
-
-pub outcome_holds : (s : State) (event : Event) → Holds s (outcome_of s event)
-outcome_holds s (events.Attach path) = from.attach s path
-outcome_holds s (events.Mount ns path) = from.mount s ns path
-outcome_holds s (events.Bind ns source target) = from.bind s ns source target
-outcome_holds s (events.Umount ns path) = from.umount s ns path
-outcome_holds s (events.Change ns path change) = from.change_mount s ns path change
-outcome_holds s (events.Kind ns path) = from.kind s ns path
-outcome_holds s (events.CopyNamespace ns form) = from.copy_namespace s ns form
-outcome_holds s (events.DropNamespace ns) = from.drop_namespace s ns
-outcome_holds s (events.Walk walker ns path now pipe) = walks _ s (moment_of s.kernel now) (quiet.walk pipe s.kernel (first_begin walker ns path (moment_of s.kernel now)))
-outcome_holds s (events.Resume walker now pipe) = walks _ s (moment_of s.kernel now) (quiet.resume pipe s.kernel walker (moment_of s.kernel now))
-outcome_holds s (events.Leave walker) = acts.leave s walker
-outcome_holds s (events.Expire walker fs now immediate pipe) = walks _ s (moment_of s.kernel now) (quiet.expire pipe s.kernel walker fs (moment_of s.kernel now) immediate)
-outcome_holds s (events.Deliver token bytes) = acts.deliver s token bytes
-outcome_holds s (events.Act job ok) = acts.act_job s job ok
-outcome_holds s (events.Repeat attach token status) = acts.repeat s attach token
-outcome_holds s (events.Catatonic attach fs) = acts.catatonic s attach fs
-outcome_holds s (events.AdminCatatonic fs) = acts.admin_catatonic s fs
-outcome_holds s (events.Timeout attach fs timeout) = acts.set_timeout s attach fs timeout
-outcome_holds s events.Die = acts.die s
-outcome_holds s (events.Reattach fs) = acts.reattach s fs
-outcome_holds s (events.Record trigger) = acts.read_record s trigger
-
--- an outcome leaves the agreement on places
-pub outcome_places : (s : State) (event : Event) → PlacesAgree s.kernel → PlacesAgree (after s (outcome_of s event)).kernel
-outcome_places s event h = ((outcome_holds s event).holds h).places
-
--- no mount receives more
-pub outcome_receivers : (s : State) (event : Event) → PlacesAgree s.kernel → AddsNoReceivers s.kernel.table.groups (after s (outcome_of s event)).kernel.table.groups
-outcome_receivers s event h = ((outcome_holds s event).holds h).law
-
--- ---- the initial world
 
 no_mounts_sound : IsSound no_mounts
 no_mounts_sound = record {

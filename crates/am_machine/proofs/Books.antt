@@ -1,0 +1,2 @@
+-- The daemon's book stays right.
+pub mod Changes

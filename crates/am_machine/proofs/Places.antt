@@ -1,0 +1,3 @@
+-- Kernel and triggers go on agreeing on places.
+pub mod Changes
+pub mod Initial
