@@ -13,11 +13,7 @@ pub mod TraceCatatonic
 pub mod TraceDeliver
 pub mod TraceLawful
 pub mod TraceAdds
-pub mod TraceBegins
-pub mod TraceResumes
-pub mod TraceFollows
-pub mod TraceEvents
-pub mod TraceActs
+pub mod Traces
 pub mod TokenLists
 pub mod KnownRows
 pub mod GivenSites
@@ -33,12 +29,7 @@ pub mod GivenPlans
 pub mod GivenRows
 pub mod GivenActs
 pub mod RecordTokens
-pub mod TokenAgree
-pub mod TokenBegins
-pub mod TokenResumes
-pub mod TokenEvents
-pub mod TokenSteps
-pub mod TokenTheorems
+pub mod Tokens
 pub mod GivenCurrent
 pub mod BookFound
 pub mod SiteKeeps

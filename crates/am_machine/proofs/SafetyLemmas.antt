@@ -17,42 +17,14 @@ use Rattle.am_machine.specs.Invariant.Consistent.{IsTraced, HalvesAgree, IsConsi
 use Rattle.am_machine.specs.StepLaws.{IsLawful}
 use Rattle.am_machine.specs.Safety.{RunsAreLawful}
 use Rattle.am_kernel.specs.Walks.{first_begin}
-use Rattle.am_machine.proofs.TraceBegins as begins
-use Rattle.am_machine.proofs.TraceResumes as resumes
-use Rattle.am_machine.proofs.TraceFollows.{Follows, goes_on}
-use Rattle.am_machine.proofs.TraceEvents as from
-use Rattle.am_machine.proofs.TraceActs as acts
-use Rattle.am_machine.proofs.TokenAgree.{Agreed}
-use Rattle.am_machine.proofs.TokenTheorems.{initial_given, initial_tokens, initial_planned, outcome_agreed}
+use Rattle.am_machine.proofs.Traces.Changes.{outcome_follows}
+use Rattle.am_machine.proofs.Tokens.Agreed.{Agreed}
+use Rattle.am_machine.proofs.Tokens.Initial.{initial_given, initial_tokens, initial_planned}
+use Rattle.am_machine.proofs.Tokens.Changes.{outcome_agreed}
 use Rattle.am_machine.proofs.Places.Initial.{initial_places}
 use Rattle.am_machine.proofs.Places.Changes.{outcome_places}
 use Rattle.am_machine.proofs.Books.Changes.{initial_book, outcome_book}
 use Rattle.am_machine.proofs.Stands.Changes.{initial_stands, outcome_stands}
-
--- ---- every event
-
-pub outcome_follows : (s : State) (event : Event) → Follows s (outcome_of s event)
-outcome_follows s (events.Attach path) = from.attach s path
-outcome_follows s (events.Mount ns path) = from.mount s ns path
-outcome_follows s (events.Bind ns source target) = from.bind s ns source target
-outcome_follows s (events.Umount ns path) = from.umount s ns path
-outcome_follows s (events.Change ns path change) = from.change_mount s ns path change
-outcome_follows s (events.Kind ns path) = from.kind s ns path
-outcome_follows s (events.CopyNamespace ns form) = from.copy_namespace s ns form
-outcome_follows s (events.DropNamespace ns) = from.drop_namespace s ns
-outcome_follows s (events.Walk walker ns path now pipe) = goes_on _ s (moment_of s.kernel now) (begins.walk pipe s.kernel (first_begin walker ns path (moment_of s.kernel now)))
-outcome_follows s (events.Resume walker now pipe) = goes_on _ s (moment_of s.kernel now) (resumes.resume pipe s.kernel walker (moment_of s.kernel now))
-outcome_follows s (events.Leave walker) = from.leave s walker
-outcome_follows s (events.Expire walker fs now immediate pipe) = goes_on _ s (moment_of s.kernel now) (begins.expire pipe s.kernel walker fs (moment_of s.kernel now) immediate)
-outcome_follows s (events.Deliver token bytes) = acts.deliver s token bytes
-outcome_follows s (events.Act job ok) = acts.act_job s job ok
-outcome_follows s (events.Repeat attach token status) = from.repeat s attach token
-outcome_follows s (events.Catatonic attach fs) = from.catatonic s attach fs
-outcome_follows s (events.AdminCatatonic fs) = from.admin_catatonic s fs
-outcome_follows s (events.Timeout attach fs timeout) = from.set_timeout s attach fs timeout
-outcome_follows s events.Die = from.die s
-outcome_follows s (events.Reattach fs) = from.reattach s fs
-outcome_follows s (events.Record trigger) = from.read_record s trigger
 
 -- ---- steps
 

@@ -3,7 +3,6 @@ use Rattle.std.proofs.Common.{◌≡◌, ℕ, ◌≤◌, ◌==◌, Bool, true, f
 use Rattle.std.specs.Prelude.{find, Result, Ok, Err, if◌then◌else◌}
 use Rattle.std.specs.Option.{option_map}
 use Rattle.std.specs.List.{All}
-use Rattle.am_names.specs.declared.errno.Errno.{Errno}
 use Rattle.am_names.specs.declared.row.OpenToken.{OpenToken}
 use Rattle.am_names.specs.declared.row.Position.{Position}
 use Rattle.am_wait.specs.Rows.{token_of}
@@ -15,8 +14,6 @@ use Rattle.am_kernel.specs.Sites.{is_live_row, latest_attach, from_position}
 use Rattle.am_kernel.specs.Walks.{closed}
 use Rattle.am_daemon.specs.State.{DaemonState, JobPlan}
 use Rattle.am_machine.specs.State.{State}
-use Rattle.am_machine.specs.Outcome.{Outcome, refused, unless}
-use Rattle.am_machine.specs.Events.Walkers.{goes}
 use Rattle.am_machine.specs.Invariant.Attachments.{AreGiven}
 use Rattle.am_machine.specs.Invariant.Tokens.{TokensAgree}
 use Rattle.am_machine.specs.Invariant.Planned.{ArePlanned}
@@ -33,40 +30,9 @@ pub record Agreed (k : KernelState) (d : DaemonState) : Type 0 where
   pub planned : ArePlanned d.jobs
   pub records : AreOfTheirTokens k.waits d.book
 
--- the outcome keeps it
-pub record Keeps (s : State) (o : Outcome) : Type 0 where
-  pub keeps : AreNumbered s.kernel.waits.tokens s.kernel.waits.last_token s.daemon.jobs → Agreed s.kernel s.daemon → Agreed o.state.kernel o.state.daemon
-
 -- a change of the kernel alone keeps it
 pub record Holds (k made : KernelState) : Type 0 where
   pub holds : (d : DaemonState) → AreNumbered k.waits.tokens k.waits.last_token d.jobs → Agreed k d → Agreed made d
-
-abbrev pub GoesWell : KernelState → kernel.Outcome → Type 0
-GoesWell k (kernel.Goes begun shown made) = Holds k made
-GoesWell k (kernel.Fails e) = Unit {0}
-
-pub record Begins (k : KernelState) (o : kernel.Outcome) : Type 0 where
-  pub well : GoesWell k o
-
--- ---- outcomes that come to nothing
-
-pub refuses : (s : State) (e : Errno) → Keeps s (refused s e)
-refuses s e = record { keeps = λ n h. h }
-
-pub either : (s : State) (b : Bool) (first second : Outcome) → Keeps s first → Keeps s second → Keeps s (if b then first else second)
-either s true first second h g = h
-either s false first second h g = g
-
-pub unless_refused : (e : Option Errno) (s : State) (done : Outcome) → (e ≡ None → Keeps s done) → Keeps s (unless e s done)
-unless_refused (Some e) s done h = refuses s e
-unless_refused None s done h = h refl
-
-pub fails : (k : KernelState) (e : Errno) → Begins k (kernel.Fails e)
-fails k e = record { well = tt }
-
-pub either_begins : (k : KernelState) (b : Bool) (first second : kernel.Outcome) → Begins k first → Begins k second → Begins k (if b then first else second)
-either_begins k true first second h g = h
-either_begins k false first second h g = g
 
 -- ---- changes of the kernel that concern no token, packet or attachment
 
@@ -81,10 +47,6 @@ pub record IsQuiet (k made : KernelState) : Type 0 where
 
 pub quiet_itself : (k : KernelState) → IsQuiet k k
 quiet_itself k = record { tokens = refl; last_token = refl; queue = refl; attached = refl; autofs = refl; last_attach = refl; more_fs = omega arith }
-
-pub from_quiet : (at : Result Position Errno) (k : KernelState) (change : Position → KernelState) → ((at : Position) → IsQuiet k (change at)) → IsQuiet k (from_position at k change)
-from_quiet (Err e) k change h = quiet_itself k
-from_quiet (Ok at) k change h = h at
 
 pub old_jobs : (k : KernelState) (d : DaemonState) → AreGiven k d → All (λ (row : JobPlan). row.attach ≤ k.last_attach) d.jobs
 old_jobs k d h = λ i x lt. (h.jobs i x lt).0
@@ -110,16 +72,9 @@ quiet_agreed k made d q h = record {
 pub quiet_holds : (k made : KernelState) → IsQuiet k made → Holds k made
 quiet_holds k made q = record { holds = λ d n h. quiet_agreed k made d q h }
 
--- ---- what the kernel makes of a walk
-
-quiet_latest : (k : KernelState) (moment : ℕ) → IsQuiet k (kernel.with_latest moment k)
+-- the latest moment is none of it
+pub quiet_latest : (k : KernelState) (moment : ℕ) → IsQuiet k (kernel.with_latest moment k)
 quiet_latest k moment = record { tokens = refl; last_token = refl; queue = refl; attached = refl; autofs = refl; last_attach = refl; more_fs = omega arith }
-
-pub goes_on : (o : kernel.Outcome) (s : State) (moment : ℕ) → Begins s.kernel o → Keeps s (goes (kernel.at_moment moment o) s)
-goes_on (kernel.Goes begun shown made) s moment b = record {
-  keeps = λ n h. quiet_agreed made (kernel.with_latest moment made) s.daemon (quiet_latest made moment) (b.well.holds s.daemon n h);
-}
-goes_on (kernel.Fails e) s moment b = refuses s e
 
 -- ---- a file system closes
 

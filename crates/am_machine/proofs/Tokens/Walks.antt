@@ -1,43 +1,42 @@
--- A walk that begins, and an expiry, keep what kernel and daemon agree on.
-use Rattle.std.proofs.Common.{◌≡◌, ℕ, ◌+◌, Bool, true, false, not, ◌&&◌, ◌==◌, List, [], ◌∷◌, Option, Some, None, refl, ap, subst, ◌∙◌, inl, arith}
-use Rattle.std.specs.Prelude.{is_some, is_none, find}
+-- What walkers do keeps what kernel and daemon agree on.
+use Rattle.std.proofs.Common.{◌≡◌, ℕ, ◌+◌, Bool, true, false, not, ◌&&◌, ◌==◌, List, [], ◌∷◌, Option, Some, None, refl, ap, subst, ◌∙◌, inl, arith, sym}
+use Rattle.std.specs.Prelude.{is_some, is_none, find, nat_le}
 use Rattle.std.specs.Option.{option_map}
 use Rattle.std.proofs.lemmas.List.Elements.{filter_passes}
 use Rattle.am_names.specs.Trigger.{same_trigger}
 use Rattle.am_names.specs.declared.trigger.Trigger.{Trigger}
-use Rattle.am_names.specs.declared.trigger.PipeState.{PipeState}
-use Rattle.am_names.specs.declared.trigger.PipeState.TheVariants.{Room, Full, Gone}
-use Rattle.am_names.specs.declared.row.Position.{Position}
 use Rattle.am_names.specs.declared.row.OpenToken.{OpenToken}
 use Rattle.am_names.specs.declared.row.TokenKind.{TokenKind}
 use Rattle.am_names.specs.declared.row.TokenKind.TheVariants.{Missing, Expire}
 use Rattle.am_state.specs.declared.kernel_row.QueuedRow.{QueuedRow}
-use Rattle.am_trigger.specs.Rows.{autofs_of}
-use Rattle.am_wait.specs.Rows.{WaitRows, token_of, is_open_on, same_kind, open_on}
+use Rattle.am_wait.specs.Rows.{WaitRows, token_of, is_open_on, same_kind, open_on, wait_of}
 use Rattle.am_wait.specs.Calls.{is_exhausted, is_full, joined_on}
 use Rattle.am_wait.proofs.CallLemmas.{is_none_of}
 use Rattle.am_wait.proofs.FindLemmas.{joined_if, token_joined}
 use Rattle.am_expire.specs.Pick.{Expiry, is_due, is_open, may_go, mount_on, is_eligible, candidates, is_first, pick_of}
-use Rattle.am_walk.specs.declared.stop.Stop.{Stop}
-use Rattle.am_walk.specs.declared.stop.Stop.TheVariants as stops
-use Rattle.am_walk.specs.Walks.{Walked, walk_of}
 use Rattle.am_walk.specs.Laws.{IsIdle, StopsWell, IsOrderly}
-use Rattle.am_walk.proofs.LawLemmas.{orderly}
 use Rattle.am_kernel.specs.declared.begun.Begin.{Begin}
 use Rattle.am_kernel.specs.State.{KernelState}
-use Rattle.am_kernel.specs.Sites.{scene_of, attach_of, is_busy}
 use Rattle.am_kernel.specs.Walks as walks
 use Rattle.am_kernel.specs.Walks.{packet_for}
 use Rattle.am_kernel.specs.Expires as expires
 use Rattle.am_laws.proofs.Bools.{and_both, or_no}
 use Rattle.am_laws.proofs.Packets.{nat_is}
 use Rattle.am_machine.proofs.GivenRows.{given_more}
-use Rattle.am_machine.proofs.TraceBegins.{packet_asks}
 use Rattle.am_machine.proofs.TokenLists.{all_found, found_none}
 use Rattle.am_machine.proofs.TokenStays.{bare, stays_agree}
-use Rattle.am_machine.proofs.TokenNotify.{notices_agree}
+use Rattle.am_machine.proofs.TokenNotify.{notices_agree, AreNumbered}
 use Rattle.am_machine.proofs.RecordTokens.{later_records, stays_later, opened_later}
-use Rattle.am_machine.proofs.TokenAgree.{Holds, Begins, fails, either_begins, old_jobs, quiet_holds, closes}
+use Rattle.am_names.specs.declared.row.WaitRow.{WaitRow}
+use Rattle.am_expire.specs.Uses.{mount_of}
+use Rattle.am_kernel.specs.Resumes as resumes
+use Rattle.am_names.specs.declared.row.WaitRow.{WaitRow}
+use Rattle.am_kernel.specs.Sites.{attach_of}
+use Rattle.am_state.specs.declared.obs.Obs.{Obs}
+use Rattle.am_machine.proofs.Traces.Walks.{packet_asks}
+use Rattle.am_machine.proofs.Tokens.Agreed.{Agreed, Holds, IsQuiet, quiet_itself, quiet_holds, old_jobs, closes}
+use Rattle.am_machine.proofs.Tour.Walks as tour
+use Rattle.am_machine.proofs.Tour.Walks.{AnyPath}
 
 -- ---- no token is open on an idle trigger
 
@@ -62,7 +61,7 @@ either_kind : (tokens : List OpenToken) (trigger : Trigger) (kind : TokenKind) �
 either_kind tokens trigger Missing idle = idle.1
 either_kind tokens trigger Expire idle = idle.0
 
-pub idle_differs : (tokens : List OpenToken) (trigger : Trigger) (t : ℕ) (row : OpenToken) → IsIdle tokens trigger → token_of tokens t ≡ Some row → same_trigger row.trigger trigger ≡ false
+idle_differs : (tokens : List OpenToken) (trigger : Trigger) (t : ℕ) (row : OpenToken) → IsIdle tokens trigger → token_of tokens t ≡ Some row → same_trigger row.trigger trigger ≡ false
 idle_differs tokens trigger t row idle e = other_trigger tokens trigger t row (either_kind tokens trigger row.kind idle) e
 
 -- ---- a walker joins
@@ -146,37 +145,6 @@ expiring_holds k walker trigger attach is idle = record {
       };
 }
 
-notifies_by : (pipe : PipeState) (k : KernelState) (begin : Begin) (trigger : Trigger) (attach : ℕ) (passed : List Trigger) → attach_of k trigger.fs ≡ Some attach → IsIdle k.waits.tokens trigger → Begins k (walks.notifies_by pipe k begin trigger attach passed)
-notifies_by Room k begin trigger attach passed is idle = record { well = notified_holds k begin trigger attach passed is idle }
-notifies_by Full k begin trigger attach passed is idle = fails k _
-notifies_by Gone k begin trigger attach passed is idle = record { well = closes k trigger.fs }
-
-notifies : (attach : Option ℕ) (pipe : PipeState) (k : KernelState) (begin : Begin) (trigger : Trigger) (passed : List Trigger) → attach_of k trigger.fs ≡ attach → IsIdle k.waits.tokens trigger → Begins k (walks.notifies attach pipe k begin trigger passed)
-notifies None pipe k begin trigger passed is idle = fails k _
-notifies (Some attach) pipe k begin trigger passed is idle =
-    either_begins k (is_exhausted k.waits) _ _ (fails k _)
-    (either_begins k (is_full k.waits) _ _ (fails k _) (notifies_by pipe k begin trigger attach passed is idle))
-
--- ---- a walk begins
-
-arrives : (k : KernelState) (begin : Begin) (at : Position) (passed : List Trigger) → Begins k (walks.arrives k begin at passed)
-arrives k begin at passed = record {
-  well = quiet_holds k (walks.arrived begin at.mount passed k) (record { tokens = refl; last_token = refl; queue = refl; attached = refl; autofs = refl; last_attach = refl; more_fs = omega arith });
-}
-
-begun_by : (stop : Stop) (pipe : PipeState) (k : KernelState) (begin : Begin) (passed : List Trigger) → StopsWell k.waits.tokens stop → Begins k (walks.begun_by stop pipe k begin passed)
-begun_by (stops.Arrive at) pipe k begin passed h = arrives k begin at passed
-begun_by (stops.Block token) pipe k begin passed h = either_begins k (is_full k.waits) _ _ (fails k _) (record { well = joined_holds k begin token passed })
-begun_by (stops.Missing trigger) pipe k begin passed h = notifies (attach_of k trigger.fs) pipe k begin trigger passed refl h
-begun_by (stops.Refuse e) pipe k begin passed h = fails k e
-
-pub begun_with : (walked : Walked) (pipe : PipeState) (k : KernelState) (begin : Begin) → IsOrderly k.waits.tokens walked → Begins k (walks.begun_with walked pipe k begin)
-begun_with walked pipe k begin h = begun_by walked.stop pipe k begin walked.passed h.stops
-
-pub walk : (pipe : PipeState) (k : KernelState) (begin : Begin) → Begins k (walks.walk_at pipe k begin)
-walk pipe k begin =
-    either_begins k (is_busy k begin.walker) _ _ (fails k _) (begun_with (walk_of (scene_of k) begin.ns begin.path) pipe k begin (orderly k.waits.tokens (scene_of k) refl begin.ns begin.path))
-
 -- ---- an expiry
 
 not_false : (b : Bool) → not b ≡ true → b ≡ false
@@ -205,27 +173,37 @@ picked_by e trigger (Some row) is h =
     let same : row.0 ≡ trigger = cc in
     subst (IsPicked e) same (eligible e row may)
 
-pub picked : (e : Expiry) (trigger : Trigger) → pick_of e ≡ Some trigger → IsPicked e trigger
+picked : (e : Expiry) (trigger : Trigger) → pick_of e ≡ Some trigger → IsPicked e trigger
 picked e trigger h = picked_by e trigger (find (is_first (candidates e)) (candidates e)) refl h
 
-expires_by : (pipe : PipeState) (k : KernelState) (walker : ℕ) (trigger : Trigger) (attach : ℕ) → attach_of k trigger.fs ≡ Some attach → IsIdle k.waits.tokens trigger → Begins k (expires.expires_by pipe k walker trigger attach)
-expires_by Room k walker trigger attach is idle = record { well = expiring_holds k walker trigger attach is idle }
-expires_by Full k walker trigger attach is idle = fails k _
-expires_by Gone k walker trigger attach is idle = record { well = closes k trigger.fs }
+-- ---- a wait is collected
 
-expires_next : (next : Option Trigger) (pipe : PipeState) (k : KernelState) (walker attach fs : ℕ) → attach_of k fs ≡ Some attach → ((trigger : Trigger) → next ≡ Some trigger → (trigger.fs ≡ fs) × IsIdle k.waits.tokens trigger) → Begins k (expires.expires_next next pipe k walker attach)
-expires_next None pipe k walker attach fs is h = fails k _
-expires_next (Some trigger) pipe k walker attach fs is h =
-    let pick = h trigger refl in
-    either_begins k (is_exhausted k.waits) _ _ (fails k _)
-    (either_begins k (is_full k.waits) _ _ (fails k _) (expires_by pipe k walker trigger attach (ap (attach_of k) pick.0 ∙ is) pick.1))
+freed : (kind : TokenKind) (k : KernelState) (wait : WaitRow) (moment : ℕ) → IsQuiet k (resumes.freed_from kind wait moment k)
+freed Missing k wait moment = record { tokens = refl; last_token = refl; queue = refl; attached = refl; autofs = refl; last_attach = refl; more_fs = omega arith }
+freed Expire k wait moment = record { tokens = refl; last_token = refl; queue = refl; attached = refl; autofs = refl; last_attach = refl; more_fs = omega arith }
 
-expires_under : (attach : Option ℕ) (pipe : PipeState) (k : KernelState) (walker fs : ℕ) (next : Option Trigger) → attach_of k fs ≡ attach → ((trigger : Trigger) → next ≡ Some trigger → (trigger.fs ≡ fs) × IsIdle k.waits.tokens trigger) → Begins k (expires.expires_under attach pipe k walker next)
-expires_under None pipe k walker fs next is h = fails k _
-expires_under (Some attach) pipe k walker fs next is h = expires_next next pipe k walker attach fs is h
+after : (k base made : KernelState) → IsQuiet k base → Holds base made → Holds k made
+after k base made q h = record {
+  holds = λ d n agreed.
+      let rise = subst (λ (last : ℕ). AreNumbered base.waits.tokens last d.jobs) (sym q.last_token) (subst (λ (tokens : List OpenToken). AreNumbered tokens k.waits.last_token d.jobs) (sym q.tokens) n) in
+      h.holds d rise ((quiet_holds k base q).holds d n agreed);
+}
 
-pub expire : (pipe : PipeState) (k : KernelState) (walker fs moment : ℕ) (immediate : Bool) → Begins k (expires.expire_at pipe k walker fs moment immediate)
-expire pipe k walker fs moment immediate =
-    either_begins k (is_none (autofs_of k.triggers fs)) _ _ (fails k _)
-    (either_begins k (is_busy k walker) _ _ (fails k _)
-    (expires_under (attach_of k fs) pipe k walker fs (expires.next_of k fs moment immediate) refl (λ trigger e. picked (expires.expiry_of k fs moment immediate) trigger e)))
+-- ---- all that walkers do
+
+abbrev pub HoldsBy : KernelState → List Obs → KernelState → Type 0
+HoldsBy k shown made = Holds k made
+
+pub holds : tour.Keeps AnyPath HoldsBy
+holds = record {
+  nothing = λ k. quiet_holds k k (quiet_itself k);
+  arrived = λ k begin at passed w.
+      quiet_holds k (walks.arrived begin at.mount passed k) (record { tokens = refl; last_token = refl; queue = refl; attached = refl; autofs = refl; last_attach = refl; more_fs = omega arith });
+  joined = λ k begin token passed w. joined_holds k begin token passed;
+  notified = λ k begin trigger attach passed w is. notified_holds k begin trigger attach passed is w.stops;
+  expiring = λ k walker fs moment immediate trigger attach x.
+      let pick = picked (expires.expiry_of k fs moment immediate) trigger x.next in
+      expiring_holds k walker trigger attach (ap (attach_of k) pick.0 ∙ x.current) pick.1;
+  closed = closes;
+  collected = λ k kind wait status moment shown made g later. after k (resumes.freed_from kind wait moment k) made (freed kind k wait moment) later;
+}
