@@ -7,16 +7,13 @@ use Rattle.am_wait.proofs.AgreeLemmas.{new_sound}
 use Rattle.am_laws.proofs.Append.{lawful_append}
 use Rattle.am_laws.proofs.Decided.{lawful_from_test}
 use Rattle.am_machine.specs.declared.event.Event.{Event}
-use Rattle.am_machine.specs.declared.event.Event.TheVariants as events
 use Rattle.am_machine.specs.declared.answer.Answer.{Answer}
 use Rattle.am_machine.specs.State.{Opening, State, opening_of}
-use Rattle.am_kernel.specs.Outcome.{moment_of}
 use Rattle.am_machine.specs.Machine.{Step, Run, after, outcome_of}
 use Rattle.am_machine.specs.Invariant.Traces.{rows_in, FitsTrace, PacketFits}
 use Rattle.am_machine.specs.Invariant.Consistent.{IsTraced, HalvesAgree, IsConsistent}
 use Rattle.am_machine.specs.StepLaws.{IsLawful}
 use Rattle.am_machine.specs.Safety.{RunsAreLawful}
-use Rattle.am_kernel.specs.Walks.{first_begin}
 use Rattle.am_machine.proofs.Traces.Changes.{outcome_follows}
 use Rattle.am_machine.proofs.Tokens.Agreed.{Agreed}
 use Rattle.am_machine.proofs.Tokens.Initial.{initial_given, initial_tokens, initial_planned}

@@ -1,5 +1,5 @@
 -- Each change leaves the daemon's book right, and so does each event.
-use Rattle.std.proofs.Common.{◌≡◌, ◌∙◌, ℕ, ◌+◌, ◌≤◌, ◌==◌, List, map, Some, None, refl, ap, subst, arith}
+use Rattle.std.proofs.Common.{◌≡◌, ◌∙◌, ℕ, ◌≤◌, ◌==◌, List, map, Some, None, refl, ap, arith}
 use Rattle.std.proofs.lemmas.List.Elements.{All-nil}
 use Rattle.am_names.specs.declared.row.TokenKind.{TokenKind}
 use Rattle.am_names.specs.declared.row.TokenKind.TheVariants.{Missing, Expire}
@@ -9,12 +9,11 @@ use Rattle.am_state.specs.declared.obs.Obs.{Obs}
 use Rattle.am_kernel.specs.State.{KernelState}
 use Rattle.am_kernel.specs.Outcome.{with_latest}
 use Rattle.am_kernel.specs.Sites.{attach_of}
-use Rattle.am_kernel.specs.DaemonMounts.{attached_at}
 use Rattle.am_kernel.specs.Requests.{without_packet}
 use Rattle.am_kernel.specs.Resumes as resumes
 use Rattle.am_job.specs.declared.act.Outcome as job
 use Rattle.am_job.specs.Plans.{next_of}
-use Rattle.am_daemon.specs.State.{DaemonState, JobPlan}
+use Rattle.am_daemon.specs.State.{JobPlan}
 use Rattle.am_daemon.specs.Points.{line_timeout}
 use Rattle.am_daemon.specs.Deliveries.{job_of, taken_up}
 use Rattle.am_daemon.specs.Acts.{writes, finished}

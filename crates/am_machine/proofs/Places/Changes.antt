@@ -1,9 +1,8 @@
 -- Each change keeps the agreement on places and the law of receivers, and so does each event.
 use Rattle.std.proofs.Common.{◌≡◌, ◌≢◌, ◌≤◌, ℕ, ◌+◌, ◌||◌, ◌&&◌, ◌==◌, Bool, true, false, not, List, [], ◌∷◌, Option, Some, None, refl, sym, ◌∙◌, ap, subst, inl, inr, ⊎_elim, arith}
-use Rattle.std.specs.Prelude.{is_some, is_none, Ok, IfNone, IfSome, if◌then◌else◌}
+use Rattle.std.specs.Prelude.{is_some, is_none, Ok, IfNone, IfSome}
 use Rattle.std.specs.List.{list_any}
 use Rattle.std.proofs.lemmas.Bool.{eq-eqb, eqb-true, or_cases, and_parts}
-use Rattle.am_names.specs.declared.errno.Errno.{Errno}
 use Rattle.am_names.specs.declared.row.Position.{Position}
 use Rattle.am_names.specs.declared.row.TokenKind.{TokenKind}
 use Rattle.am_names.specs.declared.row.TokenKind.TheVariants.{Missing, Expire}

@@ -1,16 +1,14 @@
 -- Each change leaves right what the daemon knows of the mounts, and so does each event.
-use Rattle.std.proofs.Common.{◌≡◌, ◌≢◌, ◌≤◌, ℕ, ◌+◌, ◌||◌, ◌==◌, Bool, true, false, not, List, [], ◌∷◌, map, Option, Some, None, refl, sym, ap, subst, ◌∙◌, inl, inr, arith}
-use Rattle.std.specs.Prelude.{is_some, is_none, Ok, if◌then◌else◌}
+use Rattle.std.proofs.Common.{◌≡◌, ◌≢◌, ℕ, ◌+◌, ◌||◌, ◌==◌, Bool, true, false, not, List, [], ◌∷◌, map, Option, Some, None, refl, sym, ap, subst, ◌∙◌, inl, inr, arith}
+use Rattle.std.specs.Prelude.{is_some, is_none, Ok}
 use Rattle.std.proofs.lemmas.Bool.{eq-eqb}
 use Rattle.am_names.specs.Trigger.{same_trigger}
-use Rattle.am_names.specs.declared.errno.Errno.{Errno}
 use Rattle.am_names.specs.declared.row.Position.{Position}
 use Rattle.am_names.specs.declared.trigger.Trigger.{Trigger}
 use Rattle.am_map.specs.EntryText.{EntryText}
 use Rattle.am_state.specs.declared.kernel_row.QueuedRow.{QueuedRow}
 use Rattle.am_state.specs.declared.obs.Obs.{Obs}
 use Rattle.am_state.specs.declared.obs.Obs.TheVariants as seen
-use Rattle.am_group.specs.declared.kind.Change.{Change}
 use Rattle.am_group.specs.declared.membership.Membership.TheVariants.{Private}
 use Rattle.am_mount.specs.Rows.{mount_row, IsFree}
 use Rattle.am_propagate.specs.Added as added
@@ -22,7 +20,7 @@ use Rattle.am_trigger.specs.Sites.{place_of}
 use Rattle.am_kernel.specs.State.{KernelState}
 use Rattle.am_kernel.specs.Outcome.{with_latest}
 use Rattle.am_kernel.specs.Sites.{attach_of, is_current, is_on_autofs, position_at, or_else, root_refusal, fs_refusal, attach_refusal}
-use Rattle.am_kernel.specs.Administration.{mount_tests, source_refusal, bind_tests, bound_at, is_parent_on_autofs, is_any_on_autofs, is_daemons, site_refusal, umount_tests, gone_at, changed_at}
+use Rattle.am_kernel.specs.Administration.{mount_tests, source_refusal, bind_tests, bound_at, is_parent_on_autofs, is_any_on_autofs, is_daemons, site_refusal, umount_tests, gone_at}
 use Rattle.am_kernel.specs.DaemonMounts.{coming, new_fs_refusal, with_mount, attach_tests, attached_at, is_there, location_of, mounted_on, mount_on_refusal, with_mount_on, gone_with, without_mounts}
 use Rattle.am_kernel.specs.Attachments.{with_pipe}
 use Rattle.am_kernel.specs.Requests.{without_packet}
@@ -30,7 +28,6 @@ use Rattle.am_job.specs.declared.act.Act.{Act}
 use Rattle.am_job.specs.declared.act.Act.TheVariants as act
 use Rattle.am_job.specs.declared.act.Outcome as job
 use Rattle.am_job.specs.declared.act.Outcome.TheVariants as came
-use Rattle.am_job.specs.Plans.{next_of}
 use Rattle.am_daemon.specs.State.{JobPlan}
 use Rattle.am_daemon.specs.Points.{line_timeout}
 use Rattle.am_daemon.specs.Attachments.{with_attachment}
@@ -50,10 +47,8 @@ use Rattle.am_machine.specs.Invariant.Stands.{StandsAgree, OnTriggers}
 use Rattle.am_machine.proofs.Tests.{else_none, first_none, others_none, not_false, none_of}
 use Rattle.am_machine.proofs.GivenCurrent.{attach_from_current}
 use Rattle.am_machine.proofs.SiteKeeps.{Keeps, keeps_all, keeps_latest}
-use Rattle.am_machine.proofs.PlaceLeft.{removed_shrinks}
 use Rattle.am_machine.proofs.PlaceInside.{position_inside}
 use Rattle.am_machine.proofs.BookNarrows.{Narrows, same_attachments, stays, narrows_latest, timeout_narrows, closed_narrows}
-use Rattle.am_machine.proofs.BookActs.{IsJob}
 use Rattle.am_machine.proofs.BookDeliver.{may_take}
 use Rattle.am_machine.proofs.StandKeeps.{Knows, Still, kept_still, attached_autofs, stands_still, on_still}
 use Rattle.am_machine.proofs.StandTops.{none_there}

@@ -1,19 +1,17 @@
 -- What kernel and daemon agree on, and changes that concern none of it.
-use Rattle.std.proofs.Common.{◌≡◌, ℕ, ◌≤◌, ◌==◌, Bool, true, false, List, Option, Some, None, refl, ap, ◌∙◌, inl, arith}
-use Rattle.std.specs.Prelude.{find, Result, Ok, Err, if◌then◌else◌}
+use Rattle.std.proofs.Common.{◌≡◌, ℕ, ◌≤◌, ◌==◌, List, Option, None, refl, ap, ◌∙◌, inl, arith}
+use Rattle.std.specs.Prelude.{find, if◌then◌else◌}
 use Rattle.std.specs.Option.{option_map}
 use Rattle.std.specs.List.{All}
 use Rattle.am_names.specs.declared.row.OpenToken.{OpenToken}
-use Rattle.am_names.specs.declared.row.Position.{Position}
 use Rattle.am_wait.specs.Rows.{token_of}
 use Rattle.am_trigger.specs.declared.autofs.Autofs.{Autofs}
 use Rattle.am_kernel.specs.declared.row.Attached.{Attached}
 use Rattle.am_kernel.specs.State.{KernelState}
 use Rattle.am_kernel.specs.Outcome as kernel
-use Rattle.am_kernel.specs.Sites.{is_live_row, latest_attach, from_position}
+use Rattle.am_kernel.specs.Sites.{is_live_row, latest_attach}
 use Rattle.am_kernel.specs.Walks.{closed}
 use Rattle.am_daemon.specs.State.{DaemonState, JobPlan}
-use Rattle.am_machine.specs.State.{State}
 use Rattle.am_machine.specs.Invariant.Attachments.{AreGiven}
 use Rattle.am_machine.specs.Invariant.Tokens.{TokensAgree}
 use Rattle.am_machine.specs.Invariant.Planned.{ArePlanned}

@@ -1,17 +1,16 @@
 -- Each change keeps what kernel and daemon agree on, and so does each event.
-use Rattle.std.proofs.Common.{◌≡◌, ℕ, ◌+◌, Bool, true, false, List, [], Option, Some, None, refl, arith, not, ◌==◌, sym, subst, ◌∷◌, ap}
-use Rattle.std.specs.Prelude.{◌==◌, not, is_some, Result, Ok, Err, if◌then◌else◌}
+use Rattle.std.proofs.Common.{◌≡◌, ℕ, ◌+◌, Bool, false, List, [], Some, refl, arith, not, ◌==◌, ◌∷◌, ap}
+use Rattle.std.specs.Prelude.{◌==◌, not, is_some}
 use Rattle.std.proofs.lemmas.List.Elements.{All-nil, All-filter, All-push}
-use Rattle.am_names.specs.declared.trigger.Trigger.{Trigger}
 use Rattle.am_trigger.specs.declared.autofs.Autofs.{Autofs}
 use Rattle.am_trigger.specs.Rows.{autofs_of}
 use Rattle.am_state.specs.declared.obs.Obs.{Obs}
 use Rattle.am_kernel.specs.State.{KernelState}
-use Rattle.am_kernel.specs.Requests.{without_use, timeout_refusal, with_timeout, queued_of, answer_refusal, acknowledged}
+use Rattle.am_kernel.specs.Requests.{with_timeout, acknowledged}
 use Rattle.am_state.specs.declared.daemon_row.RecordRow.{RecordRow}
 use Rattle.am_job.specs.Book.{without_fs}
 use Rattle.am_daemon.specs.State.{DaemonState, JobPlan}
-use Rattle.am_machine.specs.State.{State, Opening, opening_of}
+use Rattle.am_machine.specs.State.{State}
 use Rattle.am_machine.specs.Invariant.Records.{IsOfItsToken}
 use Rattle.am_machine.proofs.GivenSites.{attached_grows, pipe_grows, timeout_grows}
 use Rattle.am_machine.proofs.GivenRows.{given_attached, given_reattached, given_timeout, given_more}
@@ -20,18 +19,16 @@ use Rattle.am_machine.proofs.RecordTokens.{mounted_fits, later_records, answered
 use Rattle.am_names.specs.declared.trigger.Status.{Status}
 use Rattle.am_wire.specs.Kind.{token_kind}
 use Rattle.am_state.specs.declared.kernel_row.QueuedRow.{QueuedRow}
-use Rattle.am_state.specs.declared.daemon_row.Record.{Record}
 use Rattle.am_job.specs.declared.act.Act.{Act}
 use Rattle.am_job.specs.declared.act.Act.TheVariants as act
 use Rattle.am_job.specs.declared.act.Outcome as job
 use Rattle.am_job.specs.declared.act.Outcome.TheVariants as came
-use Rattle.am_job.specs.Plans.{next_of}
 use Rattle.am_job.proofs.PlanLemmas.{plan_acknowledges, plan_lawful}
 use Rattle.am_daemon.specs.Packets.{trigger_of, mounted_for}
-use Rattle.am_daemon.specs.Deliveries.{job_of, job_for}
+use Rattle.am_daemon.specs.Deliveries.{job_for}
 use Rattle.am_machine.specs.Events.Deliveries as deliveries
-use Rattle.am_machine.specs.Invariant.Tokens.{IsInPipe, TokensAgree}
-use Rattle.am_machine.specs.Invariant.Planned.{IsPlanned, ArePlanned}
+use Rattle.am_machine.specs.Invariant.Tokens.{IsInPipe}
+use Rattle.am_machine.specs.Invariant.Planned.{IsPlanned}
 use Rattle.am_machine.proofs.GivenActs.{given_taken, given_finished}
 use Rattle.am_machine.proofs.PlanRests.{plan_rest}
 use Rattle.am_machine.proofs.GivenPlans.{acknowledges, goes_after, ends_after, finished_planned}
@@ -40,7 +37,6 @@ use Rattle.am_machine.proofs.TokenDeliver.{taken_agree}
 use Rattle.am_machine.proofs.TokenActs.{goes_agree, ends_agree}
 use Rattle.am_machine.specs.declared.event.Event.{Event}
 use Rattle.am_machine.specs.Machine.{after, outcome_of}
-use Rattle.am_machine.specs.Invariant.Attachments.{AreGiven}
 use Rattle.am_machine.specs.Invariant.Consistent.{IsTraced}
 use Rattle.am_machine.proofs.TokenNotify.{AreNumbered, numbered}
 use Rattle.am_names.specs.declared.row.Position.{Position}

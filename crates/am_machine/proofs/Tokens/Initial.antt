@@ -1,5 +1,4 @@
 -- Kernel and daemon agree on numbers, tokens and plans in the initial world.
-use Rattle.am_kernel.specs.Walks.{first_begin}
 use Rattle.std.proofs.lemmas.List.Elements.{All-nil}
 use Rattle.am_machine.specs.State.{Opening, opening_of}
 use Rattle.am_machine.specs.Invariant.Attachments.{AreGiven}

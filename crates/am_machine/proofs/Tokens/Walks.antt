@@ -1,6 +1,6 @@
 -- What walkers do keeps what kernel and daemon agree on.
 use Rattle.std.proofs.Common.{◌≡◌, ℕ, ◌+◌, Bool, true, false, not, ◌&&◌, ◌==◌, List, [], ◌∷◌, Option, Some, None, refl, ap, subst, ◌∙◌, inl, arith, sym}
-use Rattle.std.specs.Prelude.{is_some, is_none, find, nat_le}
+use Rattle.std.specs.Prelude.{is_some, find}
 use Rattle.std.specs.Option.{option_map}
 use Rattle.std.proofs.lemmas.List.Elements.{filter_passes}
 use Rattle.am_names.specs.Trigger.{same_trigger}
@@ -9,12 +9,12 @@ use Rattle.am_names.specs.declared.row.OpenToken.{OpenToken}
 use Rattle.am_names.specs.declared.row.TokenKind.{TokenKind}
 use Rattle.am_names.specs.declared.row.TokenKind.TheVariants.{Missing, Expire}
 use Rattle.am_state.specs.declared.kernel_row.QueuedRow.{QueuedRow}
-use Rattle.am_wait.specs.Rows.{WaitRows, token_of, is_open_on, same_kind, open_on, wait_of}
-use Rattle.am_wait.specs.Calls.{is_exhausted, is_full, joined_on}
+use Rattle.am_wait.specs.Rows.{WaitRows, token_of, is_open_on, same_kind, open_on}
+use Rattle.am_wait.specs.Calls.{joined_on}
 use Rattle.am_wait.proofs.CallLemmas.{is_none_of}
 use Rattle.am_wait.proofs.FindLemmas.{joined_if, token_joined}
 use Rattle.am_expire.specs.Pick.{Expiry, is_due, is_open, may_go, mount_on, is_eligible, candidates, is_first, pick_of}
-use Rattle.am_walk.specs.Laws.{IsIdle, StopsWell, IsOrderly}
+use Rattle.am_walk.specs.Laws.{IsIdle}
 use Rattle.am_kernel.specs.declared.begun.Begin.{Begin}
 use Rattle.am_kernel.specs.State.{KernelState}
 use Rattle.am_kernel.specs.Walks as walks
@@ -28,13 +28,12 @@ use Rattle.am_machine.proofs.TokenStays.{bare, stays_agree}
 use Rattle.am_machine.proofs.TokenNotify.{notices_agree, AreNumbered}
 use Rattle.am_machine.proofs.RecordTokens.{later_records, stays_later, opened_later}
 use Rattle.am_names.specs.declared.row.WaitRow.{WaitRow}
-use Rattle.am_expire.specs.Uses.{mount_of}
 use Rattle.am_kernel.specs.Resumes as resumes
 use Rattle.am_names.specs.declared.row.WaitRow.{WaitRow}
 use Rattle.am_kernel.specs.Sites.{attach_of}
 use Rattle.am_state.specs.declared.obs.Obs.{Obs}
 use Rattle.am_machine.proofs.Traces.Walks.{packet_asks}
-use Rattle.am_machine.proofs.Tokens.Agreed.{Agreed, Holds, IsQuiet, quiet_itself, quiet_holds, old_jobs, closes}
+use Rattle.am_machine.proofs.Tokens.Agreed.{Holds, IsQuiet, quiet_itself, quiet_holds, old_jobs, closes}
 use Rattle.am_machine.proofs.Tour.Walks as tour
 use Rattle.am_machine.proofs.Tour.Walks.{AnyPath}
 

@@ -22,7 +22,7 @@ use Rattle.am_propagate.specs.Removed.{drop_refusal, mounts_in}
 use Rattle.am_trigger.specs.declared.autofs.Autofs.{Autofs}
 use Rattle.am_trigger.specs.Rows.{autofs_of}
 use Rattle.am_wait.specs.Rows.{token_of}
-use Rattle.am_expire.specs.Uses.{is_used, mount_of, leave_refusal}
+use Rattle.am_expire.specs.Uses.{is_used, mount_of}
 use Rattle.am_kernel.specs.declared.row.WalkRow.{WalkRow}
 use Rattle.am_kernel.specs.State.{KernelState}
 use Rattle.am_kernel.specs.Outcome as kernel
@@ -57,7 +57,7 @@ use Rattle.am_machine.specs.declared.event.Event.TheVariants as events
 use Rattle.am_machine.specs.declared.answer.Answer.{Answer}
 use Rattle.am_machine.specs.declared.answer.Answer.TheVariants as answers
 use Rattle.am_machine.specs.State.{State}
-use Rattle.am_machine.specs.Outcome.{Outcome, refused, unless, with_kernel, told}
+use Rattle.am_machine.specs.Outcome.{Outcome, refused, unless, with_kernel}
 use Rattle.am_machine.specs.Machine.{outcome_of}
 use Rattle.am_machine.specs.Events.Administration as administration
 use Rattle.am_machine.specs.Events.Walkers.{goes}
@@ -67,7 +67,7 @@ use Rattle.am_machine.specs.Events.Acts as acts
 use Rattle.am_machine.proofs.TraceRows.{some_is, found_passes}
 use Rattle.am_machine.proofs.GivenPlans.{acknowledges}
 use Rattle.am_machine.proofs.StandJobs.{MovesNothing}
-use Rattle.am_machine.proofs.Tests.{else_none, first_none, not_false, none_of}
+use Rattle.am_machine.proofs.Tests.{else_none, first_none, not_false}
 use Rattle.am_machine.proofs.Tour.Walks as walks
 
 -- ---- what is known where a change comes

@@ -1,20 +1,19 @@
 -- What is seen of each change is lawful after a trace that fits the rows, and so is what is seen of each
 -- event.
 use Rattle.std.proofs.Common.{◌≡◌, ℕ, ◌≤◌, Bool, true, false, List, [], ◌∷◌, Option, Some, None, refl, sym, ap, subst, arith, ◌+◌, ◌++◌}
-use Rattle.std.specs.Prelude.{Result, Ok, Err, if◌then◌else◌, ◌==◌, not, is_some, length}
+use Rattle.std.specs.Prelude.{Ok, if◌then◌else◌, ◌==◌, not, is_some}
 use Rattle.std.specs.List.{count_by, list_any}
 use Rattle.am_names.specs.declared.errno.Errno.{Errno}
 use Rattle.am_names.specs.declared.limits.Limits.{Limits}
 use Rattle.am_names.specs.declared.row.Position.{Position}
 use Rattle.am_state.specs.declared.obs.Obs.{Obs}
 use Rattle.am_state.specs.declared.obs.Obs.TheVariants as seen
-use Rattle.am_expire.specs.Uses.{is_used, mount_of}
+use Rattle.am_expire.specs.Uses.{is_used}
 use Rattle.am_kernel.specs.State.{KernelState}
-use Rattle.am_kernel.specs.Sites.{from_position, is_live, position_at, tested, or_else, root_refusal, fs_of_attach, is_current}
+use Rattle.am_kernel.specs.Sites.{root_refusal}
 use Rattle.am_daemon.specs.State.{JobPlan}
 use Rattle.am_laws.specs.OneObservation.{is_queued}
 use Rattle.am_machine.specs.State.{Opening, State, limits_in, opening_in}
-use Rattle.am_machine.specs.Events.Walkers.{goes}
 use Rattle.am_machine.specs.Invariant.Traces.{Rows, rows_of, rows_in, FitsTrace}
 use Rattle.am_machine.proofs.TraceQuiet.{quiet_fits}
 use Rattle.am_machine.proofs.TraceLawful.{unmount_lawful, delivery_lawful, answer_lawful}
@@ -22,14 +21,12 @@ use Rattle.am_machine.proofs.TraceAdds.{Adds, IsPlain, adds_plain, at_most_one, 
 use Rattle.am_names.specs.declared.errno.Errno.TheVariants.{EINVAL, EBUSY, ENOENT}
 use Rattle.am_names.specs.declared.trigger.Trigger.{Trigger}
 use Rattle.am_propagate.specs.MountTable.{MountTable, is_mount, mountpoint_of}
-use Rattle.am_propagate.specs.Added.{new_mounts}
 use Rattle.am_propagate.specs.Removed.{is_bare, unmounted, umount_refusal, is_namespace, drop_refusal, mounts_in}
 use Rattle.am_wait.specs.Rows.{token_of, waiters_in, waiters_of}
-use Rattle.am_kernel.specs.Administration.{mounting_at, mount_refusal, with_plain, bind_refusal, with_bind, bound_at, site_refusal, umount_tests, gone_at, plain_umount_refusal, plain_gone, without_plain, plain_change_refusal, with_changed, changed_at, kind_refusal, kind_at}
+use Rattle.am_kernel.specs.Administration.{site_refusal, umount_tests, gone_at}
 use Rattle.am_kernel.specs.DaemonMounts.{without_mounts}
-use Rattle.am_kernel.specs.Namespaces.{with_namespace, without_namespace}
-use Rattle.am_kernel.specs.Requests.{answering, acknowledged, without_packet, without_use, with_timeout}
-use Rattle.am_kernel.specs.Walks.{closing, closed, releases}
+use Rattle.am_kernel.specs.Requests.{answering, acknowledged}
+use Rattle.am_kernel.specs.Walks.{releases}
 use Rattle.am_machine.proofs.TraceInside.{leave_fits}
 use Rattle.am_names.specs.declared.trigger.Status.{Status}
 use Rattle.am_names.specs.declared.row.OpenToken.{OpenToken}
@@ -38,21 +35,16 @@ use Rattle.am_state.specs.declared.daemon_row.Record.{Record}
 use Rattle.am_wait.specs.Calls.{answered}
 use Rattle.am_job.specs.declared.act.Outcome as job
 use Rattle.am_job.specs.declared.act.Outcome.TheVariants as came
-use Rattle.am_job.specs.Plans.{is_reply, next_of}
+use Rattle.am_job.specs.Plans.{is_reply}
 use Rattle.am_daemon.specs.Packets.{plan_of_packet}
-use Rattle.am_daemon.specs.Attachments.{holds}
 use Rattle.am_daemon.specs.Deliveries.{job_of, job_for}
 use Rattle.am_daemon.specs.Acts.{finished_in}
 use Rattle.am_machine.specs.Events.Deliveries as deliveries
-use Rattle.am_machine.proofs.TraceRows.{found_passes}
 use Rattle.am_machine.proofs.TraceDeliver.{found_fits, deliver_fits, finish_fits}
 use Rattle.am_machine.specs.declared.event.Event.{Event}
 use Rattle.am_machine.specs.Machine.{outcome_of}
-use Rattle.am_machine.specs.Events.Requests as requests
-use Rattle.am_job.specs.declared.act.Act.TheVariants as act
-use Rattle.am_kernel.specs.Outcome.{with_latest}
 use Rattle.am_machine.proofs.TraceAnswer.{answer, answer_fits}
-use Rattle.am_machine.proofs.Tests.{else_none, others_none}
+use Rattle.am_machine.proofs.Tests.{others_none}
 use Rattle.am_machine.proofs.Traces.Walks.{Moves, moves, closes}
 use Rattle.am_machine.proofs.Tour.Walks.{AnyPath}
 use Rattle.am_machine.proofs.Tour.Events as tours

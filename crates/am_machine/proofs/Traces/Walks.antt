@@ -1,6 +1,6 @@
 -- What walkers do is lawful after a trace that fits the rows, and leaves one that does.
-use Rattle.std.proofs.Common.{◌≡◌, ℕ, ◌+◌, ◌≤◌, Bool, true, false, List, [], ◌∷◌, ◌++◌, Option, Some, None, refl, ap, arith, ◌==◌, sym, ◌∙◌, subst}
-use Rattle.std.specs.Prelude.{is_some, is_none, if◌then◌else◌, nat_le}
+use Rattle.std.proofs.Common.{◌≡◌, ℕ, ◌+◌, ◌≤◌, true, List, [], ◌∷◌, ◌++◌, Option, Some, None, refl, ap, arith, ◌∙◌}
+use Rattle.std.specs.Prelude.{is_some}
 use Rattle.std.specs.List.{count_by, All}
 use Rattle.am_names.specs.declared.limits.Limits.{Limits}
 use Rattle.am_names.specs.declared.trigger.Trigger.{Trigger}
@@ -11,9 +11,8 @@ use Rattle.am_names.specs.declared.row.TokenKind.TheVariants.{Missing, Expire}
 use Rattle.am_state.specs.declared.obs.Obs.{Obs}
 use Rattle.am_state.specs.declared.obs.Obs.TheVariants as seen
 use Rattle.am_wait.specs.Rows.{WaitRows, token_of, wait_of}
-use Rattle.am_wait.specs.Calls.{is_exhausted, is_full, opened, joined_on, collected}
-use Rattle.am_expire.specs.Uses.{mount_of}
-use Rattle.am_walk.specs.Laws.{IsIdle, StopsWell, IsOrderly}
+use Rattle.am_wait.specs.Calls.{opened, joined_on, collected}
+use Rattle.am_walk.specs.Laws.{IsIdle}
 use Rattle.am_kernel.specs.declared.begun.Begin.{Begin}
 use Rattle.am_kernel.specs.State.{KernelState}
 use Rattle.am_kernel.specs.Walks as walks
@@ -25,7 +24,7 @@ use Rattle.am_machine.specs.State.{limits_in}
 use Rattle.am_machine.specs.Invariant.Traces.{Rows, rows_of, asked_in, FitsTrace}
 use Rattle.am_machine.proofs.TraceInside.{enter_fits}
 use Rattle.am_machine.proofs.TraceJoin.{join_fits}
-use Rattle.am_machine.proofs.TraceNotify.{notice, notify_fits}
+use Rattle.am_machine.proofs.TraceNotify.{notify_fits}
 use Rattle.am_machine.proofs.TraceLawful.{wait_lawful, notice_lawful}
 use Rattle.am_machine.proofs.TraceAdds.{Adds, adds_both, adds_passes, at_most_one, once_passed, adds_closing, once_closing, adds_nothing}
 use Rattle.am_names.specs.declared.trigger.Status.{Status}
