@@ -53,10 +53,6 @@ one_after_another k mid made n m = record { current = λ fs attach e. n.current 
 pub narrows_latest : (k made : KernelState) (moment : ℕ) → Narrows k made → Narrows k (with_latest moment made)
 narrows_latest k made moment n = record { current = n.current; given = n.given }
 
-pub from_narrows : (at : Result Position Errno) (k : KernelState) (change : Position → KernelState) → ((at : Position) → Narrows k (change at)) → Narrows k (from_position at k change)
-from_narrows (Err e) k change h = stays k
-from_narrows (Ok at) k change h = h at
-
 -- ---- the attachment of a file system, by its rows
 
 -- by its autofs and by its latest attachment
@@ -117,9 +113,6 @@ closed_by k fs f attach false other e =
 
 pub closed_narrows : (k : KernelState) (fs : ℕ) → Narrows k (closed fs k)
 closed_narrows k fs = record { current = λ f attach e. closed_by k fs f attach (fs == f) refl e; given = omega arith }
-
-pub closed_if_live_narrows : (k : KernelState) (fs : ℕ) → Narrows k (closed_if_live fs k)
-closed_if_live_narrows k fs = elim (is_live k fs) as (λ b. Narrows k (if b then closed fs k else k)) [ true ↦ closed_narrows k fs | false ↦ stays k ]
 
 -- ---- a new pipe
 
