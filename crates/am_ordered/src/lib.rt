@@ -1,0 +1,10 @@
+//! A map in order of insertion, in which a removal doesn't move the other rows.
+#![tactic(auto)]
+
+mod order;
+pub mod ordered;
+
+pub use ordered::OrderedMap;
+// A crate can name a map in a contract only if the types of its fields are exported.
+#[doc(hidden)]
+pub use ordered::Slot;

@@ -1,0 +1,226 @@
+//! The map.
+
+ghost use Rattle.std.specs.Prelude.{◌≡◌, ◌≤◌, ◌+◌, [], length, remove, slice_get, is_some, MatchOption, Some, None, OnOk, OnErr, IsOk, true, option_copied};
+ghost use Rattle.std.specs.List.{IsDistinct};
+ghost use Rattle.std.specs.Map.{keys_of, lookup};
+ghost use Rattle.std.specs.Map.Iter.{deref_pair};
+ghost use Rattle.std.specs.Option.{option_map};
+ghost use Rattle.indexmap.specs.IndexMap.{insert_entry, shift_remove_entry};
+
+use crate::order::{index_in_order, rename_last};
+use indexmap::IndexMap;
+use std::alloc::{AllocError, Global};
+use std::collections::VecDeque;
+use std::hash::Hash;
+use std::marker::Model;
+
+/// A value, with the turn in which its key came.
+#[derive(Drop)]
+pub struct Slot<V> {
+    pub(crate) turn: u64,
+    pub(crate) value: V,
+}
+
+/// A map in order of insertion. A removal moves one slot and the shorter side of the order, which
+/// holds a number for each key.
+#[derive(Drop)]
+pub struct OrderedMap<K: Eq + Hash, V> {
+    // In any order.
+    slots: IndexMap<K, Slot<V>>,
+    // The places of the slots, in order of insertion, so that their turns rise.
+    order: VecDeque<usize>,
+    // The turn of the next key.
+    next: u64,
+}
+
+impl<K: Eq + Hash, V> Model for OrderedMap<K, V> {
+    ghost use Rattle.std.specs.Prelude.{◌-◌, length};
+    ghost use Rattle.std.specs.VecDeque.{deque_len, deque_capacity};
+    ghost use Rattle.indexmap.specs.IndexMap.{spare, IsUnique};
+    ghost use Rattle.am_ordered.specs.Table.{OrderedTable, table_code};
+
+    ghost Value = { OrderedTable K V };
+
+    ghost coded = { table_code K.code V.code };
+
+    ghost use Rattle.std.specs.Prelude.{min};
+    ghost use Rattle.am_ordered.specs.Order.{IsOrderOf};
+    ghost use Rattle.am_ordered.specs.Inside.{rows_of};
+
+    ghost view = { λ m. record { entries = rows_of m.slots.entries m.order.items; room = min (spare m.slots) (deque_capacity m.order - deque_len m.order) } };
+
+    // The order lists each slot once, and no key has two.
+    ghost invariant = { λ m. IsOrderOf (length m.slots.entries) m.order.items × IsUnique K.eq m.slots };
+}
+
+impl<K: Eq + Hash, V> OrderedMap<K, V> {
+    /// No key.
+    pub fn new(alloc: Global) -> OrderedMap<K, V>
+        ensures { result.entries ≡ [] }
+    {
+        OrderedMap {
+            slots: IndexMap::new(alloc),
+            order: VecDeque::new(alloc),
+            next: 0,
+        }
+    }
+
+    /// How many keys there are.
+    pub fn len(&self) -> usize
+        ensures { result ≡ length self.now.entries }
+    {
+        self.order.len()
+    }
+
+    /// The key at this index, in order of insertion, with its value.
+    pub fn get_index(&self, index: usize) -> Option<(&K, &V)>
+        ensures { option_map deref_pair result ≡ slice_get self.now.entries index }
+    {
+        let place = self.order.get(index)?;
+        let (key, slot) = self.slots.get_index(*place)?;
+        Some((key, &slot.value))
+    }
+
+    /// The value of the key.
+    pub fn get(&self, key: &K) -> Option<&V>
+        ensures { option_copied result ≡ lookup (K.eq key.now) self.now.entries }
+    {
+        let slot = self.slots.get(key)?;
+        Some(&slot.value)
+    }
+
+    /// Whether the key is there.
+    pub fn contains_key(&self, key: &K) -> bool
+        ensures { result ≡ is_some (lookup (K.eq key.now) self.now.entries) }
+    {
+        self.get(key).is_some()
+    }
+
+    /// Makes room for so many more keys.
+    pub fn reserve(&mut self, count: usize) -> Result<(), AllocError>
+        ensures entries { self.new.entries ≡ self.old.entries }
+        ensures room { self.old.room ≤ self.new.room }
+        ensures ok { OnOk result (count ≤ self.new.room) }
+    {
+        self.slots.reserve(count)?;
+        self.order.reserve(count)
+    }
+
+    /// The turn in which the key came.
+    fn turn_of(&self, key: &K) -> Option<u64>
+        ensures found { MatchOption result (lookup (K.eq key.now) self.now.entries ≡ None) (λ _. is_some (lookup (K.eq key.now) self.now.entries) ≡ true) }
+        ensures unique { IsDistinct K.eq (keys_of self.now.entries) }
+    {
+        let slot = self.slots.get(key)?;
+        Some(slot.turn)
+    }
+
+    /// Writes the key's value, in the place of what was there.
+    fn replace(&mut self, turn: u64, key: K, value: V)
+    where
+        K: Drop,
+        V: Drop,
+        requires { is_some (lookup (K.eq key) self.old.entries) ≡ true }
+        ensures entries { self.new.entries ≡ insert_entry K.eq self.old.entries key value }
+        ensures room { self.old.room ≤ self.new.room + 1 }
+    {
+        // The key is there, so that no room is taken.
+        let _old = self.slots.insert(key, Slot { turn, value });
+    }
+
+    /// A new key goes last.
+    fn append(&mut self, key: K, value: V)
+    where
+        K: Drop,
+        V: Drop,
+        requires fresh { lookup (K.eq key) self.old.entries ≡ None }
+        requires room { 1 ≤ self.old.room }
+        ensures entries { self.new.entries ≡ insert_entry K.eq self.old.entries key value }
+        ensures room { self.old.room ≤ self.new.room + 1 }
+    {
+        let turn = self.next;
+        let place = self.slots.len();
+        // There is room for it.
+        let _none = self.slots.insert(key, Slot { turn, value });
+        self.order.push_back_reserved(place);
+        self.next = turn.wrapping_add(1);
+    }
+
+    /// Gives the key this value: one that is there keeps its index, and a new one goes last. No
+    /// memory is taken for one that is there.
+    pub fn insert(&mut self, key: K, value: V) -> Result<(), AllocError>
+    where
+        K: Drop,
+        V: Drop,
+        ensures ok { OnOk result (self.new.entries ≡ insert_entry K.eq self.old.entries key value) }
+        ensures err { OnErr result (self.new.entries ≡ self.old.entries) }
+        ensures fresh { OnErr result (lookup (K.eq key) self.old.entries ≡ None) }
+        ensures room { self.old.room ≤ self.new.room + 1 }
+        ensures unique { IsDistinct K.eq (keys_of self.old.entries) }
+    {
+        if let Some(turn) = self.turn_of(&key) {
+            self.replace(turn, key, value);
+            return Ok(());
+        }
+        self.reserve(1)?;
+        self.append(key, value);
+        Ok(())
+    }
+
+    /// Gives the key this value as `insert` does, and there is room for it.
+    pub fn insert_reserved(&mut self, key: K, value: V)
+    where
+        K: Drop,
+        V: Drop,
+        requires { 1 ≤ self.old.room }
+        ensures entries { self.new.entries ≡ insert_entry K.eq self.old.entries key value }
+        ensures room { self.old.room ≤ self.new.room + 1 }
+        ensures unique { IsDistinct K.eq (keys_of self.old.entries) }
+    {
+        if let Some(turn) = self.turn_of(&key) {
+            self.replace(turn, key, value);
+            return;
+        }
+        self.append(key, value);
+    }
+
+    /// Takes out the key at this index. Those behind it move up by one, and no memory is taken.
+    pub fn remove_index(&mut self, index: usize) -> Option<(K, V)>
+        ensures entry { result ≡ slice_get self.old.entries index }
+        ensures entries { self.new.entries ≡ remove self.old.entries index }
+        ensures room { self.old.room ≤ self.new.room }
+        ensures unique { IsDistinct K.eq (keys_of self.old.entries) }
+    {
+        let place = self.order.remove(index)?;
+        let (key, slot) = self.slots.swap_remove_index(place)?;
+        rename_last(&self.slots, &mut self.order, place);
+        Some((key, slot.value))
+    }
+
+    /// Takes out the key. Those behind it move up by one, and no memory is taken.
+    pub fn remove(&mut self, key: &K) -> Option<V>
+    where
+        K: Drop,
+        ensures value { result ≡ lookup (K.eq key.now) self.old.entries }
+        ensures entries { self.new.entries ≡ shift_remove_entry (K.eq key.now) self.old.entries }
+        ensures room { self.old.room ≤ self.new.room }
+        ensures unique { IsDistinct K.eq (keys_of self.old.entries) }
+    {
+        let (place, _, slot) = self.slots.get_full(key)?;
+        let index = index_in_order(&self.slots, &self.order, place, slot.turn)?;
+        let (_, value) = self.remove_index(index)?;
+        Some(value)
+    }
+
+    /// Takes out every key. No memory is taken.
+    pub fn clear(&mut self)
+    where
+        K: Drop,
+        V: Drop,
+        ensures entries { self.new.entries ≡ [] }
+        ensures room { self.old.room ≤ self.new.room }
+    {
+        self.slots.clear();
+        self.order.clear();
+    }
+}
