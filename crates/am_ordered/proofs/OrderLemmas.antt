@@ -1,11 +1,11 @@
 -- Orders of places.
-use Rattle.std.proofs.Common.{◌≡◌, ◌≢◌, ℕ, zero, suc, ◌+◌, ◌<◌, ◌≤◌, ◌==◌, nat_lt, Bool, true, false, cond, List, [], ◌∷◌, ◌++◌, map, length, remove, slice_get, slice_set, get_or, not, position, MatchOption, Option, Some, None, inl, inr, ◌⊎◌, refl, sym, ap, subst, ◌∙◌, arith}
+use Rattle.std.proofs.Common.{◌≡◌, ◌≢◌, ℕ, zero, suc, ◌+◌, ◌<◌, ◌≤◌, ◌==◌, nat_lt, Bool, true, false, cond, List, [], ◌∷◌, ◌++◌, map, length, remove, slice_get, slice_set, get_or, not, position, Option, Some, None, inl, inr, ◌⊎◌, refl, sym, ap, subst, ◌∙◌, arith}
 use Rattle.std.proofs.lemmas.Bool.{cases_order, eqb-true, eq-eqb, ne_eqb, cases_eq, ltb-true, ltb-false, lt-ltb, le-ltb}
 use Rattle.std.proofs.lemmas.Bool.Decides.{nat_tests}
 use Rattle.std.proofs.lemmas.List.Quantifiers.{position-Some}
 use Rattle.std.proofs.lemmas.Option.{same_Some, none-some, slice_get-get_or}
 use Rattle.std.specs.List.{position_or_len}
-use Rattle.am_ordered.specs.Order.{times, IsOrderOf, renamed}
+use Rattle.am_ordered.specs.Order.{times, IsOrderOf, IsIndexOf, renamed}
 
 -- the first is there
 pub there_first : (x : ℕ) (xs : List ℕ) → 0 < times x (x ∷ xs)
@@ -213,7 +213,7 @@ none_there p xs h = by (nat_lt (position_or_len (λ x. x == p) xs) (length xs)) 
     by false e = past_all p xs (ltb-false (position_or_len (λ x. x == p) xs) (length xs) e)
 
 -- where a place stands first
-pub position_is : (p : ℕ) (xs : List ℕ) (r : Option ℕ) → r ≡ position (λ x. x == p) xs → MatchOption r (times p xs ≡ 0) (λ at. slice_get xs at ≡ Some p)
+pub position_is : (p : ℕ) (xs : List ℕ) (r : Option ℕ) → r ≡ position (λ x. x == p) xs → IsIndexOf p xs r
 position_is p xs None e = none_there p xs (sym e)
 position_is p xs (Some i) e =
     let found = position-Some (λ x. x == p) xs i 0 (sym e) in

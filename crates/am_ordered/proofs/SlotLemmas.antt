@@ -1,5 +1,5 @@
 -- The rows of the slots.
-use Rattle.std.proofs.Common.{◌≡◌, ◌≢◌, ℕ, zero, suc, ◌-◌, ◌<◌, ◌≤◌, Bool, true, false, cond, List, [], ◌∷◌, ◌++◌, map, length, remove, slice_get, get_or, set, take, Option, Some, None, is_some, inl, inr, ◌⊎◌, refl, sym, ap, subst, ◌∙◌, arith, Result, Ok, Err, IsOk, OnOk, OnErr}
+use Rattle.std.proofs.Common.{◌≡◌, ◌≢◌, ℕ, zero, suc, ◌-◌, ◌<◌, ◌≤◌, Bool, true, false, cond, List, [], ◌∷◌, ◌++◌, map, length, remove, slice_get, get_or, set, take, Option, Some, None, is_some, IsNone, inl, inr, ◌⊎◌, refl, sym, ap, subst, ◌∙◌, arith, Result, Ok, Err, IsOk, OnOk, OnErr}
 use Rattle.std.specs.Cmp.{IsEquivalence}
 use Rattle.std.specs.List.{filter_map, swap_remove, IsDistinct, AllByRecursion}
 use Rattle.std.specs.Map.{keys_of, lookup, lookup_key}
@@ -289,6 +289,10 @@ none_removed {K} {V} test (row ∷ rows) none = by (test row.0) refl (none_remov
     by true e later = absurd (none-some row.1 (sym (subst (λ (b : Bool). cond b (Some row.1) (lookup test rows) ≡ None) e none)))
     by false e later =
         rw (e, later (subst (λ (b : Bool). cond b (Some row.1) (lookup test rows) ≡ None) e none)) refl
+
+pub none_from : {X : Type 0} (o : Option X) → IsNone o → o ≡ None
+none_from None h = refl
+none_from (Some x) h = absurd (true≢false h)
 
 -- what holds of a result that is `Ok`, and which is so
 pub when_ok : {T E P : Type 0} (r : Result T E) → IsOk r → OnOk r P → P

@@ -1,5 +1,5 @@
 -- An order of places: each place below a bound once.
-use Rattle.std.specs.Prelude.{◌≡◌, ℕ, suc, ◌==◌, nat_lt, List, [], ◌∷◌, if◌then◌else◌}
+use Rattle.std.specs.Prelude.{◌≡◌, ℕ, suc, ◌==◌, nat_lt, List, [], ◌∷◌, Option, Some, None, slice_get, if◌then◌else◌}
 
 -- how often a place is in the list
 abbrev pub times : ℕ → List ℕ → ℕ
@@ -14,3 +14,8 @@ IsOrderOf count order = (place : ℕ) → times place order ≡ (if nat_lt place
 -- the place of what was at `last` and is at `place` now
 abbrev pub renamed : ℕ → ℕ → ℕ → ℕ
 renamed last place other = if other == last then place else other
+
+-- where the place stands in the list, or none where it isn't there
+abbrev pub IsIndexOf : ℕ → List ℕ → Option ℕ → Type 0
+IsIndexOf place order None = times place order ≡ 0
+IsIndexOf place order (Some index) = slice_get order index ≡ Some place

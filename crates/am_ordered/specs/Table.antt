@@ -8,6 +8,8 @@ pub record OrderedTable (K V : Type 0) : Type 0 where
   -- how many more keys take no memory
   pub room : ℕ
 
+-- it is stored as the pair of its fields
 abbrev pub table_code : {K V : Type 0} → Coded K → Coded V → Coded (OrderedTable K V)
 table_code {K} {V} key value =
-    code_by (List (K × V) × ℕ) (coded× (coded_list (coded× key value)) coded_ℕ) (λ t. (t.entries, t.room)) (λ p. record { entries = p.0; room = p.1 }) (λ _. refl)
+    code_by (List (K × V) × ℕ) (coded× (coded_list (coded× key value)) coded_ℕ)
+    (λ t. (t.entries, t.room)) (λ p. record { entries = p.0; room = p.1 }) (λ _. refl)

@@ -1,7 +1,7 @@
 //! The order of the places: where one stands in it, and what a removal changes.
 
-ghost use Rattle.std.specs.Prelude.{◌≡◌, ◌≤◌, ◌==◌, map, slice_get, position, Some, MatchOption};
-ghost use Rattle.am_ordered.specs.Order.{times, renamed};
+ghost use Rattle.std.specs.Prelude.{◌≡◌, ◌≤◌, ◌==◌, map, position};
+ghost use Rattle.am_ordered.specs.Order.{times, renamed, IsIndexOf};
 ghost use Rattle.std.specs.VecDeque.{deque_capacity};
 ghost use Rattle.indexmap.specs.IndexMap.{index_map_len};
 
@@ -33,7 +33,7 @@ pub(crate) fn index_in_order<K: Eq + Hash, V>(
     place: usize,
     turn: u64,
 ) -> Option<usize>
-    ensures { MatchOption result (times place order.now.items ≡ 0) (λ at. slice_get order.now.items at ≡ Some place) }
+    ensures { IsIndexOf place order.now.items result }
 {
     let at = order.partition_point(|other| is_before(slots, *other, turn));
     if order.get(at).copied() == Some(place) {

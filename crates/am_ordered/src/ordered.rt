@@ -1,6 +1,6 @@
 //! The map.
 
-ghost use Rattle.std.specs.Prelude.{◌≡◌, ◌≤◌, ◌+◌, [], length, remove, slice_get, is_some, MatchOption, Some, None, OnOk, OnErr, IsOk, true, option_copied};
+ghost use Rattle.std.specs.Prelude.{◌≡◌, ◌≤◌, ◌+◌, [], length, remove, slice_get, is_some, IsSome, IsNone, OnOk, OnErr, option_copied};
 ghost use Rattle.std.specs.List.{IsDistinct};
 ghost use Rattle.std.specs.Map.{keys_of, lookup};
 ghost use Rattle.std.specs.Map.Iter.{deref_pair};
@@ -34,23 +34,18 @@ pub struct OrderedMap<K: Eq + Hash, V> {
 }
 
 impl<K: Eq + Hash, V> Model for OrderedMap<K, V> {
-    ghost use Rattle.std.specs.Prelude.{◌-◌, length};
-    ghost use Rattle.std.specs.VecDeque.{deque_len, deque_capacity};
-    ghost use Rattle.indexmap.specs.IndexMap.{spare, IsUnique};
     ghost use Rattle.am_ordered.specs.Table.{OrderedTable, table_code};
 
     ghost Value = { OrderedTable K V };
 
     ghost coded = { table_code K.code V.code };
 
-    ghost use Rattle.std.specs.Prelude.{min};
-    ghost use Rattle.am_ordered.specs.Order.{IsOrderOf};
-    ghost use Rattle.am_ordered.specs.Inside.{rows_of};
+    ghost use Rattle.am_ordered.specs.Inside.{table_of, IsOrdered};
 
-    ghost view = { λ m. record { entries = rows_of m.slots.entries m.order.items; room = min (spare m.slots) (deque_capacity m.order - deque_len m.order) } };
+    ghost view = { λ m. table_of m.slots m.order };
 
     // The order lists each slot once, and no key has two.
-    ghost invariant = { λ m. IsOrderOf (length m.slots.entries) m.order.items × IsUnique K.eq m.slots };
+    ghost invariant = { λ m. IsOrdered K.eq m.slots m.order };
 }
 
 impl<K: Eq + Hash, V> OrderedMap<K, V> {
@@ -108,7 +103,7 @@ impl<K: Eq + Hash, V> OrderedMap<K, V> {
 
     /// The turn in which the key came.
     fn turn_of(&self, key: &K) -> Option<u64>
-        ensures found { MatchOption result (lookup (K.eq key.now) self.now.entries ≡ None) (λ _. is_some (lookup (K.eq key.now) self.now.entries) ≡ true) }
+        ensures found { is_some result ≡ is_some (lookup (K.eq key.now) self.now.entries) }
         ensures unique { IsDistinct K.eq (keys_of self.now.entries) }
     {
         let slot = self.slots.get(key)?;
@@ -120,7 +115,7 @@ impl<K: Eq + Hash, V> OrderedMap<K, V> {
     where
         K: Drop,
         V: Drop,
-        requires { is_some (lookup (K.eq key) self.old.entries) ≡ true }
+        requires { IsSome (lookup (K.eq key) self.old.entries) }
         ensures entries { self.new.entries ≡ insert_entry K.eq self.old.entries key value }
         ensures room { self.old.room ≤ self.new.room + 1 }
     {
@@ -133,7 +128,7 @@ impl<K: Eq + Hash, V> OrderedMap<K, V> {
     where
         K: Drop,
         V: Drop,
-        requires fresh { lookup (K.eq key) self.old.entries ≡ None }
+        requires fresh { IsNone (lookup (K.eq key) self.old.entries) }
         requires room { 1 ≤ self.old.room }
         ensures entries { self.new.entries ≡ insert_entry K.eq self.old.entries key value }
         ensures room { self.old.room ≤ self.new.room + 1 }
@@ -154,7 +149,7 @@ impl<K: Eq + Hash, V> OrderedMap<K, V> {
         V: Drop,
         ensures ok { OnOk result (self.new.entries ≡ insert_entry K.eq self.old.entries key value) }
         ensures err { OnErr result (self.new.entries ≡ self.old.entries) }
-        ensures fresh { OnErr result (lookup (K.eq key) self.old.entries ≡ None) }
+        ensures fresh { OnErr result (IsNone (lookup (K.eq key) self.old.entries)) }
         ensures room { self.old.room ≤ self.new.room + 1 }
         ensures unique { IsDistinct K.eq (keys_of self.old.entries) }
     {
