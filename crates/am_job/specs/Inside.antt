@@ -1,7 +1,5 @@
 -- What the fields stand for.
 use Rattle.std.specs.Prelude.{List, map}
-use Rattle.indexmap.specs.IndexMap.{spare, IsUnique}
-use Rattle.am_names.specs.contracts.trigger.TriggerPartialEq.TheImpl.{eq-value}
 use Rattle.am_names.specs.declared.trigger.Trigger.{Trigger}
 use Rattle.am_state.specs.declared.daemon_row.Record.{Record}
 use Rattle.am_state.specs.declared.daemon_row.RecordRow.{RecordRow}
@@ -15,8 +13,4 @@ abbrev pub rows_of : List (Trigger × Record) → List RecordRow
 rows_of pairs = map row_of pairs
 
 abbrev pub table_of : Inside → BookTable
-table_of b = record { rows = rows_of b.records.entries; room = spare b.records }
-
--- no trigger has two records
-abbrev pub IsBook : Inside → Type 0
-IsBook b = IsUnique eq-value.it b.records
+table_of b = record { rows = rows_of b.records.entries; room = b.records.room }

@@ -1,19 +1,19 @@
 //! The daemon's book: what is mounted on each trigger.
 
-ghost use Rattle.std.specs.Prelude.{◌≡◌, ◌≤◌, ◌+◌, length, slice_get, [], Some, None, OnOk, OnErr};
+ghost use Rattle.std.specs.Prelude.{◌≡◌, ◌≤◌, ◌+◌, ◌==◌, not, length, filter, remove, slice_get, if◌then◌else◌, [], Some, None, IfSome, OnOk, OnErr};
 ghost use Rattle.am_names.specs.Errno.{RefusedAs};
 ghost use Rattle.am_job.specs.Book.{record_of, with_record, without_record, without_fs, IsRecorded, IsForgotten};
 
 use am_names::{Errno, FsId, Name, Trigger};
+use am_ordered::OrderedMap;
 use am_state::{Record, RecordRow};
-use indexmap::IndexMap;
 use std::alloc::Global;
 use std::marker::Model;
 
 /// What the daemon has written down of each trigger.
 #[derive(Drop)]
 pub struct Book {
-    records: IndexMap<Trigger, Record>,
+    records: OrderedMap<Trigger, Record>,
 }
 
 impl Model for Book {
@@ -21,12 +21,33 @@ impl Model for Book {
 
     ghost Value = { BookTable };
 
-    ghost use Rattle.am_job.specs.Inside.{table_of, IsBook};
+    ghost use Rattle.am_job.specs.Inside.{table_of};
 
     ghost view = { table_of };
+}
 
-    // No trigger has two records.
-    ghost invariant = { IsBook };
+/// The record at this index goes if it is of the file system.
+fn forget_index(records: &mut OrderedMap<Trigger, Record>, index: usize, fs: FsId)
+    ensures entries { IfSome (slice_get records.old.entries index) (λ row. records.new.entries ≡ (if row.0.fs == fs then remove records.old.entries index else records.old.entries)) }
+    ensures room { records.old.room ≤ records.new.room }
+{
+    if let Some((trigger, _)) = records.get_index(index) {
+        if trigger.fs == fs {
+            let _gone = records.remove_index(index);
+        }
+    }
+}
+
+/// The records of the file system go, the last first.
+fn forget_fs(records: &mut OrderedMap<Trigger, Record>, fs: FsId)
+    ensures entries { records.new.entries ≡ filter (λ row. not (row.0.fs == fs)) records.old.entries }
+    ensures room { records.old.room ≤ records.new.room }
+{
+    let mut left = records.len();
+    while left > 0 {
+        left -= 1;
+        forget_index(records, left, fs);
+    }
 }
 
 impl Book {
@@ -35,7 +56,7 @@ impl Book {
         ensures { result.rows ≡ [] }
     {
         Book {
-            records: IndexMap::new(alloc),
+            records: OrderedMap::new(alloc),
         }
     }
 
@@ -95,8 +116,7 @@ impl Book {
         ensures room { self.old.room ≤ self.new.room + 1 }
     {
         let _name: Option<Name> = trigger.name;
-        // There is room for it.
-        let _old = self.records.insert(trigger, entry);
+        self.records.insert_reserved(trigger, entry);
     }
 
     /// Writes down that nothing is mounted on the trigger. It takes no memory.
@@ -105,7 +125,7 @@ impl Book {
         ensures map { IsRecorded trigger.now None self.old.rows self.new.rows }
         ensures room { self.old.room ≤ self.new.room }
     {
-        let _gone = self.records.shift_remove(trigger);
+        let _gone = self.records.remove(trigger);
     }
 
     /// Forgets a file system. It takes no memory.
@@ -114,7 +134,7 @@ impl Book {
         ensures map { IsForgotten fs self.old.rows self.new.rows }
         ensures room { self.old.room ≤ self.new.room }
     {
-        self.records.retain(|key, _| key.fs != fs);
+        forget_fs(&mut self.records, fs);
     }
 
     /// Forgets everything. It takes no memory.

@@ -1,9 +1,10 @@
 -- Rows by their places. What stands at a place is f of it.
 use Rattle.std.proofs.Common.{◌≡◌, ◌≢◌, ℕ, zero, suc, ◌<◌, ◌≤◌, ◌==◌, Bool, true, false, cond, List, [], ◌∷◌, ◌++◌, map, length, remove, slice_get, Option, Some, None, inl, inr, ◌⊎◌, refl, sym, ap, subst, ◌∙◌, arith}
+use Rattle.std.specs.Cmp.{IsEquivalence}
 use Rattle.std.specs.List.{filter_map, IsDistinct, AllByRecursion}
 use Rattle.std.specs.Map.{keys_of, lookup}
 use Rattle.std.specs.Option.{option_and_then}
-use Rattle.std.proofs.lemmas.Bool.{cases_eq}
+use Rattle.std.proofs.lemmas.Bool.{true≢false, cases_eq}
 use Rattle.std.proofs.lemmas.Option.{same_Some, none-some}
 use Rattle.indexmap.specs.IndexMap.{insert_entry, shift_remove_entry}
 use Rattle.am_ordered.specs.Order.{times}
@@ -139,6 +140,24 @@ module _ {K V : Type 0} where
       by true e later = absurd (none-some row.1 (sym (subst (λ (b : Bool). cond b (Some row.1) (lookup (eq key) rows) ≡ None) e none)))
       by false e later =
           rw (e, later (subst (λ (b : Bool). cond b (Some row.1) (lookup (eq key) rows) ≡ None) e none)) refl
+
+  -- the key has this value now, and each other one as before
+  pub inserted_lookup : (eq : K → K → Bool) → IsEquivalence eq → (key : K) (value : V) (q : K) (rows : List (K × V)) → lookup (eq q) (insert_entry eq rows key value) ≡ cond (eq key q) (Some value) (lookup (eq q) rows)
+  inserted_lookup eq laws key value q [] = ap (λ (b : Bool). cond b (Some value) None) (laws.symm q key)
+  inserted_lookup eq laws key value q (row ∷ rows) = by (inserted_lookup eq laws key value q rows) (eq key row.0) refl (eq key q) refl (eq q row.0) refl
+    where
+      by : lookup (eq q) (insert_entry eq rows key value) ≡ cond (eq key q) (Some value) (lookup (eq q) rows) →
+          (a : Bool) → eq key row.0 ≡ a → (b : Bool) → eq key q ≡ b → (c : Bool) → eq q row.0 ≡ c →
+          lookup (eq q) (insert_entry eq (row ∷ rows) key value) ≡ cond (eq key q) (Some value) (lookup (eq q) (row ∷ rows))
+      by later true d true e true f = rw (d, e, f) refl
+      by later true d true e false f = absurd (true≢false (sym d ∙ laws.congr key q row.0 e ∙ f))
+      by later true d false e true f =
+          absurd (true≢false (sym f ∙ laws.symm q row.0 ∙ sym (laws.congr key row.0 q d) ∙ e))
+      by later true d false e false f = rw (d, e, f) refl
+      by later false d true e true f = absurd (true≢false (sym f ∙ sym (laws.congr key q row.0 e) ∙ d))
+      by later false d true e false f = rw (d, f) later
+      by later false d false e true f = rw (d, e, f) refl
+      by later false d false e false f = rw (d, f) later
 
   -- no two rows have one key
   abbrev pub AreApart : (K → K → Bool) → (ℕ → Option (K × V)) → Type 0

@@ -1,3 +1,4 @@
 pub mod Order
 pub mod Table
+pub mod Lookup
 pub mod Inside

@@ -1,11 +1,12 @@
 //! The map.
 
-ghost use Rattle.std.specs.Prelude.{◌≡◌, ◌≤◌, ◌+◌, [], length, remove, slice_get, is_some, IsSome, IsNone, OnOk, OnErr, option_copied};
+ghost use Rattle.std.specs.Prelude.{◌≡◌, ◌≤◌, ◌+◌, [], length, remove, slice_get, is_some, IsSome, IsNone, Some, OnOk, OnErr, option_copied};
 ghost use Rattle.std.specs.List.{IsDistinct};
 ghost use Rattle.std.specs.Map.{keys_of, lookup};
 ghost use Rattle.std.specs.Map.Iter.{deref_pair};
 ghost use Rattle.std.specs.Option.{option_map};
 ghost use Rattle.indexmap.specs.IndexMap.{insert_entry, shift_remove_entry};
+ghost use Rattle.am_ordered.specs.Lookup.{IsUpdated};
 
 use crate::order::{index_in_order, rename_last};
 use indexmap::IndexMap;
@@ -148,6 +149,7 @@ impl<K: Eq + Hash, V> OrderedMap<K, V> {
         K: Drop,
         V: Drop,
         ensures ok { OnOk result (self.new.entries ≡ insert_entry K.eq self.old.entries key value) }
+        ensures map { OnOk result (IsUpdated K.eq key (Some value) self.old.entries self.new.entries) }
         ensures err { OnErr result (self.new.entries ≡ self.old.entries) }
         ensures fresh { OnErr result (IsNone (lookup (K.eq key) self.old.entries)) }
         ensures room { self.old.room ≤ self.new.room + 1 }
@@ -169,6 +171,7 @@ impl<K: Eq + Hash, V> OrderedMap<K, V> {
         V: Drop,
         requires { 1 ≤ self.old.room }
         ensures entries { self.new.entries ≡ insert_entry K.eq self.old.entries key value }
+        ensures map { IsUpdated K.eq key (Some value) self.old.entries self.new.entries }
         ensures room { self.old.room ≤ self.new.room + 1 }
         ensures unique { IsDistinct K.eq (keys_of self.old.entries) }
     {

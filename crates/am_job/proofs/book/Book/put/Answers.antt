@@ -11,11 +11,11 @@ use Rattle.am_job.proofs.book.Book.put.Goals as goal
 
 pub returns-clause-ok : goal.returns-clause-ok
 returns-clause-ok c =
-    ap rows_of c.in_ok-insert.ensures.entries
-    ∙ insert_is eq-value.it key_is c.args.trigger c.args.entry c.self.inside.records.entries c.self.invariant
+    ap rows_of c.in_ok-insert.ensures.ok
+    ∙ insert_is eq-value.it key_is c.args.trigger c.args.entry c.self.inside.records.entries c.insert.ensures.unique
     ∙ ap (λ (t : BookTable). with_record c.args.trigger c.args.entry t.rows) c.self.view_is
 
 pub returns-clause-map : goal.returns-clause-map
 returns-clause-map c g =
-    recorded_is eq-value.it key_is c.args.trigger g (Some c.args.entry) c.self.inside.records.entries c.insert.new.self.entries (c.in_ok-insert.ensures.updates.0 g)
+    recorded_is eq-value.it key_is c.args.trigger g (Some c.args.entry) c.self.inside.records.entries c.insert.new.self.entries (c.in_ok-insert.ensures.map g)
     ∙ ap (λ (t : BookTable). if same_trigger c.args.trigger g then Some c.args.entry else record_of t.rows g) c.self.view_is

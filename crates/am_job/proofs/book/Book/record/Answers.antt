@@ -8,6 +8,6 @@ use Rattle.am_job.proofs.book.Book.record.Goals as goal
 
 pub returns : goal.returns
 returns c =
-    c.copied.ensures ∙ c.get.ensures.value
+    c.copied.ensures ∙ c.get.ensures
     ∙ lookup_is eq-value.it key_is c.args.trigger.now c.self.inside.records.entries
     ∙ ap (λ (t : BookTable). record_of t.rows c.args.trigger.now) c.self.view_is

@@ -10,8 +10,8 @@ use Rattle.am_job.proofs.book.Book.remove.Goals as goal
 
 pub returns-clause-rows : goal.returns-clause-rows
 returns-clause-rows c =
-    ap rows_of c.shift_remove-gone.ensures.entries
-    ∙ remove_is eq-value.it key_is c.args.trigger.now c.self.inside.records.entries c.self.invariant
+    ap rows_of c.remove-gone.ensures.entries
+    ∙ remove_is eq-value.it key_is c.args.trigger.now c.self.inside.records.entries c.remove-gone.ensures.unique
     ∙ ap (λ (t : BookTable). without_record c.args.trigger.now t.rows) c.self.view_is
 
 pub returns-clause-map : goal.returns-clause-map

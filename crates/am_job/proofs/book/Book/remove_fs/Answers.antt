@@ -1,5 +1,4 @@
-use Rattle.std.proofs.Common.{◌==◌, Bool, List, not, ap, ◌∙◌, rules, tests}
-use Rattle.indexmap.proofs.CallerLemmas.{filter-RetainsPairs}
+use Rattle.std.proofs.Common.{◌==◌, Bool, List, not, ap, ◌∙◌}
 use Rattle.am_names.specs.declared.trigger.Trigger.{Trigger}
 use Rattle.am_state.specs.declared.daemon_row.Record.{Record}
 use Rattle.am_state.specs.declared.daemon_row.RecordRow.{RecordRow}
@@ -12,7 +11,7 @@ use Rattle.am_job.proofs.book.Book.remove_fs.Goals as goal
 pub returns-clause-rows : goal.returns-clause-rows
 returns-clause-rows c =
     let keep : RecordRow → Bool = λ row. not (row.trigger.fs == c.args.fs) in
-    ap rows_of (filter-RetainsPairs _ (λ (pair : Trigger × Record). keep (row_of pair)) _ (λ k v b w g call. search (rules, tests)) _ _ c.retain.ensures.filtered)
+    ap rows_of c.forget_fs.ensures.entries
     ∙ rows_left keep c.self.inside.records.entries
     ∙ ap (λ (t : BookTable). without_fs c.args.fs t.rows) c.self.view_is
 
