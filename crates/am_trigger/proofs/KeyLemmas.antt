@@ -1,12 +1,13 @@
 -- Triggers as keys of an index.
-use Rattle.std.proofs.Common.{◌≡◌, ℕ, Bool, true, false, cond, List, [], ◌∷◌, Some, refl, ap}
-use Rattle.std.specs.Prelude.{find}
-use Rattle.std.specs.List.{list_any}
-use Rattle.std.specs.Map.{lookup}
+use Rattle.std.proofs.Common.{◌≡◌, ℕ, Bool, true, false, cond, not, ◌||◌, List, [], ◌∷◌, ◌++◌, Some, refl, sym, ap, subst, ◌∙◌, true≢false, is_some}
+use Rattle.std.specs.Prelude.{find, filter}
+use Rattle.std.specs.List.{list_any, AllByRecursion, IsDistinct}
+use Rattle.std.specs.Map.{lookup, keys_of}
 use Rattle.std.specs.Option.{option_map}
 use Rattle.am_names.specs.declared.trigger.Trigger.{Trigger}
 use Rattle.am_names.specs.Trigger.{same_trigger}
-use Rattle.indexmap.specs.IndexMap.{insert_entry}
+use Rattle.am_ordered.specs.Lookup.{insert_entry, shift_remove_entry}
+use Rattle.am_names.proofs.SameTriggers.{is_one}
 use Rattle.am_trigger.specs.Rows.{used_in, last_use_in}
 
 -- tests that agree find the same
@@ -29,3 +30,42 @@ module _ (eq : Trigger → Trigger → Bool) (says : (a b : Trigger) → eq a b 
   insert_is trigger moment [] = refl
   insert_is trigger moment (row ∷ rows) =
       rw (says trigger row.0) (ap (λ (others : List (Trigger × ℕ)). cond (same_trigger row.0 trigger) ((row.0, moment) ∷ rows) (row ∷ others)) (insert_is trigger moment rows))
+
+  -- ---- the directories, as the keys of an index
+
+  -- the index says which keys it has
+  pub has_key : {V : Type 0} (trigger : Trigger) (rows : List (Trigger × V)) → is_some (lookup (eq trigger) rows) ≡ list_any (λ row. same_trigger row trigger) (keys_of rows)
+  has_key trigger [] = refl
+  has_key trigger (row ∷ rows) = by (eq trigger row.0) refl (has_key trigger rows)
+    where
+      by : (b : Bool) → eq trigger row.0 ≡ b → is_some (lookup (eq trigger) rows) ≡ list_any (λ row. same_trigger row trigger) (keys_of rows) → is_some (lookup (eq trigger) (row ∷ rows)) ≡ list_any (λ row. same_trigger row trigger) (keys_of (row ∷ rows))
+      by true e later = rw (e, sym (says trigger row.0) ∙ e) refl
+      by false e later = rw (e, sym (says trigger row.0) ∙ e) later
+
+  -- a key that isn't there goes last
+  pub key_last : {V : Type 0} (trigger : Trigger) (value : V) (rows : List (Trigger × V)) → list_any (λ row. same_trigger row trigger) (keys_of rows) ≡ false → keys_of (insert_entry eq rows trigger value) ≡ keys_of rows ++ trigger ∷ []
+  key_last trigger value [] none = refl
+  key_last trigger value (row ∷ rows) none = by (same_trigger row.0 trigger) refl (key_last trigger value rows)
+    where
+      by : (b : Bool) → same_trigger row.0 trigger ≡ b → (list_any (λ row. same_trigger row trigger) (keys_of rows) ≡ false → keys_of (insert_entry eq rows trigger value) ≡ keys_of rows ++ trigger ∷ []) → keys_of (insert_entry eq (row ∷ rows) trigger value) ≡ row.0 ∷ (keys_of rows ++ trigger ∷ [])
+      by true e later = absurd (true≢false (sym (ap (λ (b : Bool). b || list_any (λ row. same_trigger row trigger) (keys_of rows)) e) ∙ none))
+      by false e later =
+          rw (says trigger row.0 ∙ e, later (sym (ap (λ (b : Bool). b || list_any (λ row. same_trigger row trigger) (keys_of rows)) e) ∙ none)) refl
+
+  -- where no key is the trigger all stay
+  none_go : (trigger : Trigger) (keys : List Trigger) → AllByRecursion (λ key. eq trigger key ≡ false) keys → filter (λ row. not (same_trigger row trigger)) keys ≡ keys
+  none_go trigger [] h = refl
+  none_go trigger (key ∷ keys) h = rw (sym (says trigger key) ∙ h.0, none_go trigger keys h.1) refl
+
+  -- the index gives a key up as the directories do
+  pub key_gone : {V : Type 0} (trigger : Trigger) (rows : List (Trigger × V)) → IsDistinct eq (keys_of rows) → keys_of (shift_remove_entry (eq trigger) rows) ≡ filter (λ row. not (same_trigger row trigger)) (keys_of rows)
+  unfolding IsDistinct
+  key_gone trigger [] distinct = refl
+  key_gone trigger (row ∷ rows) distinct = by (key_gone trigger rows distinct.1) (same_trigger row.0 trigger) refl
+    where
+      by : keys_of (shift_remove_entry (eq trigger) rows) ≡ filter (λ row. not (same_trigger row trigger)) (keys_of rows) → (b : Bool) → same_trigger row.0 trigger ≡ b →
+          keys_of (shift_remove_entry (eq trigger) (row ∷ rows)) ≡ filter (λ row. not (same_trigger row trigger)) (keys_of (row ∷ rows))
+      by later true e =
+          let apart : AllByRecursion (λ key. eq trigger key ≡ false) (keys_of rows) = subst (λ (x : Trigger). AllByRecursion (λ key. eq x key ≡ false) (keys_of rows)) (is_one row.0 trigger e) distinct.0 in
+          rw (says trigger row.0 ∙ e, e) (sym (none_go trigger (keys_of rows) apart))
+      by later false e = rw (says trigger row.0 ∙ e, e, later) refl

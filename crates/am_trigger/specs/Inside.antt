@@ -1,12 +1,13 @@
 -- What the fields stand for.
 use Rattle.std.specs.Prelude.{◌-◌, vec_len, vec_capacity}
+use Rattle.std.specs.Map.{keys_of}
 use Rattle.indexmap.specs.IndexMap.{spare}
 use Rattle.am_trigger.specs.Rows.{TriggerRows}
 use Rattle.am_trigger.specs.Table.{TriggerTable}
 use Rattle.am_trigger.specs.declared.triggers.Triggers.TheInside.{Inside}
 
 abbrev pub rows_of : Inside → TriggerRows
-rows_of t = record { autofs = t.autofs.items; made = t.made.keys; uses = t.uses.entries }
+rows_of t = record { autofs = t.autofs.items; made = keys_of t.made.entries; uses = t.uses.entries }
 
 abbrev pub table_of : Inside → TriggerTable
 table_of t = record {

@@ -8,7 +8,8 @@ ghost use Rattle.indexmap.specs.IndexMap.{spare};
 
 use crate::autofs::Autofs;
 use am_names::{Errno, FsId, MountId, Name, Seconds, Trigger};
-use indexmap::{IndexMap, IndexSet};
+use am_ordered::OrderedMap;
+use indexmap::IndexMap;
 use std::alloc::Global;
 use std::marker::Model;
 
@@ -19,7 +20,7 @@ mod last_uses;
 #[derive(Drop)]
 pub struct Triggers {
     autofs: Vec<Autofs>,
-    made: IndexSet<Trigger>,
+    made: OrderedMap<Trigger, ()>,
     uses: IndexMap<Trigger, Seconds>,
 }
 
@@ -78,7 +79,7 @@ impl Triggers {
     {
         Triggers {
             autofs: Vec::new(alloc),
-            made: IndexSet::new(alloc),
+            made: OrderedMap::new(alloc),
             uses: IndexMap::new(alloc),
         }
     }
@@ -149,7 +150,7 @@ impl Triggers {
     pub fn made(&self, trigger: &Trigger) -> bool
         ensures { result ≡ is_made self.now.rows trigger.now }
     {
-        self.made.contains(trigger)
+        self.made.contains_key(trigger)
     }
 
     /// Makes a directory for the daemon to mount on (autofs.rst, "Content").
@@ -164,7 +165,7 @@ impl Triggers {
             return Err(Errno::EEXIST);
         }
         let _name: Option<Name> = trigger.name;
-        self.made.insert(trigger)?;
+        self.made.insert(trigger, ())?;
         Ok(())
     }
 
@@ -179,7 +180,7 @@ impl Triggers {
         if !self.made(trigger) {
             return Err(Errno::ENOENT);
         }
-        self.made.retain(|row| !row.is_same(trigger));
+        let _gone = self.made.remove(trigger);
         Ok(())
     }
 
