@@ -10,11 +10,6 @@ use Rattle.am_ordered.specs.Lookup.{insert_entry, shift_remove_entry}
 use Rattle.am_names.proofs.SameTriggers.{is_one}
 use Rattle.am_trigger.specs.Rows.{used_in, last_use_in}
 
--- tests that agree find the same
-pub any_same : {X : Type 0} (f g : X → Bool) → ((x : X) → f x ≡ g x) → (xs : List X) → list_any f xs ≡ list_any g xs
-any_same f g same [] = refl
-any_same f g same (x ∷ xs) = rw (same x, any_same f g same xs) refl
-
 module _ (eq : Trigger → Trigger → Bool) (says : (a b : Trigger) → eq a b ≡ same_trigger b a) where
   -- the index says when a trigger was last used
   pub lookup_is : (trigger : Trigger) (rows : List (Trigger × ℕ)) → lookup (eq trigger) rows ≡ last_use_in rows trigger
