@@ -6,6 +6,7 @@ mod expiries;
 mod groups;
 mod jobs;
 mod kernel;
+mod ordered;
 mod parts;
 mod script;
 mod trap;
