@@ -1,20 +1,18 @@
 -- What the kernel does keeps the daemon's book right where no file system is served that wasn't.
 use Rattle.std.proofs.Common.{◌≡◌, ℕ, ◌+◌, ◌≤◌, Bool, true, false, cond, List, [], ◌∷◌, map, Option, Some, None, refl, sym, ap, subst, ◌∙◌, arith}
-use Rattle.std.specs.Prelude.{◌==◌, find, Result, Ok, Err, if◌then◌else◌}
+use Rattle.std.specs.Prelude.{◌==◌, find, if◌then◌else◌}
 use Rattle.std.specs.Option.{option_map}
 use Rattle.std.proofs.lemmas.Bool.Decides.{nat_tests}
 use Rattle.std.proofs.lemmas.List.Elements.{All-weaker}
-use Rattle.am_names.specs.declared.errno.Errno.{Errno}
-use Rattle.am_names.specs.declared.row.Position.{Position}
 use Rattle.am_state.specs.declared.daemon_row.HeldRow.{HeldRow}
 use Rattle.am_trigger.specs.declared.autofs.Autofs.{Autofs}
 use Rattle.am_trigger.specs.Rows.{catatonic_row}
 use Rattle.am_kernel.specs.declared.row.Attached.{Attached}
 use Rattle.am_kernel.specs.State.{KernelState}
 use Rattle.am_kernel.specs.Outcome.{with_latest}
-use Rattle.am_kernel.specs.Sites.{is_live, is_live_row, latest_attach, attach_of, from_position}
+use Rattle.am_kernel.specs.Sites.{is_live, is_live_row, latest_attach, attach_of}
 use Rattle.am_kernel.specs.Requests.{timeout_row, with_timeout}
-use Rattle.am_kernel.specs.Attachments.{closed_if_live, attached_row, with_pipe}
+use Rattle.am_kernel.specs.Attachments.{attached_row, with_pipe}
 use Rattle.am_kernel.specs.Walks.{closed}
 use Rattle.am_daemon.specs.State.{DaemonState}
 use Rattle.am_machine.specs.Invariant.Books.{IsServed, BookAgrees}
