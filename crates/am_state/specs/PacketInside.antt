@@ -1,0 +1,18 @@
+-- The packet that a kept one stands for.
+use Rattle.am_wire.specs.declared.packet.Packet.{Packet}
+use Rattle.am_state.specs.declared.kept_packet.KeptPacket.TheInside.{Inside}
+
+abbrev pub packet_of : Inside → Packet
+packet_of k =
+    let parts = k.parts.value in
+    record {
+      kind = parts.kind;
+      token = parts.token;
+      dev = parts.dev;
+      ino = parts.ino;
+      uid = parts.uid;
+      gid = parts.gid;
+      pid = parts.pid;
+      tgid = parts.tgid;
+      name = parts.name;
+    }
