@@ -231,7 +231,7 @@ impl Lasting {
     {
         match obs {
             Obs::Queued { token, packet, .. } => {
-                let look = token_look(packet.kind, packet.dev);
+                let look = token_look(packet.kind(), packet.dev());
                 place(&mut self.tokens, token.0, look)
             }
             Obs::Waits { walker, .. } => self.place_walker(*walker, Look::Waits),

@@ -177,7 +177,8 @@ fn put_obs<W: Write>(
 {
     match obs {
         Obs::Queued { token, packet, .. } => {
-            put_queued(output, token_x(lasting, *token), *token, packet, writer)
+            let packet = packet.to_packet();
+            put_queued(output, token_x(lasting, *token), *token, &packet, writer)
         }
         Obs::Waits { walker, token } => {
             let from = walker_x(lasting, *walker) + 6;

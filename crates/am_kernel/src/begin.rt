@@ -23,7 +23,7 @@ use am_expire::OrderedTriggers;
 use am_names::{
     Attach, Errno, FsId, PipeState, Position, Seconds, Status, Token, TokenKind, Trigger, WalkerId,
 };
-use am_state::{Obs, QueuedRow};
+use am_state::{KeptPacket, KeptTrigger, Obs, QueuedRow, keep_triggers};
 use am_wait::Waits;
 use am_walk::{Stop, Walk, resolve};
 use std::alloc::{AllocError, Global};
@@ -74,35 +74,36 @@ pub fn forget_walk(walks: &mut Walks, waited: &Waited, walker: WalkerId)
 }
 
 /// Tells which triggers a walk passed.
-fn tell_passes(seen: &mut Vec<Obs>, walker: WalkerId, triggers: &[Trigger])
-    requires { vec_len seen.old + length triggers.now ≤ vec_capacity seen.old }
-    ensures seen { seen.new.items ≡ seen.old.items ++ passes walker triggers.now }
-    ensures len { vec_len seen.new ≡ vec_len seen.old + length triggers.now }
+fn tell_passes(seen: &mut Vec<Obs>, walker: WalkerId, passed: Vec<KeptTrigger>)
+    requires { vec_len seen.old + length passed.items ≤ vec_capacity seen.old }
+    ensures seen { seen.new.items ≡ seen.old.items ++ passes walker passed.items }
+    ensures len { vec_len seen.new ≡ vec_len seen.old + length passed.items }
     ensures capacity { vec_capacity seen.new ≡ vec_capacity seen.old }
 {
-    for trigger in triggers {
-        seen.push_reserved(Obs::Passed {
-            walker,
-            trigger: *trigger,
-        });
+    for trigger in passed {
+        seen.push_reserved(Obs::Passed { walker, trigger });
     }
 }
 
 /// Tells which triggers a walk passed, that a packet is queued, and that the walker waits.
-pub fn tell_queued(seen: &mut Vec<Obs>, walker: WalkerId, passed: &[Trigger], queued: &QueuedRow)
-    requires { vec_len seen.old + length passed.now + 2 ≤ vec_capacity seen.old }
-    ensures { seen.new.items ≡ seen.old.items ++ (passes walker passed.now ++ told.Queued queued.now.token queued.now.attach queued.now.packet ∷ told.Waits walker queued.now.token ∷ []) }
+pub fn tell_queued(
+    seen: &mut Vec<Obs>,
+    walker: WalkerId,
+    passed: Vec<KeptTrigger>,
+    token: Token,
+    attach: Attach,
+    packet: KeptPacket,
+)
+    requires { vec_len seen.old + length passed.items + 2 ≤ vec_capacity seen.old }
+    ensures { seen.new.items ≡ seen.old.items ++ (passes walker passed.items ++ told.Queued token attach packet ∷ told.Waits walker token ∷ []) }
 {
     tell_passes(seen, walker, passed);
     seen.push_reserved(Obs::Queued {
-        token: queued.token,
-        attach: queued.attach,
-        packet: queued.packet,
+        token,
+        attach,
+        packet,
     });
-    seen.push_reserved(Obs::Waits {
-        walker,
-        token: queued.token,
-    });
+    seen.push_reserved(Obs::Waits { walker, token });
 }
 
 /// Tells that these walkers are released with the status.
@@ -137,6 +138,7 @@ impl Kernel {
     /// The walk has come to the end of its path.
     fn arrive(
         &mut self,
+        alloc: Global,
         begin: &Begin<'_>,
         waited: &Waited,
         at: Position,
@@ -149,6 +151,7 @@ impl Kernel {
     {
         let walker = begin.walker;
         let mount = at.mount;
+        let kept = keep_triggers(alloc, passed)?;
         seen.reserve(passed.len() + 1)?;
         self.triggers.reserve_uses(passed.len() + 1)?;
         self.uses.enter(walker, mount)?;
@@ -156,7 +159,7 @@ impl Kernel {
         self.triggers.touch_all_reserved(passed, begin.moment);
         forget(&mut self.waits, waited, walker);
         forget_walk(&mut self.walks, waited, walker);
-        tell_passes(seen, walker, passed);
+        tell_passes(seen, walker, kept);
         seen.push_reserved(Obs::Entered { walker, mount });
         Ok(Begun::Arrived(at))
     }
@@ -181,6 +184,7 @@ impl Kernel {
             return Err(Errno::ENOSPC);
         }
         let row = begin.to_row(alloc)?;
+        let kept = keep_triggers(alloc, passed)?;
         seen.reserve(passed.len() + 1)?;
         self.triggers.reserve_uses(passed.len() + 1)?;
         self.walks.reserve()?;
@@ -188,7 +192,7 @@ impl Kernel {
         touch_expired(&mut self.triggers, waited, moment);
         self.triggers.touch_all_reserved(passed, moment);
         self.walks.put(row);
-        tell_passes(seen, walker, passed);
+        tell_passes(seen, walker, kept);
         seen.push_reserved(Obs::Waits { walker, token });
         Ok(Begun::Waits(token))
     }
@@ -215,19 +219,23 @@ impl Kernel {
         self.walks.reserve()?;
         self.queue.reserve(1)?;
         let row = begin.to_row(alloc)?;
+        let kept = keep_triggers(alloc, passed)?;
+        let unnumbered = packet_for(TokenKind::Missing, Token(0), walker, trigger);
+        let mut packet = KeptPacket::new(alloc, &unnumbered)?;
         let token = self
             .waits
             .reopen(alloc, *trigger, TokenKind::Missing, walker)?;
+        packet.set_token(token);
         let queued = QueuedRow {
             token,
             attach,
-            packet: packet_for(TokenKind::Missing, token, walker, trigger),
+            packet: packet.to_packet(),
         };
         touch_expired(&mut self.triggers, waited, moment);
         self.triggers.touch_all_reserved(passed, moment);
         self.triggers.touch_reserved(trigger, moment);
         self.walks.put(row);
-        tell_queued(seen, walker, passed, &queued);
+        tell_queued(seen, walker, kept, token, attach, packet);
         self.queue.push_reserved(queued);
         Ok(Begun::Waits(token))
     }
@@ -329,7 +337,7 @@ impl Kernel {
         )?;
         let Walk { stop, passed } = walk;
         match stop {
-            Stop::Arrive(at) => self.arrive(begin, waited, at, passed.as_slice(), seen),
+            Stop::Arrive(at) => self.arrive(alloc, begin, waited, at, passed.as_slice(), seen),
             Stop::Block(token) => self.join(alloc, begin, waited, token, passed.as_slice(), seen),
             Stop::Missing(trigger) => {
                 self.notify(alloc, begin, waited, trigger, passed.as_slice(), pipe, seen)

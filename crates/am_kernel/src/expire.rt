@@ -17,8 +17,10 @@ use crate::packet::packet_for;
 use crate::row::Attached;
 use crate::table::{refuse, table};
 use am_expire::pick;
-use am_names::{Attach, Errno, FsId, Name, PipeState, Seconds, TokenKind, Trigger, WalkerId};
-use am_state::{Obs, QueuedRow};
+use am_names::{
+    Attach, Errno, FsId, Name, PipeState, Seconds, Token, TokenKind, Trigger, WalkerId,
+};
+use am_state::{KeptPacket, Obs, QueuedRow};
 use std::alloc::Global;
 
 impl Kernel {
@@ -78,13 +80,16 @@ impl Kernel {
     {
         seen.reserve(2)?;
         self.queue.reserve(1)?;
+        let unnumbered = packet_for(TokenKind::Expire, Token(0), walker, trigger);
+        let mut packet = KeptPacket::new(alloc, &unnumbered)?;
         let token = self.waits.open(alloc, *trigger, TokenKind::Expire, walker)?;
+        packet.set_token(token);
         let queued = QueuedRow {
             token,
             attach,
-            packet: packet_for(TokenKind::Expire, token, walker, trigger),
+            packet: packet.to_packet(),
         };
-        tell_queued(seen, walker, &[], &queued);
+        tell_queued(seen, walker, Vec::new(alloc), token, attach, packet);
         self.queue.push_reserved(queued);
         Ok(Begun::Waits(token))
     }

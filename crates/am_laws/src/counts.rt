@@ -27,7 +27,7 @@ pub fn fs_of_token(token: Token, seen: &[Obs]) -> Option<FsId>
         } = o
             && *k == token
         {
-            return Some(packet.dev);
+            return Some(packet.dev());
         }
         rest = later;
     }
@@ -47,7 +47,7 @@ pub fn asks(trigger: &Trigger, token: Token, seen: &[Obs]) -> bool
         } = o
             && *k == token
         {
-            return expires(trigger, packet);
+            return expires(trigger, &packet.to_packet());
         }
         rest = later;
     }

@@ -137,13 +137,16 @@ fn is_lawful_lately(before: &[Obs], lately: &[Obs], greatest: Token, o: &Obs, re
             token,
             status,
         } => may_be_released(lately, *walker, *token, *status),
-        Obs::Passed { trigger, .. } => !is_expiring(lately, trigger),
+        Obs::Passed { trigger, .. } => !is_expiring(lately, &trigger.to_trigger()),
         Obs::Unmounted { mounts } => all_unused(before, mounts.as_slice()),
         Obs::Delivered {
             token,
             attach,
             packet,
-        } => { is_in_queue(*token, *attach, packet, lately) && !has_delivered(lately, *token) }
+        } => {
+            is_in_queue(*token, *attach, &packet.to_packet(), lately)
+                && !has_delivered(lately, *token)
+        }
         Obs::Entered { .. }
         | Obs::Left { .. }
         | Obs::Mounted { .. }

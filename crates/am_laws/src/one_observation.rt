@@ -110,7 +110,7 @@ pub fn queues_as(token: Token, attach: Attach, packet: &Packet, o: &Obs) -> bool
             token: k,
             attach: a,
             packet: p,
-        } => *k == token && *a == attach && is_same_packet(p, packet),
+        } => *k == token && *a == attach && is_same_packet(&p.to_packet(), packet),
         _ => false,
     }
 }

@@ -12,7 +12,7 @@ use am_script::answer_line::{put_number, put_place, put_word};
 use am_script::output::Output;
 use am_state::{QueuedRow, RecordRow};
 use am_views::event_text::put_status;
-use am_views::obs_text::{put_obs, put_trigger};
+use am_views::obs_text::{put_obs, put_queued, put_recorded, put_trigger};
 use am_world::{Book, Job, Obs, Use, Uses, WalkRow, World};
 use std::alloc::{AllocError, Global};
 use std::io::Write;
@@ -136,15 +136,13 @@ fn put_packets<W: Write>(output: &mut Output, world: &World, writer: &mut W)
     }
 }
 
+#[tactic(auto, unfolding(crate::specs::Notes::obs_note), using(am_script::proofs::Pieces::puts_three))]
 fn put_packet<W: Write>(output: &mut Output, row: &QueuedRow, writer: &mut W)
     ensures { Puts output.old output.new (packet_note row.now) (W.contents writer.old) (W.contents writer.new) }
 {
-    let queued = Obs::Queued {
-        token: row.token,
-        attach: row.attach,
-        packet: row.packet,
-    };
-    put_note(output, &queued, writer);
+    put_word(output, b"# ", writer);
+    put_queued(output, row.token, row.attach, &row.packet, writer);
+    put_word(output, b"\n", writer);
 }
 
 #[tactic(auto, using(am_script::proofs::Pieces::puts_none))]
@@ -245,14 +243,13 @@ fn put_record_at<W: Write>(output: &mut Output, row: Option<RecordRow>, writer: 
     }
 }
 
+#[tactic(auto, unfolding(crate::specs::Notes::obs_note), using(am_script::proofs::Pieces::puts_three))]
 fn put_record<W: Write>(output: &mut Output, row: RecordRow, writer: &mut W)
     ensures { Puts output.old output.new (record_note row) (W.contents writer.old) (W.contents writer.new) }
 {
-    let recorded = Obs::Recorded {
-        trigger: row.trigger,
-        entry: Some(row.entry),
-    };
-    put_note(output, &recorded, writer);
+    put_word(output, b"# ", writer);
+    put_recorded(output, &row.trigger, &Some(row.entry), writer);
+    put_word(output, b"\n", writer);
 }
 
 #[tactic(auto, using(am_script::proofs::Pieces::puts_none))]

@@ -32,7 +32,7 @@ fn note_at(obs: &Obs) -> Option<Note>
             token,
             attach,
             packet,
-        } => Some(note(*token, *attach, packet)),
+        } => Some(note(*token, *attach, &packet.to_packet())),
         _ => None,
     }
 }

@@ -1,17 +1,19 @@
 //! Observations: what an event lets be seen.
 
 use crate::daemon_row::Record;
-use am_names::{Attach, FsId, MountId, Mounts, Status, Token, Trigger, WalkerId};
-use am_wire::Packet;
+use crate::kept_packet::KeptPacket;
+use crate::kept_trigger::KeptTrigger;
+use am_names::{Attach, FsId, MountId, Mounts, Status, Token, WalkerId};
 
-/// One observation. A trace is a list of them.
+/// One observation. A trace is a list of them, so each takes little memory in its place: names
+/// stand in memory of their own.
 #[derive(Drop)]
 pub enum Obs {
     /// A packet was queued for the daemon.
     Queued {
         token: Token,
         attach: Attach,
-        packet: Packet,
+        packet: KeptPacket,
     },
     /// A walker waits on a token.
     Waits {
@@ -36,7 +38,7 @@ pub enum Obs {
     /// A walk passed a trigger, on which something is mounted.
     Passed {
         walker: WalkerId,
-        trigger: Trigger,
+        trigger: KeptTrigger,
     },
     /// A walk arrived in a mount, which is in use until the walker leaves.
     Entered {
@@ -60,11 +62,11 @@ pub enum Obs {
     Delivered {
         token: Token,
         attach: Attach,
-        packet: Packet,
+        packet: KeptPacket,
     },
     /// The daemon's book changed.
     Recorded {
-        trigger: Trigger,
+        trigger: KeptTrigger,
         entry: Option<Record>,
     },
     /// The daemon attached again to a catatonic file system.

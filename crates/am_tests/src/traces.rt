@@ -7,7 +7,7 @@
 //! - `entered`, `entered-by-2`, `left`: walker 1, or 2, enters and leaves the mount; `unmounted`.
 
 use am_names::{Attach, FsId, MountId, Mounts, Name, Status, Token, Trigger, WalkerId};
-use am_state::Obs;
+use am_state::{KeptPacket, KeptTrigger, Obs};
 use am_wire::{Kind, Packet, PacketName};
 use am_world::laws::trace_holds;
 use std::alloc::{AllocError, Global};
@@ -26,20 +26,20 @@ fn packet(kind: Kind) -> Packet {
     }
 }
 
-fn queued(kind: Kind) -> Obs {
-    Obs::Queued {
+fn queued(alloc: Global, kind: Kind) -> Result<Obs, AllocError> {
+    Ok(Obs::Queued {
         token: Token(1),
         attach: Attach(1),
-        packet: packet(kind),
-    }
+        packet: KeptPacket::new(alloc, &packet(kind))?,
+    })
 }
 
-fn delivered() -> Obs {
-    Obs::Delivered {
+fn delivered(alloc: Global) -> Result<Obs, AllocError> {
+    Ok(Obs::Delivered {
         token: Token(1),
         attach: Attach(1),
-        packet: packet(Kind::MissingIndirect),
-    }
+        packet: KeptPacket::new(alloc, &packet(Kind::MissingIndirect))?,
+    })
 }
 
 fn released(status: Status) -> Obs {
@@ -50,12 +50,13 @@ fn released(status: Status) -> Obs {
     }
 }
 
-fn passed() -> Obs {
+fn passed(alloc: Global) -> Result<Obs, AllocError> {
     let name: Option<Name> = Name::read(b"home").ok();
-    Obs::Passed {
+    let trigger = Trigger { fs: FsId(2), name };
+    Ok(Obs::Passed {
         walker: WalkerId(8),
-        trigger: Trigger { fs: FsId(2), name },
-    }
+        trigger: KeptTrigger::new(alloc, &trigger)?,
+    })
 }
 
 fn unmounted(alloc: Global) -> Result<Obs, AllocError> {
@@ -95,24 +96,24 @@ fn left() -> Obs {
 }
 
 /// What is seen of a token.
-fn seen_of_token(word: &str) -> Option<Obs> {
-    Some(match word {
-        "queued" => queued(Kind::MissingIndirect),
-        "expiring" => queued(Kind::ExpireIndirect),
-        "delivered" => delivered(),
+fn seen_of_token(alloc: Global, word: &str) -> Result<Option<Obs>, AllocError> {
+    Ok(Some(match word {
+        "queued" => queued(alloc, Kind::MissingIndirect)?,
+        "expiring" => queued(alloc, Kind::ExpireIndirect)?,
+        "delivered" => delivered(alloc)?,
         "waits" => waits(),
         "answered" => answered(),
         "released" => released(Status::Ready),
         "failed" => released(Status::Fail),
-        _ => return None,
-    })
+        _ => return Ok(None),
+    }))
 }
 
 /// What else is seen.
 fn seen_else(alloc: Global, word: &str) -> Result<Option<Obs>, AllocError> {
     Ok(Some(match word {
         "catatonic" => Obs::Catatonic { fs: FsId(2) },
-        "passed" => passed(),
+        "passed" => passed(alloc)?,
         "entered" => entered(1),
         "entered-by-2" => entered(2),
         "left" => left(),
@@ -122,7 +123,7 @@ fn seen_else(alloc: Global, word: &str) -> Result<Option<Obs>, AllocError> {
 }
 
 fn seen(alloc: Global, word: &str) -> Result<Option<Obs>, AllocError> {
-    match seen_of_token(word) {
+    match seen_of_token(alloc, word)? {
         Some(obs) => Ok(Some(obs)),
         None => seen_else(alloc, word),
     }

@@ -10,13 +10,14 @@ use am_names::{JobId, MountId, Mounts};
 use am_script::ScriptFaultKind;
 use am_script::answer_line::push_answer;
 use am_script::event_line::read_event;
-use am_world::{Answer, Event};
+use am_world::{Answer, Event, Obs};
 use std::alloc::{AllocError, Global};
 use std::mem::size_of;
 
-/// Each reader hands its event on by value, so that a large one is copied many times.
+/// Each reader hands its event on by value, so that a large one is copied many times, and a world
+/// keeps all that is ever seen.
 fn are_small() -> bool {
-    size_of::<Event>() <= 320 && size_of::<Answer>() <= 40
+    size_of::<Event>() <= 320 && size_of::<Answer>() <= 40 && size_of::<Obs>() <= 48
 }
 
 /// How many events a long list has.

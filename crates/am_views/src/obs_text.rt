@@ -1,15 +1,16 @@
 //! Observations as lines.
 
 ghost use Rattle.std.specs.Prelude.{◌≡◌, ◌++◌, codes, OnOk};
+ghost use Rattle.am_state.specs.declared.obs.Obs.TheVariants.{Queued, Recorded};
 ghost use Rattle.am_script.specs.Outputs.{Puts};
 ghost use Rattle.am_views.specs.ObsText.{obs_text, obs_line, obs_lines, key_part, trigger_part, type_part, root_part, owner_part, process_part, caller_part, packet_part};
 
 use crate::event_text::put_status;
-use am_names::{Name, Trigger};
+use am_names::{Attach, Name, Token, Trigger};
 use am_script::answer_line::{put_entry, put_mounts, put_number, put_word};
 use am_script::output::Output;
 use am_wire::{Kind, Packet};
-use am_world::Obs;
+use am_world::{Obs, Record};
 use std::alloc::AllocError;
 use std::io::Write;
 
@@ -55,11 +56,7 @@ pub fn put_obs<W: Write>(output: &mut Output, obs: &Obs, writer: &mut W)
             token,
             attach,
             packet,
-        } => {
-            put_number(output, b"queued ", u64::from(token.0), writer);
-            put_number(output, b" attach ", u64::from(attach.0), writer);
-            put_packet(output, packet, writer)
-        }
+        } => { put_queued(output, *token, *attach, &packet.to_packet(), writer) }
         Obs::Waits { walker, token } => {
             put_number(output, b"waits ", u64::from(walker.0), writer);
             put_number(output, b" token ", u64::from(token.0), writer)
@@ -80,7 +77,7 @@ pub fn put_obs<W: Write>(output: &mut Output, obs: &Obs, writer: &mut W)
         }
         Obs::Passed { walker, trigger } => {
             put_number(output, b"passed ", u64::from(walker.0), writer);
-            put_trigger(output, trigger, writer)
+            put_trigger(output, &trigger.to_trigger(), writer)
         }
         Obs::Entered { walker, mount } => {
             put_number(output, b"entered ", u64::from(walker.0), writer);
@@ -105,12 +102,10 @@ pub fn put_obs<W: Write>(output: &mut Output, obs: &Obs, writer: &mut W)
         } => {
             put_number(output, b"delivered ", u64::from(token.0), writer);
             put_number(output, b" attach ", u64::from(attach.0), writer);
-            put_packet(output, packet, writer)
+            put_packet(output, &packet.to_packet(), writer)
         }
         Obs::Recorded { trigger, entry } => {
-            put_word(output, b"recorded ", writer);
-            put_entry(output, entry, writer);
-            put_trigger(output, trigger, writer)
+            put_recorded(output, &trigger.to_trigger(), entry, writer)
         }
         Obs::Reattached { fs, attach } => {
             put_number(output, b"reattached ", u64::from(fs.0), writer);
@@ -118,6 +113,37 @@ pub fn put_obs<W: Write>(output: &mut Output, obs: &Obs, writer: &mut W)
         }
         Obs::Died => put_word(output, b"died", writer),
     }
+}
+
+/// Puts out that a packet was queued.
+#[tactic(auto, using(am_script::proofs::Pieces::puts_three))]
+pub fn put_queued<W: Write>(
+    output: &mut Output,
+    token: Token,
+    attach: Attach,
+    packet: &Packet,
+    writer: &mut W,
+)
+    ensures { Puts output.old output.new (obs_text (Queued token attach packet.now)) (W.contents writer.old) (W.contents writer.new) }
+{
+    put_number(output, b"queued ", u64::from(token.0), writer);
+    put_number(output, b" attach ", u64::from(attach.0), writer);
+    put_packet(output, packet, writer);
+}
+
+/// Puts out what the daemon's book says of a trigger.
+#[tactic(auto, using(am_script::proofs::Pieces::puts_three))]
+pub fn put_recorded<W: Write>(
+    output: &mut Output,
+    trigger: &Trigger,
+    entry: &Option<Record>,
+    writer: &mut W,
+)
+    ensures { Puts output.old output.new (obs_text (Recorded trigger.now entry.now)) (W.contents writer.old) (W.contents writer.new) }
+{
+    put_word(output, b"recorded ", writer);
+    put_entry(output, entry, writer);
+    put_trigger(output, trigger, writer);
 }
 
 /// Puts a trigger out, behind a blank.

@@ -14,7 +14,7 @@ use am_daemon::Daemon;
 use am_job::{Act, Outcome};
 use am_machine::Answer;
 use am_names::{Attach, Errno, JobId, Status, Token, Trigger};
-use am_state::{Obs, Record};
+use am_state::{KeptTrigger, Obs, Record};
 use std::alloc::Global;
 
 /// An act without what it mounts.
@@ -219,6 +219,7 @@ impl Halves {
 
     fn write_down(
         &mut self,
+        alloc: Global,
         turn: &Turn,
         trigger: &Trigger,
         entry: Option<Record>,
@@ -226,12 +227,10 @@ impl Halves {
         requires { IsNext turn.now (deed.Record trigger.now entry) (daemon_of self.old.daemon) }
         ensures { Goes (record_act (state_of self.old) (row_for (daemon_of self.old.daemon) turn.now.job) trigger.now entry) (state_of self.old) result (state_of self.new) }
     {
+        let trigger = KeptTrigger::new(alloc, trigger)?;
         self.trace.reserve(1)?;
         self.daemon.finish_act(turn.job, Outcome::Done)?;
-        self.trace.push_reserved(Obs::Recorded {
-            trigger: *trigger,
-            entry,
-        });
+        self.trace.push_reserved(Obs::Recorded { trigger, entry });
         Ok(Answer::DidRecord)
     }
 
@@ -262,7 +261,7 @@ impl Halves {
             Deed::Mount { trigger } => self.mount_on(alloc, &turn, trigger, ok),
             Deed::Umount { trigger } => self.umount_from(alloc, &turn, trigger, ok),
             Deed::Rmdir { trigger } => self.remove_directory(alloc, &turn, trigger),
-            Deed::Record { trigger, entry } => self.write_down(&turn, trigger, *entry),
+            Deed::Record { trigger, entry } => self.write_down(alloc, &turn, trigger, *entry),
             Deed::Reply { status } => self.reply(alloc, &turn, *status),
         }
     }

@@ -1,6 +1,6 @@
 //! The daemon takes packets from the pipe.
 
-ghost use Rattle.std.specs.Prelude.{◌≡◌, ◌≤◌, ◌+◌, ◌∷◌, ◌++◌, Some, None, vec_len, vec_capacity};
+ghost use Rattle.std.specs.Prelude.{◌≡◌, ◌≤◌, ◌+◌, ◌∷◌, ◌++◌, Some, None, IfOk, vec_len, vec_capacity};
 ghost use Rattle.am_state.specs.declared.obs.Obs.TheVariants.{Delivered};
 ghost use Rattle.am_machine.specs.Events.Deliveries.{has_bytes, packet_bytes, deliver_outcome, delivered_at};
 ghost use Rattle.am_world.specs.Halves.{state_of, written, Goes};
@@ -10,9 +10,9 @@ use am_daemon::DaemonFault;
 use am_daemon::acts::Writing;
 use am_machine::Answer;
 use am_names::{Errno, Token};
-use am_state::{Obs, QueuedRow};
+use am_state::{KeptPacket, KeptTrigger, Obs, QueuedRow};
 use am_wire::write;
-use std::alloc::Global;
+use std::alloc::{AllocError, Global};
 
 /// The bytes of a queued packet.
 pub fn bytes_of(row: &QueuedRow) -> [u8; 304]
@@ -36,21 +36,38 @@ fn has_bytes(bytes: &Option<[u8; 304]>, row: &QueuedRow) -> bool
     }
 }
 
-/// Tells that a packet was delivered, and what the book says then. There is room for it.
-fn tell_delivered(trace: &mut Vec<Obs>, row: &QueuedRow, writing: &Option<Writing>)
-    requires { vec_len trace.old + 2 ≤ vec_capacity trace.old }
-    ensures { trace.new.items ≡ trace.old.items ++ Delivered row.now.token row.now.attach row.now.packet ∷ written writing.now }
+/// What is seen of a delivery: that the packet was delivered, and what the book says then.
+fn delivered_seen(
+    alloc: Global,
+    row: &QueuedRow,
+    writing: &Option<Writing>,
+) -> Result<Vec<Obs>, AllocError>
+    ensures { IfOk result (λ seen. seen.items ≡ Delivered row.now.token row.now.attach row.now.packet ∷ written writing.now) }
 {
-    trace.push_reserved(Obs::Delivered {
+    let mut seen = Vec::with_capacity(alloc, 2)?;
+    let packet = KeptPacket::new(alloc, &row.packet)?;
+    seen.push(Obs::Delivered {
         token: row.token,
         attach: row.attach,
-        packet: row.packet,
-    });
+        packet,
+    })?;
     if let Some(writing) = writing {
-        trace.push_reserved(Obs::Recorded {
-            trigger: writing.trigger,
+        let trigger = KeptTrigger::new(alloc, &writing.trigger)?;
+        seen.push(Obs::Recorded {
+            trigger,
             entry: writing.entry,
-        });
+        })?;
+    }
+    Ok(seen)
+}
+
+/// Tells what is seen. There is room for it.
+fn tell(trace: &mut Vec<Obs>, seen: Vec<Obs>)
+    requires { vec_len trace.old + vec_len seen ≤ vec_capacity trace.old }
+    ensures { trace.new.items ≡ trace.old.items ++ seen.items }
+{
+    for obs in seen {
+        trace.push_reserved(obs);
     }
 }
 
@@ -59,12 +76,13 @@ impl Halves {
     fn take(&mut self, alloc: Global, row: &QueuedRow) -> Result<Answer, Errno>
         ensures { Goes (delivered_at (Some row.now) (state_of self.old) None) (state_of self.old) result (state_of self.new) }
     {
-        self.trace.reserve(2)?;
         let writing = self.daemon.recording(&row.packet);
+        let seen = delivered_seen(alloc, row, &writing)?;
+        self.trace.reserve(seen.len())?;
         match self.daemon.take_up(alloc, row.attach, &row.packet) {
             Ok(job) => {
                 self.kernel.take_packet(row.token);
-                tell_delivered(&mut self.trace, row, &writing);
+                tell(&mut self.trace, seen);
                 Ok(Answer::Job { job })
             }
             Err(DaemonFault::NoMemory) => Err(Errno::NoMemory),

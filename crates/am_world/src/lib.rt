@@ -17,6 +17,6 @@ pub use am_expire::{Use, Uses};
 pub use am_job::{Act, Book, Job};
 pub use am_kernel::{Attached, WalkRow};
 pub use am_machine::{Answer, Event};
-pub use am_state::{Obs, QueuedRow, Record};
+pub use am_state::{KeptPacket, KeptTrigger, Obs, QueuedRow, Record};
 pub use am_trigger::Autofs;
 pub use world::{Ran, World, run};

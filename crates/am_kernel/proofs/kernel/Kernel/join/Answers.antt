@@ -1,6 +1,7 @@
 use Rattle.std.proofs.Common.{◌≡◌, ◌++◌, ◌∷◌, [], false, List, sym, ap, ◌∙◌, refl}
 use Rattle.std.specs.Prelude.{⊤}
 use Rattle.std.proofs.lemmas.Result.{err_from_is_err_and}
+use Rattle.am_names.specs.declared.trigger.Trigger.{Trigger}
 use Rattle.am_state.specs.declared.obs.Obs.{Obs}
 use Rattle.am_state.specs.declared.obs.Obs.TheVariants as seen
 use Rattle.am_trigger.specs.Rows.{all_used}
@@ -43,4 +44,4 @@ returns c =
     c.put.ensures ∙ ap (λ (row : WalkRow). without_walk row.walker c.reserve-2.new.self.rows ++ row ∷ []) c.in_ok-row.ensures ∙ ap (with_walk b) c.reserve-2.ensures.rows ∙ sym (put_again w b old.walks) in
     joins_as w k _ b c.args.token c.args.passed.now c.args.seen.now.items _ c.requires.free room
     ((rw (triggers, waits, walks) refl) ∙ ap (λ (s : KernelState). with_joined b c.args.token c.args.passed.now (without_wait w b.walker b.moment s)) c.self.view_is)
-    (c.push_reserved.ensures.items ∙ ap (λ (xs : List Obs). xs ++ seen.Waits b.walker c.args.token ∷ []) (c.tell_passes.ensures.seen ∙ ap (λ (xs : List Obs). xs ++ passes b.walker c.args.passed.now) c.reserve.ensures.items))
+    (c.push_reserved.ensures.items ∙ ap (λ (xs : List Obs). xs ++ seen.Waits b.walker c.args.token ∷ []) (c.tell_passes.ensures.seen ∙ ap (λ (ts : List Trigger). c.reserve.new.self.items ++ passes b.walker ts) c.in_ok-kept.ensures ∙ ap (λ (xs : List Obs). xs ++ passes b.walker c.args.passed.now) c.reserve.ensures.items))

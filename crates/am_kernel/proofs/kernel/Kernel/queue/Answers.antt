@@ -1,13 +1,15 @@
 use Rattle.std.proofs.Common.{◌≡◌, ◌+◌, ◌++◌, ◌∷◌, [], ℕ, List, sym, ap, ◌∙◌, refl}
+use Rattle.am_names.specs.declared.trigger.Trigger.{Trigger}
 use Rattle.am_wire.specs.declared.packet.Packet.{Packet}
 use Rattle.am_state.specs.declared.obs.Obs.{Obs}
 use Rattle.am_state.specs.declared.kernel_row.QueuedRow.{QueuedRow}
+use Rattle.am_state.specs.Packets.{with_token}
 use Rattle.am_names.specs.declared.row.TokenKind.TheVariants.{Missing}
 use Rattle.am_trigger.specs.Rows.{used, all_used}
 use Rattle.am_wait.specs.Calls.{reopened}
 use Rattle.am_kernel.specs.declared.row.WalkRow.{WalkRow}
 use Rattle.am_kernel.specs.State.{KernelState}
-use Rattle.am_kernel.specs.Walks.{without_walk, with_walk, with_notified}
+use Rattle.am_kernel.specs.Walks.{passes, without_walk, with_walk, with_notified}
 use Rattle.am_kernel.specs.Inside.{kernel_of, expired_uses, forgotten_walks}
 use Rattle.am_kernel.proofs.FreeLemmas.{put_again, without_wait}
 use Rattle.am_kernel.proofs.NotifyLemmas.{notified_as, shown_with, packet_of}
@@ -23,6 +25,9 @@ returns c =
     let attach = c.args.attach in
     let passed = c.args.passed.now in
     let row : ℕ → Packet → QueuedRow = λ token packet. record { token = token; attach = attach; packet = packet } in
+    let kept : c.set_token.new.self ≡ packet_of b trigger c.in_ok-token.token =
+    c.set_token.ensures ∙ ap (with_token c.in_ok-token.token) (c.in_ok-packet.ensures ∙ c.packet_for-unnumbered.ensures) in
+    let packet : c.to_packet.result ≡ packet_of b trigger c.in_ok-token.token = c.to_packet.ensures ∙ kept in
     let next : c.in_ok-token.token ≡ old.waits.last_token + 1 = c.in_ok-token.ensures.token in
     let triggers : c.touch_reserved.new.self.rows ≡ used trigger b.moment (all_used passed b.moment (expired_uses w b.moment old.triggers)) =
     c.touch_reserved.ensures.rows ∙ ap (used trigger b.moment) (c.touch_all_reserved.ensures.rows ∙ ap (all_used passed b.moment) (c.touch_expired.ensures.rows ∙ ap (expired_uses w b.moment) c.reserve_uses.ensures.rows)) in
@@ -30,8 +35,12 @@ returns c =
     let walks : c.put.new.self.rows ≡ with_walk b (forgotten_walks w b.walker old.walks) =
     c.put.ensures ∙ ap (λ (r : WalkRow). without_walk r.walker c.reserve-2.new.self.rows ++ r ∷ []) c.in_ok-row.ensures ∙ ap (with_walk b) c.reserve-2.ensures.rows ∙ sym (put_again w b old.walks) in
     let queue : c.push_reserved.new.self.items ≡ old.queue ++ row (old.waits.last_token + 1) (packet_of b trigger (old.waits.last_token + 1)) ∷ [] =
-    c.push_reserved.ensures.items ∙ ap (λ (rows : List QueuedRow). rows ++ row c.in_ok-token.token c.packet_for.result ∷ []) c.reserve-3.ensures.items ∙ ap (λ (packet : Packet). old.queue ++ row c.in_ok-token.token packet ∷ []) c.packet_for.ensures ∙ ap (λ (token : ℕ). old.queue ++ row token (packet_of b trigger token) ∷ []) next in
+    c.push_reserved.ensures.items ∙ ap (λ (rows : List QueuedRow). rows ++ row c.in_ok-token.token c.to_packet.result ∷ []) c.reserve-3.ensures.items ∙ ap (λ (packet : Packet). old.queue ++ row c.in_ok-token.token packet ∷ []) packet ∙ ap (λ (token : ℕ). old.queue ++ row token (packet_of b trigger token) ∷ []) next in
     let next_now : c.in_ok-token.token ≡ k.waits.last_token + 1 = next ∙ ap (λ (s : KernelState). s.waits.last_token + 1) c.self.view_is in
     notified_as w k _ b trigger attach passed c.in_ok-token.token c.args.seen.now.items _ c.requires.free next_now
     ((rw (triggers, waits, walks, queue) refl) ∙ ap (λ (s : KernelState). with_notified b trigger attach passed (without_wait w b.walker b.moment s)) c.self.view_is)
-    (c.tell_queued.ensures ∙ ap (λ (xs : List Obs). xs ++ shown_with b attach passed c.in_ok-token.token c.packet_for.result) c.reserve.ensures.items ∙ ap (λ (packet : Packet). c.args.seen.now.items ++ shown_with b attach passed c.in_ok-token.token packet) c.packet_for.ensures ∙ ap (λ (token : ℕ). c.args.seen.now.items ++ shown_with b attach passed token (packet_of b trigger token)) next_now)
+    (c.tell_queued.ensures
+    ∙ ap (λ (ts : List Trigger). c.reserve.new.self.items ++ shown_with b attach ts c.in_ok-token.token c.set_token.new.self) c.in_ok-kept.ensures
+    ∙ ap (λ (xs : List Obs). xs ++ shown_with b attach passed c.in_ok-token.token c.set_token.new.self) c.reserve.ensures.items
+    ∙ ap (λ (packet : Packet). c.args.seen.now.items ++ shown_with b attach passed c.in_ok-token.token packet) kept
+    ∙ ap (λ (token : ℕ). c.args.seen.now.items ++ shown_with b attach passed token (packet_of b trigger token)) next_now)

@@ -19,6 +19,7 @@ returns-in-Ok c =
     let told = seen.Delivered row.token row.attach row.packet in
     goes_as (delivered_at (Some row) s None) (takes s row) s (answers.Job c.in-Ok.job) _ (taken s row c.in-Ok.ensures.fault) (ap (λ (j : ℕ). answers.Job j) c.in-Ok.ensures.job)
     (all_is s (without_packet row.token s.kernel) c.take_packet.new.self (taken_up row.attach row.packet s.daemon) _ (s.trace ++ told ∷ recording s.daemon row) _ c.take_packet.ensures c.in-Ok.ensures.ok
-    (c.tell_delivered.ensures ∙ ap (λ (t : List Obs). t ++ told ∷ written c.recording-writing.result) c.reserve.ensures.items
+    (c.tell.ensures ∙ ap (λ (more : List Obs). c.reserve.new.self.items ++ more) c.in_ok-seen.ensures
+    ∙ ap (λ (t : List Obs). t ++ told ∷ written c.recording-writing.result) c.reserve.ensures.items
     ∙ ap (λ (w : Option Writing). s.trace ++ told ∷ written w) c.recording-writing.ensures
     ∙ ap (λ (more : List Obs). s.trace ++ told ∷ more) (written_is (is_reply (plan_of_packet s.daemon row.packet)) (record { trigger = trigger_of row.packet; entry = pending_of s.daemon row.packet }))))

@@ -1,5 +1,6 @@
 use Rattle.std.proofs.Common.{[], ◌∷◌, ◌++◌, List, refl, ap, ◌∙◌}
 use Rattle.am_job.specs.declared.act.Outcome.TheVariants as came
+use Rattle.am_names.specs.declared.trigger.Trigger.{Trigger}
 use Rattle.am_state.specs.declared.obs.Obs.{Obs}
 use Rattle.am_state.specs.declared.obs.Obs.TheVariants as seen
 use Rattle.am_machine.specs.declared.answer.Answer.TheVariants as answers
@@ -18,4 +19,4 @@ returns c =
     goes_as (record_act s row c.args.trigger.now c.args.entry) (goes_on s row came.Done answers.DidRecord shown s.kernel) s answers.DidRecord _
     (record_goes s row c.args.trigger.now c.args.entry (record_held c.args.turn.now c.args.trigger.now c.args.entry s.daemon c.requires c.in_ok-finish_act.ensures.refusal)) refl
     (went s row c.args.turn.now.job came.Done answers.DidRecord shown s.kernel c.args.self.now.kernel _ _ (row_token c.args.turn.now s.daemon c.requires.comes) c.in_ok-finish_act.ensures.ok refl
-    (c.push_reserved.ensures.items ∙ ap (λ (t : List Obs). t ++ shown) c.reserve.ensures.items))
+    (c.push_reserved.ensures.items ∙ ap (λ (t : Trigger). c.reserve.new.self.items ++ seen.Recorded t c.args.entry ∷ []) c.in_ok-trigger.ensures ∙ ap (λ (t : List Obs). t ++ shown) c.reserve.ensures.items))
