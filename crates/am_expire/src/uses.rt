@@ -7,6 +7,7 @@ ghost use Rattle.am_expire.specs.Counts.{counted, CountsOneMore};
 ghost use Rattle.indexmap.specs.IndexMap.{spare};
 
 use am_names::{Errno, MountId, WalkerId};
+use am_ordered::OrderedMap;
 use am_propagate::InUse;
 use indexmap::IndexMap;
 use std::alloc::Global;
@@ -20,10 +21,10 @@ pub struct Use {
 }
 
 /// The walkers that are inside mounts, each inside one, in order of entering.
-#[derive(Debug, Drop)]
+#[derive(Drop)]
 pub struct Uses {
     /// The mount of each walker, by the walker's number.
-    mounts: IndexMap<u32, MountId>,
+    mounts: OrderedMap<u32, MountId>,
     /// How many walkers are inside each mount, by the mount's number; none has no entry.
     counts: IndexMap<u64, usize>,
 }
@@ -77,7 +78,7 @@ impl Uses {
         ensures { result ≡ no_uses }
     {
         Uses {
-            mounts: IndexMap::new(alloc),
+            mounts: OrderedMap::new(alloc),
             counts: IndexMap::new(alloc),
         }
     }
@@ -129,7 +130,7 @@ impl Uses {
         self.counts.reserve(1)?;
         // A count is no greater than the number of walkers.
         let _walkers = self.mounts.len();
-        let _entered = self.mounts.insert(walker.0, mount);
+        self.mounts.insert_reserved(walker.0, mount);
         count_up(&mut self.counts, mount);
         Ok(())
     }
@@ -146,7 +147,7 @@ impl Uses {
         let Some(mount) = self.mount_of(walker) else {
             return Err(Errno::EINVAL);
         };
-        let _left = self.mounts.shift_remove(&walker.0);
+        let _left = self.mounts.remove(&walker.0);
         count_down(&mut self.counts, mount);
         Ok(mount)
     }

@@ -1,6 +1,6 @@
 //! The map.
 
-ghost use Rattle.std.specs.Prelude.{◌≡◌, ◌≤◌, ◌+◌, [], length, remove, slice_get, is_some, IsSome, IsNone, Some, OnOk, OnErr, option_copied};
+ghost use Rattle.std.specs.Prelude.{◌≡◌, ◌≤◌, ◌<◌, ◌+◌, ◌^◌, [], length, remove, slice_get, is_some, IsSome, IsNone, Some, OnOk, OnErr, option_copied};
 ghost use Rattle.std.specs.List.{IsDistinct};
 ghost use Rattle.std.specs.Map.{keys_of, lookup};
 ghost use Rattle.std.specs.Map.Iter.{deref_pair};
@@ -63,7 +63,8 @@ impl<K: Eq + Hash, V> OrderedMap<K, V> {
 
     /// How many keys there are.
     pub fn len(&self) -> usize
-        ensures { result ≡ length self.now.entries }
+        ensures exact { result ≡ length self.now.entries }
+        ensures bound { result < 2 ^ 63 }
     {
         self.order.len()
     }

@@ -1,7 +1,6 @@
 use Rattle.std.proofs.Common.{◌≡◌, ◌<◌, ℕ, nat_eq, List, None, sym, ap, subst, ◌∙◌, arith}
 use Rattle.std.specs.Prelude.{map, is_some}
-use Rattle.am_names.proofs.SameTriggers.{when_ok}
-use Rattle.indexmap.specs.IndexMap.{insert_entry, spare}
+use Rattle.am_ordered.specs.Lookup.{insert_entry}
 use Rattle.am_expire.specs.declared.uses.Use.{Use}
 use Rattle.am_expire.specs.Uses.{mount_of, entered, IsInToo, HasOneMore}
 use Rattle.am_expire.specs.Counts.{CountsOneMore}
@@ -19,9 +18,7 @@ returns-clause-ok c =
     let free : mount_of (map use_of entries) walker ≡ None =
     ap (mount_of (map use_of entries)) c.walker.view_is
     ∙ ap (λ (u : List Use). mount_of u c.args.walker) c.self.view_is ∙ none in
-    let room : 0 < spare c.reserve.new.self = omega (arith, c.in_ok-reserve.ensures.ok) in
-    let made : c.insert-entered.new.self.entries ≡ insert_entry nat_eq c.reserve.new.self.entries walker c.args.mount =
-    when_ok c.insert-entered.result (c.insert-entered.ensures.succeeds room) c.insert-entered.ensures.entries in
+    let made : c.insert_reserved.new.self.entries ≡ insert_entry nat_eq c.reserve.new.self.entries walker c.args.mount = c.insert_reserved.ensures.entries in
     rw (← c.walker.view_is)
     (ap (map use_of) (made ∙ ap (λ (es : List (ℕ × ℕ)). insert_entry nat_eq es walker c.args.mount) c.in_ok-reserve.ensures.entries)
     ∙ inserted_last walker c.args.mount entries free

@@ -20,7 +20,7 @@ pub returns-clause-ok : goal.returns-clause-ok
 returns-clause-ok c =
     let walker = c.walker.inside.0 in
     rw (← c.walker.view_is)
-    (ap (map use_of) c.shift_remove-left.ensures.entries
+    (ap (map use_of) c.remove-left.ensures.entries
     ∙ left_is walker c.self.inside.mounts.entries c.self.invariant.single
     ∙ ap (left walker) c.self.view_is)
 

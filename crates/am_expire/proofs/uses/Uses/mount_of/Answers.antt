@@ -8,5 +8,5 @@ pub returns : goal.returns
 returns c =
     let walker = c.walker.inside.0 in
     rw (← c.walker.view_is)
-    (c.copied.ensures ∙ c.get.ensures.value ∙ lookup_is walker c.self.inside.mounts.entries
+    (c.copied.ensures ∙ c.get.ensures ∙ lookup_is walker c.self.inside.mounts.entries
     ∙ ap (λ (u : List Use). mount_of u walker) c.self.view_is)
