@@ -1,6 +1,7 @@
 //! One language for all examples: tables of steps, and one player.
 
 mod acts;
+mod crowd;
 mod daemons;
 mod expiries;
 mod groups;

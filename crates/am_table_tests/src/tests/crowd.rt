@@ -1,0 +1,45 @@
+//! Many that wait on one token.
+
+use am_names::{Errno, FsId, Status, Token, TokenKind, Trigger, WalkerId};
+use am_wait::Waits;
+use std::alloc::Global;
+
+/// So many walkers wait.
+const CROWD: u32 = 1_000;
+
+/// All of them wait on one token, each behind those of lower numbers.
+fn gather(alloc: Global, waits: &mut Waits) -> Result<Token, Errno> {
+    let trigger = Trigger {
+        fs: FsId(2),
+        name: None,
+    };
+    let token = waits.open(alloc, trigger, TokenKind::Missing, WalkerId(0))?;
+    for walker in 1..CROWD {
+        waits.join(token, WalkerId(walker))?;
+    }
+    Ok(token)
+}
+
+/// Whether each of them is told Ready, the last first.
+fn are_ready(waits: &mut Waits) -> bool {
+    let mut left = CROWD;
+    while left > 0 {
+        left -= 1;
+        if waits.collect(WalkerId(left)) != Ok(Status::Ready) {
+            return false;
+        }
+    }
+    true
+}
+
+fn plays(alloc: Global) -> Result<bool, Errno> {
+    let mut waits = Waits::new(alloc, CROWD, 1);
+    let token = gather(alloc, &mut waits)?;
+    waits.answer(token, Status::Ready)?;
+    Ok(are_ready(&mut waits))
+}
+
+#[test]
+fn a_crowd_on_one_token_is_collected_backwards(rt: HostRuntime) {
+    assert!(rt; plays(rt.alloc()) == Ok(true));
+}
