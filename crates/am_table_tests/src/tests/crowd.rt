@@ -22,10 +22,9 @@ fn gather(alloc: Global, waits: &mut Waits) -> Result<Token, Errno> {
 
 /// Whether each of them is told Ready, the last first.
 fn are_ready(waits: &mut Waits) -> bool {
-    let mut left = CROWD;
-    while left > 0 {
-        left -= 1;
-        if waits.collect(WalkerId(left)) != Ok(Status::Ready) {
+    for collected in 0..CROWD {
+        let last = WalkerId(CROWD - 1 - collected);
+        if waits.collect(last) != Ok(Status::Ready) {
             return false;
         }
     }
