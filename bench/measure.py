@@ -20,12 +20,10 @@ import time
 import generate
 
 RUNS = 15
-KEYS = (10, 100, 1000)
+KEYS = (10, 100, 1000, 10000)
 LINES = {"map": (500, 5000, 50000), "master": (10, 100, 1000)}
-COPIES = (10, 100, 300)
-LIVES = (100, 300, 1000)
-# What comes and goes, or lives and dies, does so more often.
-LONG = {"mounts": (100, 1000, 8000), "lives": (100, 1000, 8000)}
+COPIES = (10, 100, 1000)
+LIVES = (100, 1000, 10000)
 # Short runs are repeated so many times more often.
 SHORT = 10
 # Of more copies than that there is a single run, with none before it, and so of the fourth table.
@@ -112,7 +110,7 @@ def top(shape, size):
 def shapes(program, room, runs, names, sizes):
     for shape in names:
         before = None
-        for size in LONG.get(shape, sizes):
+        for size in sizes:
             again, uncounted = runs * SHORT if size <= 100 else runs, 1
             if shape in generate.COPIES + generate.LIVES:
                 again, uncounted = (runs, 1) if size <= MANY else (1, 0)

@@ -77,13 +77,25 @@ fn rounds_in(history: &[Entry]) -> usize
 fn entered_in(trace: &[Obs]) -> usize
     ensures { result ≡ count_by is_entered trace.now }
 {
-    trace.iter().filter(|obs| is_entered(*obs)).count()
+    let mut entered = 0;
+    for obs in trace {
+        if is_entered(obs) {
+            entered += 1;
+        }
+    }
+    entered
 }
 
 fn left_in(trace: &[Obs]) -> usize
     ensures { result ≡ count_by is_left trace.now }
 {
-    trace.iter().filter(|obs| is_left(*obs)).count()
+    let mut left = 0;
+    for obs in trace {
+        if is_left(obs) {
+            left += 1;
+        }
+    }
+    left
 }
 
 /// The tally of a world, where the receipts of all callers match its history.
