@@ -3,16 +3,18 @@
 ghost use Rattle.std.specs.Prelude.{◌≡◌, ◌++◌, IfOk, OnOk};
 ghost use Rattle.std.specs.List.{flat_map};
 ghost use Rattle.am_daemon.specs.State.{rows_of, job_plan};
+ghost use Rattle.am_state.specs.declared.obs.Obs.TheVariants.{Queued, Recorded};
 ghost use Rattle.am_script.specs.Outputs.{Puts};
 ghost use Rattle.am_mountinfo.specs.Notes.{obs_note, walkers_text, trigger_text, token_note, packet_note, record_note, job_note, status_text, wait_text, walk_note, use_note, fs_notes, tokens_notes, packets_notes, book_notes, jobs_notes, walks_notes, uses_notes, kernel_notes, daemon_notes};
 ghost use Rattle.am_mountinfo.specs.Opens.{open_text, opens_text, row_note};
 
-use am_names::{FsId, Status, Token, Trigger, WaitRow, WalkerId};
+use am_names::{Attach, FsId, Status, Token, Trigger, WaitRow, WalkerId};
 use am_script::answer_line::{put_number, put_place, put_word};
 use am_script::output::Output;
-use am_state::{QueuedRow, RecordRow};
+use am_state::{QueuedRow, Record, RecordRow};
 use am_views::event_text::put_status;
 use am_views::obs_text::{put_obs, put_queued, put_recorded, put_trigger};
+use am_wire::Packet;
 use am_world::{Book, Job, Obs, Use, Uses, WalkRow, World};
 use std::alloc::{AllocError, Global};
 use std::io::Write;
@@ -136,13 +138,26 @@ fn put_packets<W: Write>(output: &mut Output, world: &World, writer: &mut W)
     }
 }
 
+/// Puts out as a comment that a packet is queued.
 #[tactic(auto, unfolding(crate::specs::Notes::obs_note), using(am_script::proofs::Pieces::puts_three))]
+fn put_queued_note<W: Write>(
+    output: &mut Output,
+    token: Token,
+    attach: Attach,
+    packet: &Packet,
+    writer: &mut W,
+)
+    ensures { Puts output.old output.new (obs_note (Queued token attach packet.now)) (W.contents writer.old) (W.contents writer.new) }
+{
+    put_word(output, b"# ", writer);
+    put_queued(output, token, attach, packet, writer);
+    put_word(output, b"\n", writer);
+}
+
 fn put_packet<W: Write>(output: &mut Output, row: &QueuedRow, writer: &mut W)
     ensures { Puts output.old output.new (packet_note row.now) (W.contents writer.old) (W.contents writer.new) }
 {
-    put_word(output, b"# ", writer);
-    put_queued(output, row.token, row.attach, &row.packet, writer);
-    put_word(output, b"\n", writer);
+    put_queued_note(output, row.token, row.attach, &row.packet, writer);
 }
 
 #[tactic(auto, using(am_script::proofs::Pieces::puts_none))]
@@ -243,13 +258,25 @@ fn put_record_at<W: Write>(output: &mut Output, row: Option<RecordRow>, writer: 
     }
 }
 
+/// Puts out as a comment what the book says of a trigger.
 #[tactic(auto, unfolding(crate::specs::Notes::obs_note), using(am_script::proofs::Pieces::puts_three))]
+fn put_recorded_note<W: Write>(
+    output: &mut Output,
+    trigger: &Trigger,
+    entry: &Option<Record>,
+    writer: &mut W,
+)
+    ensures { Puts output.old output.new (obs_note (Recorded trigger.now entry.now)) (W.contents writer.old) (W.contents writer.new) }
+{
+    put_word(output, b"# ", writer);
+    put_recorded(output, trigger, entry, writer);
+    put_word(output, b"\n", writer);
+}
+
 fn put_record<W: Write>(output: &mut Output, row: RecordRow, writer: &mut W)
     ensures { Puts output.old output.new (record_note row) (W.contents writer.old) (W.contents writer.new) }
 {
-    put_word(output, b"# ", writer);
-    put_recorded(output, &row.trigger, &Some(row.entry), writer);
-    put_word(output, b"\n", writer);
+    put_recorded_note(output, &row.trigger, &Some(row.entry), writer);
 }
 
 #[tactic(auto, using(am_script::proofs::Pieces::puts_none))]
