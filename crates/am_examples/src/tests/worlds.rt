@@ -168,10 +168,15 @@ fn is_served(alloc: Global, ran: &Ran) -> bool {
         && trace_holds(trace)
 }
 
+/// The same, and then the run is given up.
+fn ends_served(alloc: Global, ran: Ran) -> bool {
+    is_served(alloc, &ran)
+}
+
 /// Whether the walk is served in a run from this world.
 fn serves(alloc: Global, world: World, events: &[Event]) -> bool {
     match run(alloc, world, events) {
-        Ok(ran) => is_served(alloc, &ran),
+        Ok(ran) => ends_served(alloc, ran),
         Err(_) => false,
     }
 }
