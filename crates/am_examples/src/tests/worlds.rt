@@ -18,12 +18,16 @@ const LIMITS: Limits = Limits {
     tokens: u32::MAX,
 };
 
-/// A world with the point `/auto`, whose map has the key `home`.
+/// A world with the point `/auto`, whose map has the keys `home` and `work`.
 fn world(alloc: Global) -> Result<World, Errno> {
-    let Ok(master) = Master::read(alloc, b"/auto auto.home") else {
+    let Ok(master) = Master::read(alloc, b"/auto auto.home --timeout=10") else {
         return Err(Errno::NoMemory);
     };
-    let Ok(map) = Map::read(alloc, b"home srv:/home", MapKind::Indirect) else {
+    let Ok(map) = Map::read(
+        alloc,
+        b"home -fstype=nfs srv:/home\nwork srv:/work",
+        MapKind::Indirect,
+    ) else {
         return Err(Errno::NoMemory);
     };
     let maps = vec![in alloc; map]?;
