@@ -11,7 +11,7 @@ use Rattle.am_group.specs.Copies.{has_receiver, AreOfReceivers}
 use Rattle.am_group.specs.Invariant.{RiseFrom}
 use Rattle.am_group.specs.Propagation.{member_row, group_in, group_of}
 use Rattle.am_group.specs.Scan.{is_one_of}
-use Rattle.am_group.specs.Tables.{AreLive, AreLiveAmong, AreOthers, AreLost, is_free_group, is_free_of, without_groups}
+use Rattle.am_group.specs.Tables.{AreLive, AreLiveAmong, AreOthers, AreLost, is_free_group, is_free_member, is_free_of, without_groups}
 use Rattle.am_group.proofs.LiftLemmas.{lifted_here, same_state}
 
 or_swap : (a b c : Bool) → (a || (b || c)) ≡ (b || (a || c))
@@ -236,33 +236,33 @@ free_of_none s = rw (members s.members, groups s.groups) refl
     groups [] = refl
     groups (r ∷ rows) = rw (none_lost r.master) (groups rows)
 
--- so it is of fewer mounts
-pub free_fewer :
-    (lost : List ℕ) (s : PeerGroups) (keeps : ℕ → Bool) → is_free_of lost s ≡ true → is_free_of lost (with_only keeps s) ≡ true
-free_fewer lost s keeps free = and_from _ _ (fewer s.members (and_left _ _ free)) (and_right _ _ free)
+-- so it is of those that stay, where it is of each that stays
+pub free_staying :
+    (gone lost : List ℕ) (s : PeerGroups) → list_all (is_free_member gone lost) s.members ≡ true → list_all (is_free_group lost) s.groups ≡ true →
+    is_free_of lost (with_only (λ m. not (is_among gone m)) s) ≡ true
+free_staying gone lost s members groups = and_from _ _ (staying s.members members) groups
   where
-    fewer :
-        (rows : List MemberRow) → list_all (λ row. not (is_one_of lost row.master)) rows ≡ true →
-        list_all (λ row. not (is_one_of lost row.master)) (filter (λ row. keeps row.mount) rows) ≡ true
-    fewer [] free = refl
-    fewer (r ∷ rows) free = go (keeps r.mount) (fewer rows (and_right _ _ free))
+    staying :
+        (rows : List MemberRow) → list_all (is_free_member gone lost) rows ≡ true →
+        list_all (λ row. not (is_one_of lost row.master)) (filter (λ row. not (is_among gone row.mount)) rows) ≡ true
+    staying [] free = refl
+    staying (r ∷ rows) free = go (is_among gone r.mount) (and_left _ _ free) (staying rows (and_right _ _ free))
       where
         these : List MemberRow
-        these = filter (λ row. keeps row.mount) rows
+        these = filter (λ row. not (is_among gone row.mount)) rows
 
         go :
-            (b : Bool) → list_all (λ row. not (is_one_of lost row.master)) these ≡ true →
-            list_all (λ row. not (is_one_of lost row.master)) (cond b (r ∷ these) these) ≡ true
-        go true ih = and_from _ _ (and_left _ _ free) ih
-        go false ih = ih
+            (b : Bool) → (not (is_one_of lost r.master) || b) ≡ true → list_all (λ row. not (is_one_of lost row.master)) these ≡ true →
+            list_all (λ row. not (is_one_of lost row.master)) (cond (not b) (r ∷ these) these) ≡ true
+        go true own ih = ih
+        go false own ih = and_from _ _ (sym (or_left_of (not (is_one_of lost r.master)) false refl) ∙ own) ih
 
 -- the same of a state
 pub left_where :
     (gone : ℕ → Bool) (s : PeerGroups) (lost : List ℕ) →
-    AreLost s.members (filter (λ row. not (gone row.mount)) s.members) lost → is_free_of lost s ≡ true →
+    AreLost s.members (filter (λ row. not (gone row.mount)) s.members) lost → is_free_of lost (with_only (λ m. not (gone m)) s) ≡ true →
     without_groups lost (with_only (λ m. not (gone m)) s) ≡ without gone s
-left_where gone s lost are_lost free =
-    free_left s.members (with_only (λ m. not (gone m)) s) lost are_lost s refl (free_fewer lost s (λ m. not (gone m)) free)
+left_where gone s lost are_lost free = free_left s.members (with_only (λ m. not (gone m)) s) lost are_lost s refl free
 
 -- no number
 pub none_of_length : (xs : List ℕ) → (length xs == 0) ≡ true → xs ≡ []

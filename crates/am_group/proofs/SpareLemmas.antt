@@ -10,12 +10,13 @@ use Rattle.am_names.specs.declared.row.MemberRow.{MemberRow}
 use Rattle.am_names.specs.declared.row.GroupRow.{GroupRow}
 use Rattle.am_names.specs.PeerGroups.{PeerGroups}
 use Rattle.am_group.specs.Propagation.{member_row}
-use Rattle.am_group.specs.Changes.{is_just, has_members, is_among, at_row, with_row, left}
-use Rattle.am_group.specs.Invariant.{RiseFrom}
+use Rattle.am_group.specs.Changes.{is_just, has_members, is_among, at_row, with_row, left, shared_row}
+use Rattle.am_group.specs.Invariant.{RiseFrom, IsOrderly}
 use Rattle.am_group.specs.Tables.{AreLost, is_other_in, has_others_in, has_others, without_groups}
 use Rattle.am_group.proofs.FindLemmas.{rows_rise, index_found, all_differ}
 use Rattle.am_group.proofs.LiftLemmas.{same_state}
 use Rattle.am_group.proofs.LostLemmas.{free_left, free_of_none}
+use Rattle.am_group.proofs.SharedLemmas.{after}
 
 -- ---- a row that is written over
 
@@ -169,3 +170,16 @@ module _ (f : MemberRow → MemberRow) (m : ℕ) where
         same_state raw rows groups last (is ∙ same_change f 0 m s.members rises row found) same number ∙
         ap (λ (xs : List GroupRow). record raw { groups = xs }) (none_out (λ (r : GroupRow). r.group) s.groups) ∙
         free_left s.members raw [] none_lost s refl (free_of_none raw)
+
+-- the mount comes into a fresh peer group, and its row alone changes
+pub shared_alone :
+    (s : PeerGroups) → IsOrderly s → (m : ℕ) (row : MemberRow) → member_row s.members m ≡ Some row → (n : ℕ) → n ≡ s.last_group + 1 →
+    (rows : List MemberRow) → rows ≡ map (at_row (λ r. shared_row n row) m) s.members →
+    (groups : List GroupRow) → groups ≡ s.groups ++ (record { group = n; master = row.master }) ∷ [] →
+    (last : ℕ) → last ≡ n →
+    (record { members = rows; groups = groups; last_group = last }) ≡ after s m row
+shared_alone s orderly m row found n number rows is groups more last same =
+    same_state (after s m row) rows groups last
+    (is ∙ ap (λ k. map (at_row (λ r. shared_row k row) m) s.members) number ∙ same_change (shared_row (s.last_group + 1)) 0 m s.members orderly.rising row found)
+    (more ∙ ap (λ k. s.groups ++ (record { group = k; master = row.master }) ∷ []) number)
+    (same ∙ number)

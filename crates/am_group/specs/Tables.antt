@@ -38,6 +38,10 @@ AreLost old new lost =
 abbrev pub is_free_group : List ℕ → GroupRow → Bool
 is_free_group lost row = is_among lost row.group || not (is_one_of lost row.master)
 
+-- the mount goes, or its master isn't lost
+abbrev pub is_free_member : List ℕ → List ℕ → MemberRow → Bool
+is_free_member gone lost row = not (is_one_of lost row.master) || is_among gone row.mount
+
 -- no mount's master is lost, and none of a peer group that stays
 abbrev pub is_free_of : List ℕ → PeerGroups → Bool
 is_free_of lost s =

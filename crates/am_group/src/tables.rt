@@ -105,12 +105,6 @@ pub fn without_these(
     Ok(others)
 }
 
-pub fn are_members_free(members: &[MemberRow], lost: &[GroupId]) -> bool
-    requires { IsNonDecreasing lost.now }
-    ensures { result ≡ list_all (λ row. not (is_one_of lost.now row.master)) members.now }
-{
-    members.iter().all(|row| !is_one_of(row.master, lost))
-}
 
 /// Whether the peer group goes, or its master isn't one of these.
 fn is_free_group(row: &GroupRow, lost: &[GroupId]) -> bool

@@ -1,10 +1,10 @@
 //! Walks along paths: where they arrive, and what they meet at mount traps (autofs.rst).
 #![tactic(auto)]
 
-pub mod follow;
+mod follow;
 mod meet;
 mod scene;
-pub mod stop;
+mod stop;
 
 pub use follow::{position, resolve};
 pub use stop::{Stop, Walk};

@@ -2,20 +2,19 @@
 
 ghost use Rattle.std.specs.Prelude.{◌≡◌, ◌==◌, true, not, map, filter, None, IfOk, OnOk, OnErr};
 ghost use Rattle.std.specs.Bool.{OnTrue};
-ghost use Rattle.std.specs.List.{list_any};
+ghost use Rattle.std.specs.List.{list_all, list_any};
 ghost use Rattle.std.specs.List.Sorted.{IsNonDecreasing};
 ghost use Rattle.am_names.specs.Errno.{RefusedAs};
 ghost use Rattle.am_group.specs.Changes.{left, at_row, with_row, made_shared, made_slave, made_private, made_unbindable, changed, is_among, with_only, without};
 ghost use Rattle.am_group.specs.Invariant.{RiseFrom, IsOrderly, IsPeopled, AddsNoReceivers};
 ghost use Rattle.am_group.specs.Kinds.{FollowsTable};
 ghost use Rattle.am_group.specs.Members.{change_refusal};
-ghost use Rattle.am_group.specs.Tables.{state_of, AreLiveAmong, AreLost, is_free_of, is_other_in, has_others, row_of, gives_up};
+ghost use Rattle.am_group.specs.Tables.{state_of, AreLiveAmong, AreLost, is_free_member, is_free_of, is_other_in, has_others, row_of, gives_up};
 
 use crate::groups::Groups;
 use crate::kind::{Change, asked, row_as};
 use crate::tables::{
-    Tables, are_groups_free, are_members_free, clear, is_among as is_live, live_groups,
-    without_these,
+    Tables, are_groups_free, clear, is_among as is_live, is_one_of, live_groups, without_these,
 };
 use am_names::{Errno, GroupId, GroupRow, MemberRow, MountId};
 use std::alloc::{AllocError, Global};
@@ -118,6 +117,25 @@ fn is_one(mount: MountId, mounts: &[MountId], ordered: bool) -> bool
     }
 }
 
+/// Whether the mount goes, or its master isn't one of these.
+fn is_free_member(row: &MemberRow, gone: &[MountId], ordered: bool, lost: &[GroupId]) -> bool
+    requires ordered { OnTrue ordered (IsNonDecreasing gone.now) }
+    requires lost { IsNonDecreasing lost.now }
+    ensures { result ≡ is_free_member gone.now lost.now row.now }
+{
+    !is_one_of(row.master, lost) || is_one(row.mount, gone, ordered)
+}
+
+fn are_members_free(members: &[MemberRow], gone: &[MountId], lost: &[GroupId]) -> bool
+    requires { IsNonDecreasing lost.now }
+    ensures { result ≡ list_all (is_free_member gone.now lost.now) members.now }
+{
+    let ordered = are_ordered(gone);
+    members
+        .iter()
+        .all(|row| is_free_member(row, gone, ordered, lost))
+}
+
 /// Those of these peer groups that have other members than the mounts that go, in no order.
 fn groups_beside(
     alloc: Global,
@@ -210,16 +228,6 @@ impl Groups {
         })
     }
 
-    /// Takes these rows.
-    fn settle(&mut self, raw: Tables)
-        requires { IsOrderly (state_of raw) }
-        ensures { self.new ≡ state_of raw }
-    {
-        self.members = raw.members;
-        self.groups = raw.groups;
-        self.last_group = raw.last_group;
-    }
-
     /// Takes these rows. The peer groups that lose their last member go, and their slaves get the
     /// first master up the chain that stays.
     fn settle_left(&mut self, alloc: Global, raw: Tables) -> Result<(), AllocError>
@@ -261,7 +269,7 @@ impl Groups {
 
     /// Makes the mount shared (sharedsubtree.rst, 5a). One that is shared stays in its peer
     /// group; another comes into a fresh one, whose master is the one that it had.
-    pub fn make_shared(&mut self, alloc: Global, mount: MountId) -> Result<(), Errno>
+    pub fn make_shared(&mut self, mount: MountId) -> Result<(), Errno>
         ensures refusal { RefusedAs (change_refusal Change.MakeShared mount self.old) result }
         ensures ok { OnOk result (self.new ≡ made_shared mount self.old) }
         ensures err { OnErr result (self.new ≡ self.old) }
@@ -278,13 +286,13 @@ impl Groups {
             return Err(Errno::ENOSPC);
         }
         let group = GroupId(self.last_group + 1);
-        let mut raw = self.with_row(alloc, Change::MakeShared, group, mount)?;
-        raw.groups.push(GroupRow {
+        let changed = self.changed_row(Change::MakeShared, group, row);
+        self.groups.push(GroupRow {
             group,
             master: row.master,
         })?;
-        raw.last_group = group.0;
-        self.settle(raw);
+        write_row(&mut self.members, mount, changed);
+        self.last_group = group.0;
         Ok(())
     }
 
@@ -334,7 +342,7 @@ impl Groups {
     {
         let _members = &self.members;
         match change {
-            Change::MakeShared => self.make_shared(alloc, mount),
+            Change::MakeShared => self.make_shared(mount),
             Change::MakeSlave => self.make_slave(alloc, mount),
             Change::MakePrivate => self.make_private(alloc, mount),
             Change::MakeUnbindable => self.make_unbindable(alloc, mount),
@@ -356,14 +364,15 @@ impl Groups {
         Ok(lost)
     }
 
-    /// Whether no mount, and no peer group but one of these, has one of these as its master.
-    fn is_free_of(&self, lost: &[GroupId]) -> bool
+    /// Whether none of the other mounts, and no peer group but one of these, has one of these as its
+    /// master.
+    fn is_free_of(&self, gone: &[MountId], lost: &[GroupId]) -> bool
         requires { IsNonDecreasing lost.now }
-        ensures { OnTrue result (is_free_of lost.now self.now ≡ true) }
+        ensures { OnTrue result (is_free_of lost.now (with_only (λ m. not (is_among gone.now m)) self.now) ≡ true) }
     {
         let _members = &self.members;
         lost.is_empty()
-            || (are_members_free(self.members.as_slice(), lost)
+            || (are_members_free(self.members.as_slice(), gone, lost)
                 && are_groups_free(self.groups.as_slice(), lost))
     }
 
@@ -378,7 +387,7 @@ impl Groups {
     {
         let _members = &self.members;
         let lost = self.lost(alloc, gone)?;
-        if self.is_free_of(lost.as_slice()) {
+        if self.is_free_of(gone, lost.as_slice()) {
             leave_out(&mut self.members, gone);
             drop_groups(&mut self.groups, lost.as_slice());
             return Ok(());

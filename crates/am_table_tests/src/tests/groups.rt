@@ -79,7 +79,7 @@ fn of_all(alloc: Global, mount: u64) -> Result<Groups, Errno> {
 
 fn make(alloc: Global, groups: &mut Groups, mount: u64, change: Change) -> Result<bool, Errno> {
     match change {
-        Change::MakeShared => groups.make_shared(alloc, MountId(mount))?,
+        Change::MakeShared => groups.make_shared(MountId(mount))?,
         Change::MakeSlave => groups.make_slave(alloc, MountId(mount))?,
         Change::MakePrivate => groups.make_private(alloc, MountId(mount))?,
         Change::MakeUnbindable => groups.make_unbindable(alloc, MountId(mount))?,

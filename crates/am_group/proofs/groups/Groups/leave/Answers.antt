@@ -33,7 +33,7 @@ invariant_of-self c =
     let gone = c.args.gone.now in
     let lost = c.in_ok-lost.lost.items in
     let orderly = subst (λ (x : PeerGroups). IsOrderly x) c.self.view_is c.self.invariant in
-    let free : is_free_of lost s ≡ true = search rules in
+    let free : is_free_of lost (with_only (λ m. not (is_among gone m)) s) ≡ true = search rules in
     let members : c.leave_out.new.members.items ≡ (with_only (λ m. not (is_among gone m)) s).members =
     c.leave_out.ensures ∙ ap (λ (x : PeerGroups). (with_only (λ m. not (is_among gone m)) x).members) c.self.view_is in
     let groups : c.drop_groups.new.groups.items ≡ filter (λ row. not (is_among lost row.group)) s.groups =
@@ -52,7 +52,7 @@ returns-then-is_free_of-clause-ok c =
     let gone = c.args.gone.now in
     let lost = c.in_ok-lost.lost.items in
     let orderly = subst (λ (x : PeerGroups). IsOrderly x) c.self.view_is c.self.invariant in
-    let free : is_free_of lost s ≡ true = search rules in
+    let free : is_free_of lost (with_only (λ m. not (is_among gone m)) s) ≡ true = search rules in
     let members : c.leave_out.new.members.items ≡ (with_only (λ m. not (is_among gone m)) s).members =
     c.leave_out.ensures ∙ ap (λ (x : PeerGroups). (with_only (λ m. not (is_among gone m)) x).members) c.self.view_is in
     let groups : c.drop_groups.new.groups.items ≡ filter (λ row. not (is_among lost row.group)) s.groups =
@@ -71,7 +71,7 @@ returns-then-is_free_of-clause-law c = λ peopled.
     let gone = c.args.gone.now in
     let lost = c.in_ok-lost.lost.items in
     let orderly = subst (λ (x : PeerGroups). IsOrderly x) c.self.view_is c.self.invariant in
-    let free : is_free_of lost s ≡ true = search rules in
+    let free : is_free_of lost (with_only (λ m. not (is_among gone m)) s) ≡ true = search rules in
     let members : c.leave_out.new.members.items ≡ (with_only (λ m. not (is_among gone m)) s).members =
     c.leave_out.ensures ∙ ap (λ (x : PeerGroups). (with_only (λ m. not (is_among gone m)) x).members) c.self.view_is in
     let groups : c.drop_groups.new.groups.items ≡ filter (λ row. not (is_among lost row.group)) s.groups =
@@ -90,7 +90,7 @@ returns-then-is_free_of-clause-peopled c = λ peopled.
     let gone = c.args.gone.now in
     let lost = c.in_ok-lost.lost.items in
     let orderly = subst (λ (x : PeerGroups). IsOrderly x) c.self.view_is c.self.invariant in
-    let free : is_free_of lost s ≡ true = search rules in
+    let free : is_free_of lost (with_only (λ m. not (is_among gone m)) s) ≡ true = search rules in
     let members : c.leave_out.new.members.items ≡ (with_only (λ m. not (is_among gone m)) s).members =
     c.leave_out.ensures ∙ ap (λ (x : PeerGroups). (with_only (λ m. not (is_among gone m)) x).members) c.self.view_is in
     let groups : c.drop_groups.new.groups.items ≡ filter (λ row. not (is_among lost row.group)) s.groups =
