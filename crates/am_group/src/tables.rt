@@ -105,7 +105,6 @@ pub fn without_these(
     Ok(others)
 }
 
-
 /// Whether the peer group goes, or its master isn't one of these.
 fn is_free_group(row: &GroupRow, lost: &[GroupId]) -> bool
     requires { IsNonDecreasing lost.now }
