@@ -77,13 +77,16 @@ fn draw_opened<W: Write>(
         line,
         broke,
     } = opened;
-    match count_events(alloc, rest, line, broke) {
+    let drawn = match count_events(alloc, rest, line, broke) {
         Ok(events) => {
             let part = part_of(first, last, events);
             draw_events(alloc, &mut world, rest, line, broke, &part, writer)
         }
         Err(fault) => Err(fault),
-    }
+    };
+    // It goes by a call, which is cheaper to check.
+    drop(world);
+    drawn
 }
 
 /// How many events these lines have, of which the first is behind the line with this number.

@@ -68,10 +68,13 @@ fn show_opened<W: Write>(
         line,
         broke,
     } = opened;
-    match play_events(alloc, &mut world, rest, line, broke) {
+    let shown = match play_events(alloc, &mut world, rest, line, broke) {
         Ok(played) => show_world(alloc, &world, played, only, writer),
         Err(fault) => Err(fault),
-    }
+    };
+    // It goes by a call, which is cheaper to check.
+    drop(world);
+    shown
 }
 
 /// How the events went, and the line of the last.

@@ -34,5 +34,8 @@ pub fn run_script<R: Read, W: Write>(
     ensures err { IfErr result (StopsInput (R.remaining reader.old) (R.remaining reader.new) (W.contents writer.old) (W.contents writer.new)) }
 {
     let mut reading = Reading::new(alloc);
-    reading.play(alloc, reader, writer)
+    let ended = reading.play(alloc, reader, writer);
+    // It goes by a call, which is cheaper to check.
+    drop(reading);
+    ended
 }

@@ -12,6 +12,7 @@ use crate::turn::{close, counted, play_line};
 use am_world::World;
 use std::alloc::Global;
 use std::io::Write;
+use std::mem;
 
 /// Where in its script a player is.
 #[derive(Drop)]
@@ -75,7 +76,8 @@ impl Player {
             Place::Head(heading) => match take_head_line(alloc, heading, number, line) {
                 Ok(None) => Ok(()),
                 Ok(Some(world)) => {
-                    self.place = Place::Events(world);
+                    // What was there goes by a call, which is cheaper to check.
+                    drop(mem::replace(&mut self.place, Place::Events(world)));
                     Ok(())
                 }
                 Err(fault) => Err(fault),

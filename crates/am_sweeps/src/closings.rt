@@ -92,7 +92,10 @@ fn push_open_at(
     position: usize,
 ) -> Result<()> {
     let world = world_behind(alloc, script, position)?;
-    push_open(alloc, open, &world, position)?;
+    let pushed = push_open(alloc, open, &world, position);
+    // It goes by a call, which is cheaper to check.
+    drop(world);
+    pushed?;
     Ok(())
 }
 

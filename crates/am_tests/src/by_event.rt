@@ -209,7 +209,10 @@ fn play_first(
     mut other: Opened<'_>,
     output: &mut Vec<u8>,
 ) -> Option<ScriptFault> {
-    play_beside(alloc, input, name, &mut other.world, output)
+    let fault = play_beside(alloc, input, name, &mut other.world, output);
+    // It goes by a call, which is cheaper to check.
+    drop(other);
+    fault
 }
 
 /// Plays it beside the same on another world.
@@ -234,5 +237,8 @@ fn play_second(
     other: &mut World,
     output: &mut Vec<u8>,
 ) -> Option<ScriptFault> {
-    play_opened(alloc, name, &mut opened, other, output)
+    let fault = play_opened(alloc, name, &mut opened, other, output);
+    // It goes by a call, which is cheaper to check.
+    drop(opened);
+    fault
 }

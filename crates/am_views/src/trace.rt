@@ -56,7 +56,10 @@ fn trace_opened<W: Write>(
         line,
         broke,
     } = opened;
-    trace_events(alloc, &mut world, rest, line, broke, writer)
+    let traced = trace_events(alloc, &mut world, rest, line, broke, writer);
+    // It goes by a call, which is cheaper to check.
+    drop(world);
+    traced
 }
 
 /// Prints the trace of the events of these lines, of which the first is behind the line with this

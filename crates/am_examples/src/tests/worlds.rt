@@ -106,9 +106,11 @@ fn begins(alloc: Global, world: &mut World) -> Result<bool, Errno> {
 #[test]
 fn a_walk_waits_for_the_daemon(rt: HostRuntime) -> Result<(), Fail> {
     let mut world = world(rt.alloc())?;
-    let begins = begins(rt.alloc(), &mut world)?;
-    assert!(rt; begins);
-    assert!(rt; world.is_waiting(WalkerId(7)));
+    let begins = begins(rt.alloc(), &mut world);
+    let is_waiting = world.is_waiting(WalkerId(7));
+    drop(world);
+    assert!(rt; begins?);
+    assert!(rt; is_waiting);
     Ok(())
 }
 
@@ -172,16 +174,21 @@ fn is_served(alloc: Global, ran: &Ran) -> bool {
         && trace_holds(trace)
 }
 
-/// The same, and then the run is given up.
+/// The same, and then the run goes: by a call, which is cheaper to check.
 fn ends_served(alloc: Global, ran: Ran) -> bool {
-    is_served(alloc, &ran)
+    let is_served = is_served(alloc, &ran);
+    drop(ran);
+    is_served
 }
 
 /// Whether the walk is served in a run from this world.
 fn serves(alloc: Global, world: World, events: &[Event]) -> bool {
     match run(alloc, world, events) {
         Ok(ran) => ends_served(alloc, ran),
-        Err(_) => false,
+        Err(world) => {
+            drop(world);
+            false
+        }
     }
 }
 

@@ -1,6 +1,7 @@
 use Rattle.std.proofs.Common.{◌+◌, [], ◌∷◌, ◌++◌, Some, None, sym, subst}
 use Rattle.am_script.specs.declared.play.Summary.{Summary}
-use Rattle.am_script.specs.Playing.{HeadTaken, EventsStand}
+use Rattle.am_script.specs.declared.player.Place.{Place}
+use Rattle.am_script.specs.Playing.{HeadTaken, EventsStand, PlaceStands}
 use Rattle.am_script.proofs.PlayerLemmas.{head_line_taken, head_line_stops, event_line_taken, event_line_stops}
 use Rattle.am_world.specs.Table.{state_of}
 use Rattle.am_script.proofs.player.Player.take_line.Goals as goal
@@ -15,7 +16,9 @@ pub returns-in-Ok-Some-clause-ok : goal.returns-in-Ok-Some-clause-ok
 returns-in-Ok-Some-clause-ok g c = λ front start stands.
     let self = c.args.self.now in
     let taken : HeadTaken c.in-Head.heading (self.number + 1) c.args.line.now c.take_head_line.new.heading (Some c.in-Ok-Some.world) = rw c.in-Ok-Some.field-0-is at c.in-Ok-Some.ensures.ok in
-    head_line_taken self.place c.in-Head.heading c.take_head_line.new.heading (Some c.in-Ok-Some.world) self.number self.summary self.output front c.args.line.now start _ c.in-Head.is taken stands
+    let held = g.W.Write.contents c.args.writer.now in
+    subst (λ (p : Place). PlaceStands p (self.number + 1) self.summary self.output (front ++ c.args.line.now ∷ []) start held) (sym c.replace.ensures.after)
+    (head_line_taken self.place c.in-Head.heading c.take_head_line.new.heading (Some c.in-Ok-Some.world) self.number self.summary self.output front c.args.line.now start held c.in-Head.is taken stands)
 
 pub returns-in-Err-clause-err : goal.returns-in-Err-clause-err
 returns-in-Err-clause-err g c = λ front start stands ending.
