@@ -77,16 +77,19 @@ fn draw_opened<W: Write>(
         line,
         broke,
     } = opened;
-    let drawn = match count_events(alloc, rest, line, broke) {
+    // The world goes by a call, which is cheaper to check.
+    match count_events(alloc, rest, line, broke) {
         Ok(events) => {
             let part = part_of(first, last, events);
-            draw_events(alloc, &mut world, rest, line, broke, &part, writer)
+            let drawn = draw_events(alloc, &mut world, rest, line, broke, &part, writer);
+            drop(world);
+            drawn
         }
-        Err(fault) => Err(fault),
-    };
-    // It goes by a call, which is cheaper to check.
-    drop(world);
-    drawn
+        Err(fault) => {
+            drop(world);
+            Err(fault)
+        }
+    }
 }
 
 /// How many events these lines have, of which the first is behind the line with this number.

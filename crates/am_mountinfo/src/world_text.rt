@@ -68,13 +68,18 @@ fn show_opened<W: Write>(
         line,
         broke,
     } = opened;
-    let shown = match play_events(alloc, &mut world, rest, line, broke) {
-        Ok(played) => show_world(alloc, &world, played, only, writer),
-        Err(fault) => Err(fault),
-    };
-    // It goes by a call, which is cheaper to check.
-    drop(world);
-    shown
+    // The world goes by a call, which is cheaper to check.
+    match play_events(alloc, &mut world, rest, line, broke) {
+        Ok(played) => {
+            let shown = show_world(alloc, &world, played, only, writer);
+            drop(world);
+            shown
+        }
+        Err(fault) => {
+            drop(world);
+            Err(fault)
+        }
+    }
 }
 
 /// How the events went, and the line of the last.

@@ -160,8 +160,10 @@ fn is_closed_by(
     seen: &mut Closed,
 ) -> Result<bool> {
     let mut world = world_behind(alloc, script, open.position)?;
-    let is_closed = closes(alloc, &mut world, open, words, seen)?;
-    Ok(is_closed)
+    let is_closed = closes(alloc, &mut world, open, words, seen);
+    // It goes by a call, which is cheaper to check.
+    drop(world);
+    Ok(is_closed?)
 }
 
 /// Closes a token. Whether it comes, and everybody who waited on it goes on.

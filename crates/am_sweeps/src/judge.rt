@@ -115,5 +115,8 @@ fn goes_well(world: &mut World, alloc: Global, events: &[Event], seen: &mut Seen
 /// Whether all is well of these events in the script's world.
 pub fn is_well(alloc: Global, script: &Script, events: &[Event], seen: &mut Seen) -> Result<bool> {
     let mut world = script.world(alloc)?;
-    goes_well(&mut world, alloc, events, seen)
+    let is_well = goes_well(&mut world, alloc, events, seen);
+    // It goes by a call, which is cheaper to check.
+    drop(world);
+    is_well
 }

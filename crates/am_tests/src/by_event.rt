@@ -30,11 +30,19 @@ fn open(alloc: Global, input: &Input) -> Result<Option<Opened<'_>>, ScriptFault>
 
 /// The same, tried again where it found no memory.
 fn open_in_the_end(alloc: Global, input: &Input) -> Result<Option<Opened<'_>>, ScriptFault> {
-    match open(alloc, input) {
-        Err(fault) if fault.kind == ScriptFaultKind::NoMemory && fault.line > 0 => {
-            open(alloc, input)
-        }
-        opened => opened,
+    open(alloc, input).or_else(|fault| open_again(alloc, input, fault))
+}
+
+/// Opens it once more, where memory ran out at one of its lines.
+fn open_again(
+    alloc: Global,
+    input: &Input,
+    fault: ScriptFault,
+) -> Result<Option<Opened<'_>>, ScriptFault> {
+    if fault.kind == ScriptFaultKind::NoMemory && fault.line > 0 {
+        open(alloc, input)
+    } else {
+        Err(fault)
     }
 }
 

@@ -12,15 +12,15 @@ returns-in-Ok-clause-ok g c =
     let contents = g.W.Write.contents in
     let told : Told = events_from c.args.opened.broke c.args.opened.line (lines_in (option_copied c.args.opened.rest)) in
     let part = c.part_of-part.ensures ∙ ap (part_of c.args.first c.args.last) c.in-Ok.ensures.ok in
-    ends_ok c.args.first c.args.last (state_of c.args.opened.world) told (contents c.args.writer.now) (contents c.draw_events.new.writer) c.draw_events.result (c.draw_events.ensures.ends c.args.first c.args.last part)
+    ends_ok c.args.first c.args.last (state_of c.args.opened.world) told (contents c.args.writer.now) (contents c.draw_events-drawn.new.writer) c.draw_events-drawn.result (c.draw_events-drawn.ensures.ends c.args.first c.args.last part)
 
 pub returns-in-Ok-clause-err : goal.returns-in-Ok-clause-err
 returns-in-Ok-clause-err g c =
     let contents = g.W.Write.contents in
     let told : Told = events_from c.args.opened.broke c.args.opened.line (lines_in (option_copied c.args.opened.rest)) in
     let part = c.part_of-part.ensures ∙ ap (part_of c.args.first c.args.last) c.in-Ok.ensures.ok in
-    ends_err c.args.first c.args.last (state_of c.args.opened.world) told (contents c.args.writer.now) (contents c.draw_events.new.writer) c.draw_events.result (c.draw_events.ensures.ends c.args.first c.args.last part)
+    ends_err c.args.first c.args.last (state_of c.args.opened.world) told (contents c.args.writer.now) (contents c.draw_events-drawn.new.writer) c.draw_events-drawn.result (c.draw_events-drawn.ensures.ends c.args.first c.args.last part)
 
-pub returns-clause-err : goal.returns-clause-err
-returns-clause-err g c =
+pub returns-in-Err-clause-err : goal.returns-in-Err-clause-err
+returns-in-Err-clause-err g c =
     inr (inr (inr (record { not_counted = c.in-Err.ensures.err; written = Appends-nil (g.W.Write.contents c.args.writer.now) })))
