@@ -122,6 +122,18 @@ class Script:
             digits = self.by.choice([digits[:-1], digits + "0", digits[:600], "g" * 608, digits[:-8]])
         return digits.encode()
 
+    def failure(self):
+        """The number of a failure."""
+        if self.rudely():
+            return self.by.choice([b"0", b"10", b"01", b"255", b"256", b"257", b"-1", b"+1", b"x", b""])
+        return str(self.by.randrange(1, 10)).encode()
+
+    def negative(self):
+        """How long failures last."""
+        if self.rudely():
+            return b"negative " + self.number(64)
+        return b"negative " + self.by.choice([b"0", b"1", b"5", b"300", b"18446744073709551615"])
+
     def event(self):
         word = self.by.choice(
             [b"walk"] * 6 + [b"deliver"] * 6 + [b"act"] * 12 + [b"resume"] * 5 + [b"leave"] * 3
@@ -129,12 +141,12 @@ class Script:
             + [b"attach", b"repeat", b"catatonic", b"admincat", b"timeout", b"die", b"reattach", b"record"]
         )
         ns, small = self.by.choice([b"0", b"0", b"0", self.number()]), self.number()
-        verdict = self.by.choice([b"ok", b"ok", b"ok", b"fail"])
+        verdict = self.by.choice([[b"ok"], [b"ok"], [b"ok"], [b"fail"], [b"fail", self.failure()]])
         how = self.by.choice([b"immediate", b"idle"])
         words = {
             b"walk": [small, ns, self.path(), self.moment(), self.pipe()],
             b"deliver": [self.token()] + [self.packet()] * (self.by.random() < 0.2),
-            b"act": [self.token(), verdict],
+            b"act": [self.token(), *verdict],
             b"resume": [small, self.moment(), self.pipe()],
             b"leave": [small],
             b"expire": [small, self.by.choice([b"2", self.number()]), self.moment(), how, self.pipe()],
@@ -222,6 +234,8 @@ class Script:
             if self.rudely():
                 limits[self.by.randrange(3)] = self.by.choice([b"0", b"65537", b"4294967296", b"x"])
             lines.append(b"limits " + b" ".join(limits))
+        if self.by.random() < 0.5:
+            lines.append(self.negative())
         if not self.rudely():
             master, maps = self.master()
             lines += master

@@ -95,7 +95,7 @@ actor_marks lasting (events.Expire walker fs now immediate pipe) =
     walker_mark (codes "expires") (walker_x lasting walker) walker
 actor_marks lasting (events.Attach path) = daemon_mark
 actor_marks lasting (events.Deliver token bytes) = daemon_mark
-actor_marks lasting (events.Act job ok) = daemon_mark
+actor_marks lasting (events.Act job failure) = daemon_mark
 actor_marks lasting (events.Repeat attach token status) = daemon_mark
 actor_marks lasting (events.Catatonic attach fs) = daemon_mark
 actor_marks lasting (events.Timeout attach fs timeout) = daemon_mark
@@ -126,11 +126,11 @@ queued_marks x token packet =
 
 abbrev pub answered_symbol : Status → List ℕ
 answered_symbol Ready = codes "edge"
-answered_symbol Fail = codes "failed"
+answered_symbol (Fail error) = codes "failed"
 
 abbrev pub released_class : Status → List ℕ
 released_class Ready = codes "ready"
-released_class Fail = codes "fail"
+released_class (Fail error) = codes "fail"
 
 abbrev pub catatonic_words : ℕ → List ℕ
 catatonic_words fs = codes "file system " ++ decimal fs ++ codes " is catatonic"

@@ -25,7 +25,7 @@ is_umount act = false
 abbrev pub takes_mounts : State → Event → Bool
 takes_mounts s (events.Umount ns path) = true
 takes_mounts s (events.DropNamespace ns) = true
-takes_mounts s (events.Act job ok) = is_umount (next_act_of job s.daemon)
+takes_mounts s (events.Act job failure) = is_umount (next_act_of job s.daemon)
 takes_mounts s event = false
 
 -- the mounts before an event, if some may go in it

@@ -286,7 +286,7 @@ fn answered_symbol(status: Status) -> &'static [u8]
 {
     match status {
         Status::Ready => b"edge",
-        Status::Fail => b"failed",
+        Status::Fail(_) => b"failed",
     }
 }
 
@@ -295,7 +295,7 @@ fn released_class(status: Status) -> &'static [u8]
 {
     match status {
         Status::Ready => b"ready",
-        Status::Fail => b"fail",
+        Status::Fail(_) => b"fail",
     }
 }
 

@@ -1,6 +1,8 @@
 -- The laws of all plans, and that what is left of a plan keeps them.
 use Rattle.std.proofs.Common.{◌≡◌, ◌⊎◌, inl, inr, ℕ, List, Option, Some, None, refl}
 use Rattle.std.specs.Prelude.{IsTrue, IfSome}
+use Rattle.am_names.specs.declared.fail_no.FailNo.{FailNo}
+use Rattle.am_names.specs.declared.fail_no.FailNo.TheVariants.{ENOENT}
 use Rattle.am_names.specs.declared.trigger.Trigger.{Trigger}
 use Rattle.am_names.specs.declared.trigger.Status.{Status}
 use Rattle.am_names.specs.declared.trigger.Status.TheVariants.{Ready, Fail}
@@ -29,18 +31,22 @@ mkdir_acknowledges trigger (Some name) rest h = λ o. h
 book_acknowledges : (trigger : Trigger) (entry : Option Record) (status : Status) → AcknowledgesLast (book_and_reply trigger entry status)
 book_acknowledges trigger entry status = λ o p. tt
 
+failed_acknowledges : (trigger : Trigger) (error : FailNo) → AcknowledgesLast (after_failed_mount trigger error)
+failed_acknowledges trigger error = rmdir_acknowledges trigger trigger.name (without_mount trigger error) (book_acknowledges trigger None (Fail error))
+
 mount_acknowledges : (trigger : Trigger) (o : Outcome) → AcknowledgesLast (rest_of_mount trigger o)
 mount_acknowledges trigger (Made mount) = book_acknowledges trigger (Some (Mounted mount)) Ready
-mount_acknowledges trigger o = rmdir_acknowledges trigger trigger.name (without_mount trigger) (book_acknowledges trigger None Fail)
+mount_acknowledges trigger (Failed error) = failed_acknowledges trigger error
+mount_acknowledges trigger Done = failed_acknowledges trigger ENOENT
 
 umount_acknowledges : (trigger : Trigger) (mount : ℕ) (o : Outcome) → AcknowledgesLast (rest_of_umount trigger mount o)
-umount_acknowledges trigger mount Failed = book_acknowledges trigger (Some (Mounted mount)) Fail
+umount_acknowledges trigger mount (Failed error) = book_acknowledges trigger (Some (Mounted mount)) (Fail error)
 umount_acknowledges trigger mount o = rmdir_acknowledges trigger trigger.name (book_and_reply trigger None Ready) (book_acknowledges trigger None Ready)
 
 pub plan_acknowledges : (kind : TokenKind) (trigger : Trigger) (mounted : Option ℕ) (entry : Option EntryText) → AcknowledgesLast (plan_for kind trigger mounted entry)
 plan_acknowledges Missing trigger (Some mount) entry = λ o. tt
 plan_acknowledges Missing trigger None (Some entry) = mkdir_acknowledges trigger trigger.name (mount_entry trigger entry) (mount_acknowledges trigger)
-plan_acknowledges Missing trigger None None = book_acknowledges trigger None Fail
+plan_acknowledges Missing trigger None None = book_acknowledges trigger None (Fail ENOENT)
 plan_acknowledges Expire trigger (Some mount) entry = umount_acknowledges trigger mount
 plan_acknowledges Expire trigger None entry = λ o. tt
 
@@ -56,10 +62,11 @@ mkdir_records trigger (Some name) rest h = λ o. h
 
 mount_records : (trigger : Trigger) (o : Outcome) → RecordsFirst (rest_of_mount trigger o)
 mount_records trigger (Made mount) = tt
-mount_records trigger o = rmdir_records trigger trigger.name (without_mount trigger) tt
+mount_records trigger (Failed error) = rmdir_records trigger trigger.name (without_mount trigger error) tt
+mount_records trigger Done = rmdir_records trigger trigger.name (without_mount trigger ENOENT) tt
 
 umount_records : (trigger : Trigger) (mount : ℕ) (o : Outcome) → RecordsFirst (rest_of_umount trigger mount o)
-umount_records trigger mount Failed = tt
+umount_records trigger mount (Failed error) = tt
 umount_records trigger mount o = rmdir_records trigger trigger.name (book_and_reply trigger None Ready) tt
 
 pub plan_records : (kind : TokenKind) (trigger : Trigger) (mounted : Option ℕ) (entry : Option EntryText) → IsTrue (is_reply (plan_for kind trigger mounted entry)) ⊎ RecordsFirst (plan_for kind trigger mounted entry)
@@ -89,14 +96,14 @@ reply_right status = λ o. (tt, tt)
 book_right : (trigger : Trigger) (entry : Option Record) (status : Status) → ClaimsRight (book_and_reply trigger entry status)
 book_right trigger entry status = λ o. (tt, reply_right status)
 
-failed_mount_right : (trigger : Trigger) → (claims (after_failed_mount trigger) ≡ None) × ClaimsRight (after_failed_mount trigger)
-failed_mount_right trigger =
-    (rmdir_claims trigger trigger.name (without_mount trigger), rmdir_right trigger trigger.name (without_mount trigger) (book_right trigger None Fail))
+failed_mount_right : (trigger : Trigger) (error : FailNo) → (claims (after_failed_mount trigger error) ≡ None) × ClaimsRight (after_failed_mount trigger error)
+failed_mount_right trigger error =
+    (rmdir_claims trigger trigger.name (without_mount trigger error), rmdir_right trigger trigger.name (without_mount trigger error) (book_right trigger None (Fail error)))
 
 mount_right : (trigger : Trigger) (entry : EntryText) → ClaimsRight (mount_entry trigger entry)
-mount_right trigger entry Done = failed_mount_right trigger
+mount_right trigger entry Done = failed_mount_right trigger ENOENT
 mount_right trigger entry (Made mount) = (refl, book_right trigger (Some (Mounted mount)) Ready)
-mount_right trigger entry Failed = failed_mount_right trigger
+mount_right trigger entry (Failed error) = failed_mount_right trigger error
 
 umounted_right : (trigger : Trigger) → (claims (after_umount trigger) ≡ None) × ClaimsRight (after_umount trigger)
 umounted_right trigger =
@@ -105,14 +112,14 @@ umounted_right trigger =
 umount_right : (trigger : Trigger) (mount : ℕ) → ClaimsRight (unmounting trigger mount)
 umount_right trigger mount Done = umounted_right trigger
 umount_right trigger mount (Made other) = umounted_right trigger
-umount_right trigger mount Failed = (refl, book_right trigger (Some (Mounted mount)) Fail)
+umount_right trigger mount (Failed error) = (refl, book_right trigger (Some (Mounted mount)) (Fail error))
 
 pub plan_right : (kind : TokenKind) (trigger : Trigger) (mounted : Option ℕ) (entry : Option EntryText) → ClaimsRight (plan_for kind trigger mounted entry)
 plan_right Missing trigger (Some mount) entry = reply_right Ready
 plan_right Missing trigger None (Some entry) = mkdir_right trigger trigger.name (mount_entry trigger entry) refl (mount_right trigger entry)
-plan_right Missing trigger None None = book_right trigger None Fail
+plan_right Missing trigger None None = book_right trigger None (Fail ENOENT)
 plan_right Expire trigger (Some mount) entry = umount_right trigger mount
-plan_right Expire trigger None entry = reply_right Fail
+plan_right Expire trigger None entry = reply_right (Fail ENOENT)
 
 pub plan_claims : (kind : TokenKind) (trigger : Trigger) (mounted : Option ℕ) (entry : Option EntryText) → claims (plan_for kind trigger mounted entry) ≡ claimed_first (plan_for kind trigger mounted entry) mounted
 plan_claims Missing trigger (Some mount) entry = refl

@@ -1,6 +1,8 @@
 -- What a daemon does for one packet: a finite tree of acts, with a branch for each outcome of an act
 -- (autofs.rst, "Communicating with autofs: the event pipe").
 use Rattle.std.specs.Prelude.{ℕ, Bool, true, false, List, Option, Some, None}
+use Rattle.am_names.specs.declared.fail_no.FailNo.{FailNo}
+use Rattle.am_names.specs.declared.fail_no.FailNo.TheVariants.{ENOENT}
 use Rattle.am_names.specs.declared.trigger.Trigger.{Trigger}
 use Rattle.am_names.specs.declared.trigger.Status.{Status}
 use Rattle.am_names.specs.declared.trigger.Status.TheVariants.{Ready, Fail}
@@ -53,19 +55,21 @@ at_directory (Some name) a rest = followed_by a rest
 abbrev pub after_mount : Trigger → ℕ → Plan
 after_mount trigger mount = book_and_reply trigger (Some (Mounted mount)) Ready
 
--- there is nothing to mount, or the mount failed: that there is none is written down, FAIL
-abbrev pub without_mount : Trigger → Plan
-without_mount trigger = book_and_reply trigger None Fail
+-- there is nothing to mount, or the mount failed with this error: that there is none is written
+-- down, FAIL with the error
+abbrev pub without_mount : Trigger → FailNo → Plan
+without_mount trigger error = book_and_reply trigger None (Fail error)
 
--- the mount failed: its directory goes again
-abbrev pub after_failed_mount : Trigger → Plan
-after_failed_mount trigger =
-    at_directory trigger.name (act.Rmdir trigger) (without_mount trigger)
+-- the mount failed with this error: its directory goes again
+abbrev pub after_failed_mount : Trigger → FailNo → Plan
+after_failed_mount trigger error =
+    at_directory trigger.name (act.Rmdir trigger) (without_mount trigger error)
 
--- after the mount, by what came of it
+-- after the mount, by what came of it; one that tells no mount has failed with ENOENT
 abbrev pub rest_of_mount : Trigger → Outcome → Plan
 rest_of_mount trigger (Made mount) = after_mount trigger mount
-rest_of_mount trigger outcome = after_failed_mount trigger
+rest_of_mount trigger (Failed error) = after_failed_mount trigger error
+rest_of_mount trigger Done = after_failed_mount trigger ENOENT
 
 -- the entry is mounted, and the rest goes by what comes of that
 abbrev pub mount_entry : Trigger → EntryText → Plan
@@ -76,11 +80,12 @@ abbrev pub mounting : Trigger → EntryText → Plan
 mounting trigger entry =
     at_directory trigger.name (act.Mkdir trigger) (mount_entry trigger entry)
 
--- by what the book says of the trigger, and by the entry of its key
+-- by what the book says of the trigger, and by the entry of its key; where there is nothing to
+-- mount, FAIL with ENOENT
 abbrev pub missing_plan : Trigger → Option ℕ → Option EntryText → Plan
 missing_plan trigger (Some mount) entry = reply Ready
 missing_plan trigger None (Some entry) = mounting trigger entry
-missing_plan trigger None None = without_mount trigger
+missing_plan trigger None None = without_mount trigger ENOENT
 
 -- ---- a packet that asks for an expiry
 
@@ -89,22 +94,24 @@ abbrev pub after_umount : Trigger → Plan
 after_umount trigger =
     at_directory trigger.name (act.Rmdir trigger) (book_and_reply trigger None Ready)
 
--- it stays, and that is written down, FAIL
-abbrev pub after_failed_umount : Trigger → ℕ → Plan
-after_failed_umount trigger mount = book_and_reply trigger (Some (Mounted mount)) Fail
+-- the unmount failed with this error: the mount stays, and that is written down, FAIL with the
+-- error
+abbrev pub after_failed_umount : Trigger → ℕ → FailNo → Plan
+after_failed_umount trigger mount error = book_and_reply trigger (Some (Mounted mount)) (Fail error)
 
 -- after the unmount of this mount, by what came of it
 abbrev pub rest_of_umount : Trigger → ℕ → Outcome → Plan
-rest_of_umount trigger mount Failed = after_failed_umount trigger mount
+rest_of_umount trigger mount (Failed error) = after_failed_umount trigger mount error
 rest_of_umount trigger mount outcome = after_umount trigger
 
 -- it is unmounted, and the rest goes by what comes of that
 abbrev pub unmounting : Trigger → ℕ → Plan
 unmounting trigger mount = Next (act.Umount trigger) (rest_of_umount trigger mount)
 
+-- by what the book says of the trigger; where it has no record of a mount, FAIL with ENOENT
 abbrev pub expire_plan : Trigger → Option ℕ → Plan
 expire_plan trigger (Some mount) = unmounting trigger mount
-expire_plan trigger None = reply Fail
+expire_plan trigger None = reply (Fail ENOENT)
 
 -- ---- the plan for a packet
 
@@ -127,7 +134,7 @@ abbrev pub claims : Plan → Option ℕ
 claims Ended = None
 claims (Next (act.Mkdir trigger) rest) = None
 claims (Next (act.Mount trigger entry) rest) = None
-claims (Next (act.Umount trigger) rest) = claims (rest Failed)
+claims (Next (act.Umount trigger) rest) = claims (rest (Failed ENOENT))
 claims (Next (act.Rmdir trigger) rest) = claims (rest Done)
 claims (Next (act.Record trigger entry) rest) = mount_in entry
 claims (Next (act.Reply status) rest) = None

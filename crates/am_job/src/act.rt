@@ -3,7 +3,7 @@
 ghost use Rattle.std.specs.Prelude.{◌≡◌, IfOk};
 
 use am_map::Entry;
-use am_names::{MountId, Status, Trigger};
+use am_names::{FailNo, MountId, Status, Trigger};
 use am_state::Record;
 use std::alloc::{AllocError, Global};
 
@@ -45,7 +45,8 @@ pub enum Outcome {
     Done,
     /// A mount, of this number.
     Made { mount: MountId },
-    Failed,
+    /// It failed with this error.
+    Failed(FailNo),
 }
 
 impl Act {

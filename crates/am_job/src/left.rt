@@ -9,7 +9,7 @@ ghost use Rattle.am_job.specs.Plans.{reply, book_and_reply, at_directory, mount_
 
 use crate::act::{Act, Outcome};
 use am_map::Entry;
-use am_names::{MountId, Status, TokenKind, Trigger};
+use am_names::{FailNo, MountId, Status, TokenKind, Trigger};
 use am_state::Record;
 
 /// What comes after the next act.
@@ -102,7 +102,7 @@ fn missing(trigger: &Trigger, mounted: Option<MountId>, entry: Option<Entry>) ->
     }
     match entry {
         Some(entry) => mounting(trigger, entry),
-        None => book_and_reply(trigger, None, Status::Fail),
+        None => book_and_reply(trigger, None, Status::Fail(FailNo::ENOENT)),
     }
 }
 
@@ -114,7 +114,7 @@ fn expire(trigger: &Trigger, mounted: Option<MountId>) -> Left
             act: Act::Umount { trigger: *trigger },
             later: Later::AfterUmount { mount },
         },
-        None => reply(Status::Fail),
+        None => reply(Status::Fail(FailNo::ENOENT)),
     }
 }
 
@@ -125,7 +125,8 @@ fn after_mount(trigger: &Trigger, outcome: Outcome) -> Left
         Outcome::Made { mount } => {
             book_and_reply(trigger, Some(Record::Mounted { mount }), Status::Ready)
         }
-        Outcome::Done | Outcome::Failed => without_directory(trigger, Status::Fail),
+        Outcome::Failed(no) => without_directory(trigger, Status::Fail(no)),
+        Outcome::Done => without_directory(trigger, Status::Fail(FailNo::ENOENT)),
     }
 }
 
@@ -134,8 +135,8 @@ fn after_umount(trigger: &Trigger, mount: MountId, outcome: Outcome) -> Left
 {
     match outcome {
         Outcome::Done | Outcome::Made { .. } => without_directory(trigger, Status::Ready),
-        Outcome::Failed => {
-            book_and_reply(trigger, Some(Record::Mounted { mount }), Status::Fail)
+        Outcome::Failed(no) => {
+            book_and_reply(trigger, Some(Record::Mounted { mount }), Status::Fail(no))
         }
     }
 }

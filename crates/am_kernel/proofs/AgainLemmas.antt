@@ -3,6 +3,8 @@ use Rattle.std.proofs.Common.{◌≡◌, ℕ, Bool, true, false, cond, ◌==◌,
 use Rattle.std.specs.Prelude.{find, is_some, nat_le}
 use Rattle.std.specs.Option.{option_copied}
 use Rattle.std.proofs.lemmas.Bool.Decides.{Decides-eqb}
+use Rattle.am_names.specs.FailNo.{errno_of}
+use Rattle.am_names.specs.declared.fail_no.FailNo.{FailNo}
 use Rattle.am_names.specs.declared.errno.Errno.{Errno}
 use Rattle.am_names.specs.declared.errno.Errno.TheVariants.{ENOENT, EPERM, EBUSY, EEXIST, EINVAL, EAGAIN, ELOOP, ENAMETOOLONG, ENOSPC, NoMemory, NotReleased, Stranger}
 use Rattle.am_names.specs.declared.trigger.PipeState.{PipeState}
@@ -121,14 +123,14 @@ freed_same Expire wait moment k = refl
 
 -- what a walk that begins again comes to
 again_is : (row : WalkRow) (wait : WaitRow) (pipe : PipeState) (k : KernelState) (moment : ℕ) → walk_in k.walks wait.walker ≡ Some row → nat_le most_begins row.begins ≡ false →
-    again_for (walk_in k.walks wait.walker) pipe k wait moment ≡ or_failed (begun_with (walk_of (scene_of k) row.ns row.path) pipe (freed_as (waited_on wait) wait.walker moment k) (next_begin row moment)) (freed_as (waited_on wait) wait.walker moment k)
+    again_for (walk_in k.walks wait.walker) pipe k wait moment ≡ or_failed (begun_with (walk_of (scene_of k moment) row.ns row.path) pipe (freed_as (waited_on wait) wait.walker moment k) (next_begin row moment)) (freed_as (waited_on wait) wait.walker moment k)
 again_is row wait pipe k moment found few =
     ap (λ (o : Option WalkRow). again_for o pipe k wait moment) found ∙
-    ap (λ (b : Bool). cond b (failed ELOOP (freed_from wait.kind wait moment k)) (or_failed (begun_with (walk_of (scene_of k) row.ns row.path) pipe (freed_from wait.kind wait moment k) (next_begin row moment)) (freed_from wait.kind wait moment k))) few ∙
-    ap (λ (base : KernelState). or_failed (begun_with (walk_of (scene_of k) row.ns row.path) pipe base (next_begin row moment)) base) (freed_same wait.kind wait moment k)
+    ap (λ (b : Bool). cond b (failed ELOOP (freed_from wait.kind wait moment k)) (or_failed (begun_with (walk_of (scene_of k moment) row.ns row.path) pipe (freed_from wait.kind wait moment k) (next_begin row moment)) (freed_from wait.kind wait moment k))) few ∙
+    ap (λ (base : KernelState). or_failed (begun_with (walk_of (scene_of k moment) row.ns row.path) pipe base (next_begin row moment)) base) (freed_same wait.kind wait moment k)
 
 abbrev begun_as : Begin → ℕ → Waited → PipeState → KernelState → Outcome
-begun_as begin walker waited pipe k = begun_with (walk_of (scene_of k) begin.ns begin.path) pipe (freed_as waited walker begin.moment k) begin
+begun_as begin walker waited pipe k = begun_with (walk_of (scene_of k begin.moment) begin.ns begin.path) pipe (freed_as waited walker begin.moment k) begin
 
 same_outcome : (row : WalkRow) (wait : WaitRow) (begin : Begin) (waited : Waited) (pipe : PipeState) (k : KernelState) (moment : ℕ) → begin ≡ next_begin row moment → waited ≡ waited_on wait → walk_in k.walks wait.walker ≡ Some row →
     begun_as begin begin.walker waited pipe k ≡ begun_as (next_begin row moment) wait.walker (waited_on wait) pipe k
@@ -138,7 +140,7 @@ same_outcome row wait begin waited pipe k moment e w found =
     ap (λ (n : ℕ). begun_as (next_begin row moment) n (waited_on wait) pipe k) (found_number (λ (r : WalkRow). r.walker) wait.walker k.walks row found)
 
 pub again_goes : (row : WalkRow) (wait : WaitRow) (begin : Begin) (waited : Waited) (pipe : PipeState) (k new : KernelState) (moment : ℕ) (begun : Begun) (before after : List Obs) → begin ≡ next_begin row moment → waited ≡ waited_on wait → walk_in k.walks wait.walker ≡ Some row → nat_le most_begins row.begins ≡ false →
-    Meets (begun_with (walk_of (scene_of k) begin.ns begin.path) pipe (freed_as waited begin.walker begin.moment k) begin) (Ok begun) k new before after →
+    Meets (begun_with (walk_of (scene_of k begin.moment) begin.ns begin.path) pipe (freed_as waited begin.walker begin.moment k) begin) (Ok begun) k new before after →
     Meets (again_for (walk_in k.walks wait.walker) pipe k wait moment) (Ok begun) k new before after
 again_goes row wait begin waited pipe k new moment begun before after e w found few h =
     subst (λ (o : Outcome). Meets o (Ok begun) k new before after) (sym (again_is row wait pipe k moment found few))
@@ -146,7 +148,7 @@ again_goes row wait begin waited pipe k new moment begun before after e w found 
     (subst (λ (o : Outcome). Meets o (Ok begun) k new before after) (same_outcome row wait begin waited pipe k moment e w found) h))
 
 pub again_falls : (row : WalkRow) (wait : WaitRow) (begin : Begin) (waited : Waited) (pipe : PipeState) (k between new : KernelState) (moment : ℕ) (errno : Errno) (r : Result Begun Errno) (before met after : List Obs) → begin ≡ next_begin row moment → waited ≡ waited_on wait → walk_in k.walks wait.walker ≡ Some row → nat_le most_begins row.begins ≡ false →
-    Meets (begun_with (walk_of (scene_of k) begin.ns begin.path) pipe (freed_as waited begin.walker begin.moment k) begin) (Err errno) k between before met →
+    Meets (begun_with (walk_of (scene_of k begin.moment) begin.ns begin.path) pipe (freed_as waited begin.walker begin.moment k) begin) (Err errno) k between before met →
     Meets (fallen errno (freed_as waited wait.walker moment between)) r between new met after →
     Meets (again_for (walk_in k.walks wait.walker) pipe k wait moment) r k new before after
 again_falls row wait begin waited pipe k between new moment errno r before met after e w found few h g =
@@ -195,28 +197,30 @@ told_ready wait waited status moment k expire ready is =
     ap (λ (s : Status). expired_as s (freed_from Expire wait moment k)) ready ∙
     ap (λ (s : KernelState). Goes Expired [] s) (expiry_freed wait waited moment k expire is)
 
-pub told_failed : (wait : WaitRow) (waited : Waited) (status : Status) (moment : ℕ) (k : KernelState) → wait.kind ≡ Expire → status ≡ Fail → waited ≡ waited_on wait → told_as wait.kind status k wait moment ≡ failed ENOENT (freed_as waited wait.walker moment k)
-told_failed wait waited status moment k expire fail is =
+pub told_failed : (wait : WaitRow) (waited : Waited) (status : Status) (error : FailNo) (e : Errno) (moment : ℕ) (k : KernelState) → wait.kind ≡ Expire → status ≡ Fail error → e ≡ errno_of error → waited ≡ waited_on wait → told_as wait.kind status k wait moment ≡ failed e (freed_as waited wait.walker moment k)
+told_failed wait waited status error e moment k expire fail number is =
     ap (λ (t : TokenKind). told_as t status k wait moment) expire ∙
     ap (λ (s : Status). expired_as s (freed_from Expire wait moment k)) fail ∙
-    ap (λ (s : KernelState). failed ENOENT s) (expiry_freed wait waited moment k expire is)
+    ap (λ (f : Errno). failed f (freed_from Expire wait moment k)) (sym number) ∙
+    ap (λ (s : KernelState). failed e s) (expiry_freed wait waited moment k expire is)
 
 -- after a mount that failed
-failed_by : (o : Option WalkRow) (status : Status) (pipe : PipeState) (k : KernelState) (wait : WaitRow) (moment : ℕ) → is_some o ≡ true → wait.kind ≡ Missing → status ≡ Fail → resumed_walk o status pipe k wait moment ≡ failed ENOENT (freed_as (waited_on wait) wait.walker moment k)
-failed_by None status pipe k wait moment there missing fail = absurd cc
-failed_by (Some row) status pipe k wait moment there missing fail =
+failed_by : (o : Option WalkRow) (status : Status) (error : FailNo) (pipe : PipeState) (k : KernelState) (wait : WaitRow) (moment : ℕ) → is_some o ≡ true → wait.kind ≡ Missing → status ≡ Fail error → resumed_walk o status pipe k wait moment ≡ failed (errno_of error) (freed_as (waited_on wait) wait.walker moment k)
+failed_by None status error pipe k wait moment there missing fail = absurd cc
+failed_by (Some row) status error pipe k wait moment there missing fail =
     ap (λ (s : Status). resumed_as wait.kind s pipe k wait row moment) fail ∙
-    ap (λ (t : TokenKind). resumed_as t Fail pipe k wait row moment) missing ∙
-    ap (λ (t : TokenKind). failed ENOENT (freed_from t wait moment k)) (sym missing) ∙
-    ap (λ (s : KernelState). failed ENOENT s) (freed_same wait.kind wait moment k)
+    ap (λ (t : TokenKind). resumed_as t (Fail error) pipe k wait row moment) missing ∙
+    ap (λ (t : TokenKind). failed (errno_of error) (freed_from t wait moment k)) (sym missing) ∙
+    ap (λ (s : KernelState). failed (errno_of error) s) (freed_same wait.kind wait moment k)
 
-pub resume_failed : (pipe : PipeState) (k : KernelState) (walker moment : ℕ) (wait : WaitRow) (status : Status) → is_some (mount_of k.uses walker) ≡ false → wait_of k.waits.waits walker ≡ Some wait → wait.status ≡ Some status → is_some (walk_in k.walks walker) ≡ true → wait.kind ≡ Missing → status ≡ Fail →
-    resume_at pipe k walker moment ≡ failed ENOENT (freed_as OnMount walker moment k)
-resume_failed pipe k walker moment wait status outside waits answered there missing fail =
+pub resume_failed : (pipe : PipeState) (k : KernelState) (walker moment : ℕ) (wait : WaitRow) (status : Status) (error : FailNo) (e : Errno) → is_some (mount_of k.uses walker) ≡ false → wait_of k.waits.waits walker ≡ Some wait → wait.status ≡ Some status → is_some (walk_in k.walks walker) ≡ true → wait.kind ≡ Missing → status ≡ Fail error → e ≡ errno_of error →
+    resume_at pipe k walker moment ≡ failed e (freed_as OnMount walker moment k)
+resume_failed pipe k walker moment wait status error e outside waits answered there missing fail number =
     resume_is pipe k walker moment wait status outside waits answered ∙
-    failed_by (walk_in k.walks walker) status pipe k wait moment there missing fail ∙
-    ap (λ (n : ℕ). failed ENOENT (freed_as (waited_on wait) n moment k)) (found_number (λ (r : WaitRow). r.walker) walker k.waits.waits wait waits) ∙
-    ap (λ (t : TokenKind). failed ENOENT (freed_as (waited_for t wait.trigger) walker moment k)) missing
+    failed_by (walk_in k.walks walker) status error pipe k wait moment there missing fail ∙
+    ap (λ (f : Errno). failed f (freed_as (waited_on wait) wait.walker moment k)) (sym number) ∙
+    ap (λ (n : ℕ). failed e (freed_as (waited_on wait) n moment k)) (found_number (λ (r : WaitRow). r.walker) walker k.waits.waits wait waits) ∙
+    ap (λ (t : TokenKind). failed e (freed_as (waited_for t wait.trigger) walker moment k)) missing
 
 pub copied_some : {X : Type 0} (o : Option (Bor X)) → is_some o ≡ true → is_some (option_copied o) ≡ true
 copied_some None h = absurd cc

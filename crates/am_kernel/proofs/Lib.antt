@@ -6,3 +6,4 @@ pub mod MountLemmas
 pub mod NotifyLemmas
 pub mod WaitingLemmas
 pub mod WalkLemmas
+mod TokenLemmas

@@ -1,13 +1,13 @@
 -- Walkers that have a walk, and those that have none.
-use Rattle.std.proofs.Common.{◌≡◌, ◌+◌, ◌≤◌, ℕ, suc, zero, Bool, true, false, cond, not, ◌==◌, ◌||◌, List, [], ◌∷◌, ◌++◌, Option, Some, None, refl, sym, ap, subst, ◌∙◌, arith}
-use Rattle.std.specs.Prelude.{find, filter, is_some, take, drop, remove, position, nat_eq, nat_lt, length}
+use Rattle.std.proofs.Common.{◌≡◌, ◌+◌, ℕ, suc, zero, Bool, true, false, cond, not, ◌==◌, List, [], ◌∷◌, ◌++◌, Option, Some, None, refl, sym, ap, subst, ◌∙◌, arith}
+use Rattle.std.specs.Prelude.{is_some, drop, remove, position, nat_eq, nat_lt, length}
 use Rattle.std.specs.List.{list_any, position_or_len}
 use Rattle.std.proofs.lemmas.Bool.Decides.{nat_tests, Decides-eqb}
 use Rattle.std.proofs.lemmas.List.{drop-drop}
 use Rattle.am_kernel.specs.declared.row.WalkRow.{WalkRow}
 use Rattle.am_kernel.specs.Walks.{without_walk}
 use Rattle.am_kernel.specs.Resumes.{walk_in}
-use Rattle.am_kernel.specs.WalkTable.{is_among, IsSingle, AreKnown}
+use Rattle.am_kernel.specs.WalkTable.{is_among, IsSingle}
 
 same_number : (a b : ℕ) → (a == b) ≡ true → a ≡ b
 same_number a b e = (Decides-eqb a b).0 e

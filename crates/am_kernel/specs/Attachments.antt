@@ -5,6 +5,7 @@ use Rattle.am_names.specs.declared.errno.Errno.{Errno}
 use Rattle.am_names.specs.declared.errno.Errno.TheVariants.{EPERM, EBUSY, EINVAL}
 use Rattle.am_state.specs.declared.obs.Obs.{Obs}
 use Rattle.am_trigger.specs.Rows.{autofs_of, with_catatonic}
+use Rattle.am_trigger.specs.Failures.{without_failures}
 use Rattle.am_kernel.specs.declared.row.Attached.{Attached}
 use Rattle.am_kernel.specs.State.{KernelState}
 use Rattle.am_kernel.specs.Sites.{is_live, is_current, attach_refusal}
@@ -36,10 +37,11 @@ pipe_refusal k fs =
 abbrev pub attached_row : ℕ → ℕ → Attached → Attached
 attached_row fs attach row = if row.fs == fs then record row { attach = attach } else row
 
--- the file system has a new attachment
+-- the file system has a new attachment, and nothing that failed in it lasts
 abbrev pub with_pipe : ℕ → KernelState → KernelState
 with_pipe fs k = record k {
   triggers = with_catatonic fs false k.triggers;
+  failures = without_failures fs k.failures;
   attached = map (attached_row fs (k.last_attach + 1)) k.attached;
   last_attach = k.last_attach + 1;
 }

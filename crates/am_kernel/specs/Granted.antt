@@ -33,9 +33,10 @@ abbrev pub IsGranted : Request → Result Granted Errno → KernelState → Kern
 IsGranted (requests.Ready attach token) result old new before after =
     RefusedAs (answer_refusal old attach token) result ×
     Gives Done (answering token status.Ready old) (acknowledged token status.Ready old) result old new before after
-IsGranted (requests.Fail attach token) result old new before after =
+IsGranted (requests.Fail attach token error) result old new before after =
     RefusedAs (answer_refusal old attach token) result ×
-    Gives Done (answering token status.Fail old) (acknowledged token status.Fail old) result old new before after
+    Gives Done (answering token (status.Fail error) old) (acknowledged token (status.Fail error) old)
+    result old new before after
 IsGranted (requests.Catatonic attach fs) result old new before after =
     RefusedAs (catatonic_refusal old attach fs) result ×
     Gives Done (closing fs old) (closed fs old) result old new before after

@@ -9,6 +9,7 @@ use Rattle.am_walk.specs.declared.stop.Stop.TheVariants as stops
 use Rattle.am_walk.specs.Walks.{walk_of}
 use Rattle.am_kernel.specs.declared.row.WalkRow.{WalkRow}
 use Rattle.am_kernel.specs.State.{KernelState}
+use Rattle.am_kernel.specs.Outcome.{moment_of}
 use Rattle.am_kernel.specs.Sites.{scene_of}
 use Rattle.am_kernel.specs.Resumes.{walk_in}
 
@@ -20,17 +21,18 @@ arrived_at (stops.Block token) = None
 arrived_at (stops.Missing trigger) = None
 arrived_at (stops.Refuse errno) = None
 
--- the position at which a walk along the path would arrive, if it would
-abbrev pub arrival_of : KernelState → ℕ → List (List ℕ) → Option Position
-arrival_of k ns path = arrived_at (walk_of (scene_of k) ns path).stop
+-- the position at which a walk along the path would arrive now, if it would
+abbrev pub arrival_of : KernelState → ℕ → List (List ℕ) → ℕ → Option Position
+arrival_of k ns path now =
+    arrived_at (walk_of (scene_of k (moment_of k now)) ns path).stop
 
-abbrev pub arrival_in : KernelState → Option WalkRow → Option Position
-arrival_in k None = None
-arrival_in k (Some row) = arrival_of k row.ns row.path
+abbrev pub arrival_in : KernelState → Option WalkRow → ℕ → Option Position
+arrival_in k None now = None
+arrival_in k (Some row) now = arrival_of k row.ns row.path now
 
 -- the same of a walker that waits, as its walk begins again
-abbrev pub arrival_again_of : KernelState → ℕ → Option Position
-arrival_again_of k walker = arrival_in k (walk_in k.walks walker)
+abbrev pub arrival_again_of : KernelState → ℕ → ℕ → Option Position
+arrival_again_of k walker now = arrival_in k (walk_in k.walks walker) now
 
 -- ---- triggers
 

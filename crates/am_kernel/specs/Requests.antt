@@ -4,7 +4,13 @@ use Rattle.std.specs.Prelude.{ℕ, ◌==◌, Bool, false, not, List, [], ◌∷�
 use Rattle.std.specs.Option.{option_map}
 use Rattle.am_names.specs.declared.errno.Errno.{Errno}
 use Rattle.am_names.specs.declared.errno.Errno.TheVariants.{EPERM, EINVAL}
+use Rattle.am_names.specs.declared.trigger.Trigger.{Trigger}
 use Rattle.am_names.specs.declared.trigger.Status.{Status}
+use Rattle.am_names.specs.declared.trigger.Status.TheVariants.{Ready, Fail}
+use Rattle.am_names.specs.declared.row.OpenToken.{OpenToken}
+use Rattle.am_names.specs.declared.row.TokenKind.{TokenKind}
+use Rattle.am_names.specs.declared.row.TokenKind.TheVariants.{Missing, Expire}
+use Rattle.am_trigger.specs.Failures.{FailureRows, with_failure, without_failure}
 use Rattle.am_state.specs.declared.obs.Obs.{Obs}
 use Rattle.am_state.specs.declared.obs.Obs.TheVariants as seen
 use Rattle.am_state.specs.declared.kernel_row.QueuedRow.{QueuedRow}
@@ -34,9 +40,24 @@ answer_tests (Some fs) k token = if is_number (token_fs k token) fs then None el
 abbrev pub answer_refusal : KernelState → ℕ → ℕ → Option Errno
 answer_refusal k attach token = answer_tests (fs_of_attach k attach) k token
 
--- the token closes, and its waiters are released with the status
+-- A mount that failed lasts from this moment on, and READY makes it good; an expiry that failed leaves
+-- nothing: own (docs/DECISIONS.md, "A failure has a number, and may last").
+abbrev pub settled : TokenKind → Trigger → Status → ℕ → FailureRows → FailureRows
+settled kind trigger Ready moment rows = without_failure trigger rows
+settled Missing trigger (Fail error) moment rows =
+    with_failure trigger (record { no = error; at = moment }) rows
+settled Expire trigger (Fail error) moment rows = rows
+
+abbrev pub settled_by : Option OpenToken → Status → ℕ → FailureRows → FailureRows
+settled_by None status moment rows = rows
+settled_by (Some row) status moment rows = settled row.kind row.trigger status moment rows
+
+-- the token closes, its waiters are released with the status, and a failure lasts
 abbrev pub acknowledged : ℕ → Status → KernelState → KernelState
-acknowledged token status k = record k { waits = answered token status k.waits }
+acknowledged token status k = record k {
+  waits = answered token status k.waits;
+  failures = settled_by (token_of k.waits.tokens token) status k.latest k.failures;
+}
 
 -- this is seen of it
 abbrev pub answering : ℕ → Status → KernelState → List Obs

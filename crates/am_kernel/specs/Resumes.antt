@@ -1,7 +1,8 @@
 -- A walker whose token was acknowledged goes on.
 use Rattle.std.specs.Prelude.{ℕ, ◌+◌, ◌==◌, nat_le, is_some, List, [], Option, Some, None, find, if◌then◌else◌}
 use Rattle.am_names.specs.declared.errno.Errno.{Errno}
-use Rattle.am_names.specs.declared.errno.Errno.TheVariants.{ENOENT, EINVAL, ELOOP, NotReleased}
+use Rattle.am_names.specs.FailNo.{errno_of}
+use Rattle.am_names.specs.declared.errno.Errno.TheVariants.{EINVAL, ELOOP, NotReleased}
 use Rattle.am_names.specs.declared.trigger.Status.{Status}
 use Rattle.am_names.specs.declared.trigger.Status.TheVariants.{Ready, Fail}
 use Rattle.am_names.specs.declared.trigger.PipeState.{PipeState}
@@ -63,11 +64,13 @@ abbrev pub again : PipeState → KernelState → KernelState → WalkRow → ℕ
 again pipe k base row moment =
     if nat_le most_begins row.begins then failed ELOOP base
     else or_failed
-    (begun_with (walk_of (scene_of k) row.ns row.path) pipe base (next_begin row moment)) base
+    (begun_with (walk_of (scene_of k moment) row.ns row.path) pipe base (next_begin row moment)) base
 
--- after a mount that failed the walk fails; after one that came, and after an expiry, it begins again
+-- after a mount that failed the walk fails with its error; after one that came, and after an expiry, it
+-- begins again
 abbrev pub resumed_as : TokenKind → Status → PipeState → KernelState → WaitRow → WalkRow → ℕ → Outcome
-resumed_as Missing Fail pipe k wait row moment = failed ENOENT (freed_from Missing wait moment k)
+resumed_as Missing (Fail error) pipe k wait row moment =
+    failed (errno_of error) (freed_from Missing wait moment k)
 resumed_as Missing Ready pipe k wait row moment =
     again pipe k (freed_from Missing wait moment k) row moment
 resumed_as Expire status pipe k wait row moment =
@@ -76,7 +79,7 @@ resumed_as Expire status pipe k wait row moment =
 -- whoever asked for an expiry is told how it went, and walks nowhere
 abbrev pub expired_as : Status → KernelState → Outcome
 expired_as Ready k = Goes Expired [] k
-expired_as Fail k = failed ENOENT k
+expired_as (Fail error) k = failed (errno_of error) k
 
 -- a walker that has no walk asked for an expiry: nobody waits on a mount without a walk
 abbrev pub told_as : TokenKind → Status → KernelState → WaitRow → ℕ → Outcome

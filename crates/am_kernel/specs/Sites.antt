@@ -7,6 +7,7 @@ use Rattle.am_names.specs.declared.errno.Errno.TheVariants.{EINVAL, ENOSPC}
 use Rattle.am_names.specs.declared.row.Position.{Position}
 use Rattle.am_trigger.specs.declared.autofs.Autofs.{Autofs}
 use Rattle.am_trigger.specs.Rows.{autofs_of}
+use Rattle.am_trigger.specs.Failures.{failing}
 use Rattle.am_wait.specs.Rows.{wait_of}
 use Rattle.am_expire.specs.Uses.{mount_of}
 use Rattle.am_walk.specs.Scene.{Scene, with_traps, without_traps, autofs_at}
@@ -52,9 +53,10 @@ is_busy k walker = is_some (wait_of k.waits.waits walker) || is_some (mount_of k
 
 -- ---- paths
 
--- what a walker meets
-abbrev pub scene_of : KernelState → Scene
-scene_of k = with_traps k.table k.triggers k.waits
+-- what a walker meets at a moment
+abbrev pub scene_of : KernelState → ℕ → Scene
+scene_of k moment =
+    with_traps k.table k.triggers k.waits (failing moment k.negative k.failures)
 
 -- what an administrator meets
 abbrev pub open_scene : KernelState → Scene

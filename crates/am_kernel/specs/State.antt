@@ -4,6 +4,7 @@ use Rattle.am_names.specs.declared.limits.Limits.{Limits}
 use Rattle.am_state.specs.declared.kernel_row.QueuedRow.{QueuedRow}
 use Rattle.am_propagate.specs.MountTable.{MountTable, opening}
 use Rattle.am_trigger.specs.Rows.{TriggerRows, no_triggers}
+use Rattle.am_trigger.specs.Failures.{FailureRows}
 use Rattle.am_wait.specs.Rows.{WaitRows, no_waits}
 use Rattle.am_expire.specs.declared.uses.Use.{Use}
 use Rattle.am_expire.specs.Uses.{no_uses}
@@ -15,6 +16,8 @@ pub record KernelState : Type 0 where
   pub table : MountTable
   -- the autofs file systems, the directories that the daemon made, and the last uses
   pub triggers : TriggerRows
+  -- what failed last at each trigger
+  pub failures : FailureRows
   -- the open tokens, and who waits on them
   pub waits : WaitRows
   -- who is inside which mount
@@ -30,12 +33,15 @@ pub record KernelState : Type 0 where
   pub last_attach : ℕ
   -- the latest moment of all walks, resumes and expiries that weren't refused
   pub latest : ℕ
+  -- how long a failure lasts, in seconds
+  pub negative : ℕ
 
 -- namespace 0 with its root, of the plain file system 1; nothing is attached, and nobody walks
 abbrev pub initial : Limits → KernelState
 initial limits = record {
   table = opening limits.mounts;
   triggers = no_triggers;
+  failures = [];
   waits = no_waits limits.waiters limits.tokens;
   uses = no_uses;
   attached = [];
@@ -44,6 +50,7 @@ initial limits = record {
   last_fs = 1;
   last_attach = 0;
   latest = 0;
+  negative = limits.negative;
 }
 
 -- the greatest number of a file system or an attachment: they have 32 bits

@@ -1,5 +1,5 @@
 -- The walks of those who wait, as a table, and what its fields keep.
-use Rattle.std.specs.Prelude.{◌≡◌, ◌≤◌, ℕ, ◌==◌, ◌-◌, Bool, List, [], ◌∷◌, drop, length, None, is_some, vec_len, vec_capacity}
+use Rattle.std.specs.Prelude.{◌≡◌, ◌≤◌, ℕ, ◌==◌, ◌-◌, Bool, List, [], ◌∷◌, drop, None, is_some, vec_len, vec_capacity}
 use Rattle.std.specs.List.{list_any}
 use Rattle.indexmap.specs.IndexSet.{spare}
 use Rattle.am_kernel.specs.declared.row.WalkRow.{WalkRow}

@@ -3,6 +3,7 @@
 use Rattle.std.specs.Prelude.{ℕ, ◌+◌, ◌==◌, Bool, true, not, is_none, List, [], ◌∷◌, ◌++◌, map, filter, Option, Some, None, if◌then◌else◌}
 use Rattle.std.specs.List.{flat_map}
 use Rattle.am_names.specs.declared.errno.Errno.TheVariants.{ENOENT, EINVAL, EAGAIN, ENOSPC}
+use Rattle.am_names.specs.declared.fail_no.FailNo.TheVariants as error
 use Rattle.am_names.specs.declared.trigger.Trigger.{Trigger}
 use Rattle.am_names.specs.declared.trigger.Status.{Status}
 use Rattle.am_names.specs.declared.trigger.Status.TheVariants.{Fail}
@@ -17,6 +18,7 @@ use Rattle.am_state.specs.declared.obs.Obs.{Obs}
 use Rattle.am_state.specs.declared.obs.Obs.TheVariants as seen
 use Rattle.am_state.specs.declared.kernel_row.QueuedRow.{QueuedRow}
 use Rattle.am_trigger.specs.Rows.{used, all_used, with_catatonic}
+use Rattle.am_trigger.specs.Failures.{without_failures}
 use Rattle.am_wait.specs.Rows.{waiters_of, tokens_of}
 use Rattle.am_wait.specs.Calls.{is_exhausted, is_full, opened, joined, fs_released}
 use Rattle.am_expire.specs.Uses.{entered}
@@ -40,7 +42,7 @@ abbrev pub releases : ℕ → Status → List ℕ → List Obs
 releases token status walkers = map (λ walker. seen.Released walker token status) walkers
 
 abbrev pub failures : KernelState → ℕ → List Obs
-failures k token = releases token Fail (waiters_of k.waits.tokens token)
+failures k token = releases token (Fail error.ENOENT) (waiters_of k.waits.tokens token)
 
 -- the file system becomes catatonic: all that wait on it are released, by rising token
 abbrev pub closing : ℕ → KernelState → List Obs
@@ -131,10 +133,11 @@ abbrev pub is_packet_of : ℕ → QueuedRow → Bool
 is_packet_of fs row = row.packet.dev == fs
 
 -- the file system is catatonic: its tokens close, its waiters fail, its packets go
--- (autofs.rst, "Catatonic mode")
+-- (autofs.rst, "Catatonic mode"), and nothing that failed in it lasts
 abbrev pub closed : ℕ → KernelState → KernelState
 closed fs k = record k {
   triggers = with_catatonic fs true k.triggers;
+  failures = without_failures fs k.failures;
   waits = fs_released fs k.waits;
   queue = filter (λ row. not (is_packet_of fs row)) k.queue;
 }
@@ -167,7 +170,7 @@ begun_with walked pipe k begin = begun_by walked.stop pipe k begin walked.passed
 
 -- a walk begins from the root of its namespace
 abbrev pub begun : PipeState → KernelState → Begin → Outcome
-begun pipe k begin = begun_with (walk_of (scene_of k) begin.ns begin.path) pipe k begin
+begun pipe k begin = begun_with (walk_of (scene_of k begin.moment) begin.ns begin.path) pipe k begin
 
 -- the first walk of an idle walker
 abbrev pub first_begin : ℕ → ℕ → List (List ℕ) → ℕ → Begin

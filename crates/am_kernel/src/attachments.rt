@@ -94,7 +94,8 @@ impl Kernel {
         None
     }
 
-    /// A daemon attaches again to an autofs that is catatonic. It has a new attachment.
+    /// A daemon attaches again to an autofs that is catatonic. It has a new attachment, and nothing that
+    /// failed lasts.
     pub fn set_pipe(&mut self, fs: FsId) -> Result<Attach, Errno>
         ensures refusal { RefusedOnlyAs (pipe_refusal self.old fs) result }
         ensures attach { IfOk result (λ attach. attach ≡ self.old.last_attach + 1) }
@@ -104,6 +105,7 @@ impl Kernel {
         table!(refuse; set_pipe(self, fs));
         let attach = Attach(self.last_attach + 1);
         make_live(&mut self.triggers, fs);
+        self.failures.remove_fs(fs);
         set_attach(&mut self.attached, fs, attach);
         self.last_attach = attach.0;
         Ok(attach)

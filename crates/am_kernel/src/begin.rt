@@ -3,6 +3,7 @@
 ghost use Rattle.std.specs.Prelude.{◌≡◌, ◌≤◌, ◌<◌, ◌+◌, ◌∷◌, ◌++◌, [], None, false, true, is_some, length, map, IfOk, OnOk, OnErr, vec_len, vec_capacity};
 ghost use Rattle.am_state.specs.declared.obs.Obs.TheVariants as told;
 ghost use Rattle.am_trigger.specs.Rows.{with_catatonic};
+ghost use Rattle.am_names.specs.Errno.{RefusedAs};
 ghost use Rattle.am_names.specs.declared.errno.Errno.TheVariants.{ENOENT};
 ghost use Rattle.am_wait.specs.Rows.{token_of, wait_of};
 ghost use Rattle.am_wait.specs.Calls.{collected, reopen_refusal};
@@ -21,9 +22,11 @@ use crate::packet::packet_for;
 use crate::walks::Walks;
 use am_expire::OrderedTriggers;
 use am_names::{
-    Attach, Errno, FsId, PipeState, Position, Seconds, Status, Token, TokenKind, Trigger, WalkerId,
+    Attach, Errno, FailNo, FsId, PipeState, Position, Seconds, Status, Token, TokenKind, Trigger,
+    WalkerId,
 };
 use am_state::{KeptPacket, KeptTrigger, Obs, QueuedRow, keep_triggers};
+use am_trigger::Failures;
 use am_wait::Waits;
 use am_walk::{Stop, Walk, resolve};
 use std::alloc::{AllocError, Global};
@@ -53,7 +56,8 @@ pub fn touch_expired(triggers: &mut OrderedTriggers, waited: &Waited, moment: Se
 /// What the walker waited on is collected.
 pub fn forget(waits: &mut Waits, waited: &Waited, walker: WalkerId)
     requires { IsFree waited.now walker waits.old }
-    ensures { waits.new ≡ forgotten_waits waited.now walker waits.old }
+    ensures waits { waits.new ≡ forgotten_waits waited.now walker waits.old }
+    ensures tokens { length waits.new.tokens ≡ length waits.old.tokens }
 {
     match waited {
         Waited::Idle => {}
@@ -71,6 +75,16 @@ pub fn forget_walk(walks: &mut Walks, waited: &Waited, walker: WalkerId)
         Waited::Idle => {}
         Waited::OnMount | Waited::OnExpiry { .. } => walks.take(walker),
     }
+}
+
+/// Makes room for the failure of one more token.
+pub fn reserve_failure(failures: &mut Failures, waits: &Waits) -> Result<(), Errno>
+    ensures refusal { RefusedAs None result }
+    ensures rows { failures.new.rows ≡ failures.old.rows }
+    ensures room { failures.old.room ≤ failures.new.room }
+    ensures ok { OnOk result (length waits.now.tokens + 1 ≤ failures.new.room) }
+{
+    failures.reserve(waits.token_count() + 1)
 }
 
 /// Tells which triggers a walk passed.
@@ -218,6 +232,7 @@ impl Kernel {
         self.triggers.reserve_uses(passed.len() + 2)?;
         self.walks.reserve()?;
         self.queue.reserve(1)?;
+        reserve_failure(&mut self.failures, &self.waits)?;
         let row = begin.to_row(alloc)?;
         let kept = keep_triggers(alloc, passed)?;
         let unnumbered = packet_for(TokenKind::Missing, Token(0), walker, trigger);
@@ -249,7 +264,12 @@ impl Kernel {
         let tokens = self.waits.tokens_of(alloc, fs)?;
         for token in tokens.iter() {
             let walkers = self.waits.waiters_of(alloc, *token)?;
-            tell_releases(&mut shown, *token, Status::Fail, walkers.as_slice())?;
+            tell_releases(
+                &mut shown,
+                *token,
+                Status::Fail(FailNo::ENOENT),
+                walkers.as_slice(),
+            )?;
         }
         Ok(shown)
     }
@@ -259,6 +279,7 @@ impl Kernel {
         ensures { self.new ≡ closed fs self.old }
     {
         make_catatonic(&mut self.triggers, fs);
+        self.failures.remove_fs(fs);
         self.waits.release_fs(fs);
         self.queue.retain(|row| row.packet.dev != fs);
     }
@@ -325,15 +346,18 @@ impl Kernel {
     ) -> Result<Begun, Errno>
         requires outside { mount_of self.old.uses begin.now.walker ≡ None }
         requires free { IsFree waited.now begin.now.walker self.old.waits }
-        ensures { Meets (begun_with (walk_of (scene_of self.old) begin.now.ns begin.now.path) pipe (freed_as waited.now begin.now.walker begin.now.moment self.old) begin.now) result self.old self.new seen.old.items seen.new.items }
+        ensures { Meets (begun_with (walk_of (scene_of self.old begin.now.moment) begin.now.ns begin.now.path) pipe (freed_as waited.now begin.now.walker begin.now.moment self.old) begin.now) result self.old self.new seen.old.items seen.new.items }
     {
         let walk = resolve(
             alloc,
             &self.subtree,
             self.triggers.as_triggers(),
             &self.waits,
+            &self.failures,
             begin.ns,
             &begin.path,
+            begin.moment,
+            self.negative,
         )?;
         let Walk { stop, passed } = walk;
         match stop {

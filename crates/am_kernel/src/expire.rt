@@ -10,7 +10,7 @@ ghost use Rattle.am_kernel.specs.Outcome.{Meets, Goes};
 ghost use Rattle.am_kernel.specs.Walks.{closing, closed};
 ghost use Rattle.am_kernel.specs.Expires.{attached_of, timeout_of, next_of, expires, expires_next, expire_at, expire_outcome};
 
-use crate::begin::tell_queued;
+use crate::begin::{reserve_failure, tell_queued};
 use crate::begun::Begun;
 use crate::kernel::Kernel;
 use crate::packet::packet_for;
@@ -80,6 +80,7 @@ impl Kernel {
     {
         seen.reserve(2)?;
         self.queue.reserve(1)?;
+        reserve_failure(&mut self.failures, &self.waits)?;
         let unnumbered = packet_for(TokenKind::Expire, Token(0), walker, trigger);
         let mut packet = KeptPacket::new(alloc, &unnumbered)?;
         let token = self.waits.open(alloc, *trigger, TokenKind::Expire, walker)?;

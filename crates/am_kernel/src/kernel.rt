@@ -16,7 +16,7 @@ use am_names::{
 };
 use am_propagate::Subtree;
 use am_state::QueuedRow;
-use am_trigger::Triggers;
+use am_trigger::{Failures, Triggers};
 use am_wait::Waits;
 use am_walk::position;
 use std::alloc::Global;
@@ -28,6 +28,7 @@ use std::marker::Model;
 pub struct Kernel {
     pub(crate) subtree: Subtree,
     pub(crate) triggers: OrderedTriggers,
+    pub(crate) failures: Failures,
     pub(crate) waits: Waits,
     pub(crate) uses: Uses,
     pub(crate) attached: Vec<Attached>,
@@ -36,6 +37,7 @@ pub struct Kernel {
     pub(crate) last_fs: u32,
     pub(crate) last_attach: u32,
     pub(crate) latest: Seconds,
+    pub(crate) negative: Seconds,
 }
 
 impl Model for Kernel {
@@ -43,11 +45,11 @@ impl Model for Kernel {
 
     ghost Value = { KernelState };
 
-    ghost use Rattle.am_kernel.specs.Inside.{kernel_of, IsSound};
+    ghost use Rattle.am_kernel.specs.Inside.{kernel_of, IsKept};
 
     ghost view = { kernel_of };
 
-    ghost invariant = { λ k. IsSound (kernel_of k) };
+    ghost invariant = { IsKept };
 }
 
 /// Whether the place is a mount's root.
@@ -73,6 +75,7 @@ impl Kernel {
         Ok(Kernel {
             subtree: Subtree::new(alloc, limits.mounts as u64)?,
             triggers: OrderedTriggers::new(alloc),
+            failures: Failures::new(alloc),
             waits: Waits::new(alloc, limits.waiters, limits.tokens),
             uses: Uses::new(alloc),
             attached: Vec::new(alloc),
@@ -81,6 +84,7 @@ impl Kernel {
             last_fs: 1,
             last_attach: 0,
             latest: Seconds(0),
+            negative: limits.negative,
         })
     }
 

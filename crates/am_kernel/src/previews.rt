@@ -9,7 +9,7 @@ ghost use Rattle.am_kernel.specs.Administration.{plain_gone};
 ghost use Rattle.am_kernel.specs.Previews.{arrived_at, arrival_of, arrival_again_of, is_trigger};
 
 use crate::kernel::Kernel;
-use am_names::{AbsPath, Attach, Errno, FsId, MountId, NsId, Position, Trigger, WalkerId};
+use am_names::{AbsPath, Attach, Errno, FsId, MountId, NsId, Position, Seconds, Trigger, WalkerId};
 use am_walk::{Stop, resolve};
 use std::alloc::{AllocError, Global};
 
@@ -24,22 +24,27 @@ fn arrived_at(stop: Stop) -> Option<Position>
 }
 
 impl Kernel {
-    /// The position at which a walk that begins now would arrive. Nothing changes.
+    /// The position at which a walk that begins now would arrive. The time is as for `walk`. Nothing
+    /// changes.
     pub fn arrival(
         &self,
         alloc: Global,
         ns: NsId,
         path: &AbsPath<'_>,
+        now: Seconds,
     ) -> Result<Option<Position>, AllocError>
-        ensures { IfOk result (λ at. at ≡ arrival_of self.now ns path.now) }
+        ensures { IfOk result (λ at. at ≡ arrival_of self.now ns path.now now) }
     {
         let walk = resolve(
             alloc,
             &self.subtree,
             self.triggers.as_triggers(),
             &self.waits,
+            &self.failures,
             ns,
             path,
+            self.moment(now),
+            self.negative,
         )?;
         Ok(arrived_at(walk.stop))
     }
@@ -49,11 +54,12 @@ impl Kernel {
         &self,
         alloc: Global,
         walker: WalkerId,
+        now: Seconds,
     ) -> Result<Option<Position>, AllocError>
-        ensures { IfOk result (λ at. at ≡ arrival_again_of self.now walker) }
+        ensures { IfOk result (λ at. at ≡ arrival_again_of self.now walker now) }
     {
         match self.walk_row(walker) {
-            Some(row) => self.arrival(alloc, row.ns, &row.path.path()),
+            Some(row) => self.arrival(alloc, row.ns, &row.path.path(), now),
             None => Ok(None),
         }
     }

@@ -77,8 +77,8 @@ impl Kernel {
             Request::Ready { attach, token } => {
                 self.acknowledge(alloc, attach, token, Status::Ready, seen)
             }
-            Request::Fail { attach, token } => {
-                self.acknowledge(alloc, attach, token, Status::Fail, seen)
+            Request::Fail { attach, token, no } => {
+                self.acknowledge(alloc, attach, token, Status::Fail(no), seen)
             }
             Request::Catatonic { attach, fs } => self.end_attachment(alloc, attach, fs, seen),
             Request::SetTimeout {

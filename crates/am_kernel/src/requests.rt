@@ -1,16 +1,19 @@
 //! What the daemon asks of an attached file system, packets that are read, and walkers that leave.
 
-ghost use Rattle.std.specs.Prelude.{◌≡◌, ◌++◌, Some, map, IfOk, OnOk, OnErr};
+ghost use Rattle.std.specs.Prelude.{◌≡◌, ◌≤◌, ◌+◌, ◌++◌, Some, map, IfOk, OnOk, OnErr};
 ghost use Rattle.am_names.specs.Errno.{RefusedAs, RefusedOnlyAs};
 ghost use Rattle.am_expire.specs.Uses.{leave_refusal, mount_of};
-ghost use Rattle.am_kernel.specs.Requests.{token_fs, answer_refusal, acknowledged, answering, timeout_refusal, timeout_row, with_timeout, queued_of, without_packet, leave_seen, without_use};
+ghost use Rattle.am_kernel.specs.Requests.{token_fs, answer_refusal, settled, acknowledged, answering, timeout_refusal, timeout_row, with_timeout, queued_of, without_packet, leave_seen, without_use};
 
 use crate::begin::tell_releases;
 use crate::kernel::Kernel;
 use crate::row::Attached;
 use crate::table::{refuse, table};
-use am_names::{Attach, Errno, FsId, MountId, Name, Status, Token, WalkerId};
+use am_names::{
+    Attach, Errno, FsId, MountId, Name, Seconds, Status, Token, TokenKind, Trigger, WalkerId,
+};
 use am_state::{Obs, QueuedRow};
+use am_trigger::{Failure, Failures};
 use std::alloc::{AllocError, Global};
 
 fn timeout_row(row: Attached, fs: FsId, timeout: u32) -> Attached
@@ -28,6 +31,28 @@ fn set_timeout(rows: &mut [Attached], fs: FsId, timeout: u32)
 {
     for row in rows.iter_mut() {
         *row = timeout_row(*row, fs, timeout);
+    }
+}
+
+/// What comes of an acknowledgement for the trigger: a mount that failed lasts from this moment on, and
+/// READY makes it good.
+fn settle(
+    failures: &mut Failures,
+    kind: TokenKind,
+    trigger: &Trigger,
+    status: Status,
+    moment: Seconds,
+)
+    requires { 1 ≤ failures.old.room }
+    ensures rows { failures.new.rows ≡ settled kind trigger.now status moment failures.old.rows }
+    ensures room { failures.old.room ≤ failures.new.room + 1 }
+{
+    match (kind, status) {
+        (_, Status::Ready) => failures.remove(trigger),
+        (TokenKind::Missing, Status::Fail(no)) => {
+            failures.put_reserved(trigger, Failure { no, at: moment });
+        }
+        (TokenKind::Expire, Status::Fail(_)) => {}
     }
 }
 
@@ -56,14 +81,20 @@ impl Kernel {
         Ok(shown)
     }
 
-    /// The daemon acknowledges a notification: its token closes, and its waiters are released.
+    /// The daemon acknowledges a notification: its token closes, and its waiters are released. A failure
+    /// of a mount lasts, and READY makes it good. It takes no memory.
     pub fn answer(&mut self, attach: Attach, token: Token, status: Status) -> Result<(), Errno>
         ensures refusal { RefusedOnlyAs (answer_refusal self.old attach token) result }
         ensures ok { OnOk result (self.new ≡ acknowledged token status self.old) }
         ensures err { OnErr result (self.new ≡ self.old) }
     {
         table!(refuse; answer(self, attach, token));
-        self.waits.answer(token, status)
+        let Some((kind, trigger)) = self.waits.purpose_of(token) else {
+            return Err(Errno::EINVAL);
+        };
+        self.waits.answer(token, status)?;
+        settle(&mut self.failures, kind, &trigger, status, self.latest);
+        Ok(())
     }
 
     /// Sets the timeout of an autofs, in seconds (autofs.rst, "Mountpoint expiry").

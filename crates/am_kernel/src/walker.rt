@@ -165,8 +165,8 @@ impl Kernel {
             (TokenKind::Expire, Status::Ready) => {
                 self.end(&expiry, walker, moment, Begun::Expired, seen)
             }
-            (TokenKind::Expire, Status::Fail) => {
-                self.fail(&expiry, walker, moment, Errno::ENOENT, seen)
+            (TokenKind::Expire, Status::Fail(no)) => {
+                self.fail(&expiry, walker, moment, no.errno(), seen)
             }
         }
     }
@@ -242,15 +242,16 @@ impl Kernel {
             return self.tell(&wait, status, moment, seen);
         }
         match (wait.kind, status) {
-            (TokenKind::Missing, Status::Fail) => {
-                self.fail(&Waited::OnMount, walker, moment, Errno::ENOENT, seen)
+            (TokenKind::Missing, Status::Fail(no)) => {
+                self.fail(&Waited::OnMount, walker, moment, no.errno(), seen)
             }
             (TokenKind::Missing, Status::Ready) => self.again(alloc, &wait, moment, pipe, seen),
             (TokenKind::Expire, _) => self.again(alloc, &wait, moment, pipe, seen),
         }
     }
 
-    /// A walker that was released goes on. After a mount that failed its walk fails; after one that
+    /// A walker that was released goes on. After a mount that failed its walk fails, with the number of
+    /// that failure; after one that
     /// came, and after an expiry, it begins again. Who asked for an expiry is told how it went. The
     /// time is as for `walk`.
     pub fn resume(

@@ -8,9 +8,13 @@ use Rattle.std.proofs.lemmas.List.Elements.{Contains-push, Contains-append_right
 use Rattle.am_state.specs.declared.obs.Obs.{Obs}
 use Rattle.am_state.specs.declared.obs.Obs.TheVariants.{Queued, Waits, Answered, Catatonic, Released, Delivered}
 use Rattle.am_wire.specs.declared.packet.Packet.{Packet}
+use Rattle.am_names.specs.FailNo.{fail_number}
+use Rattle.am_names.specs.declared.fail_no.FailNo.{FailNo}
+use Rattle.am_names.specs.declared.fail_no.FailNo.TheVariants.{ENOENT}
+use Rattle.am_names.proofs.FailNumbers.{fail_is}
 use Rattle.am_names.specs.declared.trigger.Status.{Status}
 use Rattle.am_names.specs.declared.trigger.Status.TheVariants.{Ready, Fail}
-use Rattle.am_laws.specs.OneObservation.{queues, queues_as, closes, closes_as, unqueues, waits, delivers, releases, is_released, is_same_packet, is_same_status, is_fail, is_fs}
+use Rattle.am_laws.specs.OneObservation.{queues, queues_as, closes, closes_as, unqueues, waits, delivers, releases, is_released, is_same_packet, is_same_status, is_no_entry_fail, is_fs}
 use Rattle.am_laws.specs.Counts.{fs_of_token, IsOpen, IsQueued, IsInRow}
 use Rattle.am_laws.specs.TraceLaws.{Closes}
 use Rattle.am_laws.specs.Tests.{HasSince, is_in_row}
@@ -33,16 +37,18 @@ releases_is walker token _ h = absurd cc
 
 status_is : (a b : Status) → is_same_status a b ≡ true → a ≡ b
 status_is Ready Ready h = refl
-status_is Fail Fail h = refl
+status_is (Fail a) (Fail b) h =
+    let same : fail_number a ≡ fail_number b = grind (arith, nat_tests, h) in
+    ap (λ (error : FailNo). Fail error) (fail_is a b same)
 status_is _ _ h = absurd cc
 
 status_same : (a : Status) → is_same_status a a ≡ true
 status_same Ready = refl
-status_same Fail = refl
+status_same (Fail a) = nat_same (fail_number a)
 
-fail_is : (a : Status) → is_fail a ≡ true → a ≡ Fail
-fail_is Ready h = absurd cc
-fail_is Fail h = refl
+no_entry_is : (a : Status) → is_no_entry_fail a ≡ true → a ≡ Fail ENOENT
+no_entry_is (Fail ENOENT) h = refl
+no_entry_is _ h = absurd cc
 
 pub is_fs_true : (fs : ℕ) (known : Option ℕ) → known ≡ Some fs → is_fs known fs ≡ true
 is_fs_true fs None e = absurd cc
@@ -165,7 +171,7 @@ queued_from_since seen token attach packet h = record {
 pub closes_true : (before : List Obs) (token : ℕ) (status : Status) (cause : Obs) → Closes before token status cause → closes_as token (fs_of_token token before) status cause ≡ true
 closes_true before token status cause (inl e) = subst (λ (o : Obs). closes_as token (fs_of_token token before) status o ≡ true) (sym e) (and_of _ _ (nat_same token) (status_same status))
 closes_true before token status cause (inr h) =
-    subst (λ (o : Obs). closes_as token (fs_of_token token before) status o ≡ true) (sym h.1) (and_of _ _ (is_fs_true h.0 (fs_of_token token before) h.2) (ap is_fail h.3))
+    subst (λ (o : Obs). closes_as token (fs_of_token token before) status o ≡ true) (sym h.1) (and_of _ _ (is_fs_true h.0 (fs_of_token token before) h.2) (ap is_no_entry_fail h.3))
 
 pub closes_from_test : (before : List Obs) (token : ℕ) (status : Status) (cause : Obs) → closes_as token (fs_of_token token before) status cause ≡ true → Closes before token status cause
 closes_from_test before token status (Answered k s) h =
@@ -174,8 +180,8 @@ closes_from_test before token status (Answered k s) h =
     let same : s ≡ status = status_is s status both.1 in
     inl cc
 closes_from_test before token status (Catatonic f) h =
-    let both = and_both (is_fs (fs_of_token token before) f) (is_fail status) h in
-    inr (f, refl, fs_from_test f (fs_of_token token before) both.0, fail_is status both.1)
+    let both = and_both (is_fs (fs_of_token token before) f) (is_no_entry_fail status) h in
+    inr (f, refl, fs_from_test f (fs_of_token token before) both.0, no_entry_is status both.1)
 closes_from_test before token status _ h = absurd cc
 
 -- rows

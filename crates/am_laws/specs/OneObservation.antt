@@ -1,7 +1,9 @@
 -- Tests of one observation, and of what it holds.
 use Rattle.std.specs.Prelude.{ℕ, ◌==◌, Bool, true, false, ◌&&◌, List, Option, None, Some, if◌then◌else◌}
 use Rattle.std.specs.Str.{bytes_eq}
+use Rattle.am_names.specs.FailNo.{fail_number}
 use Rattle.am_names.specs.Trigger.{same_trigger}
+use Rattle.am_names.specs.declared.fail_no.FailNo.TheVariants.{ENOENT}
 use Rattle.am_names.specs.declared.trigger.Status.{Status}
 use Rattle.am_names.specs.declared.trigger.Status.TheVariants.{Ready, Fail}
 use Rattle.am_names.specs.declared.trigger.Trigger.{Trigger}
@@ -36,15 +38,17 @@ is_same_packet p q =
     && p.ino == q.ino && p.uid == q.uid && p.gid == q.gid && p.pid == q.pid && p.tgid == q.tgid
     && bytes_eq p.name q.name
 
-abbrev pub is_fail : Status → Bool
-is_fail Ready = false
-is_fail Fail = true
+-- the status with which catatonic mode releases: Fail ENOENT alone
+abbrev pub is_no_entry_fail : Status → Bool
+is_no_entry_fail (Fail ENOENT) = true
+is_no_entry_fail _ = false
 
+-- both are Ready, or both are Fail with the same error
 abbrev pub is_same_status : Status → Status → Bool
 is_same_status Ready Ready = true
-is_same_status Ready Fail = false
-is_same_status Fail Ready = false
-is_same_status Fail Fail = true
+is_same_status Ready (Fail b) = false
+is_same_status (Fail a) Ready = false
+is_same_status (Fail a) (Fail b) = fail_number a == fail_number b
 
 -- the file system is known, and this one
 abbrev pub is_fs : Option ℕ → ℕ → Bool
@@ -100,10 +104,10 @@ closes token fs (Catatonic other) = is_fs fs other
 closes token fs _ = false
 
 -- What closes a token of this file system and gives its waiters this status: that of the
--- answer, or Fail.
+-- answer, or Fail ENOENT.
 abbrev pub closes_as : ℕ → Option ℕ → Status → Obs → Bool
 closes_as token fs status (Answered k s) = k == token && is_same_status s status
-closes_as token fs status (Catatonic f) = is_fs fs f && is_fail status
+closes_as token fs status (Catatonic f) = is_fs fs f && is_no_entry_fail status
 closes_as token fs status _ = false
 
 -- what takes a token's packet out of the queue: its delivery, or catatonic mode

@@ -2,6 +2,7 @@
 -- before it and of those behind it.
 use Rattle.std.specs.Prelude.{◌≡◌, ◌⊎◌, ℕ, true, List, ◌∷◌, ◌++◌, Some, pos}
 use Rattle.std.specs.List.{list_all, All, Contains}
+use Rattle.am_names.specs.declared.fail_no.FailNo.TheVariants.{ENOENT}
 use Rattle.am_names.specs.declared.trigger.Status.{Status}
 use Rattle.am_names.specs.declared.trigger.Status.TheVariants.{Fail}
 use Rattle.am_names.specs.declared.trigger.Trigger.{Trigger}
@@ -11,12 +12,13 @@ use Rattle.am_state.specs.declared.obs.Obs.TheVariants.{Queued, Waits, Answered,
 use Rattle.am_laws.specs.OneObservation.{is_released}
 use Rattle.am_laws.specs.Counts.{fs_of_token, IsOpen, IsExpiring, IsQueued, NeverQueued, WasDelivered, NeverDelivered, uses, IsInRow}
 
--- what closes a token and gives its waiters a status: its answer, or Fail by catatonic mode of
--- its file system
+-- what closes a token and gives its waiters a status: its answer, or Fail ENOENT by catatonic
+-- mode of its file system
 abbrev pub Closes : List Obs → ℕ → Status → Obs → Type 0
 Closes before token status cause =
     (cause ≡ Answered token status)
-    ⊎ ((fs : ℕ) × (cause ≡ Catatonic fs) × (fs_of_token token before ≡ Some fs) × (status ≡ Fail))
+    ⊎ ((fs : ℕ) × (cause ≡ Catatonic fs) × (fs_of_token token before ≡ Some fs)
+    × (status ≡ Fail ENOENT))
 
 -- these observations end in an unbroken row of Released, perhaps empty, right behind what closed
 -- the token, which was open before that

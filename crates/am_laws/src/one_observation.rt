@@ -3,9 +3,9 @@
 ghost use Rattle.std.specs.Prelude.{◌≡◌};
 ghost use Rattle.am_names.specs.Trigger.{same_trigger, same_name};
 ghost use Rattle.am_wire.specs.Kind.{kind_number};
-ghost use Rattle.am_laws.specs.OneObservation.{trigger_name, trigger_of, is_expire, expires, is_same_packet, is_fail, is_same_status, is_fs, is_released, queues, queues_as, waits, delivers, releases, closes, closes_as, unqueues, enters, leaves};
+ghost use Rattle.am_laws.specs.OneObservation.{trigger_name, trigger_of, is_expire, expires, is_same_packet, is_no_entry_fail, is_same_status, is_fs, is_released, queues, queues_as, waits, delivers, releases, closes, closes_as, unqueues, enters, leaves};
 
-use am_names::{Attach, FsId, MountId, Name, Status, Token, TokenKind, Trigger, WalkerId};
+use am_names::{Attach, FailNo, FsId, MountId, Name, Status, Token, TokenKind, Trigger, WalkerId};
 use am_state::Obs;
 use am_wire::Packet;
 
@@ -57,21 +57,26 @@ fn is_same_packet(one: &Packet, other: &Packet) -> bool
         && one.name.as_bytes() == other.name.as_bytes()
 }
 
-fn is_fail(status: Status) -> bool
-    ensures { result ≡ is_fail status }
+/// Whether it is the status with which catatonic mode releases: a failure with ENOENT.
+fn is_no_entry_fail(status: Status) -> bool
+    ensures { result ≡ is_no_entry_fail status }
 {
     match status {
         Status::Ready => false,
-        Status::Fail => true,
+        Status::Fail(no) => matches!(no, FailNo::ENOENT),
     }
 }
 
+/// Whether both are ready, or both fail with the same error.
 fn is_same_status(one: Status, other: Status) -> bool
     ensures { result ≡ is_same_status one other }
 {
-    match (one, other) {
-        (Status::Ready, Status::Ready) | (Status::Fail, Status::Fail) => true,
-        (Status::Ready, Status::Fail) | (Status::Fail, Status::Ready) => false,
+    match one {
+        Status::Ready => matches!(other, Status::Ready),
+        Status::Fail(a) => match other {
+            Status::Ready => false,
+            Status::Fail(b) => a.number() == b.number(),
+        },
     }
 }
 
@@ -172,7 +177,7 @@ pub fn closes_as(token: Token, fs: &Option<FsId>, status: Status, o: &Obs) -> bo
             token: k,
             status: s,
         } => *k == token && is_same_status(*s, status),
-        Obs::Catatonic { fs: f } => is_fs(fs, *f) && is_fail(status),
+        Obs::Catatonic { fs: f } => is_fs(fs, *f) && is_no_entry_fail(status),
         _ => false,
     }
 }

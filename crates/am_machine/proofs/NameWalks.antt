@@ -7,6 +7,7 @@ use Rattle.std.proofs.lemmas.List.Elements.{All-nil, All-push}
 use Rattle.std.proofs.lemmas.List.Folds.{list_all-append}
 use Rattle.am_names.specs.Name.{is_name}
 use Rattle.am_names.specs.declared.errno.Errno.TheVariants.{ENOENT, ELOOP}
+use Rattle.am_names.specs.declared.fail_no.FailNo.{FailNo}
 use Rattle.am_names.specs.declared.trigger.Trigger.{Trigger}
 use Rattle.am_names.specs.declared.row.OpenToken.{OpenToken}
 use Rattle.am_names.specs.declared.row.TokenKind.TheVariants.{Missing, Expire}
@@ -20,7 +21,7 @@ use Rattle.am_walk.specs.declared.stop.Next.TheVariants as nexts
 use Rattle.am_walk.specs.declared.stop.Stop.{Stop}
 use Rattle.am_walk.specs.declared.stop.Stop.TheVariants as stops
 use Rattle.am_walk.specs.Scene.{Scene, autofs_at, has_names}
-use Rattle.am_walk.specs.Meet.{if_open, if_mounted, if_entered, at_directory, at_trap, at_trigger, at_plain, at_autofs, at_site, next_at}
+use Rattle.am_walk.specs.Meet.{if_open, if_mounted, if_failing, if_entered, at_directory, at_trap, at_trigger, at_plain, at_autofs, at_site, next_at}
 use Rattle.am_walk.specs.Walks.{Visit, Stands, Stops, followed, settled_within, settled, onward, after, visit_from, visit_of, Walked, ended, walk_of}
 use Rattle.am_laws.proofs.Bools.{and_both, and_of}
 use Rattle.am_machine.specs.Invariant.Walks.{is_named}
@@ -75,6 +76,10 @@ mounted_named : (trigger : Trigger) (o : Option ℕ) (others : Next) → IsNamed
 mounted_named trigger (Some mount) others named h = named
 mounted_named trigger None others named h = h
 
+failing_named : (error : Option FailNo) (others : Next) → IsNamedNext others → IsNamedNext (if_failing error others)
+failing_named (Some error) others h = tt
+failing_named None others h = h
+
 entered_named : (o : Option ℕ) (others : Next) → IsNamedNext others → IsNamedNext (if_entered o others)
 entered_named (Some mount) others h = tt
 entered_named None others h = h
@@ -93,7 +98,8 @@ module _ (scene : Scene) where
       (open_named (open_on tokens Missing trigger) _
       (mounted_named trigger (top_of scene.mounts mount place) _ named
       (either_named row.catatonic (at_directory scene row trigger) _ (directory_named row trigger)
-      (either_named (is_some (top_of scene.mounts row.location (place_of trigger))) (nexts.Halts (stops.Refuse ELOOP)) (nexts.Halts (stops.Missing trigger)) tt named))))
+      (either_named (is_some (top_of scene.mounts row.location (place_of trigger))) (nexts.Halts (stops.Refuse ELOOP)) _ tt
+      (failing_named (scene.failing trigger) (nexts.Halts (stops.Missing trigger)) named)))))
 
   trigger_named : (tokens : Option (List OpenToken)) (row : Autofs) (trigger : Trigger) (mount : ℕ) (place : List (List ℕ)) → IsNamed trigger → IsNamedNext (at_trigger tokens scene row trigger mount place)
   trigger_named (Some tokens) row trigger mount place named = trap_named tokens row trigger mount place named

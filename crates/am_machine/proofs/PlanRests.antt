@@ -1,6 +1,7 @@
 -- What a job has left is the rest of a plan for its trigger: so it begins, and so it goes on.
 use Rattle.std.proofs.Common.{◌≡◌, ℕ, true, false, List, Option, Some, None, refl, sym, subst, ◌∙◌}
 use Rattle.std.specs.Prelude.{not}
+use Rattle.am_names.specs.declared.fail_no.FailNo.TheVariants.{ENOENT}
 use Rattle.am_names.specs.declared.trigger.Trigger.{Trigger}
 use Rattle.am_names.specs.declared.trigger.Status.{Status}
 use Rattle.am_names.specs.declared.trigger.Status.TheVariants.{Ready, Fail}
@@ -42,10 +43,11 @@ rmdir_rest g (Some name) rest h = (h.0, λ o. h)
 
 after_mount : (g : Trigger) (o : Outcome) → IsUnwritten g (rest_of_mount g o)
 after_mount g (Made mount) = (refl, book_rest g (Some (Mounted mount)) Ready refl)
-after_mount g o = rmdir_rest g g.name (without_mount g) (refl, book_rest g None Fail refl)
+after_mount g (Failed error) = rmdir_rest g g.name (without_mount g error) (refl, book_rest g None (Fail error) refl)
+after_mount g Done = rmdir_rest g g.name (without_mount g ENOENT) (refl, book_rest g None (Fail ENOENT) refl)
 
 after_umount : (g : Trigger) (mount : ℕ) (o : Outcome) → IsUnwritten g (rest_of_umount g mount o)
-after_umount g mount Failed = (refl, book_rest g (Some (Mounted mount)) Fail refl)
+after_umount g mount (Failed error) = (refl, book_rest g (Some (Mounted mount)) (Fail error) refl)
 after_umount g mount o = rmdir_rest g g.name (book_and_reply g None Ready) (refl, book_rest g None Ready refl)
 
 -- an unmount as a whole has still to write the record
@@ -58,9 +60,9 @@ mount_rest g entry = ((after_mount g Done).0, λ o. ((refl, (after_mount g o).0)
 pub plan_rest : (kind : TokenKind) (g : Trigger) (mounted : Option ℕ) (entry : Option EntryText) → IsRest g (plan_for kind g mounted entry)
 plan_rest Missing g (Some mount) entry = reply_rest g Ready
 plan_rest Missing g None (Some entry) = (mkdir_rest g g.name (mount_entry g entry) (mount_rest g entry)).1
-plan_rest Missing g None None = book_rest g None Fail refl
+plan_rest Missing g None None = book_rest g None (Fail ENOENT) refl
 plan_rest Expire g (Some mount) entry = λ o. ((refl, (after_umount g mount o).0), (after_umount g mount o).1)
-plan_rest Expire g None entry = reply_rest g Fail
+plan_rest Expire g None entry = reply_rest g (Fail ENOENT)
 
 -- ---- the record is still to be written where a plan is more than a reply
 

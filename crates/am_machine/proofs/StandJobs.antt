@@ -1,6 +1,7 @@
 -- What the acts that a job has left claim, as it goes on.
 use Rattle.std.proofs.Common.{◌≡◌, ℕ, Bool, true, false, cond, List, [], ◌∷◌, map, Option, Some, None, refl, sym, subst, ◌∙◌}
 use Rattle.std.specs.Prelude.{◌==◌, ⊤, if◌then◌else◌}
+use Rattle.am_names.specs.declared.fail_no.FailNo.{FailNo}
 use Rattle.am_names.specs.declared.trigger.Trigger.{Trigger}
 use Rattle.am_map.specs.EntryText.{EntryText}
 use Rattle.am_state.specs.declared.daemon_row.Record.{Record}
@@ -44,8 +45,8 @@ finished_found outcome job row new (first ∷ jobs) differ e f = by (first.token
 abbrev pub MovesNothing : Option Act → Outcome → Type 0
 MovesNothing None outcome = ⊥
 MovesNothing (Some (act.Mkdir trigger)) outcome = ⊤
-MovesNothing (Some (act.Mount trigger entry)) outcome = outcome ≡ Failed
-MovesNothing (Some (act.Umount trigger)) outcome = outcome ≡ Failed
+MovesNothing (Some (act.Mount trigger entry)) outcome = (error : FailNo) × (outcome ≡ Failed error)
+MovesNothing (Some (act.Umount trigger)) outcome = (error : FailNo) × (outcome ≡ Failed error)
 MovesNothing (Some (act.Rmdir trigger)) outcome = ⊤
 MovesNothing (Some (act.Record trigger entry)) outcome = ⊥
 MovesNothing (Some (act.Reply status)) outcome = outcome ≡ Done
@@ -56,12 +57,12 @@ ended_none (Next a rest) h left = h
 
 kept_by : (g : Trigger) (a : Act) (rest : Outcome → Plan) (outcome : Outcome) → MovesNothing (Some a) outcome → IsRest g (Next a rest) → ClaimsRight (Next a rest) → has_record_left (rest outcome) ≡ true → claims (rest outcome) ≡ claims (Next a rest)
 kept_by g (act.Mkdir trigger) rest outcome still own h left = (h outcome).0
-kept_by g (act.Mount trigger entry) rest Failed still own h left = (h Failed).0
-kept_by g (act.Mount trigger entry) rest Done still own h left = absurd cc
-kept_by g (act.Mount trigger entry) rest (Made mount) still own h left = absurd cc
-kept_by g (act.Umount trigger) rest Failed still own h left = (h Failed).0
-kept_by g (act.Umount trigger) rest Done still own h left = absurd cc
-kept_by g (act.Umount trigger) rest (Made mount) still own h left = absurd cc
+kept_by g (act.Mount trigger entry) rest (Failed error) still own h left = (h (Failed error)).0
+kept_by g (act.Mount trigger entry) rest Done still own h left = absurd (let no_failure = still.1 in cc)
+kept_by g (act.Mount trigger entry) rest (Made mount) still own h left = absurd (let no_failure = still.1 in cc)
+kept_by g (act.Umount trigger) rest (Failed error) still own h left = (h (Failed error)).0
+kept_by g (act.Umount trigger) rest Done still own h left = absurd (let no_failure = still.1 in cc)
+kept_by g (act.Umount trigger) rest (Made mount) still own h left = absurd (let no_failure = still.1 in cc)
 kept_by g (act.Rmdir trigger) rest outcome still own h left = (h outcome).0
 kept_by g (act.Record trigger entry) rest outcome still own h left = absurd still
 kept_by g (act.Reply status) rest outcome still own h left = absurd (ended_none (rest outcome) (own outcome).0 left)

@@ -3,6 +3,7 @@ use Rattle.std.proofs.Common.{◌≡◌, ℕ, ◌≤◌, Bool, false, List, [], 
 use Rattle.std.specs.Prelude.{◌==◌, ◌&&◌}
 use Rattle.std.specs.List.{count_by, list_any, All}
 use Rattle.std.proofs.lemmas.List.{append-nil}
+use Rattle.am_names.specs.declared.fail_no.FailNo.TheVariants.{ENOENT}
 use Rattle.am_names.specs.declared.trigger.Trigger.{Trigger}
 use Rattle.am_names.specs.declared.trigger.Status.{Status}
 use Rattle.am_names.specs.declared.trigger.Status.TheVariants.{Fail}
@@ -117,7 +118,7 @@ row_unqueued status (w ∷ ws) = row_unqueued status ws
 
 pub once_closing : (k : KernelState) (fs : ℕ) → count_by is_queued (closing fs k) ≤ 1
 once_closing k fs =
-    subst (λ (shown : List Obs). count_by is_queued shown ≤ 1) (sym (closing_row k fs)) (at_most_one (quits fs (its_waiters k fs)) 0 (row_unqueued Fail (its_waiters k fs)) (omega arith))
+    subst (λ (shown : List Obs). count_by is_queued shown ≤ 1) (sym (closing_row k fs)) (at_most_one (quits fs (its_waiters k fs)) 0 (row_unqueued (Fail ENOENT) (its_waiters k fs)) (omega arith))
 
 none_released : (token : ℕ) (status : Status) (walkers : List ℕ) → count_by is_queued (releases token status walkers) ≡ 0
 none_released token status [] = refl

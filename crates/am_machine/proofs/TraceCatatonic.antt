@@ -4,6 +4,7 @@ use Rattle.std.specs.Prelude.{filter, ◌&&◌, ◌||◌, not, if◌then◌else�
 use Rattle.std.specs.Option.{option_map}
 use Rattle.std.specs.List.{list_any, count_by}
 use Rattle.std.proofs.lemmas.Bool.Decides.{nat_tests}
+use Rattle.am_names.specs.declared.fail_no.FailNo.TheVariants.{ENOENT}
 use Rattle.am_names.specs.declared.trigger.Status.{Status}
 use Rattle.am_names.specs.declared.trigger.Status.TheVariants.{Fail}
 use Rattle.am_names.specs.declared.row.OpenToken.{OpenToken}
@@ -34,7 +35,7 @@ use Rattle.am_machine.proofs.TraceClosing.{is_its}
 
 -- what is seen of it
 abbrev pub quits : ℕ → List Waiter → List Obs
-quits fs waiters = seen.Catatonic fs ∷ row_of Fail waiters
+quits fs waiters = seen.Catatonic fs ∷ row_of (Fail ENOENT) waiters
 
 -- these are the waiters of the open tokens of the file system, each once
 pub record Quits (tokens : List OpenToken) (fs : ℕ) (waiters : List Waiter) : Type 0 where
@@ -112,9 +113,9 @@ its_known r trace k fs h is =
     let its = (row_opened r.waits.tokens trace k row.0 h.opens row.1).1 in
     packet_known r.waits.last_token k trace its.0 h.known its.1
 
-not_named : (r : Rows) (trace : List Obs) (fs : ℕ) (ws : List Waiter) (k : ℕ) → Quits r.waits.tokens fs ws → FitsTrace r trace → r.waits.last_token < k → list_any (names k) (row_of Fail ws) ≡ false
+not_named : (r : Rows) (trace : List Obs) (fs : ℕ) (ws : List Waiter) (k : ℕ) → Quits r.waits.tokens fs ws → FitsTrace r trace → r.waits.last_token < k → list_any (names k) (row_of (Fail ENOENT) ws) ≡ false
 not_named r trace fs ws k q h above =
-    row_names k Fail ws ∙ no_true (list_any (λ (w : Waiter). w.token == k) ws) (λ is.
+    row_names k (Fail ENOENT) ws ∙ no_true (list_any (λ (w : Waiter). w.token == k) ws) (λ is.
     let v = some_waiter k ws is in
     let both = and_both (is_its fs (token_of r.waits.tokens k)) _ (sym (q.released v.0 k) ∙ v.1) in
     let most = its_known r trace k fs h both.0 in
@@ -131,9 +132,9 @@ if_if false was p = refl
 
 quits_opened : (k fs : ℕ) (ws : List Waiter) (trace : List Obs) → opened k (trace ++ quits fs ws) ≡ (if is_fs (fs_of_token k trace) fs then None else opened k trace)
 quits_opened k fs ws trace =
-    let same = packet_same k trace (quits fs ws) (row_packet k Fail ws) in
+    let same = packet_same k trace (quits fs ws) (row_packet k (Fail ENOENT) ws) in
     opened_by k trace (trace ++ quits fs ws) (if is_fs (fs_of_token k trace) fs then false else is_open k trace)
-    (is_open-append k trace (quits fs ws) ∙ row_since k _ _ Fail ws ∙ ap (λ (p : Option Packet). if is_fs (dev_of p) fs then false else is_open k trace) same) same
+    (is_open-append k trace (quits fs ws) ∙ row_since k _ _ (Fail ENOENT) ws ∙ ap (λ (p : Option Packet). if is_fs (dev_of p) fs then false else is_open k trace) same) same
     ∙ if_if (is_fs (fs_of_token k trace) fs) (is_open k trace) (packet_of k trace)
 
 if_none : (b : Bool) (o : Option Asked) → o ≡ None → (if b then None else o) ≡ None
@@ -161,7 +162,7 @@ waiters_by r trace fs ws k row (Some old) q h is left =
     let stays = kept_row (old.trigger.fs == fs) old row left in
     let fits = h.waiters k row (is ∙ ap (λ (r : OpenToken). Some r) stays.1) in
     let none : (v : ℕ) → list_any (is_waiter v k) ws ≡ false = λ v. q.released v k ∙ ap (λ (o : Option OpenToken). is_its fs o && has v (waiters_in o)) is ∙ ap (λ (b : Bool). b && has v old.waiters) stays.0 in
-    waiters_more k trace (quits fs ws) row.waiters (λ v. row_waits v k Fail ws) (λ v. row_releases v k Fail ws ∙ none v) fits
+    waiters_more k trace (quits fs ws) row.waiters (λ v. row_waits v k (Fail ENOENT) ws) (λ v. row_releases v k (Fail ENOENT) ws ∙ none v) fits
 
 -- a packet of another file system
 packet_stays : (trace : List Obs) (fs : ℕ) (ws : List Waiter) (row : QueuedRow) → is_packet_of fs row ≡ false → PacketFits trace row → PacketFits (trace ++ quits fs ws) row
@@ -171,9 +172,9 @@ packet_stays trace fs ws row other h =
     let not_its : (fs == row.packet.dev) ≡ false = grind (arith, nat_tests, other) in
     record {
       numbered = h.numbered;
-      in_queue = since-append (queues_as k row.attach row.packet) (unqueues k row.packet.dev) false trace more ∙ row_queued k row.attach row.packet _ Fail ws ∙ rw not_its h.in_queue;
-      packet = packet_same k trace more (row_packet k Fail ws) ∙ h.packet;
-      undelivered = any_same (delivers k) trace more (row_delivers k Fail ws) ∙ h.undelivered;
+      in_queue = since-append (queues_as k row.attach row.packet) (unqueues k row.packet.dev) false trace more ∙ row_queued k row.attach row.packet _ (Fail ENOENT) ws ∙ rw not_its h.in_queue;
+      packet = packet_same k trace more (row_packet k (Fail ENOENT) ws) ∙ h.packet;
+      undelivered = any_same (delivers k) trace more (row_delivers k (Fail ENOENT) ws) ∙ h.undelivered;
     }
 
 pub catatonic_fits : (r : Rows) (trace : List Obs) (fs : ℕ) (ws : List Waiter) → Quits r.waits.tokens fs ws → FitsTrace r trace →
@@ -187,7 +188,7 @@ catatonic_fits r trace fs ws q h =
       known = λ k above. any_same (names k) trace more (not_named r trace fs ws k q h above) ∙ h.known k above;
       opens = λ k. quits_opened k fs ws trace ∙ opens_by r trace k fs (token_of r.waits.tokens k) h refl ∙ ap (option_map asked_by) (sym (left k));
       waiters = λ k row e. waiters_by r trace fs ws k row (token_of r.waits.tokens k) q h refl (sym (left k) ∙ e);
-      inside = inside_still r.uses trace more (record { enters = λ m. row_enters m Fail ws; leaves = λ m. row_leaves m Fail ws }) h.inside;
+      inside = inside_still r.uses trace more (record { enters = λ m. row_enters m (Fail ENOENT) ws; leaves = λ m. row_leaves m (Fail ENOENT) ws }) h.inside;
       queued = queue_kept (PacketFits trace) (PacketFits (trace ++ more)) (is_packet_of fs) r.queue (packet_stays trace fs ws) h.queued;
       delivered = delivered_more r.jobs trace more h.delivered;
     }
@@ -195,7 +196,7 @@ catatonic_fits r trace fs ws q h =
 -- ---- it is lawful
 
 -- who waits on a token that closes may go
-all_may_go : (r : Rows) (trace : List Obs) (fs : ℕ) (all ws : List Waiter) → Quits r.waits.tokens fs all → FitsTrace r trace → ((w k : ℕ) → list_any (is_waiter w k) ws ≡ true → list_any (is_waiter w k) all ≡ true) → AllMayGo trace (seen.Catatonic fs) Fail ws
+all_may_go : (r : Rows) (trace : List Obs) (fs : ℕ) (all ws : List Waiter) → Quits r.waits.tokens fs all → FitsTrace r trace → ((w k : ℕ) → list_any (is_waiter w k) ws ≡ true → list_any (is_waiter w k) all ≡ true) → AllMayGo trace (seen.Catatonic fs) (Fail ENOENT) ws
 all_may_go r trace fs all [] q h sub = tt
 all_may_go r trace fs all (w ∷ ws) q h sub =
     let in_all = sub w.walker w.token (or_left (is_waiter w.walker w.token w) (list_any (is_waiter w.walker w.token) ws) (nat_both w)) in
@@ -209,7 +210,7 @@ all_may_go r trace fs all (w ∷ ws) q h sub =
       all_may_go r trace fs all ws q h (λ v k is. sub v k (or_right (is_waiter v k w) (list_any (is_waiter v k) ws) is)),
     )
 
-every_released : (r : Rows) (trace : List Obs) (fs : ℕ) (ws : List Waiter) (k : ℕ) (found : Option OpenToken) → Quits r.waits.tokens fs ws → FitsTrace r trace → token_of r.waits.tokens k ≡ found → fs_of_token k trace ≡ Some fs → IsOpen trace k → AllReleased trace k (row_of Fail ws)
+every_released : (r : Rows) (trace : List Obs) (fs : ℕ) (ws : List Waiter) (k : ℕ) (found : Option OpenToken) → Quits r.waits.tokens fs ws → FitsTrace r trace → token_of r.waits.tokens k ≡ found → fs_of_token k trace ≡ Some fs → IsOpen trace k → AllReleased trace k (row_of (Fail ENOENT) ws)
 every_released r trace fs ws k None q h e dev is = λ w waited.
     let open_test = is_open_true trace k is in
     let none : opened k trace ≡ None = h.opens k ∙ ap (option_map asked_by) e in
@@ -220,9 +221,9 @@ every_released r trace fs ws k (Some row) q h e dev is = λ w waited.
     let same : (row.trigger.fs == fs) ≡ true = same_fs row.trigger.fs fs (sym own ∙ dev) in
     let fits = h.waiters k row e in
     let has_it : has w row.waiters ≡ true = sym (fits.waited w) ∙ waits_true w k trace waited in
-    in_row w k Fail ws (q.released w k ∙ ap (λ (o : Option OpenToken). is_its fs o && has w (waiters_in o)) e ∙ ap (λ (b : Bool). b && has w row.waiters) same ∙ has_it)
+    in_row w k (Fail ENOENT) ws (q.released w k ∙ ap (λ (o : Option OpenToken). is_its fs o && has w (waiters_in o)) e ∙ ap (λ (b : Bool). b && has w row.waiters) same ∙ has_it)
 
 pub catatonic_lawful : (r : Rows) (trace : List Obs) (fs : ℕ) (ws : List Waiter) → Quits r.waits.tokens fs ws → FitsTrace r trace → AreLawful trace (quits fs ws)
 catatonic_lawful r trace fs ws q h =
-    let here : IsLawfulAt trace (seen.Catatonic fs) (row_of Fail ws) = (λ k dev is. every_released r trace fs ws k (token_of r.waits.tokens k) q h refl dev is) in
-    (here, row_lawful trace (seen.Catatonic fs) Fail [] ws (λ w k. refl) (all_may_go r trace fs ws ws q h (λ w k is. is)) q.new)
+    let here : IsLawfulAt trace (seen.Catatonic fs) (row_of (Fail ENOENT) ws) = (λ k dev is. every_released r trace fs ws k (token_of r.waits.tokens k) q h refl dev is) in
+    (here, row_lawful trace (seen.Catatonic fs) (Fail ENOENT) [] ws (λ w k. refl) (all_may_go r trace fs ws ws q h (λ w k is. is)) q.new)

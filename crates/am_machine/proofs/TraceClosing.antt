@@ -6,6 +6,7 @@ use Rattle.std.proofs.lemmas.List.{append-nil}
 use Rattle.std.proofs.lemmas.List.Concat.{flat_map-cons}
 use Rattle.std.proofs.lemmas.List.Folds.{list_any-append}
 use Rattle.std.proofs.lemmas.Bool.Decides.{nat_tests}
+use Rattle.am_names.specs.declared.fail_no.FailNo.TheVariants.{ENOENT}
 use Rattle.am_names.specs.declared.trigger.Status.TheVariants.{Fail}
 use Rattle.am_names.specs.declared.row.OpenToken.{OpenToken}
 use Rattle.am_state.specs.declared.obs.Obs.{Obs}
@@ -31,14 +32,14 @@ waiters_over tokens (token ∷ others) = on_token token (waiters_of tokens token
 
 -- ---- they are released in their order
 
-pub failures_row : (k : KernelState) (tokens : List ℕ) → flat_map (failures k) tokens ≡ row_of Fail (waiters_over k.waits.tokens tokens)
+pub failures_row : (k : KernelState) (tokens : List ℕ) → flat_map (failures k) tokens ≡ row_of (Fail ENOENT) (waiters_over k.waits.tokens tokens)
 failures_row k [] = refl
 failures_row k (token ∷ others) =
     let waiters = waiters_of k.waits.tokens token in
     flat_map-cons (failures k) token others
-    ∙ ap (λ (r : List Obs). r ++ flat_map (failures k) others) (releases_row token Fail waiters)
-    ∙ ap (λ (r : List Obs). row_of Fail (on_token token waiters) ++ r) (failures_row k others)
-    ∙ sym (row_of-append Fail (on_token token waiters) (waiters_over k.waits.tokens others))
+    ∙ ap (λ (r : List Obs). r ++ flat_map (failures k) others) (releases_row token (Fail ENOENT) waiters)
+    ∙ ap (λ (r : List Obs). row_of (Fail ENOENT) (on_token token waiters) ++ r) (failures_row k others)
+    ∙ sym (row_of-append (Fail ENOENT) (on_token token waiters) (waiters_over k.waits.tokens others))
 
 -- ---- who is one of them
 

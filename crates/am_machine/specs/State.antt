@@ -21,7 +21,12 @@ pub record State : Type 0 where
   pub trace : List Obs
 
 abbrev pub limits_in : KernelState → Limits
-limits_in k = record { mounts = k.table.limit; waiters = k.waits.most_waits; tokens = k.waits.most_tokens }
+limits_in k = record {
+  mounts = k.table.limit;
+  waiters = k.waits.most_waits;
+  tokens = k.waits.most_tokens;
+  negative = k.negative;
+}
 
 -- what the world began with
 abbrev pub opening_in : State → Opening

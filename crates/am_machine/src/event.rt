@@ -5,7 +5,7 @@ ghost use Rattle.am_machine.specs.declared.event.Event.TheVariants as events;
 
 use am_group::Change;
 use am_names::{
-    Attach, FsId, JobId, NsId, PipeState, Place, Seconds, Status, Token, Trigger, WalkerId,
+    Attach, FailNo, FsId, JobId, NsId, PipeState, Place, Seconds, Status, Token, Trigger, WalkerId,
 };
 use am_propagate::CopyForm;
 use std::alloc::{AllocError, Global};
@@ -85,10 +85,11 @@ pub enum Event {
         token: Token,
         bytes: Option<[u8; 304]>,
     },
-    /// The daemon makes the next act of a job. A mount or an unmount that isn't `ok` fails.
+    /// The daemon makes the next act of a job. A mount or an unmount fails with the error that is told
+    /// here, if one is.
     Act {
         job: JobId,
-        ok: bool,
+        failure: Option<FailNo>,
     },
     /// The daemon acknowledges a token without a job.
     Repeat {
@@ -195,7 +196,10 @@ impl Event {
                 token: *token,
                 bytes: *bytes,
             },
-            Event::Act { job, ok } => Event::Act { job: *job, ok: *ok },
+            Event::Act { job, failure } => Event::Act {
+                job: *job,
+                failure: *failure,
+            },
             Event::Repeat {
                 attach,
                 token,
@@ -255,7 +259,7 @@ impl Event {
                 pipe,
             } => is_expire(*walker, *fs, *now, *immediate, *pipe, other),
             Event::Deliver { token, bytes } => is_deliver(*token, bytes, other),
-            Event::Act { job, ok } => is_act(*job, *ok, other),
+            Event::Act { job, failure } => is_act(*job, *failure, other),
             Event::Repeat {
                 attach,
                 token,
@@ -455,14 +459,14 @@ fn is_deliver(token: Token, bytes: &Option<[u8; 304]>, event: &Event) -> bool
     }
 }
 
-fn is_act(job: JobId, ok: bool, event: &Event) -> bool
-    ensures { IsTrue result ↔ (events.Act job ok ≡ event.now) }
+fn is_act(job: JobId, failure: Option<FailNo>, event: &Event) -> bool
+    ensures { IsTrue result ↔ (events.Act job failure ≡ event.now) }
 {
     match event {
         Event::Act {
             job: same_job,
-            ok: same_ok,
-        } => job == *same_job && ok == *same_ok,
+            failure: same_failure,
+        } => job == *same_job && failure == *same_failure,
         _ => false,
     }
 }

@@ -6,3 +6,4 @@ pub mod PathLemmas
 pub mod SameTriggers
 pub mod PathFaultLemmas
 pub mod SearchLemmas
+pub mod FailNumbers

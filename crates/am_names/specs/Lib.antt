@@ -1,4 +1,5 @@
 pub mod Errno
+pub mod FailNo
 pub mod Limits
 pub mod Name
 pub mod NameHash

@@ -3,6 +3,7 @@
 #![tactic(auto)]
 
 pub mod errno;
+pub mod fail_no;
 pub mod limits;
 pub mod mounts;
 pub mod name;
@@ -15,6 +16,7 @@ pub mod trigger;
 pub mod waiters;
 
 pub use errno::Errno;
+pub use fail_no::FailNo;
 pub use limits::Limits;
 pub use mounts::Mounts;
 pub use name::Name;

@@ -3,8 +3,10 @@
 ghost use Rattle.std.specs.Prelude.{◌≡◌, ◌↔◌, IsTrue};
 ghost use Rattle.am_names.specs.Limits.{IsInRange, is_in_range};
 
-/// The greatest mount number, the most waits at one time, the greatest token.
-/// Going past one is ENOSPC.
+use crate::number::Seconds;
+
+/// The greatest mount number, the most waits at one time, the greatest token: going past one is
+/// ENOSPC. And how long a failure lasts.
 #[derive(Clone, Copy, Debug, PartialEq)]
 pub struct Limits {
     /// 1 to 4,294,967,295.
@@ -13,6 +15,9 @@ pub struct Limits {
     pub waiters: u32,
     /// 1 to 4,294,967,295.
     pub tokens: u32,
+    /// For so many seconds after a notification is acknowledged with FAIL, walks at its trigger fail
+    /// with the same error, and the daemon isn't notified again. Any number.
+    pub negative: Seconds,
 }
 
 impl Limits {

@@ -3,6 +3,7 @@
 ghost use Rattle.std.specs.Prelude.{◌≡◌};
 ghost use Rattle.am_names.specs.Trigger.{same_trigger, same_name};
 
+use crate::fail_no::FailNo;
 use crate::name::Name;
 use crate::number::FsId;
 
@@ -42,7 +43,8 @@ fn is_same_name(one: &Option<Name>, other: &Option<Name>) -> bool
 #[derive(Clone, Copy, Debug, PartialEq)]
 pub enum Status {
     Ready,
-    Fail,
+    /// With the error that the walks fail with.
+    Fail(FailNo),
 }
 
 /// What the kernel meets when it notifies the daemon

@@ -4,6 +4,8 @@ use Rattle.std.specs.Prelude.{⊤, ◌&&◌, not, is_some, is_none, if◌then◌
 use Rattle.std.specs.Option.{option_map}
 use Rattle.std.specs.List.{All}
 use Rattle.std.proofs.lemmas.List.Elements.{All-weaker}
+use Rattle.am_names.specs.declared.fail_no.FailNo.TheVariants.{ENOENT}
+use Rattle.am_names.specs.declared.fail_no.FailNo.{FailNo}
 use Rattle.am_names.specs.declared.errno.Errno.{Errno}
 use Rattle.am_names.specs.declared.errno.Errno.TheVariants as errnos
 use Rattle.am_names.specs.declared.trigger.Trigger.{Trigger}
@@ -58,7 +60,7 @@ waits_after _ token w = w
 
 -- what it leaves of the kernel, where that is to be known
 abbrev pub LeavesKernel : Act → outcomes.Outcome → ℕ → KernelState → KernelState → Type 0
-LeavesKernel (act.Umount trigger) came.Failed token k made = made ≡ k
+LeavesKernel (act.Umount trigger) (came.Failed error) token k made = made ≡ k
 LeavesKernel (act.Record trigger entry) outcome token k made = made ≡ k
 LeavesKernel (act.Reply status) outcome token k made = made ≡ acknowledged token status k
 LeavesKernel _ outcome token k made = ⊤
@@ -129,39 +131,39 @@ rmdir s number row w named =
 
 -- ---- mounts
 
-mount_fails : (s : State) (row : JobPlan) (g : Trigger) (entry : EntryText) → Does s row (act.Mount g entry) (acts.mount_fails s row)
-mount_fails s row g entry = plainly s row (act.Mount g entry) came.Failed answers.FailedMount [] s.kernel (inr (refl, refl)) refl (λ fs. refl) tt
+mount_fails : (s : State) (row : JobPlan) (g : Trigger) (entry : EntryText) (error : FailNo) → Does s row (act.Mount g entry) (acts.mount_fails s row error)
+mount_fails s row g entry error = plainly s row (act.Mount g entry) (came.Failed error) answers.FailedMount [] s.kernel (inr (error, refl, refl)) refl (λ fs. refl) tt
 
 mount_by : (refusal : Option Errno) (s : State) (row : JobPlan) (g : Trigger) (entry : EntryText) → Does s row (act.Mount g entry) (acts.mount_by refusal s row g)
 mount_by None s row g entry =
     let mount = s.kernel.table.last_mount + 1 in
     plainly s row (act.Mount g entry) (came.Made mount) (answers.DidMount mount) _ (with_mount_on g s.kernel) (inl (mount, refl, refl)) refl (λ fs. refl) tt
-mount_by (Some e) s row g entry = mount_fails s row g entry
+mount_by (Some e) s row g entry = mount_fails s row g entry ENOENT
 
-mount_word : (ok : Bool) (refusal : Option Errno) (s : State) (row : JobPlan) (g : Trigger) (entry : EntryText) → Does s row (act.Mount g entry) (if not ok then acts.mount_fails s row else acts.mount_by refusal s row g)
-mount_word true refusal s row g entry = mount_by refusal s row g entry
-mount_word false refusal s row g entry = mount_fails s row g entry
+mount_tried : (failure : Option FailNo) (s : State) (row : JobPlan) (g : Trigger) (entry : EntryText) → Does s row (act.Mount g entry) (acts.mount_tried failure s row g)
+mount_tried (Some error) s row g entry = mount_fails s row g entry error
+mount_tried None s row g entry = mount_by (mount_on_refusal s.kernel row.attach g) s row g entry
 
-mount : (s : State) (number : ℕ) (row : JobPlan) (entry : EntryText) (ok : Bool) → Acting s number row → Does s row (act.Mount row.trigger entry) (acts.mount_act s row row.trigger ok)
-mount s number row entry ok w =
+mount : (s : State) (number : ℕ) (row : JobPlan) (entry : EntryText) (failure : Option FailNo) → Acting s number row → Does s row (act.Mount row.trigger entry) (acts.mount_act s row row.trigger failure)
+mount s number row entry failure w =
     where_not s row (act.Mount row.trigger entry) (is_current s.kernel row.trigger.fs row.attach) _ _ (its_current s number row w)
-    (mount_word ok (mount_on_refusal s.kernel row.attach row.trigger) s row row.trigger entry)
+    (mount_tried failure s row row.trigger entry)
 
-umount_fails : (s : State) (row : JobPlan) (g : Trigger) → Does s row (act.Umount g) (acts.umount_fails s row)
-umount_fails s row g = plainly s row (act.Umount g) came.Failed answers.FailedUmount [] s.kernel (inr (refl, refl)) refl (λ fs. refl) refl
+umount_fails : (s : State) (row : JobPlan) (g : Trigger) (error : FailNo) → Does s row (act.Umount g) (acts.umount_fails s row error)
+umount_fails s row g error = plainly s row (act.Umount g) (came.Failed error) answers.FailedUmount [] s.kernel (inr (error, refl, refl)) refl (λ fs. refl) refl
 
 umount_by : (refusal : Option Errno) (s : State) (row : JobPlan) (g : Trigger) → Does s row (act.Umount g) (acts.umount_by refusal s row g)
 umount_by None s row g = plainly s row (act.Umount g) came.Done answers.DidUmount _ (without_mounts (gone_from s.kernel g) s.kernel) (inl (refl, refl)) refl (λ fs. refl) tt
-umount_by (Some e) s row g = umount_fails s row g
+umount_by (Some e) s row g = umount_fails s row g ENOENT
 
-umount_word : (ok : Bool) (refusal : Option Errno) (s : State) (row : JobPlan) (g : Trigger) → Does s row (act.Umount g) (if not ok then acts.umount_fails s row else acts.umount_by refusal s row g)
-umount_word true refusal s row g = umount_by refusal s row g
-umount_word false refusal s row g = umount_fails s row g
+umount_tried : (failure : Option FailNo) (s : State) (row : JobPlan) (g : Trigger) → Does s row (act.Umount g) (acts.umount_tried failure s row g)
+umount_tried (Some error) s row g = umount_fails s row g error
+umount_tried None s row g = umount_by (umount_from_refusal s.kernel row.attach g) s row g
 
-umount : (s : State) (number : ℕ) (row : JobPlan) (ok : Bool) → Acting s number row → Does s row (act.Umount row.trigger) (acts.umount_act s row row.trigger ok)
-umount s number row ok w =
+umount : (s : State) (number : ℕ) (row : JobPlan) (failure : Option FailNo) → Acting s number row → Does s row (act.Umount row.trigger) (acts.umount_act s row row.trigger failure)
+umount s number row failure w =
     where_not s row (act.Umount row.trigger) (is_current s.kernel row.trigger.fs row.attach) _ _ (its_current s number row w)
-    (umount_word ok (umount_from_refusal s.kernel row.attach row.trigger) s row row.trigger)
+    (umount_tried failure s row row.trigger)
 
 -- ---- the book, and the reply
 
@@ -187,19 +189,19 @@ replies s number row status w =
 
 -- ---- each act
 
-does_next : (a : Act) (s : State) (number : ℕ) (row : JobPlan) (ok : Bool) → Acting s number row → IsOwn row.trigger a → Does s row a (acts.acted (Some a) s row ok)
-does_next (act.Mkdir g) s number row ok w own = subst (λ (t : Trigger). Does s row (act.Mkdir t) (acts.mkdir_by (mkdir_refusal s.kernel row.attach t) s row t)) (sym own.0) (mkdir s number row w own.1)
-does_next (act.Mount g entry) s number row ok w own = subst (λ (t : Trigger). Does s row (act.Mount t entry) (acts.mount_act s row t ok)) (sym own) (mount s number row entry ok w)
-does_next (act.Umount g) s number row ok w own = subst (λ (t : Trigger). Does s row (act.Umount t) (acts.umount_act s row t ok)) (sym own) (umount s number row ok w)
-does_next (act.Rmdir g) s number row ok w own = subst (λ (t : Trigger). Does s row (act.Rmdir t) (acts.rmdir_by (rmdir_refusal s.kernel row.attach t) s row t)) (sym own.0) (rmdir s number row w own.1)
-does_next (act.Record g entry) s number row ok w own = writes s number row g entry w
-does_next (act.Reply status) s number row ok w own = replies s number row status w
+does_next : (a : Act) (s : State) (number : ℕ) (row : JobPlan) (failure : Option FailNo) → Acting s number row → IsOwn row.trigger a → Does s row a (acts.acted (Some a) s row failure)
+does_next (act.Mkdir g) s number row failure w own = subst (λ (t : Trigger). Does s row (act.Mkdir t) (acts.mkdir_by (mkdir_refusal s.kernel row.attach t) s row t)) (sym own.0) (mkdir s number row w own.1)
+does_next (act.Mount g entry) s number row failure w own = subst (λ (t : Trigger). Does s row (act.Mount t entry) (acts.mount_act s row t failure)) (sym own) (mount s number row entry failure w)
+does_next (act.Umount g) s number row failure w own = subst (λ (t : Trigger). Does s row (act.Umount t) (acts.umount_act s row t failure)) (sym own) (umount s number row failure w)
+does_next (act.Rmdir g) s number row failure w own = subst (λ (t : Trigger). Does s row (act.Rmdir t) (acts.rmdir_by (rmdir_refusal s.kernel row.attach t) s row t)) (sym own.0) (rmdir s number row w own.1)
+does_next (act.Record g entry) s number row failure w own = writes s number row g entry w
+does_next (act.Reply status) s number row failure w own = replies s number row status w
 
 -- the next act of the job is done or fails
-pub does : (s : State) (number : ℕ) (row : JobPlan) (ok : Bool) (a : Act) → Acting s number row → next_of row.plan ≡ Some a → Does s row a (outcome_of s (events.Act number ok))
-does s number row ok a w e =
-    subst (Does s row a) (sym (ap (λ (o : Option JobPlan). acts.acted_at o s ok) w.is_job ∙ ap (λ (o : Option Act). acts.acted o s row ok) e))
-    (does_next a s number row ok w (next_own row.trigger row.plan a (its_acts s number row w).own e))
+pub does : (s : State) (number : ℕ) (row : JobPlan) (failure : Option FailNo) (a : Act) → Acting s number row → next_of row.plan ≡ Some a → Does s row a (outcome_of s (events.Act number failure))
+does s number row failure a w e =
+    subst (Does s row a) (sym (ap (λ (o : Option JobPlan). acts.acted_at o s failure) w.is_job ∙ ap (λ (o : Option Act). acts.acted o s row failure) e))
+    (does_next a s number row failure w (next_own row.trigger row.plan a (its_acts s number row w).own e))
 
 -- what is left of the jobs then
 pub goes_left : (s : State) (number : ℕ) (row : JobPlan) (outcome : outcomes.Outcome) → Acting s number row → job_of (finished row.token outcome s.daemon).jobs number ≡ goes_on_as outcome row
@@ -234,10 +236,10 @@ acting s world fs attach served number row is same own = record {
 }
 
 jobs_go_on : (s : State) → IsWorld s → JobsCanGoOn s
-jobs_go_on s world fs attach served number row is same own ok =
+jobs_go_on s world fs attach served number row is same own failure =
     let w = acting s world fs attach served number row is same own in
     let next = next_is row.plan (its_plan s number row w).last in
-    acted_as s number row next.0 (outcome_of s (events.Act number ok)) w next.1 (does s number row ok next.0 w next.1)
+    acted_as s number row next.0 (outcome_of s (events.Act number failure)) w next.1 (does s number row failure next.0 w next.1)
 
 pub never_refused : NextActsAreNeverRefused
 never_refused = after_runs JobsCanGoOn jobs_go_on

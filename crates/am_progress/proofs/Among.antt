@@ -2,6 +2,7 @@
 use Rattle.std.proofs.Common.{◌≡◌, ◌⊎◌, ℕ, zero, suc, Bool, true, false, List, [], ◌∷◌, Option, Some, None, refl, sym, ap, subst, inl, inr, ⊎_elim, ◌∙◌}
 use Rattle.std.specs.Prelude.{◌==◌, is_some, if◌then◌else◌}
 use Rattle.std.specs.List.{list_any}
+use Rattle.am_names.specs.declared.fail_no.FailNo.{FailNo}
 use Rattle.am_names.specs.declared.trigger.Trigger.{Trigger}
 use Rattle.am_names.specs.declared.row.OpenToken.{OpenToken}
 use Rattle.am_wait.specs.Rows.{WaitRows, token_of}
@@ -120,44 +121,44 @@ module _ (fs attach token : ℕ) where
   seen_still s event queued = in_part token s.trace _ queued
 
   -- the job has one act less
-  goes_job : (most : ℕ) (s : State) (row : JobPlan) (h : Served s fs attach token row s.kernel.waits) (ok : Bool) (a : Act) (e : next_of row.plan ≡ Some a) → acknowledges a ≡ false → waits_after a token s.kernel.waits ≡ s.kernel.waits → Has (queues token) s.trace → HasActs (suc most) row.plan → Goes most fs attach token (next s (events.Act token ok))
-  goes_job most s row h ok a e more same queued few =
-      let d = its_act s fs attach token row s.kernel.waits h ok a e in
-      let left = act_goes s fs attach token row s.kernel.waits h ok a e more same in
+  goes_job : (most : ℕ) (s : State) (row : JobPlan) (h : Served s fs attach token row s.kernel.waits) (failure : Option FailNo) (a : Act) (e : next_of row.plan ≡ Some a) → acknowledges a ≡ false → waits_after a token s.kernel.waits ≡ s.kernel.waits → Has (queues token) s.trace → HasActs (suc most) row.plan → Goes most fs attach token (next s (events.Act token failure))
+  goes_job most s row h failure a e more same queued few =
+      let d = its_act s fs attach token row s.kernel.waits h failure a e in
+      let left = act_goes s fs attach token row s.kernel.waits h failure a e more same in
       record {
         world = left.world;
-        queued = seen_still s (events.Act token ok) queued;
+        queued = seen_still s (events.Act token failure) queued;
         left = inr (record { row = walked d.came row; is_job = left.is_job; fs_is = left.fs_is; attach_is = left.attach_is; few = fewer s fs attach token most row.plan d.came few });
       }
 
-  goes_by : (most : ℕ) (s : State) (row : JobPlan) (h : Served s fs attach token row s.kernel.waits) (ok : Bool) (a : Act) → next_of row.plan ≡ Some a → Has (queues token) s.trace → HasActs (suc most) row.plan → Goes most fs attach token (next s (events.Act token ok))
-  goes_by most s row h ok (act.Reply status) e queued few = record {
-    world = act_world s fs attach token row s.kernel.waits h ok (act.Reply status) e;
-    queued = seen_still s (events.Act token ok) queued;
-    left = inl (ap (λ (w : WaitRows). token_of w.tokens token) (act_waits s fs attach token row s.kernel.waits h ok (act.Reply status) e) ∙ token_taken token s.kernel.waits.tokens token true (nat_same token));
+  goes_by : (most : ℕ) (s : State) (row : JobPlan) (h : Served s fs attach token row s.kernel.waits) (failure : Option FailNo) (a : Act) → next_of row.plan ≡ Some a → Has (queues token) s.trace → HasActs (suc most) row.plan → Goes most fs attach token (next s (events.Act token failure))
+  goes_by most s row h failure (act.Reply status) e queued few = record {
+    world = act_world s fs attach token row s.kernel.waits h failure (act.Reply status) e;
+    queued = seen_still s (events.Act token failure) queued;
+    left = inl (ap (λ (w : WaitRows). token_of w.tokens token) (act_waits s fs attach token row s.kernel.waits h failure (act.Reply status) e) ∙ token_taken token s.kernel.waits.tokens token true (nat_same token));
   }
-  goes_by most s row h ok (act.Mkdir t) e queued few = goes_job most s row h ok (act.Mkdir t) e refl refl queued few
-  goes_by most s row h ok (act.Mount t entry) e queued few = goes_job most s row h ok (act.Mount t entry) e refl refl queued few
-  goes_by most s row h ok (act.Umount t) e queued few = goes_job most s row h ok (act.Umount t) e refl refl queued few
-  goes_by most s row h ok (act.Rmdir t) e queued few = goes_job most s row h ok (act.Rmdir t) e refl refl queued few
-  goes_by most s row h ok (act.Record t entry) e queued few = goes_job most s row h ok (act.Record t entry) e refl refl queued few
+  goes_by most s row h failure (act.Mkdir t) e queued few = goes_job most s row h failure (act.Mkdir t) e refl refl queued few
+  goes_by most s row h failure (act.Mount t entry) e queued few = goes_job most s row h failure (act.Mount t entry) e refl refl queued few
+  goes_by most s row h failure (act.Umount t) e queued few = goes_job most s row h failure (act.Umount t) e refl refl queued few
+  goes_by most s row h failure (act.Rmdir t) e queued few = goes_job most s row h failure (act.Rmdir t) e refl refl queued few
+  goes_by most s row h failure (act.Record t entry) e queued few = goes_job most s row h failure (act.Record t entry) e refl refl queued few
 
-  acts_on : (most : ℕ) (s : State) (row : JobPlan) → Served s fs attach token row s.kernel.waits → (ok : Bool) → Has (queues token) s.trace → HasActs (suc most) row.plan → Leads most s (events.Act token ok)
-  acts_on most s row h ok queued few =
+  acts_on : (most : ℕ) (s : State) (row : JobPlan) → Served s fs attach token row s.kernel.waits → (failure : Option FailNo) → Has (queues token) s.trace → HasActs (suc most) row.plan → Leads most s (events.Act token failure)
+  acts_on most s row h failure queued few =
       let coming = next_is row.plan (its_plan s token row (served_acts s fs attach token row s.kernel.waits h)).last in
-      (act_done s fs attach token row s.kernel.waits h ok coming.0 coming.1, goes_by most s row h ok coming.0 coming.1 queued few)
+      (act_done s fs attach token row s.kernel.waits h failure coming.0 coming.1, goes_by most s row h failure coming.0 coming.1 queued few)
 
   -- its event is that act
-  is_act : (ok : Bool) (s : State) → queued_of s.kernel.queue token ≡ None → event_about token ok s ≡ events.Act token ok
-  is_act ok s none = ap (λ (o : Option QueuedRow). if is_some o then events.Deliver token None else events.Act token ok) none
+  is_act : (failure : Option FailNo) (s : State) → queued_of s.kernel.queue token ≡ None → event_about token failure s ≡ events.Act token failure
+  is_act failure s none = ap (λ (o : Option QueuedRow). if is_some o then events.Deliver token None else events.Act token failure) none
 
-  is_delivery : (ok : Bool) (s : State) (row : QueuedRow) → queued_of s.kernel.queue token ≡ Some row → event_about token ok s ≡ events.Deliver token None
-  is_delivery ok s row is = ap (λ (o : Option QueuedRow). if is_some o then events.Deliver token None else events.Act token ok) is
+  is_delivery : (failure : Option FailNo) (s : State) (row : QueuedRow) → queued_of s.kernel.queue token ≡ Some row → event_about token failure s ≡ events.Deliver token None
+  is_delivery failure s row is = ap (λ (o : Option QueuedRow). if is_some o then events.Deliver token None else events.Act token failure) is
 
-  job_acts : (most : ℕ) (s : State) → IsWorld s → IsServed s.kernel s.daemon fs attach → Has (queues token) s.trace → HasJob (suc most) fs attach token s → (ok : Bool) → Leads most s (event_about token ok s)
-  job_acts most s world served queued job ok =
-      subst (Leads most s) (sym (is_act ok s (unqueued s world job.row job.is_job)))
-      (acts_on most s job.row (record { world = world; served = served; is_job = job.is_job; fs_is = job.fs_is; attach_is = job.attach_is; waits = refl }) ok queued job.few)
+  job_acts : (most : ℕ) (s : State) → IsWorld s → IsServed s.kernel s.daemon fs attach → Has (queues token) s.trace → HasJob (suc most) fs attach token s → (failure : Option FailNo) → Leads most s (event_about token failure s)
+  job_acts most s world served queued job failure =
+      subst (Leads most s) (sym (is_act failure s (unqueued s world job.row job.is_job)))
+      (acts_on most s job.row (record { world = world; served = served; is_job = job.is_job; fs_is = job.fs_is; attach_is = job.attach_is; waits = refl }) failure queued job.few)
 
   -- ---- the token closes
 
@@ -170,19 +171,19 @@ module _ (fs attach token : ℕ) where
   closes_among (suc most) s h = λ mid o.
       let now = goes_still (suc most) s mid o h in
       ⊎_elim (λ shut. inl (is_closed mid now.world shut))
-      (λ job. inr (λ ok.
-      let leads = job_acts most mid now.world o.served now.queued job ok in
-      (leads.0, closes_among most (next mid (event_about token ok mid)) leads.1)))
+      (λ job. inr (λ failure.
+      let leads = job_acts most mid now.world o.served now.queued job failure in
+      (leads.0, closes_among most (next mid (event_about token failure mid)) leads.1)))
       now.left
 
   -- the first event takes the packet from the pipe, if nobody else has
-  first : (mid : State) → IsWorld mid → IsServed mid.kernel mid.daemon fs attach → Has (queues token) mid.trace → (row : OpenToken) → token_of mid.kernel.waits.tokens token ≡ Some row → row.trigger.fs ≡ fs → (ok : Bool) → Leads 5 mid (event_about token ok mid)
-  first mid world served queued row is same ok =
+  first : (mid : State) → IsWorld mid → IsServed mid.kernel mid.daemon fs attach → Has (queues token) mid.trace → (row : OpenToken) → token_of mid.kernel.waits.tokens token ≡ Some row → row.trigger.fs ≡ fs → (failure : Option FailNo) → Leads 5 mid (event_about token failure mid)
+  first mid world served queued row is same failure =
       ⊎_elim
       (λ waits.
       let found = some_is (queued_of mid.kernel.queue token) waits in
       let t = takes_packet mid world fs attach served token row is same found.0 found.1 in
-      subst (Leads 5 mid) (sym (is_delivery ok mid found.0 found.1)) (
+      subst (Leads 5 mid) (sym (is_delivery failure mid found.0 found.1)) (
         t.done,
         record {
           world = t.served.world;
@@ -194,16 +195,16 @@ module _ (fs attach token : ℕ) where
       let taken : job_of mid.daemon.jobs token ≡ Some work.job = ap (job_of mid.daemon.jobs) (sym (token_number mid.kernel.waits.tokens token row is)) ∙ work.is_job in
       let own : work.job.attach ≡ attach = same_number (sym work.current ∙ ap (attach_of mid.kernel) same ∙ served.current) in
       let plan = all_found IsOfPlan (λ (r : JobPlan). r.token == token) mid.daemon.jobs work.job world.holds.plans taken in
-      job_acts 5 mid world served queued (record { row = work.job; is_job = taken; fs_is = work.fs ∙ same; attach_is = own; few = more_acts 5 work.job.plan plan.few }) ok)
+      job_acts 5 mid world served queued (record { row = work.job; is_job = taken; fs_is = work.fs ∙ same; attach_is = own; few = more_acts 5 work.job.plan plan.few }) failure)
       (world.consistent.agreed.tokens.open_tokens token row is)
 
   begins_by : (mid : State) (found : Option OpenToken) → token_of mid.kernel.waits.tokens token ≡ found → IsWorld mid → IsServed mid.kernel mid.daemon fs attach → Has (queues token) mid.trace → ((row : OpenToken) → token_of mid.kernel.waits.tokens token ≡ Some row → row.trigger.fs ≡ fs) →
-      IsClosed token mid ⊎ ((ok : Bool) → IsDone mid (event_about token ok mid) × ClosesAmong 5 fs attach token (next mid (event_about token ok mid)))
+      IsClosed token mid ⊎ ((failure : Option FailNo) → IsDone mid (event_about token failure mid) × ClosesAmong 5 fs attach token (next mid (event_about token failure mid)))
   begins_by mid None is world served queued same = inl (is_closed mid world is)
   begins_by mid (Some row) is world served queued same =
-      inr (λ ok.
-      let leads = first mid world served queued row is (same row is) ok in
-      (leads.0, closes_among 5 (next mid (event_about token ok mid)) leads.1))
+      inr (λ failure.
+      let leads = first mid world served queued row is (same row is) failure in
+      (leads.0, closes_among 5 (next mid (event_about token failure mid)) leads.1))
 
   begins : (s : State) → IsWorld s → Has (queues token) s.trace → ((mid : State) → OthersAct fs attach token s mid → (row : OpenToken) → token_of mid.kernel.waits.tokens token ≡ Some row → row.trigger.fs ≡ fs) → ClosesAmong 6 fs attach token s
   begins s world queued same = λ mid o.

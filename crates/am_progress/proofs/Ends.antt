@@ -84,7 +84,7 @@ begun_with : (walked : Walked) (pipe : PipeState) (k : KernelState) (begin : Beg
 begun_with walked pipe k begin = begun_by walked.stop pipe k begin walked.passed
 
 pub walk : (pipe : PipeState) (k : KernelState) (begin : Begin) → Leaves k (walks.walk_at pipe k begin)
-walk pipe k begin = either k (is_busy k begin.walker) _ _ (fails k _) (begun_with (walk_of (scene_of k) begin.ns begin.path) pipe k begin)
+walk pipe k begin = either k (is_busy k begin.walker) _ _ (fails k _) (begun_with (walk_of (scene_of k begin.moment) begin.ns begin.path) pipe k begin)
 
 -- ---- an expiry is asked for
 
@@ -124,12 +124,12 @@ or_failed (Fails e) k l = record { well = λ fs. inl refl }
 again : (pipe : PipeState) (k base : KernelState) (row : WalkRow) (moment : ℕ) → Leaves base (resumes.again pipe k base row moment)
 again pipe k base row moment =
     let begin = resumes.next_begin row moment in
-    let walked = walk_of (scene_of k) row.ns row.path in
+    let walked = walk_of (scene_of k moment) row.ns row.path in
     either base (nat_le resumes.most_begins row.begins) _ _ (record { well = λ fs. inl refl })
     (or_failed (walks.begun_with walked pipe base begin) base (begun_with walked pipe base begin))
 
 resumed_as : (kind : TokenKind) (status : Status) (pipe : PipeState) (k : KernelState) (wait : WaitRow) (row : WalkRow) (moment : ℕ) → Leaves k (resumes.resumed_as kind status pipe k wait row moment)
-resumed_as Missing Fail pipe k wait row moment = record { well = λ fs. inl refl }
+resumed_as Missing (Fail error) pipe k wait row moment = record { well = λ fs. inl refl }
 resumed_as Missing Ready pipe k wait row moment =
     let base = resumes.freed_from Missing wait moment k in
     from_base k base (resumes.again pipe k base row moment) (λ fs. refl) (again pipe k base row moment)
@@ -139,7 +139,7 @@ resumed_as Expire status pipe k wait row moment =
 
 expired_as : (status : Status) (k : KernelState) → Leaves k (resumes.expired_as status k)
 expired_as Ready k = record { well = λ fs. inl refl }
-expired_as Fail k = record { well = λ fs. inl refl }
+expired_as (Fail error) k = record { well = λ fs. inl refl }
 
 told_as : (kind : TokenKind) (status : Status) (k : KernelState) (wait : WaitRow) (moment : ℕ) → Leaves k (resumes.told_as kind status k wait moment)
 told_as Missing status k wait moment = fails k _

@@ -2,6 +2,7 @@
 use Rattle.std.proofs.Common.{◌≡◌, ℕ, suc, zero, Bool, true, false, List, Option, Some, None, refl, sym, ap, subst, inl, inr, ⊎_elim, ◌∙◌}
 use Rattle.std.specs.Prelude.{◌==◌, if◌then◌else◌}
 use Rattle.std.specs.List.{All}
+use Rattle.am_names.specs.declared.fail_no.FailNo.{FailNo}
 use Rattle.am_names.specs.Trigger.{same_trigger}
 use Rattle.am_names.specs.declared.trigger.Trigger.{Trigger}
 use Rattle.am_names.specs.declared.trigger.Status.{Status}
@@ -19,6 +20,8 @@ use Rattle.am_wait.specs.Calls.{answered}
 use Rattle.am_wait.specs.Invariant.{RiseBy}
 use Rattle.am_wait.proofs.FindLemmas.{token_taken}
 use Rattle.am_wait.proofs.KeptLemmas.{all_found}
+use Rattle.am_trigger.specs.Failures.{failure_of, without_failure}
+use Rattle.am_kernel.specs.Requests.{settled_by}
 use Rattle.am_kernel.specs.State.{KernelState}
 use Rattle.am_kernel.specs.Sites.{attach_of}
 use Rattle.am_kernel.specs.DaemonMounts.{location_in, mounted_on}
@@ -50,18 +53,18 @@ use Rattle.am_progress.proofs.Jobs.{its_acts, its_token, on_its_token, its_site,
 use Rattle.am_progress.proofs.Acts.{Does, LeavesKernel}
 use Rattle.am_progress.proofs.Tokens.{Served, served_acts, its_act, act_done, act_world, act_served, act_waits, act_goes}
 use Rattle.am_progress.proofs.Worlds.{IsWorld, after_runs}
-use Rattle.am_progress.proofs.Traps.{notifies, other_by, false_by}
+use Rattle.am_progress.proofs.Traps.{notifies, other_by, false_by, made_good}
 
 -- ---- what an act leaves of the book and of the kernel
 
-module _ (s : State) (fs attach token : ℕ) (row : JobPlan) (w : WaitRows) (h : Served s fs attach token row w) (ok : Bool) (a : Act) (e : next_of row.plan ≡ Some a) where
-  act_kernel : (next s (events.Act token ok)).kernel ≡ (its_act s fs attach token row w h ok a e).made
-  act_kernel = ap (λ (o : Outcome). (after s o).kernel) (its_act s fs attach token row w h ok a e).is
+module _ (s : State) (fs attach token : ℕ) (row : JobPlan) (w : WaitRows) (h : Served s fs attach token row w) (failure : Option FailNo) (a : Act) (e : next_of row.plan ≡ Some a) where
+  act_kernel : (next s (events.Act token failure)).kernel ≡ (its_act s fs attach token row w h failure a e).made
+  act_kernel = ap (λ (o : Outcome). (after s o).kernel) (its_act s fs attach token row w h failure a e).is
 
-  act_book : (next s (events.Act token ok)).daemon.book ≡ book_after (writes (Some a)) s.daemon.book
+  act_book : (next s (events.Act token failure)).daemon.book ≡ book_after (writes (Some a)) s.daemon.book
   act_book =
       let acting = served_acts s fs attach token row w h in
-      ap (λ (o : Outcome). (after s o).daemon.book) (its_act s fs attach token row w h ok a e).is
+      ap (λ (o : Outcome). (after s o).daemon.book) (its_act s fs attach token row w h failure a e).is
       ∙ ap (λ (n : ℕ). book_after (writing_of n s.daemon) s.daemon.book) (job_number s token row acting)
       ∙ ap (λ (o : Option JobPlan). book_after (writes (next_in o)) s.daemon.book) h.is_job
       ∙ ap (λ (o : Option Act). book_after (writes o) s.daemon.book) e
@@ -88,84 +91,84 @@ module _ (s : State) (fs attach token : ℕ) (row : JobPlan) (w : WaitRows) (h :
   record_next : next_of row.plan ≡ Some (act.Record row.trigger entry)
   record_next = ap next_of plan
 
-  wrote : (ok : Bool) → Wrote s fs attach token row w entry status (next s (events.Act token ok))
-  wrote ok =
+  wrote : (failure : Option FailNo) → Wrote s fs attach token row w entry status (next s (events.Act token failure))
+  wrote failure =
       let a = act.Record row.trigger entry in
-      let d = its_act s fs attach token row w h ok a record_next in
+      let d = its_act s fs attach token row w h failure a record_next in
       record {
         left = walked d.came row;
-        served = act_goes s fs attach token row w h ok a record_next refl refl;
+        served = act_goes s fs attach token row w h failure a record_next refl refl;
         on = refl;
         plan = ap (λ (o : outcomes.Outcome). rest_of o row.plan) d.told.0 ∙ ap (rest_of came.Done) plan;
-        kernel = act_kernel s fs attach token row w h ok a record_next ∙ d.leaves;
+        kernel = act_kernel s fs attach token row w h failure a record_next ∙ d.leaves;
         written =
-            ap (λ (book : List _). record_of book row.trigger) (act_book s fs attach token row w h ok a record_next)
+            ap (λ (book : List _). record_of book row.trigger) (act_book s fs attach token row w h failure a record_next)
             ∙ recorded_is row.trigger entry s.daemon.book row.trigger
             ∙ ap (λ (b : Bool). if b then entry else record_of s.daemon.book row.trigger) (is_itself row.trigger);
         others = λ g other.
-            ap (λ (book : List _). record_of book g) (act_book s fs attach token row w h ok a record_next)
+            ap (λ (book : List _). record_of book g) (act_book s fs attach token row w h failure a record_next)
             ∙ recorded_is row.trigger entry s.daemon.book g
             ∙ ap (λ (b : Bool). if b then entry else record_of s.daemon.book g) other;
       }
 
   -- and then what the reply leaves
-  ends_as : (goal : State → Type 0) → ((mid : State) (m : Wrote s fs attach token row w entry status mid) (ok : Bool) → goal (next mid (events.Act token ok))) → LeadsTo 2 token goal s
+  ends_as : (goal : State → Type 0) → ((mid : State) (m : Wrote s fs attach token row w entry status mid) (failure : Option FailNo) → goal (next mid (events.Act token failure))) → LeadsTo 2 token goal s
   ends_as goal finish =
-      inr (λ ok.
-      let m = wrote ok in (
-        act_done s fs attach token row w h ok (act.Record row.trigger entry) record_next,
-        inr (λ again. (act_done (next s (events.Act token ok)) fs attach token m.left w m.served again (act.Reply status) (ap next_of m.plan), finish (next s (events.Act token ok)) m again)),
+      inr (λ failure.
+      let m = wrote failure in (
+        act_done s fs attach token row w h failure (act.Record row.trigger entry) record_next,
+        inr (λ again. (act_done (next s (events.Act token failure)) fs attach token m.left w m.served again (act.Reply status) (ap next_of m.plan), finish (next s (events.Act token failure)) m again)),
       ))
 
 -- the token is closed by the reply
-module _ (s : State) (fs attach token : ℕ) (row : JobPlan) (w : WaitRows) (h : Served s fs attach token row w) (status : Status) (plan : row.plan ≡ reply status) (ok : Bool) where
+module _ (s : State) (fs attach token : ℕ) (row : JobPlan) (w : WaitRows) (h : Served s fs attach token row w) (status : Status) (plan : row.plan ≡ reply status) (failure : Option FailNo) where
   reply_next : next_of row.plan ≡ Some (act.Reply status)
   reply_next = ap next_of plan
 
-  reply_waits : (next s (events.Act token ok)).kernel.waits ≡ answered token status w
-  reply_waits = act_waits s fs attach token row w h ok (act.Reply status) reply_next
+  reply_waits : (next s (events.Act token failure)).kernel.waits ≡ answered token status w
+  reply_waits = act_waits s fs attach token row w h failure (act.Reply status) reply_next
 
-  reply_closes : token_of (next s (events.Act token ok)).kernel.waits.tokens token ≡ None
+  reply_closes : token_of (next s (events.Act token failure)).kernel.waits.tokens token ≡ None
   reply_closes = ap (λ (v : WaitRows). token_of v.tokens token) reply_waits ∙ token_taken token w.tokens token true (nat_same token)
 
-  reply_kernel : (next s (events.Act token ok)).kernel ≡ acknowledged row.token status s.kernel
-  reply_kernel = act_kernel s fs attach token row w h ok (act.Reply status) reply_next ∙ (its_act s fs attach token row w h ok (act.Reply status) reply_next).leaves
+  reply_kernel : (next s (events.Act token failure)).kernel ≡ acknowledged row.token status s.kernel
+  reply_kernel = act_kernel s fs attach token row w h failure (act.Reply status) reply_next ∙ (its_act s fs attach token row w h failure (act.Reply status) reply_next).leaves
 
-  reply_book : (next s (events.Act token ok)).daemon.book ≡ s.daemon.book
-  reply_book = act_book s fs attach token row w h ok (act.Reply status) reply_next
+  reply_book : (next s (events.Act token failure)).daemon.book ≡ s.daemon.book
+  reply_book = act_book s fs attach token row w h failure (act.Reply status) reply_next
 
-  reply_world : IsWorld (next s (events.Act token ok))
-  reply_world = act_world s fs attach token row w h ok (act.Reply status) reply_next
+  reply_world : IsWorld (next s (events.Act token failure))
+  reply_world = act_world s fs attach token row w h failure (act.Reply status) reply_next
 
-  reply_served : IsServed (next s (events.Act token ok)).kernel (next s (events.Act token ok)).daemon fs attach
-  reply_served = act_served s fs attach token row w h ok (act.Reply status) reply_next
+  reply_served : IsServed (next s (events.Act token failure)).kernel (next s (events.Act token failure)).daemon fs attach
+  reply_served = act_served s fs attach token row w h failure (act.Reply status) reply_next
 
 -- ---- an unmount that fails
 
 -- the world in which the job was about to unmount, and the one in which its unmount has failed
-module _ (old s : State) (fs attach token : ℕ) (row : JobPlan) (h : Served s fs attach token row old.kernel.waits) (mount : ℕ) (plan : row.plan ≡ after_failed_umount row.trigger mount) (kernel : s.kernel ≡ old.kernel) (book : s.daemon.book ≡ old.daemon.book) (stood : mounted_on old.kernel row.trigger ≡ Some mount) where
+module _ (old s : State) (fs attach token : ℕ) (row : JobPlan) (h : Served s fs attach token row old.kernel.waits) (mount : ℕ) (error : FailNo) (plan : row.plan ≡ after_failed_umount row.trigger mount error) (kernel : s.kernel ≡ old.kernel) (book : s.daemon.book ≡ old.daemon.book) (stood : mounted_on old.kernel row.trigger ≡ Some mount) where
   as_found : LeadsTo 2 token (IsAsFound old token row.trigger mount) s
   as_found =
-      ends_as s fs attach token row old.kernel.waits h (Some (Mounted mount)) Fail plan (IsAsFound old token row.trigger mount)
-      (λ mid m ok.
-      let new = next mid (events.Act token ok) in
-      let same = reply_kernel mid fs attach token m.left old.kernel.waits m.served Fail m.plan ok in
+      ends_as s fs attach token row old.kernel.waits h (Some (Mounted mount)) (Fail error) plan (IsAsFound old token row.trigger mount)
+      (λ mid m failure.
+      let new = next mid (events.Act token failure) in
+      let same = reply_kernel mid fs attach token m.left old.kernel.waits m.served (Fail error) m.plan failure in
       let table : new.kernel.table ≡ old.kernel.table = ap (λ (k : KernelState). k.table) same ∙ ap (λ (k : KernelState). k.table) (m.kernel ∙ kernel) in
       let triggers : new.kernel.triggers ≡ old.kernel.triggers = ap (λ (k : KernelState). k.triggers) same ∙ ap (λ (k : KernelState). k.triggers) (m.kernel ∙ kernel) in
       record {
         table = table;
         triggers = triggers;
         mounted = stood_as old.kernel new.kernel row.trigger table triggers ∙ stood;
-        written = ap (λ (book : List _). record_of book row.trigger) (reply_book mid fs attach token m.left old.kernel.waits m.served Fail m.plan ok) ∙ m.written;
+        written = ap (λ (book : List _). record_of book row.trigger) (reply_book mid fs attach token m.left old.kernel.waits m.served (Fail error) m.plan failure) ∙ m.written;
         others = λ g other.
-            ap (λ (rows : List _). record_of rows g) (reply_book mid fs attach token m.left old.kernel.waits m.served Fail m.plan ok)
+            ap (λ (rows : List _). record_of rows g) (reply_book mid fs attach token m.left old.kernel.waits m.served (Fail error) m.plan failure)
             ∙ m.others g other ∙ ap (λ (rows : List _). record_of rows g) book;
-        closed = reply_closes mid fs attach token m.left old.kernel.waits m.served Fail m.plan ok;
+        closed = reply_closes mid fs attach token m.left old.kernel.waits m.served (Fail error) m.plan failure;
       })
 
 -- ---- an unmount that has come
 
-module _ (s : State) (fs attach token : ℕ) (row : JobPlan) (w : WaitRows) (h : Served s fs attach token row w) (ok : Bool) (plan : row.plan ≡ reply Ready) (written : record_of s.daemon.book row.trigger ≡ None) where
+module _ (s : State) (fs attach token : ℕ) (row : JobPlan) (w : WaitRows) (h : Served s fs attach token row w) (failure : Option FailNo) (plan : row.plan ≡ reply Ready) (written : record_of s.daemon.book row.trigger ≡ None) where
   -- the job's token was the one on its trigger
   off_by : (new : WaitRows) → new ≡ answered token Ready w → RiseBy (λ (r : OpenToken). r.token) 0 new.tokens → All (λ (r : OpenToken). same_trigger r.trigger row.trigger ≡ false) new.tokens
   off_by new same rise =
@@ -182,90 +185,97 @@ module _ (s : State) (fs attach token : ℕ) (row : JobPlan) (w : WaitRows) (h :
       let no = left.0 in
       absurd cc))
 
-  trap_again : IsTrapAgain attach token row.trigger (next s (events.Act token ok))
+  trap_again : IsTrapAgain attach token row.trigger (next s (events.Act token failure))
   trap_again =
-      let new = next s (events.Act token ok) in
-      let world = reply_world s fs attach token row w h Ready plan ok in
-      let served = reply_served s fs attach token row w h Ready plan ok in
-      let same = reply_kernel s fs attach token row w h Ready plan ok in
+      let new = next s (events.Act token failure) in
+      let world = reply_world s fs attach token row w h Ready plan failure in
+      let served = reply_served s fs attach token row w h Ready plan failure in
+      let same = reply_kernel s fs attach token row w h Ready plan failure in
       let current : attach_of new.kernel row.trigger.fs ≡ Some attach = ap (attach_of new.kernel) h.fs_is ∙ served.current in
-      let none : record_of new.daemon.book row.trigger ≡ None = ap (λ (book : List _). record_of book row.trigger) (reply_book s fs attach token row w h Ready plan ok) ∙ written in
+      let none : record_of new.daemon.book row.trigger ≡ None = ap (λ (book : List _). record_of book row.trigger) (reply_book s fs attach token row w h Ready plan failure) ∙ written in
       let free : mounted_on new.kernel row.trigger ≡ None =
       world.consistent.agreed.stands.settled fs attach served row.trigger h.fs_is (ap is_pending none) ∙ ap mounted_in none in
+      let acting = served_acts s fs attach token row w h in
+      let its = its_token s token row acting in
+      let well : failure_of new.kernel.failures row.trigger ≡ None =
+      ap (λ (k : KernelState). failure_of k.failures row.trigger) same
+      ∙ ap (λ (o : Option OpenToken). failure_of (settled_by o Ready s.kernel.latest s.kernel.failures) row.trigger) its.is_open
+      ∙ ap (λ (g : Trigger). failure_of (without_failure g s.kernel.failures) row.trigger) (sym (on_its_token s token row acting))
+      ∙ made_good row.trigger s.kernel.failures in
       let site : IsSite new.kernel.triggers row.trigger =
       subst (λ (k : KernelState). IsSite k.triggers row.trigger) (sym same) (its_site s token row (served_acts s fs attach token row w h)) in
       record {
         free = free;
-        notifies = notifies new world attach row.trigger current site (off_by new.kernel.waits (reply_waits s fs attach token row w h Ready plan ok) world.consistent.traced.fits.sound.tokens) free;
+        notifies = notifies new world attach row.trigger current site (off_by new.kernel.waits (reply_waits s fs attach token row w h Ready plan failure) world.consistent.traced.fits.sound.tokens) free well;
         attached = current;
-        closed = reply_closes s fs attach token row w h Ready plan ok;
+        closed = reply_closes s fs attach token row w h Ready plan failure;
       }
 
 more_acts : (acts job : ℕ) (goal : State → Type 0) (s : State) → LeadsTo acts job goal s → LeadsTo (suc acts) job goal s
 more_acts zero job goal s h = inl h
 more_acts (suc acts) job goal s (inl here) = inl here
-more_acts (suc acts) job goal s (inr later) = inr (λ ok. ((later ok).0, more_acts acts job goal (next s (events.Act job ok)) (later ok).1))
+more_acts (suc acts) job goal s (inr later) = inr (λ failure. ((later failure).0, more_acts acts job goal (next s (events.Act job failure)) (later failure).1))
 
 -- the record is written, and the reply ends it
 written_trap : (s : State) (fs attach token : ℕ) (row : JobPlan) (w : WaitRows) (h : Served s fs attach token row w) → row.plan ≡ book_and_reply row.trigger None Ready → LeadsTo 2 token (IsTrapAgain attach token row.trigger) s
 written_trap s fs attach token row w h plan =
     ends_as s fs attach token row w h None Ready plan (IsTrapAgain attach token row.trigger)
-    (λ mid m ok.
-    subst (λ (g : Trigger). IsTrapAgain attach token g (next mid (events.Act token ok))) m.on
-    (trap_again mid fs attach token m.left w m.served ok m.plan (ap (record_of mid.daemon.book) m.on ∙ m.written)))
+    (λ mid m failure.
+    subst (λ (g : Trigger). IsTrapAgain attach token g (next mid (events.Act token failure))) m.on
+    (trap_again mid fs attach token m.left w m.served failure m.plan (ap (record_of mid.daemon.book) m.on ∙ m.written)))
 
 umounted_by : (name : Option (List ℕ)) (s : State) (fs attach token : ℕ) (row : JobPlan) (w : WaitRows) (h : Served s fs attach token row w) → row.trigger.name ≡ name → row.plan ≡ after_umount row.trigger → LeadsTo 3 token (IsTrapAgain attach token row.trigger) s
 umounted_by None s fs attach token row w h named plan =
     more_acts 2 token (IsTrapAgain attach token row.trigger) s
     (written_trap s fs attach token row w h (plan ∙ ap (λ (n : Option (List ℕ)). at_directory n (act.Rmdir row.trigger) (book_and_reply row.trigger None Ready)) named))
 umounted_by (Some name) s fs attach token row w h named plan =
-    inr (λ ok.
+    inr (λ failure.
     let here = plan ∙ ap (λ (n : Option (List ℕ)). at_directory n (act.Rmdir row.trigger) (book_and_reply row.trigger None Ready)) named in
     let e : next_of row.plan ≡ Some (act.Rmdir row.trigger) = ap next_of here in
-    let d = its_act s fs attach token row w h ok (act.Rmdir row.trigger) e in (
-      act_done s fs attach token row w h ok (act.Rmdir row.trigger) e,
-      written_trap (next s (events.Act token ok)) fs attach token (walked d.came row) w (act_goes s fs attach token row w h ok (act.Rmdir row.trigger) e refl refl)
+    let d = its_act s fs attach token row w h failure (act.Rmdir row.trigger) e in (
+      act_done s fs attach token row w h failure (act.Rmdir row.trigger) e,
+      written_trap (next s (events.Act token failure)) fs attach token (walked d.came row) w (act_goes s fs attach token row w h failure (act.Rmdir row.trigger) e refl refl)
           (ap (λ (o : outcomes.Outcome). rest_of o row.plan) d.told.0 ∙ ap (rest_of came.Done) here),
     ))
 
 -- ---- a job that unmounts
 
-module _ (s : State) (fs attach token mount : ℕ) (row : JobPlan) (h : Served s fs attach token row s.kernel.waits) (plan : row.plan ≡ unmounting row.trigger mount) (ok : Bool) where
+module _ (s : State) (fs attach token mount : ℕ) (row : JobPlan) (h : Served s fs attach token row s.kernel.waits) (plan : row.plan ≡ unmounting row.trigger mount) (failure : Option FailNo) where
   abbrev umount_next : next_of row.plan ≡ Some (act.Umount row.trigger)
   umount_next = ap next_of plan
 
-  abbrev its_umount : Does s row (act.Umount row.trigger) (outcome_of s (events.Act token ok))
-  its_umount = its_act s fs attach token row s.kernel.waits h ok (act.Umount row.trigger) umount_next
+  abbrev its_umount : Does s row (act.Umount row.trigger) (outcome_of s (events.Act token failure))
+  its_umount = its_act s fs attach token row s.kernel.waits h failure (act.Umount row.trigger) umount_next
 
-  then_left : Served (next s (events.Act token ok)) fs attach token (walked its_umount.came row) s.kernel.waits
-  then_left = act_goes s fs attach token row s.kernel.waits h ok (act.Umount row.trigger) umount_next refl refl
+  then_left : Served (next s (events.Act token failure)) fs attach token (walked its_umount.came row) s.kernel.waits
+  then_left = act_goes s fs attach token row s.kernel.waits h failure (act.Umount row.trigger) umount_next refl refl
 
-  answer_is : (outcome_of s (events.Act token ok)).answer ≡ its_umount.answer
+  answer_is : (outcome_of s (events.Act token failure)).answer ≡ its_umount.answer
   answer_is = ap (λ (o : Outcome). o.answer) its_umount.is
 
   stands_there : mounted_on s.kernel row.trigger ≡ Some mount
   stands_there =
       h.world.consistent.agreed.stands.at_work fs attach h.served token row h.is_job h.fs_is h.attach_is (ap has_record_left plan ∙ umount_left row.trigger mount) ∙ ap claims plan
 
-  leaves_kernel : (outcome : outcomes.Outcome) (made : KernelState) → outcome ≡ came.Failed → LeavesKernel (act.Umount row.trigger) outcome row.token s.kernel made → made ≡ s.kernel
-  leaves_kernel came.Done made e leaves = absurd cc
-  leaves_kernel (came.Made m) made e leaves = absurd cc
-  leaves_kernel came.Failed made e leaves = leaves
+  leaves_kernel : (outcome : outcomes.Outcome) (error : FailNo) (made : KernelState) → outcome ≡ came.Failed error → LeavesKernel (act.Umount row.trigger) outcome row.token s.kernel made → made ≡ s.kernel
+  leaves_kernel came.Done error made e leaves = absurd cc
+  leaves_kernel (came.Made m) error made e leaves = absurd cc
+  leaves_kernel (came.Failed other) error made e leaves = leaves
 
-  ends_well : EndsWell s attach token row.trigger mount (outcome_of s (events.Act token ok))
+  ends_well : EndsWell s attach token row.trigger mount (outcome_of s (events.Act token failure))
   ends_well =
       ⊎_elim
       (λ umounted. inr (
         answer_is ∙ umounted.1,
-        umounted_by row.trigger.name (next s (events.Act token ok)) fs attach token (walked its_umount.came row) s.kernel.waits then_left refl
+        umounted_by row.trigger.name (next s (events.Act token failure)) fs attach token (walked its_umount.came row) s.kernel.waits then_left refl
             (ap (λ (o : outcomes.Outcome). rest_of o row.plan) umounted.0 ∙ ap (rest_of came.Done) plan),
       ))
       (λ failed. inl (
-        answer_is ∙ failed.1,
-        as_found s (next s (events.Act token ok)) fs attach token (walked its_umount.came row) then_left mount
-            (ap (λ (o : outcomes.Outcome). rest_of o row.plan) failed.0 ∙ ap (rest_of came.Failed) plan)
-            (act_kernel s fs attach token row s.kernel.waits h ok (act.Umount row.trigger) umount_next ∙ leaves_kernel its_umount.came its_umount.made failed.0 its_umount.leaves)
-            (act_book s fs attach token row s.kernel.waits h ok (act.Umount row.trigger) umount_next)
+        answer_is ∙ failed.2,
+        as_found s (next s (events.Act token failure)) fs attach token (walked its_umount.came row) then_left mount failed.0
+            (ap (λ (o : outcomes.Outcome). rest_of o row.plan) failed.1 ∙ ap (rest_of (came.Failed failed.0)) plan)
+            (act_kernel s fs attach token row s.kernel.waits h failure (act.Umount row.trigger) umount_next ∙ leaves_kernel its_umount.came failed.0 its_umount.made failed.1 its_umount.leaves)
+            (act_book s fs attach token row s.kernel.waits h failure (act.Umount row.trigger) umount_next)
             stands_there,
       ))
       its_umount.told
@@ -276,7 +286,7 @@ expiries_end s world fs attach served job row is same own e =
     let whole = umount_whole row.trigger row.trigger row.plan (its_acts s job row (served_acts s fs attach job row s.kernel.waits h)).umounts e in
     record {
       mount = whole.0;
-      stands = stands_there s fs attach job whole.0 row h whole.1 true;
+      stands = stands_there s fs attach job whole.0 row h whole.1 None;
       ends = ends_well s fs attach job whole.0 row h whole.1;
     }
 

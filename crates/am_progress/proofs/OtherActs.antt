@@ -1,6 +1,8 @@
 -- An act leaves each other job what it has left, and each attachment as it was.
 use Rattle.std.proofs.Common.{◌≡◌, ◌⊎◌, ℕ, Bool, true, false, List, [], Option, Some, None, refl, sym, ap, subst, inl, inr, ⊎_elim, ◌∙◌}
 use Rattle.std.specs.Prelude.{◌==◌, not, if◌then◌else◌}
+use Rattle.am_names.specs.declared.fail_no.FailNo.TheVariants.{ENOENT}
+use Rattle.am_names.specs.declared.fail_no.FailNo.{FailNo}
 use Rattle.am_names.specs.declared.errno.Errno.{Errno}
 use Rattle.am_names.specs.declared.errno.Errno.TheVariants as errnos
 use Rattle.am_names.specs.declared.errno.Errno.TheVariants.{EBUSY, EINVAL}
@@ -59,30 +61,36 @@ mkdir None s row trigger = goes_plainly s row came.Done _ [] (with_directory tri
 mkdir (Some errnos.EEXIST) s row trigger = goes_plainly s row came.Done _ [] s.kernel (λ fs. refl)
 mkdir (Some _) s row trigger = refuses s row _
 
-mount_fails : (s : State) (row : JobPlan) → Acted s row (acts.mount_fails s row)
-mount_fails s row = goes_plainly s row came.Failed _ [] s.kernel (λ fs. refl)
+mount_fails : (s : State) (row : JobPlan) (error : FailNo) → Acted s row (acts.mount_fails s row error)
+mount_fails s row error = goes_plainly s row (came.Failed error) _ [] s.kernel (λ fs. refl)
 
 mount_by : (e : Option Errno) (s : State) (row : JobPlan) (trigger : Trigger) → Acted s row (acts.mount_by e s row trigger)
 mount_by None s row trigger = goes_plainly s row (came.Made _) _ _ (with_mount_on trigger s.kernel) (λ fs. refl)
-mount_by (Some e) s row trigger = mount_fails s row
+mount_by (Some e) s row trigger = mount_fails s row ENOENT
 
-mount_act : (s : State) (row : JobPlan) (trigger : Trigger) (ok : Bool) → Acted s row (acts.mount_act s row trigger ok)
-mount_act s row trigger ok =
-    either s row (not (is_current s.kernel trigger.fs row.attach)) _ _ (refuses s row _)
-    (either s row (not ok) _ _ (mount_fails s row) (mount_by (mount_on_refusal s.kernel row.attach trigger) s row trigger))
+mount_tried : (failure : Option FailNo) (s : State) (row : JobPlan) (trigger : Trigger) → Acted s row (acts.mount_tried failure s row trigger)
+mount_tried (Some error) s row trigger = mount_fails s row error
+mount_tried None s row trigger = mount_by (mount_on_refusal s.kernel row.attach trigger) s row trigger
 
-umount_fails : (s : State) (row : JobPlan) → Acted s row (acts.umount_fails s row)
-umount_fails s row = goes_plainly s row came.Failed _ [] s.kernel (λ fs. refl)
+mount_act : (s : State) (row : JobPlan) (trigger : Trigger) (failure : Option FailNo) → Acted s row (acts.mount_act s row trigger failure)
+mount_act s row trigger failure =
+    either s row (not (is_current s.kernel trigger.fs row.attach)) _ _ (refuses s row _) (mount_tried failure s row trigger)
+
+umount_fails : (s : State) (row : JobPlan) (error : FailNo) → Acted s row (acts.umount_fails s row error)
+umount_fails s row error = goes_plainly s row (came.Failed error) _ [] s.kernel (λ fs. refl)
 
 umount_by : (e : Option Errno) (s : State) (row : JobPlan) (trigger : Trigger) → Acted s row (acts.umount_by e s row trigger)
 umount_by None s row trigger =
     goes_plainly s row came.Done _ _ (without_mounts (gone_from s.kernel trigger) s.kernel) (λ fs. refl)
-umount_by (Some e) s row trigger = umount_fails s row
+umount_by (Some e) s row trigger = umount_fails s row ENOENT
 
-umount_act : (s : State) (row : JobPlan) (trigger : Trigger) (ok : Bool) → Acted s row (acts.umount_act s row trigger ok)
-umount_act s row trigger ok =
-    either s row (not (is_current s.kernel trigger.fs row.attach)) _ _ (refuses s row _)
-    (either s row (not ok) _ _ (umount_fails s row) (umount_by (umount_from_refusal s.kernel row.attach trigger) s row trigger))
+umount_tried : (failure : Option FailNo) (s : State) (row : JobPlan) (trigger : Trigger) → Acted s row (acts.umount_tried failure s row trigger)
+umount_tried (Some error) s row trigger = umount_fails s row error
+umount_tried None s row trigger = umount_by (umount_from_refusal s.kernel row.attach trigger) s row trigger
+
+umount_act : (s : State) (row : JobPlan) (trigger : Trigger) (failure : Option FailNo) → Acted s row (acts.umount_act s row trigger failure)
+umount_act s row trigger failure =
+    either s row (not (is_current s.kernel trigger.fs row.attach)) _ _ (refuses s row _) (umount_tried failure s row trigger)
 
 rmdir : (e : Option Errno) (s : State) (row : JobPlan) (trigger : Trigger) → Acted s row (acts.rmdir_by e s row trigger)
 rmdir None s row trigger = goes_plainly s row came.Done _ [] (without_directory trigger s.kernel) (λ fs. refl)
@@ -97,14 +105,14 @@ reply : (e : Option Errno) (s : State) (row : JobPlan) (status : Status) → Act
 reply (Some e) s row status = refuses s row e
 reply None s row status = goes_plainly s row came.Done _ _ (acknowledged row.token status s.kernel) (λ fs. refl)
 
-acted : (next : Option Act) (s : State) (row : JobPlan) (ok : Bool) → Acted s row (acts.acted next s row ok)
-acted None s row ok = refuses s row _
-acted (Some (act.Mkdir trigger)) s row ok = mkdir (mkdir_refusal s.kernel row.attach trigger) s row trigger
-acted (Some (act.Mount trigger entry)) s row ok = mount_act s row trigger ok
-acted (Some (act.Umount trigger)) s row ok = umount_act s row trigger ok
-acted (Some (act.Rmdir trigger)) s row ok = rmdir (rmdir_refusal s.kernel row.attach trigger) s row trigger
-acted (Some (act.Record trigger entry)) s row ok = record_act s row trigger entry
-acted (Some (act.Reply status)) s row ok = reply (answer_refusal s.kernel row.attach row.token) s row status
+acted : (next : Option Act) (s : State) (row : JobPlan) (failure : Option FailNo) → Acted s row (acts.acted next s row failure)
+acted None s row failure = refuses s row _
+acted (Some (act.Mkdir trigger)) s row failure = mkdir (mkdir_refusal s.kernel row.attach trigger) s row trigger
+acted (Some (act.Mount trigger entry)) s row failure = mount_act s row trigger failure
+acted (Some (act.Umount trigger)) s row failure = umount_act s row trigger failure
+acted (Some (act.Rmdir trigger)) s row failure = rmdir (rmdir_refusal s.kernel row.attach trigger) s row trigger
+acted (Some (act.Record trigger entry)) s row failure = record_act s row trigger entry
+acted (Some (act.Reply status)) s row failure = reply (answer_refusal s.kernel row.attach row.token) s row status
 
 -- what an act leaves of another job
 other_job : (s : State) (row : JobPlan) (o : Outcome) (number : ℕ) → (row.token == number) ≡ false → Acted s row o → job_of o.state.daemon.jobs number ≡ job_of s.daemon.jobs number
@@ -118,12 +126,12 @@ act_serves s row o fs attach h served =
     ⊎_elim (λ same. subst (λ (t : State). IsServed t.kernel t.daemon fs attach) (sym same) served)
     (λ goes. record { current = goes.attaches fs ∙ served.current; held = ap (λ (d : DaemonState). attach_held d fs) goes.daemon ∙ served.held }) h.came
 
-pub act_jobs : (found : Option JobPlan) (s : State) (other number : ℕ) (ok : Bool) → job_of s.daemon.jobs other ≡ found → (other == number) ≡ false → job_of (acts.acted_at found s ok).state.daemon.jobs number ≡ job_of s.daemon.jobs number
-act_jobs None s other number ok is differs = refl
-act_jobs (Some row) s other number ok is differs =
+pub act_jobs : (found : Option JobPlan) (s : State) (other number : ℕ) (failure : Option FailNo) → job_of s.daemon.jobs other ≡ found → (other == number) ≡ false → job_of (acts.acted_at found s failure).state.daemon.jobs number ≡ job_of s.daemon.jobs number
+act_jobs None s other number failure is differs = refl
+act_jobs (Some row) s other number failure is differs =
     let own : row.token ≡ other = nat_is row.token other (found_passes (λ (r : JobPlan). r.token == other) s.daemon.jobs row is) in
-    other_job s row (acts.acted (next_of row.plan) s row ok) number (ap (λ (n : ℕ). n == number) own ∙ differs) (acted (next_of row.plan) s row ok)
+    other_job s row (acts.acted (next_of row.plan) s row failure) number (ap (λ (n : ℕ). n == number) own ∙ differs) (acted (next_of row.plan) s row failure)
 
-pub act_served : (found : Option JobPlan) (s : State) (ok : Bool) (fs attach : ℕ) → IsServed s.kernel s.daemon fs attach → IsServed (acts.acted_at found s ok).state.kernel (acts.acted_at found s ok).state.daemon fs attach
-act_served None s ok fs attach served = served
-act_served (Some row) s ok fs attach served = act_serves s row (acts.acted (next_of row.plan) s row ok) fs attach (acted (next_of row.plan) s row ok) served
+pub act_served : (found : Option JobPlan) (s : State) (failure : Option FailNo) (fs attach : ℕ) → IsServed s.kernel s.daemon fs attach → IsServed (acts.acted_at found s failure).state.kernel (acts.acted_at found s failure).state.daemon fs attach
+act_served None s failure fs attach served = served
+act_served (Some row) s failure fs attach served = act_serves s row (acts.acted (next_of row.plan) s row failure) fs attach (acted (next_of row.plan) s row failure) served

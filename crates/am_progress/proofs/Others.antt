@@ -243,7 +243,7 @@ deliver s token bytes = delivered_at (queued_of s.kernel.queue token) s bytes
 
 -- whether the event is an act
 abbrev is_act : Event → Bool
-is_act (events.Act job ok) = true
+is_act (events.Act job failure) = true
 is_act _ = false
 
 leaves : (s : State) (event : Event) → is_act event ≡ false → Leaves s (outcome_of s event)
@@ -267,10 +267,10 @@ leaves s (events.Timeout attach fs timeout) no_act = set_timeout s attach fs tim
 leaves s events.Die no_act = die s
 leaves s (events.Reattach fs) no_act = reattach s fs
 leaves s (events.Record trigger) no_act = read_record s trigger
-leaves s (events.Act job ok) no_act = absurd cc
+leaves s (events.Act job failure) no_act = absurd cc
 
 outcome_jobs : (s : State) (event : Event) (number : ℕ) (row : JobPlan) → is_act_of number event ≡ false → job_of s.daemon.jobs number ≡ Some row → job_of (outcome_of s event).state.daemon.jobs number ≡ Some row
-outcome_jobs s (events.Act other ok) number row differs is = act_jobs (job_of s.daemon.jobs other) s other number ok refl differs ∙ is
+outcome_jobs s (events.Act other failure) number row differs is = act_jobs (job_of s.daemon.jobs other) s other number failure refl differs ∙ is
 outcome_jobs s (events.Attach path) number row differs is = (leaves s (events.Attach path) refl).jobs number row is
 outcome_jobs s (events.Mount ns path) number row differs is = (leaves s (events.Mount ns path) refl).jobs number row is
 outcome_jobs s (events.Bind ns source target) number row differs is = (leaves s (events.Bind ns source target) refl).jobs number row is
@@ -293,7 +293,7 @@ outcome_jobs s (events.Reattach fs) number row differs is = (leaves s (events.Re
 outcome_jobs s (events.Record trigger) number row differs is = (leaves s (events.Record trigger) refl).jobs number row is
 
 outcome_serves : (s : State) (event : Event) → AreGiven s.kernel s.daemon → (fs attach : ℕ) → IsServed s.kernel s.daemon fs attach → IsServed (outcome_of s event).state.kernel (outcome_of s event).state.daemon fs attach ⊎ (list_any (ends fs) (outcome_of s event).seen ≡ true)
-outcome_serves s (events.Act other ok) g fs attach served = inl (act_served (job_of s.daemon.jobs other) s ok fs attach served)
+outcome_serves s (events.Act other failure) g fs attach served = inl (act_served (job_of s.daemon.jobs other) s failure fs attach served)
 outcome_serves s (events.Attach path) g fs attach served = (leaves s (events.Attach path) refl).serves g fs attach served
 outcome_serves s (events.Mount ns path) g fs attach served = (leaves s (events.Mount ns path) refl).serves g fs attach served
 outcome_serves s (events.Bind ns source target) g fs attach served = (leaves s (events.Bind ns source target) refl).serves g fs attach served

@@ -3,6 +3,7 @@ use Rattle.std.proofs.Common.{◌≡◌, ◌⊎◌, ℕ, zero, suc, Bool, true, 
 use Rattle.std.specs.Prelude.{⊤, ◌==◌, is_some, if◌then◌else◌}
 use Rattle.std.specs.List.{All}
 use Rattle.std.proofs.lemmas.List.Elements.{All-nil, All-cons, All-head, All-tail, All-push}
+use Rattle.am_names.specs.declared.fail_no.FailNo.TheVariants.{ENOENT}
 use Rattle.am_names.specs.declared.trigger.Trigger.{Trigger}
 use Rattle.am_names.specs.declared.trigger.Status.{Status}
 use Rattle.am_names.specs.declared.trigger.Status.TheVariants.{Ready, Fail}
@@ -16,7 +17,7 @@ use Rattle.am_state.specs.declared.daemon_row.Record.TheVariants.{Mounted}
 use Rattle.am_job.specs.declared.act.Act.{Act}
 use Rattle.am_job.specs.declared.act.Act.TheVariants as act
 use Rattle.am_job.specs.declared.act.Outcome.{Outcome}
-use Rattle.am_job.specs.declared.act.Outcome.TheVariants.{Made, Failed}
+use Rattle.am_job.specs.declared.act.Outcome.TheVariants.{Done, Made, Failed}
 use Rattle.am_job.specs.Plans.{Plan, Ended, Next, next_of, rest_of, reply, book_and_reply, at_directory, after_mount, without_mount, rest_of_mount, mount_entry, after_failed_umount, rest_of_umount, unmounting, plan_for}
 use Rattle.am_daemon.specs.State.{DaemonState, JobPlan}
 use Rattle.am_daemon.specs.Acts.{walked, is_ended, going, finished_in}
@@ -65,18 +66,19 @@ rmdir_own g (Some name) rest e h = ((refl, rw e refl), λ o. h)
 
 after_mount_own : (g : Trigger) (o : Outcome) → AreOwn g (rest_of_mount g o)
 after_mount_own g (Made mount) = book_own g (Some (Mounted mount)) Ready
-after_mount_own g o = rmdir_own g g.name (without_mount g) refl (book_own g None Fail)
+after_mount_own g (Failed error) = rmdir_own g g.name (without_mount g error) refl (book_own g None (Fail error))
+after_mount_own g Done = rmdir_own g g.name (without_mount g ENOENT) refl (book_own g None (Fail ENOENT))
 
 after_umount_own : (g : Trigger) (mount : ℕ) (o : Outcome) → AreOwn g (rest_of_umount g mount o)
-after_umount_own g mount Failed = book_own g (Some (Mounted mount)) Fail
+after_umount_own g mount (Failed error) = book_own g (Some (Mounted mount)) (Fail error)
 after_umount_own g mount o = rmdir_own g g.name (book_and_reply g None Ready) refl (book_own g None Ready)
 
 plan_own : (kind : TokenKind) (g : Trigger) (mounted : Option ℕ) (entry : Option EntryText) → AreOwn g (plan_for kind g mounted entry)
 plan_own Missing g (Some mount) entry = reply_own g Ready
 plan_own Missing g None (Some entry) = mkdir_own g g.name (mount_entry g entry) refl (refl, after_mount_own g)
-plan_own Missing g None None = book_own g None Fail
+plan_own Missing g None None = book_own g None (Fail ENOENT)
 plan_own Expire g (Some mount) entry = (refl, after_umount_own g mount)
-plan_own Expire g None entry = reply_own g Fail
+plan_own Expire g None entry = reply_own g (Fail ENOENT)
 
 -- ---- an unmount is the first act
 
@@ -105,18 +107,19 @@ directory_mounts (Some name) a rest plain h = (plain, λ o. h)
 
 after_mount_mounts : (g : Trigger) (o : Outcome) → MountsAll (rest_of_mount g o)
 after_mount_mounts g (Made mount) = book_mounts g (Some (Mounted mount)) Ready
-after_mount_mounts g o = directory_mounts g.name (act.Rmdir g) (without_mount g) tt (book_mounts g None Fail)
+after_mount_mounts g (Failed error) = directory_mounts g.name (act.Rmdir g) (without_mount g error) tt (book_mounts g None (Fail error))
+after_mount_mounts g Done = directory_mounts g.name (act.Rmdir g) (without_mount g ENOENT) tt (book_mounts g None (Fail ENOENT))
 
 after_umount_mounts : (g : Trigger) (mount : ℕ) (o : Outcome) → MountsAll (rest_of_umount g mount o)
-after_umount_mounts g mount Failed = book_mounts g (Some (Mounted mount)) Fail
+after_umount_mounts g mount (Failed error) = book_mounts g (Some (Mounted mount)) (Fail error)
 after_umount_mounts g mount o = directory_mounts g.name (act.Rmdir g) (book_and_reply g None Ready) tt (book_mounts g None Ready)
 
 plan_umounts : (kind : TokenKind) (g : Trigger) (mounted : Option ℕ) (entry : Option EntryText) → IsWholeUmount g (plan_for kind g mounted entry)
 plan_umounts Missing g (Some mount) entry = inr (reply_mounts Ready)
 plan_umounts Missing g None (Some entry) = inr (directory_mounts g.name (act.Mkdir g) (mount_entry g entry) tt (tt, after_mount_mounts g))
-plan_umounts Missing g None None = inr (book_mounts g None Fail)
+plan_umounts Missing g None None = inr (book_mounts g None (Fail ENOENT))
 plan_umounts Expire g (Some mount) entry = inl (mount, refl)
-plan_umounts Expire g None entry = inr (reply_mounts Fail)
+plan_umounts Expire g None entry = inr (reply_mounts (Fail ENOENT))
 
 rest_mounts : (plan : Plan) (outcome : Outcome) → MountsAll plan → MountsAll (rest_of outcome plan)
 rest_mounts Ended outcome h = tt
@@ -160,20 +163,21 @@ book_acts g entry status = λ o. reply_acts status
 
 after_mount_acts : (g : Trigger) (o : Outcome) → HasActs 3 (rest_of_mount g o)
 after_mount_acts g (Made mount) = more_acts 2 (after_mount g mount) (book_acts g (Some (Mounted mount)) Ready)
-after_mount_acts g o = directory_acts 2 g.name (act.Rmdir g) (without_mount g) (book_acts g None Fail)
+after_mount_acts g (Failed error) = directory_acts 2 g.name (act.Rmdir g) (without_mount g error) (book_acts g None (Fail error))
+after_mount_acts g Done = directory_acts 2 g.name (act.Rmdir g) (without_mount g ENOENT) (book_acts g None (Fail ENOENT))
 
 after_umount_acts : (g : Trigger) (mount : ℕ) (o : Outcome) → HasActs 3 (rest_of_umount g mount o)
-after_umount_acts g mount Failed = more_acts 2 (after_failed_umount g mount) (book_acts g (Some (Mounted mount)) Fail)
+after_umount_acts g mount (Failed error) = more_acts 2 (after_failed_umount g mount error) (book_acts g (Some (Mounted mount)) (Fail error))
 after_umount_acts g mount o = directory_acts 2 g.name (act.Rmdir g) (book_and_reply g None Ready) (book_acts g None Ready)
 
 pub plan_acts : (kind : TokenKind) (g : Trigger) (mounted : Option ℕ) (entry : Option EntryText) → HasActs 5 (plan_for kind g mounted entry)
 plan_acts Missing g (Some mount) entry = more_acts 4 (reply Ready) (more_acts 3 (reply Ready) (more_acts 2 (reply Ready) (more_acts 1 (reply Ready) (reply_acts Ready))))
 plan_acts Missing g None (Some entry) = directory_acts 4 g.name (act.Mkdir g) (mount_entry g entry) (after_mount_acts g)
 plan_acts Missing g None None =
-    let plan = without_mount g in
-    more_acts 4 plan (more_acts 3 plan (more_acts 2 plan (book_acts g None Fail)))
+    let plan = without_mount g ENOENT in
+    more_acts 4 plan (more_acts 3 plan (more_acts 2 plan (book_acts g None (Fail ENOENT))))
 plan_acts Expire g (Some mount) entry = more_acts 4 (unmounting g mount) (after_umount_acts g mount)
-plan_acts Expire g None entry = more_acts 4 (reply Fail) (more_acts 3 (reply Fail) (more_acts 2 (reply Fail) (more_acts 1 (reply Fail) (reply_acts Fail))))
+plan_acts Expire g None entry = let plan = reply (Fail ENOENT) in more_acts 4 plan (more_acts 3 plan (more_acts 2 plan (more_acts 1 plan (reply_acts (Fail ENOENT)))))
 
 -- ---- the jobs
 

@@ -129,7 +129,7 @@ begun_with walked pipe k begin idle meets h = begun_by walked.stop pipe k begin 
 pub walk : (pipe : PipeState) (k : KernelState) (begin : Begin) → AreSites k → Leaves (walks.walk_at pipe k begin)
 walk pipe k begin h =
     where_false (is_busy k begin.walker) _ _ (fails _)
-    (λ free. begun_with (walk_of (scene_of k) begin.ns begin.path) pipe k begin (not_busy k begin.walker free) (walk_sites (scene_of k) begin.ns begin.path) h)
+    (λ free. begun_with (walk_of (scene_of k begin.moment) begin.ns begin.path) pipe k begin (not_busy k begin.walker free) (walk_sites (scene_of k begin.moment) begin.ns begin.path) h)
 
 -- ---- an expiry is asked for
 
@@ -175,26 +175,26 @@ or_failed (Goes begun shown made) k l h = l
 or_failed (Fails e) k l h = nothing k _ h
 
 -- it meets what stood before its wait was collected
-again : (pipe : PipeState) (k base : KernelState) (row : WalkRow) (moment : ℕ) → IsIdle base row.walker → MeetsSites base.triggers (walk_of (scene_of k) row.ns row.path) → AreSites base → Leaves (resumes.again pipe k base row moment)
+again : (pipe : PipeState) (k base : KernelState) (row : WalkRow) (moment : ℕ) → IsIdle base row.walker → MeetsSites base.triggers (walk_of (scene_of k moment) row.ns row.path) → AreSites base → Leaves (resumes.again pipe k base row moment)
 again pipe k base row moment idle meets h =
     let begin = resumes.next_begin row moment in
-    let walked = walk_of (scene_of k) row.ns row.path in
+    let walked = walk_of (scene_of k moment) row.ns row.path in
     either (nat_le resumes.most_begins row.begins) _ _ (nothing base _ h)
     (or_failed (walks.begun_with walked pipe base begin) base (begun_with walked pipe base begin idle meets h) h)
 
 resumed_as : (kind : TokenKind) (status : Status) (pipe : PipeState) (k : KernelState) (wait : WaitRow) (row : WalkRow) (moment : ℕ) → IsSite k.triggers wait.trigger → mount_of k.uses wait.walker ≡ None → row.walker ≡ wait.walker → AreSites k → Leaves (resumes.resumed_as kind status pipe k wait row moment)
-resumed_as Missing Fail pipe k wait row moment own out same h = nothing _ _ (freed_from_sites (IsSite k.triggers) Missing wait moment k own h)
+resumed_as Missing (Fail error) pipe k wait row moment own out same h = nothing _ _ (freed_from_sites (IsSite k.triggers) Missing wait moment k own h)
 resumed_as Missing Ready pipe k wait row moment own out same h =
     let base = resumes.freed_from Missing wait moment k in
-    again pipe k base row moment (subst (IsIdle base) (sym same) (freed_idle Missing wait moment k out)) (walk_sites (scene_of k) row.ns row.path) (freed_from_sites (IsSite k.triggers) Missing wait moment k own h)
+    again pipe k base row moment (subst (IsIdle base) (sym same) (freed_idle Missing wait moment k out)) (walk_sites (scene_of k moment) row.ns row.path) (freed_from_sites (IsSite k.triggers) Missing wait moment k own h)
 resumed_as Expire status pipe k wait row moment own out same h =
     let base = resumes.freed_from Expire wait moment k in
     again pipe k base row moment (subst (IsIdle base) (sym same) (freed_idle Expire wait moment k out))
-    (meets_weaker k.triggers base.triggers (walk_of (scene_of k) row.ns row.path) (λ g h. h) (walk_sites (scene_of k) row.ns row.path)) (freed_from_sites (IsSite k.triggers) Expire wait moment k own h)
+    (meets_weaker k.triggers base.triggers (walk_of (scene_of k moment) row.ns row.path) (λ g h. h) (walk_sites (scene_of k moment) row.ns row.path)) (freed_from_sites (IsSite k.triggers) Expire wait moment k own h)
 
 expired_as : (status : Status) (k : KernelState) → AreSites k → Leaves (resumes.expired_as status k)
 expired_as Ready k h = nothing k _ h
-expired_as Fail k h = nothing k _ h
+expired_as (Fail error) k h = nothing k _ h
 
 told_as : (kind : TokenKind) (status : Status) (k : KernelState) (wait : WaitRow) (moment : ℕ) → IsSite k.triggers wait.trigger → AreSites k → Leaves (resumes.told_as kind status k wait moment)
 told_as Missing status k wait moment own h = fails _

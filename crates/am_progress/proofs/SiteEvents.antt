@@ -4,6 +4,8 @@
 use Rattle.std.proofs.Common.{◌≡◌, ◌≤◌, ℕ, Bool, true, false, List, [], Option, Some, None, refl, arith}
 use Rattle.std.specs.Prelude.{not, is_some, Result, Ok, Err, if◌then◌else◌}
 use Rattle.std.specs.List.{All}
+use Rattle.am_names.specs.declared.fail_no.FailNo.TheVariants.{ENOENT}
+use Rattle.am_names.specs.declared.fail_no.FailNo.{FailNo}
 use Rattle.am_names.specs.declared.errno.Errno.{Errno}
 use Rattle.am_names.specs.declared.errno.Errno.TheVariants as errnos
 use Rattle.am_names.specs.declared.row.Position.{Position}
@@ -250,31 +252,37 @@ mkdir None s row trigger = goes_plainly s row came.Done _ [] (with_directory tri
 mkdir (Some errnos.EEXIST) s row trigger = goes_plainly s row came.Done _ [] s.kernel (itself s.kernel)
 mkdir (Some _) s row trigger = refuses s _
 
-mount_fails : (s : State) (row : JobPlan) → Keeps s (acts.mount_fails s row)
-mount_fails s row = goes_plainly s row came.Failed _ [] s.kernel (itself s.kernel)
+mount_fails : (s : State) (row : JobPlan) (error : FailNo) → Keeps s (acts.mount_fails s row error)
+mount_fails s row error = goes_plainly s row (came.Failed error) _ [] s.kernel (itself s.kernel)
 
 mount_by : (e : Option Errno) (s : State) (row : JobPlan) (trigger : Trigger) → Keeps s (acts.mount_by e s row trigger)
 mount_by None s row trigger = goes_plainly s row (came.Made _) _ _ (with_mount_on trigger s.kernel) (same s.kernel (with_mount_on trigger s.kernel) (λ g h. h) refl refl refl refl)
-mount_by (Some e) s row trigger = mount_fails s row
+mount_by (Some e) s row trigger = mount_fails s row ENOENT
 
-mount_act : (s : State) (row : JobPlan) (trigger : Trigger) (ok : Bool) → Keeps s (acts.mount_act s row trigger ok)
-mount_act s row trigger ok =
-    either s (not (is_current s.kernel trigger.fs row.attach)) _ _ (refuses s _)
-    (either s (not ok) _ _ (mount_fails s row) (mount_by (mount_on_refusal s.kernel row.attach trigger) s row trigger))
+mount_tried : (failure : Option FailNo) (s : State) (row : JobPlan) (trigger : Trigger) → Keeps s (acts.mount_tried failure s row trigger)
+mount_tried (Some error) s row trigger = mount_fails s row error
+mount_tried None s row trigger = mount_by (mount_on_refusal s.kernel row.attach trigger) s row trigger
 
-umount_fails : (s : State) (row : JobPlan) → Keeps s (acts.umount_fails s row)
-umount_fails s row = goes_plainly s row came.Failed _ [] s.kernel (itself s.kernel)
+mount_act : (s : State) (row : JobPlan) (trigger : Trigger) (failure : Option FailNo) → Keeps s (acts.mount_act s row trigger failure)
+mount_act s row trigger failure =
+    either s (not (is_current s.kernel trigger.fs row.attach)) _ _ (refuses s _) (mount_tried failure s row trigger)
+
+umount_fails : (s : State) (row : JobPlan) (error : FailNo) → Keeps s (acts.umount_fails s row error)
+umount_fails s row error = goes_plainly s row (came.Failed error) _ [] s.kernel (itself s.kernel)
 
 umount_by : (e : Option Errno) (s : State) (row : JobPlan) (trigger : Trigger) → Keeps s (acts.umount_by e s row trigger)
 umount_by None s row trigger =
     let made = without_mounts (gone_from s.kernel trigger) s.kernel in
     goes_plainly s row came.Done _ _ made (same s.kernel made (λ g h. h) refl refl refl refl)
-umount_by (Some e) s row trigger = umount_fails s row
+umount_by (Some e) s row trigger = umount_fails s row ENOENT
 
-umount_act : (s : State) (row : JobPlan) (trigger : Trigger) (ok : Bool) → Keeps s (acts.umount_act s row trigger ok)
-umount_act s row trigger ok =
-    either s (not (is_current s.kernel trigger.fs row.attach)) _ _ (refuses s _)
-    (either s (not ok) _ _ (umount_fails s row) (umount_by (umount_from_refusal s.kernel row.attach trigger) s row trigger))
+umount_tried : (failure : Option FailNo) (s : State) (row : JobPlan) (trigger : Trigger) → Keeps s (acts.umount_tried failure s row trigger)
+umount_tried (Some error) s row trigger = umount_fails s row error
+umount_tried None s row trigger = umount_by (umount_from_refusal s.kernel row.attach trigger) s row trigger
+
+umount_act : (s : State) (row : JobPlan) (trigger : Trigger) (failure : Option FailNo) → Keeps s (acts.umount_act s row trigger failure)
+umount_act s row trigger failure =
+    either s (not (is_current s.kernel trigger.fs row.attach)) _ _ (refuses s _) (umount_tried failure s row trigger)
 
 rmdir : (e : Option Errno) (s : State) (row : JobPlan) (trigger : Trigger) → Keeps s (acts.rmdir_by e s row trigger)
 rmdir None s row trigger = goes_plainly s row came.Done _ [] (without_directory trigger s.kernel) (same s.kernel (without_directory trigger s.kernel) (λ g h. h) refl refl refl refl)
@@ -289,18 +297,18 @@ reply : (e : Option Errno) (s : State) (row : JobPlan) (status : Status) → Kee
 reply (Some e) s row status = refuses s e
 reply None s row status = goes_plainly s row came.Done _ _ (acknowledged row.token status s.kernel) (record { keeps = acknowledged_sites (IsSite s.kernel.triggers) row.token status s.kernel })
 
-acted : (next : Option Act) (s : State) (row : JobPlan) (ok : Bool) → Keeps s (acts.acted next s row ok)
-acted None s row ok = refuses s _
-acted (Some (act.Mkdir trigger)) s row ok = mkdir (mkdir_refusal s.kernel row.attach trigger) s row trigger
-acted (Some (act.Mount trigger entry)) s row ok = mount_act s row trigger ok
-acted (Some (act.Umount trigger)) s row ok = umount_act s row trigger ok
-acted (Some (act.Rmdir trigger)) s row ok = rmdir (rmdir_refusal s.kernel row.attach trigger) s row trigger
-acted (Some (act.Record trigger entry)) s row ok = record_act s row trigger entry
-acted (Some (act.Reply status)) s row ok = reply (answer_refusal s.kernel row.attach row.token) s row status
+acted : (next : Option Act) (s : State) (row : JobPlan) (failure : Option FailNo) → Keeps s (acts.acted next s row failure)
+acted None s row failure = refuses s _
+acted (Some (act.Mkdir trigger)) s row failure = mkdir (mkdir_refusal s.kernel row.attach trigger) s row trigger
+acted (Some (act.Mount trigger entry)) s row failure = mount_act s row trigger failure
+acted (Some (act.Umount trigger)) s row failure = umount_act s row trigger failure
+acted (Some (act.Rmdir trigger)) s row failure = rmdir (rmdir_refusal s.kernel row.attach trigger) s row trigger
+acted (Some (act.Record trigger entry)) s row failure = record_act s row trigger entry
+acted (Some (act.Reply status)) s row failure = reply (answer_refusal s.kernel row.attach row.token) s row status
 
-acted_at : (row : Option JobPlan) (s : State) (ok : Bool) → Keeps s (acts.acted_at row s ok)
-acted_at None s ok = refuses s _
-acted_at (Some row) s ok = acted (next_of row.plan) s row ok
+acted_at : (row : Option JobPlan) (s : State) (failure : Option FailNo) → Keeps s (acts.acted_at row s failure)
+acted_at None s failure = refuses s _
+acted_at (Some row) s failure = acted (next_of row.plan) s row failure
 
 -- ---- every event
 
@@ -318,7 +326,7 @@ outcome_keeps s (events.Resume walker now pipe) = goes_on _ s (moment_of s.kerne
 outcome_keeps s (events.Leave walker) = leave s walker
 outcome_keeps s (events.Expire walker fs now immediate pipe) = goes_on _ s (moment_of s.kernel now) (begins.expire pipe s.kernel walker fs (moment_of s.kernel now) immediate)
 outcome_keeps s (events.Deliver token bytes) = deliver s token bytes
-outcome_keeps s (events.Act job ok) = acted_at (job_of s.daemon.jobs job) s ok
+outcome_keeps s (events.Act job failure) = acted_at (job_of s.daemon.jobs job) s failure
 outcome_keeps s (events.Repeat attach token status) = repeat s attach token
 outcome_keeps s (events.Catatonic attach fs) = catatonic s attach fs
 outcome_keeps s (events.AdminCatatonic fs) = admin_catatonic s fs

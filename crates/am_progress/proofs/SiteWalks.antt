@@ -4,6 +4,7 @@ use Rattle.std.specs.Prelude.{◌==◌, is_some, if◌then◌else◌}
 use Rattle.std.specs.Option.{option_map, option_and_then}
 use Rattle.std.specs.List.{All}
 use Rattle.std.proofs.lemmas.List.Elements.{All-nil, All-push, All-weaker}
+use Rattle.am_names.specs.declared.fail_no.FailNo.{FailNo}
 use Rattle.am_names.specs.declared.errno.Errno.TheVariants.{ENOENT, ELOOP}
 use Rattle.am_names.specs.declared.trigger.Trigger.{Trigger}
 use Rattle.am_names.specs.declared.row.OpenToken.{OpenToken}
@@ -19,7 +20,7 @@ use Rattle.am_walk.specs.declared.stop.Next.TheVariants as nexts
 use Rattle.am_walk.specs.declared.stop.Stop.{Stop}
 use Rattle.am_walk.specs.declared.stop.Stop.TheVariants as stops
 use Rattle.am_walk.specs.Scene.{Scene, autofs_at, has_names}
-use Rattle.am_walk.specs.Meet.{if_open, if_mounted, if_entered, at_directory, at_trap, at_trigger, at_plain, at_autofs, at_site, next_at}
+use Rattle.am_walk.specs.Meet.{if_open, if_mounted, if_failing, if_entered, at_directory, at_trap, at_trigger, at_plain, at_autofs, at_site, next_at}
 use Rattle.am_walk.specs.Walks.{Visit, Stands, Stops, followed, settled_within, settled, onward, after, visit_from, visit_of, Walked, ended, walk_of}
 use Rattle.am_kernel.specs.Previews.{is_trigger_of}
 use Rattle.am_laws.proofs.Packets.{nat_is}
@@ -81,6 +82,10 @@ mounted_site : (t : TriggerRows) (trigger : Trigger) (o : Option ℕ) (others : 
 mounted_site t trigger (Some mount) others own h = own
 mounted_site t trigger None others own h = h
 
+failing_site : (t : TriggerRows) (error : Option FailNo) (others : Next) → IsSiteNext t others → IsSiteNext t (if_failing error others)
+failing_site t (Some error) others h = tt
+failing_site t None others h = h
+
 entered_site : (t : TriggerRows) (o : Option ℕ) (others : Next) → IsSiteNext t others → IsSiteNext t (if_entered o others)
 entered_site t (Some mount) others h = tt
 entered_site t None others h = h
@@ -99,7 +104,8 @@ module _ (scene : Scene) where
       (open_site scene.triggers (open_on tokens Missing trigger) _
       (mounted_site scene.triggers trigger (top_of scene.mounts mount place) _ own
       (either_site scene.triggers row.catatonic (at_directory scene row trigger) _ (directory_site row trigger)
-      (either_site scene.triggers (is_some (top_of scene.mounts row.location (place_of trigger))) (nexts.Halts (stops.Refuse ELOOP)) (nexts.Halts (stops.Missing trigger)) tt own))))
+      (either_site scene.triggers (is_some (top_of scene.mounts row.location (place_of trigger))) (nexts.Halts (stops.Refuse ELOOP)) _ tt
+      (failing_site scene.triggers (scene.failing trigger) (nexts.Halts (stops.Missing trigger)) own)))))
 
   trigger_site : (tokens : Option (List OpenToken)) (row : Autofs) (trigger : Trigger) (mount : ℕ) (place : List (List ℕ)) → IsSite scene.triggers trigger → IsSiteNext scene.triggers (at_trigger tokens scene row trigger mount place)
   trigger_site (Some tokens) row trigger mount place own = trap_site tokens row trigger mount place own

@@ -1,6 +1,7 @@
 -- Each open token of a file system that the daemon serves can be closed by the daemon alone.
-use Rattle.std.proofs.Common.{◌≡◌, ℕ, zero, suc, Bool, true, false, cond, List, [], ◌∷◌, map, Some, None, refl, sym, ap, subst, inl, inr, ⊎_elim, ◌∙◌}
+use Rattle.std.proofs.Common.{◌≡◌, ℕ, zero, suc, Bool, true, false, cond, List, [], ◌∷◌, map, Some, None, refl, sym, ap, subst, inl, inr, ⊎_elim, ◌∙◌, Option}
 use Rattle.std.specs.Prelude.{◌==◌, if◌then◌else◌}
+use Rattle.am_names.specs.declared.fail_no.FailNo.{FailNo}
 use Rattle.am_names.specs.declared.trigger.Status.{Status}
 use Rattle.am_names.specs.declared.row.OpenToken.{OpenToken}
 use Rattle.am_names.specs.declared.row.WaitRow.{WaitRow}
@@ -50,9 +51,9 @@ use Rattle.am_progress.proofs.Worlds.{IsWorld, next_world, after_runs}
 pub told_done : (a : Act) (outcome : outcomes.Outcome) (answer : Answer) → TellsOf a outcome answer → is_refused answer ≡ false
 told_done (act.Mkdir t) outcome answer h = ap is_refused h.1
 told_done (act.Mount t entry) outcome answer (inl h) = ap is_refused h.2
-told_done (act.Mount t entry) outcome answer (inr h) = ap is_refused h.1
+told_done (act.Mount t entry) outcome answer (inr h) = ap is_refused h.2
 told_done (act.Umount t) outcome answer (inl h) = ap is_refused h.1
-told_done (act.Umount t) outcome answer (inr h) = ap is_refused h.1
+told_done (act.Umount t) outcome answer (inr h) = ap is_refused h.2
 told_done (act.Rmdir t) outcome answer h = ap is_refused h.1
 told_done (act.Record t entry) outcome answer h = ap is_refused h.1
 told_done (act.Reply status) outcome answer h = ap is_refused h.1
@@ -69,34 +70,34 @@ pub record Served (s : State) (fs attach token : ℕ) (row : JobPlan) (w : WaitR
 pub served_acts : (s : State) (fs attach token : ℕ) (row : JobPlan) (w : WaitRows) → Served s fs attach token row w → Acting s token row
 served_acts s fs attach token row w h = acting s h.world fs attach h.served token row h.is_job h.fs_is h.attach_is
 
-module _ (s : State) (fs attach token : ℕ) (row : JobPlan) (w : WaitRows) (h : Served s fs attach token row w) (ok : Bool) (a : Act) (e : next_of row.plan ≡ Some a) where
+module _ (s : State) (fs attach token : ℕ) (row : JobPlan) (w : WaitRows) (h : Served s fs attach token row w) (failure : Option FailNo) (a : Act) (e : next_of row.plan ≡ Some a) where
   -- what it does
-  pub its_act : Does s row a (outcome_of s (events.Act token ok))
-  its_act = does s token row ok a (served_acts s fs attach token row w h) e
+  pub its_act : Does s row a (outcome_of s (events.Act token failure))
+  its_act = does s token row failure a (served_acts s fs attach token row w h) e
 
-  pub act_done : IsDone s (events.Act token ok)
+  pub act_done : IsDone s (events.Act token failure)
   act_done = ap (λ (o : Outcome). is_refused o.answer) its_act.is ∙ told_done a its_act.came its_act.answer its_act.told
 
-  pub act_world : IsWorld (next s (events.Act token ok))
-  act_world = next_world s (events.Act token ok) tt h.world
+  pub act_world : IsWorld (next s (events.Act token failure))
+  act_world = next_world s (events.Act token failure) tt h.world
 
-  pub act_served : IsServed (next s (events.Act token ok)).kernel (next s (events.Act token ok)).daemon fs attach
+  pub act_served : IsServed (next s (events.Act token failure)).kernel (next s (events.Act token failure)).daemon fs attach
   act_served =
       subst (λ (o : Outcome). IsServed (after s o).kernel (after s o).daemon fs attach) (sym its_act.is)
       (record { current = its_act.attaches fs ∙ h.served.current; held = h.served.held })
 
-  pub act_waits : (next s (events.Act token ok)).kernel.waits ≡ waits_after a token w
+  pub act_waits : (next s (events.Act token failure)).kernel.waits ≡ waits_after a token w
   act_waits =
       subst (λ (o : Outcome). (after s o).kernel.waits ≡ waits_after a token w) (sym its_act.is)
       (its_act.waits ∙ ap (λ (n : ℕ). waits_after a n s.kernel.waits) (job_number s token row (served_acts s fs attach token row w h)) ∙ ap (waits_after a token) h.waits)
 
-  pub act_left : job_of (next s (events.Act token ok)).daemon.jobs token ≡ goes_on_as its_act.came row
+  pub act_left : job_of (next s (events.Act token failure)).daemon.jobs token ≡ goes_on_as its_act.came row
   act_left =
       subst (λ (o : Outcome). job_of (after s o).daemon.jobs token ≡ goes_on_as its_act.came row) (sym its_act.is)
       (goes_left s token row its_act.came (served_acts s fs attach token row w h))
 
   -- where it isn't the reply the job goes on
-  pub act_goes : acknowledges a ≡ false → waits_after a token w ≡ w → Served (next s (events.Act token ok)) fs attach token (walked its_act.came row) w
+  pub act_goes : acknowledges a ≡ false → waits_after a token w ≡ w → Served (next s (events.Act token failure)) fs attach token (walked its_act.came row) w
   act_goes more same = record {
     world = act_world;
     served = act_served;
@@ -155,36 +156,36 @@ module _ (old : State) (fs attach token : ℕ) where
   fewer (suc most) Ended outcome few = tt
   fewer most (Next a rest) outcome few = few outcome
 
-  by_act : (most : ℕ) (s : State) (row : JobPlan) (h : Served s fs attach token row old.kernel.waits) (ok : Bool) (a : Act) → next_of row.plan ≡ Some a → HasActs (suc most) row.plan →
-      ((new : State) (left : JobPlan) → Served new fs attach token left old.kernel.waits → HasActs most left.plan → LeadsTo most token (Answers old token) new) → LeadsTo most token (Answers old token) (next s (events.Act token ok))
-  by_act most s row h ok (act.Mkdir t) e few later =
-      let d = its_act s fs attach token row old.kernel.waits h ok (act.Mkdir t) e in
-      later _ (walked d.came row) (act_goes s fs attach token row old.kernel.waits h ok (act.Mkdir t) e refl refl) (fewer most row.plan d.came few)
-  by_act most s row h ok (act.Mount t entry) e few later =
-      let d = its_act s fs attach token row old.kernel.waits h ok (act.Mount t entry) e in
-      later _ (walked d.came row) (act_goes s fs attach token row old.kernel.waits h ok (act.Mount t entry) e refl refl) (fewer most row.plan d.came few)
-  by_act most s row h ok (act.Umount t) e few later =
-      let d = its_act s fs attach token row old.kernel.waits h ok (act.Umount t) e in
-      later _ (walked d.came row) (act_goes s fs attach token row old.kernel.waits h ok (act.Umount t) e refl refl) (fewer most row.plan d.came few)
-  by_act most s row h ok (act.Rmdir t) e few later =
-      let d = its_act s fs attach token row old.kernel.waits h ok (act.Rmdir t) e in
-      later _ (walked d.came row) (act_goes s fs attach token row old.kernel.waits h ok (act.Rmdir t) e refl refl) (fewer most row.plan d.came few)
-  by_act most s row h ok (act.Record t entry) e few later =
-      let d = its_act s fs attach token row old.kernel.waits h ok (act.Record t entry) e in
-      later _ (walked d.came row) (act_goes s fs attach token row old.kernel.waits h ok (act.Record t entry) e refl refl) (fewer most row.plan d.came few)
-  by_act most s row h ok (act.Reply status) e few later =
-      let there = next s (events.Act token ok) in
+  by_act : (most : ℕ) (s : State) (row : JobPlan) (h : Served s fs attach token row old.kernel.waits) (failure : Option FailNo) (a : Act) → next_of row.plan ≡ Some a → HasActs (suc most) row.plan →
+      ((new : State) (left : JobPlan) → Served new fs attach token left old.kernel.waits → HasActs most left.plan → LeadsTo most token (Answers old token) new) → LeadsTo most token (Answers old token) (next s (events.Act token failure))
+  by_act most s row h failure (act.Mkdir t) e few later =
+      let d = its_act s fs attach token row old.kernel.waits h failure (act.Mkdir t) e in
+      later _ (walked d.came row) (act_goes s fs attach token row old.kernel.waits h failure (act.Mkdir t) e refl refl) (fewer most row.plan d.came few)
+  by_act most s row h failure (act.Mount t entry) e few later =
+      let d = its_act s fs attach token row old.kernel.waits h failure (act.Mount t entry) e in
+      later _ (walked d.came row) (act_goes s fs attach token row old.kernel.waits h failure (act.Mount t entry) e refl refl) (fewer most row.plan d.came few)
+  by_act most s row h failure (act.Umount t) e few later =
+      let d = its_act s fs attach token row old.kernel.waits h failure (act.Umount t) e in
+      later _ (walked d.came row) (act_goes s fs attach token row old.kernel.waits h failure (act.Umount t) e refl refl) (fewer most row.plan d.came few)
+  by_act most s row h failure (act.Rmdir t) e few later =
+      let d = its_act s fs attach token row old.kernel.waits h failure (act.Rmdir t) e in
+      later _ (walked d.came row) (act_goes s fs attach token row old.kernel.waits h failure (act.Rmdir t) e refl refl) (fewer most row.plan d.came few)
+  by_act most s row h failure (act.Record t entry) e few later =
+      let d = its_act s fs attach token row old.kernel.waits h failure (act.Record t entry) e in
+      later _ (walked d.came row) (act_goes s fs attach token row old.kernel.waits h failure (act.Record t entry) e refl refl) (fewer most row.plan d.came few)
+  by_act most s row h failure (act.Reply status) e few later =
+      let there = next s (events.Act token failure) in
       arrived most token (Answers old token) there (record {
-        answered = answers_all old token status there (act_waits s fs attach token row old.kernel.waits h ok (act.Reply status) e);
-        world = act_world s fs attach token row old.kernel.waits h ok (act.Reply status) e;
+        answered = answers_all old token status there (act_waits s fs attach token row old.kernel.waits h failure (act.Reply status) e);
+        world = act_world s fs attach token row old.kernel.waits h failure (act.Reply status) e;
       })
 
   closes : (most : ℕ) (s : State) (row : JobPlan) → Served s fs attach token row old.kernel.waits → HasActs most row.plan → LeadsTo most token (Answers old token) s
   closes zero s row h few = absurd (no_act s row h few)
   closes (suc most) s row h few =
-      inr (λ ok.
+      inr (λ failure.
       let coming = next_is row.plan (its_plan s token row (served_acts s fs attach token row old.kernel.waits h)).last in
-      (act_done s fs attach token row old.kernel.waits h ok coming.0 coming.1, by_act most s row h ok coming.0 coming.1 few (λ new left. closes most new left)))
+      (act_done s fs attach token row old.kernel.waits h failure coming.0 coming.1, by_act most s row h failure coming.0 coming.1 few (λ new left. closes most new left)))
 
 -- ---- and so does the daemon
 

@@ -11,6 +11,8 @@ use Rattle.am_names.specs.declared.row.OpenToken.{OpenToken}
 use Rattle.am_names.specs.declared.row.TokenKind.{TokenKind}
 use Rattle.am_names.specs.declared.row.TokenKind.TheVariants.{Missing, Expire}
 use Rattle.am_mount.specs.Rows.{top_of}
+use Rattle.am_trigger.specs.declared.failures.Failure.{Failure}
+use Rattle.am_trigger.specs.Failures.{FailureRows, failure_of, without_failure, error_while}
 use Rattle.am_trigger.specs.declared.autofs.Autofs.{Autofs}
 use Rattle.am_trigger.specs.Rows.{autofs_of}
 use Rattle.am_trigger.specs.Sites.{trigger_in, place_named, place_of}
@@ -68,14 +70,14 @@ not_catatonic : (a : Autofs) (catatonic : Bool) → a.catatonic ≡ catatonic �
 not_catatonic a true is live = absurd cc
 not_catatonic a false is live = refl
 
-trap_is : (tokens : List OpenToken) (scene : Scene) (a : Autofs) (g : Trigger) → open_on tokens Expire g ≡ None → open_on tokens Missing g ≡ None → top_of scene.mounts a.location (place_of g) ≡ None → a.catatonic ≡ false → at_trap tokens scene a g a.location (place_of g) ≡ nexts.Halts (stops.Missing g)
-trap_is tokens scene a g expire missing free live = rw (expire, missing, free, live) refl
+trap_is : (tokens : List OpenToken) (scene : Scene) (a : Autofs) (g : Trigger) → open_on tokens Expire g ≡ None → open_on tokens Missing g ≡ None → top_of scene.mounts a.location (place_of g) ≡ None → a.catatonic ≡ false → scene.failing g ≡ None → at_trap tokens scene a g a.location (place_of g) ≡ nexts.Halts (stops.Missing g)
+trap_is tokens scene a g expire missing free live well = rw (expire, missing, free, live, well) refl
 
-pub notifies : (s : State) → IsWorld s → (attach : ℕ) (g : Trigger) → attach_of s.kernel g.fs ≡ Some attach → IsSite s.kernel.triggers g → All (λ (r : OpenToken). same_trigger r.trigger g ≡ false) s.kernel.waits.tokens → mounted_on s.kernel g ≡ None →
-    next_at (scene_of s.kernel) (location_of s.kernel g.fs) (place_of g) ≡ nexts.Halts (stops.Missing g)
-notifies s world attach g current site off free =
+pub notifies : (s : State) → IsWorld s → (attach : ℕ) (g : Trigger) → attach_of s.kernel g.fs ≡ Some attach → IsSite s.kernel.triggers g → All (λ (r : OpenToken). same_trigger r.trigger g ≡ false) s.kernel.waits.tokens → mounted_on s.kernel g ≡ None → failure_of s.kernel.failures g ≡ None → (moment : ℕ) →
+    next_at (scene_of s.kernel moment) (location_of s.kernel g.fs) (place_of g) ≡ nexts.Halts (stops.Missing g)
+notifies s world attach g current site off free well moment =
     let k = s.kernel in
-    let scene = scene_of k in
+    let scene = scene_of k moment in
     let its = attached_autofs k g.fs attach current in
     let a = its.0 in
     let is : autofs_of k.triggers g.fs ≡ Some a = its.1 in
@@ -91,3 +93,13 @@ notifies s world attach g current site off free =
     ∙ ap (λ (o : Option Trigger). at_autofs scene a o a.location (place_of g)) trigger
     ∙ trap_is k.waits.tokens scene a g (all_off Expire g k.waits.tokens off) (all_off Missing g k.waits.tokens off)
     (sym (ap (λ (n : ℕ). top_of k.table.rows n (place_of g)) here) ∙ free) (not_catatonic a a.catatonic refl live)
+    (ap (λ (o : Option Failure). option_and_then (error_while moment k.negative) o) well)
+
+-- a trigger at which all was made good
+pub made_good : (g : Trigger) (rows : FailureRows) → failure_of (without_failure g rows) g ≡ None
+made_good g [] = refl
+made_good g (row ∷ rows) = by (same_trigger row.0 g) refl (made_good g rows)
+  where
+    by : (b : Bool) → same_trigger row.0 g ≡ b → failure_of (without_failure g rows) g ≡ None → failure_of (without_failure g (row ∷ rows)) g ≡ None
+    by true e later = rw e later
+    by false e later = rw (e, e) later

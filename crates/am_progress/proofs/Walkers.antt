@@ -1,6 +1,7 @@
 -- Each walker that waits can be brought on.
 use Rattle.std.proofs.Common.{◌≡◌, ℕ, Bool, true, false, cond, List, [], ◌∷◌, map, Option, Some, None, refl, sym, ap, subst, ⊎_elim, ◌∙◌}
 use Rattle.std.specs.Prelude.{⊤, ◌==◌, ◌&&◌, nat_le, is_some, is_none, if◌then◌else◌}
+use Rattle.am_names.specs.declared.fail_no.FailNo.TheVariants.{ENOENT}
 use Rattle.am_names.specs.declared.errno.Errno.{Errno}
 use Rattle.am_names.specs.declared.errno.Errno.TheVariants.{EINVAL, ELOOP}
 use Rattle.am_names.specs.declared.trigger.Trigger.{Trigger}
@@ -75,16 +76,16 @@ either_goes false first second h g = g
 again : (pipe : PipeState) (k base : KernelState) (row : WalkRow) (moment : ℕ) → Goes (resumes.again pipe k base row moment)
 again pipe k base row moment =
     either_goes (nat_le resumes.most_begins row.begins) (resumes.failed ELOOP base) _ tt
-    (or_failed (walks.begun_with (walk_of (scene_of k) row.ns row.path) pipe base (resumes.next_begin row moment)) base)
+    (or_failed (walks.begun_with (walk_of (scene_of k moment) row.ns row.path) pipe base (resumes.next_begin row moment)) base)
 
 resumed_as : (kind : TokenKind) (status : Status) (pipe : PipeState) (k : KernelState) (wait : WaitRow) (row : WalkRow) (moment : ℕ) → Goes (resumes.resumed_as kind status pipe k wait row moment)
-resumed_as Missing Fail pipe k wait row moment = tt
+resumed_as Missing (Fail error) pipe k wait row moment = tt
 resumed_as Missing Ready pipe k wait row moment = again pipe k (resumes.freed_from Missing wait moment k) row moment
 resumed_as Expire status pipe k wait row moment = again pipe k (resumes.freed_from Expire wait moment k) row moment
 
 expired_as : (status : Status) (k : KernelState) → Goes (resumes.expired_as status k)
 expired_as Ready k = tt
-expired_as Fail k = tt
+expired_as (Fail error) k = tt
 
 -- who has no walk asked for an expiry
 told_as : (kind : TokenKind) (status : Status) (k : KernelState) (wait : WaitRow) (moment : ℕ) → (kind ≡ Missing → ⊥) → Goes (resumes.told_as kind status k wait moment)
@@ -167,21 +168,21 @@ catatonic_is s fs attach e =
     ∙ ap (λ (b : Bool). with_kernel answers.Done (if b then walks.closing fs k else []) (if b then closed fs k else k) s) live
 
 failed_by : (walker fs : ℕ) (x row : WaitRow) (rows : List WaitRow) (b : Bool) → row.trigger.fs ≡ fs → row.status ≡ None →
-    (wait_of rows walker ≡ Some row → wait_of (map (failed_row fs) rows) walker ≡ Some (record row { status = Some Fail })) →
-    cond b (Some x) (wait_of rows walker) ≡ Some row → cond b (Some (failed_row fs x)) (wait_of (map (failed_row fs) rows) walker) ≡ Some (record row { status = Some Fail })
+    (wait_of rows walker ≡ Some row → wait_of (map (failed_row fs) rows) walker ≡ Some (record row { status = Some (Fail ENOENT) })) →
+    cond b (Some x) (wait_of rows walker) ≡ Some row → cond b (Some (failed_row fs x)) (wait_of (map (failed_row fs) rows) walker) ≡ Some (record row { status = Some (Fail ENOENT) })
 failed_by walker fs x row rows true on still later e =
     let its : x ≡ row = cc in
     let here : (row.trigger.fs == fs) ≡ true = subst (λ (n : ℕ). (row.trigger.fs == n) ≡ true) on (nat_same row.trigger.fs) in
     ap (λ (r : WaitRow). Some (failed_row fs r)) its
-    ∙ ap (λ (b : Bool). Some (if b && is_none row.status then record row { status = Some Fail } else row)) here
-    ∙ ap (λ (o : Option Status). Some (if is_none o then record row { status = Some Fail } else row)) still
+    ∙ ap (λ (b : Bool). Some (if b && is_none row.status then record row { status = Some (Fail ENOENT) } else row)) here
+    ∙ ap (λ (o : Option Status). Some (if is_none o then record row { status = Some (Fail ENOENT) } else row)) still
 failed_by walker fs x row rows false on still later e = later e
 
-failed_walker : (b : Bool) (x : WaitRow) → (if b then record x { status = Some Fail } else x).walker ≡ x.walker
+failed_walker : (b : Bool) (x : WaitRow) → (if b then record x { status = Some (Fail ENOENT) } else x).walker ≡ x.walker
 failed_walker true x = refl
 failed_walker false x = refl
 
-failed_is : (walker fs : ℕ) (rows : List WaitRow) (row : WaitRow) → wait_of rows walker ≡ Some row → row.trigger.fs ≡ fs → row.status ≡ None → wait_of (map (failed_row fs) rows) walker ≡ Some (record row { status = Some Fail })
+failed_is : (walker fs : ℕ) (rows : List WaitRow) (row : WaitRow) → wait_of rows walker ≡ Some row → row.trigger.fs ≡ fs → row.status ≡ None → wait_of (map (failed_row fs) rows) walker ≡ Some (record row { status = Some (Fail ENOENT) })
 failed_is walker fs [] row e on still = absurd cc
 failed_is walker fs (x ∷ rows) row e on still =
     ap (λ (n : ℕ). cond (n == walker) (Some (failed_row fs x)) (wait_of (map (failed_row fs) rows) walker)) (failed_walker (x.trigger.fs == fs && is_none x.status) x)
@@ -200,8 +201,8 @@ brought_on s world walker row is still =
           (can_answer s world fs attach served row.token w.token w.is_open w.fs);
       is_catatonic = ap (λ (o : Outcome). is_refused o.answer) does;
       by_administrator =
-          resumes_on (next s event) (next_world s event tt world) row.walker (record row { status = Some Fail }) Fail
-          (subst (λ (o : Outcome). wait_of (after s o).kernel.waits.waits row.walker ≡ Some (record row { status = Some Fail })) (sym does) (failed_is row.walker fs s.kernel.waits.waits row own refl still)) refl;
+          resumes_on (next s event) (next_world s event tt world) row.walker (record row { status = Some (Fail ENOENT) }) (Fail ENOENT)
+          (subst (λ (o : Outcome). wait_of (after s o).kernel.waits.waits row.walker ≡ Some (record row { status = Some (Fail ENOENT) })) (sym does) (failed_is row.walker fs s.kernel.waits.waits row own refl still)) refl;
     }
 
 status_by : (P : Type 0) (o : Option Status) → (o ≡ None → ⊥) → ((status : Status) → o ≡ Some status → P) → P

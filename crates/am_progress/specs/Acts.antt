@@ -1,6 +1,7 @@
 -- The next act of a job is done, or it fails; and a job has five acts at most. Since the first is
 -- said of every world, it doesn't matter what others have done since the job's last act.
 use Rattle.std.specs.Prelude.{◌≡◌, ◌⊎◌, ⊤, ℕ, zero, suc, ◌==◌, Bool, false, All, Option, Some, None, if◌then◌else◌}
+use Rattle.am_names.specs.declared.fail_no.FailNo.{FailNo}
 use Rattle.am_wire.specs.declared.packet.Packet.{Packet}
 use Rattle.am_job.specs.declared.act.Act.{Act}
 use Rattle.am_job.specs.declared.act.Act.TheVariants as act
@@ -28,10 +29,10 @@ abbrev pub TellsOf : Act → outcomes.Outcome → Answer → Type 0
 TellsOf (act.Mkdir trigger) came answer = (came ≡ Done) × (answer ≡ answers.DidMkdir)
 TellsOf (act.Mount trigger entry) came answer =
     ((mount : ℕ) × (came ≡ Made mount) × (answer ≡ answers.DidMount mount))
-    ⊎ ((came ≡ Failed) × (answer ≡ answers.FailedMount))
+    ⊎ ((error : FailNo) × (came ≡ Failed error) × (answer ≡ answers.FailedMount))
 TellsOf (act.Umount trigger) came answer =
     ((came ≡ Done) × (answer ≡ answers.DidUmount))
-    ⊎ ((came ≡ Failed) × (answer ≡ answers.FailedUmount))
+    ⊎ ((error : FailNo) × (came ≡ Failed error) × (answer ≡ answers.FailedUmount))
 TellsOf (act.Rmdir trigger) came answer = (came ≡ Done) × (answer ≡ answers.DidRmdir)
 TellsOf (act.Record trigger entry) came answer = (came ≡ Done) × (answer ≡ answers.DidRecord)
 TellsOf (act.Reply status) came answer = (came ≡ Done) × (answer ≡ answers.DidReply)
@@ -51,13 +52,13 @@ pub record IsActed (job : ℕ) (row : JobPlan) (old : DaemonState) (o : Outcome)
   pub others : (other : ℕ) → (other == job) ≡ false →
       job_of o.state.daemon.jobs other ≡ job_of old.jobs other
 
--- so it is of each job under the attachment that the daemon holds, whichever word the event has
+-- so it is of each job under the attachment that the daemon holds, whatever failure the event tells
 abbrev pub JobsCanGoOn : State → Type 0
 JobsCanGoOn s =
     (fs attach : ℕ) → IsServed s.kernel s.daemon fs attach →
     (job : ℕ) (row : JobPlan) → job_of s.daemon.jobs job ≡ Some row →
     row.trigger.fs ≡ fs → row.attach ≡ attach →
-    (ok : Bool) → IsActed job row s.daemon (outcome_of s (events.Act job ok))
+    (failure : Option FailNo) → IsActed job row s.daemon (outcome_of s (events.Act job failure))
 
 abbrev pub NextActsAreNeverRefused : Type 0
 NextActsAreNeverRefused = AfterEachRun JobsCanGoOn

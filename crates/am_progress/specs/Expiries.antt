@@ -1,5 +1,6 @@
 -- What an expiry leaves (autofs.rst, "Mountpoint expiry").
-use Rattle.std.specs.Prelude.{◌≡◌, ◌⊎◌, ℕ, Bool, false, Some, None}
+use Rattle.std.specs.Prelude.{◌≡◌, ◌⊎◌, ℕ, Bool, false, Some, None, Option}
+use Rattle.am_names.specs.declared.fail_no.FailNo.{FailNo}
 use Rattle.am_names.specs.Trigger.{same_trigger}
 use Rattle.am_names.specs.declared.trigger.Trigger.{Trigger}
 use Rattle.am_state.specs.declared.daemon_row.Record.TheVariants.{Mounted}
@@ -36,11 +37,12 @@ pub record IsAsFound (old : State) (token : ℕ) (g : Trigger) (m : ℕ) (new : 
   pub closed : token_of new.kernel.waits.tokens token ≡ None
 
 -- The expiry has come: nothing is mounted on the trigger at the daemon's mount, a walk that comes
--- to it there has the daemon notified, which is still attached, and the token is closed.
+-- to it there, at any moment, has the daemon notified, which is still attached, and the token is
+-- closed.
 pub record IsTrapAgain (attach token : ℕ) (g : Trigger) (new : State) : Type 0 where
   pub free : mounted_on new.kernel g ≡ None
-  pub notifies :
-      next_at (scene_of new.kernel) (location_of new.kernel g.fs) (place_of g)
+  pub notifies : (moment : ℕ) →
+      next_at (scene_of new.kernel moment) (location_of new.kernel g.fs) (place_of g)
       ≡ nexts.Halts (stops.Missing g)
   pub attached : attach_of new.kernel g.fs ≡ Some attach
   pub closed : token_of new.kernel.waits.tokens token ≡ None
@@ -52,11 +54,11 @@ EndsWell s attach token g mount o =
     ((o.answer ≡ answers.FailedUmount) × LeadsTo 2 token (IsAsFound s token g mount) (after s o))
     ⊎ ((o.answer ≡ answers.DidUmount) × LeadsTo 3 token (IsTrapAgain attach token g) (after s o))
 
--- The job is about to unmount what is mounted on its trigger: it ends well, with either word.
+-- The job is about to unmount what is mounted on its trigger: it ends well, whatever failure is told.
 pub record IsExpiry (s : State) (attach token : ℕ) (g : Trigger) : Type 0 where
   pub mount : ℕ
   pub stands : mounted_on s.kernel g ≡ Some mount
-  pub ends : (ok : Bool) → EndsWell s attach token g mount (outcome_of s (events.Act token ok))
+  pub ends : (failure : Option FailNo) → EndsWell s attach token g mount (outcome_of s (events.Act token failure))
 
 -- so it is of each job that is about to unmount, under the attachment that the daemon holds
 abbrev pub ExpiriesEndWell : State → Type 0

@@ -1,8 +1,9 @@
 -- What others do in between takes nothing away: a job keeps what it has left, the daemon serves the
 -- file system until it is seen to lose it, and so each open token can be closed among all that
 -- others do.
-use Rattle.std.specs.Prelude.{◌≡◌, ◌⊎◌, ℕ, zero, suc, ◌==◌, Bool, true, false, is_some, List, Some, None, if◌then◌else◌}
+use Rattle.std.specs.Prelude.{◌≡◌, ◌⊎◌, ℕ, zero, suc, ◌==◌, Bool, true, false, is_some, List, Some, None, if◌then◌else◌, Option}
 use Rattle.std.specs.List.{list_any}
+use Rattle.am_names.specs.declared.fail_no.FailNo.{FailNo}
 use Rattle.am_names.specs.declared.row.OpenToken.{OpenToken}
 use Rattle.am_names.specs.declared.row.WaitRow.{WaitRow}
 use Rattle.am_wait.specs.Rows.{token_of, wait_of}
@@ -24,7 +25,7 @@ use Rattle.am_progress.specs.Runs.{AfterEachRun, IsDone, next}
 
 -- the event is an act of this job
 abbrev pub is_act_of : ℕ → Event → Bool
-is_act_of job (events.Act other ok) = other == job
+is_act_of job (events.Act other failure) = other == job
 is_act_of job _ = false
 
 -- no step but an act of the job itself changes what it has left
@@ -71,10 +72,10 @@ pub record IsClosed (token : ℕ) (s : State) : Type 0 where
       wait_of s.kernel.waits.waits walker ≡ Some row → row.token ≡ token → row.status ≡ None → ⊥
 
 -- the daemon's next event about a token: it takes the packet from the pipe, or its job acts
-abbrev pub event_about : ℕ → Bool → State → Event
-event_about token ok s =
+abbrev pub event_about : ℕ → Option FailNo → State → Event
+event_about token failure s =
     if is_some (queued_of s.kernel.queue token) then events.Deliver token None
-    else events.Act token ok
+    else events.Act token failure
 
 -- So many events of the daemon at most close the token: whatever others have done before the next
 -- one, the token is closed, or that event isn't refused, and those after it close the token.
@@ -84,8 +85,8 @@ ClosesAmong zero fs attach token s =
 ClosesAmong (suc more) fs attach token s =
     (mid : State) → OthersAct fs attach token s mid →
     IsClosed token mid
-    ⊎ ((ok : Bool) → IsDone mid (event_about token ok mid)
-    × ClosesAmong more fs attach token (next mid (event_about token ok mid)))
+    ⊎ ((failure : Option FailNo) → IsDone mid (event_about token failure mid)
+    × ClosesAmong more fs attach token (next mid (event_about token failure mid)))
 
 -- six are enough for each open token of a file system that the daemon serves
 abbrev pub TokensCloseAmong : State → Type 0

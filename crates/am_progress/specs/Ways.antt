@@ -1,5 +1,6 @@
 -- Where the daemon can lead by itself, whichever words stand in its events.
-use Rattle.std.specs.Prelude.{◌⊎◌, ℕ, zero, suc, Bool, None}
+use Rattle.std.specs.Prelude.{◌⊎◌, ℕ, zero, suc, Bool, None, Option}
+use Rattle.am_names.specs.declared.fail_no.FailNo.{FailNo}
 use Rattle.am_machine.specs.declared.event.Event.TheVariants as events
 use Rattle.am_machine.specs.State.{State}
 use Rattle.am_progress.specs.Runs.{IsDone, next}
@@ -10,8 +11,8 @@ abbrev pub LeadsTo : ℕ → ℕ → (State → Type 0) → State → Type 0
 LeadsTo zero job goal s = goal s
 LeadsTo (suc acts) job goal s =
     goal s
-    ⊎ ((ok : Bool) →
-    IsDone s (events.Act job ok) × LeadsTo acts job goal (next s (events.Act job ok)))
+    ⊎ ((failure : Option FailNo) →
+    IsDone s (events.Act job failure) × LeadsTo acts job goal (next s (events.Act job failure)))
 
 -- the packet of the token is taken from the pipe, if it is still there, and then its job acts, so
 -- often at most

@@ -1,6 +1,7 @@
 -- What each role of a run makes: the receipts of the caller that comes back.
-use Rattle.std.specs.Prelude.{◌≡◌, ◌⊎◌, ⊤, ℕ, Bool, true, false, zero, suc, List, [], ◌∷◌, ◌++◌, All, Any, Some}
+use Rattle.std.specs.Prelude.{◌≡◌, ◌⊎◌, ⊤, ℕ, Bool, true, false, zero, suc, List, [], ◌∷◌, ◌++◌, All, Any, Option, Some}
 use Rattle.am_names.specs.declared.errno.Errno.TheVariants.{NoMemory}
+use Rattle.am_names.specs.declared.fail_no.FailNo.{FailNo}
 use Rattle.am_names.specs.declared.trigger.PipeState.TheVariants.{Room}
 use Rattle.am_machine.specs.declared.event.Event.{Event}
 use Rattle.am_machine.specs.declared.event.Event.TheVariants as events
@@ -88,9 +89,9 @@ EndAtRefusal (receipt ∷ rest) = (GoesOn receipt ⊎ (rest ≡ [])) × EndAtRef
 abbrev pub IsDelivery : ℕ × Note → Receipt → Type 0
 IsDelivery taken receipt = IsOf (events.Deliver taken.1.token (Some taken.1.bytes)) receipt
 
--- an act of this job
+-- an act of this job, which may have failed with any number
 abbrev pub IsActOf : ℕ → Receipt → Type 0
-IsActOf job receipt = (ok : Bool) × IsOf (events.Act job ok) receipt
+IsActOf job receipt = (failure : Option FailNo) × IsOf (events.Act job failure) receipt
 
 -- acts of this job, one by one, and none behind one that is refused
 abbrev pub AreActs : ℕ → List Receipt → Type 0

@@ -10,7 +10,7 @@ use crate::workers::{Backend, Gate, daemon_worker};
 use am_machine::{Answer, Event};
 use am_map::{Entry, Map, MapKind};
 use am_master::Master;
-use am_names::{AbsPath, FsId, Limits, Trigger, WalkerId};
+use am_names::{AbsPath, FailNo, FsId, Limits, Seconds, Trigger, WalkerId};
 use am_pipe::{PutEnd, TakeEnd, pipe};
 use am_shared::{Caller, Opened, Shared, gather, share};
 use std::alloc::{AllocError, Global};
@@ -28,6 +28,7 @@ const LIMITS: Limits = Limits {
     mounts: u32::MAX,
     waiters: 65_536,
     tokens: u32::MAX,
+    negative: Seconds(0),
 };
 
 /// An autofs at /auto, and a map in which each key is found.
@@ -47,12 +48,12 @@ impl Gate for Open {
 struct Succeeds;
 
 impl Backend for Succeeds {
-    fn mount(&mut self, _entry: &Entry) -> bool {
-        true
+    fn mount(&mut self, _entry: &Entry) -> Result<(), FailNo> {
+        Ok(())
     }
 
-    fn umount(&mut self, _trigger: &Trigger) -> bool {
-        true
+    fn umount(&mut self, _trigger: &Trigger) -> Result<(), FailNo> {
+        Ok(())
     }
 }
 

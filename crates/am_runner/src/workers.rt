@@ -7,7 +7,7 @@ use crate::calls::{Reply, TRIES, call};
 use am_job::Act;
 use am_machine::Event;
 use am_map::Entry;
-use am_names::{JobId, Trigger};
+use am_names::{FailNo, JobId, Trigger};
 use am_pipe::{Note, TakeEnd};
 use am_shared::{Caller, Opened, Shared};
 use std::alloc::{AllocError, Global};
@@ -21,20 +21,20 @@ pub trait Gate {
     fn pass(&self, call: u32);
 }
 
-/// What mounts and unmounts for a worker, and tells whether that went well. The worker doesn't hold
-/// the lock meanwhile.
+/// What mounts and unmounts for a worker, and tells with which number that failed, if it did. The
+/// worker doesn't hold the lock meanwhile.
 pub trait Backend {
-    fn mount(&mut self, entry: &Entry) -> bool;
+    fn mount(&mut self, entry: &Entry) -> Result<(), FailNo>;
 
-    fn umount(&mut self, trigger: &Trigger) -> bool;
+    fn umount(&mut self, trigger: &Trigger) -> Result<(), FailNo>;
 }
 
-/// Does without the lock what an act asks for.
-fn perform<B: Backend>(backend: &mut B, act: &Act) -> bool {
+/// Does without the lock what an act asks for. Tells the number of its failure, if it failed.
+fn perform<B: Backend>(backend: &mut B, act: &Act) -> Option<FailNo> {
     match act {
-        Act::Mount { entry, .. } => backend.mount(entry),
-        Act::Umount { trigger } => backend.umount(trigger),
-        _ => true,
+        Act::Mount { entry, .. } => backend.mount(entry).err(),
+        Act::Umount { trigger } => backend.umount(trigger).err(),
+        _ => None,
     }
 }
 
@@ -78,8 +78,8 @@ fn act<L: Opened, B: Backend, R: Wait>(
 {
     match next_act(rt, alloc, caller, job) {
         Ok(Some(act)) => {
-            let ok = perform(backend, &act);
-            call(rt, alloc, caller, &Event::Act { job, ok })
+            let failure = perform(backend, &act);
+            call(rt, alloc, caller, &Event::Act { job, failure })
         }
         Ok(None) => Reply::Refused,
         Err(_) => Reply::NoMemory,

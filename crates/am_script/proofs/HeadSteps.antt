@@ -11,11 +11,11 @@ use Rattle.am_script.specs.declared.fault.ScriptFaultKind.TheVariants.{BadSectio
 use Rattle.am_script.specs.Fault.{fault_at}
 use Rattle.am_lines.specs.Words.{words_of}
 use Rattle.am_script.specs.Lines.{is_long, are_skipped}
-use Rattle.am_script.specs.Limits.{limits_read}
+use Rattle.am_script.specs.Limits.{limits_read, negative_read}
 use Rattle.am_script.specs.Sections.{Section, Part, Alone, Whole, Unended, Long, parts_in, part_by, with_line, is_end, are_only, map_name}
-use Rattle.am_script.specs.Head.{Head, Headed, Begins, Ends, Faulty, is_limits, limits_by, master_by, section_read, bad, too_long}
+use Rattle.am_script.specs.Head.{Head, Headed, Begins, Ends, Faulty, is_limits, is_negative, with_negative, limits_by, negative_by, negative_then, master_by, section_read, bad, too_long}
 use Rattle.am_script.specs.HeadLeft.{stage_then, section_then, left_in, head_left}
-use Rattle.am_script.specs.Heading.{HeadSoFar, Taken, GoesOn, EventsBegin, Stops, line_taken, short_taken, words_taken, alone_taken, limits_taken, may_open, closed, mastered, first_open}
+use Rattle.am_script.specs.Heading.{HeadSoFar, Taken, GoesOn, EventsBegin, Stops, line_taken, short_taken, words_taken, alone_taken, limits_taken, negative_taken, events_taken, may_open, closed, mastered, first_open}
 
 -- what follows a line by what it makes of the head
 abbrev pub follows : Taken → ℕ → (HeadSoFar → Headed) → Headed
@@ -51,6 +51,7 @@ section_long first (Some name) text number said = refl
 stage_long : (stage : Stage) (said : Head) (number : ℕ) → stage_then stage said (Long number ∷ []) ≡ too_long number
 stage_long stages.Start said number = refl
 stage_long stages.Limited said number = refl
+stage_long stages.Lasting said number = refl
 stage_long stages.Mastered said number = refl
 
 -- the parts from an open section on begin with it
@@ -79,6 +80,8 @@ opens_as stages.Start first None said number lines = open_parts (OpensAs stages.
 opens_as stages.Start first (Some name) said number lines = open_parts (OpensAs stages.Start first (Some name) said) first (Some name) (λ text long parts. refl) (λ text parts. refl) [] number lines
 opens_as stages.Limited first None said number lines = open_parts (OpensAs stages.Limited first None said) first None (λ text long parts. refl) (λ text parts. refl) [] number lines
 opens_as stages.Limited first (Some name) said number lines = open_parts (OpensAs stages.Limited first (Some name) said) first (Some name) (λ text long parts. refl) (λ text parts. refl) [] number lines
+opens_as stages.Lasting first None said number lines = open_parts (OpensAs stages.Lasting first None said) first None (λ text long parts. refl) (λ text parts. refl) [] number lines
+opens_as stages.Lasting first (Some name) said number lines = open_parts (OpensAs stages.Lasting first (Some name) said) first (Some name) (λ text long parts. refl) (λ text parts. refl) [] number lines
 opens_as stages.Mastered first None said number lines = open_parts (OpensAs stages.Mastered first None said) first None (λ text long parts. refl) (λ text parts. refl) [] number lines
 opens_as stages.Mastered first (Some name) said number lines = open_parts (OpensAs stages.Mastered first (Some name) said) first (Some name) (λ text long parts. refl) (λ text parts. refl) [] number lines
 
@@ -98,13 +101,28 @@ limits_step : (limits : Option Limits) (head : HeadSoFar) (number : ℕ) (lines 
 limits_step (Some limits) head number lines outside = ap (λ (w : Option Section). left_in w (record head { stage = stages.Limited; said = record head.said { limits = limits } }) number lines) (sym outside)
 limits_step None head number lines outside = refl
 
+negative_step : (seconds : Option ℕ) (head : HeadSoFar) (number : ℕ) (lines : List (List ℕ)) → head.within ≡ None →
+    negative_by seconds number head.said (parts_in None number lines) ≡ follows (negative_taken head number seconds) number (λ next. head_left next number lines)
+negative_step (Some seconds) head number lines outside = ap (λ (w : Option Section). left_in w (record head { stage = stages.Lasting; said = with_negative head.said seconds }) number lines) (sym outside)
+negative_step None head number lines outside = refl
+
+-- neither limits nor a section
+later_step : (head : HeadSoFar) (number : ℕ) (words : List (List ℕ)) (lines : List (List ℕ)) → head.within ≡ None →
+    negative_then head.said (Alone number words ∷ parts_in None number lines)
+    ≡ follows (if is_negative words then negative_taken head number (negative_read (drop 1 words)) else events_taken head number words) number (λ next. head_left next number lines)
+later_step head number words lines outside =
+    choose (λ (h : Headed). h) (λ (t : Taken). follows t number (λ next. head_left next number lines)) (is_negative words) _ _ _ _
+    (negative_step (negative_read (drop 1 words)) head number lines outside)
+    (events_step (are_only (codes "events") words) head number _)
+
 alone_step : (stage : Stage) (head : HeadSoFar) (number : ℕ) (words : List (List ℕ)) (lines : List (List ℕ)) → head.within ≡ None →
     stage_then stage head.said (Alone number words ∷ parts_in None number lines) ≡ follows (alone_taken (record head { stage = stage }) number words) number (λ next. head_left next number lines)
 alone_step stages.Start head number words lines outside =
     choose (λ (h : Headed). h) (λ (t : Taken). follows t number (λ next. head_left next number lines)) (is_limits words) _ _ _ _
     (limits_step (limits_read (drop 1 words)) (record head { stage = stages.Start }) number lines outside)
-    (events_step (are_only (codes "events") words) (record head { stage = stages.Start }) number _)
-alone_step stages.Limited head number words lines outside = events_step (are_only (codes "events") words) (record head { stage = stages.Limited }) number _
+    (later_step (record head { stage = stages.Start }) number words lines outside)
+alone_step stages.Limited head number words lines outside = later_step (record head { stage = stages.Limited }) number words lines outside
+alone_step stages.Lasting head number words lines outside = events_step (are_only (codes "events") words) (record head { stage = stages.Lasting }) number _
 alone_step stages.Mastered head number words lines outside = events_step (are_only (codes "events") words) (record head { stage = stages.Mastered }) number _
 
 abbrev opened_by : Bool → Option (List ℕ) → ℕ → Option Section
@@ -148,6 +166,7 @@ head_step head before line lines = left_step head.within head before line lines 
 stage_ends : (stage : Stage) (said : Head) → stage_then stage said [] ≡ Ends None
 stage_ends stages.Start said = refl
 stage_ends stages.Limited said = refl
+stage_ends stages.Lasting said = refl
 stage_ends stages.Mastered said = refl
 
 open_ends : (first : ℕ) (name : Option (List ℕ)) (text : List ℕ) (said : Head) →

@@ -1,8 +1,9 @@
--- A line that has another number of words is no event.
+-- A line that has another number of words is no event, and says not how long failures last.
 use Rattle.std.proofs.Common.{◌≡◌, ℕ, false, List, [], ◌∷◌, None, refl}
+use Rattle.am_script.specs.Limits.{negative_read}
 use Rattle.am_script.specs.LineWords.{is_one, are_two, are_three, are_five}
 use Rattle.am_script.specs.WalkerLines.{walk_read, resume_read, leave_read, expire_read}
-use Rattle.am_script.specs.DaemonLines.{attach_read, act_read, repeat_read, catatonic_read, timeout_read, reattach_read, record_read}
+use Rattle.am_script.specs.DaemonLines.{attach_read, repeat_read, catatonic_read, timeout_read, reattach_read, record_read}
 use Rattle.am_script.specs.AdministratorLines.{mount_read, bind_read, umount_read, change_line_read, kind_read, nsdrop_read, admincat_read}
 
 pub no_walk : (words : List (List ℕ)) → are_five words ≡ false → walk_read words ≡ None
@@ -39,12 +40,6 @@ pub no_attach : (words : List (List ℕ)) → is_one words ≡ false → attach_
 no_attach [] h = refl
 no_attach (a ∷ []) h = absurd cc
 no_attach (a ∷ b ∷ words) h = refl
-
-pub no_act : (words : List (List ℕ)) → are_two words ≡ false → act_read words ≡ None
-no_act [] h = refl
-no_act (a ∷ []) h = refl
-no_act (a ∷ b ∷ []) h = absurd cc
-no_act (a ∷ b ∷ c ∷ words) h = refl
 
 pub no_repeat : (words : List (List ℕ)) → are_three words ≡ false → repeat_read words ≡ None
 no_repeat [] h = refl
@@ -118,3 +113,8 @@ pub no_admincat : (words : List (List ℕ)) → is_one words ≡ false → admin
 no_admincat [] h = refl
 no_admincat (a ∷ []) h = absurd cc
 no_admincat (a ∷ b ∷ words) h = refl
+
+pub no_negative : (words : List (List ℕ)) → is_one words ≡ false → negative_read words ≡ None
+no_negative [] h = refl
+no_negative (a ∷ []) h = absurd cc
+no_negative (a ∷ b ∷ words) h = refl

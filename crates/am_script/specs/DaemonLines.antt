@@ -1,7 +1,8 @@
 -- The lines of what the daemon does.
-use Rattle.std.specs.Prelude.{ℕ, Bool, List, [], ◌∷◌, codes, bytes_eq, Option, None, Some, option_map, if◌then◌else◌}
+use Rattle.std.specs.Prelude.{ℕ, List, [], ◌∷◌, codes, bytes_eq, Option, None, Some, option_map, if◌then◌else◌}
 use Rattle.std.specs.Result.{result_ok}
 use Rattle.am_names.specs.Path.{path_read}
+use Rattle.am_names.specs.declared.fail_no.FailNo.{FailNo}
 use Rattle.am_names.specs.declared.trigger.Status.{Status}
 use Rattle.am_machine.specs.declared.event.Event.{Event}
 use Rattle.am_machine.specs.declared.event.Event.TheVariants as events
@@ -27,14 +28,14 @@ deliver_read (token ∷ []) = option_map (λ t. events.Deliver t None) (u32_read
 deliver_read (token ∷ digits ∷ []) = deliver_of (u32_read token) (packet_read digits)
 deliver_read words = None
 
-abbrev pub act_of : Option ℕ → Option Bool → Option Event
-act_of (Some job) (Some ok) = Some (events.Act job ok)
-act_of job ok = None
+abbrev pub act_of : Option ℕ → Option (Option FailNo) → Option Event
+act_of (Some job) (Some failure) = Some (events.Act job failure)
+act_of job failure = None
 
--- `act JOB ok`, `act JOB fail`
+-- `act JOB ok`, `act JOB fail`, `act JOB fail N`
 abbrev pub act_read : List (List ℕ) → Option Event
-act_read (job ∷ outcome ∷ []) = act_of (u32_read job) (outcome_read outcome)
-act_read words = None
+act_read (job ∷ outcome) = act_of (u32_read job) (outcome_read outcome)
+act_read [] = None
 
 abbrev pub repeat_of : Option ℕ → Option ℕ → Option Status → Option Event
 repeat_of (Some attach) (Some token) (Some status) = Some (events.Repeat attach token status)

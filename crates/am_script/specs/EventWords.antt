@@ -1,8 +1,12 @@
--- The words of event lines that are neither numbers nor paths.
-use Rattle.std.specs.Prelude.{ℕ, Bool, true, false, List, codes, bytes_eq, Option, None, Some, option_map, if◌then◌else◌}
+-- The words of event lines that are neither plain numbers nor paths.
+use Rattle.std.specs.Prelude.{ℕ, Bool, true, false, List, [], ◌∷◌, codes, bytes_eq, Option, None, Some, option_map, if◌then◌else◌}
+use Rattle.std.specs.Option.{option_and_then}
 use Rattle.std.specs.Result.{result_ok}
 use Rattle.hex.specs.Hex.{decode_sized}
 use Rattle.am_names.specs.Name.{name_read}
+use Rattle.am_names.specs.FailNo.{fail_no_numbered}
+use Rattle.am_names.specs.declared.fail_no.FailNo.{FailNo}
+use Rattle.am_names.specs.declared.fail_no.FailNo.TheVariants.{ENOENT}
 use Rattle.am_names.specs.declared.trigger.PipeState.{PipeState}
 use Rattle.am_names.specs.declared.trigger.PipeState.TheVariants.{Room, Full, Gone}
 use Rattle.am_names.specs.declared.trigger.Status.{Status}
@@ -11,6 +15,7 @@ use Rattle.am_group.specs.declared.kind.Change.{Change}
 use Rattle.am_group.specs.declared.kind.Change.TheVariants.{MakeShared, MakeSlave, MakePrivate, MakeUnbindable}
 use Rattle.am_propagate.specs.declared.subtree.namespace.CopyForm.{CopyForm}
 use Rattle.am_propagate.specs.declared.subtree.namespace.CopyForm.TheVariants as forms
+use Rattle.am_script.specs.Numbers.{u8_read}
 
 -- what the kernel meets at the pipe: `room`, `full` or `gone`
 abbrev pub pipe_read : List ℕ → Option PipeState
@@ -40,18 +45,29 @@ immediate_read word =
     else if bytes_eq word (codes "immediate") then Some true
     else None
 
--- whether an act is made: `ok` or `fail`
-abbrev pub outcome_read : List ℕ → Option Bool
-outcome_read word =
-    if bytes_eq word (codes "ok") then Some true
-    else if bytes_eq word (codes "fail") then Some false
+-- the error of a failure, by its number from 1 to 9
+abbrev pub failure_read : List ℕ → Option FailNo
+failure_read digits = option_and_then fail_no_numbered (u8_read digits)
+
+-- how an act goes, in one word: `ok`, or `fail`, which is with the first error
+abbrev pub outcome_word_read : List ℕ → Option (Option FailNo)
+outcome_word_read word =
+    if bytes_eq word (codes "ok") then Some None
+    else if bytes_eq word (codes "fail") then Some (Some ENOENT)
     else None
 
--- how a notification is acknowledged: `ready` or `fail`
+-- how an act goes: `ok`, `fail`, or `fail N` with the error of this number
+abbrev pub outcome_read : List (List ℕ) → Option (Option FailNo)
+outcome_read (word ∷ []) = outcome_word_read word
+outcome_read (word ∷ digits ∷ []) =
+    if bytes_eq word (codes "fail") then option_map Some (failure_read digits) else None
+outcome_read words = None
+
+-- how a notification is acknowledged: `ready`, or `fail`, which is with the first error
 abbrev pub status_read : List ℕ → Option Status
 status_read word =
     if bytes_eq word (codes "ready") then Some Ready
-    else if bytes_eq word (codes "fail") then Some Fail
+    else if bytes_eq word (codes "fail") then Some (Fail ENOENT)
     else None
 
 -- the name of a trigger, `-` for a direct one

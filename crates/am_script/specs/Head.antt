@@ -1,5 +1,5 @@
--- What the head of a script says: limits if wanted, a master section if wanted, any number of map
--- sections, and the line `events`.
+-- What the head of a script says: limits if wanted, how long failures last if wanted, a master
+-- section if wanted, any number of map sections, and the line `events`.
 use Rattle.std.specs.Prelude.{ℕ, Bool, false, is_some, List, [], ◌∷◌, ◌++◌, codes, bytes_eq, drop, Option, None, Some, Result, Ok, Err, if◌then◌else◌}
 use Rattle.am_names.specs.declared.limits.Limits.{Limits}
 use Rattle.am_master.specs.declared.fault.MasterFault.{MasterFault}
@@ -8,7 +8,7 @@ use Rattle.am_master.specs.MasterRow.{MasterRow}
 use Rattle.am_script.specs.declared.fault.ScriptFault.{ScriptFault}
 use Rattle.am_script.specs.declared.fault.ScriptFaultKind.TheVariants.{BadSection, BadLimits, BadMaster, LongLine}
 use Rattle.am_script.specs.Fault.{fault_at, fault_in}
-use Rattle.am_script.specs.Limits.{default_limits, limits_read}
+use Rattle.am_script.specs.Limits.{default_limits, limits_read, negative_read}
 use Rattle.am_script.specs.Sections.{Section, Part, Alone, Whole, Unended, Long, are_only}
 
 -- the master section: the number of its first line, and the rows of its text
@@ -85,20 +85,40 @@ master_then head (Whole section ∷ parts) =
     if is_map section then maps_then head (Whole section ∷ parts)
     else master_by (section_read section) section.first head parts
 
+abbrev pub is_negative : List (List ℕ) → Bool
+is_negative [] = false
+is_negative (word ∷ words) = bytes_eq word (codes "negative")
+
+-- a failure lasts for so many seconds
+abbrev pub with_negative : Head → ℕ → Head
+with_negative head seconds = record head { limits = record head.limits { negative = seconds } }
+
+abbrev pub negative_by : Option ℕ → ℕ → Head → List Part → Headed
+negative_by (Some seconds) number head parts = master_then (with_negative head seconds) parts
+negative_by None number head parts = Faulty (fault_at number BadLimits)
+
+-- how long failures last if that comes next, and what may follow it:
+-- own (docs/DECISIONS.md, "A failure has a number, and may last")
+abbrev pub negative_then : Head → List Part → Headed
+negative_then head (Alone number words ∷ parts) =
+    if is_negative words then negative_by (negative_read (drop 1 words)) number head parts
+    else master_then head (Alone number words ∷ parts)
+negative_then head parts = master_then head parts
+
 abbrev pub is_limits : List (List ℕ) → Bool
 is_limits [] = false
 is_limits (word ∷ words) = bytes_eq word (codes "limits")
 
 abbrev pub limits_by : Option Limits → ℕ → Head → List Part → Headed
-limits_by (Some limits) number head parts = master_then (record head { limits = limits }) parts
+limits_by (Some limits) number head parts = negative_then (record head { limits = limits }) parts
 limits_by None number head parts = Faulty (fault_at number BadLimits)
 
 -- limits if they come first, and what may follow them
 abbrev pub limits_then : Head → List Part → Headed
 limits_then head (Alone number words ∷ parts) =
     if is_limits words then limits_by (limits_read (drop 1 words)) number head parts
-    else master_then head (Alone number words ∷ parts)
-limits_then head parts = master_then head parts
+    else negative_then head (Alone number words ∷ parts)
+limits_then head parts = negative_then head parts
 
 -- how the head of a script goes that has these parts
 abbrev pub head_of : List Part → Headed

@@ -3,13 +3,14 @@ use Rattle.std.specs.Prelude.{◌≡◌, ℕ, ◌+◌, List, length, drop, Optio
 use Rattle.am_script.specs.declared.heading.Stage.{Stage}
 use Rattle.am_script.specs.declared.heading.Stage.TheVariants as stages
 use Rattle.am_script.specs.Sections.{Section, Part, parts_in, parts_of_lines}
-use Rattle.am_script.specs.Head.{Head, Headed, is_map, head_of, limits_then, master_then, maps_then}
+use Rattle.am_script.specs.Head.{Head, Headed, is_map, head_of, limits_then, negative_then, master_then, maps_then}
 use Rattle.am_script.specs.Heading.{HeadSoFar}
 
 -- what a head goes on as that has said this, outside of sections
 abbrev pub stage_then : Stage → Head → List Part → Headed
 stage_then stages.Start said parts = limits_then said parts
-stage_then stages.Limited said parts = master_then said parts
+stage_then stages.Limited said parts = negative_then said parts
+stage_then stages.Lasting said parts = master_then said parts
 stage_then stages.Mastered said parts = maps_then said parts
 
 -- the same in a section

@@ -9,9 +9,9 @@ use Rattle.am_script.specs.declared.heading.Stage.TheVariants as stages
 use Rattle.am_script.specs.Fault.{fault_at}
 use Rattle.am_lines.specs.Words.{words_of}
 use Rattle.am_script.specs.Lines.{is_long, are_skipped}
-use Rattle.am_script.specs.Limits.{limits_read}
+use Rattle.am_script.specs.Limits.{limits_read, negative_read}
 use Rattle.am_script.specs.Sections.{Section, section_opened, with_line, is_end, are_only}
-use Rattle.am_script.specs.Head.{Head, no_head, is_map, is_limits, with_map, with_master, section_read}
+use Rattle.am_script.specs.Head.{Head, no_head, is_map, is_limits, is_negative, with_map, with_negative, with_master, section_read}
 
 -- what the lines so far have said, and the section that they are in
 pub record HeadSoFar : Type 0 where
@@ -64,6 +64,23 @@ opened head section =
 abbrev pub events_taken : HeadSoFar → ℕ → List (List ℕ) → Taken
 events_taken head number words = if are_only (codes "events") words then EventsBegin head else bad_section number
 
+abbrev pub negative_taken : HeadSoFar → ℕ → Option ℕ → Taken
+negative_taken head number (Some seconds) =
+    GoesOn (record head { stage = stages.Lasting; said = with_negative head.said seconds })
+negative_taken head number None = Stops (fault_at number BadLimits)
+
+-- how long failures last isn't said yet, and may still be
+abbrev pub is_early : Stage → Bool
+is_early stages.Start = true
+is_early stages.Limited = true
+is_early stage = false
+
+-- how long failures last, or `events`
+abbrev pub later_taken : HeadSoFar → ℕ → List (List ℕ) → Taken
+later_taken head number words =
+    if is_early head.stage && is_negative words then negative_taken head number (negative_read (drop 1 words))
+    else events_taken head number words
+
 abbrev pub limits_taken : HeadSoFar → ℕ → Option Limits → Taken
 limits_taken head number (Some limits) =
     GoesOn (record head { stage = stages.Limited; said = record head.said { limits = limits } })
@@ -76,7 +93,7 @@ is_start stage = false
 abbrev pub alone_taken : HeadSoFar → ℕ → List (List ℕ) → Taken
 alone_taken head number words =
     if is_start head.stage && is_limits words then limits_taken head number (limits_read (drop 1 words))
-    else events_taken head number words
+    else later_taken head number words
 
 abbrev pub words_taken : Option Section → HeadSoFar → ℕ → List (List ℕ) → Taken
 words_taken (Some section) head number words = opened head section

@@ -18,10 +18,14 @@ number_read bound digits =
     if is_numeral digits && nat_lt (digits_value 10 digits) bound then Some (digits_value 10 digits)
     else None
 
+-- a number of 8 bits: those of failures
+abbrev pub u8_read : List ℕ → Option ℕ
+u8_read digits = number_read (2 ^ 8) digits
+
 -- a number of 32 bits: walkers, namespaces, file systems, tokens, jobs, limits, timeouts
 abbrev pub u32_read : List ℕ → Option ℕ
 u32_read digits = number_read (2 ^ 32) digits
 
--- a number of 64 bits: moments
+-- a number of 64 bits: moments, and how long failures last
 abbrev pub u64_read : List ℕ → Option ℕ
 u64_read digits = number_read (2 ^ 64) digits

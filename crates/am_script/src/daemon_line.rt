@@ -95,14 +95,13 @@ fn read_deliver(words: &[u8]) -> Option<Event>
     })
 }
 
-#[tactic(auto, using(crate::proofs::LineWordsLemmas::no_act))]
 fn read_act(words: &[u8]) -> Option<Event>
     ensures { result ≡ act_read (words_of words.now) }
 {
-    let (job, outcome) = two_words(words)?;
+    let (job, outcome) = next_word(words)?;
     Some(Event::Act {
         job: JobId(read_u32(job)?),
-        ok: read_outcome(outcome)?,
+        failure: read_outcome(outcome)?,
     })
 }
 

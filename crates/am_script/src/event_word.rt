@@ -1,10 +1,13 @@
-//! The words of event lines that are neither numbers nor paths.
+//! The words of event lines that are neither plain numbers nor paths.
 
 ghost use Rattle.std.specs.Prelude.{◌≡◌, bytes_eq};
-ghost use Rattle.am_script.specs.EventWords.{pipe_read, change_read, form_read, immediate_read, outcome_read, status_read, trigger_name_read};
+ghost use Rattle.am_lines.specs.Words.{words_of};
+ghost use Rattle.am_script.specs.EventWords.{pipe_read, change_read, form_read, immediate_read, failure_read, outcome_word_read, outcome_read, status_read, trigger_name_read};
 
+use crate::number::read_u8;
 use am_group::Change;
-use am_names::{Name, PipeState, Status};
+use am_lines::next_word;
+use am_names::{FailNo, Name, PipeState, Status};
 use am_propagate::CopyForm;
 
 pub(crate) fn is_word(word: &[u8], text: &[u8]) -> bool
@@ -71,17 +74,41 @@ pub(crate) fn read_immediate(word: &[u8]) -> Option<bool>
     None
 }
 
-/// Whether an act is made.
-pub(crate) fn read_outcome(word: &[u8]) -> Option<bool>
-    ensures { result ≡ outcome_read word.now }
+/// The error of a failure, by its number.
+fn read_failure(digits: &[u8]) -> Option<FailNo>
+    ensures { result ≡ failure_read digits.now }
+{
+    FailNo::read(read_u8(digits)?).ok()
+}
+
+/// How an act goes, in one word: a failure without a number is with the first error.
+fn read_outcome_word(word: &[u8]) -> Option<Option<FailNo>>
+    ensures { result ≡ outcome_word_read word.now }
 {
     if is_word(word, b"ok") {
-        return Some(true);
+        return Some(None);
     }
     if is_word(word, b"fail") {
-        return Some(false);
+        return Some(Some(FailNo::ENOENT));
     }
     None
+}
+
+/// How an act goes, in the words behind its job: with which error it fails, or none.
+pub(crate) fn read_outcome(words: &[u8]) -> Option<Option<FailNo>>
+    ensures { result ≡ outcome_read (words_of words.now) }
+{
+    let (word, words) = next_word(words)?;
+    let Some((digits, words)) = next_word(words) else {
+        return read_outcome_word(word);
+    };
+    if let Some(_) = next_word(words) {
+        return None;
+    }
+    if !is_word(word, b"fail") {
+        return None;
+    }
+    Some(Some(read_failure(digits)?))
 }
 
 /// How a notification is acknowledged.
@@ -92,7 +119,7 @@ pub(crate) fn read_status(word: &[u8]) -> Option<Status>
         return Some(Status::Ready);
     }
     if is_word(word, b"fail") {
-        return Some(Status::Fail);
+        return Some(Status::Fail(FailNo::ENOENT));
     }
     None
 }

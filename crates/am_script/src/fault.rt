@@ -13,7 +13,7 @@ pub enum ScriptFaultKind {
     /// The head isn't what a head is, or a section doesn't end.
     #[error("BadSection")]
     BadSection,
-    /// The limits aren't three numbers in their ranges.
+    /// The limits aren't three numbers in their ranges, or how long failures last isn't a number.
     #[error("BadLimits")]
     BadLimits,
     /// A line of the master section is no line of a master map; `NoMemory` is never among these.

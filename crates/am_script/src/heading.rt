@@ -4,13 +4,13 @@ ghost use Rattle.std.specs.Prelude.{◌≡◌, ◌≤◌, ◌^◌, [], true, fal
 ghost use Rattle.am_master.specs.Grammar.{master_read, StandWithin};
 ghost use Rattle.am_script.specs.declared.fault.ScriptFaultKind.TheVariants.{NoMemory};
 ghost use Rattle.am_script.specs.Fault.{IsFaultOr, fault_at};
-ghost use Rattle.am_script.specs.Head.{is_limits, master_in};
-ghost use Rattle.am_script.specs.Heading.{may_open, is_start};
+ghost use Rattle.am_script.specs.Head.{is_limits, is_negative, master_in};
+ghost use Rattle.am_script.specs.Heading.{may_open, is_start, is_early};
 ghost use Rattle.am_lines.specs.Words.{words_of};
 
 use crate::event_word::is_word;
 use crate::fault::{ScriptFault, ScriptFaultKind, fault_at};
-use crate::limits::{default_limits, read_limits};
+use crate::limits::{default_limits, read_limits, read_negative};
 use crate::line::{is_long, is_skipped};
 use crate::maps::read_maps;
 use crate::section::{Section, fault_in, is_end, is_only};
@@ -28,6 +28,8 @@ pub enum Stage {
     Start,
     /// Behind the limits.
     Limited,
+    /// Behind how long failures last.
+    Lasting,
     /// Behind the master section, or behind a map section.
     Mastered,
 }
@@ -59,8 +61,8 @@ impl Model for Heading {
 }
 
 impl Heading {
-    ghost use Rattle.am_script.specs.Heading.{no_lines, line_taken, within_taken, outside_taken, alone_taken, opened, closed, limits_taken, taken_as, first_open, Stops, StopsAt};
-    ghost use Rattle.am_script.specs.Limits.{limits_read};
+    ghost use Rattle.am_script.specs.Heading.{no_lines, line_taken, within_taken, outside_taken, alone_taken, later_taken, opened, closed, limits_taken, negative_taken, taken_as, first_open, Stops, StopsAt};
+    ghost use Rattle.am_script.specs.Limits.{limits_read, negative_read};
     ghost use Rattle.am_script.specs.Maps.{opening_read};
     ghost use Rattle.am_machine.specs.State.{opening_in, opening_of};
     ghost use Rattle.am_world.specs.Table.{state_of};
@@ -185,6 +187,19 @@ impl Heading {
                 return self.take_limits(number, words);
             }
         }
+        self.take_later(number, line)
+    }
+
+    /// Takes a line that tells how long failures last, or begins the events.
+    fn take_later(&mut self, number: u64, line: &[u8]) -> Result<bool, ScriptFault>
+        ensures ok { IfOk result (λ begins. later_taken self.old number (words_of line.now) ≡ taken_as begins self.new) }
+        ensures err { IfErr result (λ fault. later_taken self.old number (words_of line.now) ≡ Stops fault) }
+    {
+        if is_early(&self.stage) {
+            if let Some(words) = behind_negative(line) {
+                return self.take_negative(number, words);
+            }
+        }
         if is_only(b"events", line) {
             return Ok(true);
         }
@@ -200,6 +215,21 @@ impl Heading {
             Some(limits) => {
                 self.limits = limits;
                 self.stage = Stage::Limited;
+                Ok(false)
+            }
+            None => Err(fault_at(number, ScriptFaultKind::BadLimits)),
+        }
+    }
+
+    /// Takes the words behind `negative`.
+    fn take_negative(&mut self, number: u64, words: &[u8]) -> Result<bool, ScriptFault>
+        ensures ok { IfOk result (λ begins. negative_taken self.old number (negative_read (words_of words.now)) ≡ taken_as begins self.new) }
+        ensures err { IfErr result (λ fault. negative_taken self.old number (negative_read (words_of words.now)) ≡ Stops fault) }
+    {
+        match read_negative(words) {
+            Some(seconds) => {
+                self.limits.negative = seconds;
+                self.stage = Stage::Lasting;
                 Ok(false)
             }
             None => Err(fault_at(number, ScriptFaultKind::BadLimits)),
@@ -249,7 +279,7 @@ fn may_open(stage: &Stage, section: &Section) -> bool
 {
     match stage {
         Stage::Mastered => section.is_map(),
-        Stage::Start | Stage::Limited => true,
+        Stage::Start | Stage::Limited | Stage::Lasting => true,
     }
 }
 
@@ -258,7 +288,17 @@ fn is_start(stage: &Stage) -> bool
 {
     match stage {
         Stage::Start => true,
-        Stage::Limited | Stage::Mastered => false,
+        Stage::Limited | Stage::Lasting | Stage::Mastered => false,
+    }
+}
+
+/// Whether how long failures last may still be told.
+fn is_early(stage: &Stage) -> bool
+    ensures { result ≡ is_early stage.now }
+{
+    match stage {
+        Stage::Start | Stage::Limited => true,
+        Stage::Lasting | Stage::Mastered => false,
     }
 }
 
@@ -270,6 +310,19 @@ fn behind_limits(line: &[u8]) -> Option<&[u8]>
 {
     let (word, words) = next_word(line)?;
     if !is_word(word, b"limits") {
+        return None;
+    }
+    Some(words)
+}
+
+/// What stands behind the word `negative`, if that is the first.
+fn behind_negative(line: &[u8]) -> Option<&[u8]>
+    ensures none { IfNone result (is_negative (words_of line.now) ≡ false) }
+    ensures first { IfSome result (λ words. is_negative (words_of line.now) ≡ true) }
+    ensures others { IfSome result (λ words. words_of words.now ≡ drop 1 (words_of line.now)) }
+{
+    let (word, words) = next_word(line)?;
+    if !is_word(word, b"negative") {
         return None;
     }
     Some(words)

@@ -4,10 +4,17 @@ ghost use Rattle.std.specs.Prelude.{◌≡◌, true, false, IfSome, IfNone};
 ghost use Rattle.std.specs.List.{list_all};
 ghost use Rattle.std.specs.Result.{result_ok};
 ghost use Rattle.hex.specs.Hex.{decode_sized};
-ghost use Rattle.am_script.specs.Numbers.{is_digit, is_numeral, u32_read, u64_read};
+ghost use Rattle.am_script.specs.Numbers.{is_digit, is_numeral, u8_read, u32_read, u64_read};
 
 use hex::decode_to_slice;
 use std::str;
+
+/// A number that fits 8 bits, in the form of the next.
+pub fn read_u8(digits: &[u8]) -> Option<u8>
+    ensures { result ≡ u8_read digits.now }
+{
+    numeral(digits)?.parse::<u8>().ok()
+}
 
 /// A number that fits 32 bits, in decimal, without sign or leading zeros.
 pub fn read_u32(digits: &[u8]) -> Option<u32>

@@ -15,7 +15,7 @@ impl Opened for Brand {
     ghost use Rattle.std.specs.Prelude.{[]};
 
     ghost opening = { record {
-      limits = record { mounts = 0; waiters = 0; tokens = 0 };
+      limits = record { mounts = 0; waiters = 0; tokens = 0; negative = 0 };
       master = [];
       maps = [];
     } };

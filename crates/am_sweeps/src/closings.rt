@@ -4,7 +4,7 @@
 
 use crate::agreement::is_served;
 use crate::script::Script;
-use am_names::{FsId, JobId, PipeState, Seconds, Token, WalkerId};
+use am_names::{FailNo, FsId, JobId, PipeState, Seconds, Token, WalkerId};
 use am_script::answer_line::is_refused;
 use am_world::{Attached, Event, World};
 use anyhow::Result;
@@ -227,7 +227,8 @@ fn next_event(world: &World, token: Token, ok: bool) -> Event {
         return Event::Deliver { token, bytes: None };
     }
     let job = JobId(token.0);
-    Event::Act { job, ok }
+    let failure = if ok { None } else { Some(FailNo::EPERM) };
+    Event::Act { job, failure }
 }
 
 /// Whether each of these walkers has its status, and goes on.

@@ -88,7 +88,7 @@ const JOBS: u32 = 4;
 fn makes_acts(world: &mut World, alloc: Global, seen: &mut Seen) -> bool {
     for job in 1..JOBS {
         let job = JobId(job);
-        if !makes(world, alloc, &Event::Act { job, ok: true }, seen) {
+        if !makes(world, alloc, &Event::Act { job, failure: None }, seen) {
             return false;
         }
     }

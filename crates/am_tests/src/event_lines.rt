@@ -1,7 +1,7 @@
 //! Lines of events: each is read as the event that is spelled so, a blank behind each word.
 
 use am_group::Change;
-use am_names::{Name, PipeState, Place, Status, Trigger};
+use am_names::{FailNo, Name, PipeState, Place, Status, Trigger};
 use am_propagate::CopyForm;
 use am_script::event_line::read_event;
 use am_world::Event;
@@ -49,7 +49,8 @@ fn pipe_text(pipe: PipeState) -> &'static str {
 fn status_text(status: Status) -> &'static str {
     match status {
         Status::Ready => "ready",
-        Status::Fail => "fail",
+        Status::Fail(FailNo::ENOENT) => "fail",
+        Status::Fail(_) => "?",
     }
 }
 
@@ -191,6 +192,23 @@ fn put_attachment(line: &mut String, event: &Event) -> Result<(), AllocError> {
     }
 }
 
+/// How an act goes. The number of the first error is left out.
+fn put_outcome(line: &mut String, failure: Option<FailNo>) -> Result<(), AllocError> {
+    match failure {
+        None => put(line, "ok"),
+        Some(FailNo::ENOENT) => put(line, "fail"),
+        Some(no) => {
+            put(line, "fail")?;
+            put_number(line, u64::from(no.number()))
+        }
+    }
+}
+
+fn put_act(line: &mut String, job: u32, failure: Option<FailNo>) -> Result<(), AllocError> {
+    put_one(line, "act", job)?;
+    put_outcome(line, failure)
+}
+
 fn put_record(line: &mut String, trigger: &Trigger) -> Result<(), AllocError> {
     put_with(line, "record", trigger.fs.0, name_text(&trigger.name))
 }
@@ -205,7 +223,7 @@ fn put_work(line: &mut String, event: &Event) -> Result<(), AllocError> {
     match event {
         Event::Attach { path } => put_attach(line, path),
         Event::Deliver { token, bytes: None } => put_one(line, "deliver", token.0),
-        Event::Act { job, ok } => { put_with(line, "act", job.0, if *ok { "ok" } else { "fail" }) }
+        Event::Act { job, failure } => put_act(line, job.0, *failure),
         Event::Die => put(line, "die"),
         Event::Record { trigger } => put_record(line, trigger),
         _ => Ok(()),

@@ -6,7 +6,7 @@
 //! - `passed`: a walk passes the trigger home;
 //! - `entered`, `entered-by-2`, `left`: walker 1, or 2, enters and leaves the mount; `unmounted`.
 
-use am_names::{Attach, FsId, MountId, Mounts, Name, Status, Token, Trigger, WalkerId};
+use am_names::{Attach, FailNo, FsId, MountId, Mounts, Name, Status, Token, Trigger, WalkerId};
 use am_state::{KeptPacket, KeptTrigger, Obs};
 use am_wire::{Kind, Packet, PacketName};
 use am_world::laws::trace_holds;
@@ -104,7 +104,7 @@ fn seen_of_token(alloc: Global, word: &str) -> Result<Option<Obs>, AllocError> {
         "waits" => waits(),
         "answered" => answered(),
         "released" => released(Status::Ready),
-        "failed" => released(Status::Fail),
+        "failed" => released(Status::Fail(FailNo::ENOENT)),
         _ => return Ok(None),
     }))
 }

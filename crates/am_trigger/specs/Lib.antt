@@ -2,3 +2,6 @@ pub mod Sites
 pub mod Rows
 pub mod Table
 pub mod Inside
+pub mod Failures
+pub mod FailureTable
+pub mod FailureInside

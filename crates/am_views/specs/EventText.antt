@@ -1,6 +1,9 @@
 -- How events are written: as a line of a script says them.
 use Rattle.std.specs.Prelude.{ℕ, Bool, true, false, List, [], ◌++◌, codes, decimal, Option, None, Some}
 use Rattle.hex.specs.Hex.{encode_lower}
+use Rattle.am_names.specs.FailNo.{fail_number}
+use Rattle.am_names.specs.declared.fail_no.FailNo.{FailNo}
+use Rattle.am_names.specs.declared.fail_no.FailNo.TheVariants.{ENOENT}
 use Rattle.am_names.specs.declared.trigger.PipeState.{PipeState}
 use Rattle.am_names.specs.declared.trigger.PipeState.TheVariants.{Room, Full, Gone}
 use Rattle.am_names.specs.declared.trigger.Status.{Status}
@@ -31,19 +34,24 @@ abbrev pub form_part : CopyForm → List ℕ
 form_part forms.Full = []
 form_part forms.Reduced = codes " reduced"
 
+-- a failure, with the number of its error unless that is the first one
+abbrev pub failure_part : FailNo → List ℕ
+failure_part ENOENT = codes " fail"
+failure_part error = codes " fail " ++ decimal (fail_number error)
+
 abbrev pub status_part : Status → List ℕ
 status_part Ready = codes " ready"
-status_part Fail = codes " fail"
+status_part (Fail error) = failure_part error
 
 -- whether an expiry is of anything that isn't busy
 abbrev pub how_part : Bool → List ℕ
 how_part false = codes " idle"
 how_part true = codes " immediate"
 
--- whether an act is made
-abbrev pub outcome_part : Bool → List ℕ
-outcome_part true = codes " ok"
-outcome_part false = codes " fail"
+-- how an act goes: with which error it fails, or none
+abbrev pub outcome_part : Option FailNo → List ℕ
+outcome_part None = codes " ok"
+outcome_part (Some error) = failure_part error
 
 abbrev pub path_part : List (List ℕ) → List ℕ
 path_part path = codes " " ++ place_text path
@@ -87,7 +95,7 @@ event_text (events.Leave walker) = codes "leave " ++ decimal walker
 event_text (events.Expire walker fs now immediate pipe) =
     codes "expire " ++ decimal walker ++ (codes " " ++ decimal fs ++ expiry_part now immediate pipe)
 event_text (events.Deliver token bytes) = codes "deliver " ++ decimal token ++ bytes_part bytes
-event_text (events.Act job ok) = codes "act " ++ decimal job ++ outcome_part ok
+event_text (events.Act job failure) = codes "act " ++ decimal job ++ outcome_part failure
 event_text (events.Repeat attach token status) =
     codes "repeat " ++ decimal attach ++ (codes " " ++ decimal token ++ status_part status)
 event_text (events.Catatonic attach fs) =

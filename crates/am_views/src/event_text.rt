@@ -3,10 +3,10 @@
 ghost use Rattle.std.specs.Prelude.{◌≡◌, ◌++◌, OnOk};
 ghost use Rattle.hex.specs.Hex.{encode_lower};
 ghost use Rattle.am_script.specs.Outputs.{Puts};
-ghost use Rattle.am_views.specs.EventText.{event_text, pipe_part, change_part, form_part, status_part, how_part, outcome_part, path_part, site_part, moment_part, expiry_part, bytes_part, name_part};
+ghost use Rattle.am_views.specs.EventText.{event_text, pipe_part, change_part, form_part, failure_part, status_part, how_part, outcome_part, path_part, site_part, moment_part, expiry_part, bytes_part, name_part};
 
 use am_group::Change;
-use am_names::{FsId, Name, NsId, PipeState, Place, Seconds, Status, WalkerId};
+use am_names::{FailNo, FsId, Name, NsId, PipeState, Place, Seconds, Status, WalkerId};
 use am_propagate::CopyForm;
 use am_script::answer_line::{put_number, put_place, put_word};
 use am_script::output::Output;
@@ -96,9 +96,9 @@ pub(crate) fn put_event<W: Write>(output: &mut Output, event: &Event, writer: &m
             put_number(output, b"deliver ", u64::from(token.0), writer);
             put_bytes(output, bytes, writer)
         }
-        Event::Act { job, ok } => {
+        Event::Act { job, failure } => {
             put_number(output, b"act ", u64::from(job.0), writer);
-            put_outcome(output, *ok, writer)
+            put_outcome(output, *failure, writer)
         }
         Event::Repeat {
             attach,
@@ -201,13 +201,22 @@ fn put_change<W: Write>(output: &mut Output, change: Change, writer: &mut W)
     }
 }
 
+fn put_failure<W: Write>(output: &mut Output, no: FailNo, writer: &mut W)
+    ensures { Puts output.old output.new (failure_part no) (W.contents writer.old) (W.contents writer.new) }
+{
+    match no {
+        FailNo::ENOENT => put_word(output, b" fail", writer),
+        _ => put_number(output, b" fail ", u64::from(no.number()), writer),
+    }
+}
+
 /// Puts a status out, behind a blank.
 pub fn put_status<W: Write>(output: &mut Output, status: Status, writer: &mut W)
     ensures { Puts output.old output.new (status_part status) (W.contents writer.old) (W.contents writer.new) }
 {
     match status {
         Status::Ready => put_word(output, b" ready", writer),
-        Status::Fail => put_word(output, b" fail", writer),
+        Status::Fail(no) => put_failure(output, no, writer),
     }
 }
 
@@ -220,12 +229,12 @@ fn put_how<W: Write>(output: &mut Output, immediate: bool, writer: &mut W)
     }
 }
 
-fn put_outcome<W: Write>(output: &mut Output, ok: bool, writer: &mut W)
-    ensures { Puts output.old output.new (outcome_part ok) (W.contents writer.old) (W.contents writer.new) }
+fn put_outcome<W: Write>(output: &mut Output, failure: Option<FailNo>, writer: &mut W)
+    ensures { Puts output.old output.new (outcome_part failure) (W.contents writer.old) (W.contents writer.new) }
 {
-    match ok {
-        true => put_word(output, b" ok", writer),
-        false => put_word(output, b" fail", writer),
+    match failure {
+        None => put_word(output, b" ok", writer),
+        Some(no) => put_failure(output, no, writer),
     }
 }
 

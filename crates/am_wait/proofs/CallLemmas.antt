@@ -4,6 +4,7 @@ use Rattle.std.specs.Prelude.{is_some, is_none, find, filter}
 use Rattle.std.specs.List.{list_any}
 use Rattle.am_names.specs.declared.errno.Errno.{Errno}
 use Rattle.am_names.specs.declared.errno.Errno.TheVariants.{EINVAL}
+use Rattle.am_names.specs.declared.fail_no.FailNo.TheVariants.{ENOENT}
 use Rattle.am_names.specs.declared.trigger.Status.{Status}
 use Rattle.am_names.specs.declared.trigger.Status.TheVariants.{Fail}
 use Rattle.am_names.specs.declared.row.WaitRow.{WaitRow}
@@ -58,4 +59,4 @@ pub released_walker : (token : ℕ) (status : Status) (row : WaitRow) → (relea
 released_walker token status row = elim (row.token == token) as (λ b. (cond b (record row { status = Some status }) row).walker ≡ row.walker) [ true ↦ refl | false ↦ refl ]
 
 pub failed_walker : (fs : ℕ) (row : WaitRow) → (failed_row fs row).walker ≡ row.walker
-failed_walker fs row = elim (row.trigger.fs == fs && is_none row.status) as (λ b. (cond b (record row { status = Some Fail }) row).walker ≡ row.walker) [ true ↦ refl | false ↦ refl ]
+failed_walker fs row = elim (row.trigger.fs == fs && is_none row.status) as (λ b. (cond b (record row { status = Some (Fail ENOENT) }) row).walker ≡ row.walker) [ true ↦ refl | false ↦ refl ]

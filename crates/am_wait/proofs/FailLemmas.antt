@@ -6,6 +6,7 @@ use Rattle.std.proofs.lemmas.Bool.Decides.{nat_tests, Decides-eqb}
 use Rattle.std.proofs.lemmas.List.Elements.{All-filter, All-weaker}
 use Rattle.slab.specs.Slab.{Slab, get}
 use Rattle.am_names.specs.declared.row.WaitRow.{WaitRow}
+use Rattle.am_names.specs.declared.fail_no.FailNo.TheVariants.{ENOENT}
 use Rattle.am_names.specs.declared.trigger.Status.TheVariants.{Fail}
 use Rattle.am_names.specs.declared.row.OpenToken.{OpenToken}
 use Rattle.am_wait.specs.declared.seats.Seat.{Seat}
@@ -45,7 +46,7 @@ either true row = refl
 either false row = refl
 
 failed_by : (fs : ℕ) (row : WaitRow) (b : Bool) → (row.trigger.fs == fs && is_none row.status) ≡ b → failed_row fs (failed_row fs row) ≡ failed_row fs row
-failed_by fs row true e = rw e (either (row.trigger.fs == fs && false) (record row { status = Some Fail }))
+failed_by fs row true e = rw e (either (row.trigger.fs == fs && false) (record row { status = Some (Fail ENOENT) }))
 failed_by fs row false e = rw e (rw e refl)
 
 twice : (fs : ℕ) (o : Option WaitRow) → option_map (failed_row fs) (option_map (failed_row fs) o) ≡ option_map (failed_row fs) o

@@ -3,6 +3,7 @@
 use Rattle.std.specs.Prelude.{ℕ, ◌==◌, ◌+◌, nat_le, Bool, false, ◌&&◌, not, is_some, is_none, [], ◌∷◌, ◌++◌, map, filter, length, Option, Some, None, if◌then◌else◌}
 use Rattle.am_names.specs.declared.errno.Errno.{Errno}
 use Rattle.am_names.specs.declared.errno.Errno.TheVariants.{EINVAL, ENOSPC, NotReleased}
+use Rattle.am_names.specs.declared.fail_no.FailNo.TheVariants.{ENOENT}
 use Rattle.am_names.specs.declared.trigger.Trigger.{Trigger}
 use Rattle.am_names.specs.declared.trigger.Status.{Status}
 use Rattle.am_names.specs.declared.trigger.Status.TheVariants.{Fail}
@@ -79,9 +80,9 @@ answered token status w = record w {
 
 abbrev pub failed_row : ℕ → WaitRow → WaitRow
 failed_row fs row =
-    if row.trigger.fs == fs && is_none row.status then record row { status = Some Fail } else row
+    if row.trigger.fs == fs && is_none row.status then record row { status = Some (Fail ENOENT) } else row
 
--- all tokens of the file system close, and whoever still waits on one has the status FAIL
+-- all tokens of the file system close, and whoever still waits on one has the status FAIL, with ENOENT
 -- (autofs.rst, "Catatonic mode")
 abbrev pub fs_released : ℕ → WaitRows → WaitRows
 fs_released fs w = record w {

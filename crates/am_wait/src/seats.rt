@@ -8,7 +8,7 @@ ghost use Rattle.am_wait.specs.Invariant.{RiseBy};
 ghost use Rattle.am_wait.specs.Calls.{failed_row};
 ghost use Rattle.am_wait.specs.Seats.{key_of, with_status, among_keys, with_seat, without_seat, frees, next_key, walkers_at, seat_at, sits_at};
 
-use am_names::{FsId, Name, Status, TokenKind, Trigger, WaitRow, WalkerId};
+use am_names::{FailNo, FsId, Name, Status, TokenKind, Trigger, WaitRow, WalkerId};
 use slab::Slab;
 use std::alloc::{AllocError, Global};
 
@@ -122,7 +122,7 @@ fn failed_row(row: WaitRow, fs: FsId) -> WaitRow
 {
     if row.trigger.fs == fs && row.status.is_none() {
         WaitRow {
-            status: Some(Status::Fail),
+            status: Some(Status::Fail(FailNo::ENOENT)),
             ..row
         }
     } else {

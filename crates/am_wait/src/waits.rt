@@ -1,6 +1,6 @@
 //! Open tokens, and the walkers that wait on them.
 
-ghost use Rattle.std.specs.Prelude.{◌≡◌, ◌+◌, Some, IfOk, OnOk, OnErr};
+ghost use Rattle.std.specs.Prelude.{◌≡◌, ◌<◌, ◌+◌, ◌^◌, Some, length, IfOk, OnOk, OnErr};
 ghost use Rattle.std.specs.Option.{option_map};
 ghost use Rattle.am_names.specs.Errno.{RefusedAs, RefusedOnlyAs};
 ghost use Rattle.am_wait.specs.Rows.{no_waits, open_on, token_of, wait_of, waiters_of, tokens_of};
@@ -84,6 +84,24 @@ impl Waits {
             Some(row) => Some(row.trigger),
             None => None,
         }
+    }
+
+    /// What a token is open for, with its trigger; none if it isn't open.
+    pub fn purpose_of(&self, token: Token) -> Option<(TokenKind, Trigger)>
+        ensures { result ≡ option_map (λ row. (row.kind, row.trigger)) (token_of self.now.tokens token) }
+    {
+        match held_of(&self.tokens, token) {
+            Some(row) => Some((row.kind, row.trigger)),
+            None => None,
+        }
+    }
+
+    /// How many tokens are open.
+    pub fn token_count(&self) -> usize
+        ensures exact { result ≡ length self.now.tokens }
+        ensures bound { result < 2 ^ 63 }
+    {
+        self.tokens.len()
     }
 
     /// The wait of a walker, with what it waits for and the status with which it was released.

@@ -6,6 +6,7 @@ use Rattle.std.specs.Option.{option_map}
 use Rattle.std.proofs.lemmas.Bool.Decides.{Decides-eqb}
 use Rattle.std.proofs.lemmas.List.Elements.{All-append, All-cons, All-nil}
 use Rattle.am_names.specs.declared.errno.Errno.TheVariants.{ENOENT, ELOOP}
+use Rattle.am_names.specs.declared.fail_no.FailNo.{FailNo}
 use Rattle.am_names.specs.declared.trigger.Trigger.{Trigger}
 use Rattle.am_names.specs.declared.row.OpenToken.{OpenToken}
 use Rattle.am_names.specs.declared.row.TokenKind.{TokenKind}
@@ -19,7 +20,7 @@ use Rattle.am_walk.specs.declared.stop.Next.{Next}
 use Rattle.am_walk.specs.declared.stop.Next.TheVariants as nexts
 use Rattle.am_walk.specs.declared.stop.Stop.TheVariants as stops
 use Rattle.am_walk.specs.Scene.{Scene, autofs_at, has_names}
-use Rattle.am_walk.specs.Meet.{if_open, if_mounted, if_entered, at_directory, at_trap, at_trigger, at_plain, at_autofs, at_site, next_at}
+use Rattle.am_walk.specs.Meet.{if_open, if_mounted, if_entered, at_directory, at_trap, if_failing, at_trigger, at_plain, at_autofs, at_site, next_at}
 use Rattle.am_walk.specs.Walks.{Visit, Stands, Stops, followed, settled_within, settled, onward, after, visit_from, visit_of, ended, walk_of}
 use Rattle.am_walk.specs.Laws.{IsIdle, StopsWell, IsOrderly}
 
@@ -64,13 +65,18 @@ either_well tokens false one other h g = g
 directory_well : (tokens : List OpenToken) (scene : Scene) (row : Autofs) (trigger : Trigger) → MeetsWell tokens (at_directory scene row trigger)
 directory_well tokens scene row trigger = either_well tokens (row.direct || is_made scene.triggers trigger) nexts.Rests (nexts.Halts (stops.Refuse ENOENT)) tt tt
 
+failing_well : (tokens : List OpenToken) (error : Option FailNo) (others : Next) → MeetsWell tokens others → MeetsWell tokens (if_failing error others)
+failing_well tokens (Some error) others h = tt
+failing_well tokens None others h = h
+
 trap_well : (tokens : List OpenToken) (scene : Scene) (row : Autofs) (trigger : Trigger) (mount : ℕ) (place : List (List ℕ)) → MeetsWell tokens (at_trap tokens scene row trigger mount place)
 trap_well tokens scene row trigger mount place =
     open_well tokens Expire trigger (open_on tokens Expire trigger) _ refl (λ unexpired.
     open_well tokens Missing trigger (open_on tokens Missing trigger) _ refl (λ settled_now.
     mounted_well tokens trigger (top_of scene.mounts mount place) _ (unexpired, settled_now)
     (either_well tokens row.catatonic (at_directory scene row trigger) _ (directory_well tokens scene row trigger)
-    (either_well tokens (is_some (top_of scene.mounts row.location (place_of trigger))) (nexts.Halts (stops.Refuse ELOOP)) (nexts.Halts (stops.Missing trigger)) tt (unexpired, settled_now)))))
+    (either_well tokens (is_some (top_of scene.mounts row.location (place_of trigger))) (nexts.Halts (stops.Refuse ELOOP)) _ tt
+    (failing_well tokens (scene.failing trigger) (nexts.Halts (stops.Missing trigger)) (unexpired, settled_now))))))
 
 module _ (tokens : List OpenToken) (scene : Scene) (on : scene.tokens ≡ Some tokens) where
   trigger_well : (row : Autofs) (trigger : Trigger) (mount : ℕ) (place : List (List ℕ)) → MeetsWell tokens (at_trigger scene.tokens scene row trigger mount place)

@@ -3,6 +3,7 @@ use Rattle.std.proofs.Common.{◌≡◌, ◌≤◌, ◌<◌, ◌+◌, ◌==◌, 
 use Rattle.std.specs.Prelude.{filter, is_some, nat_lt, IfSome}
 use Rattle.std.proofs.lemmas.Bool.Decides.{nat_tests}
 use Rattle.am_names.specs.declared.errno.Errno.TheVariants.{ENOENT, ELOOP}
+use Rattle.am_names.specs.declared.fail_no.FailNo.{FailNo}
 use Rattle.am_names.specs.declared.trigger.Trigger.{Trigger}
 use Rattle.am_names.specs.declared.row.MountRow.{MountRow}
 use Rattle.am_names.specs.declared.row.OpenToken.{OpenToken}
@@ -18,7 +19,7 @@ use Rattle.am_walk.specs.declared.stop.Next.TheVariants as nexts
 use Rattle.am_walk.specs.declared.stop.Stop.{Stop}
 use Rattle.am_walk.specs.declared.stop.Stop.TheVariants as stops
 use Rattle.am_walk.specs.Scene.{Scene, autofs_at, has_names}
-use Rattle.am_walk.specs.Meet.{if_open, if_mounted, if_entered, at_directory, at_trap, at_trigger, at_plain, at_autofs, at_site, next_at}
+use Rattle.am_walk.specs.Meet.{if_open, if_mounted, if_entered, at_directory, at_trap, if_failing, at_trigger, at_plain, at_autofs, at_site, next_at}
 use Rattle.am_walk.specs.Walks.{Visit, Stands, Stops, followed, settled_within, settled, onward, after, visit_from, visit_of, ended, walk_of}
 use Rattle.am_walk.specs.Laws.{RestsAt}
 
@@ -56,6 +57,10 @@ top_either top false one other h g = g
 top_directory : (top : Option ℕ) (scene : Scene) (row : Autofs) (trigger : Trigger) → IsTopIn top (at_directory scene row trigger)
 top_directory top scene row trigger = top_either top (row.direct || is_made scene.triggers trigger) nexts.Rests (nexts.Halts (stops.Refuse ENOENT)) tt tt
 
+top_failing : (top : Option ℕ) (error : Option FailNo) (others : Next) → IsTopIn top others → IsTopIn top (if_failing error others)
+top_failing top (Some error) others h = tt
+top_failing top None others h = h
+
 module _ (scene : Scene) where
   top_trap : (tokens : List OpenToken) (row : Autofs) (trigger : Trigger) (mount : ℕ) (place : List (List ℕ)) → IsTopIn (top_of scene.mounts mount place) (at_trap tokens scene row trigger mount place)
   top_trap tokens row trigger mount place =
@@ -64,7 +69,8 @@ module _ (scene : Scene) where
       (top_open top (open_on tokens Missing trigger) _
       (top_mounted top trigger _
       (top_either top row.catatonic (at_directory scene row trigger) _ (top_directory top scene row trigger)
-      (top_either top (is_some (top_of scene.mounts row.location (place_of trigger))) (nexts.Halts (stops.Refuse ELOOP)) (nexts.Halts (stops.Missing trigger)) tt tt))))
+      (top_either top (is_some (top_of scene.mounts row.location (place_of trigger))) (nexts.Halts (stops.Refuse ELOOP)) _ tt
+      (top_failing top (scene.failing trigger) (nexts.Halts (stops.Missing trigger)) tt)))))
 
   top_trigger : (tokens : Option (List OpenToken)) (row : Autofs) (trigger : Trigger) (mount : ℕ) (place : List (List ℕ)) → IsTopIn (top_of scene.mounts mount place) (at_trigger tokens scene row trigger mount place)
   top_trigger (Some tokens) row trigger mount place = top_trap tokens row trigger mount place

@@ -1,5 +1,9 @@
 -- What the code's values stand for.
 use Rattle.std.specs.Prelude.{Option, Some, None}
+use Rattle.am_names.specs.declared.fail_no.FailNo.{FailNo}
+use Rattle.am_names.specs.declared.trigger.Trigger.{Trigger}
+use Rattle.am_trigger.specs.declared.failures.Lasting.{Lasting}
+use Rattle.am_trigger.specs.Failures.{failing}
 use Rattle.am_walk.specs.declared.scene.View.{View}
 use Rattle.am_walk.specs.declared.follow.Walking.{Walking}
 use Rattle.am_walk.specs.declared.stop.Stop.{Stop}
@@ -8,11 +12,17 @@ use Rattle.am_walk.specs.Scene.{Scene}
 use Rattle.am_walk.specs.Walks.{Visit, Stands, Stops, Walked, settled}
 use Rattle.std.specs.Option.{option_map}
 
+-- what lasts of the failures; none does where the mount traps are off
+abbrev pub failing_in : Option Lasting → Trigger → Option FailNo
+failing_in None = λ trigger. None
+failing_in (Some l) = failing l.moment l.negative l.failures.now.rows
+
 abbrev pub scene_in : View → Scene
 scene_in v = record {
   mounts = v.tree.now;
   triggers = v.triggers.now.rows;
   tokens = option_map (λ waits. waits.now.tokens) v.waits;
+  failing = failing_in v.lasting;
 }
 
 abbrev pub walked_of : Walk → Walked

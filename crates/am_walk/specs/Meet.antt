@@ -1,5 +1,7 @@
 -- What a walk meets at a place (autofs.rst, "Mount Traps").
 use Rattle.std.specs.Prelude.{ℕ, ◌||◌, is_some, List, Option, Some, None, if◌then◌else◌}
+use Rattle.am_names.specs.FailNo.{errno_of}
+use Rattle.am_names.specs.declared.fail_no.FailNo.{FailNo}
 use Rattle.am_names.specs.declared.errno.Errno.TheVariants.{ENOENT, ELOOP}
 use Rattle.am_names.specs.declared.trigger.Trigger.{Trigger}
 use Rattle.am_names.specs.declared.row.OpenToken.{OpenToken}
@@ -33,12 +35,18 @@ at_directory scene row trigger =
     if row.direct || is_made scene.triggers trigger then nexts.Rests
     else nexts.Halts (stops.Refuse ENOENT)
 
+-- what failed at a trigger and lasts fails the walk too
+abbrev pub if_failing : Option FailNo → Next → Next
+if_failing (Some error) others = nexts.Halts (stops.Refuse (errno_of error))
+if_failing None others = others
+
 -- At a trigger the first of these holds:
 -- it is expiring, and the walk waits;
 -- a mount is pending, and the walk waits;
 -- something is mounted on it here, and the walk passes it;
 -- the file system is catatonic (autofs.rst, "Catatonic mode");
 -- own (docs/DECISIONS.md, "Something mounted at the daemon's mount alone is ELOOP");
+-- own (docs/DECISIONS.md, "A failure has a number, and may last");
 -- else the daemon is notified.
 abbrev pub at_trap : List OpenToken → Scene → Autofs → Trigger → ℕ → List (List ℕ) → Next
 at_trap tokens scene row trigger mount place =
@@ -48,7 +56,7 @@ at_trap tokens scene row trigger mount place =
     (if row.catatonic then at_directory scene row trigger
     else if is_some (top_of scene.mounts row.location (place_of trigger))
     then nexts.Halts (stops.Refuse ELOOP)
-    else nexts.Halts (stops.Missing trigger))))
+    else if_failing (scene.failing trigger) (nexts.Halts (stops.Missing trigger)))))
 
 -- with the traps off nothing blocks; what is mounted is entered, and so is a directory that is
 -- made: own (docs/DECISIONS.md, "An administrator's path is followed with the traps off")

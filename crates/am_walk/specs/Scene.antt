@@ -1,8 +1,10 @@
 -- What a walk looks at.
 use Rattle.std.specs.Prelude.{ℕ, Bool, true, false, not, List, [], ◌∷◌, Option, Some, None}
 use Rattle.std.specs.Option.{option_map, option_and_then}
+use Rattle.am_names.specs.declared.fail_no.FailNo.{FailNo}
 use Rattle.am_names.specs.declared.row.MountRow.{MountRow}
 use Rattle.am_names.specs.declared.row.OpenToken.{OpenToken}
+use Rattle.am_names.specs.declared.trigger.Trigger.{Trigger}
 use Rattle.am_mount.specs.Rows.{mount_row}
 use Rattle.am_propagate.specs.MountTable.{MountTable}
 use Rattle.am_trigger.specs.declared.autofs.Autofs.{Autofs}
@@ -14,17 +16,27 @@ pub record Scene : Type 0 where
   pub triggers : TriggerRows
   -- the open tokens; none where the mount traps are off
   pub tokens : Option (List OpenToken)
+  -- the error of what failed at a trigger, while that lasts
+  pub failing : Trigger → Option FailNo
 
 -- what a walker looks at: the mount traps are on
-abbrev pub with_traps : MountTable → TriggerRows → WaitRows → Scene
-with_traps subtree triggers waits =
-    record { mounts = subtree.rows; triggers = triggers; tokens = Some waits.tokens }
+abbrev pub with_traps : MountTable → TriggerRows → WaitRows → (Trigger → Option FailNo) → Scene
+with_traps subtree triggers waits failing = record {
+  mounts = subtree.rows;
+  triggers = triggers;
+  tokens = Some waits.tokens;
+  failing = failing;
+}
 
 -- what an administrator looks at:
 -- own (docs/DECISIONS.md, "An administrator's path is followed with the traps off")
 abbrev pub without_traps : MountTable → TriggerRows → Scene
-without_traps subtree triggers =
-    record { mounts = subtree.rows; triggers = triggers; tokens = None }
+without_traps subtree triggers = record {
+  mounts = subtree.rows;
+  triggers = triggers;
+  tokens = None;
+  failing = λ trigger. None;
+}
 
 -- the autofs of which a mount is a mount, if it is one
 abbrev pub autofs_at : Scene → ℕ → Option Autofs

@@ -2,6 +2,7 @@
 
 ghost use Rattle.std.specs.Prelude.{◌≡◌, [], None, Some, Ok, IfOk};
 ghost use Rattle.am_names.specs.Errno.{RefusedAs};
+ghost use Rattle.am_trigger.specs.Failures.{failing};
 ghost use Rattle.am_walk.specs.Inside.{scene_in, walked_of, left_of, settled_at};
 ghost use Rattle.am_walk.specs.Laws.{IsOrderly, RestsAt};
 ghost use Rattle.am_walk.specs.Scene.{with_traps, without_traps};
@@ -9,9 +10,9 @@ ghost use Rattle.am_walk.specs.Walks.{onward, ended, walk_of, position_of, fault
 
 use crate::scene::{View, has_names};
 use crate::stop::{Next, Stop, Walk};
-use am_names::{AbsPath, Errno, MountId, Name, NsId, Place, Position, Trigger};
+use am_names::{AbsPath, Errno, MountId, Name, NsId, Place, Position, Seconds, Trigger};
 use am_propagate::Subtree;
-use am_trigger::Triggers;
+use am_trigger::{Failures, Lasting, Triggers};
 use am_wait::Waits;
 use std::alloc::{AllocError, Global};
 
@@ -118,23 +119,32 @@ impl View<'_> {
 }
 
 /// The walk of a walker from the root of a namespace along a path, and the triggers that it
-/// passes. It changes nothing: to wait, to notify the daemon and to enter is the caller's.
+/// passes. It changes nothing: to wait, to notify the daemon and to enter is the caller's. The moment
+/// and how long failures last are in seconds.
 pub fn resolve<'a>(
     alloc: Global,
     subtree: &'a Subtree,
     triggers: &'a Triggers,
     waits: &'a Waits,
+    failures: &'a Failures,
     ns: NsId,
     path: &AbsPath<'_>,
+    moment: Seconds,
+    negative: Seconds,
 ) -> Result<Walk, AllocError>
-    ensures walk { IfOk result (λ walk. walked_of walk ≡ walk_of (with_traps subtree.now triggers.now.rows waits.now) ns path.now) }
+    ensures walk { IfOk result (λ walk. walked_of walk ≡ walk_of (with_traps subtree.now triggers.now.rows waits.now (failing moment negative failures.now.rows)) ns path.now) }
     ensures orderly { IfOk result (λ walk. IsOrderly waits.now.tokens (walked_of walk)) }
-    ensures rests { IfOk result (λ walk. RestsAt (with_traps subtree.now triggers.now.rows waits.now) walk.stop) }
+    ensures rests { IfOk result (λ walk. RestsAt (with_traps subtree.now triggers.now.rows waits.now (failing moment negative failures.now.rows)) walk.stop) }
 {
     let view = View {
         tree: subtree.tree(),
         triggers,
         waits: Some(waits),
+        lasting: Some(Lasting {
+            failures,
+            moment,
+            negative,
+        }),
     };
     view.walk(alloc, ns, path)
 }
@@ -154,6 +164,7 @@ pub fn position<'a>(
         tree: subtree.tree(),
         triggers,
         waits: None,
+        lasting: None,
     };
     let Walk {
         stop,

@@ -58,6 +58,9 @@ impl View<'_> {
         if self.top(row.location, place).is_some() {
             return Next::Halts(Stop::Refuse(Errno::ELOOP));
         }
+        if let Some(no) = self.error(&trigger) {
+            return Next::Halts(Stop::Refuse(no.errno()));
+        }
         Next::Halts(Stop::Missing(trigger))
     }
 

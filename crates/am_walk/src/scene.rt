@@ -5,8 +5,8 @@ ghost use Rattle.am_walk.specs.Inside.{scene_in};
 ghost use Rattle.am_walk.specs.Scene.{autofs_at, has_names};
 
 use am_mount::Tree;
-use am_names::{MountId, Place, split_first_name};
-use am_trigger::{Autofs, Triggers};
+use am_names::{FailNo, MountId, Place, Trigger, split_first_name};
+use am_trigger::{Autofs, Lasting, Triggers};
 use am_wait::Waits;
 
 /// The mounts, the mount traps and the tokens that a walk meets.
@@ -16,6 +16,8 @@ pub struct View<'a> {
     pub triggers: &'a Triggers,
     /// None where the mount traps are off.
     pub waits: Option<&'a Waits>,
+    /// The same.
+    pub lasting: Option<Lasting<'a>>,
 }
 
 /// Whether there are names below a place.
@@ -29,6 +31,16 @@ pub fn has_names(row: Option<Autofs>, place: &Place) -> bool
 }
 
 impl View<'_> {
+    /// The error of what failed at a trigger, while that lasts.
+    pub fn error(&self, trigger: &Trigger) -> Option<FailNo>
+        ensures { result ≡ (scene_in self.now).failing trigger.now }
+    {
+        match &self.lasting {
+            Some(lasting) => lasting.error(trigger),
+            None => None,
+        }
+    }
+
     /// The autofs of which a mount is a mount, if it is one.
     pub fn autofs_at(&self, mount: MountId) -> Option<Autofs>
         ensures { result ≡ autofs_at (scene_in self.now) mount }

@@ -1,6 +1,6 @@
 //! What the daemon and an administrator ask of the kernel.
 
-use am_names::{Attach, FsId, PipeState, Seconds, Token, WalkerId};
+use am_names::{Attach, FailNo, FsId, PipeState, Seconds, Token, WalkerId};
 
 /// A request about an autofs (autofs.rst, "Communicating with autofs: root directory ioctls" and
 /// "Communicating with autofs: char-device ioctls").
@@ -15,6 +15,8 @@ pub enum Request {
     Fail {
         attach: Attach,
         token: Token,
+        /// The error that the walks fail with.
+        no: FailNo,
     },
     /// AUTOFS_IOC_CATATONIC: the daemon is notified no more.
     Catatonic {

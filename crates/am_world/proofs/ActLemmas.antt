@@ -1,6 +1,7 @@
 -- What comes next of a job is the act that the machine makes.
 use Rattle.std.proofs.Common.{◌≡◌, ℕ, Bool, true, false, Option, Some, None, refl, sym, ap, ◌∙◌, subst}
 use Rattle.std.specs.Prelude.{not, ◌∷◌, [], Result, if◌then◌else◌}
+use Rattle.am_names.specs.declared.fail_no.FailNo.{FailNo}
 use Rattle.am_names.specs.declared.errno.Errno.{Errno}
 use Rattle.am_names.specs.declared.errno.Errno.TheVariants.{EPERM, EINVAL}
 use Rattle.am_names.specs.declared.trigger.Trigger.{Trigger}
@@ -86,77 +87,77 @@ lean_next turn deed d n h =
 
 -- ---- the machine's act
 
-acts_by : (s : State) (turn : Turn) (ok : Bool) (f : Found turn s.daemon) → act_outcome s turn.job ok ≡ acted (Some f.act) s f.row ok
-acts_by s turn ok f = ap (λ (o : Option JobPlan). acted_at o s ok) f.found ∙ ap (λ (a : Option Act). acted a s f.row ok) f.next
+acts_by : (s : State) (turn : Turn) (failure : Option FailNo) (f : Found turn s.daemon) → act_outcome s turn.job failure ≡ acted (Some f.act) s f.row failure
+acts_by s turn failure f = ap (λ (o : Option JobPlan). acted_at o s failure) f.found ∙ ap (λ (a : Option Act). acted a s f.row failure) f.next
 
-mkdir_is : (a : Act) (s : State) (row : JobPlan) (ok : Bool) (g : Trigger) → deed_of a ≡ deed.Mkdir g → acted (Some a) s row ok ≡ mkdir_by (mkdir_refusal s.kernel row.attach g) s row g
-mkdir_is (act.Mkdir t) s row ok g e = let same : t ≡ g = cc in ap (λ (x : Trigger). mkdir_by (mkdir_refusal s.kernel row.attach x) s row x) same
-mkdir_is _ s row ok g e = absurd cc
+mkdir_is : (a : Act) (s : State) (row : JobPlan) (failure : Option FailNo) (g : Trigger) → deed_of a ≡ deed.Mkdir g → acted (Some a) s row failure ≡ mkdir_by (mkdir_refusal s.kernel row.attach g) s row g
+mkdir_is (act.Mkdir t) s row failure g e = let same : t ≡ g = cc in ap (λ (x : Trigger). mkdir_by (mkdir_refusal s.kernel row.attach x) s row x) same
+mkdir_is _ s row failure g e = absurd cc
 
-mount_is : (a : Act) (s : State) (row : JobPlan) (ok : Bool) (g : Trigger) → deed_of a ≡ deed.Mount g → acted (Some a) s row ok ≡ mount_act s row g ok
-mount_is (act.Mount t entry) s row ok g e = let same : t ≡ g = cc in ap (λ (x : Trigger). mount_act s row x ok) same
-mount_is _ s row ok g e = absurd cc
+mount_is : (a : Act) (s : State) (row : JobPlan) (failure : Option FailNo) (g : Trigger) → deed_of a ≡ deed.Mount g → acted (Some a) s row failure ≡ mount_act s row g failure
+mount_is (act.Mount t entry) s row failure g e = let same : t ≡ g = cc in ap (λ (x : Trigger). mount_act s row x failure) same
+mount_is _ s row failure g e = absurd cc
 
-umount_is : (a : Act) (s : State) (row : JobPlan) (ok : Bool) (g : Trigger) → deed_of a ≡ deed.Umount g → acted (Some a) s row ok ≡ umount_act s row g ok
-umount_is (act.Umount t) s row ok g e = let same : t ≡ g = cc in ap (λ (x : Trigger). umount_act s row x ok) same
-umount_is _ s row ok g e = absurd cc
+umount_is : (a : Act) (s : State) (row : JobPlan) (failure : Option FailNo) (g : Trigger) → deed_of a ≡ deed.Umount g → acted (Some a) s row failure ≡ umount_act s row g failure
+umount_is (act.Umount t) s row failure g e = let same : t ≡ g = cc in ap (λ (x : Trigger). umount_act s row x failure) same
+umount_is _ s row failure g e = absurd cc
 
-rmdir_is : (a : Act) (s : State) (row : JobPlan) (ok : Bool) (g : Trigger) → deed_of a ≡ deed.Rmdir g → acted (Some a) s row ok ≡ rmdir_by (rmdir_refusal s.kernel row.attach g) s row g
-rmdir_is (act.Rmdir t) s row ok g e = let same : t ≡ g = cc in ap (λ (x : Trigger). rmdir_by (rmdir_refusal s.kernel row.attach x) s row x) same
-rmdir_is _ s row ok g e = absurd cc
+rmdir_is : (a : Act) (s : State) (row : JobPlan) (failure : Option FailNo) (g : Trigger) → deed_of a ≡ deed.Rmdir g → acted (Some a) s row failure ≡ rmdir_by (rmdir_refusal s.kernel row.attach g) s row g
+rmdir_is (act.Rmdir t) s row failure g e = let same : t ≡ g = cc in ap (λ (x : Trigger). rmdir_by (rmdir_refusal s.kernel row.attach x) s row x) same
+rmdir_is _ s row failure g e = absurd cc
 
-record_is : (a : Act) (s : State) (row : JobPlan) (ok : Bool) (g : Trigger) (entry : Option Record) → deed_of a ≡ deed.Record g entry → acted (Some a) s row ok ≡ record_act s row g entry
-record_is (act.Record t written) s row ok g entry e =
+record_is : (a : Act) (s : State) (row : JobPlan) (failure : Option FailNo) (g : Trigger) (entry : Option Record) → deed_of a ≡ deed.Record g entry → acted (Some a) s row failure ≡ record_act s row g entry
+record_is (act.Record t written) s row failure g entry e =
     let same : t ≡ g = cc in
     let wrote : written ≡ entry = cc in
     ap (λ (x : Trigger). record_act s row x written) same ∙ ap (λ (x : Option Record). record_act s row g x) wrote
-record_is _ s row ok g entry e = absurd cc
+record_is _ s row failure g entry e = absurd cc
 
-reply_is : (a : Act) (s : State) (row : JobPlan) (ok : Bool) (status : Status) → deed_of a ≡ deed.Reply status → acted (Some a) s row ok ≡ reply_by (answer_refusal s.kernel row.attach row.token) s row status
-reply_is (act.Reply given) s row ok status e = let same : given ≡ status = cc in ap (λ (x : Status). reply_by (answer_refusal s.kernel row.attach row.token) s row x) same
-reply_is _ s row ok status e = absurd cc
+reply_is : (a : Act) (s : State) (row : JobPlan) (failure : Option FailNo) (status : Status) → deed_of a ≡ deed.Reply status → acted (Some a) s row failure ≡ reply_by (answer_refusal s.kernel row.attach row.token) s row status
+reply_is (act.Reply given) s row failure status e = let same : given ≡ status = cc in ap (λ (x : Status). reply_by (answer_refusal s.kernel row.attach row.token) s row x) same
+reply_is _ s row failure status e = absurd cc
 
-pub acts_mkdir : (s : State) (turn : Turn) (ok : Bool) (g : Trigger) → IsNext turn (deed.Mkdir g) s.daemon → act_outcome s turn.job ok ≡ mkdir_by (mkdir_refusal s.kernel (row_for s.daemon turn.job).attach g) s (row_for s.daemon turn.job) g
-acts_mkdir s turn ok g n =
+pub acts_mkdir : (s : State) (turn : Turn) (failure : Option FailNo) (g : Trigger) → IsNext turn (deed.Mkdir g) s.daemon → act_outcome s turn.job failure ≡ mkdir_by (mkdir_refusal s.kernel (row_for s.daemon turn.job).attach g) s (row_for s.daemon turn.job) g
+acts_mkdir s turn failure g n =
     let f = turn_found turn s.daemon n.comes in
-    acts_by s turn ok f ∙ mkdir_is f.act s f.row ok g (sym f.deed ∙ n.does) ∙ ap (λ (r : JobPlan). mkdir_by (mkdir_refusal s.kernel r.attach g) s r g) (sym (row_found turn s.daemon f))
+    acts_by s turn failure f ∙ mkdir_is f.act s f.row failure g (sym f.deed ∙ n.does) ∙ ap (λ (r : JobPlan). mkdir_by (mkdir_refusal s.kernel r.attach g) s r g) (sym (row_found turn s.daemon f))
 
-pub acts_mount : (s : State) (turn : Turn) (ok : Bool) (g : Trigger) → IsNext turn (deed.Mount g) s.daemon → act_outcome s turn.job ok ≡ mount_act s (row_for s.daemon turn.job) g ok
-acts_mount s turn ok g n =
+pub acts_mount : (s : State) (turn : Turn) (failure : Option FailNo) (g : Trigger) → IsNext turn (deed.Mount g) s.daemon → act_outcome s turn.job failure ≡ mount_act s (row_for s.daemon turn.job) g failure
+acts_mount s turn failure g n =
     let f = turn_found turn s.daemon n.comes in
-    acts_by s turn ok f ∙ mount_is f.act s f.row ok g (sym f.deed ∙ n.does) ∙ ap (λ (r : JobPlan). mount_act s r g ok) (sym (row_found turn s.daemon f))
+    acts_by s turn failure f ∙ mount_is f.act s f.row failure g (sym f.deed ∙ n.does) ∙ ap (λ (r : JobPlan). mount_act s r g failure) (sym (row_found turn s.daemon f))
 
-pub acts_umount : (s : State) (turn : Turn) (ok : Bool) (g : Trigger) → IsNext turn (deed.Umount g) s.daemon → act_outcome s turn.job ok ≡ umount_act s (row_for s.daemon turn.job) g ok
-acts_umount s turn ok g n =
+pub acts_umount : (s : State) (turn : Turn) (failure : Option FailNo) (g : Trigger) → IsNext turn (deed.Umount g) s.daemon → act_outcome s turn.job failure ≡ umount_act s (row_for s.daemon turn.job) g failure
+acts_umount s turn failure g n =
     let f = turn_found turn s.daemon n.comes in
-    acts_by s turn ok f ∙ umount_is f.act s f.row ok g (sym f.deed ∙ n.does) ∙ ap (λ (r : JobPlan). umount_act s r g ok) (sym (row_found turn s.daemon f))
+    acts_by s turn failure f ∙ umount_is f.act s f.row failure g (sym f.deed ∙ n.does) ∙ ap (λ (r : JobPlan). umount_act s r g failure) (sym (row_found turn s.daemon f))
 
-pub acts_rmdir : (s : State) (turn : Turn) (ok : Bool) (g : Trigger) → IsNext turn (deed.Rmdir g) s.daemon → act_outcome s turn.job ok ≡ rmdir_by (rmdir_refusal s.kernel (row_for s.daemon turn.job).attach g) s (row_for s.daemon turn.job) g
-acts_rmdir s turn ok g n =
+pub acts_rmdir : (s : State) (turn : Turn) (failure : Option FailNo) (g : Trigger) → IsNext turn (deed.Rmdir g) s.daemon → act_outcome s turn.job failure ≡ rmdir_by (rmdir_refusal s.kernel (row_for s.daemon turn.job).attach g) s (row_for s.daemon turn.job) g
+acts_rmdir s turn failure g n =
     let f = turn_found turn s.daemon n.comes in
-    acts_by s turn ok f ∙ rmdir_is f.act s f.row ok g (sym f.deed ∙ n.does) ∙ ap (λ (r : JobPlan). rmdir_by (rmdir_refusal s.kernel r.attach g) s r g) (sym (row_found turn s.daemon f))
+    acts_by s turn failure f ∙ rmdir_is f.act s f.row failure g (sym f.deed ∙ n.does) ∙ ap (λ (r : JobPlan). rmdir_by (rmdir_refusal s.kernel r.attach g) s r g) (sym (row_found turn s.daemon f))
 
-pub acts_record : (s : State) (turn : Turn) (ok : Bool) (g : Trigger) (entry : Option Record) → IsNext turn (deed.Record g entry) s.daemon → act_outcome s turn.job ok ≡ record_act s (row_for s.daemon turn.job) g entry
-acts_record s turn ok g entry n =
+pub acts_record : (s : State) (turn : Turn) (failure : Option FailNo) (g : Trigger) (entry : Option Record) → IsNext turn (deed.Record g entry) s.daemon → act_outcome s turn.job failure ≡ record_act s (row_for s.daemon turn.job) g entry
+acts_record s turn failure g entry n =
     let f = turn_found turn s.daemon n.comes in
-    acts_by s turn ok f ∙ record_is f.act s f.row ok g entry (sym f.deed ∙ n.does) ∙ ap (λ (r : JobPlan). record_act s r g entry) (sym (row_found turn s.daemon f))
+    acts_by s turn failure f ∙ record_is f.act s f.row failure g entry (sym f.deed ∙ n.does) ∙ ap (λ (r : JobPlan). record_act s r g entry) (sym (row_found turn s.daemon f))
 
-pub acts_reply : (s : State) (turn : Turn) (ok : Bool) (status : Status) → IsNext turn (deed.Reply status) s.daemon → act_outcome s turn.job ok ≡ reply_by (answer_refusal s.kernel (row_for s.daemon turn.job).attach (row_for s.daemon turn.job).token) s (row_for s.daemon turn.job) status
-acts_reply s turn ok status n =
+pub acts_reply : (s : State) (turn : Turn) (failure : Option FailNo) (status : Status) → IsNext turn (deed.Reply status) s.daemon → act_outcome s turn.job failure ≡ reply_by (answer_refusal s.kernel (row_for s.daemon turn.job).attach (row_for s.daemon turn.job).token) s (row_for s.daemon turn.job) status
+acts_reply s turn failure status n =
     let f = turn_found turn s.daemon n.comes in
-    acts_by s turn ok f ∙ reply_is f.act s f.row ok status (sym f.deed ∙ n.does) ∙ ap (λ (r : JobPlan). reply_by (answer_refusal s.kernel r.attach r.token) s r status) (sym (row_found turn s.daemon f))
+    acts_by s turn failure f ∙ reply_is f.act s f.row failure status (sym f.deed ∙ n.does) ∙ ap (λ (r : JobPlan). reply_by (answer_refusal s.kernel r.attach r.token) s r status) (sym (row_found turn s.daemon f))
 
 -- no job, or one without an act, is refused
-none_act : (job : ℕ) (row : JobPlan) (o : Option Act) (s : State) (ok : Bool) → turn_by job row o ≡ None → acted o s row ok ≡ refused s EINVAL
-none_act job row None s ok h = refl
-none_act job row (Some a) s ok h = absurd cc
+none_act : (job : ℕ) (row : JobPlan) (o : Option Act) (s : State) (failure : Option FailNo) → turn_by job row o ≡ None → acted o s row failure ≡ refused s EINVAL
+none_act job row None s failure h = refl
+none_act job row (Some a) s failure h = absurd cc
 
-none_row : (job : ℕ) (o : Option JobPlan) (s : State) (ok : Bool) → turn_in job o ≡ None → acted_at o s ok ≡ refused s EINVAL
-none_row job None s ok h = refl
-none_row job (Some row) s ok h = none_act job row (next_of row.plan) s ok h
+none_row : (job : ℕ) (o : Option JobPlan) (s : State) (failure : Option FailNo) → turn_in job o ≡ None → acted_at o s failure ≡ refused s EINVAL
+none_row job None s failure h = refl
+none_row job (Some row) s failure h = none_act job row (next_of row.plan) s failure h
 
-pub acts_none : (s : State) (job : ℕ) (ok : Bool) → turn_of job s.daemon ≡ None → act_outcome s job ok ≡ refused s EINVAL
-acts_none s job ok h = none_row job (job_of s.daemon.jobs job) s ok h
+pub acts_none : (s : State) (job : ℕ) (failure : Option FailNo) → turn_of job s.daemon ≡ None → act_outcome s job failure ≡ refused s EINVAL
+acts_none s job failure h = none_row job (job_of s.daemon.jobs job) s failure h
 
 -- ---- from a look-up
 
@@ -177,9 +178,9 @@ pub next_from : (turn : Turn) (job : ℕ) (deed : Deed) (d : DaemonState) → tu
 next_from turn job deed d h is = record { comes = subst (λ (j : ℕ). turn_of j d ≡ Some turn) (sym (turn_job turn job d h)) h; does = is }
 
 -- the act of the job that was looked up
-pub acts_as : (s : State) (job : ℕ) (turn : Turn) (ok : Bool) (o : Outcome) (came : Result Answer Errno) (new : State) → turn_of job s.daemon ≡ Some turn → act_outcome s turn.job ok ≡ o → Goes o s came new → Goes (act_outcome s job ok) s came new
-acts_as s job turn ok o came new found same h =
-    subst (λ (x : Outcome). Goes x s came new) (sym same ∙ ap (λ (j : ℕ). act_outcome s j ok) (turn_job turn job s.daemon found)) h
+pub acts_as : (s : State) (job : ℕ) (turn : Turn) (failure : Option FailNo) (o : Outcome) (came : Result Answer Errno) (new : State) → turn_of job s.daemon ≡ Some turn → act_outcome s turn.job failure ≡ o → Goes o s came new → Goes (act_outcome s job failure) s came new
+acts_as s job turn failure o came new found same h =
+    subst (λ (x : Outcome). Goes x s came new) (sym same ∙ ap (λ (j : ℕ). act_outcome s j failure) (turn_job turn job s.daemon found)) h
 
 -- ---- what the daemon may write down
 

@@ -1,6 +1,7 @@
 -- The answers to most events own no memory.
 use Rattle.std.proofs.Common.{◌≡◌, ℕ, Bool, true, false, not, List, Option, Some, None, refl}
 use Rattle.std.specs.Prelude.{is_some, is_none, if◌then◌else◌}
+use Rattle.am_names.specs.declared.fail_no.FailNo.{FailNo}
 use Rattle.am_names.specs.declared.errno.Errno.{Errno}
 use Rattle.am_names.specs.declared.errno.Errno.TheVariants.{ENOENT, EBUSY, EEXIST}
 use Rattle.am_names.specs.declared.trigger.Trigger.{Trigger}
@@ -41,7 +42,7 @@ use Rattle.am_machine.specs.Machine.{outcome_of}
 use Rattle.am_machine.specs.Events.Walkers.{goes}
 use Rattle.am_machine.specs.Events.Administration.{attach_refusal, attached_as, kind_told}
 use Rattle.am_machine.specs.Events.Deliveries.{delivered_at, may_take}
-use Rattle.am_machine.specs.Events.Acts.{mkdir_by, mount_by, umount_by, rmdir_by, reply_by, acted, acted_at}
+use Rattle.am_machine.specs.Events.Acts.{mount_tried, umount_tried, mkdir_by, mount_by, umount_by, rmdir_by, reply_by, acted, acted_at}
 use Rattle.am_machine.specs.Events.Requests.{reattach_refused}
 use Rattle.am_world.specs.Copies.{owns}
 
@@ -134,20 +135,28 @@ reply_free : (first : Option Errno) (s : State) (row : JobPlan) (g : Status) →
 reply_free None s row g = record { free = refl }
 reply_free (Some e) s row g = record { free = refl }
 
-acted_free : (a : Option Act) (s : State) (row : JobPlan) (ok : Bool) → Free (acted a s row ok)
-acted_free None s row ok = record { free = refl }
-acted_free (Some (act.Mkdir g)) s row ok = mkdir_free (mkdir_refusal s.kernel row.attach g) s row g
-acted_free (Some (act.Mount g entry)) s row ok =
-    either (not (is_current s.kernel g.fs row.attach)) _ _ (record { free = refl }) (either (not ok) _ _ (record { free = refl }) (mount_free (mount_on_refusal s.kernel row.attach g) s row g))
-acted_free (Some (act.Umount g)) s row ok =
-    either (not (is_current s.kernel g.fs row.attach)) _ _ (record { free = refl }) (either (not ok) _ _ (record { free = refl }) (umount_free (umount_from_refusal s.kernel row.attach g) s row g))
-acted_free (Some (act.Rmdir g)) s row ok = rmdir_free (rmdir_refusal s.kernel row.attach g) s row g
-acted_free (Some (act.Record g entry)) s row ok = either (not (holds s.daemon row.trigger.fs row.attach)) _ _ (record { free = refl }) (record { free = refl })
-acted_free (Some (act.Reply status)) s row ok = reply_free (answer_refusal s.kernel row.attach row.token) s row status
+mount_tried_free : (failure : Option FailNo) (s : State) (row : JobPlan) (g : Trigger) → Free (mount_tried failure s row g)
+mount_tried_free (Some error) s row g = record { free = refl }
+mount_tried_free None s row g = mount_free (mount_on_refusal s.kernel row.attach g) s row g
 
-act_free : (row : Option JobPlan) (s : State) (ok : Bool) → Free (acted_at row s ok)
-act_free None s ok = record { free = refl }
-act_free (Some row) s ok = acted_free (next_of row.plan) s row ok
+umount_tried_free : (failure : Option FailNo) (s : State) (row : JobPlan) (g : Trigger) → Free (umount_tried failure s row g)
+umount_tried_free (Some error) s row g = record { free = refl }
+umount_tried_free None s row g = umount_free (umount_from_refusal s.kernel row.attach g) s row g
+
+acted_free : (a : Option Act) (s : State) (row : JobPlan) (failure : Option FailNo) → Free (acted a s row failure)
+acted_free None s row failure = record { free = refl }
+acted_free (Some (act.Mkdir g)) s row failure = mkdir_free (mkdir_refusal s.kernel row.attach g) s row g
+acted_free (Some (act.Mount g entry)) s row failure =
+    either (not (is_current s.kernel g.fs row.attach)) _ _ (record { free = refl }) (mount_tried_free failure s row g)
+acted_free (Some (act.Umount g)) s row failure =
+    either (not (is_current s.kernel g.fs row.attach)) _ _ (record { free = refl }) (umount_tried_free failure s row g)
+acted_free (Some (act.Rmdir g)) s row failure = rmdir_free (rmdir_refusal s.kernel row.attach g) s row g
+acted_free (Some (act.Record g entry)) s row failure = either (not (holds s.daemon row.trigger.fs row.attach)) _ _ (record { free = refl }) (record { free = refl })
+acted_free (Some (act.Reply status)) s row failure = reply_free (answer_refusal s.kernel row.attach row.token) s row status
+
+act_free : (row : Option JobPlan) (s : State) (failure : Option FailNo) → Free (acted_at row s failure)
+act_free None s failure = record { free = refl }
+act_free (Some row) s failure = acted_free (next_of row.plan) s row failure
 
 -- ---- every event but those that tell where a walk arrives, or what has gone
 

@@ -74,11 +74,11 @@ at_moment (kernel.Goes answer shown made) at s moment h = record { spares = h.sp
 at_moment (kernel.Fails e) at s moment h = h
 
 -- a walk arrives where it would have
-pub walk_spares : (pipe : PipeState) (s : State) (walker ns : ℕ) (path : List (List ℕ)) (now : ℕ) → IsSpare (arrival_told (arrival_of s.kernel ns path)) (goes (walks.walk_outcome pipe s.kernel walker ns path now) s).answer
+pub walk_spares : (pipe : PipeState) (s : State) (walker ns : ℕ) (path : List (List ℕ)) (now : ℕ) → IsSpare (arrival_told (arrival_of s.kernel ns path now)) (goes (walks.walk_outcome pipe s.kernel walker ns path now) s).answer
 walk_spares pipe s walker ns path now =
     let moment = moment_of s.kernel now in
     let begin = walks.first_begin walker ns path moment in
-    let walked = walk_of (scene_of s.kernel) ns path in
+    let walked = walk_of (scene_of s.kernel moment) ns path in
     (at_moment (walks.walk_at pipe s.kernel begin) (arrived_at walked.stop) s moment
     (either (arrived_at walked.stop) s (is_busy s.kernel walker) _ _ (free (arrived_at walked.stop) s _ refl) (begun_by walked.stop pipe s s.kernel begin walked.passed))).spares
 
@@ -86,40 +86,54 @@ or_failed : (o : kernel.Outcome) (at : Option Position) (s : State) (base : Kern
 or_failed (kernel.Goes answer shown made) at s base h = h
 or_failed (kernel.Fails e) at s base h = free at s _ refl
 
-again : (pipe : PipeState) (s : State) (base : KernelState) (row : WalkRow) (moment : ℕ) → Spares (arrival_of s.kernel row.ns row.path) s (resumes.again pipe s.kernel base row moment)
+-- where a walk would arrive at a moment
+abbrev arrival_at : KernelState → ℕ → List (List ℕ) → ℕ → Option Position
+arrival_at k ns path moment = arrived_at (walk_of (scene_of k moment) ns path).stop
+
+abbrev arrival_by : KernelState → Option WalkRow → ℕ → Option Position
+arrival_by k None moment = None
+arrival_by k (Some row) moment = arrival_at k row.ns row.path moment
+
+same_arrival : (k : KernelState) (now : ℕ) (row : Option WalkRow) → arrival_in k row now ≡ arrival_by k row (moment_of k now)
+same_arrival k now None = refl
+same_arrival k now (Some row) = refl
+
+again : (pipe : PipeState) (s : State) (base : KernelState) (row : WalkRow) (moment : ℕ) → Spares (arrival_at s.kernel row.ns row.path moment) s (resumes.again pipe s.kernel base row moment)
 again pipe s base row moment =
-    let walked = walk_of (scene_of s.kernel) row.ns row.path in
+    let walked = walk_of (scene_of s.kernel moment) row.ns row.path in
     either (arrived_at walked.stop) s (nat_le resumes.most_begins row.begins) _ _ (free (arrived_at walked.stop) s _ refl)
     (or_failed (walks.begun_with walked pipe base (resumes.next_begin row moment)) (arrived_at walked.stop) s base (begun_by walked.stop pipe s base (resumes.next_begin row moment) walked.passed))
 
-resumed_as : (kind : TokenKind) (status : Status) (pipe : PipeState) (s : State) (wait : WaitRow) (row : WalkRow) (moment : ℕ) → Spares (arrival_of s.kernel row.ns row.path) s (resumes.resumed_as kind status pipe s.kernel wait row moment)
-resumed_as Missing Fail pipe s wait row moment = free (arrival_of s.kernel row.ns row.path) s _ refl
+resumed_as : (kind : TokenKind) (status : Status) (pipe : PipeState) (s : State) (wait : WaitRow) (row : WalkRow) (moment : ℕ) → Spares (arrival_at s.kernel row.ns row.path moment) s (resumes.resumed_as kind status pipe s.kernel wait row moment)
+resumed_as Missing (Fail error) pipe s wait row moment = free (arrival_at s.kernel row.ns row.path moment) s _ refl
 resumed_as Missing Ready pipe s wait row moment = again pipe s _ row moment
 resumed_as Expire status pipe s wait row moment = again pipe s _ row moment
 
 told_as : (kind : TokenKind) (status : Status) (at : Option Position) (s : State) (wait : WaitRow) (moment : ℕ) → Spares at s (resumes.told_as kind status s.kernel wait moment)
 told_as Missing status at s wait moment = free at s _ refl
 told_as Expire Ready at s wait moment = free at s _ refl
-told_as Expire Fail at s wait moment = free at s _ refl
+told_as Expire (Fail error) at s wait moment = free at s _ refl
 
-resumed_walk : (row : Option WalkRow) (status : Status) (pipe : PipeState) (s : State) (wait : WaitRow) (moment : ℕ) → Spares (arrival_in s.kernel row) s (resumes.resumed_walk row status pipe s.kernel wait moment)
+resumed_walk : (row : Option WalkRow) (status : Status) (pipe : PipeState) (s : State) (wait : WaitRow) (moment : ℕ) → Spares (arrival_by s.kernel row moment) s (resumes.resumed_walk row status pipe s.kernel wait moment)
 resumed_walk None status pipe s wait moment = told_as wait.kind status None s wait moment
 resumed_walk (Some row) status pipe s wait moment = resumed_as wait.kind status pipe s wait row moment
 
-resumed_by : (status : Option Status) (pipe : PipeState) (s : State) (wait : WaitRow) (moment : ℕ) → Spares (arrival_again_of s.kernel wait.walker) s (resumes.resumed_by status pipe s.kernel wait moment)
-resumed_by None pipe s wait moment = free (arrival_again_of s.kernel wait.walker) s _ refl
+resumed_by : (status : Option Status) (pipe : PipeState) (s : State) (wait : WaitRow) (moment : ℕ) → Spares (arrival_by s.kernel (resumes.walk_in s.kernel.walks wait.walker) moment) s (resumes.resumed_by status pipe s.kernel wait moment)
+resumed_by None pipe s wait moment = free (arrival_by s.kernel (resumes.walk_in s.kernel.walks wait.walker) moment) s _ refl
 resumed_by (Some status) pipe s wait moment = resumed_walk (resumes.walk_in s.kernel.walks wait.walker) status pipe s wait moment
 
-resumed_at : (found : Option WaitRow) (pipe : PipeState) (s : State) (walker moment : ℕ) → wait_of s.kernel.waits.waits walker ≡ found → Spares (arrival_again_of s.kernel walker) s (resumes.resumed_at found pipe s.kernel moment)
-resumed_at None pipe s walker moment e = free (arrival_again_of s.kernel walker) s _ refl
+resumed_at : (found : Option WaitRow) (pipe : PipeState) (s : State) (walker moment : ℕ) → wait_of s.kernel.waits.waits walker ≡ found → Spares (arrival_by s.kernel (resumes.walk_in s.kernel.walks walker) moment) s (resumes.resumed_at found pipe s.kernel moment)
+resumed_at None pipe s walker moment e = free (arrival_by s.kernel (resumes.walk_in s.kernel.walks walker) moment) s _ refl
 resumed_at (Some wait) pipe s walker moment e =
-    subst (λ (n : ℕ). Spares (arrival_again_of s.kernel n) s (resumes.resumed_at (Some wait) pipe s.kernel moment)) (found_number (λ (row : WaitRow). row.walker) walker s.kernel.waits.waits wait e) (resumed_by wait.status pipe s wait moment)
+    subst (λ (n : ℕ). Spares (arrival_by s.kernel (resumes.walk_in s.kernel.walks n) moment) s (resumes.resumed_at (Some wait) pipe s.kernel moment)) (found_number (λ (row : WaitRow). row.walker) walker s.kernel.waits.waits wait e) (resumed_by wait.status pipe s wait moment)
 
 -- a walk that begins again arrives where it would have
-pub resume_spares : (pipe : PipeState) (s : State) (walker now : ℕ) → IsSpare (arrival_told (arrival_again_of s.kernel walker)) (goes (resumes.resume_outcome pipe s.kernel walker now) s).answer
+pub resume_spares : (pipe : PipeState) (s : State) (walker now : ℕ) → IsSpare (arrival_told (arrival_again_of s.kernel walker now)) (goes (resumes.resume_outcome pipe s.kernel walker now) s).answer
 resume_spares pipe s walker now =
-    let at = arrival_again_of s.kernel walker in
     let moment = moment_of s.kernel now in
+    let row = resumes.walk_in s.kernel.walks walker in
+    let at = arrival_by s.kernel row moment in
+    subst (λ (o : Option Position). IsSpare (arrival_told o) (goes (resumes.resume_outcome pipe s.kernel walker now) s).answer) (sym (same_arrival s.kernel now row))
     (at_moment (resumes.resume_at pipe s.kernel walker moment) at s moment
     (either at s (is_some (mount_of s.kernel.uses walker)) _ _ (free at s _ refl) (resumed_at (wait_of s.kernel.waits.waits walker) pipe s walker moment refl))).spares
 

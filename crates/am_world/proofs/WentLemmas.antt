@@ -2,6 +2,7 @@
 use Rattle.std.proofs.Common.{◌≡◌, ℕ, Bool, true, false, not, List, [], ◌∷◌, ◌++◌, Option, Some, None, refl, sym, ap, ◌∙◌, subst, inl, inr}
 use Rattle.std.specs.Prelude.{Result, Ok, Err, OnOk, OnErr, if◌then◌else◌}
 use Rattle.std.proofs.lemmas.List.{append-nil}
+use Rattle.am_names.specs.declared.fail_no.FailNo.{FailNo}
 use Rattle.am_names.specs.declared.errno.Errno.{Errno}
 use Rattle.am_names.specs.declared.errno.Errno.TheVariants.{ENOENT, EPERM, EBUSY, EEXIST, NoMemory, Stranger}
 use Rattle.am_names.specs.Errno.{RefusedAs}
@@ -33,6 +34,7 @@ use Rattle.am_machine.specs.declared.answer.Answer.TheVariants as answers
 use Rattle.am_machine.specs.State.{State}
 use Rattle.am_machine.specs.Outcome.{Outcome, refused}
 use Rattle.am_machine.specs.Machine.{after}
+use Rattle.am_machine.specs.Events.Acts as acts
 use Rattle.am_machine.specs.Events.Acts.{goes_on, mkdir_by, mount_fails, mount_by, mount_act, umount_fails, umount_by, umount_act, rmdir_by}
 use Rattle.am_world.specs.Halves.{written, Goes}
 use Rattle.am_world.specs.Acts.{as_made, as_removed, is_no_memory}
@@ -108,36 +110,40 @@ first_by T first _ h other = h
 pub first_is : (T : Type 0) (first : Option Errno) (e : Errno) (r : Result T Errno) → r ≡ Err e → RefusedAs first r → is_no_memory e ≡ false → first ≡ Some e
 first_is T first e r is h other = first_by T first e (subst (λ (x : Result T Errno). RefusedAs first x) is h) other
 
+-- no failure is told
+pub is_none : (failure : Option FailNo) → ((error : FailNo) → failure ≡ Some error → ⊥) → failure ≡ None
+is_none None h = refl
+is_none (Some error) h = absurd (h error refl)
+
 -- the attachment is current
-mount_well : (s : State) (row : JobPlan) (g : Trigger) (ok : Bool) (attach : ℕ) → row.attach ≡ attach → true ≡ is_current s.kernel g.fs attach →
-    mount_act s row g ok ≡ (if not ok then mount_fails s row else mount_by (mount_on_refusal s.kernel row.attach g) s row g)
-mount_well s row g ok attach its current =
-    ap (λ (b : Bool). if not b then refused s EPERM else if not ok then mount_fails s row else mount_by (mount_on_refusal s.kernel row.attach g) s row g) (ap (is_current s.kernel g.fs) its ∙ sym current)
+mount_well : (s : State) (row : JobPlan) (g : Trigger) (failure : Option FailNo) (attach : ℕ) → row.attach ≡ attach → true ≡ is_current s.kernel g.fs attach →
+    mount_act s row g failure ≡ acts.mount_tried failure s row g
+mount_well s row g failure attach its current =
+    ap (λ (b : Bool). if not b then refused s EPERM else acts.mount_tried failure s row g) (ap (is_current s.kernel g.fs) its ∙ sym current)
 
--- told as a failure
-pub mount_unwell : (s : State) (row : JobPlan) (g : Trigger) (ok : Bool) (attach : ℕ) → row.attach ≡ attach → true ≡ is_current s.kernel g.fs attach → ok ≡ false → mount_act s row g ok ≡ mount_fails s row
-mount_unwell s row g ok attach its current unwell =
-    mount_well s row g ok attach its current ∙ ap (λ (b : Bool). if not b then mount_fails s row else mount_by (mount_on_refusal s.kernel row.attach g) s row g) unwell
+pub mount_unwell : (s : State) (row : JobPlan) (g : Trigger) (failure : Option FailNo) (error : FailNo) (attach : ℕ) → row.attach ≡ attach → true ≡ is_current s.kernel g.fs attach → failure ≡ Some error → mount_act s row g failure ≡ mount_fails s row error
+mount_unwell s row g failure error attach its current unwell =
+    mount_well s row g failure attach its current ∙ ap (λ (o : Option FailNo). acts.mount_tried o s row g) unwell
 
-pub mount_tried : (s : State) (row : JobPlan) (g : Trigger) (ok : Bool) (attach : ℕ) (first : Option Errno) → row.attach ≡ attach → true ≡ is_current s.kernel g.fs attach → ok ≡ true → mount_on_refusal s.kernel attach g ≡ first →
-    mount_act s row g ok ≡ mount_by first s row g
-mount_tried s row g ok attach first its current well refusal =
-    mount_well s row g ok attach its current ∙ ap (λ (b : Bool). if not b then mount_fails s row else mount_by (mount_on_refusal s.kernel row.attach g) s row g) well
+pub mount_tried : (s : State) (row : JobPlan) (g : Trigger) (failure : Option FailNo) (attach : ℕ) (first : Option Errno) → row.attach ≡ attach → true ≡ is_current s.kernel g.fs attach → failure ≡ None → mount_on_refusal s.kernel attach g ≡ first →
+    mount_act s row g failure ≡ mount_by first s row g
+mount_tried s row g failure attach first its current well refusal =
+    mount_well s row g failure attach its current ∙ ap (λ (o : Option FailNo). acts.mount_tried o s row g) well
     ∙ ap (λ (o : Option Errno). mount_by o s row g) (ap (λ (a : ℕ). mount_on_refusal s.kernel a g) its ∙ refusal)
 
-umount_well : (s : State) (row : JobPlan) (g : Trigger) (ok : Bool) (attach : ℕ) → row.attach ≡ attach → true ≡ is_current s.kernel g.fs attach →
-    umount_act s row g ok ≡ (if not ok then umount_fails s row else umount_by (umount_from_refusal s.kernel row.attach g) s row g)
-umount_well s row g ok attach its current =
-    ap (λ (b : Bool). if not b then refused s EPERM else if not ok then umount_fails s row else umount_by (umount_from_refusal s.kernel row.attach g) s row g) (ap (is_current s.kernel g.fs) its ∙ sym current)
+umount_well : (s : State) (row : JobPlan) (g : Trigger) (failure : Option FailNo) (attach : ℕ) → row.attach ≡ attach → true ≡ is_current s.kernel g.fs attach →
+    umount_act s row g failure ≡ acts.umount_tried failure s row g
+umount_well s row g failure attach its current =
+    ap (λ (b : Bool). if not b then refused s EPERM else acts.umount_tried failure s row g) (ap (is_current s.kernel g.fs) its ∙ sym current)
 
-pub umount_unwell : (s : State) (row : JobPlan) (g : Trigger) (ok : Bool) (attach : ℕ) → row.attach ≡ attach → true ≡ is_current s.kernel g.fs attach → ok ≡ false → umount_act s row g ok ≡ umount_fails s row
-umount_unwell s row g ok attach its current unwell =
-    umount_well s row g ok attach its current ∙ ap (λ (b : Bool). if not b then umount_fails s row else umount_by (umount_from_refusal s.kernel row.attach g) s row g) unwell
+pub umount_unwell : (s : State) (row : JobPlan) (g : Trigger) (failure : Option FailNo) (error : FailNo) (attach : ℕ) → row.attach ≡ attach → true ≡ is_current s.kernel g.fs attach → failure ≡ Some error → umount_act s row g failure ≡ umount_fails s row error
+umount_unwell s row g failure error attach its current unwell =
+    umount_well s row g failure attach its current ∙ ap (λ (o : Option FailNo). acts.umount_tried o s row g) unwell
 
-pub umount_tried : (s : State) (row : JobPlan) (g : Trigger) (ok : Bool) (attach : ℕ) (first : Option Errno) → row.attach ≡ attach → true ≡ is_current s.kernel g.fs attach → ok ≡ true → umount_from_refusal s.kernel attach g ≡ first →
-    umount_act s row g ok ≡ umount_by first s row g
-umount_tried s row g ok attach first its current well refusal =
-    umount_well s row g ok attach its current ∙ ap (λ (b : Bool). if not b then umount_fails s row else umount_by (umount_from_refusal s.kernel row.attach g) s row g) well
+pub umount_tried : (s : State) (row : JobPlan) (g : Trigger) (failure : Option FailNo) (attach : ℕ) (first : Option Errno) → row.attach ≡ attach → true ≡ is_current s.kernel g.fs attach → failure ≡ None → umount_from_refusal s.kernel attach g ≡ first →
+    umount_act s row g failure ≡ umount_by first s row g
+umount_tried s row g failure attach first its current well refusal =
+    umount_well s row g failure attach its current ∙ ap (λ (o : Option FailNo). acts.umount_tried o s row g) well
     ∙ ap (λ (o : Option Errno). umount_by o s row g) (ap (λ (a : ℕ). umount_from_refusal s.kernel a g) its ∙ refusal)
 
 -- the outcome is another name of one that has come

@@ -13,7 +13,7 @@ use crate::halves::Halves;
 use am_daemon::Daemon;
 use am_job::{Act, Outcome};
 use am_machine::Answer;
-use am_names::{Attach, Errno, JobId, Status, Token, Trigger};
+use am_names::{Attach, Errno, FailNo, JobId, Status, Token, Trigger};
 use am_state::{KeptTrigger, Obs, Record};
 use std::alloc::Global;
 
@@ -133,16 +133,16 @@ impl Halves {
         alloc: Global,
         turn: &Turn,
         trigger: &Trigger,
-        ok: bool,
+        failure: Option<FailNo>,
     ) -> Result<Answer, Errno>
         requires { IsNext turn.now (deed.Mount trigger.now) (daemon_of self.old.daemon) }
-        ensures { Goes (mount_act (state_of self.old) (row_for (daemon_of self.old.daemon) turn.now.job) trigger.now ok) (state_of self.old) result (state_of self.new) }
+        ensures { Goes (mount_act (state_of self.old) (row_for (daemon_of self.old.daemon) turn.now.job) trigger.now failure) (state_of self.old) result (state_of self.new) }
     {
         if !self.kernel.is_current(trigger.fs, turn.attach) {
             return Err(Errno::EPERM);
         }
-        if !ok {
-            finish(&mut self.daemon, turn.job, Outcome::Failed);
+        if let Some(no) = failure {
+            finish(&mut self.daemon, turn.job, Outcome::Failed(no));
             return Ok(Answer::FailedMount);
         }
         match self
@@ -157,7 +157,7 @@ impl Halves {
                 if is_no_memory(errno) {
                     return Err(errno);
                 }
-                finish(&mut self.daemon, turn.job, Outcome::Failed);
+                finish(&mut self.daemon, turn.job, Outcome::Failed(FailNo::ENOENT));
                 Ok(Answer::FailedMount)
             }
         }
@@ -168,16 +168,16 @@ impl Halves {
         alloc: Global,
         turn: &Turn,
         trigger: &Trigger,
-        ok: bool,
+        failure: Option<FailNo>,
     ) -> Result<Answer, Errno>
         requires { IsNext turn.now (deed.Umount trigger.now) (daemon_of self.old.daemon) }
-        ensures { Goes (umount_act (state_of self.old) (row_for (daemon_of self.old.daemon) turn.now.job) trigger.now ok) (state_of self.old) result (state_of self.new) }
+        ensures { Goes (umount_act (state_of self.old) (row_for (daemon_of self.old.daemon) turn.now.job) trigger.now failure) (state_of self.old) result (state_of self.new) }
     {
         if !self.kernel.is_current(trigger.fs, turn.attach) {
             return Err(Errno::EPERM);
         }
-        if !ok {
-            finish(&mut self.daemon, turn.job, Outcome::Failed);
+        if let Some(no) = failure {
+            finish(&mut self.daemon, turn.job, Outcome::Failed(no));
             return Ok(Answer::FailedUmount);
         }
         match self
@@ -192,7 +192,7 @@ impl Halves {
                 if is_no_memory(errno) {
                     return Err(errno);
                 }
-                finish(&mut self.daemon, turn.job, Outcome::Failed);
+                finish(&mut self.daemon, turn.job, Outcome::Failed(FailNo::ENOENT));
                 Ok(Answer::FailedUmount)
             }
         }
@@ -249,17 +249,23 @@ impl Halves {
         Ok(Answer::DidReply)
     }
 
-    /// The daemon makes the next act of a job.
-    pub fn act(&mut self, alloc: Global, job: JobId, ok: bool) -> Result<Answer, Errno>
-        ensures { Goes (act_outcome (state_of self.old) job ok) (state_of self.old) result (state_of self.new) }
+    /// The daemon makes the next act of a job, which fails with this error if it is a mount or an
+    /// unmount.
+    pub fn act(
+        &mut self,
+        alloc: Global,
+        job: JobId,
+        failure: Option<FailNo>,
+    ) -> Result<Answer, Errno>
+        ensures { Goes (act_outcome (state_of self.old) job failure) (state_of self.old) result (state_of self.new) }
     {
         let Some(turn) = turn_of(&self.daemon, job) else {
             return Err(Errno::EINVAL);
         };
         match &turn.deed {
             Deed::Mkdir { trigger } => self.make_directory(&turn, trigger),
-            Deed::Mount { trigger } => self.mount_on(alloc, &turn, trigger, ok),
-            Deed::Umount { trigger } => self.umount_from(alloc, &turn, trigger, ok),
+            Deed::Mount { trigger } => self.mount_on(alloc, &turn, trigger, failure),
+            Deed::Umount { trigger } => self.umount_from(alloc, &turn, trigger, failure),
             Deed::Rmdir { trigger } => self.remove_directory(alloc, &turn, trigger),
             Deed::Record { trigger, entry } => self.write_down(alloc, &turn, trigger, *entry),
             Deed::Reply { status } => self.reply(alloc, &turn, *status),

@@ -94,11 +94,11 @@ impl Halves {
         match event {
             Event::Umount { ns, path } => self.umount_told(alloc, *ns, path),
             Event::DropNamespace { ns } => self.drop_told(alloc, *ns),
-            Event::Walk { ns, path, .. } => {
-                Ok(arrival_told(self.kernel.arrival(alloc, *ns, &path.path())?))
+            Event::Walk { ns, path, now, .. } => {
+                Ok(arrival_told(self.kernel.arrival(alloc, *ns, &path.path(), *now)?))
             }
-            Event::Resume { walker, .. } => {
-                Ok(arrival_told(self.kernel.arrival_again(alloc, *walker)?))
+            Event::Resume { walker, now, .. } => {
+                Ok(arrival_told(self.kernel.arrival_again(alloc, *walker, *now)?))
             }
             _ => Ok(None),
         }

@@ -50,7 +50,7 @@ impl Halves {
                 pipe,
             } => self.expire(alloc, *walker, *fs, *now, *immediate, *pipe),
             Event::Deliver { token, bytes } => self.deliver(alloc, *token, bytes),
-            Event::Act { job, ok } => self.act(alloc, *job, *ok),
+            Event::Act { job, failure } => self.act(alloc, *job, *failure),
             Event::Repeat {
                 attach,
                 token,

@@ -5,7 +5,7 @@ ghost use Rattle.am_names.specs.Limits.{IsInRange};
 
 use am_map::Map;
 use am_master::Master;
-use am_names::Limits;
+use am_names::{Limits, Seconds};
 use am_pipe::{PutEnd, pipe};
 use am_shared::{Caller, Opened, Shared, gather, share};
 use am_world::{Answer, Event};
@@ -20,6 +20,7 @@ const LIMITS: Limits = Limits {
     mounts: 1_000_000,
     waiters: 1_024,
     tokens: u32::MAX,
+    negative: Seconds(0),
 };
 
 /// The history has one event, a death of the daemon, and it was answered by `Done`.

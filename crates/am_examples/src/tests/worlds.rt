@@ -16,6 +16,7 @@ const LIMITS: Limits = Limits {
     mounts: 1_000_000,
     waiters: 1_024,
     tokens: u32::MAX,
+    negative: Seconds(0),
 };
 
 /// A world with the point `/auto`, whose map has the keys `home` and `work`.
@@ -68,7 +69,7 @@ fn deliver() -> Event {
 fn act() -> Event {
     Event::Act {
         job: JobId(1),
-        ok: true,
+        failure: None,
     }
 }
 

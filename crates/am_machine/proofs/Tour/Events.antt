@@ -2,6 +2,8 @@
 use Rattle.std.proofs.Common.{◌≡◌, ℕ, ◌+◌, Bool, true, false, not, ◌==◌, List, [], ◌∷◌, length, Option, Some, None, refl, sym, subst}
 use Rattle.std.specs.Prelude.{is_some, Result, Ok, Err, if◌then◌else◌}
 use Rattle.std.specs.Option.{option_map}
+use Rattle.am_names.specs.declared.fail_no.FailNo.{FailNo}
+use Rattle.am_names.specs.declared.fail_no.FailNo.TheVariants.{ENOENT}
 use Rattle.am_names.specs.declared.errno.Errno.{Errno}
 use Rattle.am_names.specs.declared.errno.Errno.TheVariants as errnos
 use Rattle.am_names.specs.declared.row.Position.{Position}
@@ -296,36 +298,42 @@ module _ (Fits : List (List ℕ) → Type 0) (P : KernelState → List Obs → K
   mkdir (Some errnos.EEXIST) s row trigger i = rests s row (act.Mkdir trigger) came.Done _ i (record { moves = tt; writes = refl; acknowledges = refl })
   mkdir (Some _) s row trigger i = refuses s _
 
-  mount_fails : (s : State) (row : JobPlan) (trigger : Trigger) (entry : EntryText) → IsNext s row (act.Mount trigger entry) → Leaves R s (acts.mount_fails s row)
-  mount_fails s row trigger entry i = rests s row (act.Mount trigger entry) came.Failed _ i (record { moves = refl; writes = refl; acknowledges = refl })
+  mount_fails : (s : State) (row : JobPlan) (trigger : Trigger) (entry : EntryText) (error : FailNo) → IsNext s row (act.Mount trigger entry) → Leaves R s (acts.mount_fails s row error)
+  mount_fails s row trigger entry error i = rests s row (act.Mount trigger entry) (came.Failed error) _ i (record { moves = (error, refl); writes = refl; acknowledges = refl })
 
   mount_by : (e : Option Errno) (s : State) (row : JobPlan) (trigger : Trigger) (entry : EntryText) → IsNext s row (act.Mount trigger entry) → mount_on_refusal s.kernel row.attach trigger ≡ e → Leaves R s (acts.mount_by e s row trigger)
   mount_by None s row trigger entry i may = record { well = keeps.mounted_on s row trigger entry i may }
-  mount_by (Some e) s row trigger entry i may = mount_fails s row trigger entry i
+  mount_by (Some e) s row trigger entry i may = mount_fails s row trigger entry ENOENT i
 
-  mount_act : (s : State) (row : JobPlan) (trigger : Trigger) (entry : EntryText) (ok : Bool) → IsNext s row (act.Mount trigger entry) → Leaves R s (acts.mount_act s row trigger ok)
-  mount_act s row trigger entry ok i =
-      either s (not (is_current s.kernel trigger.fs row.attach)) _ _ (refuses s _)
-      (either s (not ok) _ _ (mount_fails s row trigger entry i) (mount_by (mount_on_refusal s.kernel row.attach trigger) s row trigger entry i refl))
+  mount_tried : (failure : Option FailNo) (s : State) (row : JobPlan) (trigger : Trigger) (entry : EntryText) → IsNext s row (act.Mount trigger entry) → Leaves R s (acts.mount_tried failure s row trigger)
+  mount_tried (Some error) s row trigger entry i = mount_fails s row trigger entry error i
+  mount_tried None s row trigger entry i = mount_by (mount_on_refusal s.kernel row.attach trigger) s row trigger entry i refl
+
+  mount_act : (s : State) (row : JobPlan) (trigger : Trigger) (entry : EntryText) (failure : Option FailNo) → IsNext s row (act.Mount trigger entry) → Leaves R s (acts.mount_act s row trigger failure)
+  mount_act s row trigger entry failure i =
+      either s (not (is_current s.kernel trigger.fs row.attach)) _ _ (refuses s _) (mount_tried failure s row trigger entry i)
 
   umounts_from : (mounted : Option ℕ) (s : State) (row : JobPlan) (trigger : Trigger) → IsNext s row (act.Umount trigger) → is_current s.kernel trigger.fs row.attach ≡ true → mounted_on s.kernel trigger ≡ mounted → mounts.umount_tests mounted s.kernel ≡ None →
       R s (seen.Unmounted (gone_with s.kernel mounted) ∷ []) (going row came.Done (without_mounts (gone_with s.kernel mounted) s.kernel) s)
   umounts_from None s row trigger i current is may = absurd cc
   umounts_from (Some mount) s row trigger i current is may = keeps.unmounted_on s row trigger mount i (record { current = current; mounted = is; tests = may })
 
-  umount_fails : (s : State) (row : JobPlan) (trigger : Trigger) → IsNext s row (act.Umount trigger) → Leaves R s (acts.umount_fails s row)
-  umount_fails s row trigger i = rests s row (act.Umount trigger) came.Failed _ i (record { moves = refl; writes = refl; acknowledges = refl })
+  umount_fails : (s : State) (row : JobPlan) (trigger : Trigger) (error : FailNo) → IsNext s row (act.Umount trigger) → Leaves R s (acts.umount_fails s row error)
+  umount_fails s row trigger error i = rests s row (act.Umount trigger) (came.Failed error) _ i (record { moves = (error, refl); writes = refl; acknowledges = refl })
 
   umount_by : (e : Option Errno) (s : State) (row : JobPlan) (trigger : Trigger) → IsNext s row (act.Umount trigger) → umount_from_refusal s.kernel row.attach trigger ≡ e → Leaves R s (acts.umount_by e s row trigger)
   umount_by None s row trigger i may =
       let tests = else_none (not (is_current s.kernel trigger.fs row.attach)) _ (mounts.umount_tests (mounted_on s.kernel trigger) s.kernel) may in
       record { well = umounts_from (mounted_on s.kernel trigger) s row trigger i (not_false _ tests.0) refl tests.1 }
-  umount_by (Some e) s row trigger i may = umount_fails s row trigger i
+  umount_by (Some e) s row trigger i may = umount_fails s row trigger ENOENT i
 
-  umount_act : (s : State) (row : JobPlan) (trigger : Trigger) (ok : Bool) → IsNext s row (act.Umount trigger) → Leaves R s (acts.umount_act s row trigger ok)
-  umount_act s row trigger ok i =
-      either s (not (is_current s.kernel trigger.fs row.attach)) _ _ (refuses s _)
-      (either s (not ok) _ _ (umount_fails s row trigger i) (umount_by (umount_from_refusal s.kernel row.attach trigger) s row trigger i refl))
+  umount_tried : (failure : Option FailNo) (s : State) (row : JobPlan) (trigger : Trigger) → IsNext s row (act.Umount trigger) → Leaves R s (acts.umount_tried failure s row trigger)
+  umount_tried (Some error) s row trigger i = umount_fails s row trigger error i
+  umount_tried None s row trigger i = umount_by (umount_from_refusal s.kernel row.attach trigger) s row trigger i refl
+
+  umount_act : (s : State) (row : JobPlan) (trigger : Trigger) (failure : Option FailNo) → IsNext s row (act.Umount trigger) → Leaves R s (acts.umount_act s row trigger failure)
+  umount_act s row trigger failure i =
+      either s (not (is_current s.kernel trigger.fs row.attach)) _ _ (refuses s _) (umount_tried failure s row trigger i)
 
   rmdir : (e : Option Errno) (s : State) (row : JobPlan) (trigger : Trigger) → IsNext s row (act.Rmdir trigger) → Leaves R s (acts.rmdir_by e s row trigger)
   rmdir None s row trigger i = record { well = keeps.directory_gone s row trigger i }
@@ -343,21 +351,21 @@ module _ (Fits : List (List ℕ) → Type 0) (P : KernelState → List Obs → K
       let its = answered_row (fs_of_attach s.kernel row.attach) s.kernel row.token may in
       record { well = keeps.replied s row status its.0 i its.1 }
 
-  acted : (next : Option Act) (s : State) (row : JobPlan) (ok : Bool) → next_of row.plan ≡ next → job_of s.daemon.jobs row.token ≡ Some row → Leaves R s (acts.acted next s row ok)
-  acted None s row ok e is = refuses s _
-  acted (Some (act.Mkdir trigger)) s row ok e is = mkdir (mkdir_refusal s.kernel row.attach trigger) s row trigger (record { is = is; next = e })
-  acted (Some (act.Mount trigger entry)) s row ok e is = mount_act s row trigger entry ok (record { is = is; next = e })
-  acted (Some (act.Umount trigger)) s row ok e is = umount_act s row trigger ok (record { is = is; next = e })
-  acted (Some (act.Rmdir trigger)) s row ok e is = rmdir (rmdir_refusal s.kernel row.attach trigger) s row trigger (record { is = is; next = e })
-  acted (Some (act.Record trigger entry)) s row ok e is = record_act s row trigger entry (record { is = is; next = e })
-  acted (Some (act.Reply status)) s row ok e is = reply (answer_refusal s.kernel row.attach row.token) s row status (record { is = is; next = e }) refl
+  acted : (next : Option Act) (s : State) (row : JobPlan) (failure : Option FailNo) → next_of row.plan ≡ next → job_of s.daemon.jobs row.token ≡ Some row → Leaves R s (acts.acted next s row failure)
+  acted None s row failure e is = refuses s _
+  acted (Some (act.Mkdir trigger)) s row failure e is = mkdir (mkdir_refusal s.kernel row.attach trigger) s row trigger (record { is = is; next = e })
+  acted (Some (act.Mount trigger entry)) s row failure e is = mount_act s row trigger entry failure (record { is = is; next = e })
+  acted (Some (act.Umount trigger)) s row failure e is = umount_act s row trigger failure (record { is = is; next = e })
+  acted (Some (act.Rmdir trigger)) s row failure e is = rmdir (rmdir_refusal s.kernel row.attach trigger) s row trigger (record { is = is; next = e })
+  acted (Some (act.Record trigger entry)) s row failure e is = record_act s row trigger entry (record { is = is; next = e })
+  acted (Some (act.Reply status)) s row failure e is = reply (answer_refusal s.kernel row.attach row.token) s row status (record { is = is; next = e }) refl
 
   -- the job that is found has the number
-  acted_at : (row : Option JobPlan) (s : State) (number : ℕ) (ok : Bool) → job_of s.daemon.jobs number ≡ row → Leaves R s (acts.acted_at row s ok)
-  acted_at None s number ok e = refuses s _
-  acted_at (Some row) s number ok e =
+  acted_at : (row : Option JobPlan) (s : State) (number : ℕ) (failure : Option FailNo) → job_of s.daemon.jobs number ≡ row → Leaves R s (acts.acted_at row s failure)
+  acted_at None s number failure e = refuses s _
+  acted_at (Some row) s number failure e =
       let same : row.token ≡ number = nat_is row.token number (found_passes (λ (r : JobPlan). r.token == number) s.daemon.jobs row e) in
-      acted (next_of row.plan) s row ok refl (subst (λ (n : ℕ). job_of s.daemon.jobs n ≡ Some row) (sym same) e)
+      acted (next_of row.plan) s row failure refl (subst (λ (n : ℕ). job_of s.daemon.jobs n ≡ Some row) (sym same) e)
 
   -- ---- every event
 
@@ -381,7 +389,7 @@ module _ (Fits : List (List ℕ) → Type 0) (P : KernelState → List Obs → K
       let moment = moment_of s.kernel now in
       goes_on _ s moment (walks.expire Fits P keeps.walks pipe s.kernel walker fs moment immediate)
   outcome s (events.Deliver token bytes) fit = delivered_at (queued_of s.kernel.queue token) s token bytes refl
-  outcome s (events.Act job ok) fit = acted_at (job_of s.daemon.jobs job) s job ok refl
+  outcome s (events.Act job failure) fit = acted_at (job_of s.daemon.jobs job) s job failure refl
   outcome s (events.Repeat attach token status) fit = repeats s attach token
   outcome s (events.Catatonic attach fs) fit = unless_refused (catatonic_refusal s.kernel attach fs) s _ (λ may. closes s fs)
   outcome s (events.AdminCatatonic fs) fit = unless_refused (autofs_refusal s.kernel fs) s _ (λ may. closes_if (is_live s.kernel fs) s fs)

@@ -2,6 +2,7 @@
 use Rattle.std.proofs.Common.{◌≡◌, ℕ, ◌+◌, Bool, true, false, ◌==◌, List, [], ◌∷◌, ◌++◌, Option, Some, None, refl, sym, subst}
 use Rattle.std.specs.Prelude.{nat_le, is_some, is_none, if◌then◌else◌}
 use Rattle.std.specs.List.{All}
+use Rattle.am_names.specs.FailNo.{errno_of}
 use Rattle.am_names.specs.declared.errno.Errno.{Errno}
 use Rattle.am_names.specs.declared.errno.Errno.TheVariants.{ENOENT}
 use Rattle.am_names.specs.declared.trigger.Trigger.{Trigger}
@@ -116,9 +117,9 @@ freed_free Expire k wait status moment walker g same =
     subst (λ (w : ℕ). IsFree (resumes.freed_from Expire wait moment k) w) (sym same) (record { waits = no_wait_left wait.walker k.waits.waits; uses = g.outside })
 
 -- what it meets then is as before
-orderly_in : (kind : TokenKind) (k : KernelState) (wait : WaitRow) (row : WalkRow) (moment : ℕ) → IsOrderly (resumes.freed_from kind wait moment k).waits.tokens (walk_of (scene_of k) row.ns row.path)
-orderly_in Missing k wait row moment = orderly k.waits.tokens (scene_of k) refl row.ns row.path
-orderly_in Expire k wait row moment = orderly k.waits.tokens (scene_of k) refl row.ns row.path
+orderly_in : (kind : TokenKind) (k : KernelState) (wait : WaitRow) (row : WalkRow) (moment : ℕ) → IsOrderly (resumes.freed_from kind wait moment k).waits.tokens (walk_of (scene_of k moment) row.ns row.path)
+orderly_in Missing k wait row moment = orderly k.waits.tokens (scene_of k moment) refl row.ns row.path
+orderly_in Expire k wait row moment = orderly k.waits.tokens (scene_of k moment) refl row.ns row.path
 
 module _ (Fits : List (List ℕ) → Type 0) (P : KernelState → List Obs → KernelState → Type 0) (keeps : Keeps Fits P) where
   fails : (k : KernelState) (e : Errno) → Leaves P k (Fails e)
@@ -169,7 +170,7 @@ module _ (Fits : List (List ℕ) → Type 0) (P : KernelState → List Obs → K
   pub walk : (pipe : PipeState) (k : KernelState) (begin : Begin) → Fits begin.path → Leaves P k (walks.walk_at pipe k begin)
   walk pipe k begin path =
       where_false k (is_busy k begin.walker) _ _ (fails k _)
-      (λ idle. begun_with (scene_of k) pipe k begin (not_busy k begin.walker idle) path (orderly k.waits.tokens (scene_of k) refl begin.ns begin.path))
+      (λ idle. begun_with (scene_of k begin.moment) pipe k begin (not_busy k begin.walker idle) path (orderly k.waits.tokens (scene_of k begin.moment) refl begin.ns begin.path))
 
   -- ---- an expiry is asked for
 
@@ -212,18 +213,18 @@ module _ (Fits : List (List ℕ) → Type 0) (P : KernelState → List Obs → K
       let begin = resumes.next_begin row moment in
       after (resumes.again pipe k base row moment) k kind wait status moment g
       (either base (nat_le resumes.most_begins row.begins) _ _ (nothing base _)
-      (or_failed (walks.begun_with (walk_of (scene_of k) row.ns row.path) pipe base begin) base
-      (begun_with (scene_of k) pipe base begin (freed_free kind k wait status moment row.walker g same) path (orderly_in kind k wait row moment))))
+      (or_failed (walks.begun_with (walk_of (scene_of k moment) row.ns row.path) pipe base begin) base
+      (begun_with (scene_of k moment) pipe base begin (freed_free kind k wait status moment row.walker g same) path (orderly_in kind k wait row moment))))
 
   resumed_as : (kind : TokenKind) (status : Status) (pipe : PipeState) (k : KernelState) (wait : WaitRow) (row : WalkRow) (moment : ℕ) → IsGiven k wait status → row.walker ≡ wait.walker → Fits row.path →
       Leaves P k (resumes.resumed_as kind status pipe k wait row moment)
-  resumed_as Missing Fail pipe k wait row moment g same path = after (resumes.failed ENOENT (resumes.freed_from Missing wait moment k)) k Missing wait Fail moment g (nothing _ _)
+  resumed_as Missing (Fail error) pipe k wait row moment g same path = after (resumes.failed (errno_of error) (resumes.freed_from Missing wait moment k)) k Missing wait (Fail error) moment g (nothing _ _)
   resumed_as Missing Ready pipe k wait row moment g same path = again Missing pipe k wait Ready row moment g same path
   resumed_as Expire status pipe k wait row moment g same path = again Expire pipe k wait status row moment g same path
 
   expired_as : (status : Status) (k : KernelState) → Leaves P k (resumes.expired_as status k)
   expired_as Ready k = nothing k _
-  expired_as Fail k = nothing k _
+  expired_as (Fail error) k = nothing k _
 
   told_as : (kind : TokenKind) (status : Status) (k : KernelState) (wait : WaitRow) (moment : ℕ) → IsGiven k wait status → Leaves P k (resumes.told_as kind status k wait moment)
   told_as Missing status k wait moment g = fails k _

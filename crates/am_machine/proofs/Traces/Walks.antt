@@ -56,7 +56,7 @@ arrives k begin at passed free idle = record {
 -- ---- it joins
 
 abbrev limits_with : KernelState → WaitRows → Limits
-limits_with k w = record { mounts = k.table.limit; waiters = w.most_waits; tokens = w.most_tokens }
+limits_with k w = record { mounts = k.table.limit; waiters = w.most_waits; tokens = w.most_tokens; negative = k.negative }
 
 joins_row : (k : KernelState) (begin : Begin) (token : ℕ) (row : OpenToken) (passed : List Trigger) → token_of k.waits.tokens token ≡ Some row → IsFree k begin.walker → All (IsIdle k.waits.tokens) passed →
     Moves k (passes begin.walker passed ++ seen.Waits begin.walker token ∷ []) (walks.with_joined begin token passed k)

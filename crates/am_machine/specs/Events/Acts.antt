@@ -1,6 +1,8 @@
 -- The daemon's jobs go on, act by act (autofs.rst, "Communicating with autofs: root directory
 -- ioctls").
-use Rattle.std.specs.Prelude.{ℕ, ◌+◌, Bool, not, List, [], ◌∷◌, Option, Some, None, if◌then◌else◌}
+use Rattle.std.specs.Prelude.{ℕ, ◌+◌, not, List, [], ◌∷◌, Option, Some, None, if◌then◌else◌}
+use Rattle.am_names.specs.declared.fail_no.FailNo.{FailNo}
+use Rattle.am_names.specs.declared.fail_no.FailNo.TheVariants as error
 use Rattle.am_names.specs.declared.errno.Errno.{Errno}
 use Rattle.am_names.specs.declared.errno.Errno.TheVariants.{ENOENT, EPERM, EBUSY, EEXIST, EINVAL}
 use Rattle.am_names.specs.declared.trigger.Trigger.{Trigger}
@@ -41,8 +43,9 @@ mkdir_by None s row trigger = goes_on s row came.Done answers.DidMkdir [] (with_
 mkdir_by (Some EEXIST) s row trigger = goes_on s row came.Done answers.DidMkdir [] s.kernel
 mkdir_by (Some e) s row trigger = refused s e
 
-abbrev pub mount_fails : State → JobPlan → Outcome
-mount_fails s row = goes_on s row came.Failed answers.FailedMount [] s.kernel
+-- the mount fails with this error
+abbrev pub mount_fails : State → JobPlan → FailNo → Outcome
+mount_fails s row error = goes_on s row (came.Failed error) answers.FailedMount [] s.kernel
 
 abbrev pub mounts : State → JobPlan → Trigger → Outcome
 mounts s row trigger =
@@ -51,20 +54,26 @@ mounts s row trigger =
     (seen.Mounted (coming s.kernel (location_of s.kernel trigger.fs)) ∷ [])
     (with_mount_on trigger s.kernel)
 
--- a mount that the kernel refuses has failed
+-- a mount that the kernel refuses has failed with ENOENT
 abbrev pub mount_by : Option Errno → State → JobPlan → Trigger → Outcome
 mount_by None s row trigger = mounts s row trigger
-mount_by (Some e) s row trigger = mount_fails s row
+mount_by (Some e) s row trigger = mount_fails s row error.ENOENT
+
+-- the mount fails, or the kernel is asked for it
+abbrev pub mount_tried : Option FailNo → State → JobPlan → Trigger → Outcome
+mount_tried (Some error) s row trigger = mount_fails s row error
+mount_tried None s row trigger =
+    mount_by (mount_on_refusal s.kernel row.attach trigger) s row trigger
 
 -- a mount of an old attachment is refused before it can fail
-abbrev pub mount_act : State → JobPlan → Trigger → Bool → Outcome
-mount_act s row trigger ok =
+abbrev pub mount_act : State → JobPlan → Trigger → Option FailNo → Outcome
+mount_act s row trigger failure =
     if not (is_current s.kernel trigger.fs row.attach) then refused s EPERM
-    else if not ok then mount_fails s row
-    else mount_by (mount_on_refusal s.kernel row.attach trigger) s row trigger
+    else mount_tried failure s row trigger
 
-abbrev pub umount_fails : State → JobPlan → Outcome
-umount_fails s row = goes_on s row came.Failed answers.FailedUmount [] s.kernel
+-- the unmount fails with this error
+abbrev pub umount_fails : State → JobPlan → FailNo → Outcome
+umount_fails s row error = goes_on s row (came.Failed error) answers.FailedUmount [] s.kernel
 
 abbrev pub umounts : State → JobPlan → Trigger → Outcome
 umounts s row trigger =
@@ -75,13 +84,17 @@ umounts s row trigger =
 -- so has an unmount
 abbrev pub umount_by : Option Errno → State → JobPlan → Trigger → Outcome
 umount_by None s row trigger = umounts s row trigger
-umount_by (Some e) s row trigger = umount_fails s row
+umount_by (Some e) s row trigger = umount_fails s row error.ENOENT
 
-abbrev pub umount_act : State → JobPlan → Trigger → Bool → Outcome
-umount_act s row trigger ok =
+abbrev pub umount_tried : Option FailNo → State → JobPlan → Trigger → Outcome
+umount_tried (Some error) s row trigger = umount_fails s row error
+umount_tried None s row trigger =
+    umount_by (umount_from_refusal s.kernel row.attach trigger) s row trigger
+
+abbrev pub umount_act : State → JobPlan → Trigger → Option FailNo → Outcome
+umount_act s row trigger failure =
     if not (is_current s.kernel trigger.fs row.attach) then refused s EPERM
-    else if not ok then umount_fails s row
-    else umount_by (umount_from_refusal s.kernel row.attach trigger) s row trigger
+    else umount_tried failure s row trigger
 
 -- a directory that has gone, or on which something is mounted, counts as removed
 abbrev pub rmdir_by : Option Errno → State → JobPlan → Trigger → Outcome
@@ -103,19 +116,19 @@ reply_by None s row status =
     goes_on s row came.Done answers.DidReply (answering row.token status s.kernel)
     (acknowledged row.token status s.kernel)
 
-abbrev pub acted : Option Act → State → JobPlan → Bool → Outcome
-acted None s row ok = refused s EINVAL
-acted (Some (act.Mkdir trigger)) s row ok = mkdir_by (mkdir_refusal s.kernel row.attach trigger) s row trigger
-acted (Some (act.Mount trigger entry)) s row ok = mount_act s row trigger ok
-acted (Some (act.Umount trigger)) s row ok = umount_act s row trigger ok
-acted (Some (act.Rmdir trigger)) s row ok = rmdir_by (rmdir_refusal s.kernel row.attach trigger) s row trigger
-acted (Some (act.Record trigger entry)) s row ok = record_act s row trigger entry
-acted (Some (act.Reply status)) s row ok = reply_by (answer_refusal s.kernel row.attach row.token) s row status
+abbrev pub acted : Option Act → State → JobPlan → Option FailNo → Outcome
+acted None s row failure = refused s EINVAL
+acted (Some (act.Mkdir trigger)) s row failure = mkdir_by (mkdir_refusal s.kernel row.attach trigger) s row trigger
+acted (Some (act.Mount trigger entry)) s row failure = mount_act s row trigger failure
+acted (Some (act.Umount trigger)) s row failure = umount_act s row trigger failure
+acted (Some (act.Rmdir trigger)) s row failure = rmdir_by (rmdir_refusal s.kernel row.attach trigger) s row trigger
+acted (Some (act.Record trigger entry)) s row failure = record_act s row trigger entry
+acted (Some (act.Reply status)) s row failure = reply_by (answer_refusal s.kernel row.attach row.token) s row status
 
-abbrev pub acted_at : Option JobPlan → State → Bool → Outcome
-acted_at None s ok = refused s EINVAL
-acted_at (Some row) s ok = acted (next_of row.plan) s row ok
+abbrev pub acted_at : Option JobPlan → State → Option FailNo → Outcome
+acted_at None s failure = refused s EINVAL
+acted_at (Some row) s failure = acted (next_of row.plan) s row failure
 
--- the job goes on by its next act
-abbrev pub act_outcome : State → ℕ → Bool → Outcome
-act_outcome s job ok = acted_at (job_of s.daemon.jobs job) s ok
+-- the job goes on by its next act, which fails with this error if it is a mount or an unmount
+abbrev pub act_outcome : State → ℕ → Option FailNo → Outcome
+act_outcome s job failure = acted_at (job_of s.daemon.jobs job) s failure

@@ -1,7 +1,7 @@
 //! The daemon's acts as tables hold them, and what comes of them.
 
 use am_job::{Act, Outcome};
-use am_names::{MountId, Status, Token, Trigger};
+use am_names::{FailNo, MountId, Status, Token, Trigger};
 use am_state::Record;
 
 /// What the book says of a trigger.
@@ -36,7 +36,7 @@ impl Said {
 pub enum Comes {
     Done,
     Made,
-    Failed,
+    Failed(FailNo),
 }
 
 impl Comes {
@@ -44,7 +44,7 @@ impl Comes {
         match self {
             Comes::Done => Outcome::Done,
             Comes::Made => Outcome::Made { mount: MountId(7) },
-            Comes::Failed => Outcome::Failed,
+            Comes::Failed(no) => Outcome::Failed(no),
         }
     }
 }

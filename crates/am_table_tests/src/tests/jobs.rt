@@ -5,7 +5,7 @@ use crate::tests::script::{Stage, Step, plays_all};
 use crate::tests::trap::Trap;
 use am_job::Job;
 use am_map::Entry;
-use am_names::{Attach, Errno, JobId, MountId, Name, Status, TokenKind};
+use am_names::{Attach, Errno, FailNo, JobId, MountId, Name, Status, TokenKind};
 use std::alloc::{AllocError, Global};
 
 /// A call, and what it answers.
@@ -131,7 +131,7 @@ const MADE: Comes = Comes::Made;
 
 const DONE: Comes = Comes::Done;
 
-const FAILED: Comes = Comes::Failed;
+const FAILED: Comes = Comes::Failed(FailNo::ENOENT);
 
 const MISSING: TokenKind = TokenKind::Missing;
 
@@ -143,7 +143,7 @@ const RECORD_NONE: Deed = Deed::Records(Said::Nothing);
 
 const READY: Deed = Deed::Replies(Status::Ready);
 
-const FAIL: Deed = Deed::Replies(Status::Fail);
+const FAIL: Deed = Deed::Replies(Status::Fail(FailNo::ENOENT));
 
 const INDIRECT: &[Step<Call>] = &[
     Step::Does(Call::On(Trap(2, b"home"))),
@@ -233,6 +233,51 @@ const DIRECT: &[Step<Call>] = &[
     Step::Does(Call::Ends),
 ];
 
+/// The reply has the number of the mount or the unmount that failed. What other acts come to changes no
+/// number.
+const NUMBERS: &[Step<Call>] = &[
+    Step::Does(Call::On(Trap(2, b"home"))),
+    Step::Does(Call::Asks(MISSING, None, true)),
+    Step::Does(Call::Does(Deed::Mkdir, Comes::Failed(FailNo::EEXIST))),
+    Step::Does(Call::Does(MOUNT, Comes::Failed(FailNo::EPERM))),
+    Step::Does(Call::Does(Deed::Rmdir, Comes::Failed(FailNo::EBUSY))),
+    Step::Does(Call::Does(RECORD_NONE, Comes::Failed(FailNo::EAGAIN))),
+    Step::Does(Call::Does(Deed::Replies(Status::Fail(FailNo::EPERM)), DONE)),
+    Step::Does(Call::Ends),
+    Step::Does(Call::Asks(EXPIRE, Some(4), true)),
+    Step::Does(Call::Does(Deed::Umount, Comes::Failed(FailNo::EBUSY))),
+    Step::Does(Call::Does(
+        Deed::Records(Said::Mounted(4)),
+        Comes::Failed(FailNo::EPERM),
+    )),
+    Step::Does(Call::Does(Deed::Replies(Status::Fail(FailNo::EBUSY)), DONE)),
+    Step::Does(Call::Ends),
+    // A directory that can't be removed leaves the unmount done.
+    Step::Does(Call::Asks(EXPIRE, Some(4), true)),
+    Step::Does(Call::Does(Deed::Umount, DONE)),
+    Step::Does(Call::Does(Deed::Rmdir, Comes::Failed(FailNo::EPERM))),
+    Step::Does(Call::Does(RECORD_NONE, DONE)),
+    Step::Does(Call::Does(READY, DONE)),
+    Step::Does(Call::Ends),
+    Step::Does(Call::On(Trap(2, b""))),
+    Step::Does(Call::Asks(MISSING, None, true)),
+    Step::Does(Call::Does(MOUNT, Comes::Failed(FailNo::ENOSPC))),
+    Step::Does(Call::Does(RECORD_NONE, DONE)),
+    Step::Does(Call::Does(Deed::Replies(Status::Fail(FailNo::ENOSPC)), DONE)),
+    Step::Does(Call::Ends),
+    Step::Does(Call::Asks(EXPIRE, Some(4), false)),
+    Step::Does(Call::Does(Deed::Umount, Comes::Failed(FailNo::ENAMETOOLONG))),
+    Step::Does(Call::Does(Deed::Records(Said::Mounted(4)), DONE)),
+    Step::Does(Call::Does(Deed::Replies(Status::Fail(FailNo::ENAMETOOLONG)), DONE)),
+    Step::Does(Call::Ends),
+    // A mount that is told to be done, without its number, has failed with ENOENT.
+    Step::Does(Call::Asks(MISSING, None, true)),
+    Step::Does(Call::Does(MOUNT, DONE)),
+    Step::Does(Call::Does(RECORD_NONE, DONE)),
+    Step::Does(Call::Does(FAIL, DONE)),
+    Step::Does(Call::Ends),
+];
+
 const A_PACKET: &[Step<Call>] = &[
     Step::Does(Call::On(Trap(2, b""))),
     Step::Does(Call::Asks(EXPIRE, Some(4), false)),
@@ -249,9 +294,10 @@ const A_PACKET: &[Step<Call>] = &[
     Step::Does(Call::Tells(5, 1)),
 ];
 
-static EXAMPLES: [(&str, &[&[Step<Call>]]); 3] = [
+static EXAMPLES: [(&str, &[&[Step<Call>]]); 4] = [
     ("plans of an indirect trigger", &[INDIRECT]),
     ("plans of a direct trigger", &[DIRECT]),
+    ("a reply has the number of a failure", &[NUMBERS]),
     ("a job tells its packet", &[A_PACKET]),
 ];
 

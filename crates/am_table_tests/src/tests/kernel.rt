@@ -5,8 +5,8 @@ use crate::tests::script::{Stage, Step, plays_all};
 use crate::tests::trap::Trap;
 use am_kernel::{Begun, Granted, Kernel};
 use am_names::{
-    AbsPath, Attach, Errno, FsId, Limits, MountId, Name, NsId, PipeState, Seconds, Status, Token,
-    WalkerId,
+    AbsPath, Attach, Errno, FailNo, FsId, Limits, MountId, Name, NsId, PipeState, Position,
+    Seconds, Status, Token, WalkerId,
 };
 use am_state::Obs;
 use am_wire::Request;
@@ -18,6 +18,8 @@ enum Told {
     Done,
     Waits(u32),
     Arrives(u64),
+    Fails(Errno),
+    Expires,
     Attached(u32),
 }
 
@@ -26,6 +28,8 @@ impl Told {
         match (self, begun) {
             (Told::Waits(token), Begun::Waits(on)) => *on == Token(token),
             (Told::Arrives(mount), Begun::Arrived(at)) => at.mount == MountId(mount),
+            (Told::Fails(with), Begun::Failed(errno)) => *errno == with,
+            (Told::Expires, Begun::Expired) => true,
             _ => false,
         }
     }
@@ -44,7 +48,7 @@ impl Told {
 #[derive(Clone, Copy)]
 enum Asked {
     Ready(u32, u32),
-    Fail(u32, u32),
+    Fail(u32, u32, FailNo),
     Catatonic(u32, u32),
     /// The attachment, the file system, and the seconds.
     SetTimeout(u32, u32, u32),
@@ -60,9 +64,10 @@ impl Asked {
                 attach: Attach(attach),
                 token: Token(token),
             },
-            Asked::Fail(attach, token) => Request::Fail {
+            Asked::Fail(attach, token, no) => Request::Fail {
                 attach: Attach(attach),
                 token: Token(token),
+                no,
             },
             Asked::Catatonic(attach, fs) => Request::Catatonic {
                 attach: Attach(attach),
@@ -134,6 +139,8 @@ fn are(sights: &[Sight], seen: &[Obs]) -> bool {
 /// A call, and what it answers. What a daemon asks for begins with its attachment.
 #[derive(Clone, Copy)]
 enum Call {
+    /// Nothing has happened to a kernel in which failures last so many seconds.
+    Begins(u64),
     /// An autofs at a path, and its file system.
     Indirect(&'static [u8], u32),
     Direct(&'static [u8], u32),
@@ -144,6 +151,14 @@ enum Call {
     UmountFrom(u32, Trap, u64),
     /// The walker, its path, and the moment.
     Walk(u32, &'static [u8], u64, Told),
+    /// The same of a pipe that nobody reads.
+    WalkGone(u32, &'static [u8], u64, Told),
+    /// The walker, and the moment.
+    Resume(u32, u64, Told),
+    /// The mount at which a walk along the path at this moment would arrive.
+    Arrival(&'static [u8], u64, Option<u64>),
+    /// The same of a walker's own walk.
+    ArrivalAgain(u32, u64, Option<u64>),
     Leave(u32),
     Asks(Asked, Told),
     /// And what is seen of it.
@@ -217,13 +232,58 @@ fn walk(
     walker: u32,
     path: &[u8],
     moment: u64,
+    pipe: PipeState,
     told: Told,
     seen: &mut Vec<Obs>,
 ) -> Result<bool, Errno> {
     let (walker, ns, moment) = (WalkerId(walker), NsId(0), Seconds(moment));
     let path = AbsPath::read(path)?;
-    let begun = kernel.walk(alloc, walker, ns, &path, moment, PipeState::Room, seen)?;
+    let begun = kernel.walk(alloc, walker, ns, &path, moment, pipe, seen)?;
     Ok(told.begins(&begun))
+}
+
+fn resume(
+    alloc: Global,
+    kernel: &mut Kernel,
+    walker: u32,
+    moment: u64,
+    told: Told,
+    seen: &mut Vec<Obs>,
+) -> Result<bool, Errno> {
+    let (walker, moment) = (WalkerId(walker), Seconds(moment));
+    let begun = kernel.resume(alloc, walker, moment, PipeState::Room, seen)?;
+    Ok(told.begins(&begun))
+}
+
+fn is_in(at: Option<Position>, mount: Option<u64>) -> bool {
+    match (at, mount) {
+        (Some(at), Some(mount)) => at.mount == MountId(mount),
+        (None, None) => true,
+        _ => false,
+    }
+}
+
+fn arrival(
+    alloc: Global,
+    kernel: &Kernel,
+    path: &[u8],
+    moment: u64,
+    mount: Option<u64>,
+) -> Result<bool, Errno> {
+    let path = AbsPath::read(path)?;
+    let at = kernel.arrival(alloc, NsId(0), &path, Seconds(moment))?;
+    Ok(is_in(at, mount))
+}
+
+fn arrival_again(
+    alloc: Global,
+    kernel: &Kernel,
+    walker: u32,
+    moment: u64,
+    mount: Option<u64>,
+) -> Result<bool, Errno> {
+    let at = kernel.arrival_again(alloc, WalkerId(walker), Seconds(moment))?;
+    Ok(is_in(at, mount))
 }
 
 fn leave(kernel: &mut Kernel, walker: u32, seen: &mut Vec<Obs>) -> Result<bool, Errno> {
@@ -262,6 +322,10 @@ fn make(
     seen: &mut Vec<Obs>,
 ) -> Result<bool, Errno> {
     match call {
+        Call::Begins(negative) => {
+            *kernel = kernel_of(alloc, negative)?;
+            Ok(true)
+        }
         Call::Indirect(path, fs) => attach(alloc, kernel, path, false, fs, seen),
         Call::Direct(path, fs) => attach(alloc, kernel, path, true, fs, seen),
         Call::AdminCatatonic(fs) => catatonic(kernel, fs),
@@ -272,7 +336,33 @@ fn make(
             umount_from(alloc, kernel, attach, trap, gone, seen)
         }
         Call::Walk(walker, path, moment, told) => {
-            walk(alloc, kernel, walker, path, moment, told, seen)
+            walk(
+                alloc,
+                kernel,
+                walker,
+                path,
+                moment,
+                PipeState::Room,
+                told,
+                seen,
+            )
+        }
+        Call::WalkGone(walker, path, moment, told) => {
+            walk(
+                alloc,
+                kernel,
+                walker,
+                path,
+                moment,
+                PipeState::Gone,
+                told,
+                seen,
+            )
+        }
+        Call::Resume(walker, moment, told) => resume(alloc, kernel, walker, moment, told, seen),
+        Call::Arrival(path, moment, mount) => arrival(alloc, kernel, path, moment, mount),
+        Call::ArrivalAgain(walker, moment, mount) => {
+            arrival_again(alloc, kernel, walker, moment, mount)
         }
         Call::Leave(walker) => leave(kernel, walker, seen),
         Call::Asks(asked, told) => asks(alloc, kernel, asked, told, seen),
@@ -280,12 +370,16 @@ fn make(
     }
 }
 
-/// Mounts have numbers up to 6.
-const LIMITS: Limits = Limits {
-    mounts: 6,
-    waiters: 9,
-    tokens: 9,
-};
+/// Mounts have numbers up to 6, and failures last so many seconds.
+fn kernel_of(alloc: Global, negative: u64) -> Result<Kernel, Errno> {
+    let limits = Limits {
+        mounts: 6,
+        waiters: 9,
+        tokens: 9,
+        negative: Seconds(negative),
+    };
+    Kernel::new(alloc, limits)
+}
 
 /// A kernel, and what was seen of it.
 #[derive(Drop)]
@@ -299,7 +393,7 @@ impl Stage for Half {
 
     fn new(alloc: Global) -> Result<Half, Errno> {
         Ok(Half {
-            kernel: Kernel::new(alloc, LIMITS)?,
+            kernel: kernel_of(alloc, 60)?,
             seen: Vec::new(alloc),
         })
     }
@@ -379,9 +473,15 @@ const ANSWERS: &[Step<Call>] = &[
     Step::Refused(Call::Asks(Asked::Ready(2, 2), Told::Done), Errno::EINVAL),
     Step::Does(Call::Asks(Asked::Ready(2, 1), Told::Done)),
     Step::Refused(Call::Asks(Asked::Ready(2, 1), Told::Done), Errno::EINVAL),
-    Step::Refused(Call::Asks(Asked::Fail(9, 2), Told::Done), Errno::EPERM),
-    Step::Does(Call::Asks(Asked::Fail(3, 2), Told::Done)),
-    Step::Refused(Call::Asks(Asked::Fail(3, 2), Told::Done), Errno::EINVAL),
+    Step::Refused(
+        Call::Asks(Asked::Fail(9, 2, FailNo::ENOENT), Told::Done),
+        Errno::EPERM,
+    ),
+    Step::Does(Call::Asks(Asked::Fail(3, 2, FailNo::ENOENT), Told::Done)),
+    Step::Refused(
+        Call::Asks(Asked::Fail(3, 2, FailNo::ENOENT), Told::Done),
+        Errno::EINVAL,
+    ),
 ];
 
 /// Home and work are mounted. Home is last used at 100, and due after 60 seconds.
@@ -416,14 +516,17 @@ const REQUESTS: &[Step<Call>] = &[
     Step::Does(Call::Asks(Asked::Expire(8, 2, 160, true), Told::Waits(2))),
     Step::Does(Call::Walk(9, b"/auto/work", 160, Told::Waits(2))),
     Step::Does(Call::Sees(
-        Asked::Fail(1, 1),
+        Asked::Fail(1, 1, FailNo::EBUSY),
         Told::Done,
         &[
-            Sight::Answered(1, Status::Fail),
-            Sight::Released(7, 1, Status::Fail),
+            Sight::Answered(1, Status::Fail(FailNo::EBUSY)),
+            Sight::Released(7, 1, Status::Fail(FailNo::EBUSY)),
         ],
     )),
-    Step::Refused(Call::Asks(Asked::Fail(1, 1), Told::Done), Errno::EINVAL),
+    Step::Refused(
+        Call::Asks(Asked::Fail(1, 1, FailNo::EPERM), Told::Done),
+        Errno::EINVAL,
+    ),
     Step::Does(Call::Sees(
         Asked::Ready(1, 2),
         Told::Done,
@@ -444,8 +547,8 @@ const REQUESTS: &[Step<Call>] = &[
         Told::Done,
         &[
             Sight::Catatonic(2),
-            Sight::Released(10, 3, Status::Fail),
-            Sight::Released(11, 3, Status::Fail),
+            Sight::Released(10, 3, Status::Fail(FailNo::ENOENT)),
+            Sight::Released(11, 3, Status::Fail(FailNo::ENOENT)),
         ],
     )),
     Step::Refused(Call::Asks(Asked::Catatonic(1, 2), Told::Done), Errno::EPERM),
@@ -474,12 +577,245 @@ const MOMENTS: &[Step<Call>] = &[
     Step::Does(Call::Asks(Asked::Expire(8, 2, 0, false), Told::Waits(2))),
 ];
 
-static EXAMPLES: [(&str, &[&[Step<Call>]]); 5] = [
+/// A failure at `/auto/home` is acknowledged at 100, and lasts before 160. Its number goes to all that
+/// wait.
+const FAILED: &[Step<Call>] = &[
+    Step::Does(Call::Indirect(b"/auto", 2)),
+    Step::Does(Call::Walk(7, b"/auto/home", 90, Told::Waits(1))),
+    Step::Does(Call::Walk(8, b"/auto/home/x", 100, Told::Waits(1))),
+    Step::Does(Call::Sees(
+        Asked::Fail(1, 1, FailNo::EPERM),
+        Told::Done,
+        &[
+            Sight::Answered(1, Status::Fail(FailNo::EPERM)),
+            Sight::Released(7, 1, Status::Fail(FailNo::EPERM)),
+            Sight::Released(8, 1, Status::Fail(FailNo::EPERM)),
+        ],
+    )),
+    Step::Does(Call::Resume(7, 120, Told::Fails(Errno::EPERM))),
+    Step::Does(Call::Resume(8, 110, Told::Fails(Errno::EPERM))),
+];
+
+/// A walk that is refused doesn't count, and a moment that goes back counts as the latest. The failure
+/// that comes next has another number, and takes the place of the one before.
+const LASTS: &[Step<Call>] = &[
+    Step::Refused(
+        Call::Walk(7, b"/auto/home", 120, Told::Waits(2)),
+        Errno::EPERM,
+    ),
+    Step::Refused(
+        Call::Walk(7, b"/auto/home", 0, Told::Waits(2)),
+        Errno::EPERM,
+    ),
+    Step::Refused(
+        Call::Walk(8, b"/auto/home/x", 159, Told::Waits(2)),
+        Errno::EPERM,
+    ),
+    Step::Does(Call::Arrival(b"/auto/home", 159, None)),
+    Step::Does(Call::Arrival(b"/auto", 159, Some(2))),
+    Step::Does(Call::Walk(7, b"/auto/home", 160, Told::Waits(2))),
+    Step::Does(Call::Asks(Asked::Fail(1, 2, FailNo::ENAMETOOLONG), Told::Done)),
+    Step::Does(Call::Resume(7, 170, Told::Fails(Errno::ENAMETOOLONG))),
+    Step::Refused(
+        Call::Walk(7, b"/auto/home", 219, Told::Waits(3)),
+        Errno::ENAMETOOLONG,
+    ),
+    Step::Does(Call::Walk(7, b"/auto/home", 220, Told::Waits(3))),
+    Step::Does(Call::Walk(8, b"/auto/home", 220, Told::Waits(3))),
+];
+
+/// The other name waits at 130, and fails at 130.
+const ANOTHER_NAME: &[Step<Call>] = &[
+    Step::Does(Call::Walk(8, b"/auto/other", 130, Told::Waits(2))),
+    Step::Refused(
+        Call::Walk(7, b"/auto/home", 130, Told::Waits(2)),
+        Errno::EPERM,
+    ),
+    Step::Does(Call::Walk(7, b"/auto/other", 130, Told::Waits(2))),
+    Step::Does(Call::Asks(Asked::Fail(1, 2, FailNo::ENOSPC), Told::Done)),
+    Step::Does(Call::Resume(7, 130, Told::Fails(Errno::ENOSPC))),
+    Step::Does(Call::Resume(8, 130, Told::Fails(Errno::ENOSPC))),
+    Step::Refused(
+        Call::Walk(7, b"/auto/home", 159, Told::Waits(3)),
+        Errno::EPERM,
+    ),
+    Step::Refused(
+        Call::Walk(7, b"/auto/other", 159, Told::Waits(3)),
+        Errno::ENOSPC,
+    ),
+    Step::Does(Call::Walk(7, b"/auto/home", 160, Told::Waits(3))),
+    Step::Refused(
+        Call::Walk(8, b"/auto/other", 189, Told::Waits(4)),
+        Errno::ENOSPC,
+    ),
+    Step::Does(Call::Walk(8, b"/auto/other", 190, Told::Waits(4))),
+];
+
+/// What is mounted is walked into, and what isn't any more fails again, until a notification of that
+/// trigger is acknowledged with READY.
+const MADE_GOOD: &[Step<Call>] = &[
+    Step::Does(Call::Mkdir(1, Trap(2, b"home"))),
+    Step::Refused(
+        Call::Walk(7, b"/auto/home", 120, Told::Waits(2)),
+        Errno::EPERM,
+    ),
+    Step::Does(Call::MountOn(1, Trap(2, b"home"), 3)),
+    Step::Does(Call::Arrival(b"/auto/home/x", 120, Some(3))),
+    Step::Does(Call::Walk(7, b"/auto/home", 120, Told::Arrives(3))),
+    Step::Does(Call::Leave(7)),
+    Step::Does(Call::UmountFrom(1, Trap(2, b"home"), 3)),
+    Step::Refused(
+        Call::Walk(7, b"/auto/home", 121, Told::Waits(2)),
+        Errno::EPERM,
+    ),
+    Step::Does(Call::MountOn(1, Trap(2, b"home"), 4)),
+    Step::Does(Call::Asks(Asked::Expire(9, 2, 122, true), Told::Waits(2))),
+    Step::Does(Call::Asks(Asked::Ready(1, 2), Told::Done)),
+    Step::Does(Call::UmountFrom(1, Trap(2, b"home"), 4)),
+    Step::Does(Call::Resume(9, 123, Told::Expires)),
+    Step::Does(Call::Walk(7, b"/auto/home", 123, Told::Waits(3))),
+    // A mount that comes makes good what failed, too.
+    Step::Does(Call::MountOn(1, Trap(2, b"home"), 5)),
+    Step::Does(Call::Asks(Asked::Ready(1, 3), Told::Done)),
+    Step::Does(Call::ArrivalAgain(7, 123, Some(5))),
+    Step::Does(Call::ArrivalAgain(8, 123, None)),
+    Step::Does(Call::Resume(7, 123, Told::Arrives(5))),
+    Step::Does(Call::Leave(7)),
+    Step::Does(Call::UmountFrom(1, Trap(2, b"home"), 5)),
+    Step::Does(Call::Walk(7, b"/auto/home", 124, Told::Waits(4))),
+];
+
+/// Nothing that failed lasts in the file system. In another one it does.
+const CATATONIC: &[Step<Call>] = &[
+    Step::Does(Call::Indirect(b"/next", 3)),
+    Step::Does(Call::Walk(7, b"/next/home", 130, Told::Waits(2))),
+    Step::Does(Call::Asks(Asked::Fail(2, 2, FailNo::EAGAIN), Told::Done)),
+    Step::Does(Call::Resume(7, 130, Told::Fails(Errno::EAGAIN))),
+    Step::Refused(
+        Call::Walk(7, b"/auto/home", 130, Told::Waits(3)),
+        Errno::EPERM,
+    ),
+    Step::Does(Call::Asks(Asked::Catatonic(1, 2), Told::Done)),
+    Step::Refused(
+        Call::Walk(7, b"/auto/home", 130, Told::Waits(3)),
+        Errno::ENOENT,
+    ),
+    Step::Does(Call::Asks(Asked::SetPipe(2), Told::Attached(3))),
+    Step::Does(Call::Walk(7, b"/auto/home", 130, Told::Waits(3))),
+    Step::Refused(
+        Call::Walk(8, b"/next/home", 189, Told::Waits(4)),
+        Errno::EAGAIN,
+    ),
+    Step::Does(Call::Walk(8, b"/next/home", 190, Told::Waits(4))),
+];
+
+/// So it is where an administrator or a pipe that nobody reads makes it catatonic. A walk at a failure
+/// finds out nothing about the pipe.
+const CATATONIC_TOO: &[Step<Call>] = &[
+    Step::Does(Call::AdminCatatonic(2)),
+    Step::Does(Call::Asks(Asked::SetPipe(2), Told::Attached(2))),
+    Step::Does(Call::Walk(7, b"/auto/home", 130, Told::Waits(2))),
+    Step::Does(Call::Asks(Asked::Fail(2, 2, FailNo::EEXIST), Told::Done)),
+    Step::Does(Call::Resume(7, 130, Told::Fails(Errno::EEXIST))),
+    Step::Refused(
+        Call::WalkGone(7, b"/auto/home", 140, Told::Waits(3)),
+        Errno::EEXIST,
+    ),
+    Step::Does(Call::Walk(8, b"/auto/more", 140, Told::Waits(3))),
+    Step::Does(Call::WalkGone(7, b"/auto/other", 140, Told::Fails(Errno::ENOENT))),
+    Step::Does(Call::Resume(8, 140, Told::Fails(Errno::ENOENT))),
+    Step::Does(Call::Asks(Asked::SetPipe(2), Told::Attached(3))),
+    Step::Does(Call::Walk(7, b"/auto/home", 140, Told::Waits(4))),
+    Step::Does(Call::Walk(8, b"/auto/more", 140, Told::Waits(5))),
+];
+
+/// An unmount that failed leaves nothing. Who asked for it is told the number; who walks there goes on.
+const EXPIRY_FAILED: &[Step<Call>] = &[
+    Step::Does(Call::Asks(Asked::Expire(7, 2, 160, false), Told::Waits(1))),
+    Step::Does(Call::Walk(8, b"/auto/home", 160, Told::Waits(1))),
+    Step::Does(Call::Sees(
+        Asked::Fail(1, 1, FailNo::ELOOP),
+        Told::Done,
+        &[
+            Sight::Answered(1, Status::Fail(FailNo::ELOOP)),
+            Sight::Released(7, 1, Status::Fail(FailNo::ELOOP)),
+            Sight::Released(8, 1, Status::Fail(FailNo::ELOOP)),
+        ],
+    )),
+    Step::Does(Call::Resume(7, 160, Told::Fails(Errno::ELOOP))),
+    Step::Does(Call::Resume(8, 160, Told::Arrives(3))),
+    Step::Does(Call::Leave(8)),
+    Step::Does(Call::UmountFrom(1, Trap(2, b"home"), 3)),
+    Step::Does(Call::Walk(8, b"/auto/home", 160, Told::Waits(2))),
+];
+
+/// And it leaves what failed before.
+const EXPIRY_FAILED_BEHIND: &[Step<Call>] = &[
+    Step::Does(Call::Mkdir(1, Trap(2, b"home"))),
+    Step::Does(Call::MountOn(1, Trap(2, b"home"), 3)),
+    Step::Does(Call::Walk(7, b"/auto/home", 130, Told::Arrives(3))),
+    Step::Does(Call::Leave(7)),
+    Step::Does(Call::Asks(Asked::Expire(9, 2, 140, true), Told::Waits(2))),
+    Step::Does(Call::Asks(Asked::Fail(1, 2, FailNo::EBUSY), Told::Done)),
+    Step::Does(Call::Resume(9, 140, Told::Fails(Errno::EBUSY))),
+    Step::Does(Call::UmountFrom(1, Trap(2, b"home"), 3)),
+    Step::Refused(
+        Call::Walk(7, b"/auto/home", 159, Told::Waits(3)),
+        Errno::EPERM,
+    ),
+    Step::Does(Call::Walk(7, b"/auto/home", 160, Told::Waits(3))),
+];
+
+/// Without seconds no failure lasts.
+const NONE_LASTS: &[Step<Call>] = &[
+    Step::Does(Call::Begins(0)),
+    Step::Does(Call::Indirect(b"/auto", 2)),
+    Step::Does(Call::Walk(7, b"/auto/home", 100, Told::Waits(1))),
+    Step::Does(Call::Asks(Asked::Fail(1, 1, FailNo::EPERM), Told::Done)),
+    Step::Does(Call::Walk(8, b"/auto/home", 100, Told::Waits(2))),
+    Step::Does(Call::Resume(7, 100, Told::Fails(Errno::EPERM))),
+    Step::Does(Call::Walk(7, b"/auto/home", 0, Told::Waits(2))),
+];
+
+/// With the greatest number of seconds it lasts but at the last moment, where it began at 0.
+const ALL_LAST: &[Step<Call>] = &[
+    Step::Does(Call::Begins(u64::MAX)),
+    Step::Does(Call::Direct(b"/data", 2)),
+    Step::Does(Call::Walk(7, b"/data", 0, Told::Waits(1))),
+    Step::Does(Call::Asks(Asked::Fail(1, 1, FailNo::EINVAL), Told::Done)),
+    Step::Does(Call::Resume(7, 0, Told::Fails(Errno::EINVAL))),
+    Step::Refused(
+        Call::Walk(7, b"/data/x", 18446744073709551614, Told::Waits(2)),
+        Errno::EINVAL,
+    ),
+    Step::Does(Call::Walk(7, b"/data/x", u64::MAX, Told::Waits(2))),
+    Step::Does(Call::Asks(Asked::Fail(1, 2, FailNo::EBUSY), Told::Done)),
+    Step::Does(Call::Resume(7, u64::MAX, Told::Fails(Errno::EBUSY))),
+    Step::Refused(
+        Call::Walk(7, b"/data", u64::MAX, Told::Waits(3)),
+        Errno::EBUSY,
+    ),
+    Step::Refused(Call::Walk(7, b"/data", 0, Told::Waits(3)), Errno::EBUSY),
+];
+
+static EXAMPLES: [(&str, &[&[Step<Call>]]); 14] = [
     ("directories", &[ATTACHED, DIRECTORIES]),
     ("mounts", &[ATTACHED, MOUNTS]),
     ("acknowledgements", &[ATTACHED, ANSWERS]),
     ("each request as one call", &[USED, REQUESTS]),
     ("moments", &[USED, MOMENTS]),
+    ("a failure lasts to its second", &[FAILED, LASTS]),
+    ("a failure is one of its own name", &[FAILED, ANOTHER_NAME]),
+    ("READY makes a failure good", &[FAILED, MADE_GOOD]),
+    ("catatonic mode ends failures", &[FAILED, CATATONIC]),
+    ("so it does by whatever brings it", &[FAILED, CATATONIC_TOO]),
+    ("an unmount that failed", &[USED, EXPIRY_FAILED]),
+    (
+        "an unmount that failed behind a mount that did",
+        &[FAILED, EXPIRY_FAILED_BEHIND],
+    ),
+    ("no failure lasts", &[NONE_LASTS]),
+    ("a failure lasts for the longest", &[ALL_LAST]),
 ];
 
 #[test]

@@ -6,10 +6,11 @@ use crate::tests::trap::Trap;
 use am_expire::{OrderedTriggers, Uses, pick, pick_counted};
 use am_group::Change;
 use am_names::{
-    AbsPath, Errno, FsId, MountId, MountRow, Name, NsId, Position, Seconds, Token, TokenKind,
-    Trigger, WalkerId,
+    AbsPath, Errno, FailNo, FsId, MountId, MountRow, Name, NsId, Position, Seconds, Token,
+    TokenKind, Trigger, WalkerId,
 };
 use am_propagate::{CopyForm, Subtree};
+use am_trigger::{Failure, Failures};
 use am_wait::Waits;
 use am_walk::{Stop, Walk, position, resolve};
 use std::alloc::Global;
@@ -94,6 +95,12 @@ fn path_of(number: u64) -> [u8; 6] {
     ]
 }
 
+/// When walks are made.
+const MOMENT: Seconds = Seconds(100);
+
+/// How long a failure lasts.
+const NEGATIVE: Seconds = Seconds(60);
+
 /// What a pick is asked: the file system, its timeout, the moment, and whether at once.
 #[derive(Clone, Copy)]
 pub struct Ask(pub u32, pub u32, pub u64, pub bool);
@@ -115,6 +122,9 @@ pub enum Call {
     IsPending(u32, Trap),
     Makes(Trap),
     Catatonic(u32),
+    /// Something failed at the trigger, so and at this moment. Walks are made at moment 100, and a failure
+    /// lasts 60 seconds.
+    Failed(Trap, FailNo, u64),
     /// The trigger was last used at this moment.
     Used(Trap, u64),
     /// So were all of these.
@@ -148,6 +158,7 @@ pub enum Call {
 pub struct Parts {
     subtree: Subtree,
     triggers: OrderedTriggers,
+    failures: Failures,
     waits: Waits,
     uses: Uses,
 }
@@ -221,6 +232,15 @@ impl Parts {
         Ok(true)
     }
 
+    fn fail(&mut self, trap: Trap, no: FailNo, moment: u64) -> Result<bool, Errno> {
+        let trigger = trap.trigger()?;
+        let _name: Option<Name> = trigger.name;
+        self.failures.reserve(1)?;
+        let at = Seconds(moment);
+        self.failures.put_reserved(&trigger, Failure { no, at });
+        Ok(true)
+    }
+
     fn touch(&mut self, trap: Trap, moment: u64) -> Result<bool, Errno> {
         let trigger = trap.trigger()?;
         let _name: Option<Name> = trigger.name;
@@ -281,8 +301,11 @@ impl Parts {
             &self.subtree,
             self.triggers.as_triggers(),
             &self.waits,
+            &self.failures,
             NsId(ns),
             &path,
+            MOMENT,
+            NEGATIVE,
         )?;
         Ok(is_walk(&walk, traps, end))
     }
@@ -301,8 +324,11 @@ impl Parts {
             &self.subtree,
             self.triggers.as_triggers(),
             &self.waits,
+            &self.failures,
             NsId(0),
             &kept.path(),
+            MOMENT,
+            NEGATIVE,
         )?;
         Ok(is_walk(&walk, traps, end))
     }
@@ -466,6 +492,7 @@ impl Stage for Parts {
         Ok(Parts {
             subtree: Subtree::new(alloc, 2000)?,
             triggers: OrderedTriggers::new(alloc),
+            failures: Failures::new(alloc),
             waits: Waits::new(alloc, 9, 9),
             uses: Uses::new(alloc),
         })
@@ -485,6 +512,7 @@ impl Stage for Parts {
             Call::IsPending(walker, trap) => self.open(alloc, walker, TokenKind::Missing, trap),
             Call::Makes(trap) => self.mkdir(trap),
             Call::Catatonic(fs) => self.set_catatonic(fs),
+            Call::Failed(trap, no, moment) => self.fail(trap, no, moment),
             Call::Used(trap, moment) => self.touch(trap, moment),
             Call::AllUsed(traps, moment) => self.touch_all(alloc, traps, moment),
             Call::Keys(mount, fs, count) => self.use_keys(alloc, mount, fs, count),

@@ -1,5 +1,6 @@
 //! Where walks end, and what they pass on their way.
 
 mod administrator;
+mod failed;
 mod paths;
 mod traps;

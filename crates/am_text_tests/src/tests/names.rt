@@ -2,8 +2,8 @@
 
 use crate::tests::table::{Row, hold, stretched};
 use am_names::{
-    AbsPath, Errno, FsId, Limits, MountId, MountRow, Mounts, Name, NsId, Place, Position, Waiters,
-    WalkerId, split_first_name,
+    AbsPath, Errno, FailNo, FsId, Limits, MountId, MountRow, Mounts, Name, NsId, Place, Position,
+    Seconds, Waiters, WalkerId, split_first_name,
 };
 use std::alloc::Global;
 
@@ -46,8 +46,13 @@ enum Text {
     /// One walker waits, and others join. Without memory the list is as before.
     Joins(u32, &'static [u32], &'static [u32]),
     Number(Errno, u8),
-    /// The greatest mount number, the most waits and the greatest token are in their ranges.
-    InRange(u32, u32, u32, bool),
+    /// The failure of this number has it, and is this error.
+    Fails(u8, Errno),
+    /// From the first number to the last there is no failure.
+    NoFailures(u8, u8),
+    /// The greatest mount number, the most waits and the greatest token are in their ranges, however
+    /// long failures last.
+    InRange(u32, u32, u32, u64, bool),
 }
 
 fn reads_name(
@@ -264,11 +269,28 @@ fn joins(alloc: Global, one: u32, others: &[u32], all: &[u32]) -> Result<bool, E
     Ok(are_waiters(&waiters, all))
 }
 
-fn is_in_range(mounts: u32, waiters: u32, tokens: u32) -> bool {
+fn fails(number: u8, errno: Errno) -> bool {
+    match FailNo::read(number) {
+        Ok(no) => no.number() == number && no.errno() == errno,
+        Err(_) => false,
+    }
+}
+
+fn are_no_failures(first: u8, last: u8) -> bool {
+    for number in first..=last {
+        if FailNo::read(number) != Err(Errno::EINVAL) {
+            return false;
+        }
+    }
+    true
+}
+
+fn is_in_range(mounts: u32, waiters: u32, tokens: u32, negative: u64) -> bool {
     let limits = Limits {
         mounts,
         waiters,
         tokens,
+        negative: Seconds(negative),
     };
     limits.is_in_range()
 }
@@ -297,8 +319,10 @@ impl Row for Text {
             Text::RowCopied(mount, on, path) => row_copied(alloc, *mount, *on, path),
             Text::Joins(one, others, all) => joins(alloc, *one, others, all),
             Text::Number(errno, number) => Ok(errno.number() == *number),
-            Text::InRange(mounts, waiters, tokens, expected) => {
-                Ok(is_in_range(*mounts, *waiters, *tokens) == *expected)
+            Text::Fails(number, errno) => Ok(fails(*number, *errno)),
+            Text::NoFailures(first, last) => Ok(are_no_failures(*first, *last)),
+            Text::InRange(mounts, waiters, tokens, negative, expected) => {
+                Ok(is_in_range(*mounts, *waiters, *tokens, *negative) == *expected)
             }
         }
     }
@@ -389,13 +413,29 @@ static NUMBERS: [Text; 12] = [
     Text::Number(Errno::Stranger, 12),
 ];
 
-static LIMITS: [Text; 6] = [
-    Text::InRange(1, 1, 1, true),
-    Text::InRange(u32::MAX, 65_536, u32::MAX, true),
-    Text::InRange(0, 1, 1, false),
-    Text::InRange(1, 0, 1, false),
-    Text::InRange(1, 65_537, 1, false),
-    Text::InRange(1, 1, 0, false),
+/// All numbers that there are.
+static FAILURES: [Text; 11] = [
+    Text::NoFailures(0, 0),
+    Text::Fails(1, Errno::ENOENT),
+    Text::Fails(2, Errno::EPERM),
+    Text::Fails(3, Errno::EBUSY),
+    Text::Fails(4, Errno::EEXIST),
+    Text::Fails(5, Errno::EINVAL),
+    Text::Fails(6, Errno::EAGAIN),
+    Text::Fails(7, Errno::ELOOP),
+    Text::Fails(8, Errno::ENAMETOOLONG),
+    Text::Fails(9, Errno::ENOSPC),
+    Text::NoFailures(10, 255),
+];
+
+static LIMITS: [Text; 7] = [
+    Text::InRange(1, 1, 1, 0, true),
+    Text::InRange(u32::MAX, 65_536, u32::MAX, u64::MAX, true),
+    Text::InRange(0, 1, 1, 0, false),
+    Text::InRange(1, 0, 1, 0, false),
+    Text::InRange(1, 65_537, 1, 0, false),
+    Text::InRange(1, 1, 0, 0, false),
+    Text::InRange(1, 1, 1, 60, true),
 ];
 
 static WITHOUT_MEMORY: [Text; 2] = [
@@ -440,6 +480,12 @@ fn texts_of_names(rt: HostRuntime) {
     hold(&rt, rt.alloc(), "rows and lists are copied", &COPIES);
     hold(&rt, rt.alloc(), "waiters join in order", &TWO_WAITERS);
     hold(&rt, rt.alloc(), "errors have their numbers", &NUMBERS);
+    hold(
+        &rt,
+        rt.alloc(),
+        "failures have the numbers of errors",
+        &FAILURES,
+    );
     hold(&rt, rt.alloc(), "limits have their ranges", &LIMITS);
     hold(
         &rt,

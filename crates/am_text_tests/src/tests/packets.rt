@@ -7,7 +7,7 @@ use crate::tests::packets::made::{
     written,
 };
 use crate::tests::table::{Row, hold};
-use am_names::{Attach, Errno, FsId, PipeState, Seconds, Token, TokenKind, WalkerId};
+use am_names::{Attach, Errno, FailNo, FsId, PipeState, Seconds, Token, TokenKind, WalkerId};
 use am_wire::{Kind, Packet, Request, WireFault, is_writable, read};
 use std::alloc::Global;
 
@@ -216,14 +216,23 @@ fn is_fault(alloc: Global, fault: WireFault, number: u8, word: &str) -> Result<b
     Ok(fault.number() == number && text.as_str() == word)
 }
 
-/// One request of each kind.
-fn requests() -> [Request; 6] {
+/// One request of each kind, and one more of a failure.
+fn requests() -> [Request; 7] {
     let attach = Attach(1);
     let fs = FsId(2);
     let token = Token(3);
     [
         Request::Ready { attach, token },
-        Request::Fail { attach, token },
+        Request::Fail {
+            attach,
+            token,
+            no: FailNo::ENOENT,
+        },
+        Request::Fail {
+            attach,
+            token,
+            no: FailNo::EPERM,
+        },
         Request::Catatonic { attach, fs },
         Request::SetTimeout {
             attach,

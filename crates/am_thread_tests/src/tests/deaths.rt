@@ -1,14 +1,14 @@
 //! The daemon dies, again and again, while walkers walk and workers serve. What is seen stays
-//! lawful.
+//! lawful, and what fails has the number that the backend told.
 
 ghost use Rattle.std.specs.Prelude.{◌≡◌, ◌<◌, [], vec_len, IfOk};
 
 use crate::tests::seats::{Seat, callers_of, seats_of};
 use crate::tests::sizes::number;
-use crate::tests::worlds::{Beginning, call, world_and_ends};
-use am_machine::Answer;
-use am_map::Entry;
-use am_names::{AbsPath, FsId, Trigger, WalkerId};
+use crate::tests::worlds::{Beginning, call, world_and_failures};
+use am_machine::{Answer, Entry, Event};
+use am_map::Entry as MapEntry;
+use am_names::{AbsPath, FailNo, FsId, Seconds, Trigger, WalkerId};
 use am_pipe::{PutEnd, TakeEnd, pipe};
 use am_runner::{Backend, Gate, breaker, daemon_worker, walker};
 use am_shared::{Caller, Opened, Shared, gather, share};
@@ -50,19 +50,23 @@ impl Gate for Open {
     fn pass(&self, _call: u32) {}
 }
 
-/// One backend for all workers: every second mount fails.
+/// One backend for all workers: every second mount fails, with one number and the other in turn.
 #[derive(Drop)]
 struct FailsInTurn<'a> {
     mounts: &'a AtomicU32,
 }
 
 impl Backend for FailsInTurn<'_> {
-    fn mount(&mut self, _entry: &Entry) -> bool {
-        self.mounts.fetch_add(1, Ordering::SeqCst) % 2 == 0
+    fn mount(&mut self, _entry: &MapEntry) -> Result<(), FailNo> {
+        match self.mounts.fetch_add(1, Ordering::SeqCst) % 4 {
+            1 => Err(FailNo::EPERM),
+            3 => Err(FailNo::ENOSPC),
+            _ => Ok(()),
+        }
     }
 
-    fn umount(&mut self, _trigger: &Trigger) -> bool {
-        true
+    fn umount(&mut self, _trigger: &Trigger) -> Result<(), FailNo> {
+        Ok(())
     }
 }
 
@@ -189,14 +193,39 @@ struct End {
     calls: usize,
     test: bool,
     is_lawful: bool,
+    /// How many acts failed with one number, and with the other.
+    failed: [u64; 2],
+}
+
+fn is_failed(entry: &Entry, no: FailNo) -> bool {
+    match &entry.event {
+        Event::Act { failure, .. } => *failure == Some(no),
+        _ => false,
+    }
+}
+
+/// How many acts failed with this number.
+fn failed(history: &[Entry], no: FailNo) -> u64 {
+    let mut count = 0_u64;
+    for entry in history {
+        if is_failed(entry, no) {
+            count = count.wrapping_add(1);
+        }
+    }
+    count
 }
 
 fn end_of(shared: &Shared, count: u64, test: bool) -> End {
+    let history = shared.history();
     End {
         count,
-        calls: shared.history().len(),
+        calls: history.len(),
         test,
         is_lawful: trace_holds(shared.world().trace()),
+        failed: [
+            failed(history, FailNo::EPERM),
+            failed(history, FailNo::ENOSPC),
+        ],
     }
 }
 
@@ -249,6 +278,12 @@ fn dies<L: Opened + Send + Sync, R: Threads + Wait + Abort + Sync>(
     assert!(rt; end.count == end.calls as u64, "each call is counted");
     assert!(rt; end.test, "each call has its receipt");
     assert!(rt; end.is_lawful, "the trace is lawful");
+    let mounts = common.mounts.load(Ordering::SeqCst) as u64;
+    assert!(rt;
+        end.failed[0] == (mounts + 2) / 4,
+        "each first failure is told"
+    );
+    assert!(rt; end.failed[1] == mounts / 4, "each second failure is told");
     Ok(())
 }
 
@@ -261,16 +296,32 @@ fn size_of(rt: &HostRuntime) -> Size {
     }
 }
 
-#[test]
-fn daemon_dies(rt: HostRuntime) -> Result<(), Fail> {
-    let alloc = rt.alloc();
-    let size = size_of(&rt);
+/// The daemon dies in a world in which a failure lasts so many seconds.
+fn plays<R: Threads + Wait + Abort + Sync>(
+    rt: &R,
+    alloc: Global,
+    size: Size,
+    negative: Seconds,
+) -> Result<(), AllocError> {
     let seats = all_seats(size);
     assert!(rt; seats > 0, "a seat at least");
     assert!(rt; size.workers > 0, "a worker at least");
-    let begun = world_and_ends(alloc, ANY)?;
+    let begun = world_and_failures(alloc, ANY, negative)?;
     let (put, takers) = pipe(alloc, 64, size.workers as usize)?;
     let blank = Blank::new(seats as u64);
-    dies::<Brand, HostRuntime>(&rt, alloc, blank, begun, put, takers, size, seats)?;
+    dies::<Brand, R>(rt, alloc, blank, begun, put, takers, size, seats)
+}
+
+#[test]
+fn daemon_dies(rt: HostRuntime) -> Result<(), Fail> {
+    plays(&rt, rt.alloc(), size_of(&rt), Seconds(0))?;
+    Ok(())
+}
+
+/// All walks are made at moment 0, so a failure lasts until its file system is catatonic. Nobody waits
+/// for ever where walks are refused meanwhile.
+#[test]
+fn daemon_dies_where_failures_last(rt: HostRuntime) -> Result<(), Fail> {
+    plays(&rt, rt.alloc(), size_of(&rt), Seconds(1))?;
     Ok(())
 }

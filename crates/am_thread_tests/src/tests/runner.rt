@@ -6,7 +6,7 @@ use crate::tests::seats::{Seat, callers_of, seats_of};
 use crate::tests::worlds::{Beginning, call, world_and_ends};
 use am_machine::{Answer, Entry};
 use am_map::Entry as MapEntry;
-use am_names::{AbsPath, Errno, Trigger, WalkerId};
+use am_names::{AbsPath, Errno, FailNo, Trigger, WalkerId};
 use am_pipe::{PutEnd, TakeEnd, pipe};
 use am_runner::{Backend, Gate, Tally, daemon_worker, run_threads, walker};
 use am_shared::{Caller, Opened, Shared, gather, share};
@@ -56,12 +56,12 @@ fn has_arrived(arrived: &AtomicBool) -> bool {
 struct Succeeds;
 
 impl Backend for Succeeds {
-    fn mount(&mut self, _entry: &MapEntry) -> bool {
-        true
+    fn mount(&mut self, _entry: &MapEntry) -> Result<(), FailNo> {
+        Ok(())
     }
 
-    fn umount(&mut self, _trigger: &Trigger) -> bool {
-        true
+    fn umount(&mut self, _trigger: &Trigger) -> Result<(), FailNo> {
+        Ok(())
     }
 }
 

@@ -5,7 +5,7 @@ ghost use Rattle.am_names.specs.Limits.{IsInRange};
 
 use am_map::{Map, MapKind};
 use am_master::Master;
-use am_names::{Errno, Limits};
+use am_names::{Errno, Limits, Seconds};
 use am_script::answer_line::push_answer;
 use am_script::event_line::read_event;
 use am_shared::{Caller, Opened, Receipt};
@@ -17,6 +17,7 @@ const LIMITS: Limits = Limits {
     mounts: 1_000_000,
     waiters: 1_024,
     tokens: u32::MAX,
+    negative: Seconds(0),
 };
 
 /// An autofs at /auto.
@@ -32,13 +33,17 @@ pub struct Beginning {
     ghost maps_fit: { length maps.items ≡ length master },
 }
 
-/// A world with an autofs at /auto, of this map.
-pub fn world_and_ends(alloc: Global, map: &[u8]) -> Result<Beginning, AllocError> {
+/// A world with an autofs at /auto, of this map, in which a failure lasts so many seconds.
+pub fn world_and_failures(
+    alloc: Global,
+    map: &[u8],
+    negative: Seconds,
+) -> Result<Beginning, AllocError> {
     let master = Master::read(alloc, POINTS).map_err(|_fault| AllocError)?;
     let map = Map::read(alloc, map, MapKind::Indirect).map_err(|_fault| AllocError)?;
     let mut maps = Vec::new(alloc);
     maps.push(map)?;
-    let limits = LIMITS;
+    let limits = Limits { negative, ..LIMITS };
     if !limits.is_in_range() || maps.len() != master.entries().len() {
         return Err(AllocError);
     }
@@ -47,6 +52,11 @@ pub fn world_and_ends(alloc: Global, map: &[u8]) -> Result<Beginning, AllocError
         master,
         maps,
     })
+}
+
+/// The same world, in which no failure lasts.
+pub fn world_and_ends(alloc: Global, map: &[u8]) -> Result<Beginning, AllocError> {
+    world_and_failures(alloc, map, Seconds(0))
 }
 
 /// The same world, for one thread.

@@ -1,4 +1,4 @@
-use Rattle.std.proofs.Common.{◌≡◌, ◌≤◌, ◌<◌, ◌-◌, ◌==◌, suc, arith}
+use Rattle.std.proofs.Common.{◌<◌, ◌-◌, ◌==◌, arith}
 use Rattle.am_job.proofs.BookLemmas.{left_out_more}
 use Rattle.am_job.proofs.book.forget_fs.Goals as goal
 

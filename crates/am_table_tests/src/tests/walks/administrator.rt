@@ -2,6 +2,7 @@
 
 use crate::tests::parts::{Call, End, Parts, Setting};
 use crate::tests::script::{Stage, Step, plays_all};
+use crate::tests::walks::failed;
 use crate::tests::walks::paths::TWO_ON_THE_WAY;
 use crate::tests::walks::traps::{DIRECT, INDIRECT};
 use am_names::Errno;
@@ -92,6 +93,14 @@ const MISSING: &[Step<Case>] = &[
     Step::Does(Case::Leads(b"xpcd", b"/auto/home/x", End::Fails(Errno::ENOENT))),
 ];
 
+/// What failed at a trigger is the walkers' alone.
+const FAILED: &[Step<Case>] = &[
+    Step::Does(Case::In(failed::INDIRECT)),
+    Step::Does(Case::Leads(b"f", b"/auto/home", End::Fails(Errno::ENOENT))),
+    Step::Does(Case::Leads(b"kf", b"/auto/home", End::At(4, b"/home"))),
+    Step::Does(Case::Leads(b"mf", b"/auto/home", End::At(5, b""))),
+];
+
 const DIRECT_ROOT: &[Step<Case>] = &[
     Step::Does(Case::In(DIRECT)),
     Step::Does(Case::Leads(b"", b"/auto", End::At(4, b""))),
@@ -121,10 +130,11 @@ const OVER_TWO_AUTOFS: &[Step<Call>] = &[
     Step::Does(Call::Leads(1, b"/auto/home", End::Fails(Errno::ENOENT))),
 ];
 
-static EXAMPLES: [(&str, &[&[Step<Case>]]); 4] = [
+static EXAMPLES: [(&str, &[&[Step<Case>]]); 5] = [
     ("what is mounted on a trigger is entered", &[MOUNTED]),
     ("a directory that is made is entered", &[MADE]),
     ("a missing directory is not found", &[MISSING]),
+    ("what failed is not met", &[FAILED]),
     ("the root of a direct autofs is entered", &[DIRECT_ROOT]),
 ];
 

@@ -41,7 +41,7 @@ pub const DIRECT: Setting = Setting(
 
 /// Where walks are played, or a walk.
 #[derive(Clone, Copy)]
-enum Case {
+pub enum Case {
     /// Here walks are played, in this namespace, each in a world of its own.
     In(Setting, u32),
     /// Facts, a walk along a path where they hold, the triggers that it passes, and where it ends.
@@ -50,7 +50,7 @@ enum Case {
 
 /// The setting and the namespace in which walks are played.
 #[derive(Drop)]
-struct Walks(Setting, u32);
+pub struct Walks(Setting, u32);
 
 impl Stage for Walks {
     type Call = Case;

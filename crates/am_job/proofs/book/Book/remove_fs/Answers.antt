@@ -1,9 +1,7 @@
 use Rattle.std.proofs.Common.{◌==◌, Bool, List, not, ap, ◌∙◌}
-use Rattle.am_names.specs.declared.trigger.Trigger.{Trigger}
-use Rattle.am_state.specs.declared.daemon_row.Record.{Record}
 use Rattle.am_state.specs.declared.daemon_row.RecordRow.{RecordRow}
 use Rattle.am_job.specs.Book.{record_of, without_fs}
-use Rattle.am_job.specs.Inside.{row_of, rows_of}
+use Rattle.am_job.specs.Inside.{rows_of}
 use Rattle.am_job.specs.Table.{BookTable}
 use Rattle.am_job.proofs.BookLemmas.{rows_left, forgotten}
 use Rattle.am_job.proofs.book.Book.remove_fs.Goals as goal

@@ -7,7 +7,7 @@ use Rattle.am_kernel.proofs.kernel.Kernel.add_autofs.Goals as goal
 
 pub add_fs_reserved-requires-clause-fresh : goal.add_fs_reserved-requires-clause-fresh
 add_fs_reserved-requires-clause-fresh c =
-    ap (add_refusal (c.self.inside.last_fs + 1)) c.reserve_fs.ensures.rows ∙ next_is_new c.self.inside.last_fs c.self.inside.triggers.rows c.self.invariant
+    ap (add_refusal (c.self.inside.last_fs + 1)) c.reserve_fs.ensures.rows ∙ next_is_new c.self.inside.last_fs c.self.inside.triggers.rows c.self.invariant.numbered
 
 pub invariant_of-self-2 : goal.invariant_of-self-2
 invariant_of-self-2 c =
@@ -16,5 +16,9 @@ invariant_of-self-2 c =
     let row : Autofs = record { fs = last + 1; direct = c.args.direct; location = c.in_ok-mount.mount; catatonic = false } in
     let rows : c.add_fs_reserved.new.self.rows.autofs ≡ old ++ row ∷ [] =
     ap (λ (t : TriggerRows). t.autofs) (c.add_fs_reserved.ensures.rows ∙ ap (with_autofs (last + 1) c.args.direct c.in_ok-mount.mount) c.reserve_fs.ensures.rows) in
-    subst (λ (n : ℕ). All (λ (r : Autofs). r.fs ≤ n) c.add_fs_reserved.new.self.rows.autofs) (sym c.fs.view_is)
-    (subst (λ (rs : List Autofs). All (λ (r : Autofs). r.fs ≤ last + 1) rs) (sym rows) (next_is_sound last old row refl c.self.invariant))
+    record {
+      numbered =
+          subst (λ (n : ℕ). All (λ (r : Autofs). r.fs ≤ n) c.add_fs_reserved.new.self.rows.autofs) (sym c.fs.view_is)
+          (subst (λ (rs : List Autofs). All (λ (r : Autofs). r.fs ≤ last + 1) rs) (sym rows) (next_is_sound last old row refl c.self.invariant.numbered));
+      room = c.self.invariant.room;
+    }

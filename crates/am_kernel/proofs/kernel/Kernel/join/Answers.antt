@@ -1,15 +1,19 @@
-use Rattle.std.proofs.Common.{◌≡◌, ◌++◌, ◌∷◌, [], false, List, sym, ap, ◌∙◌, refl}
+use Rattle.std.proofs.Common.{◌≡◌, ◌≤◌, ◌++◌, ◌∷◌, [], false, List, length, sym, ap, subst, ◌∙◌, refl, arith}
+use Rattle.std.specs.List.{All}
 use Rattle.std.specs.Prelude.{⊤}
 use Rattle.std.proofs.lemmas.Result.{err_from_is_err_and}
 use Rattle.am_names.specs.declared.trigger.Trigger.{Trigger}
 use Rattle.am_state.specs.declared.obs.Obs.{Obs}
 use Rattle.am_state.specs.declared.obs.Obs.TheVariants as seen
-use Rattle.am_trigger.specs.Rows.{all_used}
+use Rattle.am_trigger.specs.declared.autofs.Autofs.{Autofs}
+use Rattle.am_trigger.specs.Rows.{TriggerRows, all_used}
+use Rattle.am_wait.specs.Rows.{WaitRows}
 use Rattle.am_wait.specs.Calls.{is_full, collected, rejoined}
 use Rattle.am_kernel.specs.declared.row.WalkRow.{WalkRow}
 use Rattle.am_kernel.specs.State.{KernelState}
 use Rattle.am_kernel.specs.Walks.{passes, without_walk, with_walk, with_joined}
 use Rattle.am_kernel.specs.Inside.{kernel_of, expired_uses, forgotten_walks}
+use Rattle.am_kernel.proofs.TokenLemmas.{expired_autofs, as_many_rejoined}
 use Rattle.am_kernel.proofs.FreeLemmas.{joins_full, joins_as, joins_wants, put_again, without_wait}
 use Rattle.am_kernel.proofs.kernel.Kernel.join.Goals as goal
 
@@ -29,6 +33,20 @@ returns-in_err-rejoin c =
     c.in_err-rejoin.ensures.refusal
     (rw (c.reserve_uses.ensures.rows, c.in_err-rejoin.ensures.err, c.reserve-2.ensures.rows) refl)
     c.reserve.ensures.items)
+
+pub invariant_of-self-2 : goal.invariant_of-self-2
+invariant_of-self-2 c =
+    let old = kernel_of c.self.inside in
+    let b = c.args.begin.now in
+    let w = c.args.waited.now in
+    let triggers : c.touch_all_reserved.new.self.rows ≡ all_used c.args.passed.now b.moment (expired_uses w b.moment old.triggers) =
+    c.touch_all_reserved.ensures.rows ∙ ap (all_used c.args.passed.now b.moment) (c.touch_expired.ensures.rows ∙ ap (expired_uses w b.moment) c.reserve_uses.ensures.rows) in
+    let autofs : c.touch_all_reserved.new.self.rows.autofs ≡ old.triggers.autofs = ap (λ (t : TriggerRows). t.autofs) triggers ∙ expired_autofs w b.moment old.triggers in
+    let waits : c.rejoin.new.self ≡ rejoined c.args.token b.walker old.waits = c.in_ok-rejoin.ensures.ok in
+    record {
+      numbered = subst (λ (rows : List Autofs). All (λ (row : Autofs). row.fs ≤ c.self.inside.last_fs) rows) (sym autofs) c.self.invariant.numbered;
+      room = omega (arith, c.self.invariant.room, ap (λ (x : WaitRows). length x.tokens) waits, as_many_rejoined c.args.token b.walker old.waits);
+    }
 
 pub returns : goal.returns
 returns c =

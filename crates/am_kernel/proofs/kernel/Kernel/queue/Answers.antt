@@ -9,7 +9,7 @@ use Rattle.am_trigger.specs.Rows.{used, all_used}
 use Rattle.am_wait.specs.Calls.{reopened}
 use Rattle.am_kernel.specs.declared.row.WalkRow.{WalkRow}
 use Rattle.am_kernel.specs.State.{KernelState}
-use Rattle.am_kernel.specs.Walks.{passes, without_walk, with_walk, with_notified}
+use Rattle.am_kernel.specs.Walks.{without_walk, with_walk, with_notified}
 use Rattle.am_kernel.specs.Inside.{kernel_of, expired_uses, forgotten_walks}
 use Rattle.am_kernel.proofs.FreeLemmas.{put_again, without_wait}
 use Rattle.am_kernel.proofs.NotifyLemmas.{notified_as, shown_with, packet_of}
@@ -38,7 +38,7 @@ returns c =
     c.push_reserved.ensures.items ∙ ap (λ (rows : List QueuedRow). rows ++ row c.in_ok-token.token c.to_packet.result ∷ []) c.reserve-3.ensures.items ∙ ap (λ (packet : Packet). old.queue ++ row c.in_ok-token.token packet ∷ []) packet ∙ ap (λ (token : ℕ). old.queue ++ row token (packet_of b trigger token) ∷ []) next in
     let next_now : c.in_ok-token.token ≡ k.waits.last_token + 1 = next ∙ ap (λ (s : KernelState). s.waits.last_token + 1) c.self.view_is in
     notified_as w k _ b trigger attach passed c.in_ok-token.token c.args.seen.now.items _ c.requires.free next_now
-    ((rw (triggers, waits, walks, queue) refl) ∙ ap (λ (s : KernelState). with_notified b trigger attach passed (without_wait w b.walker b.moment s)) c.self.view_is)
+    ((rw (triggers, c.reserve_failure.ensures.rows, waits, walks, queue) refl) ∙ ap (λ (s : KernelState). with_notified b trigger attach passed (without_wait w b.walker b.moment s)) c.self.view_is)
     (c.tell_queued.ensures
     ∙ ap (λ (ts : List Trigger). c.reserve.new.self.items ++ shown_with b attach ts c.in_ok-token.token c.set_token.new.self) c.in_ok-kept.ensures
     ∙ ap (λ (xs : List Obs). xs ++ shown_with b attach passed c.in_ok-token.token c.set_token.new.self) c.reserve.ensures.items

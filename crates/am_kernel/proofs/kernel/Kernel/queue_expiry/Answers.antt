@@ -32,7 +32,7 @@ returns c =
     let next_now : c.in_ok-token.token ≡ k.waits.last_token + 1 = next ∙ ap (λ (s : KernelState). s.waits.last_token + 1) c.self.view_is in (
       ap (λ (t : ℕ). Waits t) next_now,
       record {
-        state = (rw (waits, queue) refl) ∙ ap (λ (s : KernelState). with_expiring n trigger attach s) c.self.view_is;
+        state = (rw (c.reserve_failure.ensures.rows, waits, queue) refl) ∙ ap (λ (s : KernelState). with_expiring n trigger attach s) c.self.view_is;
         seen = c.tell_queued.ensures
             ∙ ap (λ (ts : List Trigger). c.reserve.new.self.items ++ (passes n ts ++ shown_expiring n attach c.in_ok-token.token c.set_token.new.self)) c.new-2.ensures.items
             ∙ ap (λ (xs : List Obs). xs ++ shown_expiring n attach c.in_ok-token.token c.set_token.new.self) c.reserve.ensures.items ∙ ap (λ (packet : Packet). c.args.seen.now.items ++ shown_expiring n attach c.in_ok-token.token packet) kept ∙ ap (λ (token : ℕ). c.args.seen.now.items ++ shown_expiring n attach token (expiry_packet n trigger token)) next_now;

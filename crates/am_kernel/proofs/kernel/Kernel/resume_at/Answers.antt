@@ -35,7 +35,7 @@ returns-in-Missing-Fail c =
     let waits : wait_of k.waits.waits n ≡ Some c.in-Some.wait = ap (λ (s : KernelState). wait_of s.waits.waits n) (sym c.self.view_is) ∙ sym c.wait_of.ensures.wait ∙ c.in-Some.is in
     let there : is_some (walk_in k.walks n) ≡ true = ap (λ o. is_some o) (sym c.walk_row.ensures) ∙ copied_some c.walk_row.result c.if-is_none.ensures in
     subst (λ (o : Outcome). Meets o c.fail.result k c.fail.new.self c.args.seen.now.items c.fail.new.seen.items)
-    (sym (resume_failed c.args.pipe k n c.args.moment c.in-Some.wait c.in-Some-status.status outside waits c.in-Some-status.is there c.in-Missing-Fail.is-0 c.in-Missing-Fail.is-1))
+    (sym (resume_failed c.args.pipe k n c.args.moment c.in-Some.wait c.in-Some-status.status c.in-Missing-Fail.no c.errno.result outside waits c.in-Some-status.is there c.in-Missing-Fail.is-0 c.in-Missing-Fail.is-1 c.errno.ensures))
     c.fail.ensures
 
 pub again-requires-clause-outside : goal.again-requires-clause-outside

@@ -1,4 +1,4 @@
-use Rattle.std.proofs.Common.{◌≤◌, false, sym, subst}
+use Rattle.std.proofs.Common.{◌≤◌, false, sym, subst, arith}
 use Rattle.std.specs.List.{All}
 use Rattle.am_trigger.specs.declared.autofs.Autofs.{Autofs}
 use Rattle.am_trigger.specs.Rows.{TriggerRows}
@@ -7,5 +7,9 @@ use Rattle.am_kernel.proofs.kernel.Kernel.set_pipe.Goals as goal
 
 pub invariant_of-self : goal.invariant_of-self
 invariant_of-self c =
-    subst (λ (t : TriggerRows). All (λ (row : Autofs). row.fs ≤ c.self.inside.last_fs) t.autofs) (sym c.make_live.ensures)
-    (catatonic_within c.self.inside.last_fs c.args.fs false c.self.inside.triggers.rows.autofs c.self.invariant)
+    record {
+      numbered =
+          subst (λ (t : TriggerRows). All (λ (row : Autofs). row.fs ≤ c.self.inside.last_fs) t.autofs) (sym c.make_live.ensures)
+          (catatonic_within c.self.inside.last_fs c.args.fs false c.self.inside.triggers.rows.autofs c.self.invariant.numbered);
+      room = omega (arith, c.self.invariant.room, c.remove_fs.ensures.room);
+    }

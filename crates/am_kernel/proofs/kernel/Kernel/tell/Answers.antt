@@ -27,4 +27,4 @@ returns-in-Expire-Ready c =
 pub returns-in-Expire-Fail : goal.returns-in-Expire-Fail
 returns-in-Expire-Fail c =
     subst (λ (o : Outcome). Meets o c.fail.result c.args.self.now c.fail.new.self c.args.seen.now.items c.fail.new.seen.items)
-    (sym (told_failed c.args.wait.now c.waited_on-expiry.result c.args.status c.args.moment c.args.self.now c.in-Expire-Fail.is-0 c.in-Expire-Fail.is-1 c.waited_on-expiry.ensures)) c.fail.ensures
+    (sym (told_failed c.args.wait.now c.waited_on-expiry.result c.args.status c.in-Expire-Fail.no c.errno.result c.args.moment c.args.self.now c.in-Expire-Fail.is-0 c.in-Expire-Fail.is-1 c.errno.ensures c.waited_on-expiry.ensures)) c.fail.ensures

@@ -1,4 +1,4 @@
-use Rattle.std.proofs.Common.{◌≡◌, ◌≤◌, ◌+◌, ◌==◌, ℕ, Bool, true, false, not, cond, List, [], ◌∷◌, ◌++◌, Option, Some, None, refl, sym, ap, subst, ◌∙◌, arith}
+use Rattle.std.proofs.Common.{◌≡◌, ◌==◌, true, cond, List, [], ◌∷◌, ◌++◌, None, sym, ap, subst, ◌∙◌, arith}
 use Rattle.std.specs.Prelude.{drop, is_some, length, vec_len}
 use Rattle.std.proofs.lemmas.List.{drop-append-le}
 use Rattle.am_kernel.specs.declared.row.WalkRow.{WalkRow}

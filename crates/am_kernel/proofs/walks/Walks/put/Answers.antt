@@ -1,4 +1,4 @@
-use Rattle.std.proofs.Common.{◌≡◌, ◌≤◌, ◌+◌, ◌==◌, ℕ, Bool, true, false, not, cond, List, [], ◌∷◌, ◌++◌, Option, Some, None, refl, sym, ap, subst, ◌∙◌, arith}
+use Rattle.std.proofs.Common.{List, ap, ◌∙◌}
 use Rattle.am_kernel.specs.declared.row.WalkRow.{WalkRow}
 use Rattle.am_kernel.specs.Resumes.{walk_in}
 use Rattle.am_kernel.proofs.WaitingLemmas.{none_left}

@@ -1,7 +1,6 @@
-use Rattle.std.proofs.Common.{◌≡◌, ◌≤◌, ◌+◌, ◌==◌, ℕ, Bool, true, false, not, cond, List, [], ◌∷◌, ◌++◌, Option, Some, None, refl, sym, ap, subst, ◌∙◌, arith}
+use Rattle.std.proofs.Common.{◌≡◌, ◌==◌, false, cond, List, sym, ap, subst, ◌∙◌}
 use Rattle.std.specs.Prelude.{drop, is_some}
 use Rattle.am_kernel.specs.declared.row.WalkRow.{WalkRow}
-use Rattle.am_kernel.specs.Walks.{without_walk}
 use Rattle.am_kernel.specs.Resumes.{walk_in}
 use Rattle.am_kernel.specs.WalkTable.{WalkTable, IsSingle}
 use Rattle.am_kernel.proofs.WaitingLemmas.{nothing, none_taken, single_taken, has_others}

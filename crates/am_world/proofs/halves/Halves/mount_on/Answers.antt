@@ -1,5 +1,6 @@
 use Rattle.std.proofs.Common.{ℕ, ◌+◌, [], ◌∷◌, Some, None, refl, sym, ap, ◌∙◌}
 use Rattle.std.proofs.lemmas.List.{append-nil}
+use Rattle.am_names.specs.declared.fail_no.FailNo.TheVariants.{ENOENT}
 use Rattle.am_job.specs.declared.act.Outcome.TheVariants as came
 use Rattle.am_kernel.specs.DaemonMounts.{location_of, coming, mount_on_refusal, with_mount_on}
 use Rattle.am_state.specs.declared.obs.Obs.TheVariants as seen
@@ -9,24 +10,24 @@ use Rattle.am_machine.specs.Events.Acts.{mount_fails, mount_act, mounts}
 use Rattle.am_world.specs.Halves.{state_of}
 use Rattle.am_world.specs.Acts.{row_for}
 use Rattle.am_world.proofs.ActLemmas.{row_token, row_attach}
-use Rattle.am_world.proofs.WentLemmas.{went, went_unseen, mount_unwell, mount_tried, first_is, goes_as}
+use Rattle.am_world.proofs.WentLemmas.{is_none, went, went_unseen, mount_unwell, mount_tried, first_is, goes_as}
 use Rattle.am_world.proofs.halves.Halves.mount_on.Goals as goal
 
-pub returns-then-not-ok : goal.returns-then-not-ok
-returns-then-not-ok c =
+pub returns-in-Some : goal.returns-in-Some
+returns-in-Some c =
     let s = state_of c.args.self.now in
     let row = row_for s.daemon c.args.turn.now.job in
-    goes_as (mount_act s row c.args.trigger.now c.args.ok) (mount_fails s row) s answers.FailedMount _
-    (mount_unwell s row c.args.trigger.now c.args.ok c.args.turn.now.attach (row_attach c.args.turn.now s.daemon c.requires.comes) c.if-not-is_current.ensures c.if-not-ok.true) refl
-    (went_unseen s row c.args.turn.now.job came.Failed answers.FailedMount s.kernel c.args.self.now.kernel _ (row_token c.args.turn.now s.daemon c.requires.comes) c.finish.ensures refl)
+    goes_as (mount_act s row c.args.trigger.now c.args.failure) (mount_fails s row c.in-Some.no) s answers.FailedMount _
+    (mount_unwell s row c.args.trigger.now c.args.failure c.in-Some.no c.args.turn.now.attach (row_attach c.args.turn.now s.daemon c.requires.comes) c.if-not-is_current.ensures c.in-Some.is) refl
+    (went_unseen s row c.args.turn.now.job (came.Failed c.in-Some.no) answers.FailedMount s.kernel c.args.self.now.kernel _ (row_token c.args.turn.now s.daemon c.requires.comes) c.finish.ensures refl)
 
 pub returns-in-Ok : goal.returns-in-Ok
 returns-in-Ok c =
     let s = state_of c.args.self.now in
     let row = row_for s.daemon c.args.turn.now.job in
     let mount = s.kernel.table.last_mount + 1 in
-    goes_as (mount_act s row c.args.trigger.now c.args.ok) (mounts s row c.args.trigger.now) s (answers.DidMount c.in-Ok.mount) _
-    (mount_tried s row c.args.trigger.now c.args.ok c.args.turn.now.attach None (row_attach c.args.turn.now s.daemon c.requires.comes) c.if-not-is_current.ensures c.if-not-ok.false c.in-Ok.ensures.refusal)
+    goes_as (mount_act s row c.args.trigger.now c.args.failure) (mounts s row c.args.trigger.now) s (answers.DidMount c.in-Ok.mount) _
+    (mount_tried s row c.args.trigger.now c.args.failure c.args.turn.now.attach None (row_attach c.args.turn.now s.daemon c.requires.comes) c.if-not-is_current.ensures (is_none c.args.failure c.in_default.not-Some) c.in-Ok.ensures.refusal)
     (ap (λ (m : ℕ). answers.DidMount m) c.in-Ok.ensures.mount)
     (went s row c.args.turn.now.job (came.Made mount) (answers.DidMount mount) (seen.Mounted (coming s.kernel (location_of s.kernel c.args.trigger.now.fs)) ∷ []) (with_mount_on c.args.trigger.now s.kernel) c.mount_on.new.self _ _ (row_token c.args.turn.now s.daemon c.requires.comes)
     (c.finish-in-Ok.ensures ∙ ap (λ (m : ℕ). finished c.args.turn.now.job (came.Made m) s.daemon) c.in-Ok.ensures.mount) c.in-Ok.ensures.ok c.in-Ok.ensures.shown)
@@ -36,8 +37,8 @@ returns-else-is_no_memory c =
     let s = state_of c.args.self.now in
     let row = row_for s.daemon c.args.turn.now.job in
     let errno = c.in-Err.errno in
-    goes_as (mount_act s row c.args.trigger.now c.args.ok) (mount_fails s row) s answers.FailedMount _
-    (mount_tried s row c.args.trigger.now c.args.ok c.args.turn.now.attach (Some errno) (row_attach c.args.turn.now s.daemon c.requires.comes) c.if-not-is_current.ensures c.if-not-ok.false
+    goes_as (mount_act s row c.args.trigger.now c.args.failure) (mount_fails s row ENOENT) s answers.FailedMount _
+    (mount_tried s row c.args.trigger.now c.args.failure c.args.turn.now.attach (Some errno) (row_attach c.args.turn.now s.daemon c.requires.comes) c.if-not-is_current.ensures (is_none c.args.failure c.in_default.not-Some)
     (first_is ℕ (mount_on_refusal s.kernel c.args.turn.now.attach c.args.trigger.now) errno c.mount_on.result c.in-Err.is c.mount_on.ensures.refusal (sym c.is_no_memory.ensures ∙ c.if-is_no_memory.false))) refl
-    (went s row c.args.turn.now.job came.Failed answers.FailedMount [] s.kernel c.mount_on.new.self _ _ (row_token c.args.turn.now s.daemon c.requires.comes) c.finish-in-Err.ensures c.in-Err.ensures.err
+    (went s row c.args.turn.now.job (came.Failed ENOENT) answers.FailedMount [] s.kernel c.mount_on.new.self _ _ (row_token c.args.turn.now s.daemon c.requires.comes) c.finish-in-Err.ensures c.in-Err.ensures.err
     (c.in-Err.ensures.unseen ∙ sym (append-nil s.trace)))

@@ -1,4 +1,4 @@
-use Rattle.am_thread_tests.proofs.tests.deaths.daemon_dies.Given as goal
+use Rattle.am_thread_tests.proofs.tests.deaths.plays.Given as goal
 
 abbrev pub ghosts-dies-L-Opened : goal.ghosts-dies-L-Opened
 ghosts-dies-L-Opened g a = record {

@@ -1,0 +1,6 @@
+-- What the field stands for.
+use Rattle.am_trigger.specs.FailureTable.{FailureTable}
+use Rattle.am_trigger.specs.declared.failures.Failures.TheInside.{Inside}
+
+abbrev pub table_of : Inside → FailureTable
+table_of f = record { rows = f.rows.entries; room = f.rows.room }
