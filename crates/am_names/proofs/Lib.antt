@@ -1,3 +1,4 @@
+pub mod Basics
 pub mod LeaveLemmas
 pub mod NameStored
 pub mod Cuts
