@@ -4,6 +4,7 @@ pub mod Limits
 pub mod Name
 pub mod NameHash
 pub mod NameInside
+pub mod Numbers
 pub mod Path
 pub mod PathFaults
 pub mod PeerGroups

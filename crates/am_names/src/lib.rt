@@ -2,6 +2,7 @@
 //! Reading takes no memory; what is kept for long is a compact copy.
 #![tactic(auto)]
 
+pub mod among;
 pub mod errno;
 pub mod fail_no;
 pub mod limits;
@@ -15,6 +16,7 @@ pub mod text;
 pub mod trigger;
 pub mod waiters;
 
+pub use among::{are_ordered, is_among, is_found};
 pub use errno::Errno;
 pub use fail_no::FailNo;
 pub use limits::Limits;
