@@ -1,4 +1,5 @@
 pub mod Behind
+pub mod Digits
 pub mod Lines
 pub mod Reached
 pub mod Words

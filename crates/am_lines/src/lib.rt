@@ -2,8 +2,10 @@
 //! Joined lines are put together in the caller's buffer; words are borrowed.
 #![tactic(auto)]
 
+pub mod digits;
 pub mod lines;
 pub mod words;
 
-pub use lines::{Behind, next_line};
+pub use digits::are_digits;
+pub use lines::{Behind, cut_at_line_feed, line_feed_place, next_line};
 pub use words::{begins_with, cut_at_colon, first_word, next_word};

@@ -61,12 +61,14 @@ fn before_backslash(raw: &[u8]) -> Option<&[u8]>
     raw.strip_suffix(b"\\")
 }
 
-/// The first raw line and what stands behind its line feed.
-fn cut_at_line_feed(text: &[u8]) -> (&[u8], Option<&[u8]>)
+/// The first raw line, and what stands behind its line feed, if it has one.
+pub fn cut_at_line_feed(text: &[u8]) -> (&[u8], Option<&[u8]>)
     ensures last { IfNone result.1 (slice_split is_line_feed text.now ≡ result.0.now ∷ []) }
     ensures cut { IfSome result.1 (λ rest.
         slice_split is_line_feed text.now ≡ result.0.now ∷ slice_split is_line_feed rest.now) }
-    ensures shorter { IfSome result.1 (λ rest. 1 + length rest.now ≤ length text.now) }
+    ensures whole { IfNone result.1 (result.0.now ≡ text.now) }
+    ensures shorter { IfSome result.1 (λ rest.
+        1 + length result.0.now + length rest.now ≤ length text.now) }
 {
     match line_feed_place(text) {
         Some(at) => (&text[..at], Some(&text[at + 1..])),
@@ -74,7 +76,8 @@ fn cut_at_line_feed(text: &[u8]) -> (&[u8], Option<&[u8]>)
     }
 }
 
-fn line_feed_place(text: &[u8]) -> Option<usize>
+/// Where the first raw line ends, if a line feed ends it.
+pub fn line_feed_place(text: &[u8]) -> Option<usize>
     ensures { result ≡ position is_line_feed text.now }
 {
     text.iter().position(|b| *b == b'\n')
