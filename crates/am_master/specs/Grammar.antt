@@ -7,13 +7,13 @@ use Rattle.am_master.specs.declared.fault.MasterFaultKind.TheVariants.{NoMap, Tw
 use Rattle.am_master.specs.declared.point.Point.{Point}
 use Rattle.am_master.specs.Fault.{IsFaultOf}
 use Rattle.am_master.specs.MasterRow.{MasterRow}
-use Rattle.am_master.specs.Points.{is_among, texts_of}
+use Rattle.am_master.specs.Points.{is_listed, texts_of}
 use Rattle.am_master.specs.Timeout.{timeout_read}
 use Rattle.am_master.specs.Words.{point_read, name_read}
 
 -- an indirect point that a line above has
 abbrev pub is_taken : List MasterRow → Point → Bool
-is_taken above point = is_among (texts_of above) point
+is_taken above point = is_listed (texts_of above) point
 
 abbrev pub once : List MasterRow → Result Point MasterFaultKind → Result Point MasterFaultKind
 once above (Ok point) = if is_taken above point then Err Twice else Ok point

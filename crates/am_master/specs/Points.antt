@@ -17,6 +17,6 @@ abbrev pub texts_of : List MasterRow → List (List ℕ)
 texts_of rows = flat_map (λ row. point_texts row.point) rows
 
 -- the point has one of these texts
-abbrev pub is_among : List (List ℕ) → Point → Bool
-is_among texts Direct = false
-is_among texts (Indirect names) = list_any (bytes_eq (text_of names)) texts
+abbrev pub is_listed : List (List ℕ) → Point → Bool
+is_listed texts Direct = false
+is_listed texts (Indirect names) = list_any (bytes_eq (text_of names)) texts

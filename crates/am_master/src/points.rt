@@ -3,7 +3,7 @@
 ghost use Rattle.std.specs.Prelude.{◌≡◌, ◌++◌, [], false, OnOk, OnErr};
 ghost use Rattle.std.specs.Str.{bytes_eq};
 ghost use Rattle.std.specs.List.{list_any};
-ghost use Rattle.am_master.specs.Points.{point_texts, is_among};
+ghost use Rattle.am_master.specs.Points.{point_texts, is_listed};
 
 use crate::point::Point;
 use indexmap::IndexSet;
@@ -43,7 +43,7 @@ impl Points {
 
     /// Adds the text of a new point. Nothing changes where memory runs out.
     pub(crate) fn add(&mut self, alloc: Global, point: &Point) -> Result<(), AllocError>
-        requires { is_among self.old point.now ≡ false }
+        requires { is_listed self.old point.now ≡ false }
         ensures ok { OnOk result (self.new ≡ self.old ++ point_texts point.now) }
         ensures err { OnErr result (self.new ≡ self.old) }
     {

@@ -1,13 +1,12 @@
 //! The timeout among the options of a line.
 
 ghost use Rattle.std.specs.Prelude.{◌≡◌, ◌<◌, ◌++◌, [], nat_le, fold, Some, None, IfNone, IfSome, length, if◌then◌else◌};
-ghost use Rattle.std.specs.List.{list_all};
 ghost use Rattle.std.specs.Option.{option_copied, option_to_list};
 ghost use Rattle.am_lines.specs.Words.{words_of};
-ghost use Rattle.am_master.specs.Timeout.{timeout_read, timeout_values, takes_next, value_in, is_seconds, is_digit, number_of};
+ghost use Rattle.am_master.specs.Timeout.{timeout_read, timeout_values, takes_next, value_in, is_seconds, number_of};
 
 use crate::fault::MasterFaultKind;
-use am_lines::next_word;
+use am_lines::{are_digits, next_word};
 
 /// The timeout that the options set, or 300 seconds.
 pub(crate) fn read_timeout(options: &[u8]) -> Result<u32, MasterFaultKind>
@@ -65,12 +64,6 @@ fn read_seconds(text: &[u8]) -> Option<u32>
         return None;
     }
     number_of(text)
-}
-
-fn are_digits(text: &[u8]) -> bool
-    ensures { result ≡ list_all is_digit text.now }
-{
-    text.iter().all(|b| *b >= b'0' && *b <= b'9')
 }
 
 /// The number that digits write, if it fits.
