@@ -41,10 +41,10 @@ written_at m row (r ∷ rows) rise (suc i) d within e =
 
 module _ (rows : List MemberRow) (rises : RiseFrom 0 rows) (m : ℕ) (row : MemberRow) where
   pub written_found : (i : ℕ) → i < length rows → IsBinarySearchResult (λ (r : MemberRow). nat_cmp r.mount m) rows (Ok i) → slice_set rows i row ≡ map (at_row (λ r. row) m) rows
-  written_found i less equal = written_at m row rows (rows_rise 0 rows rises) i row less (index_found rows rises m i less equal row)
+  written_found i less equal = written_at m row rows (rows_rise (λ (row : MemberRow). row.mount) 0 rows rises) i row less (index_found (λ (row : MemberRow). row.mount) rows rises m i less equal row)
 
   pub written_absent : (i : ℕ) → IsBinarySearchResult (λ (r : MemberRow). nat_cmp r.mount m) rows (Err i) → rows ≡ map (at_row (λ r. row) m) rows
-  written_absent i parted = sym (unchanged (λ r. row) m rows (all_differ rows rises m i parted))
+  written_absent i parted = sym (unchanged (λ r. row) m rows (all_differ (λ (row : MemberRow). row.mount) rows rises m i parted))
 
 -- ---- the row that is found
 

@@ -296,7 +296,7 @@ module _ (s : PeerGroups) (orderly : IsOrderly s) (b own : ℕ) (in_own : group_
   pub homed_listed : under_these (groups_under s own) b s.members ≡ receivers_of s b
   homed_listed =
       rows_test s.members
-      (λ i d within. found_at 0 s.members orderly.rising i (get_or s.members i d).mount d within refl)
+      (λ i d within. found_at (λ (row : MemberRow). row.mount) 0 s.members orderly.rising i (get_or s.members i d).mount d within refl)
 
 -- ---- the list of receivers
 

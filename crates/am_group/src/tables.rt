@@ -5,7 +5,7 @@ ghost use Rattle.std.specs.List.Sorted.{IsNonDecreasing};
 ghost use Rattle.std.specs.Prelude.{◌≡◌, not, map, filter, IfOk};
 ghost use Rattle.am_group.specs.Propagation.{member_row, group_row, master_of_group};
 ghost use Rattle.am_group.specs.Changes.{is_among, lifted, lifted_member, lifted_group};
-ghost use Rattle.am_group.specs.Invariant.{RiseFrom, IsOrderly};
+ghost use Rattle.am_group.specs.Invariant.{RiseFrom, GroupsRise, IsOrderly};
 ghost use Rattle.am_group.specs.Scan.{is_one_of};
 ghost use Rattle.am_group.specs.Tables.{state_of, AreLive, AreOthers, is_left, is_free_group};
 
@@ -134,11 +134,16 @@ pub fn clear(groups: &mut Vec<GroupRow>, old: &[GroupId], new: &[GroupId])
     groups.retain(|row| is_kept(old, new, row.group));
 }
 
-/// The peer group with its master.
+/// The peer group with its master. The rows rise by number, as those of the mounts.
 pub fn group_row(groups: &[GroupRow], group: GroupId) -> Option<GroupRow>
+    requires { GroupsRise groups.now }
     ensures { result ≡ group_row groups.now group }
 {
-    groups.iter().copied().find(|row| row.group == group)
+    let number = group.0;
+    match groups.binary_search_by_key(&number, |row| row.group.0) {
+        Ok(at) => Some(groups[at]),
+        Err(_) => None,
+    }
 }
 
 pub fn are_groups_free(groups: &[GroupRow], lost: &[GroupId]) -> bool
@@ -150,6 +155,7 @@ pub fn are_groups_free(groups: &[GroupRow], lost: &[GroupId]) -> bool
 
 impl Tables {
     fn master_of_group(&self, group: GroupId) -> Option<GroupId>
+        requires { IsOrderly (state_of self.now) }
         ensures { result ≡ master_of_group (state_of self.now) group }
     {
         match group_row(self.groups.as_slice(), group) {
