@@ -1,4 +1,4 @@
--- What the peer groups keep.
+-- What the peer groups keep (sharedsubtree.rst, 5a). That numbers rise is own choice.
 use Rattle.std.specs.Prelude.{◌≡◌, ◌≤◌, ◌<◌, ◌+◌, ◌⊎◌, ℕ, true, List, [], ◌∷◌, Some, is_some}
 use Rattle.am_names.specs.declared.row.MemberRow.{MemberRow}
 use Rattle.am_names.specs.declared.row.GroupRow.{GroupRow}
