@@ -1,10 +1,10 @@
 -- Peer groups that stay by one test stay by another that is the same.
 use Rattle.std.proofs.Common.{◌≡◌, ℕ, Bool, true, false, cond, List, [], ◌∷◌, Option, Some, refl, ap, ◌∙◌}
-use Rattle.std.specs.Prelude.{find, map, filter}
+use Rattle.std.specs.Prelude.{find, map, filter, not}
 use Rattle.am_names.specs.declared.row.MemberRow.{MemberRow}
 use Rattle.am_names.specs.declared.row.GroupRow.{GroupRow}
 use Rattle.am_names.specs.PeerGroups.{PeerGroups}
-use Rattle.am_group.specs.Changes.{up, lifted_member, lifted_group, is_kept, left}
+use Rattle.am_group.specs.Changes.{up, lifted_member, lifted_group, is_among, is_kept, left}
 use Rattle.am_group.specs.Tables.{AreLive, is_left}
 
 module _ (p q : ℕ → Bool) (same : (g : ℕ) → p g ≡ q g) where
@@ -55,3 +55,9 @@ left_together old raw before live were are members groups kept a b e =
 
     same : (g : ℕ) → p g ≡ q g
     same g = rw (were g, are g) refl
+
+-- where no mount goes, all rows stay
+pub kept_where_none_goes :
+    (rows : List MemberRow) → filter (λ row. not (is_among [] row.mount)) rows ≡ rows
+kept_where_none_goes [] = refl
+kept_where_none_goes (row ∷ rows) = ap (λ (xs : List MemberRow). row ∷ xs) (kept_where_none_goes rows)

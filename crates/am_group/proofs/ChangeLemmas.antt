@@ -1,6 +1,7 @@
 -- The law of receivers for each change, and that each keeps the invariant.
 use Rattle.std.proofs.Common.{◌≡◌, ◌⊎◌, ℕ, Bool, true, false, cond, ◌||◌, List, Option, Some, None, refl, sym, ap, subst, inl, inr, ◌∙◌}
 use Rattle.std.specs.Prelude.{map, option_map, is_some, not, ◌==◌}
+use Rattle.am_names.proofs.Basics.{or_left}
 use Rattle.am_names.specs.declared.row.MemberRow.{MemberRow}
 use Rattle.am_names.specs.declared.row.GroupRow.{GroupRow}
 use Rattle.am_names.specs.PeerGroups.{PeerGroups}
@@ -12,7 +13,6 @@ use Rattle.am_group.proofs.LookupLemmas.{find_map_same, find_filter, RiseFrom-ma
 use Rattle.am_group.proofs.SettleLemmas.{leads_same, group_of-settled, master-settled-stays, settled_orderly, has_lifted}
 use Rattle.am_group.proofs.LawLemmas.{BringsNoneUnder, law_from_under, none_under-settled}
 use Rattle.am_group.proofs.ClearLemmas.{test_from_member, cleared_orderly, cleared_peopled, none_under-cleared}
-use Rattle.am_group.proofs.ScanLemmas.{or_left}
 
 -- rows leave groups, masters and homes, or stay: nothing is named that was not named by them
 pub record Thins (old : PeerGroups) (new : PeerGroups) : Type 0 where

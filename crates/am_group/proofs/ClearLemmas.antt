@@ -1,6 +1,7 @@
 -- Peer groups that don't stay go: nothing else changes.
 use Rattle.std.proofs.Common.{◌≡◌, ℕ, Bool, true, false, cond, ◌||◌, List, [], ◌∷◌, Option, Some, None, refl, sym, ap, inl, inr, ◌∙◌}
 use Rattle.std.specs.Prelude.{is_some, ◌==◌}
+use Rattle.am_names.proofs.Basics.{or_left, or_right}
 use Rattle.am_names.specs.declared.row.MemberRow.{MemberRow}
 use Rattle.am_names.specs.declared.row.GroupRow.{GroupRow}
 use Rattle.am_names.specs.PeerGroups.{PeerGroups}
@@ -10,7 +11,7 @@ use Rattle.am_group.specs.Invariant.{IsGroup, IsMaster, IsOrderly, IsPeopled}
 use Rattle.am_group.proofs.LookupLemmas.{find_filter, RiseBy-filter}
 use Rattle.am_group.proofs.SettleLemmas.{leads_same}
 use Rattle.am_group.proofs.LawLemmas.{BringsNoneUnder}
-use Rattle.am_group.proofs.ScanLemmas.{or_left, or_right, just_self}
+use Rattle.am_group.proofs.ScanLemmas.{just_self}
 
 -- a member by look-up is a row in the group
 pub test_from_member :

@@ -4,6 +4,7 @@ use Rattle.std.specs.Prelude.{filter, map, not, nat_lt, is_some, option_map, ◌
 use Rattle.std.specs.Option.{option_or}
 use Rattle.std.proofs.lemmas.List.Folds.{list_any-append}
 use Rattle.std.proofs.lemmas.Bool.{eqb-true, eq-eqb, ne_eqb, cases_eq, and_parts, and_from, or_cases, ltb-true, ltb-false}
+use Rattle.am_names.proofs.Basics.{or_left, or_right, some_injective}
 use Rattle.am_names.specs.declared.row.MemberRow.{MemberRow}
 use Rattle.am_names.specs.declared.row.GroupRow.{GroupRow}
 use Rattle.am_names.specs.PeerGroups.{PeerGroups}
@@ -14,7 +15,7 @@ use Rattle.am_group.specs.Invariant.{RiseFrom, RiseBy, IsGroup, IsMaster, HasMem
 use Rattle.am_group.proofs.ReceiveLemmas.{LeadsUp, IsUnder, under_from_way, reached_from_under}
 use Rattle.am_group.proofs.LookupLemmas.{found_passes, members_from_test, RiseBy-filter, groups_follow}
 use Rattle.am_group.proofs.ChangeLemmas.{KeepsLaw}
-use Rattle.am_group.proofs.ScanLemmas.{has, any_has, has_any, has-filter, has-from_filter, or_left, or_right, just_same, just_self}
+use Rattle.am_group.proofs.ScanLemmas.{has, any_has, has_any, has-filter, has-from_filter, just_same, just_self}
 use Rattle.am_group.proofs.AddLemmas.{NamesWell, added_keeps, old_is_group, groups_or}
 
 -- rank: below a higher number there is more, and less than all
@@ -118,16 +119,13 @@ mapped_there f (y ∷ xs) x h e g = go (eqb x y) refl e (mapped_there f xs x h)
     go true k e ih = let at : (f y).group ≡ h = subst (λ (z : ℕ). (f z).group ≡ h) (eqb-true x y k) g in rw (eq-eqb (f y).group h at) refl
     go false k e ih = some_or ((f y).group == h) (ih e g)
 
-some_same : {a b : ℕ} → Some a ≡ Some b → a ≡ b
-some_same e = cc
-
 mapped_some : (stand : ℕ → ℕ) (o : Option ℕ) (g : ℕ) → option_map stand o ≡ Some g → (k : ℕ) × (o ≡ Some k) × (g ≡ stand k)
 mapped_some stand None g e = absurd cc
-mapped_some stand (Some k) g e = (k, refl, sym (some_same e))
+mapped_some stand (Some k) g e = (k, refl, sym (some_injective e))
 
 -- what a copy's row names
 copy_group : (stand : ℕ → ℕ) (n : ℕ) (group master : Option ℕ) (g : ℕ) → (copy_row stand n group master).group ≡ Some g → (k : ℕ) × (group ≡ Some k) × (g ≡ stand k)
-copy_group stand n (Some k) master g e = (k, refl, sym (some_same e))
+copy_group stand n (Some k) master g e = (k, refl, sym (some_injective e))
 copy_group stand n None master g e = absurd cc
 
 copy_master : (stand : ℕ → ℕ) (n : ℕ) (group master : Option ℕ) (g : ℕ) → (copy_row stand n group master).master ≡ Some g → (group ≡ None) × (k : ℕ) × (master ≡ Some k) × (g ≡ stand k)
@@ -192,7 +190,7 @@ module _ (s : PeerGroups) (sound : IsSound s) (b own : ℕ) (in_own : group_of s
       let member = sound.peopled k is_master in
       let under : IsUnder s member.0 own = record { home = k; is_home = rw (member.1) refl; way = way; leads = leads } in
       let reached = reached_from_under s sound.peopled b member.0 own in_own under in
-      let apart : member.0 ≢ b = λ same. other (some_same (sym member.1 ∙ ap (λ (x : ℕ). group_of s x) same ∙ in_own)) in
+      let apart : member.0 ≢ b = λ same. other (some_injective (sym member.1 ∙ ap (λ (x : ℕ). group_of s x) same ∙ in_own)) in
       stands_of_receiver member.0 k ((exact member.0).1 (record { is_other = apart; way = reached.0; arrives = reached.1 })) member.1)
       (cases_eq k own)
 
@@ -201,13 +199,13 @@ module _ (s : PeerGroups) (sound : IsSound s) (b own : ℕ) (in_own : group_of s
   receiver_under r h =
       let receives = (exact r).0 h in
       let found = under_from_way s receives.way b r receives.arrives in
-      subst (λ (g : ℕ). IsUnder s r g) (some_same (sym found.1 ∙ in_own)) found.2
+      subst (λ (g : ℕ). IsUnder s r g) (some_injective (sym found.1 ∙ in_own)) found.2
 
   -- the master of a receiver that is only a slave
   pub stands_of_slave : (r k : ℕ) → has r receivers ≡ true → group_of s r ≡ None → slave_in (member_row s.members r) ≡ Some k → Stands k
   stands_of_slave r k h none e =
       let under = receiver_under r h in
-      let home : under.home ≡ k = some_same (sym (rw none at under.is_home) ∙ e) in
+      let home : under.home ≡ k = some_injective (sym (rw none at under.is_home) ∙ e) in
       stands_of_master k under.way (inl (r, e)) (subst (λ (x : ℕ). LeadsUp s under.way x own) home under.leads)
 
   -- the master of a group that receivers are in
@@ -218,12 +216,12 @@ module _ (s : PeerGroups) (sound : IsSound s) (b own : ℕ) (in_own : group_of s
       let r = any_has (λ x. is_just h (group_of s x)) receivers both.1 in
       let in_h : group_of s r.0 ≡ Some h = just_same h (group_of s r.0) r.2 in
       let under = receiver_under r.0 r.1 in
-      let home : under.home ≡ h = some_same (sym (rw in_h at under.is_home)) in
+      let home : under.home ≡ h = some_injective (sym (rw in_h at under.is_home)) in
       go both.0 under.way (subst (λ (x : ℕ). LeadsUp s under.way x own) home under.leads)
     where
       go : not (h == own) ≡ true → (way : List ℕ) → LeadsUp s way h own → Stands m
       go other [] leads = absurd (let yes_same : (h == own) ≡ true = eq-eqb h own leads in let bad : not true ≡ true = rw yes_same at other in cc)
-      go other (n ∷ way) leads = let same : n ≡ m = some_same (sym leads.0 ∙ up) in stands_of_master m way (inr (h, up)) (subst (λ (x : ℕ). LeadsUp s way x own) same leads.1)
+      go other (n ∷ way) leads = let same : n ≡ m = some_injective (sym leads.0 ∙ up) in stands_of_master m way (inr (h, up)) (subst (λ (x : ℕ). LeadsUp s way x own) same leads.1)
 
   abbrev rows : List MemberRow
   rows = (record { mount = number; group = Some new; master = None; unbindable = false }) ∷ copies_from (stand_in own new s.last_group (receiving_groups s receivers own)) s (number + 1) receivers
@@ -326,7 +324,7 @@ module _ (s : PeerGroups) (sound : IsSound s) (b own : ℕ) (in_own : group_of s
     rising = copied_rising;
     groups_rising = copied_groups_rising;
     row_group = λ m g r found e. ⊎_elim
-        (λ first. subst (λ (x : ℕ). IsGroup (added rows made last s) x) (some_same (sym first.0 ∙ e)) (old_is_group s rows made last new new_there))
+        (λ first. subst (λ (x : ℕ). IsGroup (added rows made last s) x) (some_injective (sym first.0 ∙ e)) (old_is_group s rows made last new new_there))
         (λ copy.
         let k = copy_group stand copy.2 (group_of s copy.0) (slave_in (member_row s.members copy.0)) g (sym (ap (λ (x : MemberRow). x.group) copy.3) ∙ e) in
         subst (λ (x : ℕ). IsGroup (added rows made last s) x) (sym k.2) (stand_there k.0 (stands_of_receiver copy.0 k.0 copy.1 k.1)))

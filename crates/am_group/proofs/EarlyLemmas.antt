@@ -2,6 +2,7 @@
 use Rattle.std.proofs.Common.{◌≡◌, ◌<◌, ◌↔◌, ℕ, Bool, true, false, ◌&&◌, List, [], ◌∷◌, Some, None, refl, sym, ◌∙◌, arith}
 use Rattle.std.specs.Prelude.{filter, not, ◌==◌}
 use Rattle.std.specs.List.{Contains}
+use Rattle.am_names.proofs.Basics.{and_false}
 use Rattle.am_names.specs.PeerGroups.{PeerGroups}
 use Rattle.am_group.specs.Propagation.{group_of, Receives}
 use Rattle.am_group.specs.Scan.{numbers}
@@ -22,10 +23,6 @@ none_exact s b none c = (
 filter_false : (p : ℕ → Bool) (xs : List ℕ) → ((c : ℕ) → p c ≡ false) → [] ≡ filter p xs
 filter_false p [] never = refl
 filter_false p (x ∷ xs) never = rw (never x) (filter_false p xs never)
-
-and_false : (a : Bool) → (a && false) ≡ false
-and_false true = refl
-and_false false = refl
 
 pub none_listed : (s : PeerGroups) (b : ℕ) → group_of s b ≡ None → [] ≡ receivers_of s b
 none_listed s b none =

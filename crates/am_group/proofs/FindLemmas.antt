@@ -1,95 +1,98 @@
--- What a search by halves finds in rows that rise.
-use Rattle.std.proofs.Common.{◌≡◌, ◌≢◌, ◌≤◌, ◌<◌, ◌+◌, ℕ, zero, suc, List, [], ◌∷◌, length, get_or, Some, None, Ok, Err, refl, sym, ap, arith}
+-- What a search by halves finds in rows that rise by their number.
+use Rattle.std.proofs.Common.{◌≡◌, ◌≢◌, ◌≤◌, ◌<◌, ◌+◌, ℕ, zero, suc, List, [], ◌∷◌, length, get_or, Option, Some, None, Ok, Err, refl, sym, ap, arith}
+use Rattle.std.specs.Prelude.{find, ◌==◌}
 use Rattle.std.specs.List.Sorted.{IsBinarySearchResult, IsNonDecreasingBy}
 use Rattle.std.specs.Ordering.{nat_cmp, ordering_index}
 use Rattle.std.proofs.lemmas.Cmp.{ranked}
 use Rattle.std.proofs.lemmas.Bool.{eq-eqb, ne_eqb}
 use Rattle.std.proofs.lemmas.Bool.Decides.{nat_tests}
-use Rattle.am_names.specs.declared.row.MemberRow.{MemberRow}
-use Rattle.am_group.specs.Propagation.{member_row}
-use Rattle.am_group.specs.Invariant.{RiseFrom}
+use Rattle.am_group.specs.Invariant.{RiseBy}
 
--- the number of the mount at this index
-abbrev mount_at : List MemberRow → ℕ → MemberRow → ℕ
-mount_at rows i d = (get_or rows i d).mount
+module _ {R : Type 0} (number : R → ℕ) where
+  -- the number of the row at this index
+  abbrev number_at : List R → ℕ → R → ℕ
+  number_at rows i d = number (get_or rows i d)
 
-at_least :
-    (low : ℕ) (rows : List MemberRow) → RiseFrom low rows →
-    (i : ℕ) (d : MemberRow) → i < length rows → low ≤ mount_at rows i d
-at_least low [] rises i d h = absurd (omega arith)
-at_least low (row ∷ rows) rises zero d h = rises.0
-at_least low (row ∷ rows) rises (suc i) d h =
-    let first : low ≤ row.mount = rises.0 in
-    let next = row.mount + 1 in
-    let rest : next ≤ mount_at rows i d = at_least next rows rises.1 i d (omega arith) in
-    omega arith
+  -- the row with this number
+  abbrev row_of : List R → ℕ → Option R
+  row_of rows n = find (λ row. number row == n) rows
 
--- a greater index has a greater number
-pub rows_rise :
-    (low : ℕ) (rows : List MemberRow) → RiseFrom low rows →
-    (i j : ℕ) (d : MemberRow) → i < j → j < length rows → mount_at rows i d < mount_at rows j d
-rows_rise low [] rises i j d less h = absurd (omega arith)
-rows_rise low (row ∷ rows) rises i zero d less h = absurd (omega arith)
-rows_rise low (row ∷ rows) rises zero (suc j) d less h =
-    let next = row.mount + 1 in
-    let rest : next ≤ mount_at rows j d = at_least next rows rises.1 j d (omega arith) in
-    omega arith
-rows_rise low (row ∷ rows) rises (suc i) (suc j) d less h =
-    rows_rise (row.mount + 1) rows rises.1 i j d (omega arith) (omega arith)
+  at_least :
+      (low : ℕ) (rows : List R) → RiseBy number low rows →
+      (i : ℕ) (d : R) → i < length rows → low ≤ number_at rows i d
+  at_least low [] rises i d h = absurd (omega arith)
+  at_least low (row ∷ rows) rises zero d h = rises.0
+  at_least low (row ∷ rows) rises (suc i) d h =
+      let first : low ≤ number row = rises.0 in
+      let next = number row + 1 in
+      let rest : next ≤ number_at rows i d = at_least next rows rises.1 i d (omega arith) in
+      omega arith
 
--- the row with the number is the one that is looked up
-pub found_at :
-    (low : ℕ) (rows : List MemberRow) → RiseFrom low rows →
-    (i m : ℕ) (d : MemberRow) → i < length rows → mount_at rows i d ≡ m →
-    member_row rows m ≡ Some (get_or rows i d)
-found_at low [] rises i m d h e = absurd (omega arith)
-found_at low (row ∷ rows) rises zero m d h e = rw (eq-eqb row.mount m e) refl
-found_at low (row ∷ rows) rises (suc i) m d h e =
-    let next = row.mount + 1 in
-    let rest : next ≤ mount_at rows i d = at_least next rows rises.1 i d (omega arith) in
-    rw (ne_eqb row.mount m (λ same. omega arith))
-    (found_at next rows rises.1 i m d (omega arith) e)
+  -- a greater index has a greater number
+  pub rows_rise :
+      (low : ℕ) (rows : List R) → RiseBy number low rows →
+      (i j : ℕ) (d : R) → i < j → j < length rows → number_at rows i d < number_at rows j d
+  rows_rise low [] rises i j d less h = absurd (omega arith)
+  rows_rise low (row ∷ rows) rises i zero d less h = absurd (omega arith)
+  rows_rise low (row ∷ rows) rises zero (suc j) d less h =
+      let next = number row + 1 in
+      let rest : next ≤ number_at rows j d = at_least next rows rises.1 j d (omega arith) in
+      omega arith
+  rows_rise low (row ∷ rows) rises (suc i) (suc j) d less h =
+      rows_rise (number row + 1) rows rises.1 i j d (omega arith) (omega arith)
 
-none_at :
-    (rows : List MemberRow) (m : ℕ) →
-    ((i : ℕ) (d : MemberRow) → i < length rows → mount_at rows i d ≢ m) → member_row rows m ≡ None
-none_at [] m others = refl
-none_at (row ∷ rows) m others =
-    rw (ne_eqb row.mount m (others 0 row (omega arith)))
-    (none_at rows m (λ i d h. others (suc i) d (omega arith)))
+  -- the row with the number is the one that is looked up
+  pub found_at :
+      (low : ℕ) (rows : List R) → RiseBy number low rows →
+      (i n : ℕ) (d : R) → i < length rows → number_at rows i d ≡ n →
+      row_of rows n ≡ Some (get_or rows i d)
+  found_at low [] rises i n d h e = absurd (omega arith)
+  found_at low (row ∷ rows) rises zero n d h e = rw (eq-eqb (number row) n e) refl
+  found_at low (row ∷ rows) rises (suc i) n d h e =
+      let next = number row + 1 in
+      let rest : next ≤ number_at rows i d = at_least next rows rises.1 i d (omega arith) in
+      rw (ne_eqb (number row) n (λ same. omega arith))
+      (found_at next rows rises.1 i n d (omega arith) e)
 
-module _ (rows : List MemberRow) (rises : RiseFrom 0 rows) (m : ℕ) where
-  comparisons_rise :
-      IsNonDecreasingBy (λ (row : MemberRow). ordering_index (nat_cmp row.mount m)) rows
-  comparisons_rise i j d le h =
-      let up = rows_rise 0 rows rises i j d in
-      grind (arith, nat_tests, up, λ (same : i ≡ j). ap (λ (k : ℕ). mount_at rows k d) same)
+  none_at :
+      (rows : List R) (n : ℕ) →
+      ((i : ℕ) (d : R) → i < length rows → number_at rows i d ≢ n) → row_of rows n ≡ None
+  none_at [] n others = refl
+  none_at (row ∷ rows) n others =
+      rw (ne_eqb (number row) n (others 0 row (omega arith)))
+      (none_at rows n (λ i d h. others (suc i) d (omega arith)))
 
-  pub index_found :
-      (i : ℕ) → i < length rows →
-      IsBinarySearchResult (λ (row : MemberRow). nat_cmp row.mount m) rows (Ok i) →
-      (d : MemberRow) → (get_or rows i d).mount ≡ m
-  index_found i lt equal d = ranked _ m _ (sym (equal d))
+  module _ (rows : List R) (rises : RiseBy number 0 rows) (n : ℕ) where
+    comparisons_rise : IsNonDecreasingBy (λ (row : R). ordering_index (nat_cmp (number row) n)) rows
+    comparisons_rise i j d le h =
+        let up = rows_rise 0 rows rises i j d in
+        grind (arith, nat_tests, up, λ (same : i ≡ j). ap (λ (k : ℕ). number_at rows k d) same)
 
-  pub found :
-      (i : ℕ) → i < length rows →
-      IsBinarySearchResult (λ (row : MemberRow). nat_cmp row.mount m) rows (Ok i) →
-      (d : MemberRow) → member_row rows m ≡ Some (get_or rows i d)
-  found i lt equal d = found_at 0 rows rises i m d lt (index_found i lt equal d)
+    pub index_found :
+        (i : ℕ) → i < length rows →
+        IsBinarySearchResult (λ (row : R). nat_cmp (number row) n) rows (Ok i) →
+        (d : R) → number (get_or rows i d) ≡ n
+    index_found i lt equal d = ranked _ n _ (sym (equal d))
 
-  -- where nothing is found, each number is another
-  pub all_differ :
-      (i : ℕ) → IsBinarySearchResult (λ (row : MemberRow). nat_cmp row.mount m) rows (Err i) →
-      (j : ℕ) (d : MemberRow) → j < length rows → (get_or rows j d).mount ≢ m
-  all_differ i parted j d h same = grind (arith, before j d, after j d h)
-    where
-      before : (j : ℕ) (d : MemberRow) → j < i → mount_at rows j d < m
-      before j d lt = ranked _ m _ (sym ((parted comparisons_rise).0 j d (omega arith) lt))
+    pub found :
+        (i : ℕ) → i < length rows →
+        IsBinarySearchResult (λ (row : R). nat_cmp (number row) n) rows (Ok i) →
+        (d : R) → row_of rows n ≡ Some (get_or rows i d)
+    found i lt equal d = found_at 0 rows rises i n d lt (index_found i lt equal d)
 
-      after : (j : ℕ) (d : MemberRow) → j < length rows → i ≤ j → m < mount_at rows j d
-      after j d h le = ranked _ m _ (sym ((parted comparisons_rise).1 j d le h))
+    -- where nothing is found, each number is another
+    pub all_differ :
+        (i : ℕ) → IsBinarySearchResult (λ (row : R). nat_cmp (number row) n) rows (Err i) →
+        (j : ℕ) (d : R) → j < length rows → number (get_or rows j d) ≢ n
+    all_differ i parted j d h same = grind (arith, before j d, after j d h)
+      where
+        before : (j : ℕ) (d : R) → j < i → number_at rows j d < n
+        before j d lt = ranked _ n _ (sym ((parted comparisons_rise).0 j d (omega arith) lt))
 
-  pub absent :
-      (i : ℕ) → IsBinarySearchResult (λ (row : MemberRow). nat_cmp row.mount m) rows (Err i) →
-      member_row rows m ≡ None
-  absent i parted = none_at rows m (all_differ i parted)
+        after : (j : ℕ) (d : R) → j < length rows → i ≤ j → n < number_at rows j d
+        after j d h le = ranked _ n _ (sym ((parted comparisons_rise).1 j d le h))
+
+    pub absent :
+        (i : ℕ) → IsBinarySearchResult (λ (row : R). nat_cmp (number row) n) rows (Err i) →
+        row_of rows n ≡ None
+    absent i parted = none_at rows n (all_differ i parted)

@@ -4,6 +4,7 @@ use Rattle.std.specs.Prelude.{is_some, ◌==◌}
 use Rattle.std.proofs.lemmas.List.{append-nil}
 use Rattle.std.proofs.lemmas.Bool.{eqb-true}
 use Rattle.std.specs.Option.{option_or}
+use Rattle.am_names.proofs.Basics.{some_injective}
 use Rattle.am_names.specs.declared.row.MemberRow.{MemberRow}
 use Rattle.am_names.specs.declared.row.GroupRow.{GroupRow}
 use Rattle.am_names.specs.PeerGroups.{PeerGroups}
@@ -17,9 +18,6 @@ use Rattle.am_group.proofs.LookupLemmas.{members_from_test, groups_follow}
 use Rattle.am_group.proofs.CopyLemmas.{members_follow}
 use Rattle.am_group.proofs.AddLemmas.{groups_or, added_keeps, old_member, old_is_group}
 use Rattle.am_group.proofs.GrowLemmas as grow
-
-some_same : {a b : ℕ} → Some a ≡ Some b → a ≡ b
-some_same e = cc
 
 one_found : (row r : GroupRow) (h : ℕ) → group_row (row ∷ []) h ≡ Some r → (r ≡ row) × (row.group ≡ h)
 one_found row r h e = go (row.group == h) refl e
@@ -125,9 +123,9 @@ joined_keeps s sound ms number rises above grouped mastered = added_keeps s ms [
 -- `fresh`: its test asks that the master is there
 pub master_there : (s : PeerGroups) (master : Option ℕ) → may_be_master s master ≡ true → (g : ℕ) → master ≡ Some g → IsGroup s g
 master_there s None may g e = absurd cc
-master_there s (Some h) may g e = subst (λ (x : ℕ). IsGroup s x) (some_same e) may
+master_there s (Some h) may g e = subst (λ (x : ℕ). IsGroup s x) (some_injective e) may
 
 -- a master that has members has one
 pub master_member : (s : PeerGroups) → IsOrderly s → (master : Option ℕ) → has_peopled_master s master ≡ true → (g : ℕ) → master ≡ Some g → HasMembers s g
 master_member s orderly None has g e = absurd cc
-master_member s orderly (Some h) has g e = members_from_test s g orderly.rising (subst (λ (x : ℕ). has_members s.members x ≡ true) (some_same e) has)
+master_member s orderly (Some h) has g e = members_from_test s g orderly.rising (subst (λ (x : ℕ). has_members s.members x ≡ true) (some_injective e) has)

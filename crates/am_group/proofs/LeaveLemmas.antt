@@ -13,10 +13,10 @@ module _ (rows : List MemberRow) (rises : RiseFrom 0 rows) (m : ℕ) where
       (i : ℕ) → i < length rows →
       IsBinarySearchResult (λ (row : MemberRow). nat_cmp row.mount m) rows (Ok i) →
       (d : MemberRow) → others (λ (row : MemberRow). row.mount) m rows ≡ take i rows ++ drop (suc i) rows
-  left_found i less equal d = others_at (λ (row : MemberRow). row.mount) rows (rows_rise 0 rows rises) i m d less (index_found rows rises m i less equal d)
+  left_found i less equal d = others_at (λ (row : MemberRow). row.mount) rows (rows_rise (λ (row : MemberRow). row.mount) 0 rows rises) i m d less (index_found (λ (row : MemberRow). row.mount) rows rises m i less equal d)
 
   -- where it finds none, all are left
   pub left_absent :
       (i : ℕ) → IsBinarySearchResult (λ (row : MemberRow). nat_cmp row.mount m) rows (Err i) →
       others (λ (row : MemberRow). row.mount) m rows ≡ rows
-  left_absent i parted = others_none (λ (row : MemberRow). row.mount) rows m (all_differ rows rises m i parted)
+  left_absent i parted = others_none (λ (row : MemberRow). row.mount) rows m (all_differ (λ (row : MemberRow). row.mount) rows rises m i parted)

@@ -3,6 +3,7 @@ use Rattle.std.proofs.Common.{◌≡◌, ◌≤◌, ◌<◌, ◌+◌, ℕ, Bool,
 use Rattle.std.specs.Prelude.{map, filter, not, ◌==◌}
 use Rattle.std.proofs.lemmas.Bool.{eqb-true, eq-eqb, ne_eqb, and_from}
 use Rattle.std.specs.List.{list_all}
+use Rattle.am_names.proofs.Basics.{false_where_not, left_of_and, right_of_and, or_assoc}
 use Rattle.am_names.specs.declared.row.MemberRow.{MemberRow}
 use Rattle.am_names.specs.declared.row.GroupRow.{GroupRow}
 use Rattle.am_names.specs.PeerGroups.{PeerGroups}
@@ -18,10 +19,6 @@ or_swap : (a b c : Bool) → (a || (b || c)) ≡ (b || (a || c))
 or_swap true true c = refl
 or_swap true false c = refl
 or_swap false b c = refl
-
-or_assoc : (a b c : Bool) → (a || (b || c)) ≡ ((a || b) || c)
-or_assoc true b c = refl
-or_assoc false b c = refl
 
 -- of the members those that a test keeps and the others
 has_split :
@@ -69,18 +66,6 @@ lost_exact gone rows left still lost are_left are_still are_lost g =
     lost_where leaves kept ∙
     ap (λ (x : Bool). x && not kept) (sym (has_split gone rows g))
 
-not_true : (b : Bool) → not b ≡ true → b ≡ false
-not_true true e = absurd cc
-not_true false e = refl
-
-and_left : (a b : Bool) → (a && b) ≡ true → a ≡ true
-and_left true b e = refl
-and_left false b e = absurd cc
-
-and_right : (a b : Bool) → (a && b) ≡ true → b ≡ true
-and_right true b e = e
-and_right false b e = absurd cc
-
 module _ (old : List MemberRow) (raw : PeerGroups) (lost : List ℕ) (are_lost : AreLost old raw.members lost) where
   abbrev stays : ℕ → Bool
   stays = is_kept old raw.members
@@ -105,9 +90,9 @@ module _ (old : List MemberRow) (raw : PeerGroups) (lost : List ℕ) (are_lost :
       rows ≡ map (lifted_member stays raw) rows
   members_stay [] free = refl
   members_stay (r ∷ rows) free =
-      let here = not_true (is_one_of lost r.master) (and_left _ _ free) in
+      let here = false_where_not (is_one_of lost r.master) (left_of_and _ _ free) in
       ap (λ (o : Option ℕ). (record r { master = o }) ∷ rows) (sym (master_stays r.master here)) ∙
-      ap (λ (xs : List MemberRow). lifted_member stays raw r ∷ xs) (members_stay rows (and_right _ _ free))
+      ap (λ (xs : List MemberRow). lifted_member stays raw r ∷ xs) (members_stay rows (right_of_and _ _ free))
 
   groups_stay :
       (rows : List GroupRow) → list_all (is_free_group lost) rows ≡ true →
@@ -115,7 +100,7 @@ module _ (old : List MemberRow) (raw : PeerGroups) (lost : List ℕ) (are_lost :
       filter (λ row. stays row.group) (map (lifted_group stays raw) rows)
   groups_stay [] free = refl
   groups_stay (r ∷ rows) free =
-      go (is_among lost r.group) refl (stays_is r.group) (and_left _ _ free) (groups_stay rows (and_right _ _ free))
+      go (is_among lost r.group) refl (stays_is r.group) (left_of_and _ _ free) (groups_stay rows (right_of_and _ _ free))
     where
       these : List GroupRow
       these = filter (λ row. not (is_among lost row.group)) rows
@@ -130,7 +115,7 @@ module _ (old : List MemberRow) (raw : PeerGroups) (lost : List ℕ) (are_lost :
           cond (stays r.group) (lifted_group stays raw r ∷ those) those
       go true e kept free ih = rw (kept, e) ih
       go false e kept free ih =
-          let here = not_true (is_one_of lost r.master) (rw e at free) in
+          let here = false_where_not (is_one_of lost r.master) (rw e at free) in
           rw (kept, e)
           (ap (λ (o : Option ℕ). (record r { master = o }) ∷ these) (sym (master_stays r.master here)) ∙
           ap (λ (xs : List GroupRow). lifted_group stays raw r ∷ xs) ih)
@@ -140,7 +125,7 @@ module _ (old : List MemberRow) (raw : PeerGroups) (lost : List ℕ) (are_lost :
   free_left s is free =
       rw (is)
       (same_state (cleared stays (settled stays raw)) raw.members (without_groups lost raw).groups raw.last_group
-      (members_stay raw.members (and_left _ _ free)) (groups_stay raw.groups (and_right _ _ free)) refl)
+      (members_stay raw.members (left_of_and _ _ free)) (groups_stay raw.groups (right_of_and _ _ free)) refl)
 
 -- ---- the peer groups of mounts that go
 
@@ -246,7 +231,7 @@ free_staying gone lost s members groups = and_from _ _ (staying s.members member
         (rows : List MemberRow) → list_all (is_free_member gone lost) rows ≡ true →
         list_all (λ row. not (is_one_of lost row.master)) (filter (λ row. not (is_among gone row.mount)) rows) ≡ true
     staying [] free = refl
-    staying (r ∷ rows) free = go (is_among gone r.mount) (and_left _ _ free) (staying rows (and_right _ _ free))
+    staying (r ∷ rows) free = go (is_among gone r.mount) (left_of_and _ _ free) (staying rows (right_of_and _ _ free))
       where
         these : List MemberRow
         these = filter (λ row. not (is_among gone row.mount)) rows

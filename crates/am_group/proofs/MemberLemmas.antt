@@ -20,10 +20,6 @@ use Rattle.am_group.proofs.ChangeLemmas.{KeepsLaw}
 use Rattle.am_group.proofs.JoinLemmas.{master_member}
 use Rattle.am_group.proofs.GrowLemmas.{grown_law, grown_orderly, grown_peopled, old_is_group, old_member}
 
-pub none_of : {A : Type 0} (o : Option A) → is_some o ≡ false → o ≡ None
-none_of None e = refl
-none_of (Some x) e = absurd cc
-
 -- the rows with lower numbers, up to a row, and those with higher ones
 none_lower : (m low : ℕ) (rows : List MemberRow) → m < low → RiseFrom low rows → below m rows ≡ []
 none_lower m low [] lt rises = refl

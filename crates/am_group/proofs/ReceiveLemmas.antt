@@ -1,5 +1,6 @@
 -- A mount receives from the members of the groups at or above its own (its home).
 use Rattle.std.proofs.Common.{◌≡◌, ◌⊎◌, ℕ, List, [], ◌∷◌, ◌++◌, Option, Some, None, refl, sym, ap, inl, inr, ◌∙◌}
+use Rattle.am_names.proofs.Basics.{some_injective}
 use Rattle.am_names.specs.PeerGroups.{PeerGroups}
 use Rattle.am_group.specs.Propagation.{member_row, group_of, slave_in, master_of_group, master_of, PropagatesTo, PropagatesBy}
 use Rattle.am_group.specs.Invariant.{IsPeopled, HasMembers}
@@ -38,9 +39,6 @@ pub record IsReached (s : PeerGroups) (c g : ℕ) : Type 0 where
 pub leads_more : (s : PeerGroups) (way : List ℕ) (h g top : ℕ) → LeadsUp s way h g → master_of_group s g ≡ Some top → LeadsUp s (way ++ top ∷ []) h top
 leads_more s [] h g top here e = (ap (master_of_group s) here ∙ e, refl)
 leads_more s (n ∷ way) h g top here e = (here.0, leads_more s way n g top here.1 e)
-
-some_same : {a b : ℕ} → Some a ≡ Some b → a ≡ b
-some_same e = cc
 
 peopled_more : (s : PeerGroups) (way : List ℕ) (g : ℕ) → ArePeopled s way → HasMembers s g → ArePeopled s (way ++ g ∷ [])
 peopled_more s [] g all has = (has, tt)
@@ -108,7 +106,7 @@ way_from_reached s b c g in_g reached = go (group_of s c) refl
 
     go : (in_group : Option ℕ) → group_of s c ≡ in_group → (way : List ℕ) × PropagatesBy s way b c
     go (Some h) e =
-        let same : h ≡ under.home = some_same (rw e at under.is_home) in
+        let same : h ≡ under.home = some_injective (rw e at under.is_home) in
         members_reached s b g in_g under.way under.home under.leads reached.way_has c (e ∙ ap Some same)
     go None e =
         let own : slave_in (member_row s.members c) ≡ Some under.home = rw e at under.is_home in

@@ -1,22 +1,19 @@
 -- What is among the numbers of mounts, and in a filter of them.
 use Rattle.std.proofs.Common.{◌≡◌, ◌≤◌, ◌+◌, ℕ, zero, suc, Bool, true, false, cond, eqb, ◌||◌, List, [], ◌∷◌, Option, Some, None, refl, sym, ap, subst, ⊎_elim, ◌∙◌, arith, add-one}
-use Rattle.std.specs.Prelude.{filter, ◌==◌}
+use Rattle.std.specs.Prelude.{filter, map, ◌==◌}
 use Rattle.std.specs.List.{list_any}
 use Rattle.std.specs.List.Sorted.{IsStrictlyIncreasing}
 use Rattle.std.proofs.lemmas.Bool.{eqb-true, eq-eqb, or_cases}
 use Rattle.std.proofs.lemmas.Map.Views.{any-filter_same}
+use Rattle.am_names.proofs.Basics.{or_left, or_right}
 use Rattle.am_names.specs.declared.row.MemberRow.{MemberRow}
 use Rattle.am_group.specs.Propagation.{member_row}
 use Rattle.am_group.specs.Changes.{is_just}
-use Rattle.am_group.specs.Invariant.{RiseFrom}
+use Rattle.am_group.specs.Invariant.{RiseBy}
 use Rattle.am_group.specs.Scan.{numbers}
 
 abbrev pub has : ℕ → List ℕ → Bool
 has c xs = list_any (λ x. eqb c x) xs
-
-pub or_right : (a b : Bool) → b ≡ true → (a || b) ≡ true
-or_right true b h = refl
-or_right false b h = h
 
 pub any_has : (test : ℕ → Bool) (xs : List ℕ) → list_any test xs ≡ true → (x : ℕ) × (has x xs ≡ true) × (test x ≡ true)
 any_has test [] e = absurd cc
@@ -25,10 +22,6 @@ any_has test (x ∷ xs) e = go (test x) refl e (any_has test xs)
     go : (b : Bool) → test x ≡ b → (b || list_any test xs) ≡ true → (list_any test xs ≡ true → (y : ℕ) × (has y xs ≡ true) × (test y ≡ true)) → (y : ℕ) × (has y (x ∷ xs) ≡ true) × (test y ≡ true)
     go true f e ih = (x, rw (eq-eqb x x refl) refl, f)
     go false f e ih = let rest = ih e in (rest.0, or_right (eqb rest.0 x) (has rest.0 xs) rest.1, rest.2)
-
-pub or_left : (a b : Bool) → a ≡ true → (a || b) ≡ true
-or_left true b h = refl
-or_left false b h = absurd cc
 
 pub has_any : (test : ℕ → Bool) (xs : List ℕ) (x : ℕ) → has x xs ≡ true → test x ≡ true → list_any test xs ≡ true
 has_any test [] x h e = absurd cc
@@ -68,13 +61,16 @@ has_number (x ∷ rows) c r e = go (x.mount == c) refl e (has_number rows c r)
     go true f e ih = or_left (eqb c x.mount) (has c (numbers rows)) (eq-eqb c x.mount (sym (eqb-true x.mount c f)))
     go false f e ih = or_right (eqb c x.mount) (has c (numbers rows)) (ih e)
 
-pub numbers_rise : (low : ℕ) (rows : List MemberRow) → RiseFrom low rows → IsStrictlyIncreasing (numbers rows)
-numbers_rise low [] rises = λ k h. absurd (omega arith)
-numbers_rise low (r ∷ []) rises = λ k h. absurd (omega arith)
-numbers_rise low (r ∷ x ∷ rows) rises = go (numbers_rise (r.mount + 1) (x ∷ rows) rises.1)
+-- the numbers of rows that rise do so
+pub numbers_rise :
+    {R : Type 0} (number : R → ℕ) (low : ℕ) (rows : List R) → RiseBy number low rows →
+    IsStrictlyIncreasing (map number rows)
+numbers_rise number low [] rises = λ k h. absurd (omega arith)
+numbers_rise number low (r ∷ []) rises = λ k h. absurd (omega arith)
+numbers_rise number low (r ∷ x ∷ rows) rises = go (numbers_rise number (number r + 1) (x ∷ rows) rises.1)
   where
-    go : IsStrictlyIncreasing (numbers (x ∷ rows)) → IsStrictlyIncreasing (numbers (r ∷ x ∷ rows))
-    go ih zero h = let lower : r.mount + 1 ≤ x.mount = rises.1.0 in omega arith
+    go : IsStrictlyIncreasing (map number (x ∷ rows)) → IsStrictlyIncreasing (map number (r ∷ x ∷ rows))
+    go ih zero h = let lower : number r + 1 ≤ number x = rises.1.0 in omega arith
     go ih (suc k) h = rw (add-one) (rw (add-one) at (ih k (omega arith)))
 
 -- the same numbers stay by tests that are the same

@@ -5,6 +5,7 @@ use Rattle.std.specs.List.{list_any, slice_set}
 use Rattle.std.specs.List.Sorted.{IsBinarySearchResult}
 use Rattle.std.specs.Ordering.{nat_cmp}
 use Rattle.std.proofs.lemmas.Bool.{eqb-true, eq-eqb, ne_eqb, or_cases, and_parts, and_from}
+use Rattle.am_names.proofs.Basics.{or_left, or_right, false_where_not}
 use Rattle.am_names.proofs.LeaveLemmas.{Rise, none_out}
 use Rattle.am_names.specs.declared.row.MemberRow.{MemberRow}
 use Rattle.am_names.specs.declared.row.GroupRow.{GroupRow}
@@ -12,7 +13,7 @@ use Rattle.am_names.specs.PeerGroups.{PeerGroups}
 use Rattle.am_group.specs.Propagation.{member_row}
 use Rattle.am_group.specs.Changes.{is_just, has_members, is_among, at_row, with_row, left, shared_row}
 use Rattle.am_group.specs.Invariant.{RiseFrom, IsOrderly}
-use Rattle.am_group.specs.Tables.{AreLost, is_other_in, has_others_in, has_others, without_groups}
+use Rattle.am_group.specs.Tables.{AreLost, is_other_in, not_alone_in, is_not_alone, without_groups}
 use Rattle.am_group.proofs.FindLemmas.{rows_rise, index_found, all_differ}
 use Rattle.am_group.proofs.LiftLemmas.{same_state}
 use Rattle.am_group.proofs.LostLemmas.{free_left, free_of_none}
@@ -41,10 +42,10 @@ written_at m row (r ∷ rows) rise (suc i) d within e =
 
 module _ (rows : List MemberRow) (rises : RiseFrom 0 rows) (m : ℕ) (row : MemberRow) where
   pub written_found : (i : ℕ) → i < length rows → IsBinarySearchResult (λ (r : MemberRow). nat_cmp r.mount m) rows (Ok i) → slice_set rows i row ≡ map (at_row (λ r. row) m) rows
-  written_found i less equal = written_at m row rows (rows_rise 0 rows rises) i row less (index_found rows rises m i less equal row)
+  written_found i less equal = written_at m row rows (rows_rise (λ (row : MemberRow). row.mount) 0 rows rises) i row less (index_found (λ (row : MemberRow). row.mount) rows rises m i less equal row)
 
   pub written_absent : (i : ℕ) → IsBinarySearchResult (λ (r : MemberRow). nat_cmp r.mount m) rows (Err i) → rows ≡ map (at_row (λ r. row) m) rows
-  written_absent i parted = sym (unchanged (λ r. row) m rows (all_differ rows rises m i parted))
+  written_absent i parted = sym (unchanged (λ r. row) m rows (all_differ (λ (row : MemberRow). row.mount) rows rises m i parted))
 
 -- ---- the row that is found
 
@@ -85,18 +86,6 @@ same_change f low m (r ∷ rows) rises row e = go (r.mount == m) refl e (same_ch
 
 -- ---- no group is lost
 
-not_true : (b : Bool) → not b ≡ true → b ≡ false
-not_true true e = absurd cc
-not_true false e = refl
-
-or_first : (a b : Bool) → a ≡ true → (a || b) ≡ true
-or_first true b e = refl
-or_first false b e = absurd cc
-
-or_second : (a b : Bool) → b ≡ true → (a || b) ≡ true
-or_second true b e = refl
-or_second false b e = e
-
 module _ (f : MemberRow → MemberRow) (m : ℕ) where
   -- the others of a group stay in it
   others_stay : (rows : List MemberRow) (g : ℕ) → list_any (is_other_in m g) rows ≡ true → has_members (map (at_row f m) rows) g ≡ true
@@ -104,16 +93,16 @@ module _ (f : MemberRow → MemberRow) (m : ℕ) where
   others_stay (r ∷ rows) g e = ⊎_elim
       (λ here.
       let both = and_parts (is_just g r.group) (not (r.mount == m)) here in
-      let other : (r.mount == m) ≡ false = not_true (r.mount == m) both.1 in
-      rw other (or_first _ _ both.0))
-      (λ later. or_second _ _ (others_stay rows g later))
+      let other : (r.mount == m) ≡ false = false_where_not (r.mount == m) both.1 in
+      rw other (or_left _ _ both.0))
+      (λ later. or_right _ _ (others_stay rows g later))
       (or_cases (is_other_in m g r) (list_any (is_other_in m g) rows) e)
 
   abbrev HasOther : List MemberRow → MemberRow → ℕ → Type 0
   HasOther rows row g = (list_any (is_other_in m g) rows ≡ true) ⊎ (is_just g row.group ≡ true)
 
   more : (r row : MemberRow) (rows : List MemberRow) (g : ℕ) → HasOther rows row g → HasOther (r ∷ rows) row g
-  more r row rows g (inl h) = inl (or_second (is_other_in m g r) _ h)
+  more r row rows g (inl h) = inl (or_right (is_other_in m g r) _ h)
   more r row rows g (inr h) = inr h
 
   -- a peer group with members has others, or is the mount's own
@@ -133,10 +122,10 @@ module _ (f : MemberRow → MemberRow) (m : ℕ) where
               let above : r.mount + 1 ≤ m = found_above (r.mount + 1) rows rises.1 m x found in
               let same : r.mount ≡ m = eqb-true r.mount m f in
               omega arith
-      go false f (inl here) ih = inl (or_first _ _ (and_from (is_just g r.group) (not (r.mount == m)) here (rw f refl)))
+      go false f (inl here) ih = inl (or_left _ _ (and_from (is_just g r.group) (not (r.mount == m)) here (rw f refl)))
       go false f (inr later) ih = more r row rows g (ih (λ x found. only x (rw f found)) later)
 
-  module _ (s : PeerGroups) (rises : RiseFrom 0 s.members) (row : MemberRow) (found : member_row s.members m ≡ Some row) (spared : has_others s row ≡ true) where
+  module _ (s : PeerGroups) (rises : RiseFrom 0 s.members) (row : MemberRow) (found : member_row s.members m ≡ Some row) (spared : is_not_alone s row ≡ true) where
     just_of : (g : ℕ) (o : Option ℕ) → is_just g o ≡ true → o ≡ Some g
     just_of g None e = absurd cc
     just_of g (Some h) e = ap Some (eqb-true h g e)
@@ -144,7 +133,7 @@ module _ (f : MemberRow → MemberRow) (m : ℕ) where
     others_of : (g : ℕ) → is_just g row.group ≡ true → list_any (is_other_in m g) s.members ≡ true
     others_of g own =
         let number : row.mount ≡ m = found_number s.members m row found in
-        let in_group : has_others_in s row.mount (Some g) ≡ true = ap (has_others_in s row.mount) (sym (just_of g row.group own)) ∙ spared in
+        let in_group : not_alone_in s row.mount (Some g) ≡ true = ap (not_alone_in s row.mount) (sym (just_of g row.group own)) ∙ spared in
         subst (λ (n : ℕ). list_any (is_other_in n g) s.members ≡ true) number in_group
 
     still : (g : ℕ) → has_members s.members g ≡ true → has_members (with_row f m s).members g ≡ true

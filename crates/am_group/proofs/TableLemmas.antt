@@ -2,6 +2,7 @@
 use Rattle.std.proofs.Common.{◌≡◌, ◌<◌, ◌+◌, ℕ, Bool, true, false, cond, ◌||◌, ◌&&◌, List, [], ◌∷◌, Option, Some, None, refl, sym, ap, subst, ◌∙◌, arith}
 use Rattle.std.specs.Prelude.{map, not, option_map, ◌==◌, Result, Ok, Err, OnOk}
 use Rattle.std.proofs.lemmas.Bool.{eqb-true, eq-eqb, ne_eqb}
+use Rattle.am_names.proofs.Basics.{or_left, or_right}
 use Rattle.am_names.specs.declared.row.MemberRow.{MemberRow}
 use Rattle.am_names.specs.declared.row.GroupRow.{GroupRow}
 use Rattle.am_names.specs.PeerGroups.{PeerGroups}
@@ -19,7 +20,7 @@ use Rattle.am_group.proofs.SettleLemmas.{member_row-settled, has_lifted}
 use Rattle.am_group.proofs.LiftLemmas.{lifted_here, lifted_step}
 use Rattle.am_group.proofs.ChangeLemmas.{live_stays, slave_row_thins, row_thins, thin_orderly, member_row-map, at_row_mount}
 use Rattle.am_group.proofs.SharedLemmas.{after, fresh_master, shared_mount}
-use Rattle.am_group.proofs.ScanLemmas.{or_left, or_right, just_self}
+use Rattle.am_group.proofs.ScanLemmas.{just_self}
 
 -- another member than m, found by its number
 others_from_member : (rows : List MemberRow) (x m g : ℕ) → (x ≡ m → ⊥) → group_in (member_row rows x) ≡ Some g → has_others rows m g ≡ true

@@ -7,19 +7,21 @@ use Rattle.std.specs.Option.{option_or}
 use Rattle.std.proofs.lemmas.Bool.{eqb-true, eq-eqb, ne_eqb, and_parts}
 use Rattle.std.proofs.lemmas.List.{take_more}
 use Rattle.std.proofs.lemmas.List.Kept.{IsStrictlyIncreasing-filter}
+use Rattle.am_names.proofs.Basics.{or_left}
 use Rattle.am_names.specs.declared.row.MemberRow.{MemberRow}
 use Rattle.am_names.specs.declared.row.GroupRow.{GroupRow}
 use Rattle.am_names.specs.PeerGroups.{PeerGroups}
 use Rattle.am_group.specs.Propagation.{member_row, group_row, group_in, slave_in, master_in, group_of, master_of_group, Receives}
-use Rattle.am_group.specs.Changes.{has_members, up_within, is_among}
+use Rattle.am_group.specs.Changes.{has_members, up_within, up, is_among}
+use Rattle.am_group.specs.Copies.{has_receiver, receiving_groups}
 use Rattle.am_group.specs.Invariant.{RiseBy, IsGroup, IsOrderly}
 use Rattle.am_group.specs.Scan.{numbers, is_one_of}
-use Rattle.am_group.specs.Tables.{AreLive}
-use Rattle.am_group.specs.Receivers.{home_group, peopled_up, is_under, receives, receivers_of, home_in, is_at_or_under, group_numbers, groups_under, under_these}
+use Rattle.am_group.specs.Tables.{AreLiveAmong}
+use Rattle.am_group.specs.Receivers.{home_group, peopled_up, is_under, receives, receivers_of, home_in, is_below, is_at_or_under, group_numbers, groups_below, groups_under, under_these}
 use Rattle.am_group.proofs.LookupLemmas.{RiseBy-filter}
 use Rattle.am_group.proofs.FindLemmas.{found_at}
 use Rattle.am_group.proofs.LiftLemmas.{up_master}
-use Rattle.am_group.proofs.ScanLemmas.{has, or_left, has-filter, has-from_filter, has_number, numbers_rise}
+use Rattle.am_group.proofs.ScanLemmas.{has, has-filter, has-from_filter, has_number, numbers_rise}
 use Rattle.am_group.proofs.ReceiverLemmas.{among_step, under_test, receives_test, receives_found, has_from_Contains, Contains_from_has}
 
 -- ---- rising rows
@@ -179,6 +181,10 @@ numbers_more p rows i d within =
 
 -- ---- one look over the groups
 
+-- a chain: its start, and that of the start's master
+below_step : (s : PeerGroups) → IsOrderly s → (own g : ℕ) → is_below s own g ≡ (g == own || is_among (up s (master_of_group s g)) own)
+below_step s orderly own g = ap (λ (xs : List ℕ). g == own || is_among xs own) (up_master s orderly g)
+
 -- a chain as far as its groups have members: that of its start, and of the start's master
 up_step : (s : PeerGroups) → IsOrderly s → (own g : ℕ) → is_at_or_under s own g ≡ ((g == own || is_among (peopled_up s (master_of_group s g)) own) && has_members s.members g)
 up_step s orderly own g =
@@ -192,69 +198,169 @@ up_step s orderly own g =
     swap false true = refl
     swap false false = refl
 
-module _ (s : PeerGroups) (orderly : IsOrderly s) (own : ℕ) where
-  -- a group that stands is under where it passes, and so is none
-  under_among :
+-- the groups that a test keeps, which a group passes by itself and by its master
+module _ (s : PeerGroups) (orderly : IsOrderly s) (own : ℕ) (test of_itself : ℕ → Bool) (of_master : Option ℕ → Bool) (of_none : of_master None ≡ false) (of_some : (n : ℕ) → of_master (Some n) ≡ test n) (step : (g : ℕ) → test g ≡ ((g == own || of_master (master_of_group s g)) && of_itself g)) where
+  -- a group that stands is kept where it passes, and so is none
+  kept_one_of :
       (rows : List GroupRow) (o : Option ℕ) →
       ((n : ℕ) → o ≡ Some n → is_some (group_row rows n) ≡ true) →
-      is_one_of (group_numbers (filter (λ row. is_at_or_under s own row.group) rows)) o ≡
-      is_among (peopled_up s o) own
-  under_among rows None there = refl
-  under_among rows (Some n) there = kept_among (is_at_or_under s own) rows n (there n refl)
+      is_one_of (group_numbers (filter (λ row. test row.group) rows)) o ≡ of_master o
+  kept_one_of rows None there = sym of_none
+  kept_one_of rows (Some n) there = kept_among test rows n (there n refl) ∙ sym (of_some n)
 
   -- the test of a row, by those before it
-  pub row_test :
+  row_test :
       (i : ℕ) (d : GroupRow) → i < length s.groups →
       (((get_or s.groups i d).group == own ||
-      is_one_of (group_numbers (filter (λ row. is_at_or_under s own row.group) (take i s.groups))) (get_or s.groups i d).master) &&
-      has_members s.members (get_or s.groups i d).group) ≡
-      is_at_or_under s own (get_or s.groups i d).group
+      is_one_of (group_numbers (filter (λ row. test row.group) (take i s.groups))) (get_or s.groups i d).master) &&
+      of_itself (get_or s.groups i d).group) ≡
+      test (get_or s.groups i d).group
   row_test i d within =
       let row = get_or s.groups i d in
       let found = row_at 0 s.groups orderly.groups_rising i d within in
       let master : master_of_group s row.group ≡ row.master = ap master_in found.1 in
-      ap (λ (b : Bool). (row.group == own || b) && has_members s.members row.group)
-      (under_among (take i s.groups) row.master (λ n e.
+      ap (λ (b : Bool). (row.group == own || b) && of_itself row.group)
+      (kept_one_of (take i s.groups) row.master (λ n e.
       stands_before 0 s.groups orderly.groups_rising i n d within (orderly.down row.group n (master ∙ e))
       (orderly.master_named n (inr (row.group, master ∙ e)))) ∙
-      ap (λ (o : Option ℕ). is_among (peopled_up s o) own) (sym master)) ∙
-      sym (up_step s orderly own row.group)
+      ap of_master (sym master)) ∙
+      sym (step row.group)
 
   -- so one row more comes to those that were taken before
-  pub next_under :
+  next_kept :
       (i : ℕ) (row : GroupRow) → i < length s.groups → get_or s.groups i row ≡ row →
       (before after : List ℕ) →
-      before ≡ group_numbers (filter (λ r. is_at_or_under s own r.group) (take i s.groups)) →
-      (live : List ℕ) → AreLive s.members live → (passes : Bool) →
-      passes ≡ ((row.group == own || is_one_of before row.master) && is_among live row.group) →
+      before ≡ group_numbers (filter (λ r. test r.group) (take i s.groups)) →
+      (passes : Bool) →
+      passes ≡ ((row.group == own || is_one_of before row.master) && of_itself row.group) →
       after ≡ before ++ cond passes (row.group ∷ []) [] →
-      after ≡ group_numbers (filter (λ r. is_at_or_under s own r.group) (take (i + 1) s.groups))
-  next_under i row within at before after were live are passes tested is =
-      let taken = group_numbers (filter (λ (r : GroupRow). is_at_or_under s own r.group) (take i s.groups)) in
-      let test : ((row.group == own || is_one_of taken row.master) && has_members s.members row.group) ≡ is_at_or_under s own row.group =
-      subst (λ (r : GroupRow). ((r.group == own || is_one_of taken r.master) && has_members s.members r.group) ≡ is_at_or_under s own r.group) at (row_test i row within) in
-      let more : group_numbers (filter (λ (r : GroupRow). is_at_or_under s own r.group) (take (i + 1) s.groups)) ≡ taken ++ cond (is_at_or_under s own row.group) (row.group ∷ []) [] =
-      subst (λ (r : GroupRow). group_numbers (filter (λ (x : GroupRow). is_at_or_under s own x.group) (take (i + 1) s.groups)) ≡ taken ++ cond (is_at_or_under s own r.group) (r.group ∷ []) []) at (numbers_more (is_at_or_under s own) s.groups i row within) in
-      let same : passes ≡ is_at_or_under s own row.group =
-      tested ∙ ap (λ (xs : List ℕ). (row.group == own || is_one_of xs row.master) && is_among live row.group) were ∙
-      ap (λ (b : Bool). (row.group == own || is_one_of taken row.master) && b) (are row.group) ∙ test in
+      after ≡ group_numbers (filter (λ r. test r.group) (take (i + 1) s.groups))
+  next_kept i row within at before after were passes tested is =
+      let taken = group_numbers (filter (λ (r : GroupRow). test r.group) (take i s.groups)) in
+      let by_those : ((row.group == own || is_one_of taken row.master) && of_itself row.group) ≡ test row.group =
+      subst (λ (r : GroupRow). ((r.group == own || is_one_of taken r.master) && of_itself r.group) ≡ test r.group) at (row_test i row within) in
+      let more : group_numbers (filter (λ (r : GroupRow). test r.group) (take (i + 1) s.groups)) ≡ taken ++ cond (test row.group) (row.group ∷ []) [] =
+      subst (λ (r : GroupRow). group_numbers (filter (λ (x : GroupRow). test x.group) (take (i + 1) s.groups)) ≡ taken ++ cond (test r.group) (r.group ∷ []) []) at (numbers_more test s.groups i row within) in
+      let same : passes ≡ test row.group =
+      tested ∙ ap (λ (xs : List ℕ). (row.group == own || is_one_of xs row.master) && of_itself row.group) were ∙ by_those in
       is ∙
       ap (λ (xs : List ℕ). xs ++ cond passes (row.group ∷ []) []) were ∙
       ap (λ (b : Bool). taken ++ cond b (row.group ∷ []) []) same ∙
       sym more
 
+  kept_before_ordered : (i : ℕ) → IsNonDecreasing (group_numbers (filter (λ row. test row.group) (take i s.groups)))
+  kept_before_ordered i =
+      numbers_ordered 0 (filter (λ row. test row.group) (take i s.groups))
+      (RiseBy-filter (λ (r : GroupRow). r.group) (λ row. test row.group) 0 (take i s.groups)
+      (RiseBy-take (λ (r : GroupRow). r.group) 0 i s.groups orderly.groups_rising))
+
+  kept_ordered : IsNonDecreasing (group_numbers (filter (λ row. test row.group) s.groups))
+  kept_ordered =
+      numbers_ordered 0 (filter (λ row. test row.group) s.groups)
+      (RiseBy-filter (λ (r : GroupRow). r.group) (λ row. test row.group) 0 s.groups orderly.groups_rising)
+
+among_taken : (p : ℕ → Bool) (xs : List ℕ) (g : ℕ) → is_among (take_while p xs) g ≡ true → is_among xs g ≡ true
+among_taken p [] g e = e
+among_taken p (x ∷ xs) g e = go (p x) (x == g) (sym (among_step p g x xs) ∙ e) (among_taken p xs g)
+  where
+    go :
+        (a b : Bool) → (a && (b || is_among (take_while p xs) g)) ≡ true →
+        (is_among (take_while p xs) g ≡ true → is_among xs g ≡ true) → (b || is_among xs g) ≡ true
+    go true true e ih = refl
+    go true false e ih = ih e
+    go false b e ih = absurd cc
+
+module _ (s : PeerGroups) (orderly : IsOrderly s) (own : ℕ) where
+  abbrev in_below : Option ℕ → Bool
+  in_below o = is_among (up s o) own
+
+  abbrev in_under : Option ℕ → Bool
+  in_under o = is_among (peopled_up s o) own
+
+  and_yes : (a : Bool) → a ≡ (a && true)
+  and_yes true = refl
+  and_yes false = refl
+
+  below_both : (g : ℕ) → is_below s own g ≡ ((g == own || in_below (master_of_group s g)) && true)
+  below_both g = below_step s orderly own g ∙ and_yes (g == own || in_below (master_of_group s g))
+
+  -- one row more comes to those that were taken before, by its master alone
+  pub next_below :
+      (i : ℕ) (row : GroupRow) → i < length s.groups → get_or s.groups i row ≡ row →
+      (before after : List ℕ) →
+      before ≡ group_numbers (filter (λ r. is_below s own r.group) (take i s.groups)) →
+      (passes : Bool) → passes ≡ (row.group == own || is_one_of before row.master) →
+      after ≡ before ++ cond passes (row.group ∷ []) [] →
+      after ≡ group_numbers (filter (λ r. is_below s own r.group) (take (i + 1) s.groups))
+  next_below i row within at before after were passes tested is =
+      next_kept s orderly own (is_below s own) (λ g. true) in_below refl (λ n. refl) below_both i row within at before after were passes
+      (tested ∙ and_yes (row.group == own || is_one_of before row.master)) is
+
+  pub below_before_ordered :
+      (i : ℕ) → IsNonDecreasing (group_numbers (filter (λ row. is_below s own row.group) (take i s.groups)))
+  below_before_ordered = kept_before_ordered s orderly own (is_below s own) (λ g. true) in_below refl (λ n. refl) below_both
+
+  pub below_ordered : IsNonDecreasing (groups_below s own)
+  below_ordered = kept_ordered s orderly own (is_below s own) (λ g. true) in_below refl (λ n. refl) below_both
+
+  -- a group that stands is under where it passes, and so is none
+  under_among :
+      (rows : List GroupRow) (o : Option ℕ) →
+      ((n : ℕ) → o ≡ Some n → is_some (group_row rows n) ≡ true) →
+      is_one_of (group_numbers (filter (λ row. is_at_or_under s own row.group) rows)) o ≡ in_under o
+  under_among = kept_one_of s orderly own (is_at_or_under s own) (has_members s.members) in_under refl (λ n. refl) (up_step s orderly own)
+
+  -- and with its members, of which it is enough to know those of the groups below
+  pub next_under :
+      (i : ℕ) (row : GroupRow) → i < length s.groups → get_or s.groups i row ≡ row →
+      (before after : List ℕ) →
+      before ≡ group_numbers (filter (λ r. is_at_or_under s own r.group) (take i s.groups)) →
+      (live : List ℕ) → AreLiveAmong (groups_below s own) s.members live → (passes : Bool) →
+      passes ≡ ((row.group == own || is_one_of before row.master) && is_among live row.group) →
+      after ≡ before ++ cond passes (row.group ∷ []) [] →
+      after ≡ group_numbers (filter (λ r. is_at_or_under s own r.group) (take (i + 1) s.groups))
+  next_under i row within at before after were live are passes tested is =
+      next_kept s orderly own (is_at_or_under s own) (has_members s.members) in_under refl (λ n. refl) (up_step s orderly own) i row within at before after were passes
+      (tested ∙
+      ap (λ (b : Bool). (row.group == own || is_one_of before row.master) && b) (are row.group) ∙
+      both (row.group == own || is_one_of before row.master) (is_among (groups_below s own) row.group) (has_members s.members row.group) below) is
+    where
+      both : (a b h : Bool) → (a ≡ true → b ≡ true) → (a && (b && h)) ≡ (a && h)
+      both true b h then = rw (then refl) refl
+      both false b h then = refl
+
+      found : group_row s.groups row.group ≡ Some row
+      found = subst (λ (r : GroupRow). group_row s.groups r.group ≡ Some r) at (row_at 0 s.groups orderly.groups_rising i row within).1
+
+      master : master_of_group s row.group ≡ row.master
+      master = ap master_in found
+
+      taken : is_one_of before row.master ≡ in_under (master_of_group s row.group)
+      taken =
+          ap (λ (xs : List ℕ). is_one_of xs row.master) were ∙
+          under_among (take i s.groups) row.master (λ n e.
+          stands_before 0 s.groups orderly.groups_rising i n row within
+          (subst (λ (r : GroupRow). n < r.group) (sym at) (orderly.down row.group n (master ∙ e)))
+          (orderly.master_named n (inr (row.group, master ∙ e)))) ∙
+          ap in_under (sym master)
+
+      below : (row.group == own || is_one_of before row.master) ≡ true → is_among (groups_below s own) row.group ≡ true
+      below e =
+          kept_among (is_below s own) s.groups row.group (ap is_some found) ∙
+          below_step s orderly own row.group ∙
+          go (row.group == own) (ap (λ (b : Bool). row.group == own || b) (sym taken) ∙ e)
+        where
+          go : (a : Bool) → (a || in_under (master_of_group s row.group)) ≡ true → (a || in_below (master_of_group s row.group)) ≡ true
+          go true e = refl
+          go false e = among_taken (has_members s.members) (up s (master_of_group s row.group)) own e
+
   pub before_ordered :
       (i : ℕ) →
       IsNonDecreasing (group_numbers (filter (λ row. is_at_or_under s own row.group) (take i s.groups)))
-  before_ordered i =
-      numbers_ordered 0 (filter (λ row. is_at_or_under s own row.group) (take i s.groups))
-      (RiseBy-filter (λ (r : GroupRow). r.group) (λ row. is_at_or_under s own row.group) 0 (take i s.groups)
-      (RiseBy-take (λ (r : GroupRow). r.group) 0 i s.groups orderly.groups_rising))
+  before_ordered = kept_before_ordered s orderly own (is_at_or_under s own) (has_members s.members) in_under refl (λ n. refl) (up_step s orderly own)
 
   pub under_ordered : IsNonDecreasing (groups_under s own)
-  under_ordered =
-      numbers_ordered 0 (filter (λ row. is_at_or_under s own row.group) s.groups)
-      (RiseBy-filter (λ (r : GroupRow). r.group) (λ row. is_at_or_under s own row.group) 0 s.groups orderly.groups_rising)
+  under_ordered = kept_ordered s orderly own (is_at_or_under s own) (has_members s.members) in_under refl (λ n. refl) (up_step s orderly own)
 
 -- ---- one look over the mounts
 
@@ -296,7 +402,7 @@ module _ (s : PeerGroups) (orderly : IsOrderly s) (b own : ℕ) (in_own : group_
   pub homed_listed : under_these (groups_under s own) b s.members ≡ receivers_of s b
   homed_listed =
       rows_test s.members
-      (λ i d within. found_at 0 s.members orderly.rising i (get_or s.members i d).mount d within refl)
+      (λ i d within. found_at (λ (row : MemberRow). row.mount) 0 s.members orderly.rising i (get_or s.members i d).mount d within refl)
 
 -- ---- the list of receivers
 
@@ -326,4 +432,12 @@ receivers_exact s orderly b c = (
 pub receivers_rise : (s : PeerGroups) → IsOrderly s → (b : ℕ) → IsStrictlyIncreasing (receivers_of s b)
 receivers_rise s orderly b =
     IsStrictlyIncreasing-filter (receives s b) (numbers s.members)
-    (numbers_rise 0 s.members orderly.rising)
+    (numbers_rise (λ (r : MemberRow). r.mount) 0 s.members orderly.rising)
+
+-- the groups for which a mount makes fresh ones rise too
+pub receiving_rise :
+    (s : PeerGroups) → IsOrderly s → (receivers : List ℕ) (own : ℕ) →
+    IsStrictlyIncreasing (receiving_groups s receivers own)
+receiving_rise s orderly receivers own =
+    IsStrictlyIncreasing-filter (λ g. not (g == own) && has_receiver s receivers g) (group_numbers s.groups)
+    (numbers_rise (λ (r : GroupRow). r.group) 0 s.groups orderly.groups_rising)

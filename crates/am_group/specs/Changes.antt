@@ -9,6 +9,7 @@ use Rattle.am_group.specs.declared.kind.Change.{Change}
 use Rattle.am_group.specs.declared.kind.Change.TheVariants.{MakeShared, MakeSlave, MakePrivate, MakeUnbindable}
 use Rattle.am_group.specs.Propagation.{member_row, group_of, master_of_group}
 
+-- there is a peer group, and it is this one
 abbrev pub is_just : ℕ → Option ℕ → Bool
 is_just g None = false
 is_just g (Some h) = h == g
@@ -57,12 +58,15 @@ abbrev pub slave_from : Option ℕ → MemberRow → MemberRow
 slave_from (Some group) row = record row { group = None; master = Some group; unbindable = false }
 slave_from None row = row
 
+-- the mount becomes a slave of the peer group that it leaves
 abbrev pub slave_row : MemberRow → MemberRow
 slave_row row = slave_from row.group row
 
+-- the mount becomes private
 abbrev pub private_row : MemberRow → MemberRow
 private_row row = record row { group = None; master = None; unbindable = false }
 
+-- the mount becomes private, and not to be bound
 abbrev pub unbindable_row : MemberRow → MemberRow
 unbindable_row row = record row { group = None; master = None; unbindable = true }
 
@@ -71,9 +75,11 @@ abbrev pub shared_from : Option ℕ → ℕ → MemberRow → MemberRow
 shared_from (Some group) fresh row = row
 shared_from None fresh row = record row { group = Some fresh; master = None; unbindable = false }
 
+-- the mount becomes shared
 abbrev pub shared_row : ℕ → MemberRow → MemberRow
 shared_row fresh row = shared_from row.group fresh row
 
+-- the row of this mount changes so, and any other stays
 abbrev pub at_row : (MemberRow → MemberRow) → ℕ → MemberRow → MemberRow
 at_row change m row = if row.mount == m then change row else row
 
@@ -108,19 +114,25 @@ left old raw =
     let stays = is_kept old.members raw.members in
     cleared stays (settled stays raw)
 
--- the four changes: the mount's row, then the peer group that it leaves without members
+-- ---- the four changes: the mount's row, then the peer group that it leaves without members
+
+-- make-shared
 abbrev pub made_shared : ℕ → PeerGroups → PeerGroups
 made_shared m s = shared_where (member_row s.members m) (group_of s m) m s
 
+-- make-slave
 abbrev pub made_slave : ℕ → PeerGroups → PeerGroups
 made_slave m s = left s (with_row slave_row m s)
 
+-- make-private
 abbrev pub made_private : ℕ → PeerGroups → PeerGroups
 made_private m s = left s (with_row private_row m s)
 
+-- make-unbindable
 abbrev pub made_unbindable : ℕ → PeerGroups → PeerGroups
 made_unbindable m s = left s (with_row unbindable_row m s)
 
+-- the change that is asked for
 abbrev pub changed : Change → ℕ → PeerGroups → PeerGroups
 changed MakeShared = made_shared
 changed MakeSlave = made_slave
@@ -135,5 +147,6 @@ is_among ms m = list_any (λ x. x == m) ms
 abbrev pub with_only : (ℕ → Bool) → PeerGroups → PeerGroups
 with_only keeps s = record s { members = filter (λ row. keeps row.mount) s.members }
 
+-- these mounts leave, and then the peer groups that they leave without members
 abbrev pub without : (ℕ → Bool) → PeerGroups → PeerGroups
 without gone s = left s (with_only (λ m. not (gone m)) s)

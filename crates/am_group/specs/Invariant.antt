@@ -1,19 +1,22 @@
--- What the peer groups keep.
+-- What the peer groups keep (sharedsubtree.rst, 5a). That numbers rise is own choice.
 use Rattle.std.specs.Prelude.{◌≡◌, ◌≤◌, ◌<◌, ◌+◌, ◌⊎◌, ℕ, true, List, [], ◌∷◌, Some, is_some}
 use Rattle.am_names.specs.declared.row.MemberRow.{MemberRow}
 use Rattle.am_names.specs.declared.row.GroupRow.{GroupRow}
 use Rattle.am_names.specs.PeerGroups.{PeerGroups}
 use Rattle.am_group.specs.Propagation.{member_row, group_row, group_of, master_of_group, slave_in, Receives}
 
--- the mounts stand in rising order of number, from this one on
-abbrev pub RiseFrom : ℕ → List MemberRow → Type 0
-RiseFrom low [] = Unit {0}
-RiseFrom low (row ∷ rows) = (low ≤ row.mount) × RiseFrom (row.mount + 1) rows
-
 -- the rows stand in rising order of their number, from this one on, each number once
 abbrev pub RiseBy : {R : Type 0} → (R → ℕ) → ℕ → List R → Type 0
 RiseBy number low [] = Unit {0}
 RiseBy number low (row ∷ rows) = (low ≤ number row) × RiseBy number (number row + 1) rows
+
+-- the mounts stand in rising order of number, from this one on
+abbrev pub RiseFrom : ℕ → List MemberRow → Type 0
+RiseFrom low rows = RiseBy (λ (row : MemberRow). row.mount) low rows
+
+-- the peer groups stand in rising order of number, each once
+abbrev pub GroupsRise : List GroupRow → Type 0
+GroupsRise rows = RiseBy (λ (row : GroupRow). row.group) 0 rows
 
 -- the peer group has a row of its own
 abbrev pub IsGroup : PeerGroups → ℕ → Type 0
@@ -31,7 +34,7 @@ HasMembers s g = (m : ℕ) × (group_of s m ≡ Some g)
 -- every peer group that is named has a row, masters have lower numbers, and new numbers are fresh
 pub record IsOrderly (s : PeerGroups) : Type 0 where
   pub rising : RiseFrom 0 s.members
-  pub groups_rising : RiseBy (λ (row : GroupRow). row.group) 0 s.groups
+  pub groups_rising : GroupsRise s.groups
   pub group_named : (m g : ℕ) → group_of s m ≡ Some g → IsGroup s g
   pub master_named : (g : ℕ) → IsMaster s g → IsGroup s g
   pub down : (h g : ℕ) → master_of_group s h ≡ Some g → g < h

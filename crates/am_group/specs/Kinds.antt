@@ -21,10 +21,12 @@ lone_kind (Some master) unbindable = Slave
 lone_kind None true = Unbindable
 lone_kind None false = Private
 
+-- the state by the peer group, the master and the flag of a row
 abbrev pub kind_where : PeerGroups → Option ℕ → Option ℕ → Bool → Kind
 kind_where s (Some group) master unbindable = shared_kind (master_of_group s group)
 kind_where s None master unbindable = lone_kind master unbindable
 
+-- the state of the mount with this row
 abbrev pub kind_of_row : PeerGroups → MemberRow → Kind
 kind_of_row s row = kind_where s row.group row.master row.unbindable
 
@@ -36,6 +38,7 @@ kind_of s m = option_map (kind_of_row s) (member_row s.members m)
 abbrev pub has_others : List MemberRow → ℕ → ℕ → Bool
 has_others members m g = list_any (λ row. is_just g row.group && not (row.mount == m)) members
 
+-- there is a peer group, and no other mount is in it
 abbrev pub alone_in : PeerGroups → ℕ → Option ℕ → Bool
 alone_in s m None = false
 alone_in s m (Some g) = not (has_others s.members m g)

@@ -1,4 +1,5 @@
--- Mounts and peer groups that are added, and the order of a call's tests.
+-- Mounts and peer groups that are added (sharedsubtree.rst, 5a). The order of a call's tests is own
+-- choice.
 use Rattle.std.specs.Prelude.{◌≡◌, ◌==◌, ◌&&◌, ℕ, Bool, true, false, not, nat_lt, List, [], ◌∷◌, ◌++◌, filter, Option, Some, None, is_some, if◌then◌else◌}
 use Rattle.am_names.specs.declared.row.MemberRow.{MemberRow}
 use Rattle.am_names.specs.declared.errno.Errno.{Errno}
@@ -23,9 +24,11 @@ row_with (SlaveOf g) m = record { mount = m; group = None; master = Some g; unbi
 row_with Private m = record { mount = m; group = None; master = None; unbindable = false }
 row_with Unbindable m = record { mount = m; group = None; master = None; unbindable = true }
 
+-- the mounts with lower numbers
 abbrev pub below : ℕ → List MemberRow → List MemberRow
 below m members = filter (λ row. nat_lt row.mount m) members
 
+-- the mounts with higher numbers
 abbrev pub above : ℕ → List MemberRow → List MemberRow
 above m members = filter (λ row. nat_lt m row.mount) members
 

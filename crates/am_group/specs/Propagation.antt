@@ -4,20 +4,25 @@ use Rattle.am_names.specs.PeerGroups.{PeerGroups}
 use Rattle.am_names.specs.declared.row.MemberRow.{MemberRow}
 use Rattle.am_names.specs.declared.row.GroupRow.{GroupRow}
 
+-- the row of the mount
 abbrev pub member_row : List MemberRow → ℕ → Option MemberRow
 member_row members m = find (λ row. row.mount == m) members
 
+-- the row of the peer group
 abbrev pub group_row : List GroupRow → ℕ → Option GroupRow
 group_row groups g = find (λ row. row.group == g) groups
 
+-- the peer group of a row that was looked up
 abbrev pub group_in : Option MemberRow → Option ℕ
 group_in None = None
 group_in (Some row) = row.group
 
+-- the master of a row that was looked up, which is in no peer group
 abbrev pub slave_in : Option MemberRow → Option ℕ
 slave_in None = None
 slave_in (Some row) = row.master
 
+-- the master of a peer group's row that was looked up
 abbrev pub master_in : Option GroupRow → Option ℕ
 master_in None = None
 master_in (Some row) = row.master
@@ -30,6 +35,7 @@ group_of s m = group_in (member_row s.members m)
 abbrev pub master_of_group : PeerGroups → ℕ → Option ℕ
 master_of_group s g = master_in (group_row s.groups g)
 
+-- the master of the peer group, else the mount's own
 abbrev pub master_where : PeerGroups → Option ℕ → Option ℕ → Option ℕ
 master_where s (Some group) own = master_of_group s group
 master_where s None own = own

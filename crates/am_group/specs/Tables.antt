@@ -1,4 +1,5 @@
--- The rows of a change before masters are lifted.
+-- The rows of a change before masters are lifted: own choice (docs/DECISIONS.md, "A group without
+-- members is gone").
 use Rattle.std.specs.Prelude.{◌≡◌, ◌||◌, ◌&&◌, ◌==◌, ℕ, Bool, true, false, not, List, filter, Option, Some, None}
 use Rattle.std.specs.List.{list_all, list_any}
 use Rattle.am_names.specs.declared.row.MemberRow.{MemberRow}
@@ -12,6 +13,7 @@ use Rattle.am_group.specs.declared.kind.Change.TheVariants.{MakeShared, MakeSlav
 use Rattle.am_group.specs.Scan.{is_one_of}
 use Rattle.am_group.specs.Changes.{is_just, has_members, is_among, shared_row, slave_row, private_row, unbindable_row}
 
+-- the rows, seen as peer groups
 abbrev pub state_of : Tables → PeerGroups
 state_of t = record { members = t.members.items; groups = t.groups.items; last_group = t.last_group }
 
@@ -61,13 +63,14 @@ is_left old new g = is_among new g || not (is_among old g)
 abbrev pub is_other_in : ℕ → ℕ → MemberRow → Bool
 is_other_in m g row = is_just g row.group && not (row.mount == m)
 
-abbrev pub has_others_in : PeerGroups → ℕ → Option ℕ → Bool
-has_others_in s m None = true
-has_others_in s m (Some g) = list_any (is_other_in m g) s.members
+-- there is no peer group, or another mount is in it
+abbrev pub not_alone_in : PeerGroups → ℕ → Option ℕ → Bool
+not_alone_in s m None = true
+not_alone_in s m (Some g) = list_any (is_other_in m g) s.members
 
--- others are in the peer group of the row, if it is in one
-abbrev pub has_others : PeerGroups → MemberRow → Bool
-has_others s row = has_others_in s row.mount row.group
+-- the mount of the row is in no peer group, or in one with others
+abbrev pub is_not_alone : PeerGroups → MemberRow → Bool
+is_not_alone s row = not_alone_in s row.mount row.group
 
 -- what a change makes of a row
 abbrev pub row_of : Change → ℕ → MemberRow → MemberRow

@@ -2,10 +2,11 @@
 
 ghost use Rattle.std.specs.List.{list_all};
 ghost use Rattle.std.specs.List.Sorted.{IsNonDecreasing};
-ghost use Rattle.std.specs.Prelude.{◌≡◌, not, map, filter, IfOk};
+ghost use Rattle.std.specs.Bool.{OnTrue};
+ghost use Rattle.std.specs.Prelude.{◌≡◌, false, not, map, filter, IfOk};
 ghost use Rattle.am_group.specs.Propagation.{member_row, group_row, master_of_group};
 ghost use Rattle.am_group.specs.Changes.{is_among, lifted, lifted_member, lifted_group};
-ghost use Rattle.am_group.specs.Invariant.{RiseFrom, IsOrderly};
+ghost use Rattle.am_group.specs.Invariant.{RiseFrom, GroupsRise, IsOrderly};
 ghost use Rattle.am_group.specs.Scan.{is_one_of};
 ghost use Rattle.am_group.specs.Tables.{state_of, AreLive, AreOthers, is_left, is_free_group};
 
@@ -55,11 +56,32 @@ pub fn live_groups(alloc: Global, members: &[MemberRow]) -> Result<Vec<GroupId>,
     Ok(live)
 }
 
+/// Whether the peer group is lower or higher than all of these, which stand in order of number. Of
+/// many groups and a few new ones most are.
+fn is_beyond(groups: &[GroupId], group: GroupId) -> bool
+    requires { IsNonDecreasing groups.now }
+    ensures { OnTrue result (is_among groups.now group ≡ false) }
+{
+    let Some(first) = groups.first() else {
+        return true;
+    };
+    let Some(last) = groups.last() else {
+        return true;
+    };
+    if group < *first {
+        return true;
+    }
+    *last < group
+}
+
 /// Whether the peer group is one of these, which stand in order of number.
 pub fn is_among(groups: &[GroupId], group: GroupId) -> bool
     requires { IsNonDecreasing groups.now }
     ensures { result ≡ is_among groups.now group }
 {
+    if is_beyond(groups, group) {
+        return false;
+    }
     let number = group.0;
     groups
         .binary_search_by_key(&number, |other| other.0)
@@ -129,16 +151,22 @@ fn is_kept(old: &[GroupId], new: &[GroupId], group: GroupId) -> bool
 pub fn clear(groups: &mut Vec<GroupRow>, old: &[GroupId], new: &[GroupId])
     requires old { IsNonDecreasing old.now }
     requires new { IsNonDecreasing new.now }
-    ensures { groups.new.items ≡ filter (λ row. is_left old.now new.now row.group) groups.old.items }
+    ensures { groups.new.items ≡
+        filter (λ row. is_left old.now new.now row.group) groups.old.items }
 {
     groups.retain(|row| is_kept(old, new, row.group));
 }
 
-/// The peer group with its master.
+/// The peer group with its master. The rows rise by number, as those of the mounts.
 pub fn group_row(groups: &[GroupRow], group: GroupId) -> Option<GroupRow>
+    requires { GroupsRise groups.now }
     ensures { result ≡ group_row groups.now group }
 {
-    groups.iter().copied().find(|row| row.group == group)
+    let number = group.0;
+    match groups.binary_search_by_key(&number, |row| row.group.0) {
+        Ok(at) => Some(groups[at]),
+        Err(_) => None,
+    }
 }
 
 pub fn are_groups_free(groups: &[GroupRow], lost: &[GroupId]) -> bool
@@ -150,6 +178,7 @@ pub fn are_groups_free(groups: &[GroupRow], lost: &[GroupId]) -> bool
 
 impl Tables {
     fn master_of_group(&self, group: GroupId) -> Option<GroupId>
+        requires { IsOrderly (state_of self.now) }
         ensures { result ≡ master_of_group (state_of self.now) group }
     {
         match group_row(self.groups.as_slice(), group) {
@@ -186,7 +215,9 @@ impl Tables {
         requires orderly { IsOrderly (state_of self.now) }
         requires old { IsNonDecreasing old.now }
         requires new { IsNonDecreasing new.now }
-        ensures { IfOk result (λ v. v.items ≡ map (lifted_member (is_left old.now new.now) (state_of self.now)) (state_of self.now).members) }
+        ensures { IfOk result (λ v. v.items ≡
+            map (lifted_member (is_left old.now new.now) (state_of self.now))
+            (state_of self.now).members) }
     {
         let mut rows = Vec::new(alloc);
         for row in self.members.iter() {
@@ -206,7 +237,9 @@ impl Tables {
         requires orderly { IsOrderly (state_of self.now) }
         requires old { IsNonDecreasing old.now }
         requires new { IsNonDecreasing new.now }
-        ensures { IfOk result (λ v. v.items ≡ map (lifted_group (is_left old.now new.now) (state_of self.now)) (state_of self.now).groups) }
+        ensures { IfOk result (λ v. v.items ≡
+            map (lifted_group (is_left old.now new.now) (state_of self.now))
+            (state_of self.now).groups) }
     {
         let mut rows = Vec::new(alloc);
         for row in self.groups.iter() {

@@ -6,6 +6,7 @@ use Rattle.std.specs.List.Sorted.{IsStrictlyIncreasing}
 use Rattle.std.proofs.lemmas.Bool.{eqb-true, eq-eqb, ne_eqb}
 use Rattle.std.proofs.lemmas.Bool.Decides.{nat_tests}
 use Rattle.std.proofs.lemmas.List.{take_more, drop_more, take-take, length-take-le}
+use Rattle.am_names.proofs.Basics.{and_false}
 use Rattle.am_names.specs.Path.{text_of}
 use Rattle.am_names.specs.declared.row.MountRow.{MountRow}
 use Rattle.am_mount.specs.Rows.{RiseFrom, IsRising, mount_row, is_among, mounts_where, is_in, is_child, is_at, last_of, top_of, root_of}
@@ -18,10 +19,6 @@ use Rattle.am_mount.proofs.RowLemmas.{found_above, at_decides, last_of_append, w
 and_true : (b : Bool) → (b && true) ≡ b
 and_true true = refl
 and_true false = refl
-
-and_false : (b : Bool) → (b && false) ≡ false
-and_false true = refl
-and_false false = refl
 
 where_cons :
     (t : MountRow → Bool) (r : MountRow) (rows : List MountRow) →

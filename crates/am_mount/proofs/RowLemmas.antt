@@ -10,6 +10,7 @@ use Rattle.std.proofs.lemmas.List.{append-nil}
 use Rattle.std.proofs.lemmas.Bool.Decides.{Decides-eqb}
 use Rattle.std.proofs.lemmas.Map.Views.{Contains-from_any, list_any-from_Contains}
 use Rattle.std.proofs.lemmas.Cmp.{nat_eq_equiv}
+use Rattle.am_names.proofs.Basics.{or_left, or_right}
 use Rattle.am_names.specs.declared.row.MountRow.{MountRow}
 use Rattle.am_names.specs.declared.row.Position.{Position}
 use Rattle.am_mount.specs.Rows.{RiseFrom, IsRising, next_of, mount_row, mounts_where, is_in, is_position_on, is_child, is_position, is_at, last_from, last_of, top_of, HasRow, IsIn, IsAt, IsOn, IsTop, IsFree}
@@ -54,14 +55,6 @@ found_above low (r ∷ rows) rises m row e = go (r.mount == m) refl e (found_abo
 
 abbrev pub has : ℕ → List ℕ → Bool
 has c xs = list_any (λ x. eqb c x) xs
-
-or_left : (a b : Bool) → a ≡ true → (a || b) ≡ true
-or_left true b h = refl
-or_left false b h = absurd cc
-
-or_right : (a b : Bool) → b ≡ true → (a || b) ≡ true
-or_right true b h = refl
-or_right false b h = h
 
 -- the mounts whose rows pass are those that have a row that is so
 module _ (test : MountRow → Bool) (P : MountRow → Type 0) (decides : (row : MountRow) → Decides (test row) (P row)) where

@@ -1,4 +1,4 @@
--- A number for a place of a mount, which few places have in common.
+-- A number for a place of a mount, which few places have in common: own choice (Linux: m_hash).
 use Rattle.std.specs.Prelude.{◌+◌, ◌*◌, ◌%◌, ◌==◌, ℕ, Bool, false, List, [], ◌∷◌, Option, Some, None}
 use Rattle.am_names.specs.Path.{text_of}
 use Rattle.am_names.specs.declared.row.MountRow.{MountRow}
@@ -20,6 +20,7 @@ mixed bucket (byte ∷ bytes) = mixed (mix_one bucket byte) bytes
 abbrev pub bucket : ℕ → List ℕ → ℕ
 bucket m text = mixed (seed m) text
 
+-- there is a position, and it is of this bucket
 abbrev pub is_position_in : ℕ → Option Position → Bool
 is_position_in b None = false
 is_position_in b (Some position) = bucket position.mount (text_of position.place) == b

@@ -1,4 +1,4 @@
--- The mounts that share a number: a namespace, a parent, or a bucket of places.
+-- The mounts that share a number: a namespace, a parent, or a bucket of places. Own choice.
 use Rattle.std.specs.Prelude.{◌≡◌, ◌<◌, ◌==◌, ℕ, Bool, nat_eq, not, List, [], ◌∷◌, ◌++◌, filter, Option, Some, None, Vec, if◌then◌else◌}
 use Rattle.std.specs.Vec.{vec_len, vec_capacity}
 use Rattle.std.specs.List.Sorted.{IsStrictlyIncreasing}
@@ -11,6 +11,7 @@ use Rattle.am_mount.specs.declared.indexes.Indexes.{Indexes}
 use Rattle.am_mount.specs.Rows.{mounts_where, is_in, is_child}
 use Rattle.am_mount.specs.Buckets.{bucket, is_in_bucket}
 
+-- the mounts of a list that was looked up, none where there is no list
 abbrev pub listed_in : {Z : Type 0} → Option (Vec ℕ Z) → List ℕ
 listed_in None = []
 listed_in (Some list) = list.items
@@ -19,6 +20,7 @@ listed_in (Some list) = list.items
 abbrev pub listed : Index → ℕ → List ℕ
 listed index n = listed_in (get nat_eq index.lists n)
 
+-- there is a list, with room for one more mount
 abbrev pub RoomIn : {Z : Type 0} → Option (Vec ℕ Z) → Type 0
 RoomIn None = ⊥
 RoomIn (Some list) = vec_len list < vec_capacity list
@@ -49,6 +51,7 @@ pub record HaveSameLists (old new : Indexes) : Type 0 where
   pub by_parent : SameLists old.by_parent new.by_parent
   pub by_place : SameLists old.by_place new.by_place
 
+-- there is room for a mount that is mounted here, if it is mounted anywhere
 abbrev pub RoomAt : Option Position → Indexes → Type 0
 RoomAt None t = Unit {0}
 RoomAt (Some position) t =

@@ -1,4 +1,5 @@
--- The rows of all mounts (Linux: the mounts of all namespaces), and which of them are where.
+-- The rows of all mounts (Linux: the mounts of all namespaces), and which of them are where. The top
+-- at a place is the most recently mounted (sharedsubtree.rst, 5f).
 use Rattle.std.specs.Prelude.{◌≡◌, ◌≤◌, ◌==◌, ◌&&◌, ◌+◌, ℕ, Bool, false, is_none, List, [], ◌∷◌, map, filter, find, Option, Some, None}
 use Rattle.std.specs.Option.{option_map}
 use Rattle.std.specs.List.{list_any}
@@ -37,6 +38,7 @@ mounts_where test rows = map (λ row. row.mount) (filter test rows)
 abbrev pub is_in : ℕ → MountRow → Bool
 is_in ns row = row.ns == ns
 
+-- there is a position, and it is on this mount
 abbrev pub is_position_on : ℕ → Option Position → Bool
 is_position_on m None = false
 is_position_on m (Some position) = position.mount == m
@@ -45,6 +47,7 @@ is_position_on m (Some position) = position.mount == m
 abbrev pub is_child : ℕ → MountRow → Bool
 is_child m row = is_position_on m row.mountpoint
 
+-- there is a position, and it is this place of this mount
 abbrev pub is_position : ℕ → List (List ℕ) → Option Position → Bool
 is_position m place None = false
 is_position m place (Some position) = (position.mount == m) && pointwise bytes_eq position.place place
@@ -53,6 +56,7 @@ is_position m place (Some position) = (position.mount == m) && pointwise bytes_e
 abbrev pub is_at : ℕ → List (List ℕ) → MountRow → Bool
 is_at m place row = is_position m place row.mountpoint
 
+-- the last of these, else this one
 abbrev pub last_from : ℕ → List ℕ → ℕ
 last_from n [] = n
 last_from n (other ∷ others) = last_from other others
@@ -70,10 +74,11 @@ top_of rows m place = last_of (mounts_where (is_at m place) rows)
 abbrev pub HasRow : (MountRow → Type 0) → List MountRow → ℕ → Type 0
 HasRow P rows m = (row : MountRow) × (mount_row rows m ≡ Some row) × P row
 
--- the root mount of a namespace: the one that is mounted nowhere
+-- the mount is of the namespace, and is mounted nowhere, as its root mount is
 abbrev pub is_root : ℕ → MountRow → Bool
 is_root ns row = row.ns == ns && is_none row.mountpoint
 
+-- the root mount of the namespace, if it is there
 abbrev pub root_of : List MountRow → ℕ → Option ℕ
 root_of rows ns = option_map (λ row. row.mount) (find (λ row. is_root ns row) rows)
 

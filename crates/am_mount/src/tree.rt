@@ -92,7 +92,8 @@ fn stands_at(rows: &[MountRow], parent: MountId, place: &[u8], mount: MountId) -
 fn last_at(rows: &[MountRow], parent: MountId, place: &[u8], mounts: &[MountId]) -> Option<MountId>
     requires rising { IsRising rows.now }
     requires canonical { IsCanonical place.now }
-    ensures { result ≡ last_of (filter (λ m. stands_at rows.now parent (names_of place.now) m) mounts.now) }
+    ensures { result ≡
+        last_of (filter (λ m. stands_at rows.now parent (names_of place.now) m) mounts.now) }
 {
     let mut left = mounts.len();
     while left > 0 {
@@ -276,7 +277,8 @@ impl Tree {
     /// The mounts that are mounted on this one, at any place.
     pub fn children(&self, alloc: Global, mount: MountId) -> Result<Vec<MountId>, AllocError>
         ensures exact { IfOk result (λ v. v.items ≡ mounts_where (is_child mount) self.now) }
-        ensures every { IfOk result (λ v. (m : ℕ) → Contains v.items m ↔ HasRow (IsOn mount) self.now m) }
+        ensures every { IfOk result (λ v. (m : ℕ) →
+            Contains v.items m ↔ HasRow (IsOn mount) self.now m) }
         ensures rising { IfOk result (λ v. IsStrictlyIncreasing v.items) }
     {
         Vec::from_slice(alloc, self.indexes.by_parent.list(mount.0))
@@ -285,7 +287,8 @@ impl Tree {
     /// The mounts of the namespace.
     pub fn mounts_of(&self, alloc: Global, ns: NsId) -> Result<Vec<MountId>, AllocError>
         ensures exact { IfOk result (λ v. v.items ≡ mounts_where (is_in ns) self.now) }
-        ensures every { IfOk result (λ v. (m : ℕ) → Contains v.items m ↔ HasRow (IsIn ns) self.now m) }
+        ensures every { IfOk result (λ v. (m : ℕ) →
+            Contains v.items m ↔ HasRow (IsIn ns) self.now m) }
         ensures rising { IfOk result (λ v. IsStrictlyIncreasing v.items) }
     {
         Vec::from_slice(alloc, self.indexes.by_ns.list(ns.0 as u64))

@@ -5,6 +5,7 @@ use Rattle.std.specs.Option.{option_or}
 use Rattle.std.proofs.lemmas.List.{length-map}
 use Rattle.std.proofs.lemmas.List.Folds.{find-append}
 use Rattle.std.proofs.lemmas.Bool.{eqb-true, eq-eqb, or_cases}
+use Rattle.am_names.proofs.Basics.{or_left, or_right, and_false, some_injective}
 use Rattle.am_names.specs.declared.row.MountRow.{MountRow}
 use Rattle.am_names.specs.declared.row.MemberRow.{MemberRow}
 use Rattle.am_names.specs.declared.row.GroupRow.{GroupRow}
@@ -21,7 +22,7 @@ use Rattle.am_group.specs.Scan.{numbers}
 use Rattle.am_group.specs.Invariant.{IsMaster, HasMembers, IsSound, AddsNoReceivers}
 use Rattle.am_group.proofs.ReceiveLemmas.{home_where, under_from_way}
 use Rattle.am_group.proofs.ReceiverLemmas.{receives_test, receives_found}
-use Rattle.am_group.proofs.ScanLemmas.{has, or_left, or_right, has-filter, has-from_filter}
+use Rattle.am_group.proofs.ScanLemmas.{has, has-filter, has-from_filter}
 use Rattle.am_group.proofs.JoinLemmas.{with_group_keeps, joined_keeps}
 use Rattle.am_group.proofs.CopyLemmas.{copied_keeps}
 use Rattle.am_group.proofs.AddLemmas.{added_law}
@@ -33,9 +34,6 @@ use Rattle.am_propagate.specs.Added.{ns_in, row_at, rows_at, membership_where, m
 use Rattle.am_propagate.proofs.RemovalLemmas.{some_of, same_there}
 use Rattle.am_propagate.proofs.GrowthLemmas.{IsKin, ComesWell, grown_whole}
 use Rattle.am_propagate.proofs.StandLemmas.{same_receivers, fresh_there, copied_at_once}
-
-some_same : {a b : ℕ} → Some a ≡ Some b → a ≡ b
-some_same e = cc
 
 -- what the membership of a mount says
 in_group_where : (o m : Option ℕ) (u : Bool) (g : ℕ) → membership_where o m u ≡ InGroup g → o ≡ Some g
@@ -90,11 +88,6 @@ module _ (t : MountTable) (place : List (List ℕ)) (fs origin : ℕ) where
   same_numbers : (stand : ℕ → ℕ) (s : PeerGroups) (number : ℕ) (receivers : List ℕ) → map (λ row. row.mount) (rows_at t place fs origin number receivers) ≡ numbers (copies_from stand s number receivers)
   same_numbers stand s number [] = refl
   same_numbers stand s number (r ∷ receivers) = rw (copy_mount stand number (group_of s r) (slave_in (member_row s.members r))) (ap (λ (xs : List ℕ). number ∷ xs) (same_numbers stand s (number + 1) receivers))
-
--- nobody receives from a mount that isn't shared
-and_false : (a : Bool) → (a && false) ≡ false
-and_false true = refl
-and_false false = refl
 
 receives_none : (s : PeerGroups) (b c : ℕ) → group_of s b ≡ None → receives s b c ≡ false
 receives_none s b c e = ap (λ (o : Option ℕ). not (c == b) && is_under s o c) e ∙ and_false (not (c == b))
@@ -205,10 +198,10 @@ module _ (t : MountTable) (whole : IsWhole t) (at : Position) (fs : ℕ) (member
 
   mapped : (stand : ℕ → ℕ) → ((g : ℕ) → IsKin t fs fs (stand g)) → (o : Option ℕ) (h : ℕ) → option_map stand o ≡ Some h → IsKin t fs fs h
   mapped stand kin None h e = absurd cc
-  mapped stand kin (Some g) h e = subst (λ (x : ℕ). IsKin t fs fs x) (some_same e) (kin g)
+  mapped stand kin (Some g) h e = subst (λ (x : ℕ). IsKin t fs fs x) (some_injective e) (kin g)
 
   copy_kin : (stand : ℕ → ℕ) → ((g : ℕ) → IsKin t fs fs (stand g)) → (n : ℕ) (group master : Option ℕ) (h : ℕ) → home_where (copy_row stand n group master).group (copy_row stand n group master).master ≡ Some h → IsKin t fs fs h
-  copy_kin stand kin n (Some g) master h e = subst (λ (x : ℕ). IsKin t fs fs x) (some_same e) (kin g)
+  copy_kin stand kin n (Some g) master h e = subst (λ (x : ℕ). IsKin t fs fs x) (some_injective e) (kin g)
   copy_kin stand kin n None master h e = mapped stand kin master h e
 
   copies_kin : (stand : ℕ → ℕ) → ((g : ℕ) → IsKin t fs fs (stand g)) → (n : ℕ) (rs : List ℕ) (m : ℕ) (r : MemberRow) → member_row (copies_from stand t.groups n rs) m ≡ Some r → (h : ℕ) → home_where r.group r.master ≡ Some h → IsKin t fs fs h
@@ -229,14 +222,14 @@ module _ (t : MountTable) (whole : IsWhole t) (at : Position) (fs : ℕ) (member
       go false e = inr e
 
   alone_kin : (k : Membership) → membership ≡ k → (m h : ℕ) → home_where (row_with k m).group (row_with k m).master ≡ Some h → IsKin t fs fs h
-  alone_kin (InGroup g) e m h home = group_kin h (e ∙ ap InGroup (some_same home))
-  alone_kin (SlaveOf g) e m h home = master_kin h (e ∙ ap SlaveOf (some_same home))
+  alone_kin (InGroup g) e m h home = group_kin h (e ∙ ap InGroup (some_injective home))
+  alone_kin (SlaveOf g) e m h home = master_kin h (e ∙ ap SlaveOf (some_injective home))
   alone_kin Private e m h home = absurd cc
   alone_kin Unbindable e m h home = absurd cc
 
   member_kin : (own : Option ℕ) (rs : List ℕ) (n m : ℕ) (r : MemberRow) → member_row (new_members membership own rs n t.groups) m ≡ Some r → (h : ℕ) → home_where r.group r.master ≡ Some h → IsKin t fs fs h
   member_kin (Some o) rs n m r e h home = ⊎_elim
-      (λ first. subst (λ (x : ℕ). IsKin t fs fs x) (some_same (subst (λ (y : MemberRow). home_where y.group y.master ≡ Some h) first home)) new_kin)
+      (λ first. subst (λ (x : ℕ). IsKin t fs fs x) (some_injective (subst (λ (y : MemberRow). home_where y.group y.master ≡ Some h) first home)) new_kin)
       (λ later. copies_kin (stands membership o rs t.groups) (stand_kin o rs) (n + 1) rs m r later h home)
       (one_found (row_with (InGroup (new_group membership t.groups.last_group)) n) r _ m e)
   member_kin None rs n m r e h home = ⊎_elim
@@ -250,7 +243,7 @@ module _ (t : MountTable) (whole : IsWhole t) (at : Position) (fs : ℕ) (member
   fresh_found (SlaveOf g) e f h r found n up = go (f == h) found
     where
       go : (b : Bool) → cond b (Some (record { group = f; master = Some g })) None ≡ Some r → IsKin t fs fs n
-      go true found = let same : Some g ≡ Some n = cc in master_kin n (e ∙ ap SlaveOf (some_same same))
+      go true found = let same : Some g ≡ Some n = cc in master_kin n (e ∙ ap SlaveOf (some_injective same))
       go false found = absurd cc
   fresh_found Private e f h r found n up = go (f == h) found
     where
@@ -290,14 +283,14 @@ module _ (t : MountTable) (whole : IsWhole t) (at : Position) (fs : ℕ) (member
   number_row Unbindable n = refl
 
   row_names : (k : Membership) → membership ≡ k → (n g : ℕ) → (row_with k n).group ≡ Some g → HasMembers t.groups g
-  row_names (InGroup h) e n g at = let a = in_group g (e ∙ ap InGroup (some_same at)) in (a.0, a.4)
+  row_names (InGroup h) e n g at = let a = in_group g (e ∙ ap InGroup (some_injective at)) in (a.0, a.4)
   row_names (SlaveOf h) e n g at = absurd cc
   row_names Private e n g at = absurd cc
   row_names Unbindable e n g at = absurd cc
 
   row_masters : (k : Membership) → membership ≡ k → (n g : ℕ) → (row_with k n).master ≡ Some g → HasMembers t.groups g ⊎ IsMaster t.groups g
   row_masters (InGroup h) e n g at = absurd cc
-  row_masters (SlaveOf h) e n g at = let a = in_master g (e ∙ ap SlaveOf (some_same at)) in inr (inl (a.0, a.5))
+  row_masters (SlaveOf h) e n g at = let a = in_master g (e ∙ ap SlaveOf (some_injective at)) in inr (inl (a.0, a.5))
   row_masters Private e n g at = absurd cc
   row_masters Unbindable e n g at = absurd cc
 
@@ -348,7 +341,7 @@ module _ (t : MountTable) (whole : IsWhole t) (at : Position) (fs : ℕ) (member
       IsSound (all_added (new_members k own (receivers_of t.groups at.mount) (t.last_mount + 1) t.groups) (new_groups k own (receivers_of t.groups at.mount) t.groups) t.groups)
   new_sound None e k is = subst (λ (x : Membership). IsSound (all_added (row_with x (t.last_mount + 1) ∷ []) [] t.groups)) is alone_sound
   new_sound (Some own) e (InGroup g) is = shared_sound own g e is
-  new_sound (Some own) e (SlaveOf m) is = fresh_sound own e (Some m) (λ g same. let a = in_master g (is ∙ ap SlaveOf (some_same same)) in whole.sound.peopled g (inl (a.0, a.5)))
+  new_sound (Some own) e (SlaveOf m) is = fresh_sound own e (Some m) (λ g same. let a = in_master g (is ∙ ap SlaveOf (some_injective same)) in whole.sound.peopled g (inl (a.0, a.5)))
   new_sound (Some own) e Private is = fresh_sound own e None no_master
   new_sound (Some own) e Unbindable is = fresh_sound own e None no_master
 

@@ -6,6 +6,7 @@ use Rattle.std.proofs.lemmas.List.{append-nil}
 use Rattle.std.proofs.lemmas.List.Folds.{find-append}
 use Rattle.std.proofs.lemmas.Bool.{eqb-true, eq-eqb, ne_eqb, and_parts, or_cases, ltb-true, ltb-false}
 use Rattle.std.proofs.lemmas.Bool.Decides.{nat_tests}
+use Rattle.am_names.proofs.Basics.{or_left, or_right, some_injective}
 use Rattle.am_names.specs.declared.row.MemberRow.{MemberRow}
 use Rattle.am_names.specs.declared.row.GroupRow.{GroupRow}
 use Rattle.am_names.specs.declared.row.Position.{Position}
@@ -20,7 +21,7 @@ use Rattle.am_group.specs.Members.{row_with}
 use Rattle.am_group.specs.Receivers.{receivers_of}
 use Rattle.am_group.proofs.ReceiveLemmas.{home_where, under_from_way}
 use Rattle.am_group.proofs.UnderLemmas.{receivers_rise}
-use Rattle.am_group.proofs.ScanLemmas.{has, any_has, has-from_filter, or_left, or_right, just_same}
+use Rattle.am_group.proofs.ScanLemmas.{has, any_has, has-from_filter, just_same}
 use Rattle.am_group.proofs.CopyLemmas.{stands_of_receiver, stands_of_slave, stands_above}
 use Rattle.am_mount.specs.Rows.{IsOn}
 use Rattle.am_mount.proofs.RowLemmas.{RiseOn}
@@ -36,9 +37,6 @@ use Rattle.am_propagate.proofs.SearchLemmas.{rise_all}
 use Rattle.am_propagate.proofs.AdditionLemmas.{receiver_exact, in_group}
 use Rattle.am_propagate.proofs.NewMountLemmas.{takes_second, none_above, one_each, each_there}
 use Rattle.am_propagate.proofs.ReceiverCopyLemmas.{copy_number_is}
-
-some_same : {a b : ℕ} → Some a ≡ Some b → a ≡ b
-some_same e = cc
 
 -- where more passes one test than another, there is more of it
 module _ (p q : ℕ → Bool) (wider : (x : ℕ) → p x ≡ true → q x ≡ true) where
@@ -250,7 +248,7 @@ module _
         let other : not (g == own) ≡ true = both.0 in (
           (r.0, (exact r.0).0 r.1, just_same g (group_of s r.0) r.2),
           λ e.
-              let bad : not true ≡ true = rw (eq-eqb g own (some_same (sym e ∙ in_own))) at other in
+              let bad : not true ≡ true = rw (eq-eqb g own (some_injective (sym e ∙ in_own))) at other in
               absurd cc,
         )
 
@@ -263,7 +261,7 @@ module _
         r.0 g ((exact r.0).1 r.1) r.2
 
     listed : (g : ℕ) → IsConcerned s b g → is_listed g
-    listed g (inl e) = inl (some_same (sym e ∙ in_own))
+    listed g (inl e) = inl (some_injective (sym e ∙ in_own))
     listed g (inr r) = listed_receiving g r
 
     concerned_by : (g : ℕ) → is_listed g → IsConcerned s b g

@@ -5,6 +5,7 @@ use Rattle.std.proofs.lemmas.List.{length-map}
 use Rattle.std.proofs.lemmas.List.Folds.{find-append}
 use Rattle.std.proofs.lemmas.Bool.{eqb-true, eq-eqb, ne_eqb, or_cases, cases_eq, ltb-true, ltb-false}
 use Rattle.std.proofs.lemmas.Bool.Decides.{nat_tests}
+use Rattle.am_names.proofs.Basics.{or_left, or_right, same_test}
 use Rattle.am_names.specs.declared.row.MountRow.{MountRow}
 use Rattle.am_names.specs.declared.row.MemberRow.{MemberRow}
 use Rattle.am_names.specs.declared.row.GroupRow.{GroupRow}
@@ -15,7 +16,7 @@ use Rattle.am_group.specs.Copies.{added, all_added}
 use Rattle.am_group.specs.Scan.{numbers}
 use Rattle.am_group.specs.Invariant.{RiseFrom, IsSound, AddsNoReceivers}
 use Rattle.am_group.proofs.ReceiveLemmas.{home_where}
-use Rattle.am_group.proofs.ScanLemmas.{has, or_left, or_right}
+use Rattle.am_group.proofs.ScanLemmas.{has}
 use Rattle.am_group.proofs.ReceiverLemmas.{has_from_Contains, Contains_from_has}
 use Rattle.am_group.proofs.AddLemmas.{added_law}
 use Rattle.am_group.proofs.LookupLemmas.{found_passes}
@@ -186,12 +187,6 @@ map_keys : {R : Type 0} (key : R → ℕ) (f : R → R) (number : ℕ → ℕ) �
 map_keys key f number named [] = refl
 map_keys key f number named (x ∷ xs) = rw (named x) (ap (λ (ys : List ℕ). number (key x) ∷ ys) (map_keys key f number named xs))
 
-same_bool : (a b : Bool) → (a ≡ true → b ≡ true) → (b ≡ true → a ≡ true) → a ≡ b
-same_bool true true f g = refl
-same_bool false false f g = refl
-same_bool true false f g = absurd (let no : false ≡ true = f refl in cc)
-same_bool false true f g = absurd (let no : false ≡ true = g refl in cc)
-
 row_same : {x y : MountRow} → Some x ≡ Some y → x ≡ y
 row_same e = cc
 
@@ -239,7 +234,7 @@ module _ (t : MountTable) (whole : IsWhole t) (ns : ℕ) (form : CopyForm) where
   members = map (member_in form (copy_number t.last_mount (mounts_in t ns))) (filter (λ row. is_among (mounts_in t ns) row.mount) t.groups.members)
 
   among_is : (x : MountRow) → mount_row t.rows x.mount ≡ Some x → is_among (mounts_in t ns) x.mount ≡ is_in ns x
-  among_is x e = same_bool (is_among (mounts_in t ns) x.mount) (is_in ns x)
+  among_is x e = same_test (is_among (mounts_in t ns) x.mount) (is_in ns x)
       (λ h.
       let inside = (in_every ns t.rows whole.rising x.mount).0 (Contains_from_has x.mount (mounts_in t ns) (among_has x.mount (mounts_in t ns) ∙ h)) in
       eq-eqb x.ns ns (ap (λ (y : MountRow). y.ns) (row_same (sym e ∙ inside.1)) ∙ inside.2))

@@ -5,11 +5,12 @@ use Rattle.std.specs.Option.{option_or}
 use Rattle.std.proofs.lemmas.List.Folds.{find-append}
 use Rattle.std.proofs.lemmas.Bool.{eqb-true, eq-eqb, ne_eqb, or_cases}
 use Rattle.std.proofs.lemmas.Bool.Decides.{nat_tests}
+use Rattle.am_names.proofs.Basics.{or_left, or_right}
 use Rattle.am_names.specs.declared.row.MountRow.{MountRow}
 use Rattle.am_names.specs.declared.row.MemberRow.{MemberRow}
 use Rattle.am_names.specs.declared.row.GroupRow.{GroupRow}
 use Rattle.am_group.specs.Propagation.{member_row, group_row}
-use Rattle.am_group.proofs.ScanLemmas.{has, or_left, or_right}
+use Rattle.am_group.proofs.ScanLemmas.{has}
 use Rattle.am_mount.specs.Rows.{mount_row}
 use Rattle.am_mount.proofs.RowLemmas.{RiseOn}
 use Rattle.am_propagate.specs.MountTable.{MountTable, is_mount}

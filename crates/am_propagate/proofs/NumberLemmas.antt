@@ -3,6 +3,7 @@ use Rattle.std.proofs.Common.{◌≡◌, ◌≤◌, ◌<◌, ◌+◌, ◌⊎◌,
 use Rattle.std.specs.Prelude.{nat_lt, is_some, option_map, ◌==◌}
 use Rattle.std.proofs.lemmas.Bool.{eq-eqb}
 use Rattle.std.proofs.lemmas.Bool.Decides.{nat_tests}
+use Rattle.am_names.proofs.Basics.{or_left, or_right}
 use Rattle.am_names.specs.declared.row.MemberRow.{MemberRow}
 use Rattle.am_names.specs.declared.row.GroupRow.{GroupRow}
 use Rattle.am_names.specs.PeerGroups.{PeerGroups}
@@ -12,7 +13,7 @@ use Rattle.am_group.specs.Propagation.{member_row, slave_in, group_of, master_of
 use Rattle.am_group.specs.Copies.{receiving_groups, rank, copy_row, copies_from, group_copies}
 use Rattle.am_group.specs.Members.{row_with}
 use Rattle.am_group.specs.Receivers.{receivers_of}
-use Rattle.am_group.proofs.ScanLemmas.{has, or_left, or_right}
+use Rattle.am_group.proofs.ScanLemmas.{has}
 use Rattle.am_group.proofs.CopyLemmas.{rank_bound, stands_of_receiver, stands_of_slave, stands_above}
 use Rattle.am_mount.specs.Rows.{mount_row}
 use Rattle.am_propagate.specs.declared.subtree.stand_ins.StandIns.{StandIns}

@@ -5,6 +5,7 @@ use Rattle.std.specs.List.{list_any, Contains}
 use Rattle.std.proofs.lemmas.Bool.{eqb-true, eq-eqb, ne_eqb, or_cases, and_parts}
 use Rattle.std.proofs.lemmas.Map.Views.{Contains-from_any, list_any-from_Contains}
 use Rattle.std.proofs.lemmas.Cmp.{nat_eq_equiv}
+use Rattle.am_names.proofs.Basics.{false_unless_true}
 use Rattle.am_names.specs.declared.row.MountRow.{MountRow}
 use Rattle.am_names.specs.declared.row.MemberRow.{MemberRow}
 use Rattle.am_names.specs.declared.row.Position.{Position}
@@ -142,10 +143,6 @@ found_any m test (r ∷ rows) row e f = go (r.mount == m) e (found_any m test ro
 on_child : (p : ℕ) (row : MountRow) → IsOn p row → is_child p row ≡ true
 on_child p row on = ap (is_position_on p) on.1 ∙ eq-eqb p p refl
 
-not_true : (b : Bool) → (b ≡ true → ⊥) → b ≡ false
-not_true true f = absurd (f refl)
-not_true false f = refl
-
 goes_bare : (t : MountTable) (m : ℕ) (o : Option Position) (row : MountRow) → is_bare t m ≡ true → goes_with t m o row ≡ true → is_bare t row.mount ≡ true
 goes_bare t m None row bare e = subst (λ (x : ℕ). is_bare t x ≡ true) (sym (eqb-true row.mount m e)) bare
 goes_bare t m (Some position) row bare e = ⊎_elim
@@ -155,7 +152,7 @@ goes_bare t m (Some position) row bare e = ⊎_elim
 
 -- nothing is mounted on what an unmount removes
 pub unmounted_leaves : (t : MountTable) (m : ℕ) → is_bare t m ≡ true → LeavesParents (unmounted t m) t
-unmounted_leaves t m bare c p row e on stays = not_true (is_among (unmounted t m) p) (λ goes.
+unmounted_leaves t m bare c p row e on stays = false_unless_true (is_among (unmounted t m) p) (λ goes.
     let found = among_where (goes_with t m (mountpoint_of t m)) t.rows p goes in
     let free : is_bare t p ≡ true = subst (λ (x : ℕ). is_bare t x ≡ true) found.2 (goes_bare t m (mountpoint_of t m) found.0 bare found.1) in
     let child : list_any (is_child p) t.rows ≡ true = found_any c (is_child p) t.rows row e (on_child p row on) in
@@ -177,7 +174,7 @@ among_contains c xs h = Contains-from_any {eq = eqb} eqb-true c xs (among_has c 
 
 -- the parent of a mount of another namespace is of that one
 pub dropped_leaves : (t : MountTable) (ns : ℕ) → IsWhole t → LeavesParents (mounts_in t ns) t
-dropped_leaves t ns whole c p row e on stays = not_true (is_among (mounts_in t ns) p) (λ goes.
+dropped_leaves t ns whole c p row e on stays = false_unless_true (is_among (mounts_in t ns) p) (λ goes.
     let parent = whole.parents c p row e on in
     let inside : HasRow (IsIn ns) t.rows p = (in_every ns t.rows whole.rising p).0 (among_contains p (mounts_in t ns) goes) in
     let same : parent.0 ≡ inside.0 = some_same (sym parent.1 ∙ inside.1) in

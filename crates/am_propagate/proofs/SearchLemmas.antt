@@ -1,11 +1,13 @@
 -- What a search by halves tells of mounts that rise.
 use Rattle.std.proofs.Common.{◌≡◌, ◌≢◌, ◌≤◌, ◌<◌, ◌+◌, ℕ, zero, suc, Bool, true, false, ◌||◌, List, [], ◌∷◌, length, get_or, eqb, Ok, Err, refl, sym, ap, ◌∙◌, arith, add-one}
-use Rattle.std.specs.Prelude.{filter, nat_le}
+use Rattle.std.specs.Prelude.{filter, nat_le, nat_lt}
 use Rattle.std.specs.List.Sorted.{IsBinarySearchResult, IsNonDecreasingBy, IsStrictlyIncreasing}
 use Rattle.std.specs.Ordering.{nat_cmp, ordering_index}
 use Rattle.std.proofs.lemmas.Cmp.{ranked}
 use Rattle.std.proofs.lemmas.Bool.{eq-eqb, ne_eqb}
 use Rattle.std.proofs.lemmas.Bool.Decides.{nat_tests}
+use Rattle.am_names.proofs.Basics.{or_true}
+use Rattle.am_group.specs.Copies.{rank}
 use Rattle.am_mount.specs.Rows.{is_among}
 use Rattle.am_propagate.specs.Namespaces.{count_up_to}
 
@@ -50,10 +52,6 @@ pairs_rise low (n ∷ xs) rises zero (suc j) d less h =
 pairs_rise low (n ∷ xs) rises (suc i) (suc j) d less h =
     pairs_rise (n + 1) xs rises.1 i j d (omega arith) (omega arith)
 
-or_true : (b : Bool) → (b || true) ≡ true
-or_true true = refl
-or_true false = refl
-
 among_at : (xs : List ℕ) (i m : ℕ) → i < length xs → get_or xs i 0 ≡ m → is_among xs m ≡ true
 among_at [] i m h e = absurd (omega arith)
 among_at (x ∷ xs) zero m h e = rw (eq-eqb x m e) refl
@@ -66,19 +64,31 @@ among_none [] m others = refl
 among_none (x ∷ xs) m others =
     rw (ne_eqb x m (others 0 (omega arith))) (among_none xs m (λ i h. others (suc i) (omega arith)))
 
+-- as many pass as stand before the first that doesn't, where none behind it passes
 count_split :
-    (xs : List ℕ) (i m : ℕ) → i ≤ length xs → ((j : ℕ) → j < i → get_or xs j 0 ≤ m) →
-    ((j : ℕ) → i ≤ j → j < length xs → m < get_or xs j 0) → count_up_to m xs ≡ i
-count_split [] zero m h before after = refl
-count_split [] (suc i) m h before after = absurd (omega arith)
-count_split (x ∷ xs) zero m h before after =
-    let above : m < x = after 0 (omega arith) (omega arith) in
-    let test : nat_le x m ≡ false = grind (arith, nat_tests) in
-    rw test (count_split xs zero m (omega arith) (λ j less. absurd (omega arith)) (λ j le k. after (suc j) (omega arith) (omega arith)))
-count_split (x ∷ xs) (suc i) m h before after =
-    let up : x ≤ m = before 0 (omega arith) in
-    let test : nat_le x m ≡ true = grind (arith, nat_tests) in
-    rw test (ap suc (count_split xs i m (omega arith) (λ j less. before (suc j) (omega arith)) (λ j le k. after (suc j) (omega arith) (omega arith))))
+    (test : ℕ → Bool) (xs : List ℕ) (i : ℕ) → i ≤ length xs →
+    ((j : ℕ) → j < i → test (get_or xs j 0) ≡ true) →
+    ((j : ℕ) → i ≤ j → j < length xs → test (get_or xs j 0) ≡ false) → length (filter test xs) ≡ i
+count_split test [] zero h before after = refl
+count_split test [] (suc i) h before after = absurd (omega arith)
+count_split test (x ∷ xs) zero h before after =
+    rw (after 0 (omega arith) (omega arith))
+    (count_split test xs zero (omega arith) (λ j less. absurd (omega arith)) (λ j le k. after (suc j) (omega arith) (omega arith)))
+count_split test (x ∷ xs) (suc i) h before after =
+    rw (before 0 (omega arith))
+    (ap suc (count_split test xs i (omega arith) (λ j less. before (suc j) (omega arith)) (λ j le k. after (suc j) (omega arith) (omega arith))))
+
+up_to_low : (x m : ℕ) → x ≤ m → nat_le x m ≡ true
+up_to_low x m h = grind (arith, nat_tests)
+
+up_to_high : (x m : ℕ) → m < x → nat_le x m ≡ false
+up_to_high x m h = grind (arith, nat_tests)
+
+below_low : (x m : ℕ) → x < m → nat_lt x m ≡ true
+below_low x m h = grind (arith, nat_tests)
+
+below_high : (x m : ℕ) → m ≤ x → nat_lt x m ≡ false
+below_high x m h = grind (arith, nat_tests)
 
 module _ (xs : List ℕ) (steps : IsStrictlyIncreasing xs) (m : ℕ) where
   comparisons_rise : IsNonDecreasingBy (λ (x : ℕ). ordering_index (nat_cmp x m)) xs
@@ -102,31 +112,72 @@ module _ (xs : List ℕ) (steps : IsStrictlyIncreasing xs) (m : ℕ) where
   pub among_absent : (i : ℕ) → IsBinarySearchResult (λ (x : ℕ). nat_cmp x m) xs (Err i) → is_among xs m ≡ false
   among_absent i parted = among_none xs m (λ j h same. grind (arith, before i parted j h, after i parted j h))
 
+  rise : RiseOn 0 xs
+  rise = rise_all xs steps
+
+  -- those before the place of the number are lower, and those behind it higher
+  lower_before :
+      (i : ℕ) → i < length xs → get_or xs i 0 ≡ m → (j : ℕ) → j < i → get_or xs j 0 < m
+  lower_before i h own j lt =
+      let up : get_or xs j 0 < get_or xs i 0 = pairs_rise 0 xs rise j i 0 lt h in
+      omega arith
+
+  higher_behind :
+      (i : ℕ) → get_or xs i 0 ≡ m → (j : ℕ) → i < j → j < length xs → m < get_or xs j 0
+  higher_behind i own j lt k =
+      let up : get_or xs i 0 < get_or xs j 0 = pairs_rise 0 xs rise i j 0 lt k in
+      omega arith
+
   pub count_found :
       (i : ℕ) → i < length xs → IsBinarySearchResult (λ (x : ℕ). nat_cmp x m) xs (Ok i) → count_up_to m xs ≡ i + 1
-  count_found i h equal = count_split xs (i + 1) m (omega arith) low high
+  count_found i h equal = count_split (λ x. nat_le x m) xs (i + 1) (omega arith) low high
     where
-      rise : RiseOn 0 xs
-      rise = rise_all xs steps
+      own : get_or xs i 0 ≡ m
+      own = here i equal
 
-      low : (j : ℕ) → j < i + 1 → get_or xs j 0 ≤ m
+      low : (j : ℕ) → j < i + 1 → nat_le (get_or xs j 0) m ≡ true
       low j lt =
-          let own : get_or xs i 0 ≡ m = here i equal in
-          let up = pairs_rise 0 xs rise j i 0 in
-          grind (arith, up, λ (same : j ≡ i). ap (λ (k : ℕ). get_or xs k 0) same)
+          let less = lower_before i h own j in
+          up_to_low (get_or xs j 0) m (grind (arith, less, λ (same : j ≡ i). ap (λ (k : ℕ). get_or xs k 0) same))
 
-      high : (j : ℕ) → i + 1 ≤ j → j < length xs → m < get_or xs j 0
-      high j le k =
-          let own : get_or xs i 0 ≡ m = here i equal in
-          let up : get_or xs i 0 < get_or xs j 0 = pairs_rise 0 xs rise i j 0 (omega arith) k in
-          omega arith
+      high : (j : ℕ) → i + 1 ≤ j → j < length xs → nat_le (get_or xs j 0) m ≡ false
+      high j le k = up_to_high (get_or xs j 0) m (higher_behind i own j (omega arith) k)
 
   pub count_absent :
       (i : ℕ) → i ≤ length xs → IsBinarySearchResult (λ (x : ℕ). nat_cmp x m) xs (Err i) → count_up_to m xs ≡ i
-  count_absent i h parted = count_split xs i m h low high
+  count_absent i h parted = count_split (λ x. nat_le x m) xs i h low high
     where
-      low : (j : ℕ) → j < i → get_or xs j 0 ≤ m
-      low j lt = let less : get_or xs j 0 < m = before i parted j (omega arith) lt in omega arith
+      low : (j : ℕ) → j < i → nat_le (get_or xs j 0) m ≡ true
+      low j lt =
+          let less : get_or xs j 0 < m = before i parted j (omega arith) lt in
+          up_to_low (get_or xs j 0) m (omega arith)
 
-      high : (j : ℕ) → i ≤ j → j < length xs → m < get_or xs j 0
-      high j le k = after i parted j k le
+      high : (j : ℕ) → i ≤ j → j < length xs → nat_le (get_or xs j 0) m ≡ false
+      high j le k = up_to_high (get_or xs j 0) m (after i parted j k le)
+
+  pub rank_found :
+      (i : ℕ) → i < length xs → IsBinarySearchResult (λ (x : ℕ). nat_cmp x m) xs (Ok i) → rank m xs ≡ i
+  rank_found i h equal = count_split (λ x. nat_lt x m) xs i (omega arith) low high
+    where
+      own : get_or xs i 0 ≡ m
+      own = here i equal
+
+      low : (j : ℕ) → j < i → nat_lt (get_or xs j 0) m ≡ true
+      low j lt = below_low (get_or xs j 0) m (lower_before i h own j lt)
+
+      high : (j : ℕ) → i ≤ j → j < length xs → nat_lt (get_or xs j 0) m ≡ false
+      high j le k =
+          let more = higher_behind i own j in
+          below_high (get_or xs j 0) m (grind (arith, more, λ (same : i ≡ j). ap (λ (k : ℕ). get_or xs k 0) same))
+
+  pub rank_absent :
+      (i : ℕ) → i ≤ length xs → IsBinarySearchResult (λ (x : ℕ). nat_cmp x m) xs (Err i) → rank m xs ≡ i
+  rank_absent i h parted = count_split (λ x. nat_lt x m) xs i h low high
+    where
+      low : (j : ℕ) → j < i → nat_lt (get_or xs j 0) m ≡ true
+      low j lt = below_low (get_or xs j 0) m (before i parted j (omega arith) lt)
+
+      high : (j : ℕ) → i ≤ j → j < length xs → nat_lt (get_or xs j 0) m ≡ false
+      high j le k =
+          let more : m < get_or xs j 0 = after i parted j k le in
+          below_high (get_or xs j 0) m (omega arith)

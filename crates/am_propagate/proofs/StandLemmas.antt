@@ -6,6 +6,7 @@ use Rattle.std.proofs.lemmas.List.{append-nil, append_assoc, length-map, map-app
 use Rattle.std.proofs.lemmas.List.Elements.{filter-append}
 use Rattle.std.proofs.lemmas.List.Folds.{find-append}
 use Rattle.std.proofs.lemmas.Bool.{eqb-true, eq-eqb, ne_eqb}
+use Rattle.am_names.proofs.Basics.{or_left, or_right}
 use Rattle.am_names.specs.declared.row.MemberRow.{MemberRow}
 use Rattle.am_names.specs.declared.row.GroupRow.{GroupRow}
 use Rattle.am_names.specs.PeerGroups.{PeerGroups}
@@ -15,7 +16,7 @@ use Rattle.am_group.specs.Changes.{is_just, with_group}
 use Rattle.am_group.specs.Copies.{all_added, has_receiver, receiving_groups, stand_in, copy_row, copies_from, group_copies, copied}
 use Rattle.am_group.specs.Members.{row_with}
 use Rattle.am_group.specs.Invariant.{IsGroup, IsSound}
-use Rattle.am_group.proofs.ScanLemmas.{has, or_left, or_right, has-from_filter}
+use Rattle.am_group.proofs.ScanLemmas.{has, has-from_filter}
 
 -- with a fresh group all that was there is found as before
 module _ (s : PeerGroups) (sound : IsSound s) (master : Option ℕ) where

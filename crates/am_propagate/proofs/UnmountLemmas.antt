@@ -5,6 +5,7 @@ use Rattle.std.specs.List.{list_any, Contains, dedup, cons_option}
 use Rattle.std.specs.List.Sorted.{IsStrictlyIncreasing}
 use Rattle.std.proofs.lemmas.Bool.{eqb-true, eq-eqb, ne_eqb, or_cases, and_parts, and_from}
 use Rattle.std.proofs.lemmas.List.Kept.{Contains-dedup_nat, Contains-from_dedup}
+use Rattle.am_names.proofs.Basics.{or_right, same_test}
 use Rattle.am_names.specs.declared.row.MountRow.{MountRow}
 use Rattle.am_names.specs.declared.row.Position.{Position}
 use Rattle.am_group.specs.Changes.{is_just}
@@ -17,19 +18,9 @@ use Rattle.am_propagate.specs.Removed.{is_bare, is_top_at, if_bare, bare_top, go
 use Rattle.am_propagate.proofs.RemovalLemmas.{among_from, among_contains}
 use Rattle.am_propagate.proofs.SearchLemmas.{RiseOn, rise_all}
 
-or_right : (a b : Bool) → b ≡ true → (a || b) ≡ true
-or_right true b h = refl
-or_right false b h = h
-
--- one truth value where each makes the other true
-same_bool : (a b : Bool) → (a ≡ true → b ≡ true) → (b ≡ true → a ≡ true) → a ≡ b
-same_bool true b there back = sym (there refl)
-same_bool false true there back = back refl
-same_bool false false there back = refl
-
 -- `dedup` keeps the numbers
 pub dedup_among : (xs : List ℕ) (m : ℕ) → is_among (dedup eqb xs) m ≡ is_among xs m
-dedup_among xs m = same_bool _ _
+dedup_among xs m = same_test _ _
     (λ h. among_from m xs (Contains-from_dedup eqb xs m (among_contains m (dedup eqb xs) h)))
     (λ h. among_from m (dedup eqb xs) (Contains-dedup_nat xs m (among_contains m xs h)))
 
@@ -191,7 +182,7 @@ module _ (t : MountTable) (whole : IsWhole t) (m : ℕ) (position : Position) wh
   pub goes_is : mountpoint_of t m ≡ Some position → (c : ℕ) → is_among (mounts_where (goes_with t m (Some position)) t.rows) c ≡ is_among going c
   goes_is at c =
       let every = where_every (goes_with t m (Some position)) Goes (λ row. (λ e. e, λ e. e)) t.rows whole.rising c in
-      same_bool _ _
+      same_test _ _
       (λ h. goes_among c (every.0 (among_contains c (mounts_where (goes_with t m (Some position)) t.rows) h)))
       (λ h. among_from c (mounts_where (goes_with t m (Some position)) t.rows) (every.1 (among_goes at c h)))
 

@@ -16,11 +16,12 @@ use Rattle.am_group.specs.Receivers.{receivers_of}
 use Rattle.am_mount.specs.Rows.{mount_row}
 use Rattle.am_propagate.specs.MountTable.{MountTable, is_mount, lacks_mounts, lacks_groups}
 
--- the namespace and the file system of a row that was looked up
+-- the namespace of a row that was looked up
 abbrev pub ns_in : Option MountRow → ℕ
 ns_in None = 0
 ns_in (Some row) = row.ns
 
+-- the file system of a row that was looked up
 abbrev pub fs_in : Option MountRow → ℕ
 fs_in None = 0
 fs_in (Some row) = row.fs
@@ -52,6 +53,7 @@ abbrev pub membership_in : Option MemberRow → Membership
 membership_in None = Private
 membership_in (Some row) = membership_where row.group row.master row.unbindable
 
+-- how the mount with this number takes part in propagation
 abbrev pub membership_of : MountTable → ℕ → Membership
 membership_of t m = membership_in (member_row t.groups.members m)
 

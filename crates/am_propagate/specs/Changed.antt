@@ -1,4 +1,4 @@
--- A change of one mount's state.
+-- A change of one mount's state (sharedsubtree.rst, 5a).
 use Rattle.std.specs.Prelude.{ℕ}
 use Rattle.am_group.specs.declared.kind.Change.{Change}
 use Rattle.am_group.specs.Changes.{changed}

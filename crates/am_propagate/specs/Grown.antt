@@ -1,4 +1,4 @@
--- Rows that are added, all at once.
+-- Rows that are added, all at once: own choice.
 use Rattle.std.specs.Prelude.{◌+◌, ℕ, List, ◌++◌, length}
 use Rattle.am_names.specs.declared.row.MountRow.{MountRow}
 use Rattle.am_names.specs.declared.row.MemberRow.{MemberRow}

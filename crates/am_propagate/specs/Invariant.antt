@@ -1,4 +1,4 @@
--- What a mount table keeps.
+-- What a mount table keeps: own choice.
 use Rattle.std.specs.Prelude.{◌≡◌, ◌≤◌, ◌<◌, ℕ, List, map, Some}
 use Rattle.am_names.specs.declared.row.MountRow.{MountRow}
 use Rattle.am_group.specs.Propagation.{PropagatesTo}

@@ -1,4 +1,5 @@
--- The rows of peer groups, as they are made for a mount and its copies.
+-- The rows of peer groups, as they are made for a mount and its copies: own choice (docs/DECISIONS.md,
+-- "Copies in groups").
 use Rattle.std.specs.Prelude.{◌≡◌, ◌==◌, ◌+◌, ℕ, nat_lt, List, [], Option, Some, None, option_map, if◌then◌else◌}
 use Rattle.am_names.specs.declared.row.GroupRow.{GroupRow}
 use Rattle.am_names.specs.PeerGroups.{PeerGroups}
@@ -28,5 +29,6 @@ abbrev pub others_of : PeerGroups → List ℕ → Option ℕ → List ℕ
 others_of s receivers None = []
 others_of s receivers (Some own) = receiving_groups s receivers own
 
+-- the peer group that stands for this one, with the one that stands for its master
 abbrev pub group_copy : (ℕ → ℕ) → PeerGroups → ℕ → GroupRow
 group_copy stand s g = record { group = stand g; master = option_map stand (master_of_group s g) }

@@ -1,4 +1,5 @@
--- All mounts with their propagation, and the numbers that were given.
+-- All mounts with their propagation (sharedsubtree.rst, 5), and the numbers that were given. The
+-- initial namespace is own choice.
 use Rattle.std.specs.Prelude.{◌+◌, ℕ, Bool, nat_lt, List, [], ◌∷◌, map, Option, Some, None, is_some}
 use Rattle.am_names.specs.declared.row.MountRow.{MountRow}
 use Rattle.am_names.specs.declared.row.Position.{Position}
@@ -7,6 +8,7 @@ use Rattle.am_group.specs.declared.membership.Membership.TheVariants.{Private}
 use Rattle.am_group.specs.Members.{no_mounts, row_with, with_member}
 use Rattle.am_mount.specs.Rows.{mount_row}
 
+-- all mounts, and how they take part in propagation
 pub record MountTable : Type 0 where
   -- in rising order of their numbers
   pub rows : List MountRow
@@ -32,9 +34,11 @@ opening limit = record {
 abbrev pub all_mounts : MountTable → List ℕ
 all_mounts t = map (λ row. row.mount) t.rows
 
+-- there is such a mount
 abbrev pub is_mount : MountTable → ℕ → Bool
 is_mount t m = is_some (mount_row t.rows m)
 
+-- where the mount with this row is mounted
 abbrev pub mountpoint_in : Option MountRow → Option Position
 mountpoint_in None = None
 mountpoint_in (Some row) = row.mountpoint

@@ -22,6 +22,7 @@ count_up_to m mounts = length (filter (λ x. nat_le x m) mounts)
 abbrev pub copy_number : ℕ → List ℕ → ℕ → ℕ
 copy_number last mounts m = last + count_up_to m mounts
 
+-- the same place of the copy of the mount
 abbrev pub position_in : (ℕ → ℕ) → Position → Position
 position_in number position = record position { mount = number position.mount }
 

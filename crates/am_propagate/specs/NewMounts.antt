@@ -1,4 +1,4 @@
--- Mounts that come, while all others stay as they were.
+-- Mounts that come, while all others stay as they were (sharedsubtree.rst, 5b and 5e).
 use Rattle.std.specs.Prelude.{◌≡◌, ℕ, true, false, List, Some, None}
 use Rattle.am_names.specs.declared.row.MountRow.{MountRow}
 use Rattle.am_names.specs.declared.row.MemberRow.{MemberRow}

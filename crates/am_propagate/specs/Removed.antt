@@ -14,6 +14,7 @@ use Rattle.am_propagate.specs.MountTable.{MountTable, is_mount, mountpoint_of}
 abbrev pub is_bare : MountTable → ℕ → Bool
 is_bare t m = not (list_any (is_child m) t.rows)
 
+-- the mount is mounted on one of these mounts, and is the top at this place of it
 abbrev pub is_top_at : MountTable → List ℕ → List (List ℕ) → ℕ → Option Position → Bool
 is_top_at t mounts place m None = false
 is_top_at t mounts place m (Some position) =
@@ -23,6 +24,7 @@ is_top_at t mounts place m (Some position) =
 abbrev pub is_top_on : MountTable → List ℕ → List (List ℕ) → MountRow → Bool
 is_top_on t mounts place row = is_top_at t mounts place row.mount row.mountpoint
 
+-- the mount, where nothing is mounted on it
 abbrev pub if_bare : MountTable → Option ℕ → Option ℕ
 if_bare t None = None
 if_bare t (Some m) = if is_bare t m then Some m else None

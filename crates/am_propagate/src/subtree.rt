@@ -140,9 +140,12 @@ impl Subtree {
         last_ns: NsId,
     ) -> Result<(), AllocError>
         requires mounts { self.old.last_mount + length rows.items < 2 ^ 64 }
-        requires groups { 0 < length joining.groups.items → self.old.groups.last_group + length joining.groups.items < 2 ^ 64 }
-        requires whole { IsWhole (grown rows.items joining.members.items joining.groups.items last_ns self.old) }
-        ensures ok { OnOk result (self.new ≡ grown rows.items joining.members.items joining.groups.items last_ns self.old) }
+        requires groups { 0 < length joining.groups.items →
+            self.old.groups.last_group + length joining.groups.items < 2 ^ 64 }
+        requires whole { IsWhole
+            (grown rows.items joining.members.items joining.groups.items last_ns self.old) }
+        ensures ok { OnOk result (self.new ≡
+            grown rows.items joining.members.items joining.groups.items last_ns self.old) }
         ensures err { OnErr result (self.new ≡ self.old) }
     {
         // The numbers of groups have 64 bits, also where none is added.

@@ -1,6 +1,6 @@
 //! The changes of a mount's state, and mounts that leave.
 
-ghost use Rattle.std.specs.Prelude.{◌≡◌, ◌==◌, true, not, map, filter, None, IfOk, OnOk, OnErr};
+ghost use Rattle.std.specs.Prelude.{◌≡◌, ◌==◌, true, false, not, map, filter, None, IfOk, OnOk, OnErr};
 ghost use Rattle.std.specs.Bool.{OnTrue};
 ghost use Rattle.std.specs.List.{list_all, list_any};
 ghost use Rattle.std.specs.List.Sorted.{IsNonDecreasing};
@@ -9,7 +9,7 @@ ghost use Rattle.am_group.specs.Changes.{left, at_row, with_row, made_shared, ma
 ghost use Rattle.am_group.specs.Invariant.{RiseFrom, IsOrderly, IsPeopled, AddsNoReceivers};
 ghost use Rattle.am_group.specs.Kinds.{FollowsTable};
 ghost use Rattle.am_group.specs.Members.{change_refusal};
-ghost use Rattle.am_group.specs.Tables.{state_of, AreLiveAmong, AreLost, is_free_member, is_free_of, is_other_in, has_others, row_of, gives_up};
+ghost use Rattle.am_group.specs.Tables.{state_of, AreLiveAmong, AreLost, is_free_member, is_free_of, is_other_in, is_not_alone, row_of, gives_up};
 
 use crate::groups::Groups;
 use crate::kind::{Change, asked, row_as};
@@ -25,11 +25,32 @@ fn is_among(mount: MountId, mounts: &[MountId]) -> bool
     mounts.iter().copied().any(|other| other == mount)
 }
 
+/// Whether the mount is lower or higher than all of these, which stand in order of number. Most
+/// are, where new ones go.
+fn is_beyond(mounts: &[MountId], mount: MountId) -> bool
+    requires { IsNonDecreasing mounts.now }
+    ensures { OnTrue result (is_among mounts.now mount ≡ false) }
+{
+    let Some(first) = mounts.first() else {
+        return true;
+    };
+    let Some(last) = mounts.last() else {
+        return true;
+    };
+    if mount < *first {
+        return true;
+    }
+    *last < mount
+}
+
 /// Whether the mount is one of these, which stand in order of number.
 fn is_found(mount: MountId, mounts: &[MountId]) -> bool
     requires { IsNonDecreasing mounts.now }
     ensures { result ≡ is_among mounts.now mount }
 {
+    if is_beyond(mounts, mount) {
+        return false;
+    }
     let number = mount.0;
     mounts
         .binary_search_by_key(&number, |other| other.0)
@@ -56,7 +77,8 @@ fn leave_one_out(members: &mut Vec<MemberRow>, mount: MountId)
 /// Leaves out the rows of these mounts, one after another.
 fn leave_each_out(members: &mut Vec<MemberRow>, gone: &[MountId])
     requires { RiseFrom 0 members.old.items }
-    ensures { members.new.items ≡ filter (λ row. not (is_among gone.now row.mount)) members.old.items }
+    ensures { members.new.items ≡
+        filter (λ row. not (is_among gone.now row.mount)) members.old.items }
 {
     for mount in gone {
         leave_one_out(members, *mount);
@@ -94,7 +116,8 @@ const FEW: usize = 4;
 /// Leaves out the rows of these mounts. In mounts that stand in order it looks by halves.
 fn leave_out(members: &mut Vec<MemberRow>, gone: &[MountId])
     requires { RiseFrom 0 members.old.items }
-    ensures { members.new.items ≡ filter (λ row. not (is_among gone.now row.mount)) members.old.items }
+    ensures { members.new.items ≡
+        filter (λ row. not (is_among gone.now row.mount)) members.old.items }
 {
     if gone.len() <= FEW {
         leave_each_out(members, gone);
@@ -144,7 +167,8 @@ fn groups_beside(
     gone: &[MountId],
 ) -> Result<Vec<GroupId>, AllocError>
     requires { IsNonDecreasing groups.now }
-    ensures { IfOk result (λ v. AreLiveAmong groups.now (filter (λ row. not (is_among gone.now row.mount)) members.now) v.items) }
+    ensures { IfOk result (λ v. AreLiveAmong groups.now
+        (filter (λ row. not (is_among gone.now row.mount)) members.now) v.items) }
 {
     let ordered = are_ordered(gone);
     let mut beside = Vec::new(alloc);
@@ -159,7 +183,7 @@ fn groups_beside(
 }
 
 /// The same, in order of number.
-fn still_live(
+pub fn still_live(
     alloc: Global,
     groups: &[GroupId],
     members: &[MemberRow],
@@ -167,7 +191,8 @@ fn still_live(
 ) -> Result<Vec<GroupId>, AllocError>
     requires { IsNonDecreasing groups.now }
     ensures ordered { IfOk result (λ v. IsNonDecreasing v.items) }
-    ensures exact { IfOk result (λ v. AreLiveAmong groups.now (filter (λ row. not (is_among gone.now row.mount)) members.now) v.items) }
+    ensures exact { IfOk result (λ v. AreLiveAmong groups.now
+        (filter (λ row. not (is_among gone.now row.mount)) members.now) v.items) }
 {
     let mut live = groups_beside(alloc, groups, members, gone)?;
     live.sort_unstable_by_key(|group| group.0);
@@ -177,7 +202,8 @@ fn still_live(
 /// These peer groups go.
 fn drop_groups(groups: &mut Vec<GroupRow>, lost: &[GroupId])
     requires { IsNonDecreasing lost.now }
-    ensures { groups.new.items ≡ filter (λ row. not (is_among lost.now row.group)) groups.old.items }
+    ensures { groups.new.items ≡
+        filter (λ row. not (is_among lost.now row.group)) groups.old.items }
 {
     if !lost.is_empty() {
         groups.retain(|row| !is_live(lost, row.group));
@@ -192,9 +218,9 @@ impl Groups {
         row_as(asked(change, kind), fresh, row)
     }
 
-    /// Whether there are others in the row's peer group, if it is in one.
-    fn has_others(&self, row: &MemberRow) -> bool
-        ensures { result ≡ has_others self.now row.now }
+    /// Whether the mount of the row is in no peer group, or in one with others.
+    fn is_not_alone(&self, row: &MemberRow) -> bool
+        ensures { result ≡ is_not_alone self.now row.now }
     {
         match row.group {
             Some(group) => has_other_in(self.members.as_slice(), row.mount, group),
@@ -249,7 +275,8 @@ impl Groups {
     fn give_up(&mut self, alloc: Global, change: Change, mount: MountId) -> Result<(), Errno>
         requires { gives_up change ≡ true }
         ensures refusal { RefusedAs (change_refusal change mount self.old) result }
-        ensures ok { OnOk result (self.new ≡ left self.old (with_row (row_of change 0) mount self.old)) }
+        ensures ok { OnOk result (self.new ≡
+            left self.old (with_row (row_of change 0) mount self.old)) }
         ensures err { OnErr result (self.new ≡ self.old) }
         ensures law { IsPeopled self.old → AddsNoReceivers self.old self.new }
         ensures peopled { IsPeopled self.old → IsPeopled self.new }
@@ -257,7 +284,7 @@ impl Groups {
         let Some(row) = self.member(mount) else {
             return Err(Errno::EINVAL);
         };
-        if self.has_others(&row) {
+        if self.is_not_alone(&row) {
             let changed = self.changed_row(change, GroupId(0), row);
             write_row(&mut self.members, mount, changed);
             return Ok(());
@@ -352,7 +379,8 @@ impl Groups {
     /// The peer groups that lose their last member where these mounts go.
     fn lost(&self, alloc: Global, gone: &[MountId]) -> Result<Vec<GroupId>, AllocError>
         ensures ordered { IfOk result (λ v. IsNonDecreasing v.items) }
-        ensures exact { IfOk result (λ v. AreLost self.now.members (filter (λ row. not (is_among gone.now row.mount)) self.now.members) v.items) }
+        ensures exact { IfOk result (λ v. AreLost self.now.members
+            (filter (λ row. not (is_among gone.now row.mount)) self.now.members) v.items) }
     {
         let _members = &self.members;
         let left = self.groups_in_order(alloc, gone)?;
@@ -368,7 +396,8 @@ impl Groups {
     /// master.
     fn is_free_of(&self, gone: &[MountId], lost: &[GroupId]) -> bool
         requires { IsNonDecreasing lost.now }
-        ensures { OnTrue result (is_free_of lost.now (with_only (λ m. not (is_among gone.now m)) self.now) ≡ true) }
+        ensures { OnTrue result
+            (is_free_of lost.now (with_only (λ m. not (is_among gone.now m)) self.now) ≡ true) }
     {
         let _members = &self.members;
         lost.is_empty()
@@ -398,7 +427,8 @@ impl Groups {
     }
 
     fn with_only(&self, alloc: Global, gone: &[MountId]) -> Result<Tables, AllocError>
-        ensures { IfOk result (λ t. state_of t ≡ with_only (λ m. not (is_among gone.now m)) self.now) }
+        ensures { IfOk result (λ t. state_of t ≡
+            with_only (λ m. not (is_among gone.now m)) self.now) }
     {
         let mut members = Vec::from_slice(alloc, self.members.as_slice())?;
         leave_out(&mut members, gone);

@@ -9,11 +9,12 @@ ghost use Rattle.am_group.specs.Changes.{is_among};
 ghost use Rattle.am_group.specs.Copies.{AreOfReceivers, receiving_groups};
 ghost use Rattle.am_group.specs.Propagation.{Receives};
 ghost use Rattle.am_group.specs.Scan.{is_one_of};
-ghost use Rattle.am_group.specs.Tables.{AreLive};
-ghost use Rattle.am_group.specs.Receivers.{home_in, groups_under, under_these, receivers_of};
+ghost use Rattle.am_group.specs.Tables.{AreLiveAmong};
+ghost use Rattle.am_group.specs.Receivers.{home_in, groups_below, groups_under, under_these, receivers_of};
 
 use crate::groups::Groups;
-use crate::tables::{is_among, is_one_of, live_groups};
+use crate::groups::changes::still_live;
+use crate::tables::{is_among, is_one_of};
 use am_names::{Errno, GroupId, GroupRow, MemberRow, MountId};
 use std::alloc::{AllocError, Global};
 
@@ -42,7 +43,9 @@ fn is_next(row: &GroupRow, own: GroupId, under: &[GroupId]) -> bool
 fn is_live_next(row: &GroupRow, own: GroupId, under: &[GroupId], live: &[GroupId]) -> bool
     requires under { IsNonDecreasing under.now }
     requires live { IsNonDecreasing live.now }
-    ensures { result ≡ (((row.now.group == own) || is_one_of under.now row.now.master) && is_among live.now row.now.group) }
+    ensures { result ≡
+        (((row.now.group == own) || is_one_of under.now row.now.master) &&
+        is_among live.now row.now.group) }
 {
     if !is_next(row, own, under) {
         return false;
@@ -59,7 +62,8 @@ fn others_among(
     groups: &[GroupId],
 ) -> Result<Vec<GroupId>, AllocError>
     requires { IsNonDecreasing groups.now }
-    ensures { IfOk result (λ v. v.items ≡ filter (λ g. not (g == own) && is_among groups.now g) (map (λ row. row.group) rows.now)) }
+    ensures { IfOk result (λ v. v.items ≡
+        filter (λ g. not (g == own) && is_among groups.now g) (map (λ row. row.group) rows.now)) }
 {
     let mut others = Vec::new(alloc);
     for row in rows {
@@ -82,9 +86,33 @@ fn is_under(row: &MemberRow, mount: MountId, groups: &[GroupId]) -> bool
 }
 
 impl Groups {
+    /// The peer group and all that have it up their chain of masters, in rising order. A master
+    /// has a lower number than its groups, so that one look is enough.
+    fn groups_below(&self, alloc: Global, own: GroupId) -> Result<Vec<GroupId>, AllocError>
+        ensures { IfOk result (λ v. v.items ≡ groups_below self.now own) }
+    {
+        let _members = &self.members;
+        let mut below = Vec::new(alloc);
+        for row in self.groups.iter() {
+            if is_next(row, own, below.as_slice()) {
+                below.push(row.group)?;
+            }
+        }
+        Ok(below)
+    }
+
+    /// Those of these peer groups that have members, in order of number.
+    fn live_among(&self, alloc: Global, groups: &[GroupId]) -> Result<Vec<GroupId>, AllocError>
+        requires { IsNonDecreasing groups.now }
+        ensures ordered { IfOk result (λ v. IsNonDecreasing v.items) }
+        ensures exact { IfOk result (λ v. AreLiveAmong groups.now self.now.members v.items) }
+    {
+        let live = still_live(alloc, groups, self.members.as_slice(), &[])?;
+        Ok(live)
+    }
+
     /// The peer group and those under it, in rising order, without those that have no members, and
-    /// what is under those alone. A master has a lower number than its groups, so that one look is
-    /// enough.
+    /// what is under those alone.
     fn groups_under(
         &self,
         alloc: Global,
@@ -92,7 +120,7 @@ impl Groups {
         live: &[GroupId],
     ) -> Result<Vec<GroupId>, AllocError>
         requires ordered { IsNonDecreasing live.now }
-        requires exact { AreLive self.now.members live.now }
+        requires exact { AreLiveAmong (groups_below self.now own) self.now.members live.now }
         ensures { IfOk result (λ v. v.items ≡ groups_under self.now own) }
     {
         let _members = &self.members;
@@ -127,7 +155,8 @@ impl Groups {
     /// The mounts that receive propagation from this one (sharedsubtree.rst, 5a).
     pub fn receivers(&self, alloc: Global, mount: MountId) -> Result<Vec<MountId>, Errno>
         ensures refusal { RefusedAs None result }
-        ensures exact { IfOk result (λ v. (c : ℕ) → Contains v.items c ↔ Receives self.now mount c) }
+        ensures exact { IfOk result (λ v. (c : ℕ) →
+            Contains v.items c ↔ Receives self.now mount c) }
         ensures rising { IfOk result (λ v. IsStrictlyIncreasing v.items) }
         ensures listed { IfOk result (λ v. v.items ≡ receivers_of self.now mount) }
     {
@@ -135,7 +164,8 @@ impl Groups {
         let Some(own) = self.group_of(mount) else {
             return Ok(Vec::new(alloc));
         };
-        let live = live_groups(alloc, self.members.as_slice())?;
+        let below = self.groups_below(alloc, own)?;
+        let live = self.live_among(alloc, below.as_slice())?;
         let under = self.groups_under(alloc, own, live.as_slice())?;
         let homed = self.homed(alloc, mount, under.as_slice())?;
         Ok(homed)

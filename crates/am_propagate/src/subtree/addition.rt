@@ -114,7 +114,8 @@ impl Subtree {
         receivers: &[MountId],
     ) -> Result<Vec<MountRow>, AllocError>
         requires { mount + length receivers.now < 2 ^ 64 }
-        ensures { IfOk result (λ v. v.items ≡ rows_at self.now at.now.place fs mount mount (at.now.mount ∷ receivers.now)) }
+        ensures { IfOk result (λ v. v.items ≡
+            rows_at self.now at.now.place fs mount mount (at.now.mount ∷ receivers.now)) }
     {
         let mut rows = Vec::new(alloc);
         rows.push(self.row_at(alloc, &at.place, at.mount, fs, mount, mount)?)?;
@@ -137,7 +138,8 @@ impl Subtree {
     ) -> Result<Vec<GroupId>, Errno>
         requires { receivers.now ≡ receivers_of self.now.groups at }
         ensures refusal { RefusedAs (numbers_refusal at membership.now self.now) result }
-        ensures others { IfOk result (λ v. v.items ≡ others_of self.now.groups receivers.now (group_of self.now.groups at)) }
+        ensures others { IfOk result (λ v. v.items ≡
+            others_of self.now.groups receivers.now (group_of self.now.groups at)) }
         ensures left { OnOk result (numbers_refusal at membership.now self.now ≡ None) }
     {
         if self.lacks_mounts(receivers.len() + 1) {
@@ -163,7 +165,8 @@ impl Subtree {
         requires there { is_mount self.old at.now.mount ≡ true }
         requires source { HasSource self.old fs membership }
         requires receivers { receivers.now ≡ receivers_of self.old.groups at.now.mount }
-        requires others { others.items ≡ others_of self.old.groups receivers.now (group_of self.old.groups at.now.mount) }
+        requires others { others.items ≡
+            others_of self.old.groups receivers.now (group_of self.old.groups at.now.mount) }
         requires left { numbers_refusal at.now.mount membership self.old ≡ None }
         ensures ok { OnOk result (self.new ≡ mounted at.now fs membership self.old) }
         ensures err { OnErr result (self.new ≡ self.old) }
@@ -186,12 +189,15 @@ impl Subtree {
         requires source { HasSource self.old fs membership }
         requires bindable { is_unbindable membership ≡ false }
         ensures refusal { RefusedAs (numbers_refusal at.now.mount membership self.old) result }
-        ensures made { IfOk result (λ v. v.items ≡ new_mounts self.old (mounts_made at.now.mount self.old)) }
+        ensures made { IfOk result (λ v. v.items ≡
+            new_mounts self.old (mounts_made at.now.mount self.old)) }
         ensures first { IfOk result (λ v. slice_get v.items 0 ≡ Some (self.old.last_mount + 1)) }
         ensures came { IfOk result (λ v. all_mounts self.new ≡ all_mounts self.old ++ v.items) }
         ensures ok { OnOk result (self.new ≡ mounted at.now fs membership self.old) }
-        ensures copies { OnOk result (ComesWithCopies at.now fs (self.old.last_mount + 1) self.old self.new) }
-        ensures groups { OnOk result (Joins membership at.now.mount (self.old.last_mount + 1) self.old self.new) }
+        ensures copies { OnOk result
+            (ComesWithCopies at.now fs (self.old.last_mount + 1) self.old self.new) }
+        ensures groups { OnOk result
+            (Joins membership at.now.mount (self.old.last_mount + 1) self.old self.new) }
         ensures err { OnErr result (self.new ≡ self.old) }
         ensures law { AddsNoReceivers self.old.groups self.new.groups }
     {
@@ -208,12 +214,15 @@ impl Subtree {
     /// in rising order: the mount itself first, which has the next number, then its copies.
     pub fn mount(&mut self, alloc: Global, at: &Position, fs: FsId) -> Result<Vec<MountId>, Errno>
         ensures refusal { RefusedAs (mount_refusal at.now.mount self.old) result }
-        ensures made { IfOk result (λ v. v.items ≡ new_mounts self.old (mounts_made at.now.mount self.old)) }
+        ensures made { IfOk result (λ v. v.items ≡
+            new_mounts self.old (mounts_made at.now.mount self.old)) }
         ensures first { IfOk result (λ v. slice_get v.items 0 ≡ Some (self.old.last_mount + 1)) }
         ensures came { IfOk result (λ v. all_mounts self.new ≡ all_mounts self.old ++ v.items) }
         ensures ok { OnOk result (self.new ≡ mounted at.now fs Private self.old) }
-        ensures copies { OnOk result (ComesWithCopies at.now fs (self.old.last_mount + 1) self.old self.new) }
-        ensures groups { OnOk result (Joins Private at.now.mount (self.old.last_mount + 1) self.old self.new) }
+        ensures copies { OnOk result
+            (ComesWithCopies at.now fs (self.old.last_mount + 1) self.old self.new) }
+        ensures groups { OnOk result
+            (Joins Private at.now.mount (self.old.last_mount + 1) self.old self.new) }
         ensures err { OnErr result (self.new ≡ self.old) }
         ensures law { AddsNoReceivers self.old.groups self.new.groups }
     {
@@ -241,12 +250,16 @@ impl Subtree {
         at: &Position,
     ) -> Result<Vec<MountId>, Errno>
         ensures refusal { RefusedAs (bind_refusal source at.now.mount self.old) result }
-        ensures made { IfOk result (λ v. v.items ≡ new_mounts self.old (mounts_made at.now.mount self.old)) }
+        ensures made { IfOk result (λ v. v.items ≡
+            new_mounts self.old (mounts_made at.now.mount self.old)) }
         ensures first { IfOk result (λ v. slice_get v.items 0 ≡ Some (self.old.last_mount + 1)) }
         ensures came { IfOk result (λ v. all_mounts self.new ≡ all_mounts self.old ++ v.items) }
         ensures ok { OnOk result (self.new ≡ bound source at.now self.old) }
-        ensures copies { OnOk result (BindsWithCopies source at.now (self.old.last_mount + 1) self.old self.new) }
-        ensures groups { OnOk result (Joins (membership_of self.old source) at.now.mount (self.old.last_mount + 1) self.old self.new) }
+        ensures copies { OnOk result
+            (BindsWithCopies source at.now (self.old.last_mount + 1) self.old self.new) }
+        ensures groups { OnOk result
+            (Joins (membership_of self.old source) at.now.mount (self.old.last_mount + 1)
+            self.old self.new) }
         ensures err { OnErr result (self.new ≡ self.old) }
         ensures law { AddsNoReceivers self.old.groups self.new.groups }
     {

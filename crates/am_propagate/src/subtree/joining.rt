@@ -1,6 +1,7 @@
 //! The peer groups of a new mount and of its copies.
 
 ghost use Rattle.std.specs.Prelude.{◌≡◌, ◌+◌, ◌^◌, ◌<◌, ◌∷◌, ◌++◌, [], length, IfOk};
+ghost use Rattle.std.specs.List.Sorted.{IsStrictlyIncreasing};
 ghost use Rattle.std.specs.Option.{option_to_list};
 ghost use Rattle.am_group.specs.declared.membership.Membership.TheVariants.{InGroup};
 ghost use Rattle.am_group.specs.Propagation.{member_row, slave_in, group_of};
@@ -30,7 +31,9 @@ impl Joining {
         membership: Membership,
         mount: MountId,
     ) -> Result<Joining, AllocError>
-        ensures { IfOk result (λ joining. (joining.members.items ≡ row_with membership mount ∷ []) × (joining.groups.items ≡ [])) }
+        ensures { IfOk result (λ joining.
+            (joining.members.items ≡ row_with membership mount ∷ []) ×
+            (joining.groups.items ≡ [])) }
     {
         let mut members = Vec::new(alloc);
         let row = membership.row(mount);
@@ -45,7 +48,10 @@ impl Joining {
 
 impl Subtree {
     fn copy_row(&self, stands: &StandIns, mount: MountId, receiver: MountId) -> MemberRow
-        ensures { result ≡ copy_row (stand_of stands.now) mount (group_of self.now.groups receiver) (slave_in (member_row self.now.groups.members receiver)) }
+        requires { IsStrictlyIncreasing stands.now.groups.items }
+        ensures { result ≡
+            copy_row (stand_of stands.now) mount (group_of self.now.groups receiver)
+            (slave_in (member_row self.now.groups.members receiver)) }
     {
         let (group, master) = match self.groups.member(receiver) {
             Some(row) => match row.group {
@@ -69,8 +75,10 @@ impl Subtree {
         mount: MountId,
         receivers: &[MountId],
     ) -> Result<Vec<MemberRow>, AllocError>
-        requires { mount + length receivers.now < 2 ^ 64 }
-        ensures { IfOk result (λ v. v.items ≡ row_with (InGroup stands.now.new) mount ∷ copies_from (stand_of stands.now) self.now.groups (mount + 1) receivers.now) }
+        requires rising { IsStrictlyIncreasing stands.now.groups.items }
+        requires numbers { mount + length receivers.now < 2 ^ 64 }
+        ensures { IfOk result (λ v. v.items ≡ row_with (InGroup stands.now.new) mount ∷
+            copies_from (stand_of stands.now) self.now.groups (mount + 1) receivers.now) }
     {
         let mut members = Vec::new(alloc);
         let first = Membership::InGroup(stands.new).row(mount);
@@ -85,6 +93,7 @@ impl Subtree {
     }
 
     fn group_copy(&self, stands: &StandIns, group: GroupId) -> GroupRow
+        requires { IsStrictlyIncreasing stands.now.groups.items }
         ensures { result ≡ group_copy (stand_of stands.now) self.now.groups group }
     {
         GroupRow {
@@ -99,7 +108,9 @@ impl Subtree {
         stands: &StandIns,
         fresh: Option<GroupRow>,
     ) -> Result<Vec<GroupRow>, AllocError>
-        ensures { IfOk result (λ v. v.items ≡ option_to_list fresh ++ group_copies (stand_of stands.now) self.now.groups stands.now.groups.items) }
+        requires { IsStrictlyIncreasing stands.now.groups.items }
+        ensures { IfOk result (λ v. v.items ≡ option_to_list fresh ++
+            group_copies (stand_of stands.now) self.now.groups stands.now.groups.items) }
     {
         let mut rows = Vec::new(alloc);
         if let Some(row) = fresh {
@@ -118,7 +129,8 @@ impl Subtree {
         at: MountId,
         receivers: &[MountId],
     ) -> Result<Vec<GroupId>, AllocError>
-        ensures { IfOk result (λ v. v.items ≡ others_of self.now.groups receivers.now (group_of self.now.groups at)) }
+        ensures { IfOk result (λ v. v.items ≡
+            others_of self.now.groups receivers.now (group_of self.now.groups at)) }
     {
         match self.groups.group_of(at) {
             Some(own) => self.groups.receiving_groups(alloc, receivers, own),
@@ -137,10 +149,14 @@ impl Subtree {
         others: Vec<GroupId>,
     ) -> Result<Joining, AllocError>
         requires receivers { receivers.now ≡ receivers_of self.now.groups at }
-        requires others { others.items ≡ others_of self.now.groups receivers.now (group_of self.now.groups at) }
-        requires groups { self.now.groups.last_group + groups_made membership (group_of self.now.groups at) receivers.now self.now.groups < 2 ^ 64 }
+        requires others { others.items ≡
+            others_of self.now.groups receivers.now (group_of self.now.groups at) }
+        requires groups { self.now.groups.last_group +
+            groups_made membership (group_of self.now.groups at) receivers.now self.now.groups
+            < 2 ^ 64 }
         requires mounts { mount + length receivers.now < 2 ^ 64 }
-        ensures { IfOk result (λ joining. AreNew membership (group_of self.now.groups at) receivers.now mount self.now.groups joining) }
+        ensures { IfOk result (λ joining. AreNew membership
+            (group_of self.now.groups at) receivers.now mount self.now.groups joining) }
     {
         let Some(own) = self.groups.group_of(at) else {
             return Joining::alone(alloc, membership, mount);

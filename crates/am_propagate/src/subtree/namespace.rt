@@ -84,7 +84,9 @@ impl Subtree {
     ) -> Result<Vec<MountRow>, AllocError>
         requires numbers { self.now.last_mount + length mounts.now < 2 ^ 64 }
         requires rising { IsStrictlyIncreasing mounts.now }
-        ensures { IfOk result (λ v. v.items ≡ map (row_in (copy_number self.now.last_mount mounts.now) to) (filter (is_in ns) self.now.rows)) }
+        ensures { IfOk result (λ v. v.items ≡
+            map (row_in (copy_number self.now.last_mount mounts.now) to)
+            (filter (is_in ns) self.now.rows)) }
     {
         let mut rows = Vec::new(alloc);
         for row in self.tree.rows() {
@@ -104,7 +106,8 @@ impl Subtree {
     ) -> Result<MountRow, AllocError>
         requires numbers { self.now.last_mount + length mounts.now < 2 ^ 64 }
         requires rising { IsStrictlyIncreasing mounts.now }
-        ensures { IfOk result (λ copy. copy ≡ row_in (copy_number self.now.last_mount mounts.now) to row.now) }
+        ensures { IfOk result (λ copy. copy ≡
+            row_in (copy_number self.now.last_mount mounts.now) to row.now) }
     {
         let mountpoint = match &row.mountpoint {
             Some(position) => Some(Position {
@@ -130,7 +133,9 @@ impl Subtree {
     ) -> Result<Vec<MemberRow>, AllocError>
         requires numbers { self.now.last_mount + length mounts.now < 2 ^ 64 }
         requires rising { IsStrictlyIncreasing mounts.now }
-        ensures { IfOk result (λ v. v.items ≡ map (member_in form (copy_number self.now.last_mount mounts.now)) (filter (λ row. is_among mounts.now row.mount) self.now.groups.members)) }
+        ensures { IfOk result (λ v. v.items ≡
+            map (member_in form (copy_number self.now.last_mount mounts.now))
+            (filter (λ row. is_among mounts.now row.mount) self.now.groups.members)) }
     {
         let mut members = Vec::new(alloc);
         for row in self.groups.members() {
@@ -155,8 +160,10 @@ impl Subtree {
     ) -> Result<NewNamespace, Errno>
         ensures refusal { RefusedAs (copy_refusal ns self.old) result }
         ensures number { IfOk result (λ made. made.ns ≡ self.old.last_ns + 1) }
-        ensures made { IfOk result (λ made. made.mounts.items ≡ new_mounts self.old (length (mounts_in self.old ns))) }
-        ensures came { IfOk result (λ made. all_mounts self.new ≡ all_mounts self.old ++ made.mounts.items) }
+        ensures made { IfOk result (λ made. made.mounts.items ≡
+            new_mounts self.old (length (mounts_in self.old ns))) }
+        ensures came { IfOk result (λ made. all_mounts self.new ≡
+            all_mounts self.old ++ made.mounts.items) }
         ensures ok { OnOk result (self.new ≡ with_copy form ns self.old) }
         ensures copies { IfOk result (λ made. AreCopies form ns made.ns self.old self.new) }
         ensures err { OnErr result (self.new ≡ self.old) }

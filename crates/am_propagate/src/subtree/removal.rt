@@ -72,7 +72,8 @@ impl Subtree {
         receivers: &[MountId],
     ) -> Result<Vec<MountId>, AllocError>
         requires { IsCanonical place.now }
-        ensures { IfOk result (λ v. v.items ≡ mount ∷ filter_map (bare_top self.now (names_of place.now)) receivers.now) }
+        ensures { IfOk result (λ v. v.items ≡
+            mount ∷ filter_map (bare_top self.now (names_of place.now)) receivers.now) }
     {
         let mut going = Vec::new(alloc);
         going.push(mount)?;
@@ -93,7 +94,8 @@ impl Subtree {
     ) -> Result<Vec<MountId>, Errno>
         requires { mountpoint_of self.now mount ≡ Some position.now }
         ensures refusal { RefusedAs None result }
-        ensures exact { IfOk result (λ v. v.items ≡ mounts_where (goes_with self.now mount (Some position.now)) self.now.rows) }
+        ensures exact { IfOk result (λ v. v.items ≡
+            mounts_where (goes_with self.now mount (Some position.now)) self.now.rows) }
         ensures rising { IfOk result (λ v. IsStrictlyIncreasing v.items) }
     {
         let receivers = self.groups.receivers(alloc, position.mount)?;
@@ -103,7 +105,8 @@ impl Subtree {
 
     /// The mount itself, if it is there.
     fn itself(&self, alloc: Global, mount: MountId) -> Result<Vec<MountId>, AllocError>
-        ensures exact { IfOk result (λ v. v.items ≡ mounts_where (goes_with self.now mount None) self.now.rows) }
+        ensures exact { IfOk result (λ v. v.items ≡
+            mounts_where (goes_with self.now mount None) self.now.rows) }
         ensures rising { IfOk result (λ v. IsStrictlyIncreasing v.items) }
     {
         let _tree = &self.tree;
@@ -184,7 +187,8 @@ impl Subtree {
         in_use: &U,
     ) -> Result<Option<Errno>, Errno>
         ensures refusal { RefusedAs None result }
-        ensures ok { IfOk result (λ first. first ≡ umount_refusal (U.uses in_use.now) mount self.now) }
+        ensures ok { IfOk result (λ first. first ≡
+            umount_refusal (U.uses in_use.now) mount self.now) }
     {
         match self.removable(alloc, mount, in_use) {
             Ok(_) => Ok(None),

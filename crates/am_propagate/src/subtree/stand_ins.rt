@@ -1,6 +1,7 @@
 //! Which peer groups stand among copies for those of their receivers.
 
 ghost use Rattle.std.specs.Prelude.{◌≡◌, ◌+◌, ◌^◌, ◌<◌, option_map};
+ghost use Rattle.std.specs.List.Sorted.{IsStrictlyIncreasing};
 ghost use Rattle.std.specs.Option.{option_to_list};
 ghost use Rattle.am_group.specs.Copies.{rank};
 ghost use Rattle.am_propagate.specs.Joining.{stand_of};
@@ -17,14 +18,20 @@ pub struct StandIns {
     pub new: GroupId,
     /// The greatest number before the fresh groups of the copies.
     pub last: u64,
-    /// The other groups that receivers are in.
+    /// The other groups that receivers are in, in rising order of number.
     pub groups: Vec<GroupId>,
 }
 
+/// How many of these groups, which rise, have lower numbers.
 fn rank(group: GroupId, groups: &[GroupId]) -> usize
+    requires { IsStrictlyIncreasing groups.now }
     ensures { result ≡ rank group groups.now }
 {
-    groups.iter().filter(|other| **other < group).count()
+    let number = group.0;
+    match groups.binary_search_by_key(&number, |other| other.0) {
+        Ok(at) => at,
+        Err(at) => at,
+    }
 }
 
 impl StandIns {
@@ -51,6 +58,7 @@ impl StandIns {
     }
 
     pub fn stand_of(&self, group: GroupId) -> GroupId
+        requires { IsStrictlyIncreasing self.now.groups.items }
         ensures { result ≡ stand_of self.now group }
     {
         if group == self.own {
@@ -61,6 +69,7 @@ impl StandIns {
     }
 
     pub fn stand_of_master(&self, master: Option<GroupId>) -> Option<GroupId>
+        requires { IsStrictlyIncreasing self.now.groups.items }
         ensures { result ≡ option_map (stand_of self.now) master }
     {
         match master {

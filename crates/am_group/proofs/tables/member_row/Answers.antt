@@ -13,7 +13,7 @@ returns-in-Ok c =
     let by_number = c.in-Ok.ensures.position (λ (r : MemberRow). r.mount)
     (answers_always _ _ _ (λ f a r g called. search rules)) in
     let there : member_row rows number ≡ Some (get_or rows c.in-Ok.at row) =
-    found rows c.requires number c.in-Ok.at c.in-Ok.ensures.bound by_number row in
+    found (λ (row : MemberRow). row.mount) rows c.requires number c.in-Ok.at c.in-Ok.ensures.bound by_number row in
     rw (← c.mount.view_is) (ap Some c.index-members-at.is ∙ sym there)
 
 pub returns-in-Err : goal.returns-in-Err
@@ -22,4 +22,4 @@ returns-in-Err c =
     let number = c.mount.inside.0 in
     let by_number = c.in-Err.ensures.position (λ (r : MemberRow). r.mount)
     (answers_always _ _ _ (λ f a r g called. search rules)) in
-    rw (← c.mount.view_is) (sym (absent rows c.requires number _ by_number))
+    rw (← c.mount.view_is) (sym (absent (λ (row : MemberRow). row.mount) rows c.requires number _ by_number))

@@ -5,7 +5,7 @@ use Rattle.am_names.specs.PeerGroups.{PeerGroups}
 use Rattle.am_group.specs.Propagation.{member_row}
 use Rattle.am_group.specs.Changes.{left, at_row, with_row}
 use Rattle.am_group.specs.Invariant.{IsOrderly, IsPeopled, AddsNoReceivers}
-use Rattle.am_group.specs.Tables.{row_of, has_others}
+use Rattle.am_group.specs.Tables.{row_of, is_not_alone}
 use Rattle.am_group.proofs.ChangeLemmas.{left_orderly}
 use Rattle.am_group.proofs.KindLemmas.{change_orderly, change_law, change_peopled}
 use Rattle.am_group.proofs.SpareLemmas.{changed_alone}
@@ -37,7 +37,7 @@ invariant_of-self c =
     let orderly = subst (λ (x : PeerGroups). IsOrderly x) c.self.view_is c.self.invariant in
     let row = c.in-Some.row in
     let found : member_row s.members c.args.mount ≡ Some row = sym c.member.ensures ∙ c.in-Some.is in
-    let spared : has_others s row ≡ true = sym c.has_others.ensures ∙ c.if-has_others.true in
+    let spared : is_not_alone s row ≡ true = sym c.is_not_alone.ensures ∙ c.if-is_not_alone.true in
     let rows : c.write_row.new.members.items ≡ map (at_row (λ r. change row) c.args.mount) s.members =
     c.write_row.ensures ∙
     ap (λ (x : MemberRow). map (at_row (λ r. x) c.args.mount) c.self.inside.members.items) c.changed_row-changed.ensures ∙
@@ -46,14 +46,14 @@ invariant_of-self c =
     c.self.inside.groups.items (ap (λ (x : PeerGroups). x.groups) c.self.view_is) c.self.inside.last_group (ap (λ (x : PeerGroups). x.last_group) c.self.view_is) in
     subst (λ (x : PeerGroups). IsOrderly x) (sym made) (left_orderly s (with_row change c.args.mount s) (change_orderly c.args.change 0 c.requires c.args.mount s orderly))
 
-pub returns-then-has_others-clause-ok : goal.returns-then-has_others-clause-ok
-returns-then-has_others-clause-ok c =
+pub returns-then-is_not_alone-clause-ok : goal.returns-then-is_not_alone-clause-ok
+returns-then-is_not_alone-clause-ok c =
     let s = c.args.self.now in
     let change = row_of c.args.change 0 in
     let orderly = subst (λ (x : PeerGroups). IsOrderly x) c.self.view_is c.self.invariant in
     let row = c.in-Some.row in
     let found : member_row s.members c.args.mount ≡ Some row = sym c.member.ensures ∙ c.in-Some.is in
-    let spared : has_others s row ≡ true = sym c.has_others.ensures ∙ c.if-has_others.true in
+    let spared : is_not_alone s row ≡ true = sym c.is_not_alone.ensures ∙ c.if-is_not_alone.true in
     let rows : c.write_row.new.members.items ≡ map (at_row (λ r. change row) c.args.mount) s.members =
     c.write_row.ensures ∙
     ap (λ (x : MemberRow). map (at_row (λ r. x) c.args.mount) c.self.inside.members.items) c.changed_row-changed.ensures ∙
@@ -62,14 +62,14 @@ returns-then-has_others-clause-ok c =
     c.self.inside.groups.items (ap (λ (x : PeerGroups). x.groups) c.self.view_is) c.self.inside.last_group (ap (λ (x : PeerGroups). x.last_group) c.self.view_is) in
     made
 
-pub returns-then-has_others-clause-law : goal.returns-then-has_others-clause-law
-returns-then-has_others-clause-law c = λ peopled.
+pub returns-then-is_not_alone-clause-law : goal.returns-then-is_not_alone-clause-law
+returns-then-is_not_alone-clause-law c = λ peopled.
     let s = c.args.self.now in
     let change = row_of c.args.change 0 in
     let orderly = subst (λ (x : PeerGroups). IsOrderly x) c.self.view_is c.self.invariant in
     let row = c.in-Some.row in
     let found : member_row s.members c.args.mount ≡ Some row = sym c.member.ensures ∙ c.in-Some.is in
-    let spared : has_others s row ≡ true = sym c.has_others.ensures ∙ c.if-has_others.true in
+    let spared : is_not_alone s row ≡ true = sym c.is_not_alone.ensures ∙ c.if-is_not_alone.true in
     let rows : c.write_row.new.members.items ≡ map (at_row (λ r. change row) c.args.mount) s.members =
     c.write_row.ensures ∙
     ap (λ (x : MemberRow). map (at_row (λ r. x) c.args.mount) c.self.inside.members.items) c.changed_row-changed.ensures ∙
@@ -78,14 +78,14 @@ returns-then-has_others-clause-law c = λ peopled.
     c.self.inside.groups.items (ap (λ (x : PeerGroups). x.groups) c.self.view_is) c.self.inside.last_group (ap (λ (x : PeerGroups). x.last_group) c.self.view_is) in
     subst (λ (x : PeerGroups). AddsNoReceivers s x) (sym made) (change_law c.args.change 0 c.requires c.args.mount s orderly peopled)
 
-pub returns-then-has_others-clause-peopled : goal.returns-then-has_others-clause-peopled
-returns-then-has_others-clause-peopled c = λ peopled.
+pub returns-then-is_not_alone-clause-peopled : goal.returns-then-is_not_alone-clause-peopled
+returns-then-is_not_alone-clause-peopled c = λ peopled.
     let s = c.args.self.now in
     let change = row_of c.args.change 0 in
     let orderly = subst (λ (x : PeerGroups). IsOrderly x) c.self.view_is c.self.invariant in
     let row = c.in-Some.row in
     let found : member_row s.members c.args.mount ≡ Some row = sym c.member.ensures ∙ c.in-Some.is in
-    let spared : has_others s row ≡ true = sym c.has_others.ensures ∙ c.if-has_others.true in
+    let spared : is_not_alone s row ≡ true = sym c.is_not_alone.ensures ∙ c.if-is_not_alone.true in
     let rows : c.write_row.new.members.items ≡ map (at_row (λ r. change row) c.args.mount) s.members =
     c.write_row.ensures ∙
     ap (λ (x : MemberRow). map (at_row (λ r. x) c.args.mount) c.self.inside.members.items) c.changed_row-changed.ensures ∙

@@ -1,5 +1,6 @@
 use Rattle.std.proofs.Common.{◌≡◌, ◌+◌, ◌++◌, ℕ, List, [], ◌∷◌, Some, None, ap, sym, subst, ◌∙◌}
 use Rattle.std.specs.Prelude.{map}
+use Rattle.am_names.proofs.Basics.{none_where_not_some}
 use Rattle.am_names.specs.declared.row.MemberRow.{MemberRow}
 use Rattle.am_names.specs.declared.row.GroupRow.{GroupRow}
 use Rattle.am_names.specs.PeerGroups.{PeerGroups}
@@ -7,7 +8,6 @@ use Rattle.am_group.specs.Propagation.{member_row}
 use Rattle.am_group.specs.Changes.{at_row, shared_row, with_row}
 use Rattle.am_group.specs.Invariant.{IsOrderly, IsPeopled, AddsNoReceivers}
 use Rattle.am_group.proofs.LiftLemmas.{same_state}
-use Rattle.am_group.proofs.MemberLemmas.{none_of}
 use Rattle.am_group.proofs.SharedLemmas.{after, shared_here, shared_orderly, made_shared_keeps}
 use Rattle.am_group.proofs.SpareLemmas.{shared_alone}
 use Rattle.am_group.proofs.groups.Groups.make_shared.Goals as goal
@@ -19,7 +19,7 @@ invariant_of-self-2 c =
     let row = c.in-Some.row in
     let n = c.self.inside.last_group + 1 in
     let found : member_row s.members c.args.mount ≡ Some row = cc in
-    let alone : row.group ≡ None = none_of row.group (cc) in
+    let alone : row.group ≡ None = none_where_not_some row.group (cc) in
     let number : n ≡ s.last_group + 1 = ap (λ (x : PeerGroups). x.last_group + 1) c.self.view_is in
     let members : c.write_row.new.members.items ≡ map (at_row (λ r. shared_row n row) c.args.mount) s.members =
     c.write_row.ensures ∙
@@ -37,7 +37,7 @@ returns-clause-ok c =
     let row = c.in-Some.row in
     let n = c.self.inside.last_group + 1 in
     let found : member_row s.members c.args.mount ≡ Some row = cc in
-    let alone : row.group ≡ None = none_of row.group (cc) in
+    let alone : row.group ≡ None = none_where_not_some row.group (cc) in
     let number : n ≡ s.last_group + 1 = ap (λ (x : PeerGroups). x.last_group + 1) c.self.view_is in
     let members : c.write_row.new.members.items ≡ map (at_row (λ r. shared_row n row) c.args.mount) s.members =
     c.write_row.ensures ∙
@@ -55,7 +55,7 @@ returns-clause-law c = λ peopled.
     let row = c.in-Some.row in
     let n = c.self.inside.last_group + 1 in
     let found : member_row s.members c.args.mount ≡ Some row = cc in
-    let alone : row.group ≡ None = none_of row.group (cc) in
+    let alone : row.group ≡ None = none_where_not_some row.group (cc) in
     let number : n ≡ s.last_group + 1 = ap (λ (x : PeerGroups). x.last_group + 1) c.self.view_is in
     let members : c.write_row.new.members.items ≡ map (at_row (λ r. shared_row n row) c.args.mount) s.members =
     c.write_row.ensures ∙
@@ -74,7 +74,7 @@ returns-clause-peopled c = λ peopled.
     let row = c.in-Some.row in
     let n = c.self.inside.last_group + 1 in
     let found : member_row s.members c.args.mount ≡ Some row = cc in
-    let alone : row.group ≡ None = none_of row.group (cc) in
+    let alone : row.group ≡ None = none_where_not_some row.group (cc) in
     let number : n ≡ s.last_group + 1 = ap (λ (x : PeerGroups). x.last_group + 1) c.self.view_is in
     let members : c.write_row.new.members.items ≡ map (at_row (λ r. shared_row n row) c.args.mount) s.members =
     c.write_row.ensures ∙

@@ -5,8 +5,9 @@ use Rattle.am_names.specs.PeerGroups.{PeerGroups}
 use Rattle.am_group.specs.Propagation.{group_of, Receives}
 use Rattle.am_group.specs.Invariant.{IsOrderly}
 use Rattle.am_group.specs.Receivers.{under_these, receivers_of}
+use Rattle.am_group.specs.Tables.{AreLiveAmong}
 use Rattle.am_group.proofs.EarlyLemmas.{none_exact, none_listed}
-use Rattle.am_group.proofs.UnderLemmas.{under_ordered, homed_listed, receivers_exact, receivers_rise}
+use Rattle.am_group.proofs.UnderLemmas.{below_ordered, under_ordered, homed_listed, receivers_exact, receivers_rise}
 use Rattle.am_group.proofs.groups.Groups.receivers.Goals as goal
 
 pub returns-in_default-clause-exact : goal.returns-in_default-clause-exact
@@ -21,6 +22,21 @@ returns-in_default-clause-listed c =
     let s = c.args.self.now in
     let none : group_of s c.args.mount ≡ None = sym c.group_of.ensures ∙ c.in_default.is in
     c.new.ensures.items ∙ none_listed s c.args.mount none
+
+pub live_among-requires : goal.live_among-requires
+live_among-requires c =
+    let s = c.args.self.now in
+    let orderly : IsOrderly s = subst (λ (v : PeerGroups). IsOrderly v) c.self.view_is c.self.invariant in
+    subst (λ (xs : List ℕ). IsNonDecreasing xs) (sym (c.as_slice.ensures.value ∙ c.in_ok-below.ensures))
+    (below_ordered s orderly c.in-Some.own)
+
+pub groups_under-requires-clause-exact : goal.groups_under-requires-clause-exact
+groups_under-requires-clause-exact c =
+    let s = c.args.self.now in
+    subst (λ (xs : List ℕ). AreLiveAmong xs s.members c.as_slice-2.result.now)
+    (c.as_slice.ensures.value ∙ c.in_ok-below.ensures)
+    (subst (λ (xs : List ℕ). AreLiveAmong c.as_slice.result.now s.members xs)
+    (sym c.as_slice-2.ensures.value) c.in_ok-live.ensures.exact)
 
 pub homed-requires : goal.homed-requires
 homed-requires c =

@@ -1,5 +1,7 @@
-use Rattle.std.proofs.Common.{◌≡◌, ◌+◌, ◌<◌, ℕ, Option, Some, ap, sym, subst, ◌∙◌}
+use Rattle.std.proofs.Common.{◌≡◌, ◌+◌, ◌<◌, ℕ, List, Option, Some, ap, sym, subst, ◌∙◌}
+use Rattle.std.specs.List.Sorted.{IsStrictlyIncreasing}
 use Rattle.am_group.specs.Propagation.{group_of}
+use Rattle.am_group.proofs.UnderLemmas.{receiving_rise}
 use Rattle.am_group.specs.Copies.{receiving_groups}
 use Rattle.am_propagate.specs.MountTable.{MountTable}
 use Rattle.am_propagate.specs.Invariant.{IsWhole}
@@ -7,6 +9,22 @@ use Rattle.am_propagate.specs.Added.{new_group, last_fresh, groups_made}
 use Rattle.am_propagate.specs.Joining.{others_of, AreNew}
 use Rattle.am_propagate.proofs.NumberLemmas.{members_are, rows_are}
 use Rattle.am_propagate.proofs.subtree.Subtree.joining.Goals as goal
+
+pub new_members-requires-clause-rising : goal.new_members-requires-clause-rising
+new_members-requires-clause-rising c =
+    let s = c.args.self.now.groups in
+    let whole : IsWhole c.args.self.now = subst (λ (x : MountTable). IsWhole x) c.self.view_is c.self.invariant in
+    let here : group_of s c.args.at ≡ Some c.in-Some.own = ap (λ (x : MountTable). group_of x.groups c.args.at) (sym c.self.view_is) ∙ sym c.in-Some.ensures in
+    let groups_are : c.of-stands.result.groups.items ≡ receiving_groups s c.args.receivers.now c.in-Some.own = c.of-stands.ensures.groups ∙ c.requires.others ∙ ap (others_of s c.args.receivers.now) here in
+    subst (λ (xs : List ℕ). IsStrictlyIncreasing xs) (sym groups_are) (receiving_rise s whole.sound.orderly c.args.receivers.now c.in-Some.own)
+
+pub new_groups-requires : goal.new_groups-requires
+new_groups-requires c =
+    let s = c.args.self.now.groups in
+    let whole : IsWhole c.args.self.now = subst (λ (x : MountTable). IsWhole x) c.self.view_is c.self.invariant in
+    let here : group_of s c.args.at ≡ Some c.in-Some.own = ap (λ (x : MountTable). group_of x.groups c.args.at) (sym c.self.view_is) ∙ sym c.in-Some.ensures in
+    let groups_are : c.of-stands.result.groups.items ≡ receiving_groups s c.args.receivers.now c.in-Some.own = c.of-stands.ensures.groups ∙ c.requires.others ∙ ap (others_of s c.args.receivers.now) here in
+    subst (λ (xs : List ℕ). IsStrictlyIncreasing xs) (sym groups_are) (receiving_rise s whole.sound.orderly c.args.receivers.now c.in-Some.own)
 
 pub returns : goal.returns
 returns c =

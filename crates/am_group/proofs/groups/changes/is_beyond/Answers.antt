@@ -1,0 +1,14 @@
+use Rattle.std.proofs.Common.{Option, sym, ap, ◌∙◌}
+use Rattle.std.specs.Option.{option_copied}
+use Rattle.am_group.proofs.BeyondLemmas.{none_below_first, none_above_last}
+use Rattle.am_group.proofs.groups.changes.is_beyond.Goals as goal
+
+pub returns-then-lt : goal.returns-then-lt
+returns-then-lt c =
+    let there = sym c.first.ensures.value ∙ ap option_copied c.in-Some.is in
+    none_below_first c.args.mounts.now c.args.mount c.in-Some.first.now c.requires there (sym c.lt.ensures ∙ c.if-lt.true)
+
+pub returns : goal.returns
+returns c =
+    let there = sym c.last.ensures.value ∙ ap option_copied c.in-Some-last.is in
+    none_above_last c.args.mounts.now c.args.mount c.in-Some-last.last.now c.requires there c.lt-2.result c.lt-2.ensures
