@@ -19,13 +19,12 @@ use Rattle.am_job.specs.declared.act.Act.{Act}
 use Rattle.am_job.specs.declared.act.Act.TheVariants as act
 use Rattle.am_job.specs.Plans.{next_of}
 use Rattle.am_kernel.specs.State.{KernelState}
-use Rattle.am_kernel.specs.Sites.{is_current, is_busy, attach_of, fs_of_attach}
-use Rattle.am_kernel.specs.Previews.{is_trigger}
+use Rattle.am_kernel.specs.Sites.{is_current, is_busy, attach_of, fs_of_attach, is_trigger}
 use Rattle.am_kernel.specs.Outcome as kernel
 use Rattle.am_kernel.specs.Outcome.{moment_of}
 use Rattle.am_kernel.specs.Expires as expires
 use Rattle.am_kernel.specs.Administration.{mount_refusal, bind_refusal, plain_change_refusal, kind_refusal, kind_at}
-use Rattle.am_kernel.specs.Attachments.{catatonic_refusal, autofs_refusal}
+use Rattle.am_kernel.specs.Catatonic.{catatonic_refusal, admin_catatonic_refusal}
 use Rattle.am_kernel.specs.Directories.{mkdir_refusal, rmdir_refusal}
 use Rattle.am_kernel.specs.DaemonMounts.{mount_on_refusal, umount_from_refusal}
 use Rattle.am_kernel.specs.Requests.{timeout_refusal, answer_refusal, queued_of}
@@ -185,7 +184,7 @@ others_free s (events.Act job ok) h = act_free (job_of s.daemon.jobs job) s ok
 others_free s (events.Repeat attach token status) h =
     either (not (is_some (fs_of_attach s.kernel attach))) _ _ (record { free = refl }) (either (is_some (token_of s.kernel.waits.tokens token)) _ _ (record { free = refl }) (record { free = refl }))
 others_free s (events.Catatonic attach fs) h = unless_free (catatonic_refusal s.kernel attach fs) s _ refl
-others_free s (events.AdminCatatonic fs) h = unless_free (autofs_refusal s.kernel fs) s _ refl
+others_free s (events.AdminCatatonic fs) h = unless_free (admin_catatonic_refusal s.kernel fs) s _ refl
 others_free s (events.Timeout attach fs timeout) h = unless_free (timeout_refusal s.kernel attach fs) s _ refl
 others_free s events.Die h = record { free = refl }
 others_free s (events.Reattach fs) h = unless_free (reattach_refused s fs) s _ refl

@@ -17,8 +17,7 @@ use Rattle.std.proofs.lemmas.Bool.Decides.{nat_tests}
 use Rattle.am_state.specs.declared.obs.Obs.TheVariants.{Recorded}
 use Rattle.am_state.specs.declared.kernel_row.QueuedRow.{QueuedRow}
 use Rattle.am_kernel.specs.declared.row.Attached.{Attached}
-use Rattle.am_kernel.specs.Walks.{closing}
-use Rattle.am_kernel.specs.Attachments.{closing_if_live}
+use Rattle.am_kernel.specs.Catatonic.{closing, closing_if_live}
 use Rattle.am_daemon.specs.declared.acts.Writing.{Writing}
 use Rattle.am_daemon.specs.declared.fault.DaemonFault.{DaemonFault}
 use Rattle.am_daemon.specs.Deliveries.{delivery_fault}

@@ -1,7 +1,6 @@
 use Rattle.std.proofs.Common.{◌++◌, List, refl, ap, ◌∙◌}
 use Rattle.am_state.specs.declared.obs.Obs.{Obs}
-use Rattle.am_kernel.specs.Walks.{closing, closed}
-use Rattle.am_kernel.specs.Attachments.{catatonic_refusal}
+use Rattle.am_kernel.specs.Catatonic.{closing, closed, catatonic_refusal}
 use Rattle.am_machine.specs.declared.answer.Answer.TheVariants as answers
 use Rattle.am_machine.specs.Outcome.{with_kernel}
 use Rattle.am_world.specs.Halves.{state_of}
