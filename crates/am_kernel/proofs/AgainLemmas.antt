@@ -3,6 +3,7 @@ use Rattle.std.proofs.Common.{◌≡◌, ℕ, Bool, true, false, cond, ◌==◌,
 use Rattle.std.specs.Prelude.{find, is_some, nat_le}
 use Rattle.std.specs.Option.{option_copied}
 use Rattle.std.proofs.lemmas.Bool.Decides.{Decides-eqb}
+use Rattle.am_names.proofs.Basics.{none_where_not_some}
 use Rattle.am_names.specs.FailNo.{errno_of}
 use Rattle.am_names.specs.declared.fail_no.FailNo.{FailNo}
 use Rattle.am_names.specs.declared.errno.Errno.{Errno}
@@ -19,8 +20,8 @@ use Rattle.am_wait.specs.Calls.{status_refusal, wait_refusal}
 use Rattle.am_expire.specs.Uses.{mount_of}
 use Rattle.am_walk.specs.Walks.{walk_of}
 use Rattle.am_kernel.specs.declared.row.WalkRow.{WalkRow}
-use Rattle.am_kernel.specs.declared.begin.Waited.{Waited}
-use Rattle.am_kernel.specs.declared.begin.Waited.TheVariants.{OnMount}
+use Rattle.am_kernel.specs.declared.waited.Waited.{Waited}
+use Rattle.am_kernel.specs.declared.waited.Waited.TheVariants.{OnMount}
 use Rattle.am_kernel.specs.declared.begun.Begin.{Begin}
 use Rattle.am_kernel.specs.declared.begun.Begun.{Begun}
 use Rattle.am_kernel.specs.declared.begun.Begun.TheVariants.{Failed, Expired}
@@ -28,8 +29,8 @@ use Rattle.am_kernel.specs.State.{KernelState}
 use Rattle.am_kernel.specs.Sites.{scene_of}
 use Rattle.am_kernel.specs.Outcome.{Outcome, Goes, Fails, Meets, IsAsBefore}
 use Rattle.am_kernel.specs.Walks.{begun_with}
-use Rattle.am_kernel.specs.Resumes.{freed_from, failed, or_failed, most_begins, next_begin, again, expired_as, told_as, walk_in, resumed_as, resumed_walk, resumed_by, resumed_at, resume_at}
-use Rattle.am_kernel.specs.Inside.{freed_as, waited_for, waited_on, again_for, fallen, IsFree}
+use Rattle.am_kernel.specs.Resumes.{freed_from, failed, or_failed, most_begins, next_begin, again, expired_as, told_as, walk_in, resumed_as, resumed_walk, resumed_by, resumed_at, resume_at, again_for, fallen}
+use Rattle.am_kernel.specs.Waited.{freed_as, waited_for, waited_on, IsFree}
 
 abbrev or_first : {X : Type 0} → X → Option X → X
 or_first x (Some y) = y
@@ -47,22 +48,22 @@ found_number key n (r ∷ rows) row h = by_test (key r == n) refl h (found_numbe
 -- ---- errors
 
 -- an error leaves all as before, and is that of memory or of the outcome
-pub err_is : (o : Outcome) (e : Errno) (k new : KernelState) (before after : List Obs) → Meets o (Err e) k new before after → IsAsBefore k new before after × ((e ≡ NoMemory) ⊎ (o ≡ Fails e))
-err_is (Goes answer shown made) e k new before after h = (h.1, inl h.0)
-err_is (Fails f) NoMemory k new before after h = (h, inl refl)
-err_is (Fails f) ENOENT k new before after h = (h.1, inr (ap Fails (sym h.0)))
-err_is (Fails f) EPERM k new before after h = (h.1, inr (ap Fails (sym h.0)))
-err_is (Fails f) EBUSY k new before after h = (h.1, inr (ap Fails (sym h.0)))
-err_is (Fails f) EEXIST k new before after h = (h.1, inr (ap Fails (sym h.0)))
-err_is (Fails f) EINVAL k new before after h = (h.1, inr (ap Fails (sym h.0)))
-err_is (Fails f) EAGAIN k new before after h = (h.1, inr (ap Fails (sym h.0)))
-err_is (Fails f) ELOOP k new before after h = (h.1, inr (ap Fails (sym h.0)))
-err_is (Fails f) ENAMETOOLONG k new before after h = (h.1, inr (ap Fails (sym h.0)))
-err_is (Fails f) ENOSPC k new before after h = (h.1, inr (ap Fails (sym h.0)))
-err_is (Fails f) NotReleased k new before after h = (h.1, inr (ap Fails (sym h.0)))
-err_is (Fails f) Stranger k new before after h = (h.1, inr (ap Fails (sym h.0)))
+pub error_of_outcome : (o : Outcome) (e : Errno) (k new : KernelState) (before after : List Obs) → Meets o (Err e) k new before after → IsAsBefore k new before after × ((e ≡ NoMemory) ⊎ (o ≡ Fails e))
+error_of_outcome (Goes answer shown made) e k new before after h = (h.1, inl h.0)
+error_of_outcome (Fails f) NoMemory k new before after h = (h, inl refl)
+error_of_outcome (Fails f) ENOENT k new before after h = (h.1, inr (ap Fails (sym h.0)))
+error_of_outcome (Fails f) EPERM k new before after h = (h.1, inr (ap Fails (sym h.0)))
+error_of_outcome (Fails f) EBUSY k new before after h = (h.1, inr (ap Fails (sym h.0)))
+error_of_outcome (Fails f) EEXIST k new before after h = (h.1, inr (ap Fails (sym h.0)))
+error_of_outcome (Fails f) EINVAL k new before after h = (h.1, inr (ap Fails (sym h.0)))
+error_of_outcome (Fails f) EAGAIN k new before after h = (h.1, inr (ap Fails (sym h.0)))
+error_of_outcome (Fails f) ELOOP k new before after h = (h.1, inr (ap Fails (sym h.0)))
+error_of_outcome (Fails f) ENAMETOOLONG k new before after h = (h.1, inr (ap Fails (sym h.0)))
+error_of_outcome (Fails f) ENOSPC k new before after h = (h.1, inr (ap Fails (sym h.0)))
+error_of_outcome (Fails f) NotReleased k new before after h = (h.1, inr (ap Fails (sym h.0)))
+error_of_outcome (Fails f) Stranger k new before after h = (h.1, inr (ap Fails (sym h.0)))
 
--- where memory runs out, any outcome that goes is met
+-- where memory runs out, any outcome that goes on is met
 memory_met : (answer : Begun) (shown : List Obs) (made : KernelState) (r : Result Begun Errno) (k new : KernelState) (before after : List Obs) → Meets (Fails NoMemory) r k new before after → Meets (Goes answer shown made) r k new before after
 memory_met answer shown made (Ok begun) k new before after h = absurd h
 memory_met answer shown made (Err NoMemory) k new before after h = (refl, h)
@@ -103,17 +104,17 @@ falls_by o e base r k new before after (inr f) h =
     subst (λ (p : Outcome). Meets (or_failed p base) r k new before after) (sym f) (fallen_fails e base r k new before after h)
 
 -- a walk that doesn't begin again fails
-falls : (o : Outcome) (e : Errno) (base : KernelState → KernelState) (r : Result Begun Errno) (k between new : KernelState) (before met after : List Obs) → Meets o (Err e) k between before met → Meets (fallen e (base between)) r between new met after → Meets (or_failed o (base k)) r k new before after
-falls o e base r k between new before met after h g =
-    let two = err_is o e k between before met h in
+fails_unless_gone : (o : Outcome) (e : Errno) (base : KernelState → KernelState) (r : Result Begun Errno) (k between new : KernelState) (before met after : List Obs) → Meets o (Err e) k between before met → Meets (fallen e (base between)) r between new met after → Meets (or_failed o (base k)) r k new before after
+fails_unless_gone o e base r k between new before met after h g =
+    let two = error_of_outcome o e k between before met h in
     falls_by o e (base k) r k new before after two.1
     (subst (λ (s : KernelState). Meets (fallen e (base s)) r s new before after) two.0.state
     (subst (λ (xs : List Obs). Meets (fallen e (base between)) r between new xs after) two.0.seen g))
 
 -- one that does goes on
-goes : (o : Outcome) (base : KernelState) (begun : Begun) (k new : KernelState) (before after : List Obs) → Meets o (Ok begun) k new before after → Meets (or_failed o base) (Ok begun) k new before after
-goes (Goes answer shown made) base begun k new before after h = h
-goes (Fails e) base begun k new before after h = absurd h
+goes_unless_failed : (o : Outcome) (base : KernelState) (begun : Begun) (k new : KernelState) (before after : List Obs) → Meets o (Ok begun) k new before after → Meets (or_failed o base) (Ok begun) k new before after
+goes_unless_failed (Goes answer shown made) base begun k new before after h = h
+goes_unless_failed (Fails e) base begun k new before after h = absurd h
 
 -- ---- again
 
@@ -144,7 +145,7 @@ pub again_goes : (row : WalkRow) (wait : WaitRow) (begin : Begin) (waited : Wait
     Meets (again_for (walk_in k.walks wait.walker) pipe k wait moment) (Ok begun) k new before after
 again_goes row wait begin waited pipe k new moment begun before after e w found few h =
     subst (λ (o : Outcome). Meets o (Ok begun) k new before after) (sym (again_is row wait pipe k moment found few))
-    (goes (begun_as (next_begin row moment) wait.walker (waited_on wait) pipe k) (freed_as (waited_on wait) wait.walker moment k) begun k new before after
+    (goes_unless_failed (begun_as (next_begin row moment) wait.walker (waited_on wait) pipe k) (freed_as (waited_on wait) wait.walker moment k) begun k new before after
     (subst (λ (o : Outcome). Meets o (Ok begun) k new before after) (same_outcome row wait begin waited pipe k moment e w found) h))
 
 pub again_falls : (row : WalkRow) (wait : WaitRow) (begin : Begin) (waited : Waited) (pipe : PipeState) (k between new : KernelState) (moment : ℕ) (errno : Errno) (r : Result Begun Errno) (before met after : List Obs) → begin ≡ next_begin row moment → waited ≡ waited_on wait → walk_in k.walks wait.walker ≡ Some row → nat_le most_begins row.begins ≡ false →
@@ -153,7 +154,7 @@ pub again_falls : (row : WalkRow) (wait : WaitRow) (begin : Begin) (waited : Wai
     Meets (again_for (walk_in k.walks wait.walker) pipe k wait moment) r k new before after
 again_falls row wait begin waited pipe k between new moment errno r before met after e w found few h g =
     subst (λ (o : Outcome). Meets o r k new before after) (sym (again_is row wait pipe k moment found few))
-    (falls (begun_as (next_begin row moment) wait.walker (waited_on wait) pipe k) errno (λ s. freed_as (waited_on wait) wait.walker moment s) r k between new before met after
+    (fails_unless_gone (begun_as (next_begin row moment) wait.walker (waited_on wait) pipe k) errno (λ s. freed_as (waited_on wait) wait.walker moment s) r k between new before met after
     (subst (λ (o : Outcome). Meets o (Err errno) k between before met) (same_outcome row wait begin waited pipe k moment e w found) h)
     (subst (λ (x : Waited). Meets (fallen errno (freed_as x wait.walker moment between)) r between new met after) w g))
 
@@ -226,14 +227,10 @@ pub copied_some : {X : Type 0} (o : Option (Bor X)) → is_some o ≡ true → i
 copied_some None h = absurd cc
 copied_some (Some x) h = refl
 
-nowhere : (o : Option ℕ) → is_some o ≡ false → o ≡ None
-nowhere None h = refl
-nowhere (Some n) h = absurd cc
-
 -- the walker of the wait is inside no mount
 pub resume_outside : (k : KernelState) (walker : ℕ) (wait : WaitRow) → is_some (mount_of k.uses walker) ≡ false → wait_of k.waits.waits walker ≡ Some wait → mount_of k.uses wait.walker ≡ None
 resume_outside k walker wait outside waits =
-    ap (mount_of k.uses) (found_number (λ (row : WaitRow). row.walker) walker k.waits.waits wait waits) ∙ nowhere (mount_of k.uses walker) outside
+    ap (mount_of k.uses) (found_number (λ (row : WaitRow). row.walker) walker k.waits.waits wait waits) ∙ none_where_not_some (mount_of k.uses walker) outside
 
 free_by : (kind : TokenKind) (k : KernelState) (walker : ℕ) (wait : WaitRow) (status : Status) → wait_of k.waits.waits walker ≡ Some wait → wait.status ≡ Some status → IsFree (waited_for kind wait.trigger) walker k.waits
 free_by Missing k walker wait status waits answered = ap (λ (o : Option WaitRow). wait_refusal o) waits ∙ ap (λ (o : Option Status). status_refusal o) answered

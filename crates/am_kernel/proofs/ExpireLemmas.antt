@@ -15,7 +15,7 @@ use Rattle.am_kernel.specs.State.{KernelState}
 use Rattle.am_kernel.specs.Outcome.{Meets}
 use Rattle.am_kernel.specs.Walks.{packet_for}
 use Rattle.am_kernel.specs.Expires.{expires_by, expires_next}
-use Rattle.am_kernel.proofs.NotifyLemmas.{refused_by, after_wait, none_used}
+use Rattle.am_kernel.proofs.NotifyLemmas.{limits_refuse, limits_after_wait, limits_are_left}
 
 -- ---- what is seen, with this token and packet
 
@@ -30,11 +30,11 @@ expiry_packet walker trigger token = packet_for Expire token walker trigger
 pub expiry_refused : (k : KernelState) (walker : ℕ) (trigger : Trigger) (attach : ℕ) (pipe : PipeState) (e : Errno) (before : List Obs) → wait_of k.waits.waits walker ≡ None → open_refusal walker k.waits ≡ Some e →
     Meets (expires_next (Some trigger) pipe k walker attach) (Err e) k k before before
 expiry_refused k walker trigger attach pipe e before idle why_not =
-    refused_by (is_exhausted k.waits) (is_full k.waits) (expires_by pipe k walker trigger attach) k before e
-    (after_wait (is_some (wait_of k.waits.waits walker)) (is_exhausted k.waits) (is_full k.waits) (Some e) (ap (λ (o : Option WaitRow). is_some o) idle) why_not)
+    limits_refuse (is_exhausted k.waits) (is_full k.waits) (expires_by pipe k walker trigger attach) k before e
+    (limits_after_wait (is_some (wait_of k.waits.waits walker)) (is_exhausted k.waits) (is_full k.waits) (Some e) (ap (λ (o : Option WaitRow). is_some o) idle) why_not)
 
 pub expiry_by : (k : KernelState) (walker : ℕ) (trigger : Trigger) (attach : ℕ) (pipe : PipeState) → wait_of k.waits.waits walker ≡ None → open_refusal walker k.waits ≡ None →
     expires_next (Some trigger) pipe k walker attach ≡ expires_by pipe k walker trigger attach
 expiry_by k walker trigger attach pipe idle room =
-    let two = none_used (is_exhausted k.waits) (is_full k.waits) (after_wait (is_some (wait_of k.waits.waits walker)) (is_exhausted k.waits) (is_full k.waits) None (ap (λ (o : Option WaitRow). is_some o) idle) room) in
+    let two = limits_are_left (is_exhausted k.waits) (is_full k.waits) (limits_after_wait (is_some (wait_of k.waits.waits walker)) (is_exhausted k.waits) (is_full k.waits) None (ap (λ (o : Option WaitRow). is_some o) idle) room) in
     rw (two.0, two.1) refl

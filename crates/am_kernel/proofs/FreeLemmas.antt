@@ -15,14 +15,15 @@ use Rattle.am_wait.specs.Rows.{WaitRows, token_of, wait_of}
 use Rattle.am_wait.specs.Calls.{is_full, collected, still_waits, status_refusal, wait_refusal, rejoin_refusal}
 use Rattle.am_wait.proofs.CallLemmas.{idle_collected}
 use Rattle.am_kernel.specs.declared.row.WalkRow.{WalkRow}
-use Rattle.am_kernel.specs.declared.begin.Waited.{Waited}
-use Rattle.am_kernel.specs.declared.begin.Waited.TheVariants.{Idle, OnMount, OnExpiry}
+use Rattle.am_kernel.specs.declared.waited.Waited.{Waited}
+use Rattle.am_kernel.specs.declared.waited.Waited.TheVariants.{Idle, OnMount, OnExpiry}
 use Rattle.am_kernel.specs.declared.begun.Begin.{Begin}
 use Rattle.am_kernel.specs.declared.begun.Begun.TheVariants.{Waits}
 use Rattle.am_kernel.specs.State.{KernelState}
 use Rattle.am_kernel.specs.Outcome.{Outcome, Goes, Fails, IsAsBefore, Meets}
-use Rattle.am_kernel.specs.Walks.{passes, walk_row, without_walk, with_walk, with_joined, joins}
-use Rattle.am_kernel.specs.Inside.{expired_uses, forgotten_waits, forgotten_walks, freed_as, IsFree}
+use Rattle.am_kernel.specs.Walks.{walk_row, without_walk, with_walk, with_joined, joins}
+use Rattle.am_kernel.specs.Observations.{passes}
+use Rattle.am_kernel.specs.Waited.{expired_uses, forgotten_waits, forgotten_walks, freed_as, IsFree}
 
 -- ---- what is collected
 

@@ -22,17 +22,17 @@ with_table k table = record k { table = table }
 
 -- ---- the numbers of file systems
 
-apart : (n last : ℕ) → n ≤ last → (n == last + 1) ≡ false
-apart n last h = apart_by (n == last + 1) refl
+pub differs_from_next : (n last : ℕ) → n ≤ last → (n == last + 1) ≡ false
+differs_from_next n last h = differs_by_test (n == last + 1) refl
   where
-    apart_by : (b : Bool) → (n == last + 1) ≡ b → b ≡ false
-    apart_by true e = let same : n ≡ last + 1 = (Decides-eqb n (last + 1)).0 e in absurd (omega arith)
-    apart_by false e = refl
+    differs_by_test : (b : Bool) → (n == last + 1) ≡ b → b ≡ false
+    differs_by_test true e = let same : n ≡ last + 1 = (Decides-eqb n (last + 1)).0 e in absurd (omega arith)
+    differs_by_test false e = refl
 
 none_numbered : (last : ℕ) (rows : List Autofs) → All (λ (row : Autofs). row.fs ≤ last) rows → find (λ row. row.fs == last + 1) rows ≡ None
 none_numbered last [] all = refl
 none_numbered last (row ∷ rows) all =
-    rw (apart row.fs last (All-head (λ (r : Autofs). r.fs ≤ last) row rows all)) (none_numbered last rows (All-tail (λ (r : Autofs). r.fs ≤ last) row rows all))
+    rw (differs_from_next row.fs last (All-head (λ (r : Autofs). r.fs ≤ last) row rows all)) (none_numbered last rows (All-tail (λ (r : Autofs). r.fs ≤ last) row rows all))
 
 -- the number of the next file system is new
 pub next_is_new : (last : ℕ) (t : TriggerRows) → All (λ (row : Autofs). row.fs ≤ last) t.autofs → add_refusal (last + 1) t ≡ None

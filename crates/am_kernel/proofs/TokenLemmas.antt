@@ -6,21 +6,21 @@ use Rattle.am_names.specs.declared.row.OpenToken.{OpenToken}
 use Rattle.am_trigger.specs.Rows.{TriggerRows}
 use Rattle.am_wait.specs.Rows.{WaitRows, token_of, joined_row, with_waiter, without_token}
 use Rattle.am_wait.specs.Calls.{fs_released, collected, joined_on, rejoined}
-use Rattle.am_kernel.specs.declared.begin.Waited.{Waited}
-use Rattle.am_kernel.specs.declared.begin.Waited.TheVariants.{Idle, OnMount, OnExpiry}
-use Rattle.am_kernel.specs.Inside.{expired_uses}
+use Rattle.am_kernel.specs.declared.waited.Waited.{Waited}
+use Rattle.am_kernel.specs.declared.waited.Waited.TheVariants.{Idle, OnMount, OnExpiry}
+use Rattle.am_kernel.specs.Waited.{expired_uses}
 
 -- what is left out makes no list longer
-pub no_more : {X : Type 0} (keep : X → Bool) (xs : List X) → length (filter keep xs) ≤ length xs
-no_more keep [] = omega arith
-no_more keep (x ∷ xs) = by (keep x) (no_more keep xs)
+pub filtered_no_longer : {X : Type 0} (keep : X → Bool) (xs : List X) → length (filter keep xs) ≤ length xs
+filtered_no_longer keep [] = omega arith
+filtered_no_longer keep (x ∷ xs) = by (keep x) (filtered_no_longer keep xs)
   where
     by : (b : Bool) → length (filter keep xs) ≤ length xs → length (cond b (x ∷ filter keep xs) (filter keep xs)) ≤ length (x ∷ xs)
     by true h = omega (arith, h)
     by false h = omega (arith, h)
 
 pub fewer_released : (fs : ℕ) (w : WaitRows) → length (fs_released fs w).tokens ≤ length w.tokens
-fewer_released fs w = no_more (λ (row : OpenToken). not (row.trigger.fs == fs)) w.tokens
+fewer_released fs w = filtered_no_longer (λ (row : OpenToken). not (row.trigger.fs == fs)) w.tokens
 
 -- a token that closes was open
 pub one_fewer : (token : ℕ) (rows : List OpenToken) → is_some (token_of rows token) ≡ true → length (without_token token rows) + 1 ≤ length rows
@@ -28,7 +28,7 @@ one_fewer token [] h = absurd cc
 one_fewer token (row ∷ rows) h = by (row.token == token) refl h (one_fewer token rows)
   where
     by : (b : Bool) → (row.token == token) ≡ b → is_some (cond b (Some row) (token_of rows token)) ≡ true → (is_some (token_of rows token) ≡ true → length (without_token token rows) + 1 ≤ length rows) → length (cond (not b) (row ∷ without_token token rows) (without_token token rows)) + 1 ≤ length (row ∷ rows)
-    by true e h later = omega (arith, no_more (λ (r : OpenToken). not (r.token == token)) rows)
+    by true e h later = omega (arith, filtered_no_longer (λ (r : OpenToken). not (r.token == token)) rows)
     by false e h later = omega (arith, later h)
 
 joined_length : (token walker : ℕ) (rows : List OpenToken) → length (with_waiter token walker rows) ≡ length rows

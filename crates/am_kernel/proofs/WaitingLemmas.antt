@@ -4,13 +4,11 @@ use Rattle.std.specs.Prelude.{is_some, drop, remove, position, nat_eq, nat_lt, l
 use Rattle.std.specs.List.{list_any, position_or_len}
 use Rattle.std.proofs.lemmas.Bool.Decides.{nat_tests, Decides-eqb}
 use Rattle.std.proofs.lemmas.List.{drop-drop}
+use Rattle.am_names.proofs.Basics.{equal_by_test, none_where_not_some}
 use Rattle.am_kernel.specs.declared.row.WalkRow.{WalkRow}
 use Rattle.am_kernel.specs.Walks.{without_walk}
 use Rattle.am_kernel.specs.Resumes.{walk_in}
 use Rattle.am_kernel.specs.WalkTable.{is_among, IsSingle}
-
-same_number : (a b : ℕ) → (a == b) ≡ true → a ≡ b
-same_number a b e = (Decides-eqb a b).0 e
 
 -- ---- a walker that has no walk
 
@@ -21,10 +19,6 @@ none_taken w (row ∷ rows) none = by_test (row.walker == w) none (none_taken w 
     by_test : (b : Bool) → cond b (Some row) (walk_in rows w) ≡ None → (walk_in rows w ≡ None → without_walk w rows ≡ rows) → cond (not b) (row ∷ without_walk w rows) (without_walk w rows) ≡ row ∷ rows
     by_test true h later = absurd cc
     by_test false h later = ap (λ (others : List WalkRow). row ∷ others) (later h)
-
-pub nothing : {X : Type 0} (o : Option X) → is_some o ≡ false → o ≡ None
-nothing None h = refl
-nothing (Some x) h = absurd cc
 
 -- ---- which walkers have a walk
 
@@ -57,20 +51,20 @@ has_others w (row ∷ rows) q = by_test (row.walker == w) refl (has_others w row
 
     by_test : (b : Bool) → (row.walker == w) ≡ b → is_some (walk_in (without_walk w rows) q) ≡ cond (w == q) false (is_some (walk_in rows q)) →
         is_some (walk_in (cond (not b) (row ∷ without_walk w rows) (without_walk w rows)) q) ≡ cond (w == q) false (is_some (walk_in (row ∷ rows) q))
-    by_test true same later = later ∙ away (w == q) refl (same_number row.walker w same)
+    by_test true same later = later ∙ away (w == q) refl (equal_by_test row.walker w same)
     by_test false other later =
         has_first row (without_walk w rows) q ∙ ap (cond (row.walker == q) true) later
         ∙ stays (w == q) (row.walker == q) refl refl other
         ∙ ap (cond (w == q) false) (sym (has_first row rows q))
 
 pub none_left : (w : ℕ) (rows : List WalkRow) → walk_in (without_walk w rows) w ≡ None
-none_left w rows = nothing _ (has_others w rows w ∙ ap (λ (b : Bool). cond b false (is_some (walk_in rows w))) ((Decides-eqb w w).1 refl))
+none_left w rows = none_where_not_some _ (has_others w rows w ∙ ap (λ (b : Bool). cond b false (is_some (walk_in rows w))) ((Decides-eqb w w).1 refl))
 
 -- ---- each walker has one walk
 
 gone_too : (w q : ℕ) (rows : List WalkRow) → walk_in rows q ≡ None → walk_in (without_walk w rows) q ≡ None
 gone_too w q rows none =
-    nothing _ (has_others w rows q ∙ ap (λ (o : Option WalkRow). cond (w == q) false (is_some o)) none ∙ (elim (w == q) as (λ b. cond b false false ≡ false) [ true ↦ refl | false ↦ refl ]))
+    none_where_not_some _ (has_others w rows q ∙ ap (λ (o : Option WalkRow). cond (w == q) false (is_some o)) none ∙ (elim (w == q) as (λ b. cond b false false ≡ false) [ true ↦ refl | false ↦ refl ]))
 
 pub single_taken : (w : ℕ) (rows : List WalkRow) → IsSingle rows → IsSingle (without_walk w rows)
 single_taken w [] single = single
@@ -93,7 +87,7 @@ single_put (r ∷ rows) row single none = (free, single_put rows row single.1 (l
     apart false e h = grind (arith, nat_tests, e)
 
     free : walk_in (rows ++ row ∷ []) r.walker ≡ None
-    free = nothing _ (has_last rows row r.walker ∙ ap (λ (b : Bool). cond b true (is_some (walk_in rows r.walker))) (apart (r.walker == row.walker) refl none) ∙ ap (λ (o : Option WalkRow). is_some o) single.0)
+    free = none_where_not_some _ (has_last rows row r.walker ∙ ap (λ (b : Bool). cond b true (is_some (walk_in rows r.walker))) (apart (r.walker == row.walker) refl none) ∙ ap (λ (o : Option WalkRow). is_some o) single.0)
 
 -- ---- where the walk is
 
@@ -105,16 +99,16 @@ removed_first w [] single = refl
 removed_first w (row ∷ rows) single = by_test (row.walker == w) refl (removed_first w rows single.1)
   where
     by_test : (b : Bool) → (row.walker == w) ≡ b → remove rows (position_or_len (λ r. r.walker == w) rows) ≡ without_walk w rows → remove (row ∷ rows) (cond (not b) (1 + position_or_len (λ r. r.walker == w) rows) 0) ≡ cond (not b) (row ∷ without_walk w rows) (without_walk w rows)
-    by_test true same later = sym (none_taken w rows (ap (walk_in rows) (sym (same_number row.walker w same)) ∙ single.0))
+    by_test true same later = sym (none_taken w rows (ap (walk_in rows) (sym (equal_by_test row.walker w same)) ∙ single.0))
     by_test false other later =
         one_more (position_or_len (λ r. r.walker == w) rows) row rows ∙ ap (λ (others : List WalkRow). row ∷ others) later
 
-found : (b : Bool) (n place : ℕ) → cond b (Some n) None ≡ Some place → n ≡ place
-found true n place e = cc
-found false n place e = absurd cc
+found_place : (b : Bool) (n place : ℕ) → cond b (Some n) None ≡ Some place → n ≡ place
+found_place true n place e = cc
+found_place false n place e = absurd cc
 
 pub taken_at : (w place : ℕ) (rows : List WalkRow) → IsSingle rows → position (λ row. row.walker == w) rows ≡ Some place → remove rows place ≡ without_walk w rows
-taken_at w place rows single e = subst (λ (n : ℕ). remove rows n ≡ without_walk w rows) (found _ _ place e) (removed_first w rows single)
+taken_at w place rows single e = subst (λ (n : ℕ). remove rows n ≡ without_walk w rows) (found_place _ _ place e) (removed_first w rows single)
 
 -- ---- behind the walks that are over
 
@@ -142,25 +136,25 @@ no_place w (row ∷ rows) h = by_test (row.walker == w) h (no_place w rows)
     by_test true less later = absurd (grind (arith, nat_tests, less))
     by_test false less later = later (grind (arith, nat_tests, less))
 
-not_there : (b : Bool) (n : ℕ) → cond b (Some n) None ≡ None → b ≡ false
-not_there true n e = absurd cc
-not_there false n e = refl
+false_where_none : (b : Bool) (n : ℕ) → cond b (Some n) None ≡ None → b ≡ false
+false_where_none true n e = absurd cc
+false_where_none false n e = refl
 
 pub none_there : (w : ℕ) (rows : List WalkRow) → position (λ row. row.walker == w) rows ≡ None → without_walk w rows ≡ rows
-none_there w rows e = none_taken w rows (no_place w rows (not_there _ _ e))
+none_there w rows e = none_taken w rows (no_place w rows (false_where_none _ _ e))
 
 -- ---- among the walkers
 
-flipped : (a b : ℕ) → nat_eq a b ≡ (b == a)
-flipped a b = grind (arith, nat_tests)
+nat_eq_the_other_way : (a b : ℕ) → nat_eq a b ≡ (b == a)
+nat_eq_the_other_way a b = grind (arith, nat_tests)
 
-pub asked : (w : ℕ) (walkers : List ℕ) → list_any (nat_eq w) walkers ≡ is_among w walkers
-asked w [] = refl
-asked w (other ∷ walkers) = rw (flipped w other, asked w walkers) refl
+pub list_any_is_among : (w : ℕ) (walkers : List ℕ) → list_any (nat_eq w) walkers ≡ is_among w walkers
+list_any_is_among w [] = refl
+list_any_is_among w (other ∷ walkers) = rw (nat_eq_the_other_way w other, list_any_is_among w walkers) refl
 
-same_test : (a b : ℕ) → nat_eq a b ≡ (a == b)
-same_test a b = grind (arith, nat_tests)
+nat_eq_is_eqb : (a b : ℕ) → nat_eq a b ≡ (a == b)
+nat_eq_is_eqb a b = grind (arith, nat_tests)
 
 pub among_others : (w other : ℕ) (old new : List ℕ) → list_any (nat_eq other) new ≡ cond (nat_eq w other) false (list_any (nat_eq other) old) → is_among other new ≡ cond (w == other) false (is_among other old)
 among_others w other old new h =
-    sym (asked other new) ∙ h ∙ ap (λ (b : Bool). cond b false (list_any (nat_eq other) old)) (same_test w other) ∙ ap (cond (w == other) false) (asked other old)
+    sym (list_any_is_among other new) ∙ h ∙ ap (λ (b : Bool). cond b false (list_any (nat_eq other) old)) (nat_eq_is_eqb w other) ∙ ap (cond (w == other) false) (list_any_is_among other old)

@@ -1,4 +1,5 @@
--- An autofs that is attached, and what its daemon mounts on its triggers.
+-- An autofs that is attached, and what its daemon mounts on its triggers (autofs.rst, "Mount
+-- Traps"; sharedsubtree.rst, 5).
 use Rattle.std.specs.Prelude.{ℕ, ◌+◌, ◌==◌, Bool, false, ◌&&◌, not, is_some, is_none, List, [], ◌∷◌, ◌++◌, Option, Some, None, Result, Ok, Err, if◌then◌else◌}
 use Rattle.std.specs.List.{flat_map}
 use Rattle.am_names.specs.declared.errno.Errno.{Errno}
@@ -32,6 +33,7 @@ new_fs_refusal k mount = or_else (fs_refusal k) (added.mount_refusal mount k.tab
 abbrev pub coming_in : MountTable → ℕ → List ℕ
 coming_in t mount = added.new_mounts t (added.mounts_made mount t)
 
+-- the same in the kernel's table
 abbrev pub coming : KernelState → ℕ → List ℕ
 coming k mount = coming_in k.table mount
 
@@ -44,6 +46,7 @@ with_mount at k = record k {
 
 -- ---- attaching an autofs at a path of namespace 0
 
+-- the position isn't on an autofs, and the numbers are left
 abbrev pub attach_tests : KernelState → Position → Option Errno
 attach_tests k at =
     if is_on_autofs k at.mount then Some EPERM
@@ -53,6 +56,7 @@ attach_tests k at =
 abbrev pub autofs_refusal : KernelState → List (List ℕ) → Option Errno
 autofs_refusal k names = tested (position_at k 0 names) (attach_tests k)
 
+-- a file system's first attachment, with its timeout
 abbrev pub attached_row : ℕ → ℕ → ℕ → Attached
 attached_row fs attach timeout = record { fs = fs; attach = attach; timeout = timeout }
 
@@ -67,10 +71,12 @@ attached_at direct timeout k at =
       last_attach = attach;
     }
 
+-- an autofs is attached where the path leads
 abbrev pub with_attached : List (List ℕ) → Bool → ℕ → KernelState → KernelState
 with_attached names direct timeout k =
     from_position (position_at k 0 names) k (attached_at direct timeout k)
 
+-- this is seen of an autofs that is attached at the position
 abbrev pub attaching_at : KernelState → Result Position Errno → List Obs
 attaching_at k (Err e) = []
 attaching_at k (Ok at) = seen.Mounted (coming k at.mount) ∷ []
@@ -87,9 +93,11 @@ is_there_in None k trigger = false
 is_there_in (Some row) k trigger =
     if row.direct then is_none trigger.name else is_some trigger.name && is_made k.triggers trigger
 
+-- the trigger is there in its autofs
 abbrev pub is_there : KernelState → Trigger → Bool
 is_there k trigger = is_there_in (autofs_of k.triggers trigger.fs) k trigger
 
+-- the daemon's mount of the autofs; 0, which no mount is, where there is none
 abbrev pub location_in : Option Autofs → ℕ
 location_in None = 0
 location_in (Some row) = row.location
@@ -111,26 +119,30 @@ mount_on_refusal k attach trigger =
     else if is_some (mounted_on k trigger) then Some EBUSY
     else new_fs_refusal k (location_of k trigger.fs)
 
+-- the trigger's place in the daemon's mount of its autofs
 abbrev pub trigger_position : KernelState → Trigger → Position
 trigger_position k trigger =
     record { mount = location_of k trigger.fs; place = place_of trigger }
 
+-- a new file system is mounted on the trigger, at the daemon's mount, and propagates
 abbrev pub with_mount_on : Trigger → KernelState → KernelState
 with_mount_on trigger k = with_mount (trigger_position k trigger) k
 
 -- ---- unmounting from a trigger
 
-abbrev pub umount_tests : Option ℕ → KernelState → Option Errno
-umount_tests None k = Some ENOENT
-umount_tests (Some mount) k = umount_refusal (is_used k.uses) mount k.table
+-- something is mounted on the trigger, nothing is mounted on that, and nothing that goes is in use
+abbrev pub umount_from_tests : Option ℕ → KernelState → Option Errno
+umount_from_tests None k = Some ENOENT
+umount_from_tests (Some mount) k = umount_refusal (is_used k.uses) mount k.table
 
 -- the attachment is current, something is mounted on the trigger at the daemon's mount, nothing is
 -- mounted on that, and nothing that goes is in use
 abbrev pub umount_from_refusal : KernelState → ℕ → Trigger → Option Errno
 umount_from_refusal k attach trigger =
     if not (is_current k trigger.fs attach) then Some EPERM
-    else umount_tests (mounted_on k trigger) k
+    else umount_from_tests (mounted_on k trigger) k
 
+-- what an unmount of the mount removes, if there is one
 abbrev pub gone_with : KernelState → Option ℕ → List ℕ
 gone_with k None = []
 gone_with k (Some mount) = unmounted k.table mount
@@ -139,11 +151,13 @@ gone_with k (Some mount) = unmounted k.table mount
 abbrev pub gone_from : KernelState → Trigger → List ℕ
 gone_from k trigger = gone_with k (mounted_on k trigger)
 
+-- these mounts have gone
 abbrev pub without_mounts : List ℕ → KernelState → KernelState
 without_mounts gone k = record k { table = removed gone k.table }
 
 -- ---- what is mounted on the triggers of a file system, at the daemon's mount
 
+-- the row is the top at this mountpoint, which is in this mount
 abbrev pub is_top_of : KernelState → ℕ → MountRow → Option Position → Bool
 is_top_of k location row None = false
 is_top_of k location row (Some at) =
@@ -153,6 +167,7 @@ is_top_of k location row (Some at) =
 abbrev pub is_top_at : KernelState → ℕ → MountRow → Bool
 is_top_at k location row = is_top_of k location row row.mountpoint
 
+-- the trigger of the autofs at this mountpoint
 abbrev pub trigger_at : Autofs → Option Position → Option Trigger
 trigger_at autofs None = None
 trigger_at autofs (Some at) = trigger_in autofs at.place
@@ -162,16 +177,20 @@ abbrev pub trigger_under : KernelState → Autofs → MountRow → Option Trigge
 trigger_under k autofs row =
     if is_top_at k autofs.location row then trigger_at autofs row.mountpoint else None
 
+-- the trigger with the mount on it, if there is one
 abbrev pub standing_on : Option Trigger → ℕ → List (Trigger × ℕ)
 standing_on None mount = []
 standing_on (Some trigger) mount = (trigger, mount) ∷ []
 
+-- the trigger on which the row is mounted, with its mount
 abbrev pub standing_row : KernelState → Autofs → MountRow → List (Trigger × ℕ)
 standing_row k autofs row = standing_on (trigger_under k autofs row) row.mount
 
+-- the triggers of the autofs on which something is mounted, with their mounts
 abbrev pub standing_of : KernelState → Autofs → List (Trigger × ℕ)
 standing_of k autofs = flat_map (standing_row k autofs) k.table.rows
 
+-- the same of an autofs that may be missing
 abbrev pub standing_in : KernelState → Option Autofs → List (Trigger × ℕ)
 standing_in k None = []
 standing_in k (Some autofs) = standing_of k autofs

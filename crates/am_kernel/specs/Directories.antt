@@ -1,4 +1,5 @@
--- The directories of an indirect autofs, which its daemon makes and removes (autofs.rst, "Content").
+-- The directories of an indirect autofs, which its daemon makes and removes (autofs.rst,
+-- "Content").
 use Rattle.std.specs.Prelude.{ℕ, ◌==◌, Bool, false, ◌&&◌, not, is_some, Option, Some, None, if◌then◌else◌}
 use Rattle.std.specs.List.{list_any}
 use Rattle.am_names.specs.declared.errno.Errno.{Errno}
@@ -12,6 +13,7 @@ use Rattle.am_trigger.specs.Sites.{place_of}
 use Rattle.am_kernel.specs.State.{KernelState}
 use Rattle.am_kernel.specs.Sites.{is_current, or_else}
 
+-- the autofs is there and indirect, and the trigger has a name
 abbrev pub names_directory : Option Autofs → Trigger → Bool
 names_directory None trigger = false
 names_directory (Some row) trigger = not row.direct && is_some trigger.name
@@ -32,9 +34,11 @@ abbrev pub mkdir_refusal : KernelState → ℕ → Trigger → Option Errno
 mkdir_refusal k attach trigger =
     or_else (directory_refusal k attach trigger) (triggers.mkdir_refusal trigger k.triggers)
 
+-- the daemon has made the directory
 abbrev pub with_directory : Trigger → KernelState → KernelState
 with_directory trigger k = record k { triggers = triggers.with_directory trigger k.triggers }
 
+-- the row is a mount of the trigger's file system, and something is mounted on the trigger there
 abbrev pub is_mounted_on : KernelState → Trigger → MountRow → Bool
 is_mounted_on k trigger row =
     row.fs == trigger.fs && is_some (top_of k.table.rows row.mount (place_of trigger))
@@ -51,6 +55,7 @@ rmdir_refusal k attach trigger =
     (or_else (triggers.rmdir_refusal trigger k.triggers)
     (if is_mountpoint k trigger then Some EBUSY else None))
 
+-- the daemon has removed the directory
 abbrev pub without_directory : Trigger → KernelState → KernelState
 without_directory trigger k =
     record k { triggers = triggers.without_directory trigger k.triggers }

@@ -15,7 +15,8 @@ use Rattle.am_kernel.specs.declared.begun.Begun.TheVariants.{Waits, Failed}
 use Rattle.am_kernel.specs.State.{KernelState}
 use Rattle.am_kernel.specs.Sites.{attach_of, is_busy}
 use Rattle.am_kernel.specs.Outcome.{Outcome, Goes, Fails, moment_of, at_moment}
-use Rattle.am_kernel.specs.Walks.{packet_for, closing, closed}
+use Rattle.am_kernel.specs.Walks.{packet_for}
+use Rattle.am_kernel.specs.Catatonic.{closing, closed}
 
 -- ---- what is to expire
 
@@ -23,6 +24,7 @@ use Rattle.am_kernel.specs.Walks.{packet_for, closing, closed}
 abbrev pub attached_of : KernelState → ℕ → Option Attached
 attached_of k fs = find (λ row. row.fs == fs) k.attached
 
+-- the timeout of the attachment, 0 where there is none
 abbrev pub timeout_in : Option Attached → ℕ
 timeout_in None = 0
 timeout_in (Some row) = row.timeout
@@ -61,6 +63,7 @@ with_expiring walker trigger attach k =
       queue = k.queue ++ (record { token = token; attach = attach; packet = packet }) ∷ [];
     }
 
+-- the expiry begins: its packet is queued, and the caller waits
 abbrev pub expires : KernelState → ℕ → Trigger → ℕ → Outcome
 expires k walker trigger attach =
     let token = k.waits.last_token + 1 in

@@ -1,4 +1,5 @@
--- What a request comes to: what the call comes to that it names, and what is seen of it.
+-- What a request comes to: what the call comes to that it names, and what is seen of it
+-- (autofs.rst, "Communicating with autofs: root directory ioctls").
 use Rattle.std.specs.Prelude.{◌≡◌, ◌+◌, List, [], Result, Ok, Err}
 use Rattle.am_names.specs.Errno.{RefusedAs, RefusedOnlyAs}
 use Rattle.am_names.specs.declared.errno.Errno.{Errno}
@@ -11,32 +12,37 @@ use Rattle.am_kernel.specs.declared.request.Granted.TheVariants.{Done, Begun, At
 use Rattle.am_kernel.specs.State.{KernelState}
 use Rattle.am_kernel.specs.Outcome.{Outcome, IsAsBefore, HasCome, Meets}
 use Rattle.am_kernel.specs.Requests.{answer_refusal, acknowledged, answering, timeout_refusal, with_timeout}
-use Rattle.am_kernel.specs.Attachments.{catatonic_refusal, pipe_refusal, with_pipe}
-use Rattle.am_kernel.specs.Walks.{closing, closed}
+use Rattle.am_kernel.specs.Attachments.{pipe_refusal, with_pipe}
+use Rattle.am_kernel.specs.Catatonic.{catatonic_refusal, closing, closed}
 use Rattle.am_kernel.specs.Expires.{expire_outcome}
 
 -- this is granted, seen and left; a refusal leaves all as before
-abbrev pub Gives : Granted → List Obs → KernelState → Result Granted Errno → KernelState → KernelState → List Obs → List Obs → Type 0
+abbrev pub Gives : Granted → List Obs → KernelState → Result Granted Errno → KernelState
+    → KernelState → List Obs → List Obs → Type 0
 Gives granted shown made (Ok given) old new before after =
     (given ≡ granted) × HasCome shown made new before after
 Gives granted shown made (Err e) old new before after = IsAsBefore old new before after
 
 -- the same of an expiry, which tells how it goes on
-abbrev pub Goes : Outcome → Result Granted Errno → KernelState → KernelState → List Obs → List Obs → Type 0
+abbrev pub Goes : Outcome → Result Granted Errno → KernelState → KernelState → List Obs → List Obs
+    → Type 0
 Goes outcome (Ok Done) old new before after = ⊥
 Goes outcome (Ok (Begun begun)) old new before after = Meets outcome (Ok begun) old new before after
 Goes outcome (Ok (Attached attach)) old new before after = ⊥
 Goes outcome (Err e) old new before after = Meets outcome (Err e) old new before after
 
--- by the request: the tests that may refuse it, what it gives, what is seen of it, and what it leaves
-abbrev pub IsGranted : Request → Result Granted Errno → KernelState → KernelState → List Obs → List Obs → Type 0
+-- by the request: the tests that may refuse it, what it gives, what is seen of it, and what it
+-- leaves
+abbrev pub IsGranted : Request → Result Granted Errno → KernelState → KernelState → List Obs
+    → List Obs → Type 0
 IsGranted (requests.Ready attach token) result old new before after =
     RefusedAs (answer_refusal old attach token) result ×
-    Gives Done (answering token status.Ready old) (acknowledged token status.Ready old) result old new before after
+    Gives Done (answering token status.Ready old) (acknowledged token status.Ready old)
+    result old new before after
 IsGranted (requests.Fail attach token error) result old new before after =
     RefusedAs (answer_refusal old attach token) result ×
-    Gives Done (answering token (status.Fail error) old) (acknowledged token (status.Fail error) old)
-    result old new before after
+    Gives Done (answering token (status.Fail error) old)
+    (acknowledged token (status.Fail error) old) result old new before after
 IsGranted (requests.Catatonic attach fs) result old new before after =
     RefusedAs (catatonic_refusal old attach fs) result ×
     Gives Done (closing fs old) (closed fs old) result old new before after

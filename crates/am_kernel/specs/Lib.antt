@@ -1,7 +1,10 @@
 pub mod State
 pub mod Sites
 pub mod Outcome
+pub mod Observations
+pub mod Catatonic
 pub mod Walks
+pub mod Waited
 pub mod Resumes
 pub mod Expires
 pub mod Previews

@@ -1,5 +1,5 @@
--- Copies and drops of namespaces (sharedsubtree.rst, 5g). What walkers, daemons and tokens do belongs
--- to file systems, and isn't copied.
+-- Copies and drops of namespaces (sharedsubtree.rst, 5g). What walkers, daemons and tokens do
+-- belongs to file systems, and isn't copied.
 use Rattle.std.specs.Prelude.{ℕ}
 use Rattle.am_propagate.specs.declared.subtree.namespace.CopyForm.{CopyForm}
 use Rattle.am_propagate.specs.Namespaces.{with_copy}
@@ -7,8 +7,10 @@ use Rattle.am_propagate.specs.Removed.{mounts_in}
 use Rattle.am_kernel.specs.State.{KernelState}
 use Rattle.am_kernel.specs.DaemonMounts.{without_mounts}
 
+-- there is a new namespace, with a copy of each mount of this one
 abbrev pub with_namespace : CopyForm → ℕ → KernelState → KernelState
 with_namespace form ns k = record k { table = with_copy form ns k.table }
 
+-- the namespace has gone, with all its mounts
 abbrev pub without_namespace : ℕ → KernelState → KernelState
 without_namespace ns k = without_mounts (mounts_in k.table ns) k

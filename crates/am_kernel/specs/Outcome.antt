@@ -1,4 +1,5 @@
--- What a call comes to.
+-- What a call comes to: own (docs/DECISIONS.md, "A refusal changes nothing, not even the latest
+-- moment" and "The moment of an event is the greater of its own and the latest so far").
 use Rattle.std.specs.Prelude.{◌≡◌, ℕ, max, List, ◌++◌, Result, Ok, Err}
 use Rattle.am_names.specs.declared.errno.Errno.{Errno}
 use Rattle.am_names.specs.declared.errno.Errno.TheVariants.{NoMemory}
@@ -15,6 +16,7 @@ pub data Outcome : Type 0 where
 abbrev pub moment_of : KernelState → ℕ → ℕ
 moment_of k now = max k.latest now
 
+-- this is the latest moment so far
 abbrev pub with_latest : ℕ → KernelState → KernelState
 with_latest moment k = record k { latest = moment }
 
@@ -29,12 +31,14 @@ pub record IsAsBefore (old new : KernelState) (before after : List Obs) : Type 0
   pub seen : after ≡ before
 
 -- this has come, and this is seen of it
-pub record HasCome (shown : List Obs) (made new : KernelState) (before after : List Obs) : Type 0 where
+pub record HasCome (shown : List Obs) (made new : KernelState)
+    (before after : List Obs) : Type 0 where
   pub state : new ≡ made
   pub seen : after ≡ before ++ shown
 
 -- the call has gone as the outcome says, or memory ran out; a refusal leaves all as before
-abbrev pub Meets : Outcome → Result Begun Errno → KernelState → KernelState → List Obs → List Obs → Type 0
+abbrev pub Meets : Outcome → Result Begun Errno → KernelState → KernelState → List Obs → List Obs
+    → Type 0
 Meets (Goes answer shown made) (Ok begun) old new before after =
     (begun ≡ answer) × HasCome shown made new before after
 Meets (Goes answer shown made) (Err e) old new before after =

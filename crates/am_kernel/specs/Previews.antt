@@ -1,9 +1,7 @@
--- What calls would answer: for whoever keeps a copy of the answer, and has to make it first.
-use Rattle.std.specs.Prelude.{ℕ, Bool, false, is_some, is_none, List, Option, Some, None, if◌then◌else◌}
-use Rattle.am_names.specs.declared.trigger.Trigger.{Trigger}
+-- What calls would answer, for whoever keeps a copy of the answer and has to make it first:
+-- own (docs/DECISIONS.md, "Answers are made twice").
+use Rattle.std.specs.Prelude.{ℕ, List, Option, Some, None}
 use Rattle.am_names.specs.declared.row.Position.{Position}
-use Rattle.am_trigger.specs.declared.autofs.Autofs.{Autofs}
-use Rattle.am_trigger.specs.Rows.{autofs_of}
 use Rattle.am_walk.specs.declared.stop.Stop.{Stop}
 use Rattle.am_walk.specs.declared.stop.Stop.TheVariants as stops
 use Rattle.am_walk.specs.Walks.{walk_of}
@@ -13,8 +11,7 @@ use Rattle.am_kernel.specs.Outcome.{moment_of}
 use Rattle.am_kernel.specs.Sites.{scene_of}
 use Rattle.am_kernel.specs.Resumes.{walk_in}
 
--- ---- where walks arrive
-
+-- the position at which a walk has arrived that stops so
 abbrev pub arrived_at : Stop → Option Position
 arrived_at (stops.Arrive at) = Some at
 arrived_at (stops.Block token) = None
@@ -26,6 +23,7 @@ abbrev pub arrival_of : KernelState → ℕ → List (List ℕ) → ℕ → Opti
 arrival_of k ns path now =
     arrived_at (walk_of (scene_of k (moment_of k now)) ns path).stop
 
+-- the position at which the walk would arrive now, if there is one
 abbrev pub arrival_in : KernelState → Option WalkRow → ℕ → Option Position
 arrival_in k None now = None
 arrival_in k (Some row) now = arrival_of k row.ns row.path now
@@ -33,13 +31,3 @@ arrival_in k (Some row) now = arrival_of k row.ns row.path now
 -- the same of a walker that waits, as its walk begins again
 abbrev pub arrival_again_of : KernelState → ℕ → ℕ → Option Position
 arrival_again_of k walker now = arrival_in k (walk_in k.walks walker) now
-
--- ---- triggers
-
-abbrev pub is_trigger_of : Option Autofs → Trigger → Bool
-is_trigger_of None trigger = false
-is_trigger_of (Some row) trigger = if row.direct then is_none trigger.name else is_some trigger.name
-
--- it is one of an autofs: a name of an indirect one, or the root of a direct one
-abbrev pub is_trigger : KernelState → Trigger → Bool
-is_trigger k trigger = is_trigger_of (autofs_of k.triggers trigger.fs) trigger

@@ -20,7 +20,7 @@ use Rattle.am_expire.specs.Uses.{mount_of, left}
 use Rattle.am_kernel.specs.declared.row.Attached.{Attached}
 use Rattle.am_kernel.specs.State.{KernelState}
 use Rattle.am_kernel.specs.Sites.{fs_of_attach, is_current}
-use Rattle.am_kernel.specs.Walks.{releases}
+use Rattle.am_kernel.specs.Observations.{releases}
 
 -- ---- acknowledging a notification
 
@@ -28,10 +28,12 @@ use Rattle.am_kernel.specs.Walks.{releases}
 abbrev pub token_fs : KernelState → ℕ → Option ℕ
 token_fs k token = option_map (λ row. row.trigger.fs) (token_of k.waits.tokens token)
 
+-- the number is there, and it is this one
 abbrev pub is_number : Option ℕ → ℕ → Bool
 is_number None n = false
 is_number (Some m) n = m == n
 
+-- the attachment is current, and the token is open and of its file system
 abbrev pub answer_tests : Option ℕ → KernelState → ℕ → Option Errno
 answer_tests None k token = Some EPERM
 answer_tests (Some fs) k token = if is_number (token_fs k token) fs then None else Some EINVAL
@@ -40,14 +42,15 @@ answer_tests (Some fs) k token = if is_number (token_fs k token) fs then None el
 abbrev pub answer_refusal : KernelState → ℕ → ℕ → Option Errno
 answer_refusal k attach token = answer_tests (fs_of_attach k attach) k token
 
--- A mount that failed lasts from this moment on, and READY makes it good; an expiry that failed leaves
--- nothing: own (docs/DECISIONS.md, "A failure has a number, and may last").
+-- A mount that failed lasts from this moment on, and READY makes it good; an expiry that failed
+-- leaves nothing: own (docs/DECISIONS.md, "A failure has a number, and may last").
 abbrev pub settled : TokenKind → Trigger → Status → ℕ → FailureRows → FailureRows
 settled kind trigger Ready moment rows = without_failure trigger rows
 settled Missing trigger (Fail error) moment rows =
     with_failure trigger (record { no = error; at = moment }) rows
 settled Expire trigger (Fail error) moment rows = rows
 
+-- the same of a token that may not be open
 abbrev pub settled_by : Option OpenToken → Status → ℕ → FailureRows → FailureRows
 settled_by None status moment rows = rows
 settled_by (Some row) status moment rows = settled row.kind row.trigger status moment rows
@@ -70,14 +73,17 @@ answering token status k =
 abbrev pub timeout_refusal : KernelState → ℕ → ℕ → Option Errno
 timeout_refusal k attach fs = if is_current k fs attach then None else Some EPERM
 
+-- the attachment of the file system has this timeout
 abbrev pub timeout_row : ℕ → ℕ → Attached → Attached
 timeout_row fs timeout row = if row.fs == fs then record row { timeout = timeout } else row
 
+-- the file system has this timeout
 abbrev pub with_timeout : ℕ → ℕ → KernelState → KernelState
 with_timeout fs timeout k = record k { attached = map (timeout_row fs timeout) k.attached }
 
 -- ---- the pipe
 
+-- the packet of this token that is in a pipe
 abbrev pub queued_of : List QueuedRow → ℕ → Option QueuedRow
 queued_of queue token = find (λ row. row.token == token) queue
 
@@ -88,6 +94,7 @@ without_packet token k =
 
 -- ---- leaving a mount
 
+-- this is seen of a walker that leaves the mount, if it is inside of one
 abbrev pub leaving : Option ℕ → ℕ → List Obs
 leaving None walker = []
 leaving (Some mount) walker = seen.Left walker mount ∷ []
@@ -96,5 +103,6 @@ leaving (Some mount) walker = seen.Left walker mount ∷ []
 abbrev pub leave_seen : KernelState → ℕ → List Obs
 leave_seen k walker = leaving (mount_of k.uses walker) walker
 
+-- the walker is inside no mount
 abbrev pub without_use : ℕ → KernelState → KernelState
 without_use walker k = record k { uses = left walker k.uses }

@@ -1,8 +1,9 @@
--- A walker whose token was acknowledged goes on.
+-- A walker whose token was acknowledged goes on (autofs.rst, "Mount Traps"): own
+-- (docs/DECISIONS.md, "A walker that is released goes on at an event of its own").
 use Rattle.std.specs.Prelude.{ℕ, ◌+◌, ◌==◌, nat_le, is_some, List, [], Option, Some, None, find, if◌then◌else◌}
 use Rattle.am_names.specs.declared.errno.Errno.{Errno}
 use Rattle.am_names.specs.FailNo.{errno_of}
-use Rattle.am_names.specs.declared.errno.Errno.TheVariants.{EINVAL, ELOOP, NotReleased}
+use Rattle.am_names.specs.declared.errno.Errno.TheVariants.{EINVAL, ELOOP, NotReleased, NoMemory}
 use Rattle.am_names.specs.declared.trigger.Status.{Status}
 use Rattle.am_names.specs.declared.trigger.Status.TheVariants.{Ready, Fail}
 use Rattle.am_names.specs.declared.trigger.PipeState.{PipeState}
@@ -39,6 +40,7 @@ freed_from Expire row moment k =
 abbrev pub failed : Errno → KernelState → Outcome
 failed e k = Goes (Failed e) [] k
 
+-- what can't go on fails, and what was collected before stays so
 abbrev pub or_failed : Outcome → KernelState → Outcome
 or_failed (Goes answer shown made) k = Goes answer shown made
 or_failed (Fails e) k = failed e k
@@ -64,11 +66,13 @@ abbrev pub again : PipeState → KernelState → KernelState → WalkRow → ℕ
 again pipe k base row moment =
     if nat_le most_begins row.begins then failed ELOOP base
     else or_failed
-    (begun_with (walk_of (scene_of k moment) row.ns row.path) pipe base (next_begin row moment)) base
+    (begun_with (walk_of (scene_of k moment) row.ns row.path) pipe base (next_begin row moment))
+    base
 
--- after a mount that failed the walk fails with its error; after one that came, and after an expiry, it
--- begins again
-abbrev pub resumed_as : TokenKind → Status → PipeState → KernelState → WaitRow → WalkRow → ℕ → Outcome
+-- after a mount that failed the walk fails with its error; after one that came, and after an
+-- expiry, it begins again
+abbrev pub resumed_as : TokenKind → Status → PipeState → KernelState → WaitRow → WalkRow → ℕ
+    → Outcome
 resumed_as Missing (Fail error) pipe k wait row moment =
     failed (errno_of error) (freed_from Missing wait moment k)
 resumed_as Missing Ready pipe k wait row moment =
@@ -90,16 +94,19 @@ told_as Expire status k wait moment = expired_as status (freed_from Expire wait 
 abbrev pub walk_in : List WalkRow → ℕ → Option WalkRow
 walk_in walks walker = find (λ row. row.walker == walker) walks
 
+-- by whether the walker has a walk
 abbrev pub resumed_walk : Option WalkRow → Status → PipeState → KernelState → WaitRow → ℕ → Outcome
 resumed_walk None status pipe k wait moment = told_as wait.kind status k wait moment
 resumed_walk (Some row) status pipe k wait moment =
     resumed_as wait.kind status pipe k wait row moment
 
+-- by whether the walker's token was acknowledged
 abbrev pub resumed_by : Option Status → PipeState → KernelState → WaitRow → ℕ → Outcome
 resumed_by None pipe k wait moment = Fails NotReleased
 resumed_by (Some status) pipe k wait moment =
     resumed_walk (walk_in k.walks wait.walker) status pipe k wait moment
 
+-- by whether the walker waits
 abbrev pub resumed_at : Option WaitRow → PipeState → KernelState → ℕ → Outcome
 resumed_at None pipe k moment = Fails EINVAL
 resumed_at (Some wait) pipe k moment = resumed_by wait.status pipe k wait moment
@@ -115,3 +122,16 @@ abbrev pub resume_outcome : PipeState → KernelState → ℕ → ℕ → Outcom
 resume_outcome pipe k walker now =
     let moment = moment_of k now in
     at_moment moment (resume_at pipe k walker moment)
+
+-- ---- what a step of it leaves
+
+-- an error that was met on the way fails the walk, but not that of memory
+abbrev pub fallen : Errno → KernelState → Outcome
+fallen NoMemory k = Fails NoMemory
+fallen e k = failed e k
+
+-- the walk of the walker begins again, if it has one
+abbrev pub again_for : Option WalkRow → PipeState → KernelState → WaitRow → ℕ → Outcome
+again_for None pipe k wait moment = Fails EINVAL
+again_for (Some row) pipe k wait moment =
+    again pipe k (freed_from wait.kind wait moment k) row moment

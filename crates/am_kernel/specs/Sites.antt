@@ -1,9 +1,11 @@
--- Attachments, and what paths lead to.
-use Rattle.std.specs.Prelude.{ℕ, ◌==◌, nat_le, Bool, true, false, ◌&&◌, ◌||◌, not, is_some, List, [], ◌∷◌, Option, Some, None, find, Result, Ok, Err, if◌then◌else◌}
+-- Attachments, walkers, and what paths and triggers lead to (autofs.rst, "Communicating with
+-- autofs: detecting the daemon").
+use Rattle.std.specs.Prelude.{ℕ, ◌==◌, nat_le, Bool, true, false, ◌&&◌, ◌||◌, not, is_some, is_none, List, [], ◌∷◌, Option, Some, None, find, Result, Ok, Err, if◌then◌else◌}
 use Rattle.std.specs.List.{list_any}
 use Rattle.std.specs.Option.{option_map}
 use Rattle.am_names.specs.declared.errno.Errno.{Errno}
 use Rattle.am_names.specs.declared.errno.Errno.TheVariants.{EINVAL, ENOSPC}
+use Rattle.am_names.specs.declared.trigger.Trigger.{Trigger}
 use Rattle.am_names.specs.declared.row.Position.{Position}
 use Rattle.am_trigger.specs.declared.autofs.Autofs.{Autofs}
 use Rattle.am_trigger.specs.Rows.{autofs_of}
@@ -17,6 +19,7 @@ use Rattle.am_kernel.specs.State.{KernelState, greatest_u32}
 
 -- ---- attachments
 
+-- the autofs is there and isn't catatonic
 abbrev pub is_live_row : Option Autofs → Bool
 is_live_row None = false
 is_live_row (Some row) = not row.catatonic
@@ -33,6 +36,7 @@ latest_attach rows fs = option_map (λ row. row.attach) (find (λ row. row.fs ==
 abbrev pub attach_of : KernelState → ℕ → Option ℕ
 attach_of k fs = if is_live k fs then latest_attach k.attached fs else None
 
+-- the row is of this attachment, and a daemon is attached
 abbrev pub is_attached_by : KernelState → ℕ → Attached → Bool
 is_attached_by k attach row = row.attach == attach && is_live k row.fs
 
@@ -76,6 +80,17 @@ abbrev pub is_root : List (List ℕ) → Bool
 is_root [] = true
 is_root (name ∷ names) = false
 
+-- ---- triggers
+
+-- the trigger is the root of this autofs, if that is direct, and else a name in it
+abbrev pub is_trigger_of : Option Autofs → Trigger → Bool
+is_trigger_of None trigger = false
+is_trigger_of (Some row) trigger = if row.direct then is_none trigger.name else is_some trigger.name
+
+-- it is one of an autofs: a name of an indirect one, or the root of a direct one
+abbrev pub is_trigger : KernelState → Trigger → Bool
+is_trigger k trigger = is_trigger_of (autofs_of k.triggers trigger.fs) trigger
+
 -- ---- tests
 
 -- the position, if there is one, and then its tests
@@ -89,7 +104,8 @@ or_else (Some e) others = Some e
 or_else None others = others
 
 -- what a change at a position leaves
-abbrev pub from_position : Result Position Errno → KernelState → (Position → KernelState) → KernelState
+abbrev pub from_position : Result Position Errno → KernelState → (Position → KernelState)
+    → KernelState
 from_position (Err e) k change = k
 from_position (Ok at) k change = change at
 
@@ -101,5 +117,6 @@ fs_refusal k = if nat_le greatest_u32 k.last_fs then Some ENOSPC else None
 abbrev pub attach_refusal : KernelState → Option Errno
 attach_refusal k = if nat_le greatest_u32 k.last_attach then Some ENOSPC else None
 
+-- the position is a mount's root
 abbrev pub root_refusal : Position → Option Errno
 root_refusal at = if is_root at.place then None else Some EINVAL

@@ -1,4 +1,5 @@
--- The kernel as a value.
+-- The kernel as a value: own (docs/DECISIONS.md, "Attachments and queued packets are rows of
+-- `Kernel`").
 use Rattle.std.specs.Prelude.{ℕ, List, []}
 use Rattle.am_names.specs.declared.limits.Limits.{Limits}
 use Rattle.am_state.specs.declared.kernel_row.QueuedRow.{QueuedRow}
@@ -11,6 +12,7 @@ use Rattle.am_expire.specs.Uses.{no_uses}
 use Rattle.am_kernel.specs.declared.row.Attached.{Attached}
 use Rattle.am_kernel.specs.declared.row.WalkRow.{WalkRow}
 
+-- what the kernel holds
 pub record KernelState : Type 0 where
   -- the mounts of all namespaces, with their propagation
   pub table : MountTable

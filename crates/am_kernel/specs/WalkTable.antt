@@ -1,4 +1,5 @@
--- The walks of those who wait, as a table, and what its fields keep.
+-- The walks of those who wait, as a table, and what its fields keep: own choice, a walker has one
+-- walk.
 use Rattle.std.specs.Prelude.{◌≡◌, ◌≤◌, ℕ, ◌==◌, ◌-◌, Bool, List, [], ◌∷◌, drop, None, is_some, vec_len, vec_capacity}
 use Rattle.std.specs.List.{list_any}
 use Rattle.indexmap.specs.IndexSet.{spare}
@@ -6,6 +7,7 @@ use Rattle.am_kernel.specs.declared.row.WalkRow.{WalkRow}
 use Rattle.am_kernel.specs.Resumes.{walk_in}
 use Rattle.am_kernel.specs.declared.walks.Walks.TheInside.{Inside}
 
+-- the walks of those who wait, and for how many more there is room
 pub record WalkTable : Type 0 where
   -- the walk that each waiting walker began, in order of waiting
   pub rows : List WalkRow
@@ -13,6 +15,7 @@ pub record WalkTable : Type 0 where
   pub room : ℕ
   pub seats : ℕ
 
+-- the table that these fields hold: the rows that aren't over
 abbrev pub table_of : Inside → WalkTable
 table_of w = record {
   rows = drop w.over w.rows.items;
@@ -20,6 +23,7 @@ table_of w = record {
   seats = spare w.walkers;
 }
 
+-- the walker is one of these
 abbrev pub is_among : ℕ → List ℕ → Bool
 is_among walker walkers = list_any (λ other. other == walker) walkers
 
@@ -32,7 +36,9 @@ IsSingle (row ∷ rows) = (walk_in rows row.walker ≡ None) × IsSingle rows
 abbrev pub AreKnown : List ℕ → List WalkRow → Type 0
 AreKnown walkers rows = (walker : ℕ) → is_among walker walkers ≡ is_some (walk_in rows walker)
 
-pub record IsKept (w : Inside) : Type 0 where
+-- as many rows are over as there are at most; each walker has one walk, and the walkers with a walk
+-- are those that are known
+pub record KeepsWalks (w : Inside) : Type 0 where
   pub within : w.over ≤ vec_len w.rows
   pub single : IsSingle (drop w.over w.rows.items)
   pub known : AreKnown w.walkers.keys (drop w.over w.rows.items)

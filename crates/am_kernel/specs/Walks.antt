@@ -1,12 +1,8 @@
 -- A walk that begins: it arrives, joins those that wait, or has the daemon notified
 -- (autofs.rst, "Mount Traps" and "Communicating with autofs: the event pipe").
-use Rattle.std.specs.Prelude.{ℕ, ◌+◌, ◌==◌, Bool, true, not, is_none, List, [], ◌∷◌, ◌++◌, map, filter, Option, Some, None, if◌then◌else◌}
-use Rattle.std.specs.List.{flat_map}
+use Rattle.std.specs.Prelude.{ℕ, ◌+◌, ◌==◌, not, is_none, List, [], ◌∷◌, ◌++◌, filter, codes, Option, Some, None, if◌then◌else◌}
 use Rattle.am_names.specs.declared.errno.Errno.TheVariants.{ENOENT, EINVAL, EAGAIN, ENOSPC}
-use Rattle.am_names.specs.declared.fail_no.FailNo.TheVariants as error
 use Rattle.am_names.specs.declared.trigger.Trigger.{Trigger}
-use Rattle.am_names.specs.declared.trigger.Status.{Status}
-use Rattle.am_names.specs.declared.trigger.Status.TheVariants.{Fail}
 use Rattle.am_names.specs.declared.trigger.PipeState.{PipeState}
 use Rattle.am_names.specs.declared.trigger.PipeState.TheVariants.{Room, Full, Gone}
 use Rattle.am_names.specs.declared.row.Position.{Position}
@@ -16,11 +12,8 @@ use Rattle.am_wire.specs.declared.packet.Packet.{Packet}
 use Rattle.am_wire.specs.Kind.{kind_of}
 use Rattle.am_state.specs.declared.obs.Obs.{Obs}
 use Rattle.am_state.specs.declared.obs.Obs.TheVariants as seen
-use Rattle.am_state.specs.declared.kernel_row.QueuedRow.{QueuedRow}
-use Rattle.am_trigger.specs.Rows.{used, all_used, with_catatonic}
-use Rattle.am_trigger.specs.Failures.{without_failures}
-use Rattle.am_wait.specs.Rows.{waiters_of, tokens_of}
-use Rattle.am_wait.specs.Calls.{is_exhausted, is_full, opened, joined, fs_released}
+use Rattle.am_trigger.specs.Rows.{used, all_used}
+use Rattle.am_wait.specs.Calls.{is_exhausted, is_full, opened, joined}
 use Rattle.am_expire.specs.Uses.{entered}
 use Rattle.am_walk.specs.declared.stop.Stop.{Stop}
 use Rattle.am_walk.specs.declared.stop.Stop.TheVariants as stops
@@ -31,30 +24,15 @@ use Rattle.am_kernel.specs.declared.begun.Begun.TheVariants.{Arrived, Waits, Fai
 use Rattle.am_kernel.specs.State.{KernelState}
 use Rattle.am_kernel.specs.Sites.{scene_of, attach_of, is_busy}
 use Rattle.am_kernel.specs.Outcome.{Outcome, Goes, Fails, moment_of, at_moment}
-
--- ---- what is seen
-
-abbrev pub passes : ℕ → List Trigger → List Obs
-passes walker triggers = map (λ trigger. seen.Passed walker trigger) triggers
-
--- these walkers are released with the status, in the order in which they joined
-abbrev pub releases : ℕ → Status → List ℕ → List Obs
-releases token status walkers = map (λ walker. seen.Released walker token status) walkers
-
-abbrev pub failures : KernelState → ℕ → List Obs
-failures k token = releases token (Fail error.ENOENT) (waiters_of k.waits.tokens token)
-
--- the file system becomes catatonic: all that wait on it are released, by rising token
-abbrev pub closing : ℕ → KernelState → List Obs
-closing fs k = seen.Catatonic fs ∷ flat_map (failures k) (tokens_of k.waits.tokens fs)
-
--- ---- what a walk leaves
+use Rattle.am_kernel.specs.Observations.{passes}
+use Rattle.am_kernel.specs.Catatonic.{closing, closed}
 
 -- the walk of a walker that waits
 abbrev pub walk_row : Begin → WalkRow
 walk_row begin =
     record { walker = begin.walker; ns = begin.ns; path = begin.path; begins = begin.begins }
 
+-- the walk of this walker is over
 abbrev pub without_walk : ℕ → List WalkRow → List WalkRow
 without_walk walker walks = filter (λ row. not (row.walker == walker)) walks
 
@@ -69,6 +47,7 @@ arrived begin mount passed k = record k {
   uses = entered begin.walker mount k.uses;
 }
 
+-- the walk arrives, and what it passed is seen
 abbrev pub arrives : KernelState → Begin → Position → List Trigger → Outcome
 arrives k begin at passed =
     Goes (Arrived at) (passes begin.walker passed ++ seen.Entered begin.walker at.mount ∷ [])
@@ -92,7 +71,7 @@ joins k begin token passed =
 -- the name in a packet; own (docs/DECISIONS.md, "Packets"): `direct` where the trigger has none
 abbrev pub packet_name : Option (List ℕ) → List ℕ
 packet_name (Some name) = name
-packet_name None = 100 ∷ 105 ∷ 114 ∷ 101 ∷ 99 ∷ 116 ∷ []
+packet_name None = codes "direct"
 
 -- the packet for a token (auto_fs.h, struct autofs_v5_packet);
 -- own (docs/DECISIONS.md, "Packets"): the numbers of the file system, of its root and of the walker
@@ -121,26 +100,15 @@ with_notified begin trigger attach passed k =
       queue = k.queue ++ (record { token = token; attach = attach; packet = packet }) ∷ [];
     }
 
+-- the daemon is notified, and what the walk passed is seen
 abbrev pub notified : KernelState → Begin → Trigger → ℕ → List Trigger → Outcome
 notified k begin trigger attach passed =
     let token = k.waits.last_token + 1 in
     let packet = packet_for Missing token begin.walker trigger in
     Goes (Waits token)
-    (passes begin.walker passed ++ seen.Queued token attach packet ∷ seen.Waits begin.walker token ∷ [])
+    (passes begin.walker passed ++
+    seen.Queued token attach packet ∷ seen.Waits begin.walker token ∷ [])
     (with_notified begin trigger attach passed k)
-
-abbrev pub is_packet_of : ℕ → QueuedRow → Bool
-is_packet_of fs row = row.packet.dev == fs
-
--- the file system is catatonic: its tokens close, its waiters fail, its packets go
--- (autofs.rst, "Catatonic mode"), and nothing that failed in it lasts
-abbrev pub closed : ℕ → KernelState → KernelState
-closed fs k = record k {
-  triggers = with_catatonic fs true k.triggers;
-  failures = without_failures fs k.failures;
-  waits = fs_released fs k.waits;
-  queue = filter (λ row. not (is_packet_of fs row)) k.queue;
-}
 
 -- by what the pipe does with one more packet
 abbrev pub notifies_by : PipeState → KernelState → Begin → Trigger → ℕ → List Trigger → Outcome
@@ -165,6 +133,7 @@ begun_by (stops.Missing trigger) pipe k begin passed =
     notifies (attach_of k trigger.fs) pipe k begin trigger passed
 begun_by (stops.Refuse e) pipe k begin passed = Fails e
 
+-- by what the walk along the path comes to
 abbrev pub begun_with : Walked → PipeState → KernelState → Begin → Outcome
 begun_with walked pipe k begin = begun_by walked.stop pipe k begin walked.passed
 

@@ -8,7 +8,8 @@ ghost use Rattle.am_propagate.specs.Removed.{unmounted};
 ghost use Rattle.am_state.specs.declared.obs.Obs.TheVariants.{Unmounted};
 ghost use Rattle.am_kernel.specs.Administration.{mount_refusal, mounting, with_plain, bind_refusal, with_bind, is_unbindable, is_parent_on_autofs, is_any_on_autofs, is_daemons, site_refusal, plain_umount_refusal, plain_gone, without_plain, plain_change_refusal, with_changed, kind_refusal, kind_at};
 
-use crate::kernel::{Kernel, is_root};
+use crate::kernel::Kernel;
+use crate::lookups::is_root;
 use am_group::{Change, Kind};
 use am_names::{AbsPath, Errno, MountId, Mounts, NsId, Position};
 use am_state::Obs;
@@ -26,7 +27,8 @@ impl Kernel {
         ensures refusal { RefusedAs (mount_refusal self.old ns path.now) result }
         ensures mount { IfOk result (λ mount. mount ≡ self.old.table.last_mount + 1) }
         ensures ok { OnOk result (self.new ≡ with_plain ns path.now self.old) }
-        ensures shown { OnOk result (seen.new.items ≡ seen.old.items ++ mounting self.old ns path.now) }
+        ensures shown { OnOk result
+            (seen.new.items ≡ seen.old.items ++ mounting self.old ns path.now) }
         ensures err { OnErr result (self.new ≡ self.old) }
         ensures unseen { OnErr result (seen.new.items ≡ seen.old.items) }
     {
@@ -59,7 +61,8 @@ impl Kernel {
         ensures refusal { RefusedAs (bind_refusal self.old ns from.now to.now) result }
         ensures mount { IfOk result (λ mount. mount ≡ self.old.table.last_mount + 1) }
         ensures ok { OnOk result (self.new ≡ with_bind ns from.now to.now self.old) }
-        ensures shown { OnOk result (seen.new.items ≡ seen.old.items ++ mounting self.old ns to.now) }
+        ensures shown { OnOk result
+            (seen.new.items ≡ seen.old.items ++ mounting self.old ns to.now) }
         ensures err { OnErr result (self.new ≡ self.old) }
         ensures unseen { OnErr result (seen.new.items ≡ seen.old.items) }
     {
@@ -142,7 +145,8 @@ impl Kernel {
         ensures refusal { RefusedAs (plain_umount_refusal self.old ns path.now) result }
         ensures gone { IfOk result (λ v. v.items ≡ plain_gone self.old ns path.now) }
         ensures ok { OnOk result (self.new ≡ without_plain ns path.now self.old) }
-        ensures shown { OnOk result (seen.new.items ≡ seen.old.items ++ Unmounted (plain_gone self.old ns path.now) ∷ []) }
+        ensures shown { OnOk result
+            (seen.new.items ≡ seen.old.items ++ Unmounted (plain_gone self.old ns path.now) ∷ []) }
         ensures err { OnErr result (self.new ≡ self.old) }
         ensures unseen { OnErr result (seen.new.items ≡ seen.old.items) }
     {

@@ -27,7 +27,8 @@ fn umount_of(
     ensures refusal { RefusedAs (umount_refusal (is_used uses.now) mount subtree.old) result }
     ensures gone { IfOk result (λ v. v.items ≡ unmounted subtree.old mount) }
     ensures ok { OnOk result (subtree.new ≡ removed (unmounted subtree.old mount) subtree.old) }
-    ensures shown { OnOk result (seen.new.items ≡ seen.old.items ++ Unmounted (unmounted subtree.old mount) ∷ []) }
+    ensures shown { OnOk result
+        (seen.new.items ≡ seen.old.items ++ Unmounted (unmounted subtree.old mount) ∷ []) }
     ensures err { OnErr result (subtree.new ≡ subtree.old) }
     ensures unseen { OnErr result (seen.new.items ≡ seen.old.items) }
 {
@@ -71,7 +72,9 @@ impl Kernel {
         ensures refusal { RefusedAs (mount_on_refusal self.old attach trigger.now) result }
         ensures mount { IfOk result (λ mount. mount ≡ self.old.table.last_mount + 1) }
         ensures ok { OnOk result (self.new ≡ with_mount_on trigger.now self.old) }
-        ensures shown { OnOk result (seen.new.items ≡ seen.old.items ++ Mounted (coming self.old (location_of self.old trigger.now.fs)) ∷ []) }
+        ensures shown { OnOk result (seen.new.items ≡
+            seen.old.items ++
+            Mounted (coming self.old (location_of self.old trigger.now.fs)) ∷ []) }
         ensures err { OnErr result (self.new ≡ self.old) }
         ensures unseen { OnErr result (seen.new.items ≡ seen.old.items) }
     {
@@ -108,8 +111,10 @@ impl Kernel {
     ) -> Result<Vec<MountId>, Errno>
         ensures refusal { RefusedAs (umount_from_refusal self.old attach trigger.now) result }
         ensures gone { IfOk result (λ v. v.items ≡ gone_from self.old trigger.now) }
-        ensures ok { OnOk result (self.new ≡ without_mounts (gone_from self.old trigger.now) self.old) }
-        ensures shown { OnOk result (seen.new.items ≡ seen.old.items ++ Unmounted (gone_from self.old trigger.now) ∷ []) }
+        ensures ok { OnOk result
+            (self.new ≡ without_mounts (gone_from self.old trigger.now) self.old) }
+        ensures shown { OnOk result
+            (seen.new.items ≡ seen.old.items ++ Unmounted (gone_from self.old trigger.now) ∷ []) }
         ensures err { OnErr result (self.new ≡ self.old) }
         ensures unseen { OnErr result (seen.new.items ≡ seen.old.items) }
     {
@@ -127,10 +132,13 @@ impl Kernel {
         mount: MountId,
         seen: &mut Vec<Obs>,
     ) -> Result<Vec<MountId>, Errno>
-        ensures refusal { RefusedAs (umount_refusal (is_used self.old.uses) mount self.old.table) result }
+        ensures refusal { RefusedAs (umount_refusal (is_used self.old.uses) mount self.old.table)
+            result }
         ensures gone { IfOk result (λ v. v.items ≡ unmounted self.old.table mount) }
-        ensures ok { OnOk result (self.new ≡ without_mounts (unmounted self.old.table mount) self.old) }
-        ensures shown { OnOk result (seen.new.items ≡ seen.old.items ++ Unmounted (unmounted self.old.table mount) ∷ []) }
+        ensures ok { OnOk result
+            (self.new ≡ without_mounts (unmounted self.old.table mount) self.old) }
+        ensures shown { OnOk result
+            (seen.new.items ≡ seen.old.items ++ Unmounted (unmounted self.old.table mount) ∷ []) }
         ensures err { OnErr result (self.new ≡ self.old) }
         ensures unseen { OnErr result (seen.new.items ≡ seen.old.items) }
     {
@@ -172,6 +180,7 @@ impl Kernel {
         let mut standing = Vec::new(alloc);
         for row in self.subtree.tree().rows() {
             if let Some(trigger) = self.trigger_under(autofs, row) {
+                // The checker wants the type of its name said too.
                 let _name: Option<Name> = trigger.name;
                 standing.push((trigger, row.mount))?;
             }

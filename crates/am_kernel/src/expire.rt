@@ -7,12 +7,13 @@ ghost use Rattle.am_wait.specs.Rows.{wait_of};
 ghost use Rattle.am_wait.specs.Calls.{open_refusal};
 ghost use Rattle.am_kernel.specs.declared.begun.Begun.TheVariants.{Failed};
 ghost use Rattle.am_kernel.specs.Outcome.{Meets, Goes};
-ghost use Rattle.am_kernel.specs.Walks.{closing, closed};
+ghost use Rattle.am_kernel.specs.Catatonic.{closing, closed};
 ghost use Rattle.am_kernel.specs.Expires.{attached_of, timeout_of, next_of, expires, expires_next, expire_at, expire_outcome};
 
-use crate::begin::{reserve_failure, tell_queued};
+use crate::begin::reserve_failure;
 use crate::begun::Begun;
 use crate::kernel::Kernel;
+use crate::observations::tell_queued;
 use crate::packet::packet_for;
 use crate::row::Attached;
 use crate::table::{refuse, table};
@@ -76,7 +77,8 @@ impl Kernel {
         seen: &mut Vec<Obs>,
     ) -> Result<Begun, Errno>
         requires { open_refusal walker self.old.waits ≡ None }
-        ensures { Meets (expires self.old walker trigger.now attach) result self.old self.new seen.old.items seen.new.items }
+        ensures { Meets (expires self.old walker trigger.now attach)
+            result self.old self.new seen.old.items seen.new.items }
     {
         seen.reserve(2)?;
         self.queue.reserve(1)?;
@@ -102,7 +104,8 @@ impl Kernel {
         fs: FsId,
         seen: &mut Vec<Obs>,
     ) -> Result<Begun, Errno>
-        ensures { Meets (Goes (Failed ENOENT) (closing fs self.old) (closed fs self.old)) result self.old self.new seen.old.items seen.new.items }
+        ensures { Meets (Goes (Failed ENOENT) (closing fs self.old) (closed fs self.old))
+            result self.old self.new seen.old.items seen.new.items }
     {
         let mut shown = self.closing(alloc, fs)?;
         seen.append(&mut shown)?;
@@ -121,7 +124,8 @@ impl Kernel {
         seen: &mut Vec<Obs>,
     ) -> Result<Begun, Errno>
         requires { wait_of self.old.waits.waits walker ≡ None }
-        ensures { Meets (expires_next (Some trigger) pipe self.old walker attach) result self.old self.new seen.old.items seen.new.items }
+        ensures { Meets (expires_next (Some trigger) pipe self.old walker attach)
+            result self.old self.new seen.old.items seen.new.items }
     {
         if let Some(errno) = self.waits.open_refusal(walker) {
             return Err(errno);
@@ -144,7 +148,8 @@ impl Kernel {
         pipe: PipeState,
         seen: &mut Vec<Obs>,
     ) -> Result<Begun, Errno>
-        ensures { Meets (expire_at pipe self.old walker fs moment immediate) result self.old self.new seen.old.items seen.new.items }
+        ensures { Meets (expire_at pipe self.old walker fs moment immediate)
+            result self.old self.new seen.old.items seen.new.items }
     {
         table!(refuse; expire(self, walker, fs));
         let Some(attach) = self.attach_of(fs) else {
@@ -159,8 +164,8 @@ impl Kernel {
     }
 
     /// An idle walker asks for the expiry of the trigger of an autofs that was not used for the
-    /// longest time, at least for the timeout or else at once (AUTOFS_IOC_EXPIRE_MULTI). The time is
-    /// as for `walk`. The walker waits until the daemon acknowledges it.
+    /// longest time, at least for the timeout or else at once (AUTOFS_IOC_EXPIRE_MULTI). The time
+    /// is as for `walk`. The walker waits until the daemon acknowledges it.
     pub fn expire(
         &mut self,
         alloc: Global,
@@ -171,7 +176,8 @@ impl Kernel {
         pipe: PipeState,
         seen: &mut Vec<Obs>,
     ) -> Result<Begun, Errno>
-        ensures { Meets (expire_outcome pipe self.old walker fs now immediate) result self.old self.new seen.old.items seen.new.items }
+        ensures { Meets (expire_outcome pipe self.old walker fs now immediate)
+            result self.old self.new seen.old.items seen.new.items }
     {
         let moment = self.moment(now);
         let begun = self.expire_at(alloc, walker, fs, moment, immediate, pipe, seen)?;

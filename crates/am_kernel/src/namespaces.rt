@@ -27,7 +27,9 @@ impl Kernel {
         ensures refusal { RefusedAs (copy_refusal ns self.old.table) result }
         ensures number { IfOk result (λ to. to ≡ self.old.table.last_ns + 1) }
         ensures ok { OnOk result (self.new ≡ with_namespace form ns self.old) }
-        ensures shown { OnOk result (seen.new.items ≡ seen.old.items ++ Mounted (new_mounts self.old.table (length (mounts_in self.old.table ns))) ∷ []) }
+        ensures shown { OnOk result (seen.new.items ≡
+            seen.old.items ++
+            Mounted (new_mounts self.old.table (length (mounts_in self.old.table ns))) ∷ []) }
         ensures err { OnErr result (self.new ≡ self.old) }
         ensures unseen { OnErr result (seen.new.items ≡ seen.old.items) }
     {
@@ -45,10 +47,12 @@ impl Kernel {
         ns: NsId,
         seen: &mut Vec<Obs>,
     ) -> Result<Vec<MountId>, Errno>
-        ensures refusal { RefusedAs (drop_refusal (is_used self.old.uses) ns self.old.table) result }
+        ensures refusal { RefusedAs (drop_refusal (is_used self.old.uses) ns self.old.table)
+            result }
         ensures gone { IfOk result (λ v. v.items ≡ mounts_in self.old.table ns) }
         ensures ok { OnOk result (self.new ≡ without_namespace ns self.old) }
-        ensures shown { OnOk result (seen.new.items ≡ seen.old.items ++ Unmounted (mounts_in self.old.table ns) ∷ []) }
+        ensures shown { OnOk result
+            (seen.new.items ≡ seen.old.items ++ Unmounted (mounts_in self.old.table ns) ∷ []) }
         ensures err { OnErr result (self.new ≡ self.old) }
         ensures unseen { OnErr result (seen.new.items ≡ seen.old.items) }
     {

@@ -36,7 +36,8 @@ fn mount_fs(
     ensures refusal { RefusedAs (mount_refusal at.now.mount subtree.old) result }
     ensures mount { IfOk result (λ mount. mount ≡ subtree.old.last_mount + 1) }
     ensures ok { OnOk result (subtree.new ≡ mounted at.now fs Private subtree.old) }
-    ensures shown { OnOk result (seen.new.items ≡ seen.old.items ++ Mounted (coming_in subtree.old at.now.mount) ∷ []) }
+    ensures shown { OnOk result
+        (seen.new.items ≡ seen.old.items ++ Mounted (coming_in subtree.old at.now.mount) ∷ []) }
     ensures err { OnErr result (subtree.new ≡ subtree.old) }
     ensures unseen { OnErr result (seen.new.items ≡ seen.old.items) }
 {
@@ -69,7 +70,8 @@ impl Kernel {
         ensures refusal { RefusedAs (new_fs_refusal self.old at.now.mount) result }
         ensures mount { IfOk result (λ mount. mount ≡ self.old.table.last_mount + 1) }
         ensures ok { OnOk result (self.new ≡ with_mount at.now self.old) }
-        ensures shown { OnOk result (seen.new.items ≡ seen.old.items ++ Mounted (coming self.old at.now.mount) ∷ []) }
+        ensures shown { OnOk result
+            (seen.new.items ≡ seen.old.items ++ Mounted (coming self.old at.now.mount) ∷ []) }
         ensures err { OnErr result (self.new ≡ self.old) }
         ensures unseen { OnErr result (seen.new.items ≡ seen.old.items) }
     {
@@ -98,7 +100,8 @@ impl Kernel {
         ensures attach { IfOk result (λ row. row.attach ≡ self.old.last_attach + 1) }
         ensures mount { IfOk result (λ row. row.mount ≡ self.old.table.last_mount + 1) }
         ensures ok { OnOk result (self.new ≡ attached_at direct timeout self.old at.now) }
-        ensures shown { OnOk result (seen.new.items ≡ seen.old.items ++ Mounted (coming self.old at.now.mount) ∷ []) }
+        ensures shown { OnOk result
+            (seen.new.items ≡ seen.old.items ++ Mounted (coming self.old at.now.mount) ∷ []) }
         ensures err { OnErr result (self.new ≡ self.old) }
         ensures unseen { OnErr result (seen.new.items ≡ seen.old.items) }
     {
@@ -132,7 +135,8 @@ impl Kernel {
         ensures attach { IfOk result (λ row. row.attach ≡ self.old.last_attach + 1) }
         ensures mount { IfOk result (λ row. row.mount ≡ self.old.table.last_mount + 1) }
         ensures ok { OnOk result (self.new ≡ attached_at direct timeout self.old at.now) }
-        ensures shown { OnOk result (seen.new.items ≡ seen.old.items ++ Mounted (coming self.old at.now.mount) ∷ []) }
+        ensures shown { OnOk result
+            (seen.new.items ≡ seen.old.items ++ Mounted (coming self.old at.now.mount) ∷ []) }
         ensures err { OnErr result (self.new ≡ self.old) }
         ensures unseen { OnErr result (seen.new.items ≡ seen.old.items) }
     {
@@ -162,7 +166,8 @@ impl Kernel {
         ensures attach { IfOk result (λ row. row.attach ≡ self.old.last_attach + 1) }
         ensures mount { IfOk result (λ row. row.mount ≡ self.old.table.last_mount + 1) }
         ensures ok { OnOk result (self.new ≡ with_attached path.now direct timeout self.old) }
-        ensures shown { OnOk result (seen.new.items ≡ seen.old.items ++ attaching self.old path.now) }
+        ensures shown { OnOk result
+            (seen.new.items ≡ seen.old.items ++ attaching self.old path.now) }
         ensures err { OnErr result (self.new ≡ self.old) }
         ensures unseen { OnErr result (seen.new.items ≡ seen.old.items) }
     {

@@ -6,10 +6,10 @@ ghost use Rattle.am_propagate.specs.Removed.{mounts_in};
 ghost use Rattle.am_walk.specs.Walks.{fault_of};
 ghost use Rattle.am_kernel.specs.Sites.{position_at};
 ghost use Rattle.am_kernel.specs.Administration.{plain_gone};
-ghost use Rattle.am_kernel.specs.Previews.{arrived_at, arrival_of, arrival_again_of, is_trigger};
+ghost use Rattle.am_kernel.specs.Previews.{arrived_at, arrival_of, arrival_again_of};
 
 use crate::kernel::Kernel;
-use am_names::{AbsPath, Attach, Errno, FsId, MountId, NsId, Position, Seconds, Trigger, WalkerId};
+use am_names::{AbsPath, Errno, MountId, NsId, Position, Seconds, WalkerId};
 use am_walk::{Stop, resolve};
 use std::alloc::{AllocError, Global};
 
@@ -24,8 +24,8 @@ fn arrived_at(stop: Stop) -> Option<Position>
 }
 
 impl Kernel {
-    /// The position at which a walk that begins now would arrive. The time is as for `walk`. Nothing
-    /// changes.
+    /// The position at which a walk that begins now would arrive. The time is as for `walk`.
+    /// Nothing changes.
     pub fn arrival(
         &self,
         alloc: Global,
@@ -84,38 +84,5 @@ impl Kernel {
         ensures ok { IfOk result (λ v. v.items ≡ mounts_in self.now.table ns) }
     {
         Ok(self.subtree.tree().mounts_of(alloc, ns)?)
-    }
-
-    /// The greatest number that was given to a file system.
-    pub fn last_fs(&self) -> FsId
-        ensures { result ≡ self.now.last_fs }
-    {
-        FsId(self.last_fs)
-    }
-
-    /// The greatest number that was given to an attachment; 0 for none.
-    pub fn last_attach(&self) -> Attach
-        ensures { result ≡ self.now.last_attach }
-    {
-        Attach(self.last_attach)
-    }
-
-    /// The greatest number that was given to a mount.
-    pub fn last_mount(&self) -> MountId
-        ensures { result ≡ self.now.table.last_mount }
-    {
-        self.subtree.last_mount()
-    }
-
-    /// Whether the trigger is one of an autofs: a name of an indirect one, or the root of a direct
-    /// one. It may be catatonic.
-    pub fn is_trigger(&self, trigger: &Trigger) -> bool
-        ensures { result ≡ is_trigger self.now trigger.now }
-    {
-        match self.triggers.as_triggers().autofs(trigger.fs) {
-            Some(row) if row.direct => trigger.name.is_none(),
-            Some(_) => trigger.name.is_some(),
-            None => false,
-        }
     }
 }

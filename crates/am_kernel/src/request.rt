@@ -2,8 +2,7 @@
 
 ghost use Rattle.am_names.specs.Errno.{RefusedAs};
 ghost use Rattle.am_kernel.specs.Requests.{answer_refusal, acknowledged, answering};
-ghost use Rattle.am_kernel.specs.Attachments.{catatonic_refusal};
-ghost use Rattle.am_kernel.specs.Walks.{closing, closed};
+ghost use Rattle.am_kernel.specs.Catatonic.{catatonic_refusal, closing, closed};
 ghost use Rattle.am_kernel.specs.declared.request.Granted.TheVariants.{Done};
 ghost use Rattle.am_kernel.specs.Granted.{Gives, IsGranted};
 
@@ -35,7 +34,9 @@ impl Kernel {
         seen: &mut Vec<Obs>,
     ) -> Result<Granted, Errno>
         ensures refusal { RefusedAs (answer_refusal self.old attach token) result }
-        ensures gives { Gives Done (answering token status self.old) (acknowledged token status self.old) result self.old self.new seen.old.items seen.new.items }
+        ensures gives { Gives Done (answering token status self.old)
+            (acknowledged token status self.old)
+            result self.old self.new seen.old.items seen.new.items }
     {
         let mut shown = self.answering_seen(alloc, token, status)?;
         seen.reserve(shown.len())?;
@@ -54,7 +55,8 @@ impl Kernel {
         seen: &mut Vec<Obs>,
     ) -> Result<Granted, Errno>
         ensures refusal { RefusedAs (catatonic_refusal self.old attach fs) result }
-        ensures gives { Gives Done (closing fs self.old) (closed fs self.old) result self.old self.new seen.old.items seen.new.items }
+        ensures gives { Gives Done (closing fs self.old) (closed fs self.old)
+            result self.old self.new seen.old.items seen.new.items }
     {
         let mut shown = self.closing(alloc, fs)?;
         seen.reserve(shown.len())?;
@@ -63,8 +65,8 @@ impl Kernel {
         Ok(Granted::Done)
     }
 
-    /// Makes the call that the request names, and adds what is seen of it (autofs.rst, "Communicating
-    /// with autofs: root directory ioctls").
+    /// Makes the call that the request names, and adds what is seen of it (autofs.rst,
+    /// "Communicating with autofs: root directory ioctls").
     pub fn request(
         &mut self,
         alloc: Global,

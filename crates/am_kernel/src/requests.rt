@@ -5,8 +5,8 @@ ghost use Rattle.am_names.specs.Errno.{RefusedAs, RefusedOnlyAs};
 ghost use Rattle.am_expire.specs.Uses.{leave_refusal, mount_of};
 ghost use Rattle.am_kernel.specs.Requests.{token_fs, answer_refusal, settled, acknowledged, answering, timeout_refusal, timeout_row, with_timeout, queued_of, without_packet, leave_seen, without_use};
 
-use crate::begin::tell_releases;
 use crate::kernel::Kernel;
+use crate::observations::tell_releases;
 use crate::row::Attached;
 use crate::table::{refuse, table};
 use am_names::{
@@ -34,8 +34,8 @@ fn set_timeout(rows: &mut [Attached], fs: FsId, timeout: u32)
     }
 }
 
-/// What comes of an acknowledgement for the trigger: a mount that failed lasts from this moment on, and
-/// READY makes it good.
+/// What comes of an acknowledgement for the trigger: a mount that failed lasts from this moment on,
+/// and READY makes it good.
 fn settle(
     failures: &mut Failures,
     kind: TokenKind,
@@ -61,6 +61,7 @@ impl Kernel {
         ensures { result ≡ token_fs self.now token }
     {
         let trigger = self.waits.trigger_of(token)?;
+        // The checker wants the type of its name said too.
         let _name: Option<Name> = trigger.name;
         Some(trigger.fs)
     }
@@ -81,8 +82,8 @@ impl Kernel {
         Ok(shown)
     }
 
-    /// The daemon acknowledges a notification: its token closes, and its waiters are released. A failure
-    /// of a mount lasts, and READY makes it good. It takes no memory.
+    /// The daemon acknowledges a notification: its token closes, and its waiters are released. A
+    /// failure of a mount lasts, and READY makes it good. It takes no memory.
     pub fn answer(&mut self, attach: Attach, token: Token, status: Status) -> Result<(), Errno>
         ensures refusal { RefusedOnlyAs (answer_refusal self.old attach token) result }
         ensures ok { OnOk result (self.new ≡ acknowledged token status self.old) }
@@ -127,7 +128,8 @@ impl Kernel {
         ensures refusal { RefusedAs (leave_refusal walker self.old.uses) result }
         ensures mount { IfOk result (λ mount. mount_of self.old.uses walker ≡ Some mount) }
         ensures ok { OnOk result (self.new ≡ without_use walker self.old) }
-        ensures shown { OnOk result (seen.new.items ≡ seen.old.items ++ leave_seen self.old walker) }
+        ensures shown { OnOk result
+            (seen.new.items ≡ seen.old.items ++ leave_seen self.old walker) }
         ensures err { OnErr result (self.new ≡ self.old) }
         ensures unseen { OnErr result (seen.new.items ≡ seen.old.items) }
     {

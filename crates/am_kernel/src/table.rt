@@ -1,7 +1,7 @@
-//! The daemon's requests and calls as a table: for each its tests in their order, each with the error
-//! that is told where it is the first to fail (autofs.rst, "Communicating with autofs: root directory
-//! ioctls"). A test of mounts takes memory, and one may give what the call goes on with: such tests come
-//! after the table's, in the call itself.
+//! The daemon's requests and calls as a table: for each its tests in their order, each with the
+//! error that is told where it is the first to fail (autofs.rst, "Communicating with autofs: root
+//! directory ioctls"). A test of mounts takes memory, and one may give what the call goes on with:
+//! such tests come after the table's, in the call itself.
 
 /// The call is refused with the error of the first test that fails.
 macro_rules! refuse {

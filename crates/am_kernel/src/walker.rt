@@ -4,32 +4,20 @@ ghost use Rattle.std.specs.Prelude.{◌≡◌, ◌+◌, ◌<◌, [], IfOk, Some}
 ghost use Rattle.std.specs.Option.{option_copied};
 ghost use Rattle.am_kernel.specs.Outcome.{Meets, Goes};
 ghost use Rattle.am_kernel.specs.Walks.{first_begin, walk_at, walk_outcome};
-ghost use Rattle.am_kernel.specs.Resumes.{failed, next_begin, told_as, walk_in, resume_at, resume_outcome};
-ghost use Rattle.am_kernel.specs.Inside.{freed_as, waited_on, fallen, again_for, IsFree};
+ghost use Rattle.am_kernel.specs.Resumes.{failed, next_begin, told_as, walk_in, resume_at, resume_outcome, fallen, again_for};
+ghost use Rattle.am_kernel.specs.Waited.{freed_as, waited_on, IsFree};
 ghost use Rattle.am_expire.specs.Uses.{mount_of};
 
-use crate::begin::{Waited, forget, forget_walk, touch_expired};
 use crate::begun::{Begin, Begun};
 use crate::kernel::Kernel;
 use crate::row::WalkRow;
+use crate::waited::{Waited, forget, forget_walk, touch_expired, waited_on};
 use am_names::{AbsPath, Errno, NsId, PipeState, Seconds, Status, TokenKind, WaitRow, WalkerId};
 use am_state::Obs;
 use std::alloc::{AllocError, Global};
 
 /// The most walks that one call of `walk` leads to (Linux: MAXSYMLINKS).
 const MOST_BEGINS: u32 = 40;
-
-/// What a walker waited on.
-fn waited_on(wait: &WaitRow) -> Waited
-    ensures { result ≡ waited_on wait.now }
-{
-    match wait.kind {
-        TokenKind::Missing => Waited::OnMount,
-        TokenKind::Expire => Waited::OnExpiry {
-            trigger: wait.trigger,
-        },
-    }
-}
 
 impl WalkRow {
     fn copy(&self, alloc: Global) -> Result<WalkRow, AllocError>
@@ -70,7 +58,8 @@ impl Kernel {
         pipe: PipeState,
         seen: &mut Vec<Obs>,
     ) -> Result<Begun, Errno>
-        ensures { Meets (walk_at pipe self.old (first_begin walker ns path.now moment)) result self.old self.new seen.old.items seen.new.items }
+        ensures { Meets (walk_at pipe self.old (first_begin walker ns path.now moment))
+            result self.old self.new seen.old.items seen.new.items }
     {
         if self.is_busy(walker) {
             return Err(Errno::EINVAL);
@@ -86,8 +75,8 @@ impl Kernel {
     }
 
     /// An idle walker walks from the root of a namespace along a path. The time is in seconds: the
-    /// moment is the latest so far, where that is greater. The pipe is that of any autofs whose daemon
-    /// is to be notified.
+    /// moment is the latest so far, where that is greater. The pipe is that of any autofs whose
+    /// daemon is to be notified.
     pub fn walk(
         &mut self,
         alloc: Global,
@@ -98,7 +87,8 @@ impl Kernel {
         pipe: PipeState,
         seen: &mut Vec<Obs>,
     ) -> Result<Begun, Errno>
-        ensures { Meets (walk_outcome pipe self.old walker ns path.now now) result self.old self.new seen.old.items seen.new.items }
+        ensures { Meets (walk_outcome pipe self.old walker ns path.now now)
+            result self.old self.new seen.old.items seen.new.items }
     {
         let moment = self.moment(now);
         let begun = self.walk_at(alloc, walker, ns, path, moment, pipe, seen)?;
@@ -122,12 +112,14 @@ impl Kernel {
         seen: &mut Vec<Obs>,
     ) -> Result<Begun, Errno>
         requires { IsFree waited.now walker self.old.waits }
-        ensures { Meets (Goes told [] (freed_as waited.now walker moment self.old)) result self.old self.new seen.old.items seen.new.items }
+        ensures { Meets (Goes told [] (freed_as waited.now walker moment self.old))
+            result self.old self.new seen.old.items seen.new.items }
     {
         self.triggers.reserve_uses(1)?;
         touch_expired(&mut self.triggers, waited, moment);
         forget(&mut self.waits, waited, walker);
         forget_walk(&mut self.walks, waited, walker);
+        // The checker wants each argument used that a clause names.
         let _seen = seen;
         Ok(told)
     }
@@ -142,7 +134,8 @@ impl Kernel {
         seen: &mut Vec<Obs>,
     ) -> Result<Begun, Errno>
         requires { IsFree waited.now walker self.old.waits }
-        ensures { Meets (failed errno (freed_as waited.now walker moment self.old)) result self.old self.new seen.old.items seen.new.items }
+        ensures { Meets (failed errno (freed_as waited.now walker moment self.old))
+            result self.old self.new seen.old.items seen.new.items }
     {
         self.end(waited, walker, moment, Begun::Failed(errno), seen)
     }
@@ -156,7 +149,8 @@ impl Kernel {
         seen: &mut Vec<Obs>,
     ) -> Result<Begun, Errno>
         requires { IsFree (waited_on wait.now) wait.now.walker self.old.waits }
-        ensures { Meets (told_as wait.now.kind status self.old wait.now moment) result self.old self.new seen.old.items seen.new.items }
+        ensures { Meets (told_as wait.now.kind status self.old wait.now moment)
+            result self.old self.new seen.old.items seen.new.items }
     {
         let walker = wait.walker;
         let expiry = waited_on(wait);
@@ -181,7 +175,8 @@ impl Kernel {
         seen: &mut Vec<Obs>,
     ) -> Result<Begun, Errno>
         requires { IsFree waited.now walker self.old.waits }
-        ensures { Meets (fallen errno (freed_as waited.now walker moment self.old)) result self.old self.new seen.old.items seen.new.items }
+        ensures { Meets (fallen errno (freed_as waited.now walker moment self.old))
+            result self.old self.new seen.old.items seen.new.items }
     {
         match errno {
             Errno::NoMemory => Err(Errno::NoMemory),
@@ -200,7 +195,9 @@ impl Kernel {
     ) -> Result<Begun, Errno>
         requires outside { mount_of self.old.uses wait.now.walker ≡ None }
         requires free { IsFree (waited_on wait.now) wait.now.walker self.old.waits }
-        ensures { Meets (again_for (walk_in self.old.walks wait.now.walker) pipe self.old wait.now moment) result self.old self.new seen.old.items seen.new.items }
+        ensures { Meets
+            (again_for (walk_in self.old.walks wait.now.walker) pipe self.old wait.now moment)
+            result self.old self.new seen.old.items seen.new.items }
     {
         let walker = wait.walker;
         let waited = waited_on(wait);
@@ -227,7 +224,8 @@ impl Kernel {
         pipe: PipeState,
         seen: &mut Vec<Obs>,
     ) -> Result<Begun, Errno>
-        ensures { Meets (resume_at pipe self.old walker moment) result self.old self.new seen.old.items seen.new.items }
+        ensures { Meets (resume_at pipe self.old walker moment)
+            result self.old self.new seen.old.items seen.new.items }
     {
         if self.uses.mount_of(walker).is_some() {
             return Err(Errno::EINVAL);
@@ -250,10 +248,9 @@ impl Kernel {
         }
     }
 
-    /// A walker that was released goes on. After a mount that failed its walk fails, with the number of
-    /// that failure; after one that
-    /// came, and after an expiry, it begins again. Who asked for an expiry is told how it went. The
-    /// time is as for `walk`.
+    /// A walker that was released goes on. After a mount that failed its walk fails, with the
+    /// number of that failure; after one that came, and after an expiry, it begins again. Who asked
+    /// for an expiry is told how it went. The time is as for `walk`.
     pub fn resume(
         &mut self,
         alloc: Global,
@@ -262,7 +259,8 @@ impl Kernel {
         pipe: PipeState,
         seen: &mut Vec<Obs>,
     ) -> Result<Begun, Errno>
-        ensures { Meets (resume_outcome pipe self.old walker now) result self.old self.new seen.old.items seen.new.items }
+        ensures { Meets (resume_outcome pipe self.old walker now)
+            result self.old self.new seen.old.items seen.new.items }
     {
         let moment = self.moment(now);
         let begun = self.resume_at(alloc, walker, moment, pipe, seen)?;

@@ -16,8 +16,8 @@ use std::marker::Model;
 /// The walk that each waiting walker began, in order of waiting.
 #[derive(Drop)]
 pub struct Walks {
-    /// Walks that are over, and behind them those of the walkers that wait. A walk that is over stays
-    /// until there are more of them than others: so the first of many goes at once.
+    /// Walks that are over, and behind them those of the walkers that wait. A walk that is over
+    /// stays until there are more of them than others: so the first of many goes at once.
     rows: Vec<WalkRow>,
     /// How many are over.
     over: usize,
@@ -30,11 +30,11 @@ impl Model for Walks {
 
     ghost Value = { WalkTable };
 
-    ghost use Rattle.am_kernel.specs.WalkTable.{table_of, IsKept};
+    ghost use Rattle.am_kernel.specs.WalkTable.{table_of, KeepsWalks};
 
     ghost view = { table_of };
 
-    ghost invariant = { IsKept };
+    ghost invariant = { KeepsWalks };
 }
 
 fn is_among(walkers: &IndexSet<u32>, walker: WalkerId) -> bool
@@ -46,14 +46,18 @@ fn is_among(walkers: &IndexSet<u32>, walker: WalkerId) -> bool
 /// The walker is among them, and there is room for it.
 fn add_walker(walkers: &mut IndexSet<u32>, walker: WalkerId)
     requires { 0 < spare walkers.old }
-    ensures { (other : ℕ) → is_among other walkers.new.keys ≡ cond (walker == other) true (is_among other walkers.old.keys) }
+    ensures { (other : ℕ) →
+        is_among other walkers.new.keys ≡
+        cond (walker == other) true (is_among other walkers.old.keys) }
 {
     let _added = walkers.insert(walker.0);
 }
 
 /// The walker is among them no longer.
 fn take_walker(walkers: &mut IndexSet<u32>, walker: WalkerId)
-    ensures among { (other : ℕ) → is_among other walkers.new.keys ≡ cond (walker == other) false (is_among other walkers.old.keys) }
+    ensures among { (other : ℕ) →
+        is_among other walkers.new.keys ≡
+        cond (walker == other) false (is_among other walkers.old.keys) }
     ensures room { spare walkers.old ≤ spare walkers.new }
 {
     let _taken = walkers.swap_remove(&walker.0);
@@ -107,7 +111,8 @@ fn pass(rows: &mut Vec<WalkRow>, over: &mut usize)
 fn take_row(rows: &mut Vec<WalkRow>, over: &mut usize, walker: WalkerId)
     requires within { over.old ≤ vec_len rows.old }
     requires single { IsSingle (drop over.old rows.old.items) }
-    ensures rows { drop over.new rows.new.items ≡ without_walk walker (drop over.old rows.old.items) }
+    ensures rows { drop over.new rows.new.items ≡
+        without_walk walker (drop over.old rows.old.items) }
     ensures within { over.new ≤ vec_len rows.new }
     ensures len { vec_len rows.new ≤ vec_len rows.old }
     ensures capacity { vec_capacity rows.new ≡ vec_capacity rows.old }

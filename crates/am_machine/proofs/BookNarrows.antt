@@ -12,8 +12,8 @@ use Rattle.am_kernel.specs.State.{KernelState}
 use Rattle.am_kernel.specs.Outcome.{with_latest}
 use Rattle.am_kernel.specs.Sites.{is_live, is_live_row, latest_attach, attach_of}
 use Rattle.am_kernel.specs.Requests.{timeout_row, with_timeout}
-use Rattle.am_kernel.specs.Attachments.{attached_row, with_pipe}
-use Rattle.am_kernel.specs.Walks.{closed}
+use Rattle.am_kernel.specs.Attachments.{reattached_row, with_pipe}
+use Rattle.am_kernel.specs.Catatonic.{closed}
 use Rattle.am_daemon.specs.State.{DaemonState}
 use Rattle.am_machine.specs.Invariant.Books.{IsServed, BookAgrees}
 use Rattle.am_laws.proofs.Packets.{nat_is}
@@ -114,11 +114,11 @@ closed_narrows k fs = record { current = λ f attach e. closed_by k fs f attach 
 
 -- ---- a new pipe
 
-attached_fs : (fs attach : ℕ) (row : Attached) → (attached_row fs attach row).fs ≡ row.fs
+attached_fs : (fs attach : ℕ) (row : Attached) → (reattached_row fs attach row).fs ≡ row.fs
 attached_fs fs attach row = elim (row.fs == fs) as (λ t. (if t then record row { attach = attach } else row).fs ≡ row.fs) [ true ↦ refl | false ↦ refl ]
 
 -- the other file systems keep their attachments
 pub pipe_others : (k : KernelState) (fs f : ℕ) → (fs == f) ≡ false → attach_of (with_pipe fs k) f ≡ attach_of k f
 pipe_others k fs f other =
     found_same _ _ _ _ (autofs_unchanged fs f false k.triggers.autofs other)
-    (found_unchanged (λ (row : Attached). row.fs) (attached_row fs (k.last_attach + 1)) f k.attached (attached_fs fs (k.last_attach + 1)) (λ row same. rw (not_this fs f row.fs other same) refl))
+    (found_unchanged (λ (row : Attached). row.fs) (reattached_row fs (k.last_attach + 1)) f k.attached (attached_fs fs (k.last_attach + 1)) (λ row same. rw (not_this fs f row.fs other same) refl))

@@ -21,7 +21,7 @@ use Rattle.am_kernel.specs.DaemonMounts.{attached_at, is_top_at, trigger_at, sta
 use Rattle.am_kernel.specs.Attachments as piped
 use Rattle.am_kernel.specs.Attachments.{with_pipe}
 use Rattle.am_kernel.specs.Requests.{with_timeout, timeout_row}
-use Rattle.am_kernel.specs.Walks.{closed}
+use Rattle.am_kernel.specs.Catatonic.{closed}
 use Rattle.am_job.specs.Book.{record_row, with_record, recorded, without_fs}
 use Rattle.am_daemon.specs.State.{DaemonState, JobPlan}
 use Rattle.am_daemon.specs.Attachments.{with_attachment, all_mounted, reattached}
@@ -110,15 +110,15 @@ given_pipe : (k : KernelState) (d : DaemonState) (fs : ℕ) → AreGiven k d →
 given_pipe k d fs h =
     let made = with_pipe fs k in
     given_kernel k made d (record {
-      rise = rise_map k.last_fs 0 (piped.attached_row fs (k.last_attach + 1)) k.attached (piped_fs fs (k.last_attach + 1)) h.rise;
-      attached = All-map (λ (row : Attached). row.attach ≤ k.last_attach + 1) (piped.attached_row fs (k.last_attach + 1)) k.attached
-          (All-weaker (λ (row : Attached). row.attach ≤ k.last_attach) (λ (row : Attached). (piped.attached_row fs (k.last_attach + 1) row).attach ≤ k.last_attach + 1) (λ row le. piped_most k.last_attach row (row.fs == fs) le) k.attached h.attached);
+      rise = rise_map k.last_fs 0 (piped.reattached_row fs (k.last_attach + 1)) k.attached (piped_fs fs (k.last_attach + 1)) h.rise;
+      attached = All-map (λ (row : Attached). row.attach ≤ k.last_attach + 1) (piped.reattached_row fs (k.last_attach + 1)) k.attached
+          (All-weaker (λ (row : Attached). row.attach ≤ k.last_attach) (λ (row : Attached). (piped.reattached_row fs (k.last_attach + 1) row).attach ≤ k.last_attach + 1) (λ row le. piped_most k.last_attach row (row.fs == fs) le) k.attached h.attached);
       autofs = catatonic_all fs k.last_fs false k.triggers.autofs h.autofs;
       more_fs = omega arith;
       more_attach = omega arith;
     })
     (known_marked k.triggers.autofs made.attached d.known d.held
-    (known_changed k.triggers.autofs k.attached d.known d.held h.familiar (piped.attached_row fs (k.last_attach + 1)) (piped_fs fs (k.last_attach + 1)))
+    (known_changed k.triggers.autofs k.attached d.known d.held h.familiar (piped.reattached_row fs (k.last_attach + 1)) (piped_fs fs (k.last_attach + 1)))
     (catatonic_row fs false) (λ row. catatonic_by false (row.fs == fs) row)) h
 
 pub given_attached : (direct : Bool) (timeout : ℕ) (k : KernelState) (at : Position) (path : List (List ℕ)) (d : DaemonState) → AreGiven k d → AreGiven (attached_at direct timeout k at) (with_attachment (k.last_fs + 1) (k.last_attach + 1) path d)

@@ -12,7 +12,7 @@ use Rattle.am_wait.proofs.FindLemmas.{or_none, find_append, find_map}
 use Rattle.am_kernel.specs.declared.row.Attached.{Attached}
 use Rattle.am_kernel.specs.State.{KernelState}
 use Rattle.am_kernel.specs.Sites.{is_live_row, is_live, latest_attach, attach_of}
-use Rattle.am_kernel.specs.Walks.{closed}
+use Rattle.am_kernel.specs.Catatonic.{closed}
 use Rattle.am_kernel.specs.Attachments as piped
 use Rattle.am_kernel.specs.Attachments.{with_pipe}
 use Rattle.am_kernel.specs.DaemonMounts as mounts
@@ -101,10 +101,10 @@ piped_by : (b : Bool) (n : ℕ) (row : Attached) → (if b then record row { att
 piped_by true n row = refl
 piped_by false n row = refl
 
-pub piped_fs : (fs n : ℕ) (row : Attached) → (piped.attached_row fs n row).fs ≡ row.fs
+pub piped_fs : (fs n : ℕ) (row : Attached) → (piped.reattached_row fs n row).fs ≡ row.fs
 piped_fs fs n row = piped_by (row.fs == fs) n row
 
-other_attach : (fs other n : ℕ) (rows : List Attached) (o : Option Attached) → find (λ (r : Attached). r.fs == other) rows ≡ o → (other == fs) ≡ false → option_map (λ (r : Attached). r.attach) (option_map (piped.attached_row fs n) o) ≡ option_map (λ (r : Attached). r.attach) o
+other_attach : (fs other n : ℕ) (rows : List Attached) (o : Option Attached) → find (λ (r : Attached). r.fs == other) rows ≡ o → (other == fs) ≡ false → option_map (λ (r : Attached). r.attach) (option_map (piped.reattached_row fs n) o) ≡ option_map (λ (r : Attached). r.attach) o
 other_attach fs other n rows None e d = refl
 other_attach fs other n rows (Some row) e d =
     let its : row.fs ≡ other = nat_is row.fs other (found_passes (λ (r : Attached). r.fs == other) rows row e) in
@@ -112,7 +112,7 @@ other_attach fs other n rows (Some row) e d =
     rw differs refl
 
 own_attach : (live : Bool) (fs n : ℕ) (rows : List Attached) (o : Option Attached) → find (λ (r : Attached). r.fs == fs) rows ≡ o →
-    (attach_by live (option_map (λ (r : Attached). r.attach) (option_map (piped.attached_row fs n) o)) ≡ None) ⊎ (attach_by live (option_map (λ (r : Attached). r.attach) (option_map (piped.attached_row fs n) o)) ≡ Some n)
+    (attach_by live (option_map (λ (r : Attached). r.attach) (option_map (piped.reattached_row fs n) o)) ≡ None) ⊎ (attach_by live (option_map (λ (r : Attached). r.attach) (option_map (piped.reattached_row fs n) o)) ≡ Some n)
 own_attach false fs n rows o e = inl refl
 own_attach true fs n rows None e = inl refl
 own_attach true fs n rows (Some row) e =
@@ -126,12 +126,12 @@ grown k made fs none (inr e) = inr (none, e)
 piped_grows : (k : KernelState) (fs other : ℕ) (b : Bool) → (other == fs) ≡ b → is_live k fs ≡ false → Grows k (with_pipe fs k) other
 piped_grows k fs other false e dead =
     let n = k.last_attach + 1 in
-    let its = attached_same (piped.attached_row fs n) other (piped_fs fs n) k.attached in
+    let its = attached_same (piped.reattached_row fs n) other (piped_fs fs n) k.attached in
     inl (ap (λ (b : Bool). attach_by b (latest_attach (with_pipe fs k).attached other)) (live_other fs other false k.triggers e)
     ∙ ap (attach_by (is_live k other)) (ap (option_map (λ (r : Attached). r.attach)) its ∙ other_attach fs other n k.attached (find (λ (r : Attached). r.fs == other) k.attached) refl e))
 piped_grows k fs other true e dead =
     let n = k.last_attach + 1 in
-    let its = attached_same (piped.attached_row fs n) fs (piped_fs fs n) k.attached in
+    let its = attached_same (piped.reattached_row fs n) fs (piped_fs fs n) k.attached in
     let here : Grows k (with_pipe fs k) fs =
     grown k (with_pipe fs k) fs (ap (λ (b : Bool). attach_by b (latest_attach k.attached fs)) dead)
     (subst (λ (o : Option Attached). (attach_by (is_live (with_pipe fs k) fs) (option_map (λ (r : Attached). r.attach) o) ≡ None) ⊎ (attach_by (is_live (with_pipe fs k) fs) (option_map (λ (r : Attached). r.attach) o) ≡ Some n)) (sym its)

@@ -18,7 +18,8 @@ use Rattle.am_wait.specs.Calls.{waiting_on, opened, joined_on, released_row, fai
 use Rattle.am_kernel.specs.declared.begun.Begin.{Begin}
 use Rattle.am_kernel.specs.declared.row.WalkRow.{WalkRow}
 use Rattle.am_kernel.specs.State.{KernelState}
-use Rattle.am_kernel.specs.Walks.{walk_row, without_walk, with_walk, arrived, with_joined, with_notified, closed}
+use Rattle.am_kernel.specs.Walks.{walk_row, without_walk, with_walk, arrived, with_joined, with_notified}
+use Rattle.am_kernel.specs.Catatonic.{closed}
 use Rattle.am_kernel.specs.Requests.{acknowledged}
 use Rattle.am_kernel.specs.Expires.{with_expiring}
 use Rattle.am_kernel.specs.Resumes.{freed, freed_from}

@@ -10,7 +10,7 @@ use Rattle.am_state.specs.declared.kernel_row.QueuedRow.{QueuedRow}
 use Rattle.am_kernel.specs.State.{KernelState}
 use Rattle.am_kernel.specs.Sites.{attach_of}
 use Rattle.am_kernel.specs.Requests.{queued_of}
-use Rattle.am_kernel.specs.Walks.{is_packet_of, closed}
+use Rattle.am_kernel.specs.Catatonic.{is_packet_of, closed}
 use Rattle.am_daemon.specs.State.{JobPlan}
 use Rattle.am_laws.proofs.Packets.{nat_is}
 use Rattle.am_machine.specs.Invariant.Traces.{Asked, asked_in, asked_by}

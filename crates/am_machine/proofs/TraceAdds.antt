@@ -12,7 +12,8 @@ use Rattle.am_state.specs.declared.obs.Obs.TheVariants as seen
 use Rattle.am_wait.specs.Rows.{tokens_of, waiters_of}
 use Rattle.am_walk.specs.Laws.{IsIdle}
 use Rattle.am_kernel.specs.State.{KernelState}
-use Rattle.am_kernel.specs.Walks.{passes, releases, closing, closed}
+use Rattle.am_kernel.specs.Catatonic.{closing, closed}
+use Rattle.am_kernel.specs.Observations.{passes, releases}
 use Rattle.am_daemon.specs.State.{JobPlan}
 use Rattle.am_laws.specs.OneObservation.{is_queued, enters, leaves}
 use Rattle.am_laws.specs.Fold.{AreLawful, begins_with_released}

@@ -14,7 +14,7 @@ use Rattle.am_wait.specs.Rows.{token_of, without_token}
 use Rattle.am_wait.specs.Calls.{answered}
 use Rattle.am_wait.proofs.FindLemmas.{token_taken}
 use Rattle.am_wait.proofs.AgreeLemmas.{answered_sound}
-use Rattle.am_kernel.specs.Walks as kernel
+use Rattle.am_kernel.specs.Observations as kernel
 use Rattle.am_laws.specs.OneObservation.{waits, releases, delivers, queues, closes, queues_as, unqueues, enters, leaves}
 use Rattle.am_laws.specs.Counts.{packet_of}
 use Rattle.am_laws.specs.Tests.{since, is_open}

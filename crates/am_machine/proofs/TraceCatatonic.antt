@@ -16,7 +16,7 @@ use Rattle.am_wait.specs.Rows.{token_of, waiters_in, waiters_of}
 use Rattle.am_wait.specs.Calls.{fs_released}
 use Rattle.am_wait.proofs.FindLemmas.{unless_of, tokens_off}
 use Rattle.am_wait.proofs.AgreeLemmas.{released_sound}
-use Rattle.am_kernel.specs.Walks.{is_packet_of}
+use Rattle.am_kernel.specs.Catatonic.{is_packet_of}
 use Rattle.am_laws.specs.OneObservation.{is_fs, waits, delivers, queues, closes, queues_as, unqueues, enters, leaves}
 use Rattle.am_laws.specs.Counts.{IsOpen, packet_of, fs_of_token, dev_of}
 use Rattle.am_laws.specs.TraceLaws.{AllReleased}

@@ -14,7 +14,7 @@ use Rattle.am_wait.specs.Rows.{token_of, tokens_of, waiters_in, waiters_of}
 use Rattle.am_wait.specs.Invariant.{RiseBy}
 use Rattle.am_wait.proofs.FindLemmas.{absent}
 use Rattle.am_kernel.specs.State.{KernelState}
-use Rattle.am_kernel.specs.Walks.{failures}
+use Rattle.am_kernel.specs.Catatonic.{failures}
 use Rattle.am_laws.proofs.Bools.{or_right}
 use Rattle.am_laws.proofs.Packets.{nat_is, nat_same}
 use Rattle.am_machine.specs.Invariant.Traces.{has, AreDifferent, AgreeOnWaiters}

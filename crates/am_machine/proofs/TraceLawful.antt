@@ -16,7 +16,7 @@ use Rattle.am_wait.specs.Rows.{open_on, is_open_on, token_of}
 use Rattle.am_walk.specs.Laws.{IsIdle}
 use Rattle.am_expire.specs.declared.uses.Use.{Use}
 use Rattle.am_expire.specs.Uses.{is_used, use_count}
-use Rattle.am_kernel.specs.Walks as kernel
+use Rattle.am_kernel.specs.Observations as kernel
 use Rattle.am_daemon.specs.State.{JobPlan}
 use Rattle.am_daemon.specs.Deliveries.{job_of}
 use Rattle.am_laws.specs.OneObservation.{trigger_of, waits, releases, queues, queues_as, unqueues, enters, leaves}

@@ -7,7 +7,7 @@ use Rattle.std.proofs.lemmas.List.Elements.{Contains-append_left}
 use Rattle.am_names.specs.declared.trigger.Status.{Status}
 use Rattle.am_state.specs.declared.obs.Obs.{Obs}
 use Rattle.am_state.specs.declared.obs.Obs.TheVariants.{Waits, Released}
-use Rattle.am_kernel.specs.Walks as kernel
+use Rattle.am_kernel.specs.Observations as kernel
 use Rattle.am_laws.specs.OneObservation.{releases, is_released}
 use Rattle.am_laws.specs.Counts.{IsOpen, IsInRow}
 use Rattle.am_laws.specs.TraceLaws.{Closes, MayBeReleased}

@@ -117,6 +117,6 @@ pub once_at : (k n : ℕ) → weigh_to (λ p. if p == k then 1 else 0) n ≡ onc
 once_at k zero = grind (arith, nat_tests)
 once_at k (suc n) = let r = once_at k n in grind (arith, nat_tests)
 
-pub empty : {A : Type 0} (xs : List A) → length xs ≡ 0 → xs ≡ []
-empty [] e = refl
-empty (x ∷ xs) e = absurd (omega arith)
+pub empty_where_length_is_zero : {A : Type 0} (xs : List A) → length xs ≡ 0 → xs ≡ []
+empty_where_length_is_zero [] e = refl
+empty_where_length_is_zero (x ∷ xs) e = absurd (omega arith)

@@ -19,8 +19,7 @@ use Rattle.am_trigger.specs.Rows as triggers
 use Rattle.am_wait.specs.Rows.{WaitRows}
 use Rattle.am_wait.specs.Calls.{answered}
 use Rattle.am_kernel.specs.State.{KernelState}
-use Rattle.am_kernel.specs.Previews.{is_trigger_of}
-use Rattle.am_kernel.specs.Sites.{attach_of, is_current, or_else}
+use Rattle.am_kernel.specs.Sites.{attach_of, is_current, or_else, is_trigger_of}
 use Rattle.am_kernel.specs.Directories.{names_directory, is_indirect, is_mountpoint, directory_refusal, mkdir_refusal, with_directory, rmdir_refusal, without_directory}
 use Rattle.am_kernel.specs.DaemonMounts.{mount_on_refusal, with_mount_on, umount_from_refusal, gone_from, without_mounts}
 use Rattle.am_kernel.specs.Requests.{token_fs, is_number, answer_tests, answer_refusal, acknowledged}

@@ -7,7 +7,7 @@ use Rattle.std.proofs.lemmas.List.Elements.{All-nil, All-cons, All-head, All-tai
 use Rattle.am_kernel.specs.declared.row.Attached.{Attached}
 use Rattle.am_kernel.specs.State.{KernelState}
 use Rattle.am_kernel.specs.Sites.{is_live, is_attached_by, fs_of_attach, is_current}
-use Rattle.am_kernel.specs.Attachments.{attached_row}
+use Rattle.am_kernel.specs.Attachments.{reattached_row}
 use Rattle.am_laws.proofs.Bools.{and_both}
 use Rattle.am_laws.proofs.Packets.{nat_is}
 use Rattle.am_machine.proofs.TraceRows.{some_is, found_passes}
@@ -49,15 +49,15 @@ piped_by fs last row other true false is its low lower one same = omega (arith, 
 piped_by fs last row other false true is its low lower one same = omega (arith, same, low)
 piped_by fs last row other false false is its low lower one same = one same
 
-piped_all : (fs last : ℕ) (row : Attached) (rows : List Attached) → row.attach ≤ last → All (IsGiven last) rows → All (IsOfOne row) rows → All (IsOfOne (attached_row fs (last + 1) row)) (map (attached_row fs (last + 1)) rows)
-piped_all fs last row [] low given h = All-nil (IsOfOne (attached_row fs (last + 1) row))
+piped_all : (fs last : ℕ) (row : Attached) (rows : List Attached) → row.attach ≤ last → All (IsGiven last) rows → All (IsOfOne row) rows → All (IsOfOne (reattached_row fs (last + 1) row)) (map (reattached_row fs (last + 1)) rows)
+piped_all fs last row [] low given h = All-nil (IsOfOne (reattached_row fs (last + 1) row))
 piped_all fs last row (other ∷ rows) low given h =
-    All-cons (IsOfOne (attached_row fs (last + 1) row)) (attached_row fs (last + 1) other) (map (attached_row fs (last + 1)) rows)
+    All-cons (IsOfOne (reattached_row fs (last + 1) row)) (reattached_row fs (last + 1) other) (map (reattached_row fs (last + 1)) rows)
     (λ same. piped_by fs last row other (row.fs == fs) (other.fs == fs) refl refl low (All-head (IsGiven last) other rows given) (All-head (IsOfOne row) other rows h) same)
     (piped_all fs last row rows low (All-tail (IsGiven last) other rows given) (All-tail (IsOfOne row) other rows h))
 
 -- one file system has a new attachment
-pub one_piped : (fs last : ℕ) (rows : List Attached) → AreOfOne rows → All (IsGiven last) rows → AreOfOne (map (attached_row fs (last + 1)) rows)
+pub one_piped : (fs last : ℕ) (rows : List Attached) → AreOfOne rows → All (IsGiven last) rows → AreOfOne (map (reattached_row fs (last + 1)) rows)
 one_piped fs last [] h given = tt
 one_piped fs last (row ∷ rows) h given =
     let rest = All-tail (IsGiven last) row rows given in

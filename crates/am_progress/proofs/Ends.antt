@@ -26,7 +26,7 @@ use Rattle.am_kernel.specs.State.{KernelState}
 use Rattle.am_kernel.specs.Outcome.{Outcome, Goes, Fails}
 use Rattle.am_kernel.specs.Sites.{scene_of, attach_of, is_busy}
 use Rattle.am_kernel.specs.Walks as walks
-use Rattle.am_kernel.specs.Walks.{closing, closed}
+use Rattle.am_kernel.specs.Catatonic.{closing, closed}
 use Rattle.am_kernel.specs.Resumes as resumes
 use Rattle.am_kernel.specs.Expires as expires
 use Rattle.am_machine.proofs.GivenSites.{attach_other}

@@ -20,14 +20,14 @@ use Rattle.am_kernel.specs.State.{KernelState}
 use Rattle.am_trigger.specs.Rows.{autofs_of}
 use Rattle.am_kernel.specs.Outcome as kernel
 use Rattle.am_kernel.specs.Outcome.{moment_of}
-use Rattle.am_kernel.specs.Sites.{is_live, attach_of, attach_refusal, or_else, position_at, from_position, fs_of_attach}
+use Rattle.am_kernel.specs.Sites.{is_live, attach_of, attach_refusal, or_else, position_at, from_position, fs_of_attach, is_trigger}
 use Rattle.am_kernel.specs.Administration.{mount_refusal, with_plain, bind_refusal, with_bind, bound_at, plain_umount_refusal, without_plain, plain_change_refusal, with_changed, changed_at, kind_refusal, kind_at}
 use Rattle.am_kernel.specs.DaemonMounts.{with_mount, attached_at}
 use Rattle.am_kernel.specs.Namespaces.{with_namespace, without_namespace}
 use Rattle.am_kernel.specs.Requests.{queued_of, without_use, timeout_refusal, with_timeout}
-use Rattle.am_kernel.specs.Attachments.{catatonic_refusal, autofs_refusal, pipe_refusal, closed_if_live, with_pipe}
-use Rattle.am_kernel.specs.Walks.{closed, closing, first_begin}
-use Rattle.am_kernel.specs.Previews.{is_trigger}
+use Rattle.am_kernel.specs.Attachments.{pipe_refusal, with_pipe}
+use Rattle.am_kernel.specs.Catatonic.{catatonic_refusal, admin_catatonic_refusal, closed_if_live, closed, closing}
+use Rattle.am_kernel.specs.Walks.{first_begin}
 use Rattle.am_daemon.specs.declared.served.Point.{Point}
 use Rattle.am_daemon.specs.Points.{point_of, line_timeout}
 use Rattle.am_daemon.specs.Deliveries.{job_of}
@@ -155,7 +155,7 @@ live_closed false k fs = λ other. inl refl
 
 admin_catatonic : (s : State) (fs : ℕ) → Leaves s (requests.admin_catatonic_outcome s fs)
 admin_catatonic s fs =
-    unless_refused (autofs_refusal s.kernel fs) s _ (λ may. kernel_changes s _ _ (closed_if_live fs s.kernel) (live_closed (is_live s.kernel fs) s.kernel fs))
+    unless_refused (admin_catatonic_refusal s.kernel fs) s _ (λ may. kernel_changes s _ _ (closed_if_live fs s.kernel) (live_closed (is_live s.kernel fs) s.kernel fs))
 
 -- ---- walkers
 

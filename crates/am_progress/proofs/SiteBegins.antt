@@ -29,10 +29,9 @@ use Rattle.am_kernel.specs.declared.begun.Begun.{Begun}
 use Rattle.am_kernel.specs.declared.row.WalkRow.{WalkRow}
 use Rattle.am_kernel.specs.State.{KernelState}
 use Rattle.am_kernel.specs.Outcome.{Outcome, Goes, Fails}
-use Rattle.am_kernel.specs.Previews.{is_trigger_of}
-use Rattle.am_kernel.specs.Sites.{scene_of, attach_of, is_busy}
+use Rattle.am_kernel.specs.Sites.{scene_of, attach_of, is_busy, is_trigger_of}
 use Rattle.am_kernel.specs.Walks as walks
-use Rattle.am_kernel.specs.Walks.{closed}
+use Rattle.am_kernel.specs.Catatonic.{closed}
 use Rattle.am_kernel.specs.Resumes as resumes
 use Rattle.am_kernel.specs.Expires as expires
 use Rattle.am_laws.proofs.Bools.{or_no}

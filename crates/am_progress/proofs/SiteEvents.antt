@@ -25,15 +25,15 @@ use Rattle.am_kernel.specs.State.{KernelState}
 use Rattle.am_kernel.specs.declared.row.Attached.{Attached}
 use Rattle.am_kernel.specs.Outcome as kernel
 use Rattle.am_kernel.specs.Outcome.{moment_of}
-use Rattle.am_kernel.specs.Sites.{is_live, is_current, position_at, from_position, fs_of_attach}
+use Rattle.am_kernel.specs.Sites.{is_live, is_current, position_at, from_position, fs_of_attach, is_trigger}
 use Rattle.am_kernel.specs.Administration.{mount_refusal, with_plain, bind_refusal, with_bind, bound_at, plain_umount_refusal, without_plain, plain_change_refusal, with_changed, changed_at, kind_refusal, kind_at}
 use Rattle.am_kernel.specs.Directories.{mkdir_refusal, with_directory, rmdir_refusal, without_directory}
 use Rattle.am_kernel.specs.DaemonMounts.{with_mount, attached_at, mount_on_refusal, with_mount_on, umount_from_refusal, gone_from, without_mounts}
 use Rattle.am_kernel.specs.Namespaces.{with_namespace, without_namespace}
 use Rattle.am_kernel.specs.Requests.{queued_of, without_use, without_packet, timeout_refusal, with_timeout, timeout_row, answer_refusal, acknowledged}
-use Rattle.am_kernel.specs.Attachments.{catatonic_refusal, autofs_refusal, closed_if_live, with_pipe}
-use Rattle.am_kernel.specs.Walks.{closed, first_begin}
-use Rattle.am_kernel.specs.Previews.{is_trigger}
+use Rattle.am_kernel.specs.Attachments.{with_pipe}
+use Rattle.am_kernel.specs.Catatonic.{catatonic_refusal, admin_catatonic_refusal, closed_if_live, closed}
+use Rattle.am_kernel.specs.Walks.{first_begin}
 use Rattle.am_job.specs.declared.act.Act.{Act}
 use Rattle.am_job.specs.declared.act.Act.TheVariants as act
 use Rattle.am_job.specs.declared.act.Outcome as outcomes
@@ -178,7 +178,7 @@ closed_stays k fs = record { keeps = closed_leaves k fs }
 admin_catatonic : (s : State) (fs : ℕ) → Keeps s (requests.admin_catatonic_outcome s fs)
 admin_catatonic s fs =
     let k = s.kernel in
-    unless_refused (autofs_refusal k fs) s _ (kernel_changes s _ _ (closed_if_live fs k) (either_stays (is_live k fs) k (closed fs k) k (closed_stays k fs) (itself k)))
+    unless_refused (admin_catatonic_refusal k fs) s _ (kernel_changes s _ _ (closed_if_live fs k) (either_stays (is_live k fs) k (closed fs k) k (closed_stays k fs) (itself k)))
 
 -- ---- walkers
 

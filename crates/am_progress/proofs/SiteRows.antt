@@ -20,7 +20,8 @@ use Rattle.am_expire.specs.Uses.{mount_of, entered, left}
 use Rattle.am_expire.proofs.UseLemmas.{enters, leaves}
 use Rattle.am_kernel.specs.declared.begun.Begin.{Begin}
 use Rattle.am_kernel.specs.State.{KernelState}
-use Rattle.am_kernel.specs.Walks.{arrived, with_joined, with_notified, closed}
+use Rattle.am_kernel.specs.Walks.{arrived, with_joined, with_notified}
+use Rattle.am_kernel.specs.Catatonic.{closed}
 use Rattle.am_kernel.specs.Requests.{acknowledged, without_use}
 use Rattle.am_kernel.specs.Expires.{with_expiring}
 use Rattle.am_kernel.specs.Resumes.{freed, freed_from}

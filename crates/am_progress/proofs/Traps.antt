@@ -21,8 +21,7 @@ use Rattle.am_walk.specs.declared.stop.Next.TheVariants as nexts
 use Rattle.am_walk.specs.declared.stop.Stop.TheVariants as stops
 use Rattle.am_walk.specs.Meet.{at_trap, at_autofs, at_site, next_at}
 use Rattle.am_walk.specs.Scene.{Scene, autofs_at}
-use Rattle.am_kernel.specs.Previews.{is_trigger_of}
-use Rattle.am_kernel.specs.Sites.{is_live_row, attach_of, scene_of}
+use Rattle.am_kernel.specs.Sites.{is_live_row, attach_of, scene_of, is_trigger_of}
 use Rattle.am_kernel.specs.DaemonMounts.{location_in, location_of, mounted_on}
 use Rattle.am_laws.proofs.Packets.{nat_is}
 use Rattle.am_machine.specs.State.{State}

@@ -25,9 +25,8 @@ use Rattle.am_kernel.specs.Outcome as kernel
 use Rattle.am_kernel.specs.Outcome.{moment_of}
 use Rattle.am_kernel.specs.Sites.{is_live, attach_of, scene_of}
 use Rattle.am_kernel.specs.Requests.{queued_of}
-use Rattle.am_kernel.specs.Attachments.{autofs_refusal, closed_if_live, closing_if_live}
+use Rattle.am_kernel.specs.Catatonic.{admin_catatonic_refusal, closing, closed, closed_if_live, closing_if_live}
 use Rattle.am_kernel.specs.Walks as walks
-use Rattle.am_kernel.specs.Walks.{closed}
 use Rattle.am_kernel.specs.Resumes as resumes
 use Rattle.am_laws.proofs.Packets.{nat_is, nat_same}
 use Rattle.am_machine.specs.declared.event.Event.TheVariants as events
@@ -156,16 +155,16 @@ answered_resumes s walker row is still new h =
 
 -- ---- the administrator
 
-is_autofs : (k : KernelState) (fs attach : ℕ) → attach_of k fs ≡ Some attach → autofs_refusal k fs ≡ None
+is_autofs : (k : KernelState) (fs attach : ℕ) → attach_of k fs ≡ Some attach → admin_catatonic_refusal k fs ≡ None
 is_autofs k fs attach e = ap (λ (o : Option Autofs). if is_some o then None else Some EINVAL) (attached_autofs k fs attach e).1
 
 -- all that wait on the file system are released
-catatonic_is : (s : State) (fs attach : ℕ) → attach_of s.kernel fs ≡ Some attach → outcome_of s (events.AdminCatatonic fs) ≡ with_kernel answers.Done (walks.closing fs s.kernel) (closed fs s.kernel) s
+catatonic_is : (s : State) (fs attach : ℕ) → attach_of s.kernel fs ≡ Some attach → outcome_of s (events.AdminCatatonic fs) ≡ with_kernel answers.Done (closing fs s.kernel) (closed fs s.kernel) s
 catatonic_is s fs attach e =
     let k = s.kernel in
     let live : is_live k fs ≡ true = live_of k fs attach e in
     ap (λ (o : Option Errno). unless o s (with_kernel answers.Done (closing_if_live fs k) (closed_if_live fs k) s)) (is_autofs k fs attach e)
-    ∙ ap (λ (b : Bool). with_kernel answers.Done (if b then walks.closing fs k else []) (if b then closed fs k else k) s) live
+    ∙ ap (λ (b : Bool). with_kernel answers.Done (if b then closing fs k else []) (if b then closed fs k else k) s) live
 
 failed_by : (walker fs : ℕ) (x row : WaitRow) (rows : List WaitRow) (b : Bool) → row.trigger.fs ≡ fs → row.status ≡ None →
     (wait_of rows walker ≡ Some row → wait_of (map (failed_row fs) rows) walker ≡ Some (record row { status = Some (Fail ENOENT) })) →

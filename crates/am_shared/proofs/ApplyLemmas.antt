@@ -23,27 +23,27 @@ abbrev pub Stepped : WorldTable → Event → Answer → WorldTable → Type 0
 Stepped s event answer t = (seen : List Obs) × Step (state_of s) event answer seen (state_of t)
 
 -- what was seen of it is what came to the trace
-pub grown : (s t : WorldTable) (event : Event) (answer : Answer) (step : Stepped s event answer t)
+pub trace_grown_by : (s t : WorldTable) (event : Event) (answer : Answer) (step : Stepped s event answer t)
     → t.trace ≡ s.trace ++ step.0
-grown s t event answer step =
+trace_grown_by s t event answer step =
     sym (ap (λ (x : State). x.trace) (state_is t))
     ∙ (step_lawful (state_of s) event answer step.0 (state_of t) step.1).trace
     ∙ ap (λ (x : State). x.trace ++ step.0) (state_is s)
 
-pub longer : (s t : WorldTable) (event : Event) (answer : Answer) → Stepped s event answer t
+pub trace_grows : (s t : WorldTable) (event : Event) (answer : Answer) → Stepped s event answer t
     → length s.trace ≤ length t.trace
-longer s t event answer step =
-    omega (arith, ap length (grown s t event answer step), length-append s.trace step.0)
+trace_grows s t event answer step =
+    omega (arith, ap length (trace_grown_by s t event answer step), length-append s.trace step.0)
 
 pub seen_of : (s t : WorldTable) (event : Event) (answer : Answer) (step : Stepped s event answer t)
     → drop (length s.trace) t.trace ≡ step.0
 seen_of s t event answer step =
-    ap (drop (length s.trace)) (grown s t event answer step) ∙ drop-append_seam s.trace step.0
+    ap (drop (length s.trace)) (trace_grown_by s t event answer step) ∙ drop-append_seam s.trace step.0
 
 -- one note at most
-pub few : (s t : WorldTable) (event : Event) (answer : Answer) → Stepped s event answer t
+pub one_note_at_most : (s t : WorldTable) (event : Event) (answer : Answer) → Stepped s event answer t
     → length (notes_of (drop (length s.trace) t.trace)) ≤ 1
-few s t event answer step =
+one_note_at_most s t event answer step =
     omega (
       arith,
       ap (λ (l : List Obs). length (notes_of l)) (seen_of s t event answer step),
@@ -69,7 +69,7 @@ kept_notes s t event answer sent unsent collected put left step all flushed note
     let more = notes_of step.0 in
     flushed ∙ ap (λ l. sent ++ l) (all ∙ ap (λ l. unsent ++ notes_of l) (seen_of s t event answer step))
     ∙ sym (append_assoc sent unsent more) ∙ ap (λ l. l ++ more) notes
-    ∙ sym (notes_append s.trace step.0) ∙ ap notes_of (sym (grown s t event answer step))
+    ∙ sym (notes_append s.trace step.0) ∙ ap notes_of (sym (trace_grown_by s t event answer step))
 
 -- the opening stays
 pub kept_opening : (old new : Sharing) (event : Event) (position : ℕ) (answer : Answer)
@@ -90,8 +90,8 @@ shared_from o s h is = record {
 
 -- ---- at the start
 
-pub began : (o : Opening) (s : State) → s ≡ opening_of o → opening_in s ≡ o
-began o s is = ap opening_in is
+pub opening_of_initial : (o : Opening) (s : State) → s ≡ opening_of o → opening_in s ≡ o
+opening_of_initial o s is = ap opening_in is
 
 pub new_legal : (o : Opening) (s : State) → s ≡ opening_of o → IsLegal [] s
 new_legal o s is =

@@ -1,13 +1,11 @@
 -- Positions of receipts: how often each stands, and where they rise.
 use Rattle.std.proofs.Common.{◌≡◌, ℕ, zero, suc, ◌+◌, ◌-◌, ◌<◌, ◌≤◌, ◌==◌, List, [], ◌∷◌, ◌++◌}
-use Rattle.std.proofs.Common.{length, Option, Some, None, slice_get, Bool, true, false, refl, sym, ap, ◌∙◌}
+use Rattle.std.proofs.Common.{length, Some, slice_get, Bool, true, false, refl, sym, ap, ◌∙◌}
 use Rattle.std.proofs.Common.{subst, arith, rules, get_or, ltb, inl, inr, ◌⊎◌, ⊎_elim}
 use Rattle.std.specs.Prelude.{◌↔◌, IsTrue, if◌then◌else◌, nat_le}
-use Rattle.std.specs.List.{AllWithin}
 use Rattle.std.specs.List.Sorted.{IsNonDecreasingBy, IsPartitionPoint}
 use Rattle.std.proofs.lemmas.Bool.Decides.{nat_tests}
 use Rattle.am_machine.specs.declared.entry.Entry.{Entry}
-use Rattle.am_machine.specs.History.{entry}
 use Rattle.am_shared.specs.declared.caller.Receipt.{Receipt}
 use Rattle.am_shared.specs.Matching.{Agrees, AllAgree, EachAgree, Rise, EachRise, times, times_in}
 use Rattle.am_shared.specs.Matching.{count_in, AtMostOnce, AllAway, Matches}
@@ -31,19 +29,19 @@ times_once low k (r ∷ rs) h =
     let none : k ≤ r.position → times k rs ≡ 0 = λ le. times_low r.position k rs h.1 le in
     grind (arith, nat_tests)
 
-above : (low : ℕ) (rs : List Receipt) → Rise low rs → (j : ℕ) (d : Receipt) → j < length rs
+later_position_is_higher : (low : ℕ) (rs : List Receipt) → Rise low rs → (j : ℕ) (d : Receipt) → j < length rs
     → low < (get_or rs j d).position
-above low [] h j d lt = absurd (omega arith)
-above low (r ∷ rs) h zero d lt = h.0
-above low (r ∷ rs) h (suc j) d lt =
-    let more = above r.position rs h.1 j d (omega arith) in omega arith
+later_position_is_higher low [] h j d lt = absurd (omega arith)
+later_position_is_higher low (r ∷ rs) h zero d lt = h.0
+later_position_is_higher low (r ∷ rs) h (suc j) d lt =
+    let more = later_position_is_higher r.position rs h.1 j d (omega arith) in omega arith
 
 pub rise_sorted : (low : ℕ) (rs : List Receipt) → Rise low rs
     → IsNonDecreasingBy (λ (r : Receipt). r.position) rs
 rise_sorted low [] h i j d le lt = absurd (omega arith)
 rise_sorted low (r ∷ rs) h zero zero d le lt = omega arith
 rise_sorted low (r ∷ rs) h zero (suc j) d le lt =
-    let more = above r.position rs h.1 j d (omega arith) in omega arith
+    let more = later_position_is_higher r.position rs h.1 j d (omega arith) in omega arith
 rise_sorted low (r ∷ rs) h (suc i) zero d le lt = absurd (omega arith)
 rise_sorted low (r ∷ rs) h (suc i) (suc j) d le lt =
     rise_sorted r.position rs h.1 i j d (omega arith) (omega arith)
@@ -92,8 +90,8 @@ all_lower : (k : ℕ) (rs : List Receipt) (at : ℕ) → IsPlace k rs at
     → (i : ℕ) (d : Receipt) → i < at → (get_or rs i d).position < k
 all_lower k rs at place i d lt = lower_at (get_or rs i d).position k (place.0 i d (omega arith) lt)
 
-counted : (n k : ℕ) → IsTrue (n == k) ↔ 0 < (if n == k then 1 else 0)
-counted n k = ((λ t. grind (arith, nat_tests)), λ lt. grind (arith, nat_tests))
+counted_once : (n k : ℕ) → IsTrue (n == k) ↔ 0 < (if n == k then 1 else 0)
+counted_once n k = ((λ t. grind (arith, nat_tests)), λ lt. grind (arith, nat_tests))
 
 pub found_at : (k : ℕ) (rs : List Receipt) (at : ℕ) (r : Receipt) → Rise 0 rs → IsPlace k rs at
     → at < length rs → r ≡ get_or rs at r → IsTrue (r.position == k) ↔ 0 < times k rs
@@ -102,7 +100,7 @@ found_at k rs at r rise place lt is =
     higher_at (get_or rs at r).position k (place.1 at r (omega arith) lt) in
     let high-r : k ≤ r.position = subst (λ (x : Receipt). k ≤ x.position) (sym is) high in
     let e = stands_at 0 k rs at r rise (all_lower k rs at place) lt is high-r in
-    subst (λ (n : ℕ). IsTrue (r.position == k) ↔ 0 < n) (sym e) (counted r.position k)
+    subst (λ (n : ℕ). IsTrue (r.position == k) ↔ 0 < n) (sym e) (counted_once r.position k)
 
 pub found_nowhere : (k : ℕ) (rs : List Receipt) (at : ℕ) → IsPlace k rs at → length rs ≤ at
     → IsTrue false ↔ 0 < times k rs
@@ -113,9 +111,9 @@ found_nowhere k rs at place le =
 -- ---- at most once
 
 -- which of two tests comes out
-split : (b : Bool) → (b ≡ true) ⊎ (b ≡ false)
-split true = inl refl
-split false = inr refl
+true_or_false : (b : Bool) → (b ≡ true) ⊎ (b ≡ false)
+true_or_false true = inl refl
+true_or_false false = inr refl
 
 away_at : (k : ℕ) (rs : List Receipt) (rest : List (List Receipt)) → AllAway rs rest
     → 0 < times k rs → times_in k rest ≡ 0
@@ -126,7 +124,7 @@ away_at k (r ∷ rs) rest h lt = ⊎_elim
     subst (λ (n : ℕ). times_in n rest ≡ 0) same h.0)
     (λ (not : (r.position == k) ≡ false).
     let more : 0 < times k rs = grind (arith, nat_tests) in away_at k rs rest h.1 more)
-    (split (r.position == k))
+    (true_or_false (r.position == k))
 
 all_away_from : (rs all : List Receipt) (rest : List (List Receipt))
     → ((k : ℕ) → times k rs ≤ times k all) → AtMostOnce (all ∷ rest) → AllAway rs rest
@@ -137,9 +135,9 @@ all_away_from (r ∷ rs) all rest some h =
     λ k. let one = some k in grind (arith, nat_tests) in
     (omega (arith, here, some r.position, h r.position), all_away_from rs all rest less h)
 
-few : (m n : ℕ) → m ≤ 1 → n ≤ 1 → (0 < m → n ≡ 0) → m + n ≤ 1
-few zero n p q h = omega arith
-few (suc m) n p q h = let none : n ≡ 0 = h (omega arith) in omega arith
+one_at_most_of_two : (m n : ℕ) → m ≤ 1 → n ≤ 1 → (0 < m → n ≡ 0) → m + n ≤ 1
+one_at_most_of_two zero n p q h = omega arith
+one_at_most_of_two (suc m) n p q h = let none : n ≡ 0 = h (omega arith) in omega arith
 
 -- no position stands twice where none of the first caller's stands in the others' receipts, and none
 -- stands twice in these
@@ -150,7 +148,7 @@ once_split rs rest rise = (
   (λ h k.
       let mine : times k rs ≤ 1 = times_once 0 k rs rise in
       let theirs : times_in k rest ≤ 1 = h.1 k in
-      few (times k rs) (times_in k rest) mine theirs (away_at k rs rest h.0)),
+      one_at_most_of_two (times k rs) (times_in k rest) mine theirs (away_at k rs rest h.0)),
 )
 
 -- ---- one caller more
@@ -200,8 +198,8 @@ own_cons : (n : ℕ) (r : Receipt) (rs : List Receipt) → 0 < r.position
 own_cons zero r rs lt = grind (arith, nat_tests)
 own_cons (suc n) r rs lt = let more = own_cons n r rs lt in grind (arith, nat_tests)
 
-within : (h : List Entry) (r : Receipt) → Agrees h r → r.position ≤ length h
-within h r a = reaches h (r.position - 1) r.position _ a.1 (omega (arith, a.0))
+position_within : (h : List Entry) (r : Receipt) → Agrees h r → r.position ≤ length h
+position_within h r a = reaches h (r.position - 1) r.position _ a.1 (omega (arith, a.0))
   where
     reaches : (h : List Entry) (at n : ℕ) (e : Entry) → slice_get h at ≡ Some e → n ≡ suc at
         → n ≤ length h
@@ -214,7 +212,7 @@ own_all : (h : List Entry) (rs : List Receipt) → AllAgree h rs → own_to (len
 own_all h [] a = own_none (length h)
 own_all h (r ∷ rs) a =
     let cons = own_cons (length h) r rs a.0.0 in
-    let far : r.position ≤ length h = within h r a.0 in
+    let far : r.position ≤ length h = position_within h r a.0 in
     let rest = own_all h rs a.1 in grind (arith, nat_tests)
 
 times_cons : (n : ℕ) (rs : List Receipt) (rest : List (List Receipt))
@@ -237,15 +235,15 @@ times_most zero callers once = omega arith
 times_most (suc n) callers once =
     let r = times_most n callers once in let o = once (suc n) in omega arith
 
-full : (n : ℕ) (callers : List (List Receipt)) → AtMostOnce callers → times_to n callers ≡ n
+each_once_where_all_stand : (n : ℕ) (callers : List (List Receipt)) → AtMostOnce callers → times_to n callers ≡ n
     → (k : ℕ) → k < n → times_in (k + 1) callers ≡ 1
-full zero callers once all k lt = absurd (omega arith)
-full (suc n) callers once all k lt =
+each_once_where_all_stand zero callers once all k lt = absurd (omega arith)
+each_once_where_all_stand (suc n) callers once all k lt =
     let last = once (suc n) in
     let most = times_most n callers once in
     let front : times_to n callers ≡ n = omega arith in
     let top : times_in (suc n) callers ≡ 1 = omega arith in
-    ⊎_elim (λ (less : k < n). full n callers once front k less)
+    ⊎_elim (λ (less : k < n). each_once_where_all_stand n callers once front k less)
     (λ (is : suc n ≡ k + 1). subst (λ (m : ℕ). times_in m callers ≡ 1) is top)
     (last_or k n lt)
   where
@@ -258,7 +256,7 @@ own_far h k [] a far = refl
 own_far h k (r ∷ rs) a far =
     let rest = own_far h k rs a.1 far in
     let some : 0 < r.position = a.0.0 in
-    let reach : r.position ≤ length h = within h r a.0 in
+    let reach : r.position ≤ length h = position_within h r a.0 in
     ⊎_elim (λ (is : k ≡ 0). grind (arith, nat_tests)) (λ (lt : length h < k). grind (arith, nat_tests))
     far
 
@@ -272,7 +270,7 @@ in_far h k (rs ∷ rest) a far =
 pub matches_by : (h : List Entry) (callers : List (List Receipt)) → length h ≡ count_in callers
     → EachRise callers × AtMostOnce callers → EachAgree h callers → Matches h callers
 matches_by h callers count order agree = record {
-  once = full (length h) callers order.1 (times_all h callers agree ∙ sym count);
+  once = each_once_where_all_stand (length h) callers order.1 (times_all h callers agree ∙ sym count);
   agree = agree;
   rise = order.0;
 }
@@ -307,10 +305,10 @@ pub apart_rest : (all : List (List Receipt)) (rs : List Receipt) (rest : List (L
 apart_rest all rs rest is rise = (subst EachRise is rise).1
 
 -- the test of all receipts is made of that of their order and that of what they tell
-pub test_is : (h : List Entry) (callers : List (List Receipt)) (ordered test : Bool)
+pub order_test_decides : (h : List Entry) (callers : List (List Receipt)) (ordered test : Bool)
     → length h ≡ count_in callers → IsTrue ordered ↔ EachRise callers × AtMostOnce callers
     → IsTrue test ↔ IsTrue ordered × EachAgree h callers → IsTrue test ↔ Matches h callers
-test_is h callers ordered test count order agree = (
+order_test_decides h callers ordered test count order agree = (
   (λ t. let both = agree.0 t in matches_by h callers count (order.0 both.0) both.1),
   λ m. agree.1 (order.1 (matches_order h callers m), m.agree),
 )

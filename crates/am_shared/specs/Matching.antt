@@ -1,4 +1,5 @@
--- The receipts of all callers against the history.
+-- The receipts of all callers against the history: own (docs/DECISIONS.md, "Receipts are compared
+-- at the end").
 use Rattle.std.specs.Prelude.{◌≡◌, ℕ, ◌+◌, ◌-◌, ◌<◌, ◌≤◌, ◌==◌, if◌then◌else◌, List, [], ◌∷◌, length}
 use Rattle.std.specs.Prelude.{Some, slice_get}
 use Rattle.am_machine.specs.declared.entry.Entry.{Entry}
@@ -45,8 +46,8 @@ abbrev pub count_in : List (List Receipt) → ℕ
 count_in [] = 0
 count_in (rs ∷ rest) = length rs + count_in rest
 
--- Each position of the history stands in just one receipt; each receipt has the event and the answer
--- at its position; and the positions of each caller rise.
+-- Each position of the history stands in just one receipt; each receipt has the event and the
+-- answer at its position; and the positions of each caller rise.
 pub record Matches (history : List Entry) (callers : List (List Receipt)) : Type 0 where
   pub once : (k : ℕ) → k < length history → times_in (k + 1) callers ≡ 1
   pub agree : EachAgree history callers

@@ -1,6 +1,6 @@
 -- The notes of what the kernel queued
 -- (autofs.rst, "Communicating with autofs: the event pipe").
-use Rattle.std.specs.Prelude.{◌≡◌, ◌≤◌, ◌+◌, ◌^◌, ◌⊎◌, ℕ, List, [], ◌∷◌, ◌++◌, length}
+use Rattle.std.specs.Prelude.{◌≡◌, ◌≤◌, ◌+◌, ◌^◌, ◌⊎◌, ℕ, List, [], ◌∷◌, length}
 use Rattle.std.specs.Prelude.{Option, Some, None}
 use Rattle.am_wire.specs.declared.packet.Packet.{Packet}
 use Rattle.am_wire.specs.Said.{said}
@@ -20,6 +20,7 @@ abbrev pub note_at : Obs → Option Note
 note_at (Queued token attach packet) = Some (note token attach packet)
 note_at _ = None
 
+-- the note, if there is one, and then these
 abbrev pub before : Option Note → List Note → List Note
 before None notes = notes
 before (Some note) notes = note ∷ notes
@@ -29,8 +30,8 @@ abbrev pub notes_of : List Obs → List Note
 notes_of [] = []
 notes_of (obs ∷ rest) = before (note_at obs) (notes_of rest)
 
--- No note waits to be put, or as many were put as the pipe has room for, or its positions are spent.
--- A put end can't know how many of them were taken.
+-- No note waits to be put, or as many were put as the pipe has room for, or its positions are
+-- spent. A put end can't know how many of them were taken.
 abbrev pub IsFlushed : Putter → List Note → Type 0
 IsFlushed put unsent =
     (length unsent ≡ 0) ⊎ ((put.room ≤ length put.sent) ⊎ (2 ^ 64 ≤ length put.sent + 1))

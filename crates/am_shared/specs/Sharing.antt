@@ -1,4 +1,5 @@
--- What lies under the lock.
+-- What lies under the lock: own (docs/DECISIONS.md, "A shared world has one lock" and "A note is
+-- put while the lock is held, and taken without it").
 use Rattle.std.specs.Prelude.{◌≡◌, ℕ, List, [], ◌∷◌, ◌++◌, length}
 use Rattle.am_state.specs.declared.obs.Obs.{Obs}
 use Rattle.am_laws.specs.TraceLaws.{Lawful}
@@ -6,7 +7,7 @@ use Rattle.am_machine.specs.declared.event.Event.{Event}
 use Rattle.am_machine.specs.declared.answer.Answer.{Answer}
 use Rattle.am_machine.specs.Agreement.{Agree}
 use Rattle.am_machine.specs.InStep.{AreInStep}
-use Rattle.am_machine.specs.State.{Opening, opening_in, opening_of}
+use Rattle.am_machine.specs.State.{Opening, opening_of}
 use Rattle.am_machine.specs.Machine.{Step, Run, IsLegal}
 use Rattle.am_world.specs.Table.{WorldTable, state_of}
 use Rattle.am_pipe.specs.declared.note.Note.{Note}
@@ -15,8 +16,8 @@ use Rattle.am_machine.specs.declared.entry.Entry.{Entry}
 use Rattle.am_machine.specs.History.{entry, events_of, answers_of}
 use Rattle.am_shared.specs.Notes.{notes_of, IsFlushed}
 
--- a world, the events that happened to it with their answers, the put end of the pipe, and the notes
--- that wait for room in the pipe
+-- a world, the events that happened to it with their answers, the put end of the pipe, and the
+-- notes that wait for room in the pipe
 pub record Sharing : Type 0 where
   pub world : WorldTable
   pub history : List Entry
@@ -43,7 +44,8 @@ pub record IsSharedFrom (opening : Opening) (s : Sharing) : Type 0 where
 
 -- The event was applied: the world made a step with this answer, and the pair is the last of the
 -- history, at this position.
-pub record Applies (old new : Sharing) (event : Event) (position : ℕ) (answer : Answer) : Type 0 where
+pub record Applies (old new : Sharing) (event : Event) (position : ℕ)
+    (answer : Answer) : Type 0 where
   pub seen : List Obs
   pub step : Step (state_of old.world) event answer seen (state_of new.world)
   pub history : new.history ≡ old.history ++ entry event answer ∷ []

@@ -69,8 +69,8 @@ impl<L: Opened> Model for Caller<L> {
     ghost invariant = { λ c. (c.share.parts ≡ 1) × (c.share.amount ≡ vec_len c.receipts) };
 }
 
-/// Shares the initial world of a master map, with the maps of its lines in their order, among so many
-/// callers. The ledger has a part for each of them.
+/// Shares the initial world of a master map, with the maps of its lines in their order, among so
+/// many callers. The ledger has a part for each of them.
 pub fn share<L: Opened>(
     alloc: Global,
     blank: Blank,
@@ -172,7 +172,8 @@ impl<L: Opened> Desk<L> {
 }
 
 impl<L: Opened> Lock<L> {
-    /// Takes the lock once the walker has no wait that isn't acknowledged, or a caller has given up.
+    /// Takes the lock once the walker has no wait that isn't acknowledged, or a caller has given
+    /// up.
     fn released<R: Wait>(&self, rt: &R, walker: WalkerId) -> MutexGuard<'_, Desk<L>>
         ensures { (mutex_guard_value result).given_up ≡ false →
             still_waits (wait_of (mutex_guard_value result).shared.world.kernel.waits.waits walker)
@@ -224,6 +225,7 @@ impl<L: Opened> Caller<L> {
     {
         let desk = self.lock.desk.lock(rt);
         let shared = &desk.shared;
+        // What a shared world keeps is known where its history is read.
         let _history = shared.history();
         f(shared)
     }
@@ -233,8 +235,8 @@ impl<L: Opened> Caller<L> {
         let _desk = self.lock.released(rt, walker);
     }
 
-    /// Tells all callers that this one won't make the events any more that they may wait for: nobody
-    /// waits for a release from now on.
+    /// Tells all callers that this one won't make the events any more that they may wait for:
+    /// nobody waits for a release from now on.
     pub fn give_up<R: Wait>(&self, rt: &R) {
         self.lock.desk.lock(rt).give_up();
         self.lock.moved.notify_all();
@@ -247,8 +249,8 @@ impl<L: Opened> Caller<L> {
     ghost use mathlib.Core.Option.{none};
     ghost use Rattle.am_shared.specs.contracts.caller.Caller.{the_row};
 
-    /// Makes an event, as one step under the lock, and gives its receipt, which is kept behind those of
-    /// the earlier events. Out of memory, nothing was done.
+    /// Makes an event, as one step under the lock, and gives its receipt, which is kept behind
+    /// those of the earlier events. Out of memory, nothing was done.
     pub fn call<R: Wait>(
         &mut self,
         rt: &R,
@@ -256,8 +258,10 @@ impl<L: Opened> Caller<L> {
         event: Event,
     ) -> Result<&Receipt, AllocError>
         ensures* receipts { sem 𝓛 (follows_so
-            (the_row L.row (record { opening = L.opening }) (record { name = L.name; parts = L.parts }))
-            (the_row L.row (record { opening = L.opening }) (record { name = L.name; parts = L.parts }))
+            (the_row L.row (record { opening = L.opening })
+            (record { name = L.name; parts = L.parts }))
+            (the_row L.row (record { opening = L.opening })
+            (record { name = L.name; parts = L.parts }))
             self.entry.ghost_name none (λ _ _. ⊤)
             (λ n. MatchResult result (λ r. n ≡ self.old ++ r.now ∷ []) (λ _. n ≡ self.old))) }
         ensures event { IfOk result (λ r. r.now.event ≡ event) }

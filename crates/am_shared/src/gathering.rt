@@ -28,8 +28,8 @@ fn merged<L: Opened>(callers: Vec<Caller<L>>, share: Share<L>) -> Share<L>
     all
 }
 
-/// Ends the work on a shared world: lends what lies under the lock, while the lock is held, with the
-/// number of events that all callers made and the test of their receipts. It takes no memory.
+/// Ends the work on a shared world: lends what lies under the lock, while the lock is held, with
+/// the number of events that all callers made and the test of their receipts. It takes no memory.
 pub fn gather<L: Opened, T, F: FnOnce(&Shared, u64, bool) -> T, R: Wait>(
     rt: &R,
     callers: Vec<Caller<L>>,

@@ -1,5 +1,5 @@
-//! A world that threads share: each event is one step under a lock, and the history of all of them is
-//! that of a single thread.
+//! A world that threads share: each event is one step under a lock, and the history of all of them
+//! is that of a single thread.
 #![tactic(auto)]
 
 mod caller;

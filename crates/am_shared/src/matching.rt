@@ -50,15 +50,16 @@ pub fn each_agree<L: Opened>(history: &[Entry], callers: &[Caller<L>]) -> bool
     true
 }
 
-/// Whether the receipts of all callers, of whom the last is apart, are in order, and the history has the
-/// event and the answer of each of them at its position.
+/// Whether the receipts of all callers, of whom the last is apart, are in order, and the history
+/// has the event and the answer of each of them at its position.
 pub fn are_matched<L: Opened>(
     in_order: bool,
     history: &[Entry],
     callers: &[Caller<L>],
     last: &[Receipt],
 ) -> bool
-    ensures { IsTrue result ↔ (IsTrue in_order × EachAgree history.now (callers.now ++ last.now ∷ [])) }
+    ensures { IsTrue result ↔
+        (IsTrue in_order × EachAgree history.now (callers.now ++ last.now ∷ [])) }
 {
     if !in_order {
         return false;

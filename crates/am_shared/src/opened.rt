@@ -3,8 +3,8 @@
 use std::marker::Brand;
 use std::sync::ledger::Ledger;
 
-/// The ledger of the events of one shared world, which began with this opening. Proofs alone speak of
-/// it: the call of `share` picks the opening that it is handed.
+/// The ledger of the events of one shared world, which began with this opening. Proofs alone speak
+/// of it: the call of `share` picks the opening that it is handed.
 pub trait Opened: Ledger {
     ghost use Rattle.am_machine.specs.State.{Opening};
 

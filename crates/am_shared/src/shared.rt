@@ -98,8 +98,8 @@ impl Shared {
         self.history.as_slice()
     }
 
-    /// Applies an event, and tells its position in the history, from 1, and its answer. At position 0
-    /// nothing was done, as memory ran out.
+    /// Applies an event, and tells its position in the history, from 1, and its answer. At position
+    /// 0 nothing was done, as memory ran out.
     pub fn apply<R: Wait>(&mut self, rt: &R, alloc: Global, event: Event) -> (u64, Answer)
         ensures none { result.0 ≡ 0 → (result.1 ≡ Refused NoMemory) × (self.new ≡ self.old) }
         ensures one { 0 < result.0 → Applies self.old self.new event result.0 result.1 }

@@ -38,14 +38,14 @@ pub done_goes : (first : Option Errno) (s new : State) (done : Outcome) (answer 
 done_goes first s new done answer h told left = subst (λ (f : Option Errno). Goes (unless f s done) s (Ok answer) new) (sym h) (told, left)
 
 -- memory ran out
-pub ran_out : (o : Outcome) (s new : State) → new ≡ s → Goes o s (Err NoMemory) new
-ran_out o s new same = (same, inl refl)
+pub goes_without_memory : (o : Outcome) (s new : State) → new ≡ s → Goes o s (Err NoMemory) new
+goes_without_memory o s new same = (same, inl refl)
 
 abbrev pub with_both : KernelState → List Obs → State → State
 with_both k trace s = record s { kernel = k; trace = trace }
 
-both_same : (k : KernelState) (trace : List Obs) (s : State) → k ≡ s.kernel → trace ≡ s.trace → with_both k trace s ≡ s
-both_same k trace s e t = ap (λ (x : KernelState). with_both x trace s) e ∙ ap (λ (x : List Obs). record s { trace = x }) t
+halves_unchanged : (k : KernelState) (trace : List Obs) (s : State) → k ≡ s.kernel → trace ≡ s.trace → with_both k trace s ≡ s
+halves_unchanged k trace s e t = ap (λ (x : KernelState). with_both x trace s) e ∙ ap (λ (x : List Obs). record s { trace = x }) t
 
 -- a walk that goes on
 pub walk_goes : (o : kernel.Outcome) (s : State) (begun : Begun) (k : KernelState) (trace : List Obs) → kernel.Meets o (Ok begun) s.kernel k s.trace trace →
@@ -57,9 +57,9 @@ walk_goes (kernel.Fails e) s begun k trace h = absurd h
 -- one that doesn't
 pub walk_fails : (o : kernel.Outcome) (s : State) (e : Errno) (k : KernelState) (trace : List Obs) → kernel.Meets o (Err e) s.kernel k s.trace trace →
     Goes (goes o s) s (Err e) (with_both k trace s)
-walk_fails (kernel.Goes answer shown made) s e k trace h = (both_same k trace s h.1.state h.1.seen, inl h.0)
-walk_fails (kernel.Fails f) s NoMemory k trace h = (both_same k trace s h.state h.seen, inl refl)
-walk_fails (kernel.Fails f) s _ k trace h = (both_same k trace s h.1.state h.1.seen, inr (ap (refused s) (sym h.0)))
+walk_fails (kernel.Goes answer shown made) s e k trace h = (halves_unchanged k trace s h.1.state h.1.seen, inl h.0)
+walk_fails (kernel.Fails f) s NoMemory k trace h = (halves_unchanged k trace s h.state h.seen, inl refl)
+walk_fails (kernel.Fails f) s _ k trace h = (halves_unchanged k trace s h.1.state h.1.seen, inr (ap (refused s) (sym h.0)))
 
 -- ---- steps
 

@@ -19,13 +19,12 @@ use Rattle.am_job.specs.declared.act.Act.{Act}
 use Rattle.am_job.specs.declared.act.Act.TheVariants as act
 use Rattle.am_job.specs.Plans.{next_of}
 use Rattle.am_kernel.specs.State.{KernelState}
-use Rattle.am_kernel.specs.Sites.{is_current, is_busy, attach_of, fs_of_attach}
-use Rattle.am_kernel.specs.Previews.{is_trigger}
+use Rattle.am_kernel.specs.Sites.{is_current, is_busy, attach_of, fs_of_attach, is_trigger}
 use Rattle.am_kernel.specs.Outcome as kernel
 use Rattle.am_kernel.specs.Outcome.{moment_of}
 use Rattle.am_kernel.specs.Expires as expires
 use Rattle.am_kernel.specs.Administration.{mount_refusal, bind_refusal, plain_change_refusal, kind_refusal, kind_at}
-use Rattle.am_kernel.specs.Attachments.{catatonic_refusal, autofs_refusal}
+use Rattle.am_kernel.specs.Catatonic.{catatonic_refusal, admin_catatonic_refusal}
 use Rattle.am_kernel.specs.Directories.{mkdir_refusal, rmdir_refusal}
 use Rattle.am_kernel.specs.DaemonMounts.{mount_on_refusal, umount_from_refusal}
 use Rattle.am_kernel.specs.Requests.{timeout_refusal, answer_refusal, queued_of}
@@ -49,16 +48,13 @@ use Rattle.am_world.specs.Copies.{owns}
 pub record Free (o : Outcome) : Type 0 where
   pub free : owns o.answer ≡ false
 
-is : (o : Outcome) → owns o.answer ≡ false → Free o
-is o h = record { free = h }
-
 unless_free : (first : Option Errno) (s : State) (done : Outcome) → owns done.answer ≡ false → Free (unless first s done)
 unless_free None s done h = record { free = h }
 unless_free (Some e) s done h = record { free = refl }
 
-either : (b : Bool) (first second : Outcome) → Free first → Free second → Free (if b then first else second)
-either true first second h g = h
-either false first second h g = g
+either_free : (b : Bool) (first second : Outcome) → Free first → Free second → Free (if b then first else second)
+either_free true first second h g = h
+either_free false first second h g = g
 
 attached_free : (point : Option Point) (s : State) (path : List (List ℕ)) → Free (attached_as point s path)
 attached_free None s path = record { free = refl }
@@ -73,12 +69,12 @@ kind_free (Some kind) s = refl
 record Goes_free (s : State) (o : kernel.Outcome) : Type 0 where
   goes_free : owns (goes o s).answer ≡ false
 
-either_goes : (s : State) (b : Bool) (first second : kernel.Outcome) → Goes_free s first → Goes_free s second → Goes_free s (if b then first else second)
-either_goes s true first second h g = h
-either_goes s false first second h g = g
+either_goes_free : (s : State) (b : Bool) (first second : kernel.Outcome) → Goes_free s first → Goes_free s second → Goes_free s (if b then first else second)
+either_goes_free s true first second h g = h
+either_goes_free s false first second h g = g
 
-fails : (s : State) (e : Errno) → Goes_free s (kernel.Fails e)
-fails s e = record { goes_free = refl }
+refusal_goes_free : (s : State) (e : Errno) → Goes_free s (kernel.Fails e)
+refusal_goes_free s e = record { goes_free = refl }
 
 expires_by : (pipe : PipeState) (s : State) (k : KernelState) (walker : ℕ) (trigger : Trigger) (attach : ℕ) → Goes_free s (expires.expires_by pipe k walker trigger attach)
 expires_by Room s k walker trigger attach = record { goes_free = refl }
@@ -86,31 +82,31 @@ expires_by Full s k walker trigger attach = record { goes_free = refl }
 expires_by Gone s k walker trigger attach = record { goes_free = refl }
 
 expires_next : (next : Option Trigger) (pipe : PipeState) (s : State) (k : KernelState) (walker attach : ℕ) → Goes_free s (expires.expires_next next pipe k walker attach)
-expires_next None pipe s k walker attach = fails s _
+expires_next None pipe s k walker attach = refusal_goes_free s _
 expires_next (Some trigger) pipe s k walker attach =
-    either_goes s (is_exhausted k.waits) _ _ (fails s _) (either_goes s (is_full k.waits) _ _ (fails s _) (expires_by pipe s k walker trigger attach))
+    either_goes_free s (is_exhausted k.waits) _ _ (refusal_goes_free s _) (either_goes_free s (is_full k.waits) _ _ (refusal_goes_free s _) (expires_by pipe s k walker trigger attach))
 
 expires_under : (attach : Option ℕ) (pipe : PipeState) (s : State) (k : KernelState) (walker : ℕ) (next : Option Trigger) → Goes_free s (expires.expires_under attach pipe k walker next)
-expires_under None pipe s k walker next = fails s _
+expires_under None pipe s k walker next = refusal_goes_free s _
 expires_under (Some attach) pipe s k walker next = expires_next next pipe s k walker attach
 
-at_moment : (o : kernel.Outcome) (s : State) (moment : ℕ) → Goes_free s o → Goes_free s (kernel.at_moment moment o)
-at_moment (kernel.Goes answer shown made) s moment h = record { goes_free = h.goes_free }
-at_moment (kernel.Fails e) s moment h = h
+at_moment_goes_free : (o : kernel.Outcome) (s : State) (moment : ℕ) → Goes_free s o → Goes_free s (kernel.at_moment moment o)
+at_moment_goes_free (kernel.Goes answer shown made) s moment h = record { goes_free = h.goes_free }
+at_moment_goes_free (kernel.Fails e) s moment h = h
 
 expire_free : (pipe : PipeState) (s : State) (walker fs now : ℕ) (immediate : Bool) → Goes_free s (expires.expire_outcome pipe s.kernel walker fs now immediate)
 expire_free pipe s walker fs now immediate =
     let moment = moment_of s.kernel now in
-    at_moment (expires.expire_at pipe s.kernel walker fs moment immediate) s moment
-    (either_goes s (is_none (autofs_of s.kernel.triggers fs)) _ _ (fails s _)
-    (either_goes s (is_busy s.kernel walker) _ _ (fails s _)
+    at_moment_goes_free (expires.expire_at pipe s.kernel walker fs moment immediate) s moment
+    (either_goes_free s (is_none (autofs_of s.kernel.triggers fs)) _ _ (refusal_goes_free s _)
+    (either_goes_free s (is_busy s.kernel walker) _ _ (refusal_goes_free s _)
     (expires_under (attach_of s.kernel fs) pipe s s.kernel walker (expires.next_of s.kernel fs moment immediate))))
 
 -- ---- deliveries and acts
 
 delivered_free : (row : Option QueuedRow) (s : State) (bytes : Option (List ℕ)) → Free (delivered_at row s bytes)
 delivered_free None s bytes = record { free = refl }
-delivered_free (Some row) s bytes = either (may_take s row bytes) _ _ (record { free = refl }) (record { free = refl })
+delivered_free (Some row) s bytes = either_free (may_take s row bytes) _ _ (record { free = refl }) (record { free = refl })
 
 mkdir_free : (first : Option Errno) (s : State) (row : JobPlan) (g : Trigger) → Free (mkdir_by first s row g)
 mkdir_free None s row g = record { free = refl }
@@ -147,11 +143,11 @@ acted_free : (a : Option Act) (s : State) (row : JobPlan) (failure : Option Fail
 acted_free None s row failure = record { free = refl }
 acted_free (Some (act.Mkdir g)) s row failure = mkdir_free (mkdir_refusal s.kernel row.attach g) s row g
 acted_free (Some (act.Mount g entry)) s row failure =
-    either (not (is_current s.kernel g.fs row.attach)) _ _ (record { free = refl }) (mount_tried_free failure s row g)
+    either_free (not (is_current s.kernel g.fs row.attach)) _ _ (record { free = refl }) (mount_tried_free failure s row g)
 acted_free (Some (act.Umount g)) s row failure =
-    either (not (is_current s.kernel g.fs row.attach)) _ _ (record { free = refl }) (umount_tried_free failure s row g)
+    either_free (not (is_current s.kernel g.fs row.attach)) _ _ (record { free = refl }) (umount_tried_free failure s row g)
 acted_free (Some (act.Rmdir g)) s row failure = rmdir_free (rmdir_refusal s.kernel row.attach g) s row g
-acted_free (Some (act.Record g entry)) s row failure = either (not (holds s.daemon row.trigger.fs row.attach)) _ _ (record { free = refl }) (record { free = refl })
+acted_free (Some (act.Record g entry)) s row failure = either_free (not (holds s.daemon row.trigger.fs row.attach)) _ _ (record { free = refl }) (record { free = refl })
 acted_free (Some (act.Reply status)) s row failure = reply_free (answer_refusal s.kernel row.attach row.token) s row status
 
 act_free : (row : Option JobPlan) (s : State) (failure : Option FailNo) → Free (acted_at row s failure)
@@ -183,13 +179,13 @@ others_free s (events.Expire walker fs now immediate pipe) h = record { free = (
 others_free s (events.Deliver token bytes) h = delivered_free (queued_of s.kernel.queue token) s bytes
 others_free s (events.Act job ok) h = act_free (job_of s.daemon.jobs job) s ok
 others_free s (events.Repeat attach token status) h =
-    either (not (is_some (fs_of_attach s.kernel attach))) _ _ (record { free = refl }) (either (is_some (token_of s.kernel.waits.tokens token)) _ _ (record { free = refl }) (record { free = refl }))
+    either_free (not (is_some (fs_of_attach s.kernel attach))) _ _ (record { free = refl }) (either_free (is_some (token_of s.kernel.waits.tokens token)) _ _ (record { free = refl }) (record { free = refl }))
 others_free s (events.Catatonic attach fs) h = unless_free (catatonic_refusal s.kernel attach fs) s _ refl
-others_free s (events.AdminCatatonic fs) h = unless_free (autofs_refusal s.kernel fs) s _ refl
+others_free s (events.AdminCatatonic fs) h = unless_free (admin_catatonic_refusal s.kernel fs) s _ refl
 others_free s (events.Timeout attach fs timeout) h = unless_free (timeout_refusal s.kernel attach fs) s _ refl
 others_free s events.Die h = record { free = refl }
 others_free s (events.Reattach fs) h = unless_free (reattach_refused s fs) s _ refl
-others_free s (events.Record trigger) h = either (not (is_trigger s.kernel trigger)) _ _ (record { free = refl }) (record { free = refl })
+others_free s (events.Record trigger) h = either_free (not (is_trigger s.kernel trigger)) _ _ (record { free = refl }) (record { free = refl })
 
 pub other_is : (event : Event) → ((ns : ℕ) (path : List (List ℕ)) → event ≡ events.Umount ns path → ⊥) → ((ns : ℕ) → event ≡ events.DropNamespace ns → ⊥) →
     ((walker ns : ℕ) (path : List (List ℕ)) (now : ℕ) (pipe : PipeState) → event ≡ events.Walk walker ns path now pipe → ⊥) → ((walker now : ℕ) (pipe : PipeState) → event ≡ events.Resume walker now pipe → ⊥) → IsOther event

@@ -45,33 +45,33 @@ spare_free (Some spare) answer free = λ owns. absurd cc
 record Spares (at : Option Position) (s : State) (o : kernel.Outcome) : Type 0 where
   spares : IsSpare (arrival_told at) (goes o s).answer
 
-free : (at : Option Position) (s : State) (o : kernel.Outcome) → owns (goes o s).answer ≡ false → Spares at s o
-free at s o h = record { spares = spare_free (arrival_told at) (goes o s).answer h }
+lean_spares : (at : Option Position) (s : State) (o : kernel.Outcome) → owns (goes o s).answer ≡ false → Spares at s o
+lean_spares at s o h = record { spares = spare_free (arrival_told at) (goes o s).answer h }
 
-either : (at : Option Position) (s : State) (b : Bool) (first second : kernel.Outcome) → Spares at s first → Spares at s second → Spares at s (if b then first else second)
-either at s true first second h g = h
-either at s false first second h g = g
+either_spares : (at : Option Position) (s : State) (b : Bool) (first second : kernel.Outcome) → Spares at s first → Spares at s second → Spares at s (if b then first else second)
+either_spares at s true first second h g = h
+either_spares at s false first second h g = g
 
 notifies_by : (pipe : PipeState) (at : Option Position) (s : State) (k : KernelState) (begin : Begin) (trigger : Trigger) (attach : ℕ) (passed : List Trigger) → Spares at s (walks.notifies_by pipe k begin trigger attach passed)
-notifies_by Room at s k begin trigger attach passed = free at s _ refl
-notifies_by Full at s k begin trigger attach passed = free at s _ refl
-notifies_by Gone at s k begin trigger attach passed = free at s _ refl
+notifies_by Room at s k begin trigger attach passed = lean_spares at s _ refl
+notifies_by Full at s k begin trigger attach passed = lean_spares at s _ refl
+notifies_by Gone at s k begin trigger attach passed = lean_spares at s _ refl
 
 notifies : (attach : Option ℕ) (pipe : PipeState) (at : Option Position) (s : State) (k : KernelState) (begin : Begin) (trigger : Trigger) (passed : List Trigger) → Spares at s (walks.notifies attach pipe k begin trigger passed)
-notifies None pipe at s k begin trigger passed = free at s _ refl
+notifies None pipe at s k begin trigger passed = lean_spares at s _ refl
 notifies (Some attach) pipe at s k begin trigger passed =
-    either at s (is_exhausted k.waits) _ _ (free at s _ refl)
-    (either at s (is_full k.waits) _ _ (free at s _ refl) (notifies_by pipe at s k begin trigger attach passed))
+    either_spares at s (is_exhausted k.waits) _ _ (lean_spares at s _ refl)
+    (either_spares at s (is_full k.waits) _ _ (lean_spares at s _ refl) (notifies_by pipe at s k begin trigger attach passed))
 
 begun_by : (stop : Stop) (pipe : PipeState) (s : State) (k : KernelState) (begin : Begin) (passed : List Trigger) → Spares (arrived_at stop) s (walks.begun_by stop pipe k begin passed)
 begun_by (stops.Arrive at) pipe s k begin passed = record { spares = λ owns. refl }
-begun_by (stops.Block token) pipe s k begin passed = either None s (is_full k.waits) _ _ (free None s _ refl) (free None s _ refl)
+begun_by (stops.Block token) pipe s k begin passed = either_spares None s (is_full k.waits) _ _ (lean_spares None s _ refl) (lean_spares None s _ refl)
 begun_by (stops.Missing trigger) pipe s k begin passed = notifies (attach_of k trigger.fs) pipe None s k begin trigger passed
-begun_by (stops.Refuse e) pipe s k begin passed = free None s _ refl
+begun_by (stops.Refuse e) pipe s k begin passed = lean_spares None s _ refl
 
-at_moment : (o : kernel.Outcome) (at : Option Position) (s : State) (moment : ℕ) → Spares at s o → Spares at s (kernel.at_moment moment o)
-at_moment (kernel.Goes answer shown made) at s moment h = record { spares = h.spares }
-at_moment (kernel.Fails e) at s moment h = h
+at_moment_spares : (o : kernel.Outcome) (at : Option Position) (s : State) (moment : ℕ) → Spares at s o → Spares at s (kernel.at_moment moment o)
+at_moment_spares (kernel.Goes answer shown made) at s moment h = record { spares = h.spares }
+at_moment_spares (kernel.Fails e) at s moment h = h
 
 -- a walk arrives where it would have
 pub walk_spares : (pipe : PipeState) (s : State) (walker ns : ℕ) (path : List (List ℕ)) (now : ℕ) → IsSpare (arrival_told (arrival_of s.kernel ns path now)) (goes (walks.walk_outcome pipe s.kernel walker ns path now) s).answer
@@ -79,12 +79,12 @@ walk_spares pipe s walker ns path now =
     let moment = moment_of s.kernel now in
     let begin = walks.first_begin walker ns path moment in
     let walked = walk_of (scene_of s.kernel moment) ns path in
-    (at_moment (walks.walk_at pipe s.kernel begin) (arrived_at walked.stop) s moment
-    (either (arrived_at walked.stop) s (is_busy s.kernel walker) _ _ (free (arrived_at walked.stop) s _ refl) (begun_by walked.stop pipe s s.kernel begin walked.passed))).spares
+    (at_moment_spares (walks.walk_at pipe s.kernel begin) (arrived_at walked.stop) s moment
+    (either_spares (arrived_at walked.stop) s (is_busy s.kernel walker) _ _ (lean_spares (arrived_at walked.stop) s _ refl) (begun_by walked.stop pipe s s.kernel begin walked.passed))).spares
 
 or_failed : (o : kernel.Outcome) (at : Option Position) (s : State) (base : KernelState) → Spares at s o → Spares at s (resumes.or_failed o base)
 or_failed (kernel.Goes answer shown made) at s base h = h
-or_failed (kernel.Fails e) at s base h = free at s _ refl
+or_failed (kernel.Fails e) at s base h = lean_spares at s _ refl
 
 -- where a walk would arrive at a moment
 abbrev arrival_at : KernelState → ℕ → List (List ℕ) → ℕ → Option Position
@@ -101,29 +101,29 @@ same_arrival k now (Some row) = refl
 again : (pipe : PipeState) (s : State) (base : KernelState) (row : WalkRow) (moment : ℕ) → Spares (arrival_at s.kernel row.ns row.path moment) s (resumes.again pipe s.kernel base row moment)
 again pipe s base row moment =
     let walked = walk_of (scene_of s.kernel moment) row.ns row.path in
-    either (arrived_at walked.stop) s (nat_le resumes.most_begins row.begins) _ _ (free (arrived_at walked.stop) s _ refl)
+    either_spares (arrived_at walked.stop) s (nat_le resumes.most_begins row.begins) _ _ (lean_spares (arrived_at walked.stop) s _ refl)
     (or_failed (walks.begun_with walked pipe base (resumes.next_begin row moment)) (arrived_at walked.stop) s base (begun_by walked.stop pipe s base (resumes.next_begin row moment) walked.passed))
 
 resumed_as : (kind : TokenKind) (status : Status) (pipe : PipeState) (s : State) (wait : WaitRow) (row : WalkRow) (moment : ℕ) → Spares (arrival_at s.kernel row.ns row.path moment) s (resumes.resumed_as kind status pipe s.kernel wait row moment)
-resumed_as Missing (Fail error) pipe s wait row moment = free (arrival_at s.kernel row.ns row.path moment) s _ refl
+resumed_as Missing (Fail error) pipe s wait row moment = lean_spares (arrival_at s.kernel row.ns row.path moment) s _ refl
 resumed_as Missing Ready pipe s wait row moment = again pipe s _ row moment
 resumed_as Expire status pipe s wait row moment = again pipe s _ row moment
 
 told_as : (kind : TokenKind) (status : Status) (at : Option Position) (s : State) (wait : WaitRow) (moment : ℕ) → Spares at s (resumes.told_as kind status s.kernel wait moment)
-told_as Missing status at s wait moment = free at s _ refl
-told_as Expire Ready at s wait moment = free at s _ refl
-told_as Expire (Fail error) at s wait moment = free at s _ refl
+told_as Missing status at s wait moment = lean_spares at s _ refl
+told_as Expire Ready at s wait moment = lean_spares at s _ refl
+told_as Expire (Fail error) at s wait moment = lean_spares at s _ refl
 
 resumed_walk : (row : Option WalkRow) (status : Status) (pipe : PipeState) (s : State) (wait : WaitRow) (moment : ℕ) → Spares (arrival_by s.kernel row moment) s (resumes.resumed_walk row status pipe s.kernel wait moment)
 resumed_walk None status pipe s wait moment = told_as wait.kind status None s wait moment
 resumed_walk (Some row) status pipe s wait moment = resumed_as wait.kind status pipe s wait row moment
 
 resumed_by : (status : Option Status) (pipe : PipeState) (s : State) (wait : WaitRow) (moment : ℕ) → Spares (arrival_by s.kernel (resumes.walk_in s.kernel.walks wait.walker) moment) s (resumes.resumed_by status pipe s.kernel wait moment)
-resumed_by None pipe s wait moment = free (arrival_by s.kernel (resumes.walk_in s.kernel.walks wait.walker) moment) s _ refl
+resumed_by None pipe s wait moment = lean_spares (arrival_by s.kernel (resumes.walk_in s.kernel.walks wait.walker) moment) s _ refl
 resumed_by (Some status) pipe s wait moment = resumed_walk (resumes.walk_in s.kernel.walks wait.walker) status pipe s wait moment
 
 resumed_at : (found : Option WaitRow) (pipe : PipeState) (s : State) (walker moment : ℕ) → wait_of s.kernel.waits.waits walker ≡ found → Spares (arrival_by s.kernel (resumes.walk_in s.kernel.walks walker) moment) s (resumes.resumed_at found pipe s.kernel moment)
-resumed_at None pipe s walker moment e = free (arrival_by s.kernel (resumes.walk_in s.kernel.walks walker) moment) s _ refl
+resumed_at None pipe s walker moment e = lean_spares (arrival_by s.kernel (resumes.walk_in s.kernel.walks walker) moment) s _ refl
 resumed_at (Some wait) pipe s walker moment e =
     subst (λ (n : ℕ). Spares (arrival_by s.kernel (resumes.walk_in s.kernel.walks n) moment) s (resumes.resumed_at (Some wait) pipe s.kernel moment)) (found_number (λ (row : WaitRow). row.walker) walker s.kernel.waits.waits wait e) (resumed_by wait.status pipe s wait moment)
 
@@ -134,8 +134,8 @@ resume_spares pipe s walker now =
     let row = resumes.walk_in s.kernel.walks walker in
     let at = arrival_by s.kernel row moment in
     subst (λ (o : Option Position). IsSpare (arrival_told o) (goes (resumes.resume_outcome pipe s.kernel walker now) s).answer) (sym (same_arrival s.kernel now row))
-    (at_moment (resumes.resume_at pipe s.kernel walker moment) at s moment
-    (either at s (is_some (mount_of s.kernel.uses walker)) _ _ (free at s _ refl) (resumed_at (wait_of s.kernel.waits.waits walker) pipe s walker moment refl))).spares
+    (at_moment_spares (resumes.resume_at pipe s.kernel walker moment) at s moment
+    (either_spares at s (is_some (mount_of s.kernel.uses walker)) _ _ (lean_spares at s _ refl) (resumed_at (wait_of s.kernel.waits.waits walker) pipe s walker moment refl))).spares
 
 -- an unmount and a drop tell what goes
 pub gone_spares : (first : Option Errno) (s : State) (done : Outcome) (gone : List ℕ) → done.answer ≡ answers.Gone gone → IsSpare (Some (answers.Gone gone)) (unless first s done).answer

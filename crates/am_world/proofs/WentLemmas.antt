@@ -17,8 +17,7 @@ use Rattle.std.proofs.lemmas.Bool.Decides.{nat_tests}
 use Rattle.am_state.specs.declared.obs.Obs.TheVariants.{Recorded}
 use Rattle.am_state.specs.declared.kernel_row.QueuedRow.{QueuedRow}
 use Rattle.am_kernel.specs.declared.row.Attached.{Attached}
-use Rattle.am_kernel.specs.Walks.{closing}
-use Rattle.am_kernel.specs.Attachments.{closing_if_live}
+use Rattle.am_kernel.specs.Catatonic.{closing, closing_if_live}
 use Rattle.am_daemon.specs.declared.acts.Writing.{Writing}
 use Rattle.am_daemon.specs.declared.fault.DaemonFault.{DaemonFault}
 use Rattle.am_daemon.specs.Deliveries.{delivery_fault}
@@ -102,18 +101,18 @@ rmdir_fails (Err f) first s row g e new refusal err is =
 
 -- ---- mounts
 
-first_by : (T : Type 0) (first : Option Errno) (e : Errno) → RefusedAs {T = T} first (Err e) → is_no_memory e ≡ false → first ≡ Some e
-first_by T first NoMemory h other = absurd cc
-first_by T first _ h other = h
+first_unless_memory_of : (T : Type 0) (first : Option Errno) (e : Errno) → RefusedAs {T = T} first (Err e) → is_no_memory e ≡ false → first ≡ Some e
+first_unless_memory_of T first NoMemory h other = absurd cc
+first_unless_memory_of T first _ h other = h
 
 -- an error that isn't that of memory is the first of the tests
-pub first_is : (T : Type 0) (first : Option Errno) (e : Errno) (r : Result T Errno) → r ≡ Err e → RefusedAs first r → is_no_memory e ≡ false → first ≡ Some e
-first_is T first e r is h other = first_by T first e (subst (λ (x : Result T Errno). RefusedAs first x) is h) other
+pub first_unless_memory : (T : Type 0) (first : Option Errno) (e : Errno) (r : Result T Errno) → r ≡ Err e → RefusedAs first r → is_no_memory e ≡ false → first ≡ Some e
+first_unless_memory T first e r is h other = first_unless_memory_of T first e (subst (λ (x : Result T Errno). RefusedAs first x) is h) other
 
 -- no failure is told
-pub is_none : (failure : Option FailNo) → ((error : FailNo) → failure ≡ Some error → ⊥) → failure ≡ None
-is_none None h = refl
-is_none (Some error) h = absurd (h error refl)
+pub none_unless_failed : (failure : Option FailNo) → ((error : FailNo) → failure ≡ Some error → ⊥) → failure ≡ None
+none_unless_failed None h = refl
+none_unless_failed (Some error) h = absurd (h error refl)
 
 -- the attachment is current
 mount_well : (s : State) (row : JobPlan) (g : Trigger) (failure : Option FailNo) (attach : ℕ) → row.attach ≡ attach → true ≡ is_current s.kernel g.fs attach →
@@ -147,8 +146,8 @@ umount_tried s row g failure attach first its current well refusal =
     ∙ ap (λ (o : Option Errno). umount_by o s row g) (ap (λ (a : ℕ). umount_from_refusal s.kernel a g) its ∙ refusal)
 
 -- the outcome is another name of one that has come
-pub goes_as : (o p : Outcome) (s : State) (answer : Answer) (new : State) → o ≡ p → answer ≡ p.answer → new ≡ after s p → Goes o s (Ok answer) new
-goes_as o p s answer new same told left = subst (λ (x : Outcome). Goes x s (Ok answer) new) (sym same) (told, left)
+pub goes_by_equal_outcome : (o p : Outcome) (s : State) (answer : Answer) (new : State) → o ≡ p → answer ≡ p.answer → new ≡ after s p → Goes o s (Ok answer) new
+goes_by_equal_outcome o p s answer new same told left = subst (λ (x : Outcome). Goes x s (Ok answer) new) (sym same) (told, left)
 
 -- ---- a packet that is taken up
 
@@ -156,34 +155,34 @@ pub written_is : (b : Bool) (w : Writing) → written (if b then None else Some 
 written_is true w = refl
 written_is false w = refl
 
-pub taken : (s : State) (row : QueuedRow) → delivery_fault row.attach row.packet s.daemon ≡ None → delivered_at (Some row) s None ≡ takes s row
-taken s row h = ap (λ (f : Option DaemonFault). if not (is_some f) then takes s row else refused s Stranger) h
+pub packet_is_taken : (s : State) (row : QueuedRow) → delivery_fault row.attach row.packet s.daemon ≡ None → delivered_at (Some row) s None ≡ takes s row
+packet_is_taken s row h = ap (λ (f : Option DaemonFault). if not (is_some f) then takes s row else refused s Stranger) h
 
-pub all_is : (s : State) (k new : KernelState) (d e : DaemonState) (trace more : List Obs) → new ≡ k → e ≡ d → more ≡ trace → halves new e more s ≡ halves k d trace s
-all_is s k new d e trace more a b c =
+pub halves_are : (s : State) (k new : KernelState) (d e : DaemonState) (trace more : List Obs) → new ≡ k → e ≡ d → more ≡ trace → halves new e more s ≡ halves k d trace s
+halves_are s k new d e trace more a b c =
     ap (λ (x : KernelState). halves x e more s) a ∙ ap (λ (x : DaemonState). halves k x more s) b ∙ ap (λ (x : List Obs). halves k d x s) c
 
 -- ---- catatonic mode
 
-live_by : (a b c : Bool) → (a && (b && c)) ≡ true → (a ≡ true) × (c ≡ true)
-live_by true true true h = (refl, refl)
-live_by true true false h = absurd cc
-live_by true false c h = absurd cc
-live_by false b c h = absurd cc
+outer_two_of_and : (a b c : Bool) → (a && (b && c)) ≡ true → (a ≡ true) × (c ≡ true)
+outer_two_of_and true true true h = (refl, refl)
+outer_two_of_and true true false h = absurd cc
+outer_two_of_and true false c h = absurd cc
+outer_two_of_and false b c h = absurd cc
 
-live_step : (first later live : Bool) → (first || later) ≡ true → (first ≡ true → live ≡ true) → (later ≡ true → live ≡ true) → live ≡ true
-live_step true later live h here rest = here refl
-live_step false later live h here rest = rest h
+live_by_either : (first later live : Bool) → (first || later) ≡ true → (first ≡ true → live ≡ true) → (later ≡ true → live ≡ true) → live ≡ true
+live_by_either true later live h here rest = here refl
+live_by_either false later live h here rest = rest h
 
-any_live : (k : KernelState) (fs attach : ℕ) (rows : List Attached) → list_any (λ row. row.fs == fs && is_attached_by k attach row) rows ≡ true → is_live k fs ≡ true
-any_live k fs attach [] h = absurd cc
-any_live k fs attach (row ∷ rows) h =
-    live_step (row.fs == fs && is_attached_by k attach row) (list_any (λ row. row.fs == fs && is_attached_by k attach row) rows) (is_live k fs) h
+current_is_live : (k : KernelState) (fs attach : ℕ) (rows : List Attached) → list_any (λ row. row.fs == fs && is_attached_by k attach row) rows ≡ true → is_live k fs ≡ true
+current_is_live k fs attach [] h = absurd cc
+current_is_live k fs attach (row ∷ rows) h =
+    live_by_either (row.fs == fs && is_attached_by k attach row) (list_any (λ row. row.fs == fs && is_attached_by k attach row) rows) (is_live k fs) h
     (λ here.
-    let both = live_by (row.fs == fs) (row.attach == attach) (is_live k row.fs) here in
+    let both = outer_two_of_and (row.fs == fs) (row.attach == attach) (is_live k row.fs) here in
     subst (λ (n : ℕ). is_live k n ≡ true) (grind (arith, nat_tests, both.0)) both.1)
-    (any_live k fs attach rows)
+    (current_is_live k fs attach rows)
 
 -- a file system of a current attachment is live
 pub current_closes : (k : KernelState) (fs attach : ℕ) → true ≡ is_current k fs attach → closing_if_live fs k ≡ closing fs k
-current_closes k fs attach h = ap (λ (b : Bool). if b then closing fs k else []) (any_live k fs attach k.attached (sym h))
+current_closes k fs attach h = ap (λ (b : Bool). if b then closing fs k else []) (current_is_live k fs attach k.attached (sym h))

@@ -1,4 +1,5 @@
--- What comes next of a job.
+-- What comes next of a job: own (docs/DECISIONS.md, "A directory that is there already counts as
+-- made, and one that has gone, or on which something is mounted, as removed").
 use Rattle.std.specs.Prelude.{◌≡◌, ℕ, Bool, true, false, Option, Some, None, Result, Ok, Err}
 use Rattle.am_names.specs.declared.errno.Errno.{Errno}
 use Rattle.am_names.specs.declared.errno.Errno.TheVariants.{ENOENT, EBUSY, EEXIST, NoMemory}
@@ -21,10 +22,12 @@ deed_of (act.Rmdir trigger) = deed.Rmdir trigger
 deed_of (act.Record trigger entry) = deed.Record trigger entry
 deed_of (act.Reply status) = deed.Reply status
 
+-- what comes next of the job with this next act, if there is one
 abbrev pub turn_by : ℕ → JobPlan → Option Act → Option Turn
 turn_by job row None = None
 turn_by job row (Some a) = Some (record { job = job; attach = row.attach; deed = deed_of a })
 
+-- the same of a job that may be missing
 abbrev pub turn_in : ℕ → Option JobPlan → Option Turn
 turn_in job None = None
 turn_in job (Some row) = turn_by job row (next_of row.plan)
@@ -33,8 +36,10 @@ turn_in job (Some row) = turn_by job row (next_of row.plan)
 abbrev pub turn_of : ℕ → DaemonState → Option Turn
 turn_of job d = turn_in job (job_of d.jobs job)
 
+-- the job, or one that has ended where there is none
 abbrev pub row_in : Option JobPlan → JobPlan
-row_in None = record { token = 0; attach = 0; trigger = record { fs = 0; name = None }; plan = Ended }
+row_in None =
+    record { token = 0; attach = 0; trigger = record { fs = 0; name = None }; plan = Ended }
 row_in (Some row) = row
 
 -- the job, where it is there
@@ -66,6 +71,7 @@ as_removed (Err ENOENT) = Ok tt
 as_removed (Err EBUSY) = Ok tt
 as_removed (Err e) = Err e
 
+-- memory ran out
 abbrev pub is_no_memory : Errno → Bool
 is_no_memory NoMemory = true
 is_no_memory e = false

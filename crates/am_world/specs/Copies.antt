@@ -1,4 +1,5 @@
--- Answers that own memory are made before the event.
+-- Answers that own memory are made before the event: own (docs/DECISIONS.md, "Answers are made
+-- twice").
 use Rattle.std.specs.Prelude.{◌≡◌, Bool, true, false, Option, Some, None}
 use Rattle.am_names.specs.declared.row.Position.{Position}
 use Rattle.am_machine.specs.declared.answer.Answer.{Answer}
@@ -15,6 +16,7 @@ abbrev pub IsSpare : Option Answer → Answer → Type 0
 IsSpare None answer = owns answer ≡ false
 IsSpare (Some spare) answer = owns answer ≡ true → spare ≡ answer
 
+-- the answer to a walk that arrives there, if it does
 abbrev pub arrival_told : Option Position → Option Answer
 arrival_told None = None
 arrival_told (Some at) = Some (answers.At at)

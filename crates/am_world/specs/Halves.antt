@@ -1,4 +1,5 @@
--- What the two halves stand for, and what becomes of an event.
+-- What the two halves stand for, and what becomes of an event: own (docs/DECISIONS.md, "Kernel and
+-- daemon don't call one another").
 use Rattle.std.specs.Prelude.{◌≡◌, ◌⊎◌, List, [], ◌∷◌, Option, Some, None, Result, Ok, Err}
 use Rattle.am_names.specs.declared.errno.Errno.{Errno}
 use Rattle.am_names.specs.declared.errno.Errno.TheVariants.{NoMemory}
@@ -14,15 +15,17 @@ use Rattle.am_machine.specs.Machine.{after}
 use Rattle.am_world.specs.Table.{WorldTable}
 use Rattle.am_world.specs.declared.halves.Halves.{Halves}
 
+-- the daemon's half
 abbrev pub daemon_of : DaemonTable → DaemonState
 daemon_of d = rows_of d
 
+-- the world that these halves and this trace are
 abbrev pub table_of : Halves → WorldTable
 table_of h = record { kernel = h.kernel; daemon = h.daemon; trace = h.trace.items }
 
--- the machine's state
-abbrev pub state_of : Halves → State
-state_of h = record { kernel = h.kernel; daemon = rows_of h.daemon; trace = h.trace.items }
+-- kernel, daemon and trace as the machine's state
+abbrev pub whole_state : Halves → State
+whole_state h = record { kernel = h.kernel; daemon = rows_of h.daemon; trace = h.trace.items }
 
 -- The outcome has come; or it is a refusal, or memory ran out, and nothing has changed.
 abbrev pub Goes : Outcome → State → Result Answer Errno → State → Type 0

@@ -2,13 +2,14 @@
 use Rattle.am_machine.specs.Invariant.Consistent.{IsConsistent}
 use Rattle.am_machine.specs.Invariant.Walks.{WalksFit}
 use Rattle.am_world.specs.Table.{WorldTable}
-use Rattle.am_world.specs.Halves.{table_of, state_of}
+use Rattle.am_world.specs.Halves.{table_of, whole_state}
 use Rattle.am_world.specs.declared.world.World.TheInside.{Inside}
 
+-- the world that these fields hold
 abbrev pub view_of : Inside → WorldTable
 view_of w = table_of w.halves
 
 -- it is consistent, and what walkers left fits, since paths are names
 pub record IsSound (w : Inside) : Type 0 where
-  pub consistent : IsConsistent (state_of w.halves)
+  pub consistent : IsConsistent (whole_state w.halves)
   pub walks : WalksFit w.halves.kernel

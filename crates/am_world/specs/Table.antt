@@ -1,12 +1,12 @@
--- A world as it is kept.
+-- A world as it is kept: own (docs/DECISIONS.md, "`am_daemon` keeps a job as `am_job` has it").
 use Rattle.std.specs.Prelude.{List}
 use Rattle.am_state.specs.declared.obs.Obs.{Obs}
 use Rattle.am_kernel.specs.State.{KernelState}
 use Rattle.am_daemon.specs.State.{DaemonTable, rows_of}
 use Rattle.am_machine.specs.State.{State}
 
--- The acts that a job has left are a tree with a branch for each number of a mount, so the value of a
--- type keeps a job as `am_job` has it.
+-- The acts that a job has left are a tree with a branch for each number of a mount, so the value of
+-- a type keeps a job as `am_job` has it.
 pub record WorldTable : Type 0 where
   pub kernel : KernelState
   pub daemon : DaemonTable

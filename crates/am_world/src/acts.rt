@@ -5,7 +5,7 @@ ghost use Rattle.am_kernel.specs.Directories.{mkdir_refusal, rmdir_refusal};
 ghost use Rattle.am_kernel.specs.Requests.{answer_refusal};
 ghost use Rattle.am_daemon.specs.Acts.{finished};
 ghost use Rattle.am_machine.specs.Events.Acts.{mkdir_by, mount_act, umount_act, rmdir_by, record_act, reply_by, act_outcome};
-ghost use Rattle.am_world.specs.Halves.{state_of, daemon_of, Goes};
+ghost use Rattle.am_world.specs.Halves.{whole_state, daemon_of, Goes};
 ghost use Rattle.am_world.specs.declared.acts.Deed.TheVariants as deed;
 ghost use Rattle.am_world.specs.Acts.{deed_of, turn_of, row_for, as_made, as_removed, is_no_memory, IsNext, IsLean};
 
@@ -116,7 +116,9 @@ fn is_no_memory(errno: Errno) -> bool
 impl Halves {
     fn make_directory(&mut self, turn: &Turn, trigger: &Trigger) -> Result<Answer, Errno>
         requires { IsNext turn.now (deed.Mkdir trigger.now) (daemon_of self.old.daemon) }
-        ensures { Goes (mkdir_by (mkdir_refusal self.old.kernel turn.now.attach trigger.now) (state_of self.old) (row_for (daemon_of self.old.daemon) turn.now.job) trigger.now) (state_of self.old) result (state_of self.new) }
+        ensures { Goes (mkdir_by (mkdir_refusal self.old.kernel turn.now.attach trigger.now)
+            (whole_state self.old) (row_for (daemon_of self.old.daemon) turn.now.job) trigger.now)
+            (whole_state self.old) result (whole_state self.new) }
     {
         let came = as_made(self.kernel.mkdir(turn.attach, *trigger));
         match came {
@@ -136,7 +138,9 @@ impl Halves {
         failure: Option<FailNo>,
     ) -> Result<Answer, Errno>
         requires { IsNext turn.now (deed.Mount trigger.now) (daemon_of self.old.daemon) }
-        ensures { Goes (mount_act (state_of self.old) (row_for (daemon_of self.old.daemon) turn.now.job) trigger.now failure) (state_of self.old) result (state_of self.new) }
+        ensures { Goes (mount_act (whole_state self.old)
+            (row_for (daemon_of self.old.daemon) turn.now.job) trigger.now failure)
+            (whole_state self.old) result (whole_state self.new) }
     {
         if !self.kernel.is_current(trigger.fs, turn.attach) {
             return Err(Errno::EPERM);
@@ -171,7 +175,9 @@ impl Halves {
         failure: Option<FailNo>,
     ) -> Result<Answer, Errno>
         requires { IsNext turn.now (deed.Umount trigger.now) (daemon_of self.old.daemon) }
-        ensures { Goes (umount_act (state_of self.old) (row_for (daemon_of self.old.daemon) turn.now.job) trigger.now failure) (state_of self.old) result (state_of self.new) }
+        ensures { Goes (umount_act (whole_state self.old)
+            (row_for (daemon_of self.old.daemon) turn.now.job) trigger.now failure)
+            (whole_state self.old) result (whole_state self.new) }
     {
         if !self.kernel.is_current(trigger.fs, turn.attach) {
             return Err(Errno::EPERM);
@@ -205,7 +211,9 @@ impl Halves {
         trigger: &Trigger,
     ) -> Result<Answer, Errno>
         requires { IsNext turn.now (deed.Rmdir trigger.now) (daemon_of self.old.daemon) }
-        ensures { Goes (rmdir_by (rmdir_refusal self.old.kernel turn.now.attach trigger.now) (state_of self.old) (row_for (daemon_of self.old.daemon) turn.now.job) trigger.now) (state_of self.old) result (state_of self.new) }
+        ensures { Goes (rmdir_by (rmdir_refusal self.old.kernel turn.now.attach trigger.now)
+            (whole_state self.old) (row_for (daemon_of self.old.daemon) turn.now.job) trigger.now)
+            (whole_state self.old) result (whole_state self.new) }
     {
         let came = as_removed(self.kernel.rmdir(alloc, turn.attach, trigger));
         match came {
@@ -225,7 +233,9 @@ impl Halves {
         entry: Option<Record>,
     ) -> Result<Answer, Errno>
         requires { IsNext turn.now (deed.Record trigger.now entry) (daemon_of self.old.daemon) }
-        ensures { Goes (record_act (state_of self.old) (row_for (daemon_of self.old.daemon) turn.now.job) trigger.now entry) (state_of self.old) result (state_of self.new) }
+        ensures { Goes (record_act (whole_state self.old)
+            (row_for (daemon_of self.old.daemon) turn.now.job) trigger.now entry)
+            (whole_state self.old) result (whole_state self.new) }
     {
         let trigger = KeptTrigger::new(alloc, trigger)?;
         self.trace.reserve(1)?;
@@ -236,7 +246,9 @@ impl Halves {
 
     fn reply(&mut self, alloc: Global, turn: &Turn, status: Status) -> Result<Answer, Errno>
         requires { IsNext turn.now (deed.Reply status) (daemon_of self.old.daemon) }
-        ensures { Goes (reply_by (answer_refusal self.old.kernel turn.now.attach turn.now.job) (state_of self.old) (row_for (daemon_of self.old.daemon) turn.now.job) status) (state_of self.old) result (state_of self.new) }
+        ensures { Goes (reply_by (answer_refusal self.old.kernel turn.now.attach turn.now.job)
+            (whole_state self.old) (row_for (daemon_of self.old.daemon) turn.now.job) status)
+            (whole_state self.old) result (whole_state self.new) }
     {
         let job = turn.job;
         let token = Token(job.0);
@@ -257,7 +269,8 @@ impl Halves {
         job: JobId,
         failure: Option<FailNo>,
     ) -> Result<Answer, Errno>
-        ensures { Goes (act_outcome (state_of self.old) job failure) (state_of self.old) result (state_of self.new) }
+        ensures { Goes (act_outcome (whole_state self.old) job failure)
+            (whole_state self.old) result (whole_state self.new) }
     {
         let Some(turn) = turn_of(&self.daemon, job) else {
             return Err(Errno::EINVAL);

@@ -1,7 +1,7 @@
 //! What the administrator does.
 
 ghost use Rattle.am_machine.specs.Events.Administration.{attach_outcome, mount_outcome, bind_outcome, umount_outcome, change_outcome, kind_outcome, copy_outcome, drop_outcome};
-ghost use Rattle.am_world.specs.Halves.{state_of, Goes};
+ghost use Rattle.am_world.specs.Halves.{whole_state, Goes};
 
 use crate::halves::Halves;
 use am_group::Change;
@@ -13,7 +13,8 @@ use std::alloc::Global;
 impl Halves {
     /// An autofs is mounted at a point of the master, and the daemon attaches to it.
     pub fn attach(&mut self, alloc: Global, path: &Place) -> Result<Answer, Errno>
-        ensures { Goes (attach_outcome (state_of self.old) path.now) (state_of self.old) result (state_of self.new) }
+        ensures { Goes (attach_outcome (whole_state self.old) path.now)
+            (whole_state self.old) result (whole_state self.new) }
     {
         let Some(point) = self.daemon.point(path) else {
             return Err(Errno::ENOENT);
@@ -41,7 +42,8 @@ impl Halves {
 
     /// A new plain file system is mounted.
     pub fn mount(&mut self, alloc: Global, ns: NsId, path: &Place) -> Result<Answer, Errno>
-        ensures { Goes (mount_outcome (state_of self.old) ns path.now) (state_of self.old) result (state_of self.new) }
+        ensures { Goes (mount_outcome (whole_state self.old) ns path.now)
+            (whole_state self.old) result (whole_state self.new) }
     {
         let mount = self
             .kernel
@@ -57,7 +59,8 @@ impl Halves {
         from: &Place,
         to: &Place,
     ) -> Result<Answer, Errno>
-        ensures { Goes (bind_outcome (state_of self.old) ns from.now to.now) (state_of self.old) result (state_of self.new) }
+        ensures { Goes (bind_outcome (whole_state self.old) ns from.now to.now)
+            (whole_state self.old) result (whole_state self.new) }
     {
         let mount = self
             .kernel
@@ -67,7 +70,8 @@ impl Halves {
 
     /// A mount goes, and what was mounted with it.
     pub fn umount(&mut self, alloc: Global, ns: NsId, path: &Place) -> Result<Answer, Errno>
-        ensures { Goes (umount_outcome (state_of self.old) ns path.now) (state_of self.old) result (state_of self.new) }
+        ensures { Goes (umount_outcome (whole_state self.old) ns path.now)
+            (whole_state self.old) result (whole_state self.new) }
     {
         let gone = self
             .kernel
@@ -85,7 +89,8 @@ impl Halves {
         path: &Place,
         change: Change,
     ) -> Result<Answer, Errno>
-        ensures { Goes (change_outcome (state_of self.old) ns path.now change) (state_of self.old) result (state_of self.new) }
+        ensures { Goes (change_outcome (whole_state self.old) ns path.now change)
+            (whole_state self.old) result (whole_state self.new) }
     {
         self.kernel.change(alloc, ns, &path.path(), change)?;
         Ok(Answer::Done)
@@ -93,7 +98,8 @@ impl Halves {
 
     /// How a mount takes part in propagation.
     pub fn kind(&self, alloc: Global, ns: NsId, path: &Place) -> Result<Answer, Errno>
-        ensures { Goes (kind_outcome (state_of self.now) ns path.now) (state_of self.now) result (state_of self.now) }
+        ensures { Goes (kind_outcome (whole_state self.now) ns path.now)
+            (whole_state self.now) result (whole_state self.now) }
     {
         let kind = self.kernel.kind(alloc, ns, &path.path())?;
         Ok(Answer::Kind { kind })
@@ -106,7 +112,8 @@ impl Halves {
         ns: NsId,
         form: CopyForm,
     ) -> Result<Answer, Errno>
-        ensures { Goes (copy_outcome (state_of self.old) ns form) (state_of self.old) result (state_of self.new) }
+        ensures { Goes (copy_outcome (whole_state self.old) ns form)
+            (whole_state self.old) result (whole_state self.new) }
     {
         let ns = self.kernel.ns_copy(alloc, ns, form, &mut self.trace)?;
         Ok(Answer::Namespace { ns })
@@ -114,7 +121,8 @@ impl Halves {
 
     /// A namespace is dropped.
     pub fn drop_namespace(&mut self, alloc: Global, ns: NsId) -> Result<Answer, Errno>
-        ensures { Goes (drop_outcome (state_of self.old) ns) (state_of self.old) result (state_of self.new) }
+        ensures { Goes (drop_outcome (whole_state self.old) ns)
+            (whole_state self.old) result (whole_state self.new) }
     {
         let gone = self.kernel.ns_drop(alloc, ns, &mut self.trace)?;
         Ok(Answer::Gone {

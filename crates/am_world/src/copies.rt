@@ -3,7 +3,7 @@
 ghost use Rattle.std.specs.Prelude.{◌≡◌, IfOk};
 ghost use Rattle.am_machine.specs.Machine.{outcome_of};
 ghost use Rattle.am_machine.specs.Events.Administration.{umount_outcome, drop_outcome};
-ghost use Rattle.am_world.specs.Halves.{state_of};
+ghost use Rattle.am_world.specs.Halves.{whole_state};
 ghost use Rattle.am_world.specs.Copies.{IsSpare, arrival_told};
 
 use crate::halves::Halves;
@@ -64,7 +64,8 @@ impl Halves {
         ns: NsId,
         path: &Place,
     ) -> Result<Option<Answer>, AllocError>
-        ensures { IfOk result (λ spare. IsSpare spare (umount_outcome (state_of self.now) ns path.now).answer) }
+        ensures { IfOk result
+            (λ spare. IsSpare spare (umount_outcome (whole_state self.now) ns path.now).answer) }
     {
         match self.kernel.umount_takes(alloc, ns, &path.path()) {
             Ok(gone) => Ok(Some(Answer::Gone {
@@ -77,7 +78,8 @@ impl Halves {
 
     /// The answer to the drop of a namespace.
     fn drop_told(&self, alloc: Global, ns: NsId) -> Result<Option<Answer>, AllocError>
-        ensures { IfOk result (λ spare. IsSpare spare (drop_outcome (state_of self.now) ns).answer) }
+        ensures { IfOk result
+            (λ spare. IsSpare spare (drop_outcome (whole_state self.now) ns).answer) }
     {
         match self.kernel.drop_takes(alloc, ns) {
             Ok(gone) => Ok(Some(Answer::Gone {
@@ -89,7 +91,8 @@ impl Halves {
 
     /// The answer to an event, where it owns memory.
     pub fn spare(&self, alloc: Global, event: &Event) -> Result<Option<Answer>, AllocError>
-        ensures { IfOk result (λ spare. IsSpare spare (outcome_of (state_of self.now) event.now).answer) }
+        ensures { IfOk result
+            (λ spare. IsSpare spare (outcome_of (whole_state self.now) event.now).answer) }
     {
         match event {
             Event::Umount { ns, path } => self.umount_told(alloc, *ns, path),

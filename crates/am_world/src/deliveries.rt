@@ -3,7 +3,7 @@
 ghost use Rattle.std.specs.Prelude.{◌≡◌, ◌≤◌, ◌+◌, ◌∷◌, ◌++◌, Some, None, IfOk, vec_len, vec_capacity};
 ghost use Rattle.am_state.specs.declared.obs.Obs.TheVariants.{Delivered};
 ghost use Rattle.am_machine.specs.Events.Deliveries.{has_bytes, packet_bytes, deliver_outcome, delivered_at};
-ghost use Rattle.am_world.specs.Halves.{state_of, written, Goes};
+ghost use Rattle.am_world.specs.Halves.{whole_state, written, Goes};
 
 use crate::halves::Halves;
 use am_daemon::DaemonFault;
@@ -42,7 +42,8 @@ fn delivered_seen(
     row: &QueuedRow,
     writing: &Option<Writing>,
 ) -> Result<Vec<Obs>, AllocError>
-    ensures { IfOk result (λ seen. seen.items ≡ Delivered row.now.token row.now.attach row.now.packet ∷ written writing.now) }
+    ensures { IfOk result (λ seen. seen.items ≡
+        Delivered row.now.token row.now.attach row.now.packet ∷ written writing.now) }
 {
     let mut seen = Vec::with_capacity(alloc, 2)?;
     let packet = KeptPacket::new(alloc, &row.packet)?;
@@ -74,7 +75,8 @@ fn tell(trace: &mut Vec<Obs>, seen: Vec<Obs>)
 impl Halves {
     /// The daemon takes up a queued packet.
     fn take(&mut self, alloc: Global, row: &QueuedRow) -> Result<Answer, Errno>
-        ensures { Goes (delivered_at (Some row.now) (state_of self.old) None) (state_of self.old) result (state_of self.new) }
+        ensures { Goes (delivered_at (Some row.now) (whole_state self.old) None)
+            (whole_state self.old) result (whole_state self.new) }
     {
         let writing = self.daemon.recording(&row.packet);
         let seen = delivered_seen(alloc, row, &writing)?;
@@ -97,7 +99,8 @@ impl Halves {
         token: Token,
         bytes: &Option<[u8; 304]>,
     ) -> Result<Answer, Errno>
-        ensures { Goes (deliver_outcome (state_of self.old) token bytes.now) (state_of self.old) result (state_of self.new) }
+        ensures { Goes (deliver_outcome (whole_state self.old) token bytes.now)
+            (whole_state self.old) result (whole_state self.new) }
     {
         let Some(row) = self.kernel.queued(token) else {
             return Err(Errno::Stranger);

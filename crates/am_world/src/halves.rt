@@ -2,7 +2,7 @@
 
 ghost use Rattle.std.specs.Prelude.{◌≡◌};
 ghost use Rattle.am_machine.specs.Machine.{outcome_of};
-ghost use Rattle.am_world.specs.Halves.{state_of, Goes};
+ghost use Rattle.am_world.specs.Halves.{whole_state, Goes};
 
 use am_daemon::Daemon;
 use am_kernel::Kernel;
@@ -22,7 +22,8 @@ pub struct Halves {
 impl Halves {
     /// What becomes of an event.
     pub fn handle(&mut self, alloc: Global, event: &Event) -> Result<Answer, Errno>
-        ensures { Goes (outcome_of (state_of self.old) event.now) (state_of self.old) result (state_of self.new) }
+        ensures { Goes (outcome_of (whole_state self.old) event.now)
+            (whole_state self.old) result (whole_state self.new) }
     {
         match event {
             Event::Attach { path } => self.attach(alloc, path),

@@ -1,4 +1,5 @@
-//! Laws: what is true of every trace, of every run and of every step, and what can always be done next.
+//! Laws: what is true of every trace, of every run and of every step, and what can always be done
+//! next.
 
 pub use am_laws::trace_holds;
 pub use am_machine::laws::{

@@ -1,9 +1,10 @@
-//! What the daemon asks of the kernel beside its jobs, its death, and attachments that end and begin.
+//! What the daemon asks of the kernel beside its jobs, its death, and attachments that end and
+//! begin.
 
 ghost use Rattle.std.specs.Prelude.{◌≡◌, Some};
 ghost use Rattle.am_machine.specs.Outcome.{refused};
 ghost use Rattle.am_machine.specs.Events.Requests.{repeat_outcome, catatonic_outcome, admin_catatonic_outcome, timeout_outcome, die_outcome, reattach_outcome, record_outcome};
-ghost use Rattle.am_world.specs.Halves.{state_of, Goes};
+ghost use Rattle.am_world.specs.Halves.{whole_state, Goes};
 
 use crate::halves::Halves;
 use am_machine::Answer;
@@ -14,7 +15,8 @@ use std::alloc::Global;
 impl Halves {
     /// Why a reply that no job makes isn't taken.
     pub fn repeat(&self, attach: Attach, token: Token) -> Errno
-        ensures { repeat_outcome (state_of self.now) attach token ≡ refused (state_of self.now) result }
+        ensures { repeat_outcome (whole_state self.now) attach token ≡
+            refused (whole_state self.now) result }
     {
         if self.kernel.fs_of_attach(attach).is_none() {
             return Errno::EPERM;
@@ -27,7 +29,8 @@ impl Halves {
 
     /// The daemon ends an attachment.
     pub fn catatonic(&mut self, alloc: Global, attach: Attach, fs: FsId) -> Result<Answer, Errno>
-        ensures { Goes (catatonic_outcome (state_of self.old) attach fs) (state_of self.old) result (state_of self.new) }
+        ensures { Goes (catatonic_outcome (whole_state self.old) attach fs)
+            (whole_state self.old) result (whole_state self.new) }
     {
         if !self.kernel.is_current(fs, attach) {
             return Err(Errno::EPERM);
@@ -40,7 +43,8 @@ impl Halves {
 
     /// The administrator ends the attachment of an autofs.
     pub fn admin_catatonic(&mut self, alloc: Global, fs: FsId) -> Result<Answer, Errno>
-        ensures { Goes (admin_catatonic_outcome (state_of self.old) fs) (state_of self.old) result (state_of self.new) }
+        ensures { Goes (admin_catatonic_outcome (whole_state self.old) fs)
+            (whole_state self.old) result (whole_state self.new) }
     {
         // Nothing is to be seen of what is no autofs.
         let mut shown = self.kernel.closing_seen(alloc, fs)?;
@@ -51,7 +55,8 @@ impl Halves {
 
     /// The daemon sets the timeout of an autofs.
     pub fn set_timeout(&mut self, attach: Attach, fs: FsId, timeout: u32) -> Result<Answer, Errno>
-        ensures { Goes (timeout_outcome (state_of self.old) attach fs timeout) (state_of self.old) result (state_of self.new) }
+        ensures { Goes (timeout_outcome (whole_state self.old) attach fs timeout)
+            (whole_state self.old) result (whole_state self.new) }
     {
         self.kernel.set_timeout(attach, fs, timeout)?;
         Ok(Answer::Done)
@@ -59,7 +64,8 @@ impl Halves {
 
     /// The daemon dies.
     pub fn die(&mut self) -> Result<Answer, Errno>
-        ensures { Goes (die_outcome (state_of self.old)) (state_of self.old) result (state_of self.new) }
+        ensures { Goes (die_outcome (whole_state self.old))
+            (whole_state self.old) result (whole_state self.new) }
     {
         self.trace.reserve(1)?;
         self.daemon.die();
@@ -69,7 +75,8 @@ impl Halves {
 
     /// The daemon attaches again to a catatonic autofs.
     pub fn reattach(&mut self, alloc: Global, fs: FsId) -> Result<Answer, Errno>
-        ensures { Goes (reattach_outcome (state_of self.old) fs) (state_of self.old) result (state_of self.new) }
+        ensures { Goes (reattach_outcome (whole_state self.old) fs)
+            (whole_state self.old) result (whole_state self.new) }
     {
         if let Some(errno) = self.kernel.pipe_refusal(fs) {
             return Err(errno);
@@ -86,7 +93,8 @@ impl Halves {
 
     /// The daemon's book is read.
     pub fn read_book(&self, trigger: &Trigger) -> Result<Answer, Errno>
-        ensures { Goes (record_outcome (state_of self.now) trigger.now) (state_of self.now) result (state_of self.now) }
+        ensures { Goes (record_outcome (whole_state self.now) trigger.now)
+            (whole_state self.now) result (whole_state self.now) }
     {
         if !self.kernel.is_trigger(trigger) {
             return Err(Errno::EINVAL);

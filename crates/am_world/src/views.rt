@@ -81,7 +81,8 @@ impl World {
 
     /// The trigger of a token; none if it isn't open.
     pub fn trigger_of(&self, token: Token) -> Option<Trigger>
-        ensures { result ≡ option_map (λ row. row.trigger) (token_of self.now.kernel.waits.tokens token) }
+        ensures { result ≡
+            option_map (λ row. row.trigger) (token_of self.now.kernel.waits.tokens token) }
     {
         self.halves.kernel.waits().trigger_of(token)
     }
@@ -151,7 +152,8 @@ impl World {
 
     /// A job that has not ended.
     pub fn job(&self, job: JobId) -> Option<&Job>
-        ensures { option_map job_plan (option_copied result) ≡ job_of (rows_of self.now.daemon).jobs job }
+        ensures { option_map job_plan (option_copied result) ≡
+            job_of (rows_of self.now.daemon).jobs job }
     {
         self.halves.daemon.job(job)
     }

@@ -2,7 +2,7 @@
 
 ghost use Rattle.std.specs.Prelude.{◌≡◌};
 ghost use Rattle.am_machine.specs.Events.Walkers.{answer_of, walk_outcome, resume_outcome, expire_outcome, leave_outcome};
-ghost use Rattle.am_world.specs.Halves.{state_of, Goes};
+ghost use Rattle.am_world.specs.Halves.{whole_state, Goes};
 
 use crate::halves::Halves;
 use am_kernel::Begun;
@@ -33,7 +33,8 @@ impl Halves {
         now: Seconds,
         pipe: PipeState,
     ) -> Result<Answer, Errno>
-        ensures { Goes (walk_outcome (state_of self.old) walker ns path.now now pipe) (state_of self.old) result (state_of self.new) }
+        ensures { Goes (walk_outcome (whole_state self.old) walker ns path.now now pipe)
+            (whole_state self.old) result (whole_state self.new) }
     {
         let path = path.path();
         let came = self
@@ -53,7 +54,8 @@ impl Halves {
         now: Seconds,
         pipe: PipeState,
     ) -> Result<Answer, Errno>
-        ensures { Goes (resume_outcome (state_of self.old) walker now pipe) (state_of self.old) result (state_of self.new) }
+        ensures { Goes (resume_outcome (whole_state self.old) walker now pipe)
+            (whole_state self.old) result (whole_state self.new) }
     {
         let begun = self
             .kernel
@@ -71,7 +73,8 @@ impl Halves {
         immediate: bool,
         pipe: PipeState,
     ) -> Result<Answer, Errno>
-        ensures { Goes (expire_outcome (state_of self.old) walker fs now immediate pipe) (state_of self.old) result (state_of self.new) }
+        ensures { Goes (expire_outcome (whole_state self.old) walker fs now immediate pipe)
+            (whole_state self.old) result (whole_state self.new) }
     {
         let came = self
             .kernel
@@ -84,7 +87,8 @@ impl Halves {
 
     /// A walker leaves the mount that it is inside of.
     pub fn leave(&mut self, walker: WalkerId) -> Result<Answer, Errno>
-        ensures { Goes (leave_outcome (state_of self.old) walker) (state_of self.old) result (state_of self.new) }
+        ensures { Goes (leave_outcome (whole_state self.old) walker)
+            (whole_state self.old) result (whole_state self.new) }
     {
         let _mount = self.kernel.leave(walker, &mut self.trace)?;
         Ok(Answer::Done)

@@ -159,7 +159,8 @@ impl World {
 
     /// One step of the machine.
     pub fn step(&mut self, alloc: Global, event: &Event) -> Answer
-        ensures { (seen : List Obs) × Step (state_of self.old) event.now result seen (state_of self.new) }
+        ensures { (seen : List Obs) ×
+            Step (state_of self.old) event.now result seen (state_of self.new) }
     {
         know_paths(event);
         told(self.halves.handle(alloc, event))
@@ -167,8 +168,10 @@ impl World {
 
     /// One step of the machine, with its answer twice.
     pub fn step_pair(&mut self, alloc: Global, event: &Event) -> (Answer, Answer)
-        ensures step { (seen : List Obs) × Step (state_of self.old) event.now result.0 seen (state_of self.new) }
-        ensures legal { GoesOnBy (entry event.now result.0 ∷ []) (state_of self.old) (state_of self.new) }
+        ensures step { (seen : List Obs) ×
+            Step (state_of self.old) event.now result.0 seen (state_of self.new) }
+        ensures legal { GoesOnBy (entry event.now result.0 ∷ []) (state_of self.old)
+            (state_of self.new) }
         ensures same { result.1 ≡ result.0 }
     {
         let Ok(spare) = self.halves.spare(alloc, event) else {
@@ -190,8 +193,10 @@ pub struct Ran {
 
 /// Makes a step for each event. Where the list of answers finds no memory, nothing runs.
 pub fn run(alloc: Global, mut world: World, events: &[Event]) -> Result<Ran, World>
-    ensures run { IfOk result (λ ran. Run (state_of world) events.now ran.answers.items (state_of ran.world)) }
-    ensures legal { IfOk result (λ ran. GoesOnBy (entries events.now ran.answers.items) (state_of world) (state_of ran.world)) }
+    ensures run { IfOk result
+        (λ ran. Run (state_of world) events.now ran.answers.items (state_of ran.world)) }
+    ensures legal { IfOk result (λ ran. GoesOnBy (entries events.now ran.answers.items)
+        (state_of world) (state_of ran.world)) }
     ensures lawful { IfOk result (λ ran. Lawful ran.world.trace) }
     ensures agree { IfOk result (λ ran. Agree (state_of ran.world)) }
     ensures in_step { IfOk result (λ ran. AreInStep (state_of ran.world)) }

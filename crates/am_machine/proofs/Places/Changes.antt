@@ -31,7 +31,7 @@ use Rattle.am_kernel.specs.Outcome.{with_latest}
 use Rattle.am_kernel.specs.Sites.{is_live_row, is_live, is_attached_by, is_current, is_on_autofs, position_at, or_else, root_refusal, fs_refusal, attach_refusal}
 use Rattle.am_kernel.specs.DaemonMounts.{new_fs_refusal, is_there, location_in, location_of, mounted_on, mount_on_refusal, trigger_position, with_mount, attach_tests, attached_at, with_mount_on, gone_with, without_mounts}
 use Rattle.am_kernel.specs.Administration.{mount_tests, source_refusal, bind_tests, bound_at, is_parent_on_autofs, is_any_on_autofs, is_daemons, site_refusal, umount_tests, gone_at}
-use Rattle.am_kernel.specs.Walks.{closed}
+use Rattle.am_kernel.specs.Catatonic.{closed}
 use Rattle.am_kernel.specs.Resumes as resumes
 use Rattle.am_daemon.specs.Points.{line_timeout}
 use Rattle.am_daemon.specs.State.{JobPlan}

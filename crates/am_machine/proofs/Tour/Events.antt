@@ -29,17 +29,17 @@ use Rattle.am_kernel.specs.declared.row.WalkRow.{WalkRow}
 use Rattle.am_kernel.specs.State.{KernelState}
 use Rattle.am_kernel.specs.Outcome as kernel
 use Rattle.am_kernel.specs.Outcome.{moment_of, with_latest}
-use Rattle.am_kernel.specs.Sites.{is_live, is_current, position_at, tested, from_position, fs_of_attach, attach_refusal}
+use Rattle.am_kernel.specs.Sites.{is_live, is_current, position_at, tested, from_position, fs_of_attach, attach_refusal, is_trigger}
 use Rattle.am_kernel.specs.Administration.{mount_tests, mount_refusal, mounting_at, bind_tests, bind_refusal, bound_at, umount_tests, plain_umount_refusal, gone_at, change_tests, plain_change_refusal, changed_at, kind_refusal, kind_at}
 use Rattle.am_kernel.specs.Directories.{mkdir_refusal, with_directory, rmdir_refusal, without_directory}
 use Rattle.am_kernel.specs.DaemonMounts as mounts
 use Rattle.am_kernel.specs.DaemonMounts.{coming, with_mount, attach_tests, attached_at, attaching_at, location_of, mounted_on, mount_on_refusal, with_mount_on, umount_from_refusal, gone_with, gone_from, without_mounts}
 use Rattle.am_kernel.specs.Namespaces.{with_namespace, without_namespace}
 use Rattle.am_kernel.specs.Requests.{queued_of, is_number, answer_tests, answer_refusal, acknowledged, answering, timeout_refusal, with_timeout, leaving, without_use}
-use Rattle.am_kernel.specs.Attachments.{catatonic_refusal, autofs_refusal, pipe_refusal}
-use Rattle.am_kernel.specs.Walks.{first_begin, closing, closed}
+use Rattle.am_kernel.specs.Attachments.{pipe_refusal}
+use Rattle.am_kernel.specs.Catatonic.{catatonic_refusal, admin_catatonic_refusal, closing, closed}
+use Rattle.am_kernel.specs.Walks.{first_begin}
 use Rattle.am_kernel.specs.Resumes.{walk_in}
-use Rattle.am_kernel.specs.Previews.{is_trigger}
 use Rattle.am_job.specs.declared.act.Act.{Act}
 use Rattle.am_job.specs.declared.act.Act.TheVariants as act
 use Rattle.am_job.specs.declared.act.Outcome as job
@@ -95,7 +95,7 @@ pub record IsTaken (s : State) (token : ℕ) (row : QueuedRow) : Type 0 where
 pub record IsUnmounted (s : State) (row : JobPlan) (trigger : Trigger) (mount : ℕ) : Type 0 where
   pub current : is_current s.kernel trigger.fs row.attach ≡ true
   pub mounted : mounted_on s.kernel trigger ≡ Some mount
-  pub tests : mounts.umount_tests (Some mount) s.kernel ≡ None
+  pub tests : mounts.umount_from_tests (Some mount) s.kernel ≡ None
 
 -- ---- the states that it comes to
 
@@ -313,7 +313,7 @@ module _ (Fits : List (List ℕ) → Type 0) (P : KernelState → List Obs → K
   mount_act s row trigger entry failure i =
       either s (not (is_current s.kernel trigger.fs row.attach)) _ _ (refuses s _) (mount_tried failure s row trigger entry i)
 
-  umounts_from : (mounted : Option ℕ) (s : State) (row : JobPlan) (trigger : Trigger) → IsNext s row (act.Umount trigger) → is_current s.kernel trigger.fs row.attach ≡ true → mounted_on s.kernel trigger ≡ mounted → mounts.umount_tests mounted s.kernel ≡ None →
+  umounts_from : (mounted : Option ℕ) (s : State) (row : JobPlan) (trigger : Trigger) → IsNext s row (act.Umount trigger) → is_current s.kernel trigger.fs row.attach ≡ true → mounted_on s.kernel trigger ≡ mounted → mounts.umount_from_tests mounted s.kernel ≡ None →
       R s (seen.Unmounted (gone_with s.kernel mounted) ∷ []) (going row came.Done (without_mounts (gone_with s.kernel mounted) s.kernel) s)
   umounts_from None s row trigger i current is may = absurd cc
   umounts_from (Some mount) s row trigger i current is may = keeps.unmounted_on s row trigger mount i (record { current = current; mounted = is; tests = may })
@@ -323,7 +323,7 @@ module _ (Fits : List (List ℕ) → Type 0) (P : KernelState → List Obs → K
 
   umount_by : (e : Option Errno) (s : State) (row : JobPlan) (trigger : Trigger) → IsNext s row (act.Umount trigger) → umount_from_refusal s.kernel row.attach trigger ≡ e → Leaves R s (acts.umount_by e s row trigger)
   umount_by None s row trigger i may =
-      let tests = else_none (not (is_current s.kernel trigger.fs row.attach)) _ (mounts.umount_tests (mounted_on s.kernel trigger) s.kernel) may in
+      let tests = else_none (not (is_current s.kernel trigger.fs row.attach)) _ (mounts.umount_from_tests (mounted_on s.kernel trigger) s.kernel) may in
       record { well = umounts_from (mounted_on s.kernel trigger) s row trigger i (not_false _ tests.0) refl tests.1 }
   umount_by (Some e) s row trigger i may = umount_fails s row trigger ENOENT i
 
@@ -392,7 +392,7 @@ module _ (Fits : List (List ℕ) → Type 0) (P : KernelState → List Obs → K
   outcome s (events.Act job failure) fit = acted_at (job_of s.daemon.jobs job) s job failure refl
   outcome s (events.Repeat attach token status) fit = repeats s attach token
   outcome s (events.Catatonic attach fs) fit = unless_refused (catatonic_refusal s.kernel attach fs) s _ (λ may. closes s fs)
-  outcome s (events.AdminCatatonic fs) fit = unless_refused (autofs_refusal s.kernel fs) s _ (λ may. closes_if (is_live s.kernel fs) s fs)
+  outcome s (events.AdminCatatonic fs) fit = unless_refused (admin_catatonic_refusal s.kernel fs) s _ (λ may. closes_if (is_live s.kernel fs) s fs)
   outcome s (events.Timeout attach fs timeout) fit = unless_refused (timeout_refusal s.kernel attach fs) s _ (λ may. record { well = keeps.timed s fs timeout })
   outcome s events.Die fit = record { well = keeps.died s }
   outcome s (events.Reattach fs) fit = reattach s fs

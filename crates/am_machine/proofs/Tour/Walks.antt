@@ -35,7 +35,9 @@ use Rattle.am_kernel.specs.State.{KernelState}
 use Rattle.am_kernel.specs.Outcome.{Outcome, Goes, Fails}
 use Rattle.am_kernel.specs.Sites.{scene_of, attach_of, is_busy}
 use Rattle.am_kernel.specs.Walks as walks
-use Rattle.am_kernel.specs.Walks.{passes, packet_for, closing, closed}
+use Rattle.am_kernel.specs.Walks.{packet_for}
+use Rattle.am_kernel.specs.Catatonic.{closing, closed}
+use Rattle.am_kernel.specs.Observations.{passes}
 use Rattle.am_kernel.specs.Resumes as resumes
 use Rattle.am_kernel.specs.Expires as expires
 use Rattle.am_laws.proofs.Bools.{or_no}

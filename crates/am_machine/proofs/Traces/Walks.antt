@@ -16,7 +16,9 @@ use Rattle.am_walk.specs.Laws.{IsIdle}
 use Rattle.am_kernel.specs.declared.begun.Begin.{Begin}
 use Rattle.am_kernel.specs.State.{KernelState}
 use Rattle.am_kernel.specs.Walks as walks
-use Rattle.am_kernel.specs.Walks.{passes, packet_for, closing, closed}
+use Rattle.am_kernel.specs.Walks.{packet_for}
+use Rattle.am_kernel.specs.Catatonic.{closing, closed}
+use Rattle.am_kernel.specs.Observations.{passes}
 use Rattle.am_kernel.specs.Expires as expires
 use Rattle.am_daemon.specs.State.{JobPlan}
 use Rattle.am_laws.specs.OneObservation.{is_queued}

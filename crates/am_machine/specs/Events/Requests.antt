@@ -7,11 +7,10 @@ use Rattle.am_names.specs.declared.errno.Errno.TheVariants.{EPERM, EINVAL, Stran
 use Rattle.am_names.specs.declared.trigger.Trigger.{Trigger}
 use Rattle.am_state.specs.declared.obs.Obs.TheVariants as seen
 use Rattle.am_wait.specs.Rows.{token_of}
-use Rattle.am_kernel.specs.Sites.{fs_of_attach, or_else}
-use Rattle.am_kernel.specs.Previews.{is_trigger}
+use Rattle.am_kernel.specs.Sites.{fs_of_attach, or_else, is_trigger}
 use Rattle.am_kernel.specs.Requests.{timeout_refusal, with_timeout}
-use Rattle.am_kernel.specs.Attachments.{catatonic_refusal, autofs_refusal, closed_if_live, closing_if_live, pipe_refusal, with_pipe}
-use Rattle.am_kernel.specs.Walks.{closing, closed}
+use Rattle.am_kernel.specs.Attachments.{pipe_refusal, with_pipe}
+use Rattle.am_kernel.specs.Catatonic.{catatonic_refusal, admin_catatonic_refusal, closed_if_live, closing_if_live, closing, closed}
 use Rattle.am_kernel.specs.DaemonMounts.{standing}
 use Rattle.am_job.specs.Book.{record_of}
 use Rattle.am_daemon.specs.Attachments.{dead, reattach_refusal, reattached}
@@ -35,7 +34,7 @@ catatonic_outcome s attach fs =
 -- an autofs that is catatonic already stays so
 abbrev pub admin_catatonic_outcome : State → ℕ → Outcome
 admin_catatonic_outcome s fs =
-    unless (autofs_refusal s.kernel fs) s
+    unless (admin_catatonic_refusal s.kernel fs) s
     (with_kernel answers.Done (closing_if_live fs s.kernel) (closed_if_live fs s.kernel) s)
 
 abbrev pub timeout_outcome : State → ℕ → ℕ → ℕ → Outcome

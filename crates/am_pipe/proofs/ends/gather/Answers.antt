@@ -5,7 +5,7 @@ use Rattle.std.specs.Vec.Iter.{into_iter_items}
 use Rattle.std.proofs.lemmas.List.{append-nil}
 use Rattle.am_pipe.specs.Ends.{taken_by}
 use Rattle.am_pipe.specs.Rule.{end_view, known, weigh, weigh_to}
-use Rattle.am_pipe.proofs.CountLemmas.{once_at, empty}
+use Rattle.am_pipe.proofs.CountLemmas.{once_at, empty_where_length_is_zero}
 use Rattle.am_pipe.proofs.RestLemmas.{taken_by_snoc}
 use Rattle.am_pipe.proofs.ends.gather.Goals as goal
 
@@ -38,7 +38,7 @@ returns-clause-once g c k =
     let done = c.loop-end.yielded in
     let count : length (into_iter_items left) ≡ 0 =
     omega (arith, c.in-None.ensures.steps.0, left.rest.ok.0) in
-    let none : into_iter_items left ≡ [] = empty (into_iter_items left) count in
+    let none : into_iter_items left ≡ [] = empty_where_length_is_zero (into_iter_items left) count in
     let all : c.args.takers.items ≡ done =
     inv.rest ∙ ap (λ l. done ++ l) none ∙ append-nil done in
     let got : taken_by c.args.takers.items ≡ (known c.loop-end.pass).got =

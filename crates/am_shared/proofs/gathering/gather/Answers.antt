@@ -2,9 +2,9 @@ use Rattle.std.proofs.Common.{◌≡◌, ◌∷◌, ◌++◌, [], length, List, 
 use Rattle.std.specs.Prelude.{◌↔◌, IsTrue}
 use Rattle.am_machine.specs.declared.entry.Entry.{Entry}
 use Rattle.am_shared.specs.declared.caller.Receipt.{Receipt}
-use Rattle.am_shared.specs.Matching.{EachAgree, EachRise, AtMostOnce, count_in, Matches}
+use Rattle.am_shared.specs.Matching.{EachAgree, EachRise, AtMostOnce, count_in}
 use Rattle.am_shared.proofs.ApplyLemmas.{shared_from}
-use Rattle.am_shared.proofs.MatchLemmas.{count_snoc, test_is}
+use Rattle.am_shared.proofs.MatchLemmas.{count_snoc, order_test_decides}
 use Rattle.am_shared.proofs.gathering.gather.Goals as goal
 
 pub returns : goal.returns
@@ -38,7 +38,7 @@ returns g c =
     (λ (x : List Entry × List (List Receipt)). IsTrue c.are_matched-test.result
     ↔ IsTrue c.are_in_order-in_order.result × EachAgree x.0 x.1)
     (λ i. (history i, callers i)) c.are_matched-test.ensures in
-    let test = test_is s.history all _ _ count order agree in
+    let test = order_test_decides s.history all _ _ count order agree in
     let shown : length c.history-2.result.now ≡ count_in all =
     ap length c.history-2.ensures.history ∙ count in
     let post = rw shown at c.f.ensures in (

@@ -4,12 +4,12 @@ use Rattle.std.proofs.lemmas.Bool.Decides.{nat_tests}
 use Rattle.std.specs.Option.{option_copied}
 use Rattle.am_expire.specs.Uses.{mount_of}
 use Rattle.am_kernel.specs.declared.row.WalkRow.{WalkRow}
-use Rattle.am_kernel.specs.declared.begin.Waited.{Waited}
+use Rattle.am_kernel.specs.declared.waited.Waited.{Waited}
 use Rattle.am_kernel.specs.declared.begun.Begin.{Begin}
 use Rattle.am_kernel.specs.State.{KernelState}
 use Rattle.am_kernel.specs.Resumes.{walk_in, most_begins, next_begin}
-use Rattle.am_kernel.specs.Inside.{IsFree}
-use Rattle.am_kernel.proofs.AgainLemmas.{found_number, err_is, again_goes, again_falls}
+use Rattle.am_kernel.specs.Waited.{IsFree}
+use Rattle.am_kernel.proofs.AgainLemmas.{found_number, error_of_outcome, again_goes, again_falls}
 use Rattle.am_kernel.proofs.kernel.Kernel.again.Goals as goal
 
 pub begin-requires-clause-outside : goal.begin-requires-clause-outside
@@ -31,7 +31,7 @@ begin-requires-clause-free c =
 
 pub fall-requires : goal.fall-requires
 fall-requires c =
-    subst (λ (s : KernelState). IsFree c.waited_on-waited.result c.args.wait.now.walker s.waits) (sym (err_is _ c.in-Err.errno c.args.self.now c.begin.new.self c.args.seen.now.items c.begin.new.seen.items c.in-Err.ensures).0.state)
+    subst (λ (s : KernelState). IsFree c.waited_on-waited.result c.args.wait.now.walker s.waits) (sym (error_of_outcome _ c.in-Err.errno c.args.self.now c.begin.new.self c.args.seen.now.items c.begin.new.seen.items c.in-Err.ensures).0.state)
     (subst (λ (w : Waited). IsFree w c.args.wait.now.walker c.args.self.now.waits) (sym c.waited_on-waited.ensures) c.requires.free)
 
 pub returns-in-Ok : goal.returns-in-Ok

@@ -11,8 +11,10 @@ use Rattle.am_wait.specs.Rows.{WaitRows}
 use Rattle.am_wait.specs.Calls.{is_full, collected, rejoined}
 use Rattle.am_kernel.specs.declared.row.WalkRow.{WalkRow}
 use Rattle.am_kernel.specs.State.{KernelState}
-use Rattle.am_kernel.specs.Walks.{passes, without_walk, with_walk, with_joined}
-use Rattle.am_kernel.specs.Inside.{kernel_of, expired_uses, forgotten_walks}
+use Rattle.am_kernel.specs.Walks.{without_walk, with_walk, with_joined}
+use Rattle.am_kernel.specs.Observations.{passes}
+use Rattle.am_kernel.specs.Inside.{kernel_of}
+use Rattle.am_kernel.specs.Waited.{expired_uses, forgotten_walks}
 use Rattle.am_kernel.proofs.TokenLemmas.{expired_autofs, as_many_rejoined}
 use Rattle.am_kernel.proofs.FreeLemmas.{joins_full, joins_as, joins_wants, put_again, without_wait}
 use Rattle.am_kernel.proofs.kernel.Kernel.join.Goals as goal

@@ -4,7 +4,7 @@ use Rattle.am_wait.specs.Calls.{reopen_refusal}
 use Rattle.am_kernel.specs.State.{KernelState}
 use Rattle.am_kernel.specs.Outcome.{Outcome, Meets}
 use Rattle.am_kernel.specs.Walks.{notifies_by}
-use Rattle.am_kernel.specs.Inside.{freed_as}
+use Rattle.am_kernel.specs.Waited.{freed_as}
 use Rattle.am_kernel.proofs.NotifyLemmas.{notify_refused, notify_by}
 use Rattle.am_kernel.proofs.kernel.Kernel.notify.Goals as goal
 

@@ -10,7 +10,8 @@ use Rattle.am_wait.specs.Calls.{reopened}
 use Rattle.am_kernel.specs.declared.row.WalkRow.{WalkRow}
 use Rattle.am_kernel.specs.State.{KernelState}
 use Rattle.am_kernel.specs.Walks.{without_walk, with_walk, with_notified}
-use Rattle.am_kernel.specs.Inside.{kernel_of, expired_uses, forgotten_walks}
+use Rattle.am_kernel.specs.Inside.{kernel_of}
+use Rattle.am_kernel.specs.Waited.{expired_uses, forgotten_walks}
 use Rattle.am_kernel.proofs.FreeLemmas.{put_again, without_wait}
 use Rattle.am_kernel.proofs.NotifyLemmas.{notified_as, shown_with, packet_of}
 use Rattle.am_kernel.proofs.kernel.Kernel.queue.Goals as goal

@@ -8,7 +8,7 @@ use Rattle.am_names.specs.declared.row.TokenKind.TheVariants.{Expire}
 use Rattle.am_wait.specs.Calls.{opened}
 use Rattle.am_kernel.specs.declared.begun.Begun.TheVariants.{Waits}
 use Rattle.am_kernel.specs.State.{KernelState}
-use Rattle.am_kernel.specs.Walks.{passes}
+use Rattle.am_kernel.specs.Observations.{passes}
 use Rattle.am_kernel.specs.Inside.{kernel_of}
 use Rattle.am_kernel.specs.Expires.{with_expiring}
 use Rattle.am_kernel.proofs.ExpireLemmas.{shown_expiring, expiry_packet}

@@ -1,8 +1,8 @@
 use Rattle.std.proofs.Common.{◌≡◌, Some, None, true, false, sym, ap, subst, ◌∙◌, inl, inr}
 use Rattle.std.specs.Prelude.{is_some}
 use Rattle.std.specs.Option.{option_copied}
+use Rattle.am_names.proofs.Basics.{none_where_not_some}
 use Rattle.am_wait.specs.Rows.{wait_of}
-use Rattle.am_wait.proofs.CallLemmas.{is_none_of}
 use Rattle.am_expire.specs.Uses.{mount_of}
 use Rattle.am_kernel.specs.State.{KernelState}
 use Rattle.am_kernel.specs.Outcome.{Outcome, Meets}
@@ -16,7 +16,7 @@ returns-then-is_none c =
     let n = c.args.walker in
     let outside : is_some (mount_of k.uses n) ≡ false = ap (λ (s : KernelState). is_some (mount_of s.uses n)) (sym c.self.view_is) ∙ ap (λ o. is_some o) (sym c.mount_of.ensures) ∙ sym c.is_some.ensures ∙ c.if-is_some.false in
     let waits : wait_of k.waits.waits n ≡ Some c.in-Some.wait = ap (λ (s : KernelState). wait_of s.waits.waits n) (sym c.self.view_is) ∙ sym c.wait_of.ensures.wait ∙ c.in-Some.is in
-    let lost : walk_in k.walks n ≡ None = sym c.walk_row.ensures ∙ ap (λ o. option_copied o) (is_none_of c.walk_row.result c.if-is_none.ensures) in
+    let lost : walk_in k.walks n ≡ None = sym c.walk_row.ensures ∙ ap (λ o. option_copied o) (none_where_not_some c.walk_row.result c.if-is_none.ensures) in
     subst (λ (o : Outcome). Meets o c.tell.result k c.tell.new.self c.args.seen.now.items c.tell.new.seen.items)
     (sym (resume_is c.args.pipe k n c.args.moment c.in-Some.wait c.in-Some-status.status outside waits c.in-Some-status.is ∙ ap (λ o. resumed_walk o c.in-Some-status.status c.args.pipe k c.in-Some.wait c.args.moment) lost))
     c.tell.ensures

@@ -1,9 +1,9 @@
 use Rattle.std.proofs.Common.{sym, ap, subst, refl}
 use Rattle.am_names.specs.declared.row.TokenKind.{TokenKind}
-use Rattle.am_kernel.specs.declared.begin.Waited.{Waited}
+use Rattle.am_kernel.specs.declared.waited.Waited.{Waited}
 use Rattle.am_kernel.specs.Outcome.{Outcome, Meets}
 use Rattle.am_kernel.specs.Resumes.{told_as}
-use Rattle.am_kernel.specs.Inside.{IsFree}
+use Rattle.am_kernel.specs.Waited.{IsFree}
 use Rattle.am_kernel.proofs.AgainLemmas.{told_ready, told_failed}
 use Rattle.am_kernel.proofs.kernel.Kernel.tell.Goals as goal
 

@@ -1,9 +1,10 @@
 use Rattle.std.proofs.Common.{◌≡◌, ◌==◌, false, cond, List, sym, ap, subst, ◌∙◌}
 use Rattle.std.specs.Prelude.{drop, is_some}
+use Rattle.am_names.proofs.Basics.{none_where_not_some}
 use Rattle.am_kernel.specs.declared.row.WalkRow.{WalkRow}
 use Rattle.am_kernel.specs.Resumes.{walk_in}
 use Rattle.am_kernel.specs.WalkTable.{WalkTable, IsSingle}
-use Rattle.am_kernel.proofs.WaitingLemmas.{nothing, none_taken, single_taken, has_others}
+use Rattle.am_kernel.proofs.WaitingLemmas.{none_taken, single_taken, has_others}
 use Rattle.am_kernel.proofs.walks.Walks.take.Goals as goal
 
 pub returns-then-not-is_among-clause-rows : goal.returns-then-not-is_among-clause-rows
@@ -11,7 +12,7 @@ returns-then-not-is_among-clause-rows c =
     let none : is_some (walk_in (drop c.self.inside.over c.self.inside.rows.items) c.args.walker) ≡ false =
     sym (c.self.invariant.known c.args.walker) ∙ sym c.is_among.ensures ∙ c.if-not-is_among.true in
     sym (none_taken c.args.walker c.args.self.now.rows
-    (nothing _ (ap (λ (t : WalkTable). is_some (walk_in t.rows c.args.walker)) (sym c.self.view_is) ∙ none)))
+    (none_where_not_some _ (ap (λ (t : WalkTable). is_some (walk_in t.rows c.args.walker)) (sym c.self.view_is) ∙ none)))
 
 pub invariant_of-self : goal.invariant_of-self
 invariant_of-self c =

@@ -1,8 +1,7 @@
 use Rattle.std.proofs.Common.{◌≡◌, ◌≤◌, ◌+◌, ◌++◌, length, drop, rules, ap, ◌∙◌, arith}
 use Rattle.std.specs.VecDeque.{deque_len, deque_capacity}
-use Rattle.am_state.specs.declared.obs.Obs.{Obs}
 use Rattle.am_shared.specs.Notes.{notes_of}
-use Rattle.am_shared.proofs.ApplyLemmas.{longer, few, kept_legal, kept_notes}
+use Rattle.am_shared.proofs.ApplyLemmas.{trace_grows, one_note_at_most, kept_legal, kept_notes}
 use Rattle.am_shared.proofs.shared.Shared.apply.Goals as goal
 
 pub collect-requires-clause-from : goal.collect-requires-clause-from
@@ -10,14 +9,14 @@ collect-requires-clause-from g c =
     let old = c.self.inside.world in
     let new = c.step_pair-kept.new.self in
     let more =
-    longer old new c.args.event c.step_pair-kept.result.0 c.step_pair-kept.ensures.step in
+    trace_grows old new c.args.event c.step_pair-kept.result.0 c.step_pair-kept.ensures.step in
     omega (arith, ap length c.trace-seen.ensures.trace, ap length c.trace.ensures.trace, more)
 
 pub collect-requires-clause-room : goal.collect-requires-clause-room
 collect-requires-clause-room g c =
     let old = c.self.inside.world in
     let new = c.step_pair-kept.new.self in
-    let one = few old new c.args.event c.step_pair-kept.result.0 c.step_pair-kept.ensures.step in
+    let one = one_note_at_most old new c.args.event c.step_pair-kept.result.0 c.step_pair-kept.ensures.step in
     let same : length (notes_of (drop (length c.trace-seen.result.now) c.trace.result.now))
     ≡ length (notes_of (drop (length old.trace) new.trace)) =
     λ i. length (notes_of (drop (length (c.trace-seen.ensures.trace i)) (c.trace.ensures.trace i))) in

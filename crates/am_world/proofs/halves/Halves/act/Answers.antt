@@ -1,36 +1,36 @@
 use Rattle.std.proofs.Common.{ℕ, sym, ap, ◌∙◌}
 use Rattle.am_kernel.specs.Requests.{answer_refusal}
 use Rattle.am_machine.specs.Events.Acts.{reply_by}
-use Rattle.am_world.specs.Halves.{state_of}
+use Rattle.am_world.specs.Halves.{whole_state}
 use Rattle.am_world.specs.declared.acts.Deed.TheVariants as deed
 use Rattle.am_world.specs.Acts.{row_for}
-use Rattle.am_world.proofs.ActLemmas.{acts_mount, acts_umount, acts_record, acts_reply, acts_as, next_from, row_attach, row_token}
+use Rattle.am_world.proofs.ActLemmas.{acts_mount, acts_umount, acts_record, acts_reply, goes_as_looked_up, next_by_look_up, row_attach_is_turns, row_token_is_job}
 use Rattle.am_world.proofs.halves.Halves.act.Goals as goal
 
 pub returns-in-Mount : goal.returns-in-Mount
 returns-in-Mount c =
-    let s = state_of c.args.self.now in
+    let s = whole_state c.args.self.now in
     let found = sym c.turn_of.ensures ∙ c.in-Some.is in
-    acts_as s c.args.job c.in-Some.turn c.args.failure _ c.mount_on.result _ found (acts_mount s c.in-Some.turn c.args.failure c.in-Mount.trigger (next_from c.in-Some.turn c.args.job (deed.Mount c.in-Mount.trigger) s.daemon found c.in-Mount.is)) c.mount_on.ensures
+    goes_as_looked_up s c.args.job c.in-Some.turn c.args.failure _ c.mount_on.result _ found (acts_mount s c.in-Some.turn c.args.failure c.in-Mount.trigger (next_by_look_up c.in-Some.turn c.args.job (deed.Mount c.in-Mount.trigger) s.daemon found c.in-Mount.is)) c.mount_on.ensures
 
 pub returns-in-Umount : goal.returns-in-Umount
 returns-in-Umount c =
-    let s = state_of c.args.self.now in
+    let s = whole_state c.args.self.now in
     let found = sym c.turn_of.ensures ∙ c.in-Some.is in
-    acts_as s c.args.job c.in-Some.turn c.args.failure _ c.umount_from.result _ found (acts_umount s c.in-Some.turn c.args.failure c.in-Umount.trigger (next_from c.in-Some.turn c.args.job (deed.Umount c.in-Umount.trigger) s.daemon found c.in-Umount.is)) c.umount_from.ensures
+    goes_as_looked_up s c.args.job c.in-Some.turn c.args.failure _ c.umount_from.result _ found (acts_umount s c.in-Some.turn c.args.failure c.in-Umount.trigger (next_by_look_up c.in-Some.turn c.args.job (deed.Umount c.in-Umount.trigger) s.daemon found c.in-Umount.is)) c.umount_from.ensures
 
 pub returns-in-Record : goal.returns-in-Record
 returns-in-Record c =
-    let s = state_of c.args.self.now in
+    let s = whole_state c.args.self.now in
     let found = sym c.turn_of.ensures ∙ c.in-Some.is in
-    acts_as s c.args.job c.in-Some.turn c.args.failure _ c.write_down.result _ found (acts_record s c.in-Some.turn c.args.failure c.in-Record.trigger c.in-Record.entry (next_from c.in-Some.turn c.args.job (deed.Record c.in-Record.trigger c.in-Record.entry) s.daemon found c.in-Record.is)) c.write_down.ensures
+    goes_as_looked_up s c.args.job c.in-Some.turn c.args.failure _ c.write_down.result _ found (acts_record s c.in-Some.turn c.args.failure c.in-Record.trigger c.in-Record.entry (next_by_look_up c.in-Some.turn c.args.job (deed.Record c.in-Record.trigger c.in-Record.entry) s.daemon found c.in-Record.is)) c.write_down.ensures
 
 pub returns-in-Reply : goal.returns-in-Reply
 returns-in-Reply c =
-    let s = state_of c.args.self.now in
+    let s = whole_state c.args.self.now in
     let found = sym c.turn_of.ensures ∙ c.in-Some.is in
-    let n = next_from c.in-Some.turn c.args.job (deed.Reply c.in-Reply.status) s.daemon found c.in-Reply.is in
+    let n = next_by_look_up c.in-Some.turn c.args.job (deed.Reply c.in-Reply.status) s.daemon found c.in-Reply.is in
     let row = row_for s.daemon c.in-Some.turn.job in
-    let same = ap (λ (a : ℕ). reply_by (answer_refusal s.kernel a row.token) s row c.in-Reply.status) (row_attach c.in-Some.turn s.daemon n.comes)
-    ∙ ap (λ (t : ℕ). reply_by (answer_refusal s.kernel c.in-Some.turn.attach t) s row c.in-Reply.status) (row_token c.in-Some.turn s.daemon n.comes) in
-    acts_as s c.args.job c.in-Some.turn c.args.failure _ c.reply.result _ found (acts_reply s c.in-Some.turn c.args.failure c.in-Reply.status n ∙ same) c.reply.ensures
+    let same = ap (λ (a : ℕ). reply_by (answer_refusal s.kernel a row.token) s row c.in-Reply.status) (row_attach_is_turns c.in-Some.turn s.daemon n.comes)
+    ∙ ap (λ (t : ℕ). reply_by (answer_refusal s.kernel c.in-Some.turn.attach t) s row c.in-Reply.status) (row_token_is_job c.in-Some.turn s.daemon n.comes) in
+    goes_as_looked_up s c.args.job c.in-Some.turn c.args.failure _ c.reply.result _ found (acts_reply s c.in-Some.turn c.args.failure c.in-Reply.status n ∙ same) c.reply.ensures

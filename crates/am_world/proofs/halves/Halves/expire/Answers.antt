@@ -1,16 +1,16 @@
 use Rattle.am_kernel.specs.Expires.{expire_outcome}
-use Rattle.am_world.specs.Halves.{state_of}
+use Rattle.am_world.specs.Halves.{whole_state}
 use Rattle.am_world.proofs.GoesLemmas.{walk_goes, walk_fails}
 use Rattle.am_world.proofs.halves.Halves.expire.Goals as goal
 
 pub returns-in-Ok : goal.returns-in-Ok
 returns-in-Ok c =
-    let s = state_of c.args.self.now in
+    let s = whole_state c.args.self.now in
     let o = expire_outcome c.args.pipe s.kernel c.args.walker c.args.fs c.args.now c.args.immediate in
     rw c.answer_of.ensures (walk_goes o s c.in-Ok.begun c.expire-came.new.self c.expire-came.new.seen.items c.in-Ok.ensures)
 
 pub returns-in-Err : goal.returns-in-Err
 returns-in-Err c =
-    let s = state_of c.args.self.now in
+    let s = whole_state c.args.self.now in
     let o = expire_outcome c.args.pipe s.kernel c.args.walker c.args.fs c.args.now c.args.immediate in
     walk_fails o s c.in-Err.errno c.expire-came.new.self c.expire-came.new.seen.items c.in-Err.ensures

@@ -5,22 +5,22 @@ use Rattle.am_state.specs.declared.obs.Obs.{Obs}
 use Rattle.am_kernel.specs.Requests.{answer_refusal, acknowledged, answering}
 use Rattle.am_machine.specs.declared.answer.Answer.TheVariants as answers
 use Rattle.am_machine.specs.Events.Acts.{reply_by}
-use Rattle.am_world.specs.Halves.{state_of}
+use Rattle.am_world.specs.Halves.{whole_state}
 use Rattle.am_world.specs.Acts.{row_for}
-use Rattle.am_world.proofs.ActLemmas.{row_token}
-use Rattle.am_world.proofs.WentLemmas.{went, goes_as}
+use Rattle.am_world.proofs.ActLemmas.{row_token_is_job}
+use Rattle.am_world.proofs.WentLemmas.{went, goes_by_equal_outcome}
 use Rattle.am_world.proofs.halves.Halves.reply.Goals as goal
 
 pub returns : goal.returns
 returns c =
-    let s = state_of c.args.self.now in
+    let s = whole_state c.args.self.now in
     let number = c.args.turn.now.job in
     let shown = c.job.inside.0 in
     let status = c.args.status in
     let row = row_for s.daemon number in
-    let token = row_token c.args.turn.now s.daemon c.requires.comes in
+    let token = row_token_is_job c.args.turn.now s.daemon c.requires.comes in
     let its : shown ≡ row.token = c.job.view_is ∙ sym token in
-    goes_as (reply_by (answer_refusal s.kernel c.args.turn.now.attach number) s row status) (reply_by None s row status) s answers.DidReply _
+    goes_by_equal_outcome (reply_by (answer_refusal s.kernel c.args.turn.now.attach number) s row status) (reply_by None s row status) s answers.DidReply _
     (ap (λ (f : Option Errno). reply_by f s row status) (ap (λ (n : ℕ). answer_refusal s.kernel c.args.turn.now.attach n) (sym c.job.view_is) ∙ c.in_ok-answer.ensures.refusal)) refl
     (went s row number came.Done answers.DidReply (answering row.token status s.kernel) (acknowledged row.token status s.kernel) c.answer.new.self _ _ token c.finish.ensures
     (c.in_ok-answer.ensures.ok ∙ ap (λ (n : ℕ). acknowledged n status s.kernel) its)

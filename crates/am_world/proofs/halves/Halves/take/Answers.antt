@@ -8,17 +8,17 @@ use Rattle.am_daemon.specs.Packets.{trigger_of, plan_of_packet, pending_of}
 use Rattle.am_daemon.specs.Deliveries.{taken_up}
 use Rattle.am_machine.specs.declared.answer.Answer.TheVariants as answers
 use Rattle.am_machine.specs.Events.Deliveries.{takes, delivered_at, recording}
-use Rattle.am_world.specs.Halves.{state_of, written}
-use Rattle.am_world.proofs.WentLemmas.{written_is, taken, all_is, goes_as}
+use Rattle.am_world.specs.Halves.{whole_state, written}
+use Rattle.am_world.proofs.WentLemmas.{written_is, packet_is_taken, halves_are, goes_by_equal_outcome}
 use Rattle.am_world.proofs.halves.Halves.take.Goals as goal
 
 pub returns-in-Ok : goal.returns-in-Ok
 returns-in-Ok c =
-    let s = state_of c.args.self.now in
+    let s = whole_state c.args.self.now in
     let row = c.args.row.now in
     let told = seen.Delivered row.token row.attach row.packet in
-    goes_as (delivered_at (Some row) s None) (takes s row) s (answers.Job c.in-Ok.job) _ (taken s row c.in-Ok.ensures.fault) (ap (λ (j : ℕ). answers.Job j) c.in-Ok.ensures.job)
-    (all_is s (without_packet row.token s.kernel) c.take_packet.new.self (taken_up row.attach row.packet s.daemon) _ (s.trace ++ told ∷ recording s.daemon row) _ c.take_packet.ensures c.in-Ok.ensures.ok
+    goes_by_equal_outcome (delivered_at (Some row) s None) (takes s row) s (answers.Job c.in-Ok.job) _ (packet_is_taken s row c.in-Ok.ensures.fault) (ap (λ (j : ℕ). answers.Job j) c.in-Ok.ensures.job)
+    (halves_are s (without_packet row.token s.kernel) c.take_packet.new.self (taken_up row.attach row.packet s.daemon) _ (s.trace ++ told ∷ recording s.daemon row) _ c.take_packet.ensures c.in-Ok.ensures.ok
     (c.tell.ensures ∙ ap (λ (more : List Obs). c.reserve.new.self.items ++ more) c.in_ok-seen.ensures
     ∙ ap (λ (t : List Obs). t ++ told ∷ written c.recording-writing.result) c.reserve.ensures.items
     ∙ ap (λ (w : Option Writing). s.trace ++ told ∷ written w) c.recording-writing.ensures

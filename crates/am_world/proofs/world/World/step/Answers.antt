@@ -2,7 +2,7 @@ use Rattle.std.proofs.Common.{List, subst, sym}
 use Rattle.am_state.specs.declared.obs.Obs.{Obs}
 use Rattle.am_machine.specs.State.{State}
 use Rattle.am_machine.specs.Machine.{Step}
-use Rattle.am_world.specs.Halves.{table_of, state_of, told}
+use Rattle.am_world.specs.Halves.{table_of, whole_state, told}
 use Rattle.am_world.specs.Table as table
 use Rattle.am_world.specs.Table.{WorldTable}
 use Rattle.am_world.proofs.TableLemmas.{state_is}
@@ -11,11 +11,11 @@ use Rattle.am_world.proofs.world.World.step.Goals as goal
 
 pub invariant_of-self : goal.invariant_of-self
 invariant_of-self c =
-    let old = state_of c.self.inside.halves in
+    let old = whole_state c.self.inside.halves in
     let event = c.args.event.now in
     record {
-      consistent = goes_consistent old event c.handle.result (state_of c.handle.new.self) c.self.invariant.consistent c.handle.ensures;
-      walks = goes_named old event c.handle.result (state_of c.handle.new.self) c.know_paths.ensures c.self.invariant.walks c.handle.ensures;
+      consistent = goes_consistent old event c.handle.result (whole_state c.handle.new.self) c.self.invariant.consistent c.handle.ensures;
+      walks = goes_named old event c.handle.result (whole_state c.handle.new.self) c.know_paths.ensures c.self.invariant.walks c.handle.ensures;
     }
 
 pub returns : goal.returns
@@ -26,5 +26,5 @@ returns c =
     rw (c.told.ensures)
     (subst (λ (t : WorldTable). (seen : List Obs) × Step (table.state_of t) event answer seen (table.state_of new)) c.self.view_is
     (subst (λ (s : State). (seen : List Obs) × Step s event answer seen (table.state_of new)) (sym (state_is (table_of c.self.inside.halves)))
-    (subst (λ (s : State). (seen : List Obs) × Step (state_of c.self.inside.halves) event answer seen s) (sym (state_is new))
-    (goes_step (state_of c.self.inside.halves) event c.handle.result (state_of c.handle.new.self) c.handle.ensures))))
+    (subst (λ (s : State). (seen : List Obs) × Step (whole_state c.self.inside.halves) event answer seen s) (sym (state_is new))
+    (goes_step (whole_state c.self.inside.halves) event c.handle.result (whole_state c.handle.new.self) c.handle.ensures))))

@@ -5,7 +5,7 @@ use Rattle.am_machine.specs.State.{State}
 use Rattle.am_machine.specs.Machine.{outcome_of}
 use Rattle.am_machine.proofs.Histories.{step_goes_on}
 use Rattle.am_world.specs.Copies.{IsSpare}
-use Rattle.am_world.specs.Halves.{table_of, state_of}
+use Rattle.am_world.specs.Halves.{table_of, whole_state}
 use Rattle.am_world.specs.Table as table
 use Rattle.am_world.proofs.TableLemmas.{state_is}
 use Rattle.am_world.proofs.SpareLemmas.{step_spares}
@@ -14,7 +14,7 @@ use Rattle.am_world.proofs.world.World.step_pair.Goals as goal
 pub again-other-requires : goal.again-other-requires
 again-other-requires c =
     let event = c.args.event.now in
-    let same : table.state_of c.args.self.now ≡ state_of c.self.inside.halves = ap table.state_of (sym c.self.view_is) ∙ state_is (table_of c.self.inside.halves) in
+    let same : table.state_of c.args.self.now ≡ whole_state c.self.inside.halves = ap table.state_of (sym c.self.view_is) ∙ state_is (table_of c.self.inside.halves) in
     step_spares (table.state_of c.args.self.now) event c.step-answer.result c.step-answer.ensures.0 _ c.in-Ok.spare
     (subst (λ (s : State). IsSpare c.in-Ok.spare (outcome_of s event).answer) (sym same) c.in-Ok.ensures) c.step-answer.ensures.1
 

@@ -3,7 +3,7 @@ use Rattle.am_machine.specs.Agreement.{Agree}
 use Rattle.am_machine.specs.InStep.{AreInStep}
 use Rattle.am_machine.proofs.AgreeRuns.{agrees}
 use Rattle.am_machine.proofs.InStep.{in_step}
-use Rattle.am_world.specs.Halves.{table_of, state_of}
+use Rattle.am_world.specs.Halves.{table_of, whole_state}
 use Rattle.am_world.specs.Table as table
 use Rattle.am_world.specs.Table.{WorldTable}
 use Rattle.am_world.proofs.TableLemmas.{state_is}
@@ -13,10 +13,10 @@ pub returns-clause-agree : goal.returns-clause-agree
 returns-clause-agree c =
     subst (λ (t : WorldTable). Agree (table.state_of t)) c.self.view_is
     (subst Agree (sym (state_is (table_of c.self.inside.halves)))
-    (agrees (state_of c.self.inside.halves) c.self.invariant.consistent c.self.invariant.walks))
+    (agrees (whole_state c.self.inside.halves) c.self.invariant.consistent c.self.invariant.walks))
 
 pub returns-clause-in_step : goal.returns-clause-in_step
 returns-clause-in_step c =
     subst (λ (t : WorldTable). AreInStep (table.state_of t)) c.self.view_is
     (subst AreInStep (sym (state_is (table_of c.self.inside.halves)))
-    (in_step (state_of c.self.inside.halves) c.self.invariant.consistent c.self.invariant.walks))
+    (in_step (whole_state c.self.inside.halves) c.self.invariant.consistent c.self.invariant.walks))

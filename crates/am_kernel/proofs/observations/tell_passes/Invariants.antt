@@ -1,8 +1,8 @@
 use Rattle.std.proofs.Common.{◌≡◌, ◌+◌, ◌++◌, length, vec_len}
 use Rattle.std.specs.Prelude.{vec_capacity}
 use Rattle.std.specs.Vec.Iter.{into_iter_items}
-use Rattle.am_kernel.specs.Walks.{passes}
-use Rattle.am_kernel.proofs.begin.tell_passes.Given as goal
+use Rattle.am_kernel.specs.Observations.{passes}
+use Rattle.am_kernel.proofs.observations.tell_passes.Given as goal
 
 abbrev pub invariant-loop-trigger : goal.invariant-loop-trigger
 invariant-loop-trigger l = record {

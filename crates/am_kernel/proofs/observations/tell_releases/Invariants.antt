@@ -1,6 +1,6 @@
 use Rattle.std.proofs.Common.{◌≡◌, ◌++◌, take}
-use Rattle.am_kernel.specs.Walks.{releases}
-use Rattle.am_kernel.proofs.begin.tell_releases.Given as goal
+use Rattle.am_kernel.specs.Observations.{releases}
+use Rattle.am_kernel.proofs.observations.tell_releases.Given as goal
 
 abbrev pub invariant-loop-walker : goal.invariant-loop-walker
 invariant-loop-walker l =
