@@ -1,6 +1,6 @@
 -- Attachments that begin: a daemon that attaches again (autofs.rst, "Communicating with autofs:
 -- root directory ioctls").
-use Rattle.std.specs.Prelude.{ℕ, ◌+◌, ◌==◌, false, not, is_some, map, Option, Some, None, if◌then◌else◌}
+use Rattle.std.specs.Prelude.{ℕ, ◌+◌, ◌==◌, false, not, is_some, map, Option, Some, if◌then◌else◌}
 use Rattle.am_names.specs.declared.errno.Errno.{Errno}
 use Rattle.am_names.specs.declared.errno.Errno.TheVariants.{EBUSY, EINVAL}
 use Rattle.am_trigger.specs.Rows.{autofs_of, with_catatonic}

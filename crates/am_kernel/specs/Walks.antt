@@ -10,7 +10,6 @@ use Rattle.am_names.specs.declared.row.TokenKind.{TokenKind}
 use Rattle.am_names.specs.declared.row.TokenKind.TheVariants.{Missing}
 use Rattle.am_wire.specs.declared.packet.Packet.{Packet}
 use Rattle.am_wire.specs.Kind.{kind_of}
-use Rattle.am_state.specs.declared.obs.Obs.{Obs}
 use Rattle.am_state.specs.declared.obs.Obs.TheVariants as seen
 use Rattle.am_trigger.specs.Rows.{used, all_used}
 use Rattle.am_wait.specs.Calls.{is_exhausted, is_full, opened, joined}

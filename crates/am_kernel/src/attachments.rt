@@ -11,6 +11,7 @@ use crate::table::{refuse, table, tell};
 use am_expire::OrderedTriggers;
 use am_names::{Attach, Errno, FsId};
 
+/// The row with this attachment, if it is one of the file system.
 fn reattached_row(row: Attached, fs: FsId, attach: Attach) -> Attached
     ensures { result ≡ reattached_row fs attach row }
 {
@@ -21,6 +22,7 @@ fn reattached_row(row: Attached, fs: FsId, attach: Attach) -> Attached
     }
 }
 
+/// This attachment is the latest of the file system.
 fn set_attach(rows: &mut [Attached], fs: FsId, attach: Attach)
     ensures { rows.new ≡ map (reattached_row fs attach) rows.old }
 {

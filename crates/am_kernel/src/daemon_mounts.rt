@@ -170,6 +170,7 @@ impl Kernel {
         }
     }
 
+    /// The triggers of the autofs on which something is mounted, with their mounts.
     fn standing_of(
         &self,
         alloc: Global,

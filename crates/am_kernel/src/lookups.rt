@@ -32,6 +32,7 @@ impl Kernel {
         }
     }
 
+    /// The latest attachment of this file system, also one that has ended.
     fn latest_attach(&self, fs: FsId) -> Option<Attach>
         ensures { result ≡ latest_attach self.now.attached fs }
     {

@@ -51,6 +51,7 @@ fn mount_fs(
 }
 
 impl Kernel {
+    /// Why no new file system could be mounted, if none could: their numbers are used up.
     fn fs_refusal(&self) -> Option<Errno>
         ensures { result ≡ fs_refusal self.now }
     {

@@ -16,6 +16,7 @@ use am_state::{Obs, QueuedRow};
 use am_trigger::{Failure, Failures};
 use std::alloc::{AllocError, Global};
 
+/// The row with this timeout, if it is one of the file system.
 fn timeout_row(row: Attached, fs: FsId, timeout: u32) -> Attached
     ensures { result ≡ timeout_row fs timeout row }
 {
@@ -26,6 +27,7 @@ fn timeout_row(row: Attached, fs: FsId, timeout: u32) -> Attached
     }
 }
 
+/// The file system has this timeout.
 fn set_timeout(rows: &mut [Attached], fs: FsId, timeout: u32)
     ensures { rows.new ≡ map (timeout_row fs timeout) rows.old }
 {
@@ -57,6 +59,7 @@ fn settle(
 }
 
 impl Kernel {
+    /// The file system of an open token.
     fn token_fs(&self, token: Token) -> Option<FsId>
         ensures { result ≡ token_fs self.now token }
     {

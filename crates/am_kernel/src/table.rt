@@ -21,6 +21,7 @@ macro_rules! tell {
     };
 }
 
+/// The tests of each call, in their order.
 macro_rules! table {
     ($tests:ident; answer($kernel:expr, $attach:expr, $token:expr)) => {
         $tests! {

@@ -20,6 +20,7 @@ use std::alloc::{AllocError, Global};
 const MOST_BEGINS: u32 = 40;
 
 impl WalkRow {
+    /// The same row once more.
     fn copy(&self, alloc: Global) -> Result<WalkRow, AllocError>
         ensures { IfOk result (λ row. row ≡ self.now) }
     {
@@ -96,6 +97,7 @@ impl Kernel {
         Ok(begun)
     }
 
+    /// The walk that a walker began that waits.
     pub(crate) fn walk_row(&self, walker: WalkerId) -> Option<&WalkRow>
         ensures { option_copied result ≡ walk_in self.now.walks walker }
     {

@@ -37,6 +37,7 @@ impl Model for Walks {
     ghost invariant = { KeepsWalks };
 }
 
+/// Whether the walker is one of these.
 fn is_among(walkers: &IndexSet<u32>, walker: WalkerId) -> bool
     ensures { result ≡ is_among walker walkers.now.keys }
 {

@@ -1,4 +1,6 @@
--- What each role of a run makes: the receipts of the caller that comes back.
+-- What each role of a run makes, the receipts of the caller that comes back:
+-- own (docs/DECISIONS.md, "A worker gives up a job at any refusal" and "A thread that finds no
+-- memory tries again, and then nobody waits").
 use Rattle.std.specs.Prelude.{◌≡◌, ◌⊎◌, ⊤, ℕ, Bool, true, false, zero, suc, List, [], ◌∷◌, ◌++◌, All, Any, Option, Some}
 use Rattle.am_names.specs.declared.errno.Errno.TheVariants.{NoMemory}
 use Rattle.am_names.specs.declared.fail_no.FailNo.{FailNo}
@@ -118,8 +120,8 @@ AreServices (x ∷ taken) made =
     (first : List Receipt) × (rest : List Receipt) × (made ≡ first ++ rest)
     × IsService x first × AreServices taken rest
 
--- A worker took notes out of the pipe, and served them in turn: behind the delivery of a packet come
--- acts of its job alone, and none behind one that is refused.
+-- A worker took notes out of the pipe, and served them in turn: behind the delivery of a packet
+-- come acts of its job alone, and none behind one that is refused.
 pub record Serves (got_old got_new : List (ℕ × Note)) (old new : List Receipt) : Type 0 where
   pub taken : List (ℕ × Note)
   pub takes : got_new ≡ got_old ++ taken

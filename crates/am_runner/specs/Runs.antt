@@ -1,7 +1,7 @@
--- What a run of threads comes to.
-use Rattle.std.specs.Prelude.{◌≡◌, ◌*◌, ◌&&◌, ℕ, Bool, true, false, List, not}
+-- What a run of threads comes to: own (docs/DECISIONS.md, "Rounds that don't add up are out of
+-- memory").
+use Rattle.std.specs.Prelude.{◌≡◌, ◌&&◌, Bool, true, false, List, not}
 use Rattle.std.specs.List.{count_by}
-use Rattle.am_names.specs.declared.errno.Errno.{Errno}
 use Rattle.am_names.specs.declared.errno.Errno.TheVariants.{NoMemory}
 use Rattle.am_state.specs.declared.obs.Obs.{Obs}
 use Rattle.am_state.specs.declared.obs.Obs.TheVariants.{Entered, Left}
@@ -15,10 +15,12 @@ use Rattle.am_shared.specs.Matching.{Matches}
 use Rattle.am_shared.specs.declared.caller.Receipt.{Receipt}
 use Rattle.am_runner.specs.declared.tally.Tally.{Tally}
 
+-- memory ran out
 abbrev pub is_out_of_memory : Answer → Bool
 is_out_of_memory (Refused NoMemory) = true
 is_out_of_memory answer = false
 
+-- a walk begins
 abbrev pub is_walk : Event → Bool
 is_walk (Walk walker ns path now pipe) = true
 is_walk event = false
@@ -27,10 +29,12 @@ is_walk event = false
 unfoldable pub is_round : Entry → Bool
 is_round e = is_walk e.event && not (is_out_of_memory e.answer)
 
+-- a walker entered a mount
 abbrev pub is_entered : Obs → Bool
 is_entered (Entered walker mount) = true
 is_entered obs = false
 
+-- a walker left a mount
 abbrev pub is_left : Obs → Bool
 is_left (Left walker mount) = true
 is_left obs = false
@@ -41,8 +45,8 @@ pub record IsTallyOf (tally : Tally) (s : Sharing) : Type 0 where
   pub entered : tally.entered ≡ count_by is_entered s.world.trace
   pub left : tally.left ≡ count_by is_left s.world.trace
 
--- The tally is that of a world under its lock. The history is that of a single thread, and each of its
--- entries is the receipt of one caller, once.
+-- The tally is that of a world under its lock. The history is that of a single thread, and each of
+-- its entries is the receipt of one caller, once.
 pub record IsTally (tally : Tally) : Type 0 where
   pub shared : Sharing
   pub is_shared : IsShared shared

@@ -30,6 +30,7 @@ pub enum Reply {
     Done,
 }
 
+/// The reply to a refusal.
 fn refusal(errno: Errno) -> Reply
     ensures { IsReplyTo (Refused errno) result }
 {
@@ -39,6 +40,7 @@ fn refusal(errno: Errno) -> Reply
     }
 }
 
+/// The reply to an answer.
 fn reply_to(answer: &Answer) -> Reply
     ensures { IsReplyTo answer.now result }
 {

@@ -21,12 +21,14 @@ pub struct Tally {
     pub left: u64,
 }
 
+/// Whether memory ran out.
 fn is_no_memory(errno: Errno) -> bool
     ensures { result ≡ is_out_of_memory (Refused errno) }
 {
     matches!(errno, Errno::NoMemory)
 }
 
+/// Whether the event was refused as memory ran out.
 fn is_out_of_memory(answer: &Answer) -> bool
     ensures { result ≡ is_out_of_memory answer.now }
 {
@@ -36,6 +38,7 @@ fn is_out_of_memory(answer: &Answer) -> bool
     }
 }
 
+/// Whether a walk begins.
 fn is_walk(event: &Event) -> bool
     ensures { result ≡ is_walk event.now }
 {
@@ -50,18 +53,21 @@ fn is_round(entry: &Entry) -> bool
     is_walk(&entry.event) && !is_out_of_memory(&entry.answer)
 }
 
+/// Whether a walker entered a mount.
 fn is_entered(obs: &Obs) -> bool
     ensures { result ≡ is_entered obs.now }
 {
     matches!(obs, Obs::Entered { .. })
 }
 
+/// Whether a walker left a mount.
 fn is_left(obs: &Obs) -> bool
     ensures { result ≡ is_left obs.now }
 {
     matches!(obs, Obs::Left { .. })
 }
 
+/// How many rounds stand in a history.
 fn rounds_in(history: &[Entry]) -> usize
     ensures { result ≡ count_by is_round history.now }
 {
@@ -74,6 +80,7 @@ fn rounds_in(history: &[Entry]) -> usize
     rounds
 }
 
+/// How often walkers entered a mount.
 fn entered_in(trace: &[Obs]) -> usize
     ensures { result ≡ count_by is_entered trace.now }
 {
@@ -86,6 +93,7 @@ fn entered_in(trace: &[Obs]) -> usize
     entered
 }
 
+/// How often walkers left a mount.
 fn left_in(trace: &[Obs]) -> usize
     ensures { result ≡ count_by is_left trace.now }
 {

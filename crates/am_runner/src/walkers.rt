@@ -53,7 +53,8 @@ fn round<L: Opened, R: Wait>(
 }
 
 /// Makes rounds: walks along a path in the first namespace, waits and resumes as long as the answer
-/// is a wait, and leaves. Gives its caller back. Where there is no memory for the path it makes none.
+/// is a wait, and leaves. Gives its caller back. Where there is no memory for the path it makes
+/// none.
 pub fn walker<L: Opened, R: Wait>(
     rt: &R,
     alloc: Global,
@@ -80,8 +81,8 @@ pub fn walker<L: Opened, R: Wait>(
     caller
 }
 
-/// Makes rounds: asks for an immediate expiry, and waits and resumes as long as the answer is a wait.
-/// Gives its caller back.
+/// Makes rounds: asks for an immediate expiry, and waits and resumes as long as the answer is a
+/// wait. Gives its caller back.
 pub fn expirer<L: Opened, R: Wait>(
     rt: &R,
     alloc: Global,

@@ -45,8 +45,8 @@ fn copied(alloc: Global, act: Option<&Act>) -> Result<Option<Act>, AllocError> {
     }
 }
 
-/// The act of a job that comes next; none where there is no such job any more. Asked for again where
-/// memory runs out.
+/// The act of a job that comes next; none where there is no such job any more. Asked for again
+/// where memory runs out.
 fn next_act<L: Opened, R: Wait>(
     rt: &R,
     alloc: Global,
@@ -86,7 +86,8 @@ fn act<L: Opened, B: Backend, R: Wait>(
     }
 }
 
-/// Whether a job goes on behind this reply. Where memory ran out for good, nobody is to wait for it.
+/// Whether a job goes on behind this reply. Where memory ran out for good, nobody is to wait for
+/// it.
 fn goes_on<L: Opened, R: Wait>(rt: &R, caller: &Caller<L>, reply: Reply) -> bool
     ensures { result ≡ is_done reply }
 {
@@ -145,8 +146,8 @@ fn serve<L: Opened, G: Gate, B: Backend, R: Wait>(
     }
 }
 
-/// Takes notes and serves them, until it is told to stop and finds none. Gives its caller and its end
-/// of the pipe back.
+/// Takes notes and serves them, until it is told to stop and finds none. Gives its caller and its
+/// end of the pipe back.
 pub fn daemon_worker<L: Opened, G: Gate, B: Backend + Drop, R: Wait>(
     rt: &R,
     alloc: Global,

@@ -163,6 +163,7 @@ impl<L: Opened> Desk<L> {
         self.shared.world().is_waiting(walker)
     }
 
+    /// Nobody waits for a release from now on.
     fn give_up(&mut self)
         ensures given_up { self.new.given_up ≡ true }
         ensures shared { self.new.shared ≡ self.old.shared }

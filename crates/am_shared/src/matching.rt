@@ -9,6 +9,7 @@ use crate::caller::{Caller, Receipt};
 use crate::opened::Opened;
 use am_machine::Entry;
 
+/// Whether the entry has the event and the answer of the receipt.
 fn is_entry(entry: &Entry, receipt: &Receipt) -> bool
     ensures { IsTrue result ↔ (entry.now ≡ entry_of receipt.now.event receipt.now.answer) }
 {
@@ -27,6 +28,7 @@ fn agrees(history: &[Entry], receipt: &Receipt) -> bool
     }
 }
 
+/// Whether the history has the event and the answer of each receipt at its position.
 fn all_agree(history: &[Entry], receipts: &[Receipt]) -> bool
     ensures { IsTrue result ↔ AllAgree history.now receipts.now }
 {
@@ -70,6 +72,7 @@ pub fn are_matched<L: Opened>(
     all_agree(history, last)
 }
 
+/// Whether the positions of the receipts rise.
 fn rise(receipts: &[Receipt]) -> bool
     ensures { IsTrue result ↔ Rise 0 receipts.now }
 {
@@ -120,6 +123,7 @@ fn is_away<L: Opened>(position: u64, callers: &[Caller<L>]) -> bool
     true
 }
 
+/// Whether none of the receipts' positions stands in any receipt of the callers.
 fn all_away<L: Opened>(receipts: &[Receipt], callers: &[Caller<L>]) -> bool
     requires { EachRise callers.now }
     ensures { IsTrue result ↔ AllAway receipts.now callers.now }

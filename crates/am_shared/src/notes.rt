@@ -11,6 +11,7 @@ use am_wire::{Packet, write};
 use std::collections::VecDeque;
 use std::sync::Wait;
 
+/// The note of a queued packet.
 fn note(token: Token, attach: Attach, packet: &Packet) -> Note
     ensures { result ≡ note_of token attach packet.now }
 {
@@ -37,6 +38,7 @@ fn note_at(obs: &Obs) -> Option<Note>
     }
 }
 
+/// The notes of what was seen join those that wait to be put.
 fn collect_all(unsent: &mut VecDeque<Note>, seen: &[Obs])
     requires { deque_len unsent.old + length (notes_of seen.now) ≤ deque_capacity unsent.old }
     ensures { unsent.new.items ≡ unsent.old.items ++ notes_of seen.now }

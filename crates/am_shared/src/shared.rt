@@ -82,6 +82,7 @@ impl Shared {
         })
     }
 
+    /// The world as it is now.
     pub fn world(&self) -> &World
         ensures { result.now ≡ self.now.world }
     {

@@ -49,6 +49,7 @@ pub struct Turn {
     pub deed: Deed,
 }
 
+/// The act without what it mounts.
 fn deed_of(act: &Act) -> Deed
     ensures { result ≡ deed_of act.now }
 {
@@ -107,6 +108,7 @@ fn as_removed(came: Result<(), Errno>) -> Result<(), Errno>
     }
 }
 
+/// Whether memory ran out.
 fn is_no_memory(errno: Errno) -> bool
     ensures { result ≡ is_no_memory errno }
 {
@@ -114,6 +116,7 @@ fn is_no_memory(errno: Errno) -> bool
 }
 
 impl Halves {
+    /// The job makes its directory.
     fn make_directory(&mut self, turn: &Turn, trigger: &Trigger) -> Result<Answer, Errno>
         requires { IsNext turn.now (deed.Mkdir trigger.now) (daemon_of self.old.daemon) }
         ensures { Goes (mkdir_by (mkdir_refusal self.old.kernel turn.now.attach trigger.now)
@@ -130,6 +133,7 @@ impl Halves {
         }
     }
 
+    /// The job mounts on its trigger, or tells that its program failed.
     fn mount_on(
         &mut self,
         alloc: Global,
@@ -167,6 +171,7 @@ impl Halves {
         }
     }
 
+    /// The job unmounts from its trigger, or tells that its program failed.
     fn umount_from(
         &mut self,
         alloc: Global,
@@ -204,6 +209,7 @@ impl Halves {
         }
     }
 
+    /// The job removes its directory.
     fn remove_directory(
         &mut self,
         alloc: Global,
@@ -225,6 +231,7 @@ impl Halves {
         }
     }
 
+    /// The job writes into the daemon's book.
     fn write_down(
         &mut self,
         alloc: Global,
@@ -244,6 +251,7 @@ impl Halves {
         Ok(Answer::DidRecord)
     }
 
+    /// The job acknowledges its packet, and ends.
     fn reply(&mut self, alloc: Global, turn: &Turn, status: Status) -> Result<Answer, Errno>
         requires { IsNext turn.now (deed.Reply status) (daemon_of self.old.daemon) }
         ensures { Goes (reply_by (answer_refusal self.old.kernel turn.now.attach turn.now.job)
