@@ -1,5 +1,6 @@
 pub mod Basics
 pub mod LeaveLemmas
+pub mod LeftOutLemmas
 pub mod NameStored
 pub mod Cuts
 pub mod Puts
