@@ -1,19 +1,14 @@
 -- What the peer groups keep.
-use Rattle.std.specs.Prelude.{◌≡◌, ◌≤◌, ◌<◌, ◌+◌, ◌⊎◌, ℕ, true, List, [], ◌∷◌, Some, is_some}
+use Rattle.std.specs.Prelude.{◌≡◌, ◌≤◌, ◌<◌, ◌⊎◌, ℕ, true, List, Some, is_some}
 use Rattle.am_names.specs.declared.row.MemberRow.{MemberRow}
 use Rattle.am_names.specs.declared.row.GroupRow.{GroupRow}
+pub use Rattle.am_names.specs.Numbers.{RiseBy}
 use Rattle.am_names.specs.PeerGroups.{PeerGroups}
 use Rattle.am_group.specs.Propagation.{member_row, group_row, group_of, master_of_group, slave_in, Receives}
 
 -- the mounts stand in rising order of number, from this one on
 abbrev pub RiseFrom : ℕ → List MemberRow → Type 0
-RiseFrom low [] = Unit {0}
-RiseFrom low (row ∷ rows) = (low ≤ row.mount) × RiseFrom (row.mount + 1) rows
-
--- the rows stand in rising order of their number, from this one on, each number once
-abbrev pub RiseBy : {R : Type 0} → (R → ℕ) → ℕ → List R → Type 0
-RiseBy number low [] = Unit {0}
-RiseBy number low (row ∷ rows) = (low ≤ number row) × RiseBy number (number row + 1) rows
+RiseFrom low rows = RiseBy (λ (row : MemberRow). row.mount) low rows
 
 -- the peer group has a row of its own
 abbrev pub IsGroup : PeerGroups → ℕ → Type 0
