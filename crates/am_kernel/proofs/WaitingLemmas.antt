@@ -7,7 +7,8 @@ use Rattle.std.proofs.lemmas.List.{drop-drop}
 use Rattle.am_kernel.specs.declared.row.WalkRow.{WalkRow}
 use Rattle.am_kernel.specs.Walks.{without_walk}
 use Rattle.am_kernel.specs.Resumes.{walk_in}
-use Rattle.am_kernel.specs.WalkTable.{is_among, IsSingle}
+use Rattle.am_names.specs.Numbers.{is_among}
+use Rattle.am_kernel.specs.WalkTable.{IsSingle}
 
 same_number : (a b : ℕ) → (a == b) ≡ true → a ≡ b
 same_number a b e = (Decides-eqb a b).0 e
@@ -154,13 +155,13 @@ none_there w rows e = none_taken w rows (no_place w rows (not_there _ _ e))
 flipped : (a b : ℕ) → nat_eq a b ≡ (b == a)
 flipped a b = grind (arith, nat_tests)
 
-pub asked : (w : ℕ) (walkers : List ℕ) → list_any (nat_eq w) walkers ≡ is_among w walkers
+pub asked : (w : ℕ) (walkers : List ℕ) → list_any (nat_eq w) walkers ≡ is_among walkers w
 asked w [] = refl
 asked w (other ∷ walkers) = rw (flipped w other, asked w walkers) refl
 
 same_test : (a b : ℕ) → nat_eq a b ≡ (a == b)
 same_test a b = grind (arith, nat_tests)
 
-pub among_others : (w other : ℕ) (old new : List ℕ) → list_any (nat_eq other) new ≡ cond (nat_eq w other) false (list_any (nat_eq other) old) → is_among other new ≡ cond (w == other) false (is_among other old)
+pub among_others : (w other : ℕ) (old new : List ℕ) → list_any (nat_eq other) new ≡ cond (nat_eq w other) false (list_any (nat_eq other) old) → is_among new other ≡ cond (w == other) false (is_among old other)
 among_others w other old new h =
     sym (asked other new) ∙ h ∙ ap (λ (b : Bool). cond b false (list_any (nat_eq other) old)) (same_test w other) ∙ ap (cond (w == other) false) (asked other old)
