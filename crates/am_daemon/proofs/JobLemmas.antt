@@ -5,8 +5,8 @@ use Rattle.std.specs.List.{position_or_len}
 use Rattle.std.specs.Option.{option_map}
 use Rattle.std.proofs.Math.Seq.{take-append_seam}
 use Rattle.std.proofs.lemmas.Bool.{ltb-true, le-ltb}
-use Rattle.std.proofs.lemmas.Bool.Decides.{nat_tests}
 use Rattle.std.proofs.lemmas.Option.{cond_some}
+use Rattle.am_names.proofs.Basics.{equal_by_test, differ_the_other_way}
 use Rattle.am_names.proofs.Cuts.{passes_on}
 use Rattle.am_names.specs.declared.trigger.Trigger.{Trigger}
 use Rattle.am_job.specs.declared.act.Outcome.{Outcome}
@@ -86,13 +86,13 @@ stands_at jobs job at d e =
     subst (λ (i : ℕ). StandsAt jobs job i (get_or jobs i d)) h.1 (first_stands jobs job d (ltb-true _ _ h.0))
 
 -- where there is no place all jobs stay
-pub nowhere : (jobs : List JobPlan) (job : ℕ) (outcome : Outcome) → position (λ row. row.token == job) jobs ≡ None → jobs ≡ finished_in job outcome jobs
-nowhere [] job outcome e = refl
-nowhere (row ∷ jobs) job outcome e =
+pub finished_in-none : (jobs : List JobPlan) (job : ℕ) (outcome : Outcome) → position (λ row. row.token == job) jobs ≡ None → jobs ≡ finished_in job outcome jobs
+finished_in-none [] job outcome e = refl
+finished_in-none (row ∷ jobs) job outcome e =
     let place : ℕ = position_or_len (λ other. other.token == job) jobs in
     let h = passes_on (row.token == job) place (length jobs) e in
     let further : position (λ other. other.token == job) jobs ≡ None = rw (le-ltb place (length jobs) h.1) refl in
-    rw h.0 (ap (λ (others : List JobPlan). row ∷ others) (nowhere jobs job outcome further))
+    rw h.0 (ap (λ (others : List JobPlan). row ∷ others) (finished_in-none jobs job outcome further))
 
 -- any job
 abbrev pub no_job : JobPlan
@@ -109,27 +109,21 @@ written_back {A} new old len e = ap (λ (n : ℕ). take n (new ++ drop (length n
 
 -- ---- the other jobs
 
-same_number : (a b : ℕ) → (a == b) ≡ true → a ≡ b
-same_number a b e = grind (arith, nat_tests, e)
-
-other_way : (a b : ℕ) → (b == a) ≡ false → (a == b) ≡ false
-other_way a b e = grind (arith, nat_tests, e)
-
 passed_over : (row : JobPlan) (jobs : List JobPlan) (j : ℕ) → (row.token == j) ≡ false → job_of (row ∷ jobs) j ≡ job_of jobs j
 passed_over row jobs j differs = rw differs refl
 
 found_behind : (row : JobPlan) (old new : List JobPlan) (j : ℕ) → job_of new j ≡ job_of old j → job_of (row ∷ new) j ≡ job_of (row ∷ old) j
 found_behind row old new j e = ap (λ (found : Option JobPlan). cond (row.token == j) (Some row) found) e
 
-not_here : (row : JobPlan) (jobs : List JobPlan) (job j : ℕ) (outcome : Outcome) → (row.token == j) ≡ false → (b : Bool) → job_of (cond b jobs (walked outcome row ∷ jobs)) j ≡ job_of jobs j
-not_here row jobs job j outcome differs true = refl
-not_here row jobs job j outcome differs false = rw differs refl
+going_leaves_others : (row : JobPlan) (jobs : List JobPlan) (job j : ℕ) (outcome : Outcome) → (row.token == j) ≡ false → (b : Bool) → job_of (cond b jobs (walked outcome row ∷ jobs)) j ≡ job_of jobs j
+going_leaves_others row jobs job j outcome differs true = refl
+going_leaves_others row jobs job j outcome differs false = rw differs refl
 
 other_stays : (row : JobPlan) (jobs : List JobPlan) (job j : ℕ) (outcome : Outcome) → (j == job) ≡ false → job_of (finished_in job outcome jobs) j ≡ job_of jobs j → (b : Bool) → (row.token == job) ≡ b →
     job_of (finished_in job outcome (row ∷ jobs)) j ≡ job_of (row ∷ jobs) j
 other_stays row jobs job j outcome other later true e =
-    let differs : (row.token == j) ≡ false = ap (λ (n : ℕ). n == j) (same_number row.token job e) ∙ other_way job j other in
-    rw e (not_here row jobs job j outcome differs (is_ended (walked outcome row)) ∙ sym (passed_over row jobs j differs))
+    let differs : (row.token == j) ≡ false = ap (λ (n : ℕ). n == j) (equal_by_test row.token job e) ∙ differ_the_other_way j job other in
+    rw e (going_leaves_others row jobs job j outcome differs (is_ended (walked outcome row)) ∙ sym (passed_over row jobs j differs))
 other_stays row jobs job j outcome other later false e = rw e (found_behind row jobs (finished_in job outcome jobs) j later)
 
 pub others_stay : (jobs : List JobPlan) (job : ℕ) (outcome : Outcome) → OthersStay job jobs (finished_in job outcome jobs)

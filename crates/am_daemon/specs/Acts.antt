@@ -1,4 +1,4 @@
--- The daemon's jobs go on, act by act.
+-- The daemon's jobs go on, act by act (autofs.rst, "Communicating with autofs: the event pipe").
 use Rattle.std.specs.Prelude.{◌≡◌, ℕ, ◌==◌, Bool, false, not, is_some, List, [], ◌∷◌, Option, Some, None, if◌then◌else◌}
 use Rattle.am_names.specs.declared.errno.Errno.{Errno}
 use Rattle.am_names.specs.declared.errno.Errno.TheVariants.{EPERM, EINVAL}
@@ -13,6 +13,7 @@ use Rattle.am_daemon.specs.Attachments.{holds}
 use Rattle.am_daemon.specs.Deliveries.{job_of}
 use Rattle.am_daemon.specs.State.{DaemonState, JobPlan}
 
+-- the act of the job, if there is one, that comes next
 abbrev pub next_in : Option JobPlan → Option Act
 next_in None = None
 next_in (Some row) = next_of row.plan
@@ -43,8 +44,10 @@ takes_memory (Some writing) = is_some writing.entry
 -- who writes into the book holds the job's attachment
 abbrev pub writing_refusal : Option Writing → JobPlan → DaemonState → Option Errno
 writing_refusal None row d = None
-writing_refusal (Some writing) row d = if holds d row.trigger.fs row.attach then None else Some EPERM
+writing_refusal (Some writing) row d =
+    if holds d row.trigger.fs row.attach then None else Some EPERM
 
+-- there is a job, and it may write what its next act writes
 abbrev pub refusal_in : Option JobPlan → DaemonState → Option Errno
 refusal_in None d = Some EINVAL
 refusal_in (Some row) d = writing_refusal (writes (next_of row.plan)) row d
@@ -53,6 +56,7 @@ refusal_in (Some row) d = writing_refusal (writes (next_of row.plan)) row d
 abbrev pub finish_refusal : ℕ → DaemonState → Option Errno
 finish_refusal job d = refusal_in (job_of d.jobs job) d
 
+-- the book after this was written
 abbrev pub book_after : Option Writing → List RecordRow → List RecordRow
 book_after None book = book
 book_after (Some writing) book = recorded writing.trigger writing.entry book

@@ -1,4 +1,5 @@
--- The daemon takes a packet from the pipe (autofs.rst, "Communicating with autofs: the event pipe").
+-- The daemon takes a packet from the pipe (autofs.rst, "Communicating with autofs: the event
+-- pipe").
 use Rattle.std.specs.Prelude.{◌≡◌, ℕ, ◌==◌, Bool, ◌||◌, not, is_some, List, [], ◌∷◌, ◌++◌, Option, Some, None, Result, Ok, Err, find, if◌then◌else◌}
 use Rattle.am_names.specs.declared.trigger.Trigger.{Trigger}
 use Rattle.am_wire.specs.declared.fault.WireFault.{WireFault}
@@ -16,6 +17,7 @@ use Rattle.am_daemon.specs.Faults.{FaultsAs}
 use Rattle.am_daemon.specs.Packets.{trigger_of, plan_of_packet, pending_of, is_pending}
 use Rattle.am_daemon.specs.State.{DaemonState, JobPlan}
 
+-- the job of this token
 abbrev pub job_of : List JobPlan → ℕ → Option JobPlan
 job_of jobs job = find (λ row. row.token == job) jobs
 
@@ -39,7 +41,12 @@ told plan trigger entry book = if is_reply plan then book else recorded trigger 
 -- the job of a packet
 abbrev pub job_for : ℕ → Packet → DaemonState → JobPlan
 job_for attach packet d =
-    record { token = packet.token; attach = attach; trigger = trigger_of packet; plan = plan_of_packet d packet }
+    record {
+      token = packet.token;
+      attach = attach;
+      trigger = trigger_of packet;
+      plan = plan_of_packet d packet;
+    }
 
 -- a job begins, the last, and the book says so
 abbrev pub taken_up : ℕ → Packet → DaemonState → DaemonState
@@ -62,13 +69,16 @@ reading_fault attach (Ok packet) d = delivery_fault attach packet d
 reading_fault attach (Err fault) d = Some (Wire fault)
 
 -- a job of the packet's token has begun, or nothing has changed
-abbrev pub IsTakenUp : ℕ → Result Packet WireFault → DaemonState → Result ℕ DaemonFault → DaemonState → Type 0
-IsTakenUp attach (Ok packet) old (Ok job) new = (job ≡ packet.token) × (new ≡ taken_up attach packet old)
+abbrev pub IsTakenUp : ℕ → Result Packet WireFault → DaemonState → Result ℕ DaemonFault →
+    DaemonState → Type 0
+IsTakenUp attach (Ok packet) old (Ok job) new =
+    (job ≡ packet.token) × (new ≡ taken_up attach packet old)
 IsTakenUp attach (Err fault) old (Ok job) new = ⊥
 IsTakenUp attach read old (Err fault) new = new ≡ old
 
 -- what comes of bytes
-pub record IsDelivered (attach : ℕ) (bytes : List ℕ) (old : DaemonState) (outcome : Result ℕ DaemonFault) (new : DaemonState) : Type 0 where
+pub record IsDelivered (attach : ℕ) (bytes : List ℕ) (old : DaemonState)
+    (outcome : Result ℕ DaemonFault) (new : DaemonState) : Type 0 where
   pub read : Result Packet WireFault
   pub is_read : IsReadAs read bytes
   pub fault : FaultsAs (reading_fault attach read old) outcome

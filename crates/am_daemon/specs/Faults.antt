@@ -1,4 +1,5 @@
--- Why nothing comes of a packet, and the order of the tests.
+-- Why nothing comes of a packet, and the order of the tests: own choice (docs/DECISIONS.md, "A
+-- script sees one error for each packet that isn't taken up").
 use Rattle.std.specs.Prelude.{◌≡◌, ℕ, Option, Some, None, Result, Ok, Err}
 use Rattle.am_daemon.specs.declared.fault.DaemonFault.{DaemonFault}
 use Rattle.am_daemon.specs.declared.fault.DaemonFault.TheVariants.{Wire, UnknownFs, OldAttach, Busy, NoMemory}

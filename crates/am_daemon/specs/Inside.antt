@@ -1,4 +1,5 @@
--- What the fields stand for, and the room in them.
+-- What the fields of the daemon stand for, and the room in them: own choice (docs/DECISIONS.md,
+-- "`am_daemon` keeps a job as `am_job` has it").
 use Rattle.std.specs.Prelude.{◌-◌, min, map, vec_len, vec_capacity}
 use Rattle.am_daemon.specs.declared.daemon.Daemon.TheInside.{Inside}
 use Rattle.am_daemon.specs.Attachments.{AreOnce}

@@ -1,4 +1,4 @@
--- What is lent of the daemon's parts.
+-- What is lent of the daemon's parts: own choice, so that a line is looked up in place.
 use Rattle.std.specs.Prelude.{ℕ, List, Option}
 use Rattle.std.specs.Borrow.{Bor}
 use Rattle.std.specs.Option.{option_map}

@@ -15,6 +15,7 @@ use Rattle.am_job.specs.Plans.{Plan, plan_for}
 use Rattle.am_daemon.specs.Points.{entry_of}
 use Rattle.am_daemon.specs.State.{DaemonState}
 
+-- the name in the root of an indirect file system; of a direct one there is none
 abbrev pub name_in : Bool → List ℕ → Option (List ℕ)
 name_in true name = result_ok (name_read name)
 name_in false name = None
@@ -45,6 +46,7 @@ abbrev pub pending : TokenKind → ℕ → Option ℕ → Option Record
 pending Missing token mounted = Some (Mounting token)
 pending Expire token mounted = option_map (λ mount. Unmounting token mount) mounted
 
+-- what the book says of the trigger of a packet while its job goes on
 abbrev pub pending_of : DaemonState → Packet → Option Record
 pending_of d packet = pending (token_kind packet.kind) packet.token (mounted_for d packet)
 

@@ -19,6 +19,7 @@ use Rattle.am_daemon.specs.State.{DaemonState}
 abbrev pub Line : Type 0
 Line = ℕ × (MasterRow × List Row)
 
+-- the line is of a direct map
 abbrev pub is_direct : LinePoint → Bool
 is_direct Direct = true
 is_direct (Indirect names) = false
@@ -37,7 +38,8 @@ has_key path (Indirect names) rows = false
 abbrev pub lines_of : DaemonState → List Line
 lines_of d = enumerate_from 0 (zip d.master d.maps)
 
--- what serves a path: the line whose point it is, else the first `/-` line whose map has it as a key
+-- what serves a path: the line whose point it is, else the first `/-` line whose map has it as a
+-- key
 abbrev pub line_for : DaemonState → List (List ℕ) → Option Line
 line_for d path =
     option_or (find (λ line. has_point path line.1.0.point) (lines_of d))
@@ -68,6 +70,7 @@ abbrev pub key_of : Option (List ℕ) → List (List ℕ) → List ℕ
 key_of (Some name) path = name
 key_of None path = key_text path
 
+-- the entry of a name, or of the path itself, in the map that serves the path, if there is one
 abbrev pub entry_at : DaemonState → Option (List (List ℕ)) → Option (List ℕ) → Option EntryText
 entry_at d None name = None
 entry_at d (Some path) name = entry_for (rows_at d path) (key_of name path)

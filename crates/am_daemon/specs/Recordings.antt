@@ -1,4 +1,5 @@
--- What the daemon writes down as it takes up a packet.
+-- What the daemon writes down as it takes up a packet (autofs.rst, "Communicating with autofs: the
+-- event pipe"; docs/DECISIONS.md, "The daemon records before it replies").
 use Rattle.std.specs.Prelude.{Option, Some, None, if◌then◌else◌}
 use Rattle.am_wire.specs.declared.packet.Packet.{Packet}
 use Rattle.am_job.specs.Plans.{is_reply}

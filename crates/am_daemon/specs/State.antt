@@ -1,4 +1,5 @@
--- The daemon as a value.
+-- The daemon as a value (autofs.rst, "Communicating with autofs: the event pipe"; what it keeps is
+-- an own choice, docs/DECISIONS.md, "The daemon records before it replies").
 use Rattle.std.specs.Prelude.{ℕ, List, [], map}
 use Rattle.am_names.specs.declared.trigger.Trigger.{Trigger}
 use Rattle.am_map.specs.EntryText.{Row}
@@ -18,6 +19,7 @@ pub record JobPlan : Type 0 where
   pub trigger : Trigger
   pub plan : Plan
 
+-- the daemon: what it serves, what it is attached to, what it wrote down, and what it does
 pub record DaemonState : Type 0 where
   -- the lines of the master map, and the rows of the map of each
   pub master : List MasterRow
@@ -43,8 +45,14 @@ pub record DaemonTable : Type 0 where
   -- how many more attachments take no memory
   pub attach_room : ℕ
 
+-- a job that is kept, by the acts that it has left
 abbrev pub job_plan : JobState → JobPlan
-job_plan job = record { token = job.token; attach = job.attach; trigger = job.trigger; plan = plan_of job }
+job_plan job = record {
+  token = job.token;
+  attach = job.attach;
+  trigger = job.trigger;
+  plan = plan_of job;
+}
 
 -- the daemon as what it keeps says
 abbrev pub rows_of : DaemonTable → DaemonState
@@ -59,4 +67,11 @@ rows_of t = record {
 
 -- of this master map and these maps; nothing is attached, and the book is empty
 abbrev pub initial : List MasterRow → List (List Row) → DaemonState
-initial master maps = record { master = master; maps = maps; known = []; held = []; book = []; jobs = [] }
+initial master maps = record {
+  master = master;
+  maps = maps;
+  known = [];
+  held = [];
+  book = [];
+  jobs = [];
+}

@@ -39,7 +39,8 @@ fn write_down(book: &mut Book, writing: &Writing) -> Result<(), Errno>
     ensures refusal { RefusedAs None result }
     ensures lean { takes_memory (Some writing.now) ≡ false → IsOk result }
     ensures ok { OnOk result (book.new.rows ≡ book_after (Some writing.now) book.old.rows) }
-    ensures map { OnOk result (IsRecorded writing.now.trigger writing.now.entry book.old.rows book.new.rows) }
+    ensures map { OnOk result
+        (IsRecorded writing.now.trigger writing.now.entry book.old.rows book.new.rows) }
     ensures err { OnErr result (book.new.rows ≡ book.old.rows) }
 {
     match writing.entry {
@@ -60,8 +61,10 @@ fn place_of(jobs: &[Job], job: JobId) -> Option<usize>
 /// The job at this place has left what comes after its next act. Tells whether that is nothing.
 fn done_at(jobs: &mut [Job], at: usize, outcome: Outcome) -> bool
     requires { at < length jobs.old }
-    ensures rows { (d : JobPlan) → map job_plan jobs.new ≡ set (map job_plan jobs.old) at (walked outcome (get_or (map job_plan jobs.old) at d)) }
-    ensures ended { (d : JobPlan) → result ≡ is_ended (walked outcome (get_or (map job_plan jobs.old) at d)) }
+    ensures rows { (d : JobPlan) → map job_plan jobs.new
+        ≡ set (map job_plan jobs.old) at (walked outcome (get_or (map job_plan jobs.old) at d)) }
+    ensures ended { (d : JobPlan) → result
+        ≡ is_ended (walked outcome (get_or (map job_plan jobs.old) at d)) }
 {
     let row = &mut jobs[at];
     row.done(outcome);
@@ -125,10 +128,13 @@ impl Daemon {
     /// no act is left the job has ended.
     pub fn finish_act(&mut self, job: JobId, outcome: Outcome) -> Result<(), Errno>
         ensures refusal { RefusedAs (finish_refusal job (rows_of self.old)) result }
-        ensures lean { takes_memory (writing_of job (rows_of self.old)) ≡ false → RefusedOnlyAs (finish_refusal job (rows_of self.old)) result }
+        ensures lean { takes_memory (writing_of job (rows_of self.old)) ≡ false →
+            RefusedOnlyAs (finish_refusal job (rows_of self.old)) result }
         ensures ok { OnOk result (rows_of self.new ≡ finished job outcome (rows_of self.old)) }
-        ensures map { OnOk result (IfSome (writing_of job (rows_of self.old)) (λ w. IsRecorded w.trigger w.entry self.old.book self.new.book)) }
-        ensures others { OnOk result (OthersStay job (rows_of self.old).jobs (rows_of self.new).jobs) }
+        ensures map { OnOk result (IfSome (writing_of job (rows_of self.old)) (λ w.
+            IsRecorded w.trigger w.entry self.old.book self.new.book)) }
+        ensures others { OnOk result
+            (OthersStay job (rows_of self.old).jobs (rows_of self.new).jobs) }
         ensures err { OnErr result (rows_of self.new ≡ rows_of self.old) }
     {
         if let Some(errno) = self.finish_refusal(job) {

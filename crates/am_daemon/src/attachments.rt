@@ -107,8 +107,8 @@ impl Daemon {
         Ok(())
     }
 
-    /// The daemon is attached to the file system at this path, for which there is room: it holds this
-    /// attachment to it and no other one, and knows no other path of it.
+    /// The daemon is attached to the file system at this path, for which there is room: it holds
+    /// this attachment to it and no other one, and knows no other path of it.
     pub fn attached_reserved(&mut self, fs: FsId, attach: Attach, path: Place)
         requires { 1 ≤ self.old.attach_room }
         ensures rows { rows_of self.new ≡ with_attachment fs attach path (rows_of self.old) }
@@ -131,8 +131,8 @@ impl Daemon {
         None
     }
 
-    /// The daemon is attached to the file system at this path, which the master map serves: it holds
-    /// this attachment to it and no other one, and knows no other path of it.
+    /// The daemon is attached to the file system at this path, which the master map serves: it
+    /// holds this attachment to it and no other one, and knows no other path of it.
     pub fn attached(
         &mut self,
         alloc: Global,
@@ -141,7 +141,8 @@ impl Daemon {
         path: &Place,
     ) -> Result<(), Errno>
         ensures refusal { RefusedAs (attach_refusal path.now (rows_of self.old)) result }
-        ensures ok { OnOk result (rows_of self.new ≡ with_attachment fs attach path.now (rows_of self.old)) }
+        ensures ok { OnOk result (rows_of self.new
+            ≡ with_attachment fs attach path.now (rows_of self.old)) }
         ensures err { OnErr result (rows_of self.new ≡ rows_of self.old) }
     {
         if let Some(errno) = self.attach_refusal(path) {
@@ -162,8 +163,8 @@ impl Daemon {
         self.held.clear();
     }
 
-    /// The daemon attaches again to a file system: it holds this attachment and no other one, and of
-    /// the file system the book has the mounts that stand, and nothing else
+    /// The daemon attaches again to a file system: it holds this attachment and no other one, and
+    /// of the file system the book has the mounts that stand, and nothing else
     /// (autofs.rst, "Communicating with autofs: detecting the daemon").
     pub fn reattach(
         &mut self,
@@ -172,7 +173,8 @@ impl Daemon {
         standing: &[(Trigger, MountId)],
     ) -> Result<(), Errno>
         ensures refusal { RefusedAs (reattach_refusal fs (rows_of self.old)) result }
-        ensures ok { OnOk result (rows_of self.new ≡ reattached fs attach standing.now (rows_of self.old)) }
+        ensures ok { OnOk result (rows_of self.new
+            ≡ reattached fs attach standing.now (rows_of self.old)) }
         ensures err { OnErr result (rows_of self.new ≡ rows_of self.old) }
     {
         if !self.knows(fs) {

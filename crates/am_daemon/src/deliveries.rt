@@ -25,7 +25,8 @@ use std::alloc::{AllocError, Global};
 fn tell(book: &mut Book, job: &Job, pending: Option<Record>)
     requires { 1 ≤ book.old.room }
     ensures rows { book.new.rows ≡ told (plan_of job.now) job.now.trigger pending book.old.rows }
-    ensures map { is_reply (plan_of job.now) ≡ false → IsRecorded job.now.trigger pending book.old.rows book.new.rows }
+    ensures map { is_reply (plan_of job.now) ≡ false →
+        IsRecorded job.now.trigger pending book.old.rows book.new.rows }
 {
     if job.is_reply() {
         return;
@@ -44,8 +45,10 @@ fn begin(
     pending: Option<Record>,
 ) -> Result<(), Errno>
     ensures refusal { RefusedAs None result }
-    ensures ok { OnOk result (book.new.rows ≡ told (plan_of job) job.trigger pending book.old.rows) }
-    ensures map { OnOk result (is_reply (plan_of job) ≡ false → IsRecorded job.trigger pending book.old.rows book.new.rows) }
+    ensures ok { OnOk result (book.new.rows
+        ≡ told (plan_of job) job.trigger pending book.old.rows) }
+    ensures map { OnOk result (is_reply (plan_of job) ≡ false →
+        IsRecorded job.trigger pending book.old.rows book.new.rows) }
     ensures last { OnOk result (jobs.new.items ≡ jobs.old.items ++ job ∷ []) }
     ensures err { OnErr result (book.new.rows ≡ book.old.rows) }
     ensures same { OnErr result (jobs.new.items ≡ jobs.old.items) }
@@ -127,10 +130,17 @@ impl Daemon {
     ) -> Result<JobId, DaemonFault>
         ensures fault { FaultsAs (delivery_fault attach packet.now (rows_of self.old)) result }
         ensures job { IfOk result (λ job. job ≡ packet.now.token) }
-        ensures ok { OnOk result (rows_of self.new ≡ taken_up attach packet.now (rows_of self.old)) }
-        ensures pending { OnOk result (is_reply (plan_of_packet (rows_of self.old) packet.now) ≡ false → IsRecorded (trigger_of packet.now) (pending_of (rows_of self.old) packet.now) self.old.book self.new.book) }
-        ensures acknowledges { OnOk result (AcknowledgesLast (plan_of_packet (rows_of self.old) packet.now)) }
-        ensures records { OnOk result (IsTrue (is_reply (plan_of_packet (rows_of self.old) packet.now)) ⊎ RecordsFirst (plan_of_packet (rows_of self.old) packet.now)) }
+        ensures ok { OnOk result (rows_of self.new
+            ≡ taken_up attach packet.now (rows_of self.old)) }
+        ensures pending { OnOk result
+            (is_reply (plan_of_packet (rows_of self.old) packet.now) ≡ false →
+            IsRecorded (trigger_of packet.now) (pending_of (rows_of self.old) packet.now)
+            self.old.book self.new.book) }
+        ensures acknowledges { OnOk result
+            (AcknowledgesLast (plan_of_packet (rows_of self.old) packet.now)) }
+        ensures records { OnOk result
+            (IsTrue (is_reply (plan_of_packet (rows_of self.old) packet.now))
+            ⊎ RecordsFirst (plan_of_packet (rows_of self.old) packet.now)) }
         ensures err { OnErr result (rows_of self.new ≡ rows_of self.old) }
     {
         if let Some(fault) = self.delivery_fault(attach, packet) {

@@ -63,7 +63,8 @@ fn look_up(
     name: &Option<Name>,
 ) -> Result<Option<Entry>, AllocError>
     requires { IsCanonical path.now }
-    ensures { IfOk result (λ entry. entry ≡ entry_for map.now (key_of name.now (names_of path.now))) }
+    ensures { IfOk result (λ entry.
+        entry ≡ entry_for map.now (key_of name.now (names_of path.now))) }
 {
     match name {
         Some(name) => map.look_up(alloc, name.as_bytes()),
@@ -75,7 +76,8 @@ impl Daemon {
     /// The line of the master whose point is this path, and its map.
     fn line_at(&self, path: &[u8]) -> Option<(usize, (&MasterEntry, &Map))>
         requires { IsCanonical path.now }
-        ensures { line_in result ≡ find (λ line. has_point (names_of path.now) line.1.0.point) (lines_of (rows_of self.now)) }
+        ensures { line_in result ≡ find (λ line. has_point (names_of path.now) line.1.0.point)
+            (lines_of (rows_of self.now)) }
     {
         self.master
             .entries()
@@ -88,7 +90,9 @@ impl Daemon {
     /// The first `/-` line whose map has this path as a key, and that map.
     fn line_with_key(&self, path: &[u8]) -> Option<(usize, (&MasterEntry, &Map))>
         requires { IsCanonical path.now }
-        ensures { line_in result ≡ find (λ line. has_key (names_of path.now) line.1.0.point line.1.1) (lines_of (rows_of self.now)) }
+        ensures { line_in result
+            ≡ find (λ line. has_key (names_of path.now) line.1.0.point line.1.1)
+            (lines_of (rows_of self.now)) }
     {
         self.master
             .entries()
@@ -136,7 +140,8 @@ impl Daemon {
     /// The map that serves a path.
     fn map_at(&self, path: &[u8]) -> Option<&Map>
         requires { IsCanonical path.now }
-        ensures { option_map_or (λ map. map.now) result [] ≡ rows_at (rows_of self.now) (names_of path.now) }
+        ensures { option_map_or (λ map. map.now) result []
+            ≡ rows_at (rows_of self.now) (names_of path.now) }
     {
         let (_entry, (_line, map)) = self.line_for(path)?;
         Some(map)
@@ -159,7 +164,8 @@ impl Daemon {
         name: &Option<Name>,
     ) -> Result<Option<Entry>, AllocError>
         requires { IsCanonical path.now }
-        ensures { IfOk result (λ entry. entry ≡ entry_at (rows_of self.now) (Some (names_of path.now)) name.now) }
+        ensures { IfOk result (λ entry.
+            entry ≡ entry_at (rows_of self.now) (Some (names_of path.now)) name.now) }
     {
         match self.map_at(path) {
             Some(map) => look_up(alloc, map, path, name),

@@ -22,4 +22,3 @@ pub mod TableLemmas
 pub mod ReceiverLemmas
 pub mod EarlyLemmas
 pub mod UnderLemmas
-pub mod BeyondLemmas

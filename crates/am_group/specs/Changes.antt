@@ -2,6 +2,7 @@
 -- group leaves.
 use Rattle.std.specs.Prelude.{◌==◌, ◌||◌, ◌+◌, ℕ, zero, suc, Bool, true, false, not, List, [], ◌∷◌, ◌++◌, map, filter, find, Option, Some, None, if◌then◌else◌}
 use Rattle.std.specs.List.{list_any}
+pub use Rattle.am_names.specs.Numbers.{is_among}
 use Rattle.am_names.specs.declared.row.MemberRow.{MemberRow}
 use Rattle.am_names.specs.declared.row.GroupRow.{GroupRow}
 use Rattle.am_names.specs.PeerGroups.{PeerGroups}
@@ -138,10 +139,6 @@ changed MakeShared = made_shared
 changed MakeSlave = made_slave
 changed MakePrivate = made_private
 changed MakeUnbindable = made_unbindable
-
--- the mount is one of these
-abbrev pub is_among : List ℕ → ℕ → Bool
-is_among ms m = list_any (λ x. x == m) ms
 
 -- the mounts that the test keeps are left
 abbrev pub with_only : (ℕ → Bool) → PeerGroups → PeerGroups

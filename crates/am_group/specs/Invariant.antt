@@ -1,14 +1,10 @@
 -- What the peer groups keep (sharedsubtree.rst, 5a). That numbers rise is own choice.
-use Rattle.std.specs.Prelude.{◌≡◌, ◌≤◌, ◌<◌, ◌+◌, ◌⊎◌, ℕ, true, List, [], ◌∷◌, Some, is_some}
+use Rattle.std.specs.Prelude.{◌≡◌, ◌≤◌, ◌<◌, ◌⊎◌, ℕ, true, List, Some, is_some}
 use Rattle.am_names.specs.declared.row.MemberRow.{MemberRow}
 use Rattle.am_names.specs.declared.row.GroupRow.{GroupRow}
+pub use Rattle.am_names.specs.Numbers.{RiseBy}
 use Rattle.am_names.specs.PeerGroups.{PeerGroups}
 use Rattle.am_group.specs.Propagation.{member_row, group_row, group_of, master_of_group, slave_in, Receives}
-
--- the rows stand in rising order of their number, from this one on, each number once
-abbrev pub RiseBy : {R : Type 0} → (R → ℕ) → ℕ → List R → Type 0
-RiseBy number low [] = Unit {0}
-RiseBy number low (row ∷ rows) = (low ≤ number row) × RiseBy number (number row + 1) rows
 
 -- the mounts stand in rising order of number, from this one on
 abbrev pub RiseFrom : ℕ → List MemberRow → Type 0

@@ -1,4 +1,5 @@
--- The daemon's book: a finite map from triggers to records, in order of making.
+-- The daemon's table of mounts, its book, a finite map from triggers to records in order of
+-- making: own choice (docs/DECISIONS.md, "The daemon records before it replies").
 use Rattle.std.specs.Prelude.{◌≡◌, ℕ, ◌==◌, not, List, [], ◌∷◌, ◌++◌, map, filter, Option, Some, None, find, if◌then◌else◌}
 use Rattle.std.specs.List.{list_any}
 use Rattle.std.specs.Option.{option_map}
@@ -7,11 +8,15 @@ use Rattle.am_names.specs.declared.trigger.Trigger.{Trigger}
 use Rattle.am_state.specs.declared.daemon_row.Record.{Record}
 use Rattle.am_state.specs.declared.daemon_row.RecordRow.{RecordRow}
 
+-- the record of the trigger, if the book has one
 abbrev pub record_of : List RecordRow → Trigger → Option Record
-record_of book trigger = option_map (λ row. row.entry) (find (λ row. same_trigger row.trigger trigger) book)
+record_of book trigger =
+    option_map (λ row. row.entry) (find (λ row. same_trigger row.trigger trigger) book)
 
+-- the row with this record, if it is the trigger's
 abbrev pub record_row : Trigger → Record → RecordRow → RecordRow
-record_row trigger entry row = if same_trigger row.trigger trigger then record row { entry = entry } else row
+record_row trigger entry row =
+    if same_trigger row.trigger trigger then record row { entry = entry } else row
 
 -- the record of the trigger is this one
 abbrev pub with_record : Trigger → Record → List RecordRow → List RecordRow
@@ -20,6 +25,7 @@ with_record trigger entry book =
     then map (record_row trigger entry) book
     else book ++ (record { trigger = trigger; entry = entry }) ∷ []
 
+-- no record of the trigger
 abbrev pub without_record : Trigger → List RecordRow → List RecordRow
 without_record trigger book = filter (λ row. not (same_trigger row.trigger trigger)) book
 

@@ -1,4 +1,5 @@
--- What is true of each plan.
+-- What is true of each plan (autofs.rst, "Communicating with autofs: root directory ioctls";
+-- docs/DECISIONS.md, "The daemon records before it replies").
 use Rattle.std.specs.Prelude.{◌≡◌, ◌⊎◌, ⊤, ℕ, Option, Some, None, if◌then◌else◌}
 use Rattle.am_job.specs.declared.act.Act.{Act}
 use Rattle.am_job.specs.declared.act.Act.TheVariants as act
@@ -6,6 +7,7 @@ use Rattle.am_job.specs.declared.act.Outcome.{Outcome}
 use Rattle.am_job.specs.declared.act.Outcome.TheVariants.{Done, Made}
 use Rattle.am_job.specs.Plans.{Plan, Ended, Next, is_reply, claims}
 
+-- no act is left
 abbrev pub IsEnded : Plan → Type 0
 IsEnded Ended = ⊤
 IsEnded (Next a rest) = ⊥
@@ -37,6 +39,7 @@ ClaimsFollow (act.Record trigger entry) outcome before rest = ⊤
 ClaimsFollow (act.Reply status) outcome before rest = ⊤
 ClaimsFollow a outcome before rest = claims rest ≡ mounted_after a outcome before
 
+-- after each act, whatever comes of it, what is claimed follows
 abbrev pub ClaimsRight : Plan → Type 0
 ClaimsRight Ended = ⊤
 ClaimsRight (Next a rest) =

@@ -1,5 +1,5 @@
--- What a daemon does for one packet: a finite tree of acts, with a branch for each outcome of an act
--- (autofs.rst, "Communicating with autofs: the event pipe").
+-- What a daemon does for one packet: a finite tree of acts, with a branch for each outcome of an
+-- act (autofs.rst, "Communicating with autofs: the event pipe").
 use Rattle.std.specs.Prelude.{ℕ, Bool, true, false, List, Option, Some, None}
 use Rattle.am_names.specs.declared.fail_no.FailNo.{FailNo}
 use Rattle.am_names.specs.declared.fail_no.FailNo.TheVariants.{ENOENT}
@@ -39,8 +39,8 @@ followed_by a rest = Next a (λ outcome. rest)
 abbrev pub reply : Status → Plan
 reply status = followed_by (act.Reply status) Ended
 
--- the book is written first, and then the notification is acknowledged, so that no walker is released
--- before the book is right
+-- the book is written first, and then the notification is acknowledged, so that no walker is
+-- released before the book is right
 abbrev pub book_and_reply : Trigger → Option Record → Status → Plan
 book_and_reply trigger entry status = followed_by (act.Record trigger entry) (reply status)
 
@@ -115,21 +115,23 @@ expire_plan trigger None = reply (Fail ENOENT)
 
 -- ---- the plan for a packet
 
--- by the kind of its token, what the book says to be mounted on its trigger, and the entry of its key
+-- by the kind of its token, what the book says to be mounted on its trigger, and the entry of its
+-- key
 abbrev pub plan_for : TokenKind → Trigger → Option ℕ → Option EntryText → Plan
 plan_for Missing trigger mounted entry = missing_plan trigger mounted entry
 plan_for Expire trigger mounted entry = expire_plan trigger mounted
 
 -- ---- what the acts that are left claim to be mounted on the trigger, at the daemon's mount
 
+-- the mount that a record names
 abbrev pub mount_in : Option Record → Option ℕ
 mount_in None = None
 mount_in (Some (Mounting token)) = None
 mount_in (Some (Mounted mount)) = Some mount
 mount_in (Some (Unmounting token mount)) = Some mount
 
--- nothing before a mount, what an unmount takes while it hasn't come, and else what is to be written
--- down
+-- nothing before a mount, what an unmount takes while it hasn't come, and else what is to be
+-- written down
 abbrev pub claims : Plan → Option ℕ
 claims Ended = None
 claims (Next (act.Mkdir trigger) rest) = None
@@ -141,6 +143,7 @@ claims (Next (act.Reply status) rest) = None
 
 -- ---- a plan that is a reply alone: the record stays
 
+-- the next act acknowledges the notification
 abbrev pub is_reply : Plan → Bool
 is_reply Ended = false
 is_reply (Next (act.Reply status) rest) = true

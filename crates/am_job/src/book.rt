@@ -28,7 +28,8 @@ impl Model for Book {
 
 /// The record at this index goes if it is of the file system.
 fn forget_index(records: &mut OrderedMap<Trigger, Record>, index: usize, fs: FsId)
-    ensures entries { IfSome (slice_get records.old.entries index) (λ row. records.new.entries ≡ (if row.0.fs == fs then remove records.old.entries index else records.old.entries)) }
+    ensures entries { IfSome (slice_get records.old.entries index) (λ row. records.new.entries
+        ≡ (if row.0.fs == fs then remove records.old.entries index else records.old.entries)) }
     ensures room { records.old.room ≤ records.new.room }
 {
     if let Some((trigger, _)) = records.get_index(index) {
@@ -40,7 +41,8 @@ fn forget_index(records: &mut OrderedMap<Trigger, Record>, index: usize, fs: FsI
 
 /// The records of the file system go, the last first.
 fn forget_fs(records: &mut OrderedMap<Trigger, Record>, fs: FsId)
-    ensures entries { records.new.entries ≡ filter (λ row. not (row.0.fs == fs)) records.old.entries }
+    ensures entries { records.new.entries
+        ≡ filter (λ row. not (row.0.fs == fs)) records.old.entries }
     ensures room { records.old.room ≤ records.new.room }
 {
     let mut left = records.len();
@@ -92,6 +94,7 @@ impl Book {
         ensures map { OnOk result (IsRecorded trigger (Some entry) self.old.rows self.new.rows) }
         ensures err { OnErr result (self.new.rows ≡ self.old.rows) }
     {
+        // For the checker alone, which is to know the type of a key's name.
         let _name: Option<Name> = trigger.name;
         self.records.insert(trigger, entry)?;
         Ok(())
@@ -115,6 +118,7 @@ impl Book {
         ensures map { IsRecorded trigger (Some entry) self.old.rows self.new.rows }
         ensures room { self.old.room ≤ self.new.room + 1 }
     {
+        // For the checker alone, which is to know the type of a key's name.
         let _name: Option<Name> = trigger.name;
         self.records.insert_reserved(trigger, entry);
     }

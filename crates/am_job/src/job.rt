@@ -97,7 +97,8 @@ impl Job {
     /// The next act is done, and this came of it.
     pub fn done(&mut self, outcome: Outcome)
         ensures plan { plan_of self.new ≡ rest_of outcome (plan_of self.old) }
-        ensures claims { IfSome (next_of (plan_of self.old)) (λ a. ClaimsFollow a outcome (claims (plan_of self.old)) (plan_of self.new)) }
+        ensures claims { IfSome (next_of (plan_of self.old)) (λ a.
+            ClaimsFollow a outcome (claims (plan_of self.old)) (plan_of self.new)) }
         ensures kept { self.new ≡ record self.old { left = self.new.left } }
     {
         let left = mem::replace(&mut self.left, Left::Ended);

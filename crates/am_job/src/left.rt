@@ -59,7 +59,8 @@ fn book_and_reply(trigger: &Trigger, entry: Option<Record>, status: Status) -> L
 
 /// The directory of an indirect trigger goes, and then it is written down that nothing is mounted.
 fn without_directory(trigger: &Trigger, status: Status) -> Left
-    ensures { plan_left trigger.now result ≡ at_directory trigger.now.name (acts.Rmdir trigger.now) (book_and_reply trigger.now None status) }
+    ensures { plan_left trigger.now result ≡ at_directory trigger.now.name
+        (acts.Rmdir trigger.now) (book_and_reply trigger.now None status) }
 {
     if trigger.name.is_none() {
         return book_and_reply(trigger, None, status);

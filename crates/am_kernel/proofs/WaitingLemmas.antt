@@ -8,7 +8,8 @@ use Rattle.am_names.proofs.Basics.{equal_by_test, none_where_not_some}
 use Rattle.am_kernel.specs.declared.row.WalkRow.{WalkRow}
 use Rattle.am_kernel.specs.Walks.{without_walk}
 use Rattle.am_kernel.specs.Resumes.{walk_in}
-use Rattle.am_kernel.specs.WalkTable.{is_among, IsSingle}
+use Rattle.am_names.specs.Numbers.{is_among}
+use Rattle.am_kernel.specs.WalkTable.{IsSingle}
 
 -- ---- a walker that has no walk
 
@@ -148,13 +149,13 @@ none_there w rows e = none_taken w rows (no_place w rows (false_where_none _ _ e
 nat_eq_the_other_way : (a b : ℕ) → nat_eq a b ≡ (b == a)
 nat_eq_the_other_way a b = grind (arith, nat_tests)
 
-pub list_any_is_among : (w : ℕ) (walkers : List ℕ) → list_any (nat_eq w) walkers ≡ is_among w walkers
+pub list_any_is_among : (w : ℕ) (walkers : List ℕ) → list_any (nat_eq w) walkers ≡ is_among walkers w
 list_any_is_among w [] = refl
 list_any_is_among w (other ∷ walkers) = rw (nat_eq_the_other_way w other, list_any_is_among w walkers) refl
 
 nat_eq_is_eqb : (a b : ℕ) → nat_eq a b ≡ (a == b)
 nat_eq_is_eqb a b = grind (arith, nat_tests)
 
-pub among_others : (w other : ℕ) (old new : List ℕ) → list_any (nat_eq other) new ≡ cond (nat_eq w other) false (list_any (nat_eq other) old) → is_among other new ≡ cond (w == other) false (is_among other old)
+pub among_others : (w other : ℕ) (old new : List ℕ) → list_any (nat_eq other) new ≡ cond (nat_eq w other) false (list_any (nat_eq other) old) → is_among new other ≡ cond (w == other) false (is_among old other)
 among_others w other old new h =
     sym (list_any_is_among other new) ∙ h ∙ ap (λ (b : Bool). cond b false (list_any (nat_eq other) old)) (nat_eq_is_eqb w other) ∙ ap (cond (w == other) false) (list_any_is_among other old)

@@ -1,8 +1,8 @@
 -- The walks of those who wait, as a table, and what its fields keep: own choice, a walker has one
 -- walk.
-use Rattle.std.specs.Prelude.{◌≡◌, ◌≤◌, ℕ, ◌==◌, ◌-◌, Bool, List, [], ◌∷◌, drop, None, is_some, vec_len, vec_capacity}
-use Rattle.std.specs.List.{list_any}
+use Rattle.std.specs.Prelude.{◌≡◌, ◌≤◌, ℕ, ◌-◌, List, [], ◌∷◌, drop, None, is_some, vec_len, vec_capacity}
 use Rattle.indexmap.specs.IndexSet.{spare}
+use Rattle.am_names.specs.Numbers.{is_among}
 use Rattle.am_kernel.specs.declared.row.WalkRow.{WalkRow}
 use Rattle.am_kernel.specs.Resumes.{walk_in}
 use Rattle.am_kernel.specs.declared.walks.Walks.TheInside.{Inside}
@@ -23,10 +23,6 @@ table_of w = record {
   seats = spare w.walkers;
 }
 
--- the walker is one of these
-abbrev pub is_among : ℕ → List ℕ → Bool
-is_among walker walkers = list_any (λ other. other == walker) walkers
-
 -- each walker has one walk at most
 abbrev pub IsSingle : List WalkRow → Type 0
 IsSingle [] = Unit {0}
@@ -34,7 +30,7 @@ IsSingle (row ∷ rows) = (walk_in rows row.walker ≡ None) × IsSingle rows
 
 -- the walkers are those that have a walk
 abbrev pub AreKnown : List ℕ → List WalkRow → Type 0
-AreKnown walkers rows = (walker : ℕ) → is_among walker walkers ≡ is_some (walk_in rows walker)
+AreKnown walkers rows = (walker : ℕ) → is_among walkers walker ≡ is_some (walk_in rows walker)
 
 -- as many rows are over as there are at most; each walker has one walk, and the walkers with a walk
 -- are those that are known

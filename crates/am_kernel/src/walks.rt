@@ -3,9 +3,10 @@
 ghost use Rattle.std.specs.Prelude.{◌≡◌, ◌≤◌, ◌<◌, ◌+◌, ◌==◌, ◌∷◌, ◌++◌, [], ℕ, true, false, cond, drop, length, position, OnOk, vec_len, vec_capacity};
 ghost use Rattle.std.specs.Option.{option_copied};
 ghost use Rattle.indexmap.specs.IndexSet.{spare};
+ghost use Rattle.am_names.specs.Numbers.{is_among};
 ghost use Rattle.am_kernel.specs.Walks.{without_walk};
 ghost use Rattle.am_kernel.specs.Resumes.{walk_in};
-ghost use Rattle.am_kernel.specs.WalkTable.{is_among, IsSingle};
+ghost use Rattle.am_kernel.specs.WalkTable.{IsSingle};
 
 use crate::row::WalkRow;
 use am_names::WalkerId;
@@ -39,7 +40,7 @@ impl Model for Walks {
 
 /// Whether the walker is one of these.
 fn is_among(walkers: &IndexSet<u32>, walker: WalkerId) -> bool
-    ensures { result ≡ is_among walker walkers.now.keys }
+    ensures { result ≡ is_among walkers.now.keys walker }
 {
     walkers.contains(&walker.0)
 }
@@ -48,8 +49,8 @@ fn is_among(walkers: &IndexSet<u32>, walker: WalkerId) -> bool
 fn add_walker(walkers: &mut IndexSet<u32>, walker: WalkerId)
     requires { 0 < spare walkers.old }
     ensures { (other : ℕ) →
-        is_among other walkers.new.keys ≡
-        cond (walker == other) true (is_among other walkers.old.keys) }
+        is_among walkers.new.keys other ≡
+        cond (walker == other) true (is_among walkers.old.keys other) }
 {
     let _added = walkers.insert(walker.0);
 }
@@ -57,8 +58,8 @@ fn add_walker(walkers: &mut IndexSet<u32>, walker: WalkerId)
 /// The walker is among them no longer.
 fn take_walker(walkers: &mut IndexSet<u32>, walker: WalkerId)
     ensures among { (other : ℕ) →
-        is_among other walkers.new.keys ≡
-        cond (walker == other) false (is_among other walkers.old.keys) }
+        is_among walkers.new.keys other ≡
+        cond (walker == other) false (is_among walkers.old.keys other) }
     ensures room { spare walkers.old ≤ spare walkers.new }
 {
     let _taken = walkers.swap_remove(&walker.0);

@@ -1,4 +1,5 @@
--- The lines of a text that are still to be read.
+-- The lines of a text that are still to be read (autofs(5), "SUN FORMAT"; auto.master(5),
+-- "FORMAT").
 use Rattle.std.specs.Prelude.{ℕ, ◌+◌, List, []}
 use Rattle.std.specs.Option.{option_map_or}
 use Rattle.am_lines.specs.declared.lines.Behind.{Behind}

@@ -10,6 +10,7 @@ pub record Line : Type 0 where
   pub number : ℕ
   pub bytes : List ℕ
 
+-- the byte ends a raw line
 abbrev pub is_line_feed : ℕ → Bool
 is_line_feed b = b == 10
 

@@ -1,4 +1,5 @@
--- How far a text is good.
+-- How far a text is good: own choice (docs/DECISIONS.md, "Out of memory in a head is told at a line
+-- that was read").
 use Rattle.std.specs.Prelude.{◌≡◌, ℕ, List, ◌∷◌, ◌++◌}
 use Rattle.std.specs.List.{flat_map}
 use Rattle.am_lines.specs.Lines.{Line, lines_from}

@@ -7,6 +7,7 @@ use Rattle.am_lines.specs.Lines.{Line, lines_from}
 abbrev pub is_blank : ℕ → Bool
 is_blank b = (b == 32) || (b == 9)
 
+-- the byte is a colon
 abbrev pub is_colon : ℕ → Bool
 is_colon b = b == 58
 
@@ -20,6 +21,7 @@ pub record Statement : Type 0 where
   pub first : List ℕ
   pub others : List (List ℕ)
 
+-- the first byte of the word is this one
 abbrev pub begins_with : ℕ → List ℕ → Bool
 begins_with byte [] = Bool.false
 begins_with byte (b ∷ bytes) = b == byte
@@ -31,6 +33,7 @@ statement_of_words number (first ∷ others) =
     if begins_with 35 first then []
     else record { number = number; first = first; others = others } ∷ []
 
+-- what a line says: one statement, or none
 abbrev pub statement_of : Line → List Statement
 statement_of line = statement_of_words line.number (words_of line.bytes)
 

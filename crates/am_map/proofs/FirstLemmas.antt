@@ -11,23 +11,10 @@ use Rattle.am_map.specs.LookUp.{has_key, first_of_each, or_else, entry_for, entr
 use Rattle.am_map.specs.Words.{star}
 use Rattle.am_map.specs.Stored.{row_added}
 use Rattle.am_map.proofs.StoredLemmas.{row_added-there, row_added-new}
-
-same_answers : (r s : Bool) → (r ≡ true → s ≡ true) → (s ≡ true → r ≡ true) → r ≡ s
-same_answers true true f g = refl
-same_answers true false f g = sym (f refl)
-same_answers false true f g = g refl
-same_answers false false f g = refl
+use Rattle.am_names.proofs.Basics.{same_test, true_where_not_false, false_where_not}
 
 bytes_eq-comm : (a b : List ℕ) → bytes_eq a b ≡ bytes_eq b a
-bytes_eq-comm a b = same_answers _ _ (λ e. (bytes_eq-Decides b a).1 (sym ((bytes_eq-Decides a b).0 e))) (λ e. (bytes_eq-Decides a b).1 (sym ((bytes_eq-Decides b a).0 e)))
-
-not_true : (b : Bool) → not b ≡ false → b ≡ true
-not_true true e = refl
-not_true false e = absurd cc
-
-not_false : (b : Bool) → not b ≡ true → b ≡ false
-not_false true e = absurd cc
-not_false false e = refl
+bytes_eq-comm a b = same_test _ _ (λ e. (bytes_eq-Decides b a).1 (sym ((bytes_eq-Decides a b).0 e))) (λ e. (bytes_eq-Decides a b).1 (sym ((bytes_eq-Decides b a).0 e)))
 
 -- a test within a test is one test
 filter_within : (p q r : Row → Bool) → ((row : Row) → q row ≡ true → p row ≡ r row) → ((row : Row) → q row ≡ false → r row ≡ false) → (rows : List Row) → filter p (filter q rows) ≡ filter r rows
@@ -43,7 +30,7 @@ unseen : List Row → Row → Bool
 unseen front row = not (list_any (has_key row.key) front)
 
 same_key : (row other : Row) → not (has_key row.key other) ≡ false → row.key ≡ other.key
-same_key row other e = (bytes_eq-Decides row.key other.key).0 (not_true _ e)
+same_key row other e = (bytes_eq-Decides row.key other.key).0 (true_where_not_false _ e)
 
 -- a row that is seen is not kept
 seen_drops : (front : List Row) (row : Row) → list_any (has_key row.key) front ≡ true → (rows : List Row) → filter (unseen front) (row ∷ filter (λ other. not (has_key row.key other)) rows) ≡ filter (unseen front) rows
@@ -67,14 +54,14 @@ new_hides front row rows = filter_within (unseen front) (λ other. not (has_key 
   where
     within : (other : Row) → not (has_key row.key other) ≡ true → unseen front other ≡ unseen (front ++ row ∷ []) other
     within other e =
-        let differs : has_key other.key row ≡ false = bytes_eq-comm other.key row.key ∙ not_false _ e in
+        let differs : has_key other.key row ≡ false = bytes_eq-comm other.key row.key ∙ false_where_not _ e in
         let same : list_any (has_key other.key) (front ++ row ∷ []) ≡ list_any (has_key other.key) front =
         list_any-append (has_key other.key) front (row ∷ []) ∙ rw differs (or_nothing (list_any (has_key other.key) front)) in
         ap not (sym same)
 
     outside : (other : Row) → not (has_key row.key other) ≡ false → unseen (front ++ row ∷ []) other ≡ false
     outside other e =
-        let same : has_key other.key row ≡ true = bytes_eq-comm other.key row.key ∙ not_true _ e in
+        let same : has_key other.key row ≡ true = bytes_eq-comm other.key row.key ∙ true_where_not_false _ e in
         let seen : list_any (has_key other.key) (front ++ row ∷ []) ≡ true =
         list_any-append (has_key other.key) front (row ∷ []) ∙ rw same (or_something (list_any (has_key other.key) front)) in
         ap not seen

@@ -9,14 +9,7 @@ use Rattle.indexmap.specs.IndexMap.{insert_entry}
 use Rattle.am_map.specs.EntryText.{EntryText, Row}
 use Rattle.am_map.specs.LookUp.{has_key}
 use Rattle.am_map.specs.Stored.{rows_by, row_added}
-
-or_left : (a b : Bool) → (a || b) ≡ false → a ≡ false
-or_left true b h = absurd cc
-or_left false b h = refl
-
-or_right : (a b : Bool) → (a || b) ≡ false → b ≡ false
-or_right true b h = absurd cc
-or_right false b h = h
+use Rattle.am_names.proofs.Basics.{neither_of_or}
 
 module _ {K : Type 0} (bytes : K → List ℕ) where
   -- the index finds a key where a row has it
@@ -34,8 +27,8 @@ module _ {K : Type 0} (bytes : K → List ℕ) where
       rows_by bytes (insert_entry eq pairs k entry) ≡ rows_by bytes pairs ++ record { key = key; entry = entry } ∷ []
   insert_new eq says key [] k entry e none = rw e refl
   insert_new eq says key (pair ∷ pairs) k entry e none =
-      let differs : eq k pair.0 ≡ false = says k pair.0 ∙ ap (λ (b : List ℕ). bytes_eq b (bytes pair.0)) e ∙ or_left _ _ none in
-      rw differs (ap (λ (rows : List Row). record { key = bytes pair.0; entry = pair.1 } ∷ rows) (insert_new eq says key pairs k entry e (or_right _ _ none)))
+      let differs : eq k pair.0 ≡ false = says k pair.0 ∙ ap (λ (b : List ℕ). bytes_eq b (bytes pair.0)) e ∙ (neither_of_or _ _ none).0 in
+      rw differs (ap (λ (rows : List Row). record { key = bytes pair.0; entry = pair.1 } ∷ rows) (insert_new eq says key pairs k entry e (neither_of_or _ _ none).1))
 
 pub row_added-there : (rows : List Row) (row : Row) → list_any (has_key row.key) rows ≡ true → row_added rows row ≡ rows
 row_added-there rows row there = rw there refl

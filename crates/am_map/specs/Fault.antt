@@ -1,4 +1,4 @@
--- The numbers of the faults, and when memory may run out.
+-- The numbers of the faults, and when memory may run out: own choice (docs/FORMATS.md, "Maps").
 use Rattle.std.specs.Prelude.{◌≡◌, ℕ, Result, Err, ⊤}
 use Rattle.am_map.specs.declared.fault.MapFault.{MapFault}
 use Rattle.am_map.specs.declared.fault.MapFaultKind.{MapFaultKind}
@@ -17,5 +17,6 @@ abbrev pub IsFaultOr : MapFaultKind → Type 0 → Type 0
 IsFaultOr NoMemory expected = ⊤
 IsFaultOr kind expected = expected
 
+-- memory ran out, or the fault is the expected one
 abbrev pub IsFaultOf : {T : Type 0} → Result T MapFault → MapFault → Type 0
 IsFaultOf expected fault = IsFaultOr fault.kind (expected ≡ Err fault)

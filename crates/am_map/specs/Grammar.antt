@@ -28,6 +28,7 @@ entry_read (word ∷ words) =
     (if is_options word then entry_with (Some (drop 1 word)) words else Err BadOption)
     else entry_with None (word ∷ words)
 
+-- a row of a key and an entry, or the first fault of the two
 abbrev pub keyed : Result (List ℕ) MapFaultKind → Result EntryText MapFaultKind →
     Result Row MapFaultKind
 keyed (Ok key) (Ok entry) = Ok (record { key = key; entry = entry })
@@ -38,6 +39,7 @@ keyed (Err fault) entry = Err fault
 abbrev pub row_read : MapKind → Statement → Result Row MapFaultKind
 row_read kind line = keyed (key_read kind line.first) (entry_read line.others)
 
+-- a row before others, or the fault of this line, or theirs
 abbrev pub with_row : ℕ → Result Row MapFaultKind → Result (List Row) MapFault →
     Result (List Row) MapFault
 with_row number (Ok row) (Ok rows) = Ok (row ∷ rows)
@@ -53,6 +55,7 @@ rows_read kind (line ∷ lines) = with_row line.number (row_read kind line) (row
 abbrev pub AreRows : MapKind → List Statement → Type 0
 AreRows kind lines = IsOk (rows_read kind lines)
 
+-- of the rows with one key the first, or the fault
 abbrev pub kept : Result (List Row) MapFault → Result (List Row) MapFault
 kept (Ok rows) = Ok (first_of_each rows)
 kept (Err fault) = Err fault

@@ -5,6 +5,7 @@ use Rattle.std.specs.List.{flat_map}
 use Rattle.am_map.specs.EntryText.{EntryText, Row}
 use Rattle.am_map.specs.Words.{star}
 
+-- the row has this key
 abbrev pub has_key : List ℕ → Row → Bool
 has_key key row = bytes_eq key row.key
 
@@ -14,6 +15,7 @@ first_of_each [] = []
 first_of_each (row ∷ rows) =
     row ∷ filter (λ other. not (has_key row.key other)) (first_of_each rows)
 
+-- the first row, if there is one, else the other
 abbrev pub or_else : Option Row → Option Row → Option Row
 or_else (Some row) other = Some row
 or_else None other = other
@@ -34,6 +36,7 @@ entry_with_key key entry = record {
   path = with_key key entry.path;
 }
 
+-- the entry of the row that was found for the key
 abbrev pub entry_of_row : List ℕ → Option Row → Option EntryText
 entry_of_row key None = None
 entry_of_row key (Some row) = Some (entry_with_key key row.entry)

@@ -1,4 +1,5 @@
--- The rows that a map keeps while it is read, for the code alone.
+-- The rows that a map keeps while it is read, for the code alone: own choice (docs/DECISIONS.md,
+-- "A map with a fault is refused as a whole").
 use Rattle.std.specs.Prelude.{ℕ, List, [], ◌∷◌, ◌++◌, map, Result, Ok, Err, if◌then◌else◌}
 use Rattle.std.specs.List.{list_any}
 use Rattle.am_lines.specs.Words.{Statement}
@@ -16,6 +17,7 @@ rows_by bytes pairs = map (λ pair. record { key = bytes pair.0; entry = pair.1 
 abbrev pub row_added : List Row → Row → List Row
 row_added rows row = if list_any (has_key row.key) rows then rows else rows ++ row ∷ []
 
+-- the rows and that of a line, or its fault
 abbrev pub added : List Row → Result Row MapFaultKind → Result (List Row) MapFaultKind
 added rows (Ok row) = Ok (row_added rows row)
 added rows (Err fault) = Err fault

@@ -16,6 +16,7 @@ use Rattle.am_map.specs.declared.kind.MapKind.TheVariants.{Indirect, Direct}
 abbrev pub is_plain_byte : ℕ → Bool
 is_plain_byte b = not (b == 36) && not (b == 34) && not (b == 92) && not (b == 0)
 
+-- each byte of the word is plain
 abbrev pub is_plain : List ℕ → Bool
 is_plain word = list_all is_plain_byte word
 
@@ -33,6 +34,7 @@ abbrev pub key_text : List (List ℕ) → List ℕ
 key_text [] = 47 ∷ []
 key_text (name ∷ names) = text_of (name ∷ names)
 
+-- the key of what was read as a path
 abbrev pub path_key : Result (List (List ℕ)) Errno → Result (List ℕ) MapFaultKind
 path_key (Ok names) = Ok (key_text names)
 path_key (Err e) = Err BadKey
@@ -50,9 +52,11 @@ is_options word = is_plain word && not (length word == 1)
 abbrev pub is_host_byte : ℕ → Bool
 is_host_byte b = not (b == 47) && not (b == 44) && not (b == 40) && not (b == 91)
 
+-- what stands before the first colon
 abbrev pub host_of : List ℕ → List ℕ
 host_of word = before_first is_colon word
 
+-- what stands behind the first colon
 abbrev pub path_of : List ℕ → List ℕ
 path_of word = after_first is_colon word
 

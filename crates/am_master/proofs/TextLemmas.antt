@@ -1,6 +1,5 @@
 -- Texts in an index.
 use Rattle.std.proofs.Common.{◌≡◌, ℕ, Bool, false, ◌||◌, List, [], ◌∷◌, ◌++◌, map, refl, ap, ◌∙◌}
-use Rattle.std.specs.Prelude.{Result, Ok, Err, IsOk, OnOk}
 use Rattle.std.specs.Str.{bytes_eq}
 use Rattle.std.specs.List.{list_any}
 use Rattle.indexmap.specs.IndexSet.{insert_key}
@@ -27,7 +26,3 @@ pub insert_new : {K : Type 0} (keys : List K) (key : K) (bytes : K → List ℕ)
 insert_new keys key bytes eq says text e none =
     let new : list_any (eq key) keys ≡ false = found_as bytes eq says keys key text e ∙ none in
     rw new (last_key bytes keys key text e)
-
-pub held : {T E P : Type 0} (r : Result T E) → IsOk r → OnOk r P → P
-held (Ok x) h p = p
-held (Err e) h p = absurd cc

@@ -1,4 +1,5 @@
--- The numbers of the faults, and when memory may run out.
+-- The numbers of the faults, and when memory may run out: own choice (docs/FORMATS.md, "Master
+-- maps").
 use Rattle.std.specs.Prelude.{◌≡◌, ℕ, Result, Err, ⊤}
 use Rattle.am_master.specs.declared.fault.MasterFault.{MasterFault}
 use Rattle.am_master.specs.declared.fault.MasterFaultKind.{MasterFaultKind}
@@ -18,5 +19,6 @@ abbrev pub IsFaultOr : MasterFaultKind → Type 0 → Type 0
 IsFaultOr NoMemory expected = ⊤
 IsFaultOr kind expected = expected
 
+-- memory ran out, or the fault is the expected one
 abbrev pub IsFaultOf : {T : Type 0} → Result T MasterFault → MasterFault → Type 0
 IsFaultOf expected fault = IsFaultOr fault.kind (expected ≡ Err fault)

@@ -15,6 +15,7 @@ use Rattle.am_master.specs.Words.{point_read, name_read}
 abbrev pub is_taken : List MasterRow → Point → Bool
 is_taken above point = is_listed (texts_of above) point
 
+-- the point, unless a line above has it, or its fault
 abbrev pub once : List MasterRow → Result Point MasterFaultKind → Result Point MasterFaultKind
 once above (Ok point) = if is_taken above point then Err Twice else Ok point
 once above (Err fault) = Err fault
@@ -24,6 +25,7 @@ pub record Served : Type 0 where
   pub map : List ℕ
   pub timeout : ℕ
 
+-- a map with a timeout, or the first fault of the two
 abbrev pub served : Result (List ℕ) MasterFaultKind → Result ℕ MasterFaultKind →
     Result Served MasterFaultKind
 served (Ok map) (Ok timeout) = Ok (record { map = map; timeout = timeout })
@@ -35,6 +37,7 @@ abbrev pub served_read : List (List ℕ) → Result Served MasterFaultKind
 served_read [] = Err NoMap
 served_read (word ∷ options) = served (name_read word) (timeout_read options)
 
+-- the row of a line of this number, or the first fault of its parts
 abbrev pub row_of : ℕ → Result Point MasterFaultKind → Result Served MasterFaultKind →
     Result MasterRow MasterFaultKind
 row_of number (Ok point) (Ok s) =
@@ -47,6 +50,7 @@ abbrev pub row_read : List MasterRow → Statement → Result MasterRow MasterFa
 row_read above line =
     row_of line.number (once above (point_read line.first)) (served_read line.others)
 
+-- what is read below a row, or the fault of this line
 abbrev pub with_row : ℕ → List MasterRow → Result MasterRow MasterFaultKind →
     (List MasterRow → Result (List MasterRow) MasterFault) → Result (List MasterRow) MasterFault
 with_row number above (Ok row) below = below (above ++ row ∷ [])

@@ -1,4 +1,4 @@
--- The mount points that lines have.
+-- The mount points that lines have (auto.master(5), "FORMAT").
 use Rattle.std.specs.Prelude.{ℕ, Bool, false, List, [], ◌∷◌}
 use Rattle.std.specs.Str.{bytes_eq}
 use Rattle.std.specs.List.{list_any, flat_map}

@@ -16,6 +16,7 @@ below_root (Ok []) = Err BadPoint
 below_root (Ok (name ∷ names)) = Ok (name ∷ names)
 below_root (Err e) = Err BadPoint
 
+-- the point at a path, or the path's fault
 abbrev pub indirect : Result (List (List ℕ)) MasterFaultKind → Result Point MasterFaultKind
 indirect (Ok names) = Ok (Indirect names)
 indirect (Err fault) = Err fault
@@ -32,6 +33,7 @@ point_read word = if is_direct word then Ok Direct else indirect (below_root (pa
 abbrev pub is_file : List ℕ → Bool
 is_file type = bytes_eq type (codes "file") || bytes_eq type (codes "file,sun")
 
+-- a name of a map has at least one byte
 abbrev pub some_name : List ℕ → Result (List ℕ) MasterFaultKind
 some_name [] = Err NoMap
 some_name (b ∷ bytes) = Ok (b ∷ bytes)

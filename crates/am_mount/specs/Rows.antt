@@ -2,16 +2,16 @@
 -- at a place is the most recently mounted (sharedsubtree.rst, 5f).
 use Rattle.std.specs.Prelude.{◌≡◌, ◌≤◌, ◌==◌, ◌&&◌, ◌+◌, ℕ, Bool, false, is_none, List, [], ◌∷◌, map, filter, find, Option, Some, None}
 use Rattle.std.specs.Option.{option_map}
-use Rattle.std.specs.List.{list_any}
 use Rattle.std.specs.Cmp.Lexicographic.{pointwise}
 use Rattle.std.specs.Str.{bytes_eq}
+pub use Rattle.am_names.specs.Numbers.{is_among}
+use Rattle.am_names.specs.Numbers.{RiseBy}
 use Rattle.am_names.specs.declared.row.MountRow.{MountRow}
 use Rattle.am_names.specs.declared.row.Position.{Position}
 
 -- the rows stand in rising order of number, from this one on
 abbrev pub RiseFrom : ℕ → List MountRow → Type 0
-RiseFrom low [] = Unit {0}
-RiseFrom low (row ∷ rows) = (low ≤ row.mount) × RiseFrom (row.mount + 1) rows
+RiseFrom low rows = RiseBy (λ (row : MountRow). row.mount) low rows
 
 -- the rows stand in rising order of number: so a set of rows is one list
 abbrev pub IsRising : List MountRow → Type 0
@@ -25,10 +25,6 @@ next_of (Some last) = last + 1
 -- the row of the mount
 abbrev pub mount_row : List MountRow → ℕ → Option MountRow
 mount_row rows m = find (λ row. row.mount == m) rows
-
--- the mount is one of these
-abbrev pub is_among : List ℕ → ℕ → Bool
-is_among mounts m = list_any (λ x. x == m) mounts
 
 -- the mounts whose rows pass the test
 abbrev pub mounts_where : (MountRow → Bool) → List MountRow → List ℕ

@@ -1,35 +1,9 @@
 //! Mounts that are among some.
 
 ghost use Rattle.std.specs.Prelude.{◌≡◌, ◌==◌, filter, not};
-ghost use Rattle.std.specs.Bool.{OnTrue};
-ghost use Rattle.std.specs.List.Sorted.{IsNonDecreasing};
 ghost use Rattle.am_mount.specs.Rows.{IsRising, is_among};
 
-use am_names::{MountId, MountRow};
-
-/// Whether the mount is one of these.
-fn is_among(mount: MountId, mounts: &[MountId]) -> bool
-    ensures { result ≡ is_among mounts.now mount }
-{
-    mounts.iter().copied().any(|other| other == mount)
-}
-
-/// Whether the mount is one of these, which stand in order of number.
-fn is_found(mount: MountId, mounts: &[MountId]) -> bool
-    requires { IsNonDecreasing mounts.now }
-    ensures { result ≡ is_among mounts.now mount }
-{
-    let number = mount.0;
-    mounts
-        .binary_search_by_key(&number, |other| other.0)
-        .is_ok()
-}
-
-fn are_ordered(mounts: &[MountId]) -> bool
-    ensures { OnTrue result (IsNonDecreasing mounts.now) }
-{
-    mounts.is_sorted()
-}
+use am_names::{MountId, MountRow, are_ordered, is_among, is_found};
 
 /// Leaves out the mount's row, which is found by halves.
 fn leave_one_out(rows: &mut Vec<MountRow>, mount: MountId)

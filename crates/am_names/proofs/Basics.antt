@@ -59,6 +59,10 @@ pub and_where_left_is_false : (a b : Bool) → a ≡ false → (a && b) ≡ fals
 and_where_left_is_false true b h = absurd cc
 and_where_left_is_false false b h = refl
 
+pub not_or : (a b : Bool) → not (a || b) ≡ (not a && not b)
+not_or true b = refl
+not_or false b = refl
+
 pub false_where_not : (b : Bool) → not b ≡ true → b ≡ false
 false_where_not true h = absurd cc
 false_where_not false h = refl
@@ -92,6 +96,9 @@ equal_to_itself n = eq-eqb n n refl
 
 pub differ_the_other_way : (a b : ℕ) → (a == b) ≡ false → (b == a) ≡ false
 differ_the_other_way a b h = grind (arith, h)
+
+pub equal_either_way : (a b : ℕ) → (a == b) ≡ (b == a)
+equal_either_way a b = grind arith
 
 -- ---- options and results
 

@@ -1,28 +1,18 @@
 -- Rows with numbers that rise, of which some are left out, one after another.
-use Rattle.std.proofs.Common.{◌≡◌, ◌≢◌, ◌<◌, ◌+◌, ℕ, zero, suc, Bool, true, false, cond, ◌||◌, List, [], ◌∷◌, ◌++◌, length, take, drop, get_or, eqb, refl, sym, ap, ◌∙◌, arith, add-one}
+use Rattle.std.proofs.Common.{◌≡◌, ◌≢◌, ◌<◌, ◌+◌, ℕ, zero, suc, Bool, true, false, cond, ◌||◌, List, [], ◌∷◌, ◌++◌, length, take, drop, get_or, refl, sym, ap, ◌∙◌, arith, add-one}
 use Rattle.std.specs.Prelude.{filter, not, ◌&&◌, ◌==◌}
 use Rattle.std.specs.List.{list_any}
 use Rattle.std.proofs.Math.Seq.{take-suc}
 use Rattle.std.proofs.lemmas.Bool.{eq-eqb, ne_eqb}
+use Rattle.am_names.proofs.Basics.{or_false, not_or, equal_either_way}
 
-any_end : (test : ℕ → Bool) (xs : List ℕ) (x : ℕ) → list_any test (xs ++ x ∷ []) ≡ (list_any test xs || test x)
-any_end test [] x = or_none (test x)
-  where
-    or_none : (b : Bool) → (b || false) ≡ b
-    or_none true = refl
-    or_none false = refl
-any_end test (y ∷ xs) x = go (test y) (any_end test xs x)
+list_any-push : (test : ℕ → Bool) (xs : List ℕ) (x : ℕ) → list_any test (xs ++ x ∷ []) ≡ (list_any test xs || test x)
+list_any-push test [] x = or_false (test x)
+list_any-push test (y ∷ xs) x = go (test y) (list_any-push test xs x)
   where
     go : (b : Bool) → list_any test (xs ++ x ∷ []) ≡ (list_any test xs || test x) → (b || list_any test (xs ++ x ∷ [])) ≡ ((b || list_any test xs) || test x)
     go true ih = refl
     go false ih = ih
-
-swap : (a b : ℕ) → eqb a b ≡ eqb b a
-swap a b = grind arith
-
-neither : (a b : Bool) → not (a || b) ≡ (not a && not b)
-neither true b = refl
-neither false b = refl
 
 module _ {R : Type 0} (number : R → ℕ) where
   -- the rows without this number
@@ -84,6 +74,6 @@ module _ {R : Type 0} (number : R → ℕ) where
       each : (row : R) → not (list_any (λ y. y == number row) (take (i + 1) gone)) ≡ (not (list_any (λ y. y == number row) (take i gone)) && not (number row == x))
       each row =
           ap (λ (xs : List ℕ). not (list_any (λ y. y == number row) xs)) longer ∙
-          ap not (any_end (λ y. y == number row) (take i gone) x) ∙
-          neither (list_any (λ y. y == number row) (take i gone)) (x == number row) ∙
-          ap (λ (b : Bool). not (list_any (λ y. y == number row) (take i gone)) && not b) (swap x (number row))
+          ap not (list_any-push (λ y. y == number row) (take i gone) x) ∙
+          not_or (list_any (λ y. y == number row) (take i gone)) (x == number row) ∙
+          ap (λ (b : Bool). not (list_any (λ y. y == number row) (take i gone)) && not b) (equal_either_way x (number row))

@@ -1,5 +1,6 @@
 pub mod Basics
 pub mod LeaveLemmas
+pub mod LeftOutLemmas
 pub mod NameStored
 pub mod Cuts
 pub mod Puts
@@ -7,4 +8,5 @@ pub mod PathLemmas
 pub mod SameTriggers
 pub mod PathFaultLemmas
 pub mod SearchLemmas
+pub mod BeyondLemmas
 pub mod FailNumbers

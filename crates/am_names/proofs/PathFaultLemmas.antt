@@ -1,5 +1,5 @@
 -- A text is read as its first fault, or as its names.
-use Rattle.std.proofs.Common.{◌≡◌, ℕ, ◌≤◌, Bool, true, false, cond, not, ◌&&◌, ◌==◌, List, [], ◌∷◌, length, Option, Some, None, Ok, Err, refl, sym, arith}
+use Rattle.std.proofs.Common.{◌≡◌, ℕ, ◌≤◌, Bool, true, false, cond, not, ◌==◌, List, [], ◌∷◌, length, Option, Some, None, Ok, Err, refl, sym, arith}
 use Rattle.std.specs.Prelude.{Result, nat_lt}
 use Rattle.std.specs.List.{list_all, filter}
 use Rattle.std.proofs.lemmas.Bool.Decides.{nat_tests}
@@ -8,6 +8,7 @@ use Rattle.am_names.specs.declared.errno.Errno.TheVariants.{ENAMETOOLONG, EINVAL
 use Rattle.am_names.specs.Name.{name_read, is_name}
 use Rattle.am_names.specs.Path.{path_read, parts_read, parts_of, names_of, with_name, begins_with_slash}
 use Rattle.am_names.specs.PathFaults.{name_fault, part_fault, fault_or, first_fault, AreNames}
+use Rattle.am_names.proofs.Basics.{and_of_both}
 
 -- the parts that are not empty
 abbrev long : List (List ℕ) → List (List ℕ)
@@ -28,12 +29,12 @@ name_told name = go (nat_lt 255 (length name)) (is_name name)
     go false true = refl
     go false false = refl
 
-joined : (f g : Option Errno) (name : List ℕ) (names : List (List ℕ))
+with_name_read : (f g : Option Errno) (name : List ℕ) (names : List (List ℕ))
     → with_name (read_by f name) (read_by g names) ≡ read_by (fault_or f g) (name ∷ names)
-joined (Some e) (Some f) name names = refl
-joined (Some e) None name names = refl
-joined None (Some f) name names = refl
-joined None None name names = refl
+with_name_read (Some e) (Some f) name names = refl
+with_name_read (Some e) None name names = refl
+with_name_read None (Some f) name names = refl
+with_name_read None None name names = refl
 
 -- parts are read as their first fault, or as the names among them
 parts_told : (parts : List (List ℕ)) → parts_read parts ≡ read_by (first_fault parts) (long parts)
@@ -48,7 +49,7 @@ parts_told (part ∷ parts) =
         (cond (not empty) (part ∷ long parts) (long parts))
     go true read e others ih = ih
     go false read e others ih =
-        rw (e, ih) (joined (name_fault part) (first_fault parts) part (long parts))
+        rw (e, ih) (with_name_read (name_fault part) (first_fault parts) part (long parts))
 
 name_sound : (long valid : Bool)
     → ◌≡◌ {A = Option Errno} (cond long (Some ENAMETOOLONG) (cond valid None (Some EINVAL))) None
@@ -57,20 +58,16 @@ name_sound true valid h = absurd cc
 name_sound false true h = refl
 name_sound false false h = absurd cc
 
-neither : (f g : Option Errno) → fault_or f g ≡ None → (f ≡ None) × (g ≡ None)
-neither (Some e) g h = absurd cc
-neither None g h = (refl, h)
-
-both : (a b : Bool) → a ≡ true → b ≡ true → (a && b) ≡ true
-both true b h g = g
-both false b h g = absurd cc
+no_fault_in_either : (f g : Option Errno) → fault_or f g ≡ None → (f ≡ None) × (g ≡ None)
+no_fault_in_either (Some e) g h = absurd cc
+no_fault_in_either None g h = (refl, h)
 
 -- parts without a fault are names, but for the empty ones
 parts_sound : (parts : List (List ℕ)) → first_fault parts ≡ None
     → list_all is_name (long parts) ≡ true
 parts_sound [] h = refl
 parts_sound (part ∷ parts) h =
-    let two = neither (part_fault part) (first_fault parts) h in
+    let two = no_fault_in_either (part_fault part) (first_fault parts) h in
     go (length part == 0) two.0 (parts_sound parts two.1)
   where
     go : (empty : Bool) → ◌≡◌ {A = Option Errno} (cond empty None (name_fault part)) None
@@ -78,7 +75,7 @@ parts_sound (part ∷ parts) h =
         → list_all is_name (cond (not empty) (part ∷ long parts) (long parts)) ≡ true
     go true e ih = ih
     go false e ih =
-        both (is_name part) (list_all is_name (long parts))
+        and_of_both (is_name part) (list_all is_name (long parts))
         (name_sound (nat_lt 255 (length part)) (is_name part) e) ih
 
 -- a text of the right length behind a slash is read as its parts are

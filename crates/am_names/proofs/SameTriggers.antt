@@ -1,6 +1,5 @@
 -- Triggers that are one, and triggers as keys of an index.
-use Rattle.std.proofs.Common.{◌≡◌, ◌-◌, ℕ, Bool, true, false, ◌&&◌, ◌==◌, List, length, take, replicate, Option, Some, None, refl, sym, ap, subst, ◌∙◌}
-use Rattle.std.specs.Prelude.{Result, Ok, Err, IsOk, OnOk}
+use Rattle.std.proofs.Common.{◌≡◌, ◌-◌, ℕ, Bool, true, ◌&&◌, ◌==◌, List, length, take, replicate, Option, Some, None, refl, sym, ap, subst, ◌∙◌}
 use Rattle.std.specs.Bool.{Decides}
 use Rattle.std.specs.Option.{option_eq}
 use Rattle.std.specs.Str.{bytes_eq}
@@ -12,42 +11,34 @@ use Rattle.am_names.specs.Trigger.{same_trigger, same_name}
 use Rattle.am_names.specs.declared.trigger.Trigger.{Trigger}
 use Rattle.am_names.specs.contracts.name.NamePartialEq.TheImpl.{eq-value as name_eq}
 use Rattle.am_names.specs.contracts.trigger.TriggerPartialEq.TheImpl.{eq-value}
+use Rattle.am_names.proofs.Basics.{both_of_and, and_of_both}
+pub use Rattle.am_names.proofs.Basics.{and_of_both as both_are, holds_where_ok as when_ok}
 
-pub both : (a b : Bool) → (a && b) ≡ true → (a ≡ true) × (b ≡ true)
-both true true h = (refl, refl)
-both true false h = absurd cc
-both false b h = absurd cc
+equal_by_same_name : (a b : Option (List ℕ)) → same_name a b ≡ true → a ≡ b
+equal_by_same_name None None h = refl
+equal_by_same_name None (Some b) h = absurd cc
+equal_by_same_name (Some a) None h = absurd cc
+equal_by_same_name (Some a) (Some b) h = ap (λ (bytes : List ℕ). Some bytes) ((bytes_eq-Decides a b).0 h)
 
-pub both_are : (a b : Bool) → a ≡ true → b ≡ true → (a && b) ≡ true
-both_are true true d e = refl
-both_are true false d e = absurd cc
-both_are false b d e = absurd cc
-
-name_is : (a b : Option (List ℕ)) → same_name a b ≡ true → a ≡ b
-name_is None None h = refl
-name_is None (Some b) h = absurd cc
-name_is (Some a) None h = absurd cc
-name_is (Some a) (Some b) h = ap (λ (bytes : List ℕ). Some bytes) ((bytes_eq-Decides a b).0 h)
-
-name_self : (a : Option (List ℕ)) → same_name a a ≡ true
-name_self None = refl
-name_self (Some a) = (bytes_eq-Decides a a).1 refl
+same_name_itself : (a : Option (List ℕ)) → same_name a a ≡ true
+same_name_itself None = refl
+same_name_itself (Some a) = (bytes_eq-Decides a a).1 refl
 
 pub is_one : (a b : Trigger) → same_trigger a b ≡ true → a ≡ b
 is_one a b h =
-    let two = both (a.fs == b.fs) (same_name a.name b.name) h in
+    let two = both_of_and (a.fs == b.fs) (same_name a.name b.name) h in
     let make : ℕ → Option (List ℕ) → Trigger = λ fs name. record { fs = fs; name = name } in
-    ap (λ (fs : ℕ). make fs a.name) ((Decides-eqb a.fs b.fs).0 two.0) ∙ ap (make b.fs) (name_is a.name b.name two.1)
+    ap (λ (fs : ℕ). make fs a.name) ((Decides-eqb a.fs b.fs).0 two.0) ∙ ap (make b.fs) (equal_by_same_name a.name b.name two.1)
 
 pub is_itself : (a : Trigger) → same_trigger a a ≡ true
-is_itself a = both_are (a.fs == a.fs) (same_name a.name a.name) ((Decides-eqb a.fs a.fs).1 refl) (name_self a.name)
+is_itself a = and_of_both (a.fs == a.fs) (same_name a.name a.name) ((Decides-eqb a.fs a.fs).1 refl) (same_name_itself a.name)
 
 -- the test tells whether two triggers are one
-pub tells : (a b : Trigger) → Decides (same_trigger a b) (a ≡ b)
-tells a b = (is_one a b, λ e. subst (λ (x : Trigger). same_trigger a x ≡ true) e (is_itself a))
+pub same_trigger-Decides : (a b : Trigger) → Decides (same_trigger a b) (a ≡ b)
+same_trigger-Decides a b = (is_one a b, λ e. subst (λ (x : Trigger). same_trigger a x ≡ true) e (is_itself a))
 
 pub either_way : (a b : Trigger) → same_trigger a b ≡ same_trigger b a
-either_way a b = same_from_decides (same_trigger a b) (same_trigger b a) (tells a b) ((λ h. sym (is_one b a h)), (λ e. (tells b a).1 (sym e)))
+either_way a b = same_from_decides (same_trigger a b) (same_trigger b a) (same_trigger-Decides a b) ((λ h. sym (is_one b a h)), (λ e. (same_trigger-Decides b a).1 (sym e)))
 
 -- ---- keys of an index
 
@@ -55,30 +46,25 @@ either_way a b = same_from_decides (same_trigger a b) (same_trigger b a) (tells 
 unpadded : (name : List ℕ) → take (length name) (padded name) ≡ name
 unpadded name = take-append_seam name (replicate (255 - length name) 0)
 
-name_tells : (x y : List ℕ) → Decides (name_eq.it x y) (x ≡ y)
-name_tells x y = (one, λ e. subst (λ (z : List ℕ). name_eq.it x z ≡ true) e itself)
+name_eq-Decides : (x y : List ℕ) → Decides (name_eq.it x y) (x ≡ y)
+name_eq-Decides x y = (one, λ e. subst (λ (z : List ℕ). name_eq.it x z ≡ true) e itself)
   where
     one : name_eq.it x y ≡ true → x ≡ y
     one h =
-        let two = both (bytes_eq (padded x) (padded y)) (length x == length y) h in
+        let two = both_of_and (bytes_eq (padded x) (padded y)) (length x == length y) h in
         let bytes : padded x ≡ padded y = (bytes_eq-Decides (padded x) (padded y)).0 two.0 in
         let long : length x ≡ length y = (Decides-eqb (length x) (length y)).0 two.1 in
         sym (unpadded x) ∙ ap (λ (n : ℕ). take n (padded x)) long ∙ ap (take (length y)) bytes ∙ unpadded y
 
     itself : name_eq.it x x ≡ true
-    itself = both_are (bytes_eq (padded x) (padded x)) (length x == length x) ((bytes_eq-Decides (padded x) (padded x)).1 refl) ((Decides-eqb (length x) (length x)).1 refl)
+    itself = and_of_both (bytes_eq (padded x) (padded x)) (length x == length x) ((bytes_eq-Decides (padded x) (padded x)).1 refl) ((Decides-eqb (length x) (length x)).1 refl)
 
-names_are : (a b : Option (List ℕ)) → option_eq name_eq.it a b ≡ same_name a b
-names_are None None = refl
-names_are None (Some b) = refl
-names_are (Some a) None = refl
-names_are (Some a) (Some b) = same_from_decides (name_eq.it a b) (bytes_eq a b) (name_tells a b) (bytes_eq-Decides a b)
+names_eq_is_same_name : (a b : Option (List ℕ)) → option_eq name_eq.it a b ≡ same_name a b
+names_eq_is_same_name None None = refl
+names_eq_is_same_name None (Some b) = refl
+names_eq_is_same_name (Some a) None = refl
+names_eq_is_same_name (Some a) (Some b) = same_from_decides (name_eq.it a b) (bytes_eq a b) (name_eq-Decides a b) (bytes_eq-Decides a b)
 
 -- the index tells triggers apart as `same_trigger` does
 pub key_is : (a b : Trigger) → eq-value.it a b ≡ same_trigger b a
-key_is a b = ap (λ (t : Bool). (a.fs == b.fs) && t) (names_are a.name b.name) ∙ either_way a b
-
--- what a call promises that goes well
-pub when_ok : {T E P : Type 0} (r : Result T E) → IsOk r → OnOk r P → P
-when_ok (Ok x) h p = p
-when_ok (Err e) h p = absurd cc
+key_is a b = ap (λ (t : Bool). (a.fs == b.fs) && t) (names_eq_is_same_name a.name b.name) ∙ either_way a b

@@ -1,5 +1,5 @@
 -- What a search by halves tells of numbers that don't fall.
-use Rattle.std.proofs.Common.{◌≡◌, ◌≢◌, ◌≤◌, ◌<◌, ℕ, zero, suc, Bool, true, false, ◌||◌, List, [], ◌∷◌, length, get_or, Result, Ok, Err, Some, refl, sym, arith}
+use Rattle.std.proofs.Common.{◌≡◌, ◌≢◌, ◌≤◌, ◌<◌, ℕ, zero, suc, Bool, true, false, List, [], ◌∷◌, length, get_or, Result, Ok, Err, Some, refl, sym, arith}
 use Rattle.std.specs.Prelude.{is_ok, ◌==◌}
 use Rattle.std.specs.Bool.{OnTrue}
 use Rattle.std.specs.Ordering.{nat_cmp, is_le, is_some_and}
@@ -7,14 +7,7 @@ use Rattle.std.specs.List.{list_any, IsAllAdjacentAnswer}
 use Rattle.std.specs.List.Sorted.{IsBinarySearchResult, IsNonDecreasing}
 use Rattle.std.proofs.lemmas.List.Sorted.{searched, non_decreasing_from_is_sorted}
 use Rattle.std.proofs.lemmas.Bool.{eq-eqb, ne_eqb}
-
-or_left : (a b : Bool) → a ≡ true → (a || b) ≡ true
-or_left true b h = refl
-or_left false b h = absurd cc
-
-or_right : (a b : Bool) → b ≡ true → (a || b) ≡ true
-or_right true b h = refl
-or_right false b h = h
+use Rattle.am_names.proofs.Basics.{or_left, or_right}
 
 among_at :
     (xs : List ℕ) (i x : ℕ) → i < length xs → get_or xs i 0 ≡ x → list_any (λ y. y == x) xs ≡ true

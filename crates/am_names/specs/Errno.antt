@@ -1,4 +1,5 @@
--- The numbers of the errors, and the order of a call's tests.
+-- The numbers of the errors, and the order of a call's tests: own choice (docs/FORMATS.md, "Error
+-- numbers"). The first nine have the names of errno(3).
 use Rattle.std.specs.Prelude.{◌≡◌, ℕ, Option, Some, None, Result, Ok, Err, ⊤}
 use Rattle.am_names.specs.declared.errno.Errno.{Errno}
 use Rattle.am_names.specs.declared.errno.Errno.TheVariants.{ENOENT, EPERM, EBUSY, EEXIST, EINVAL, EAGAIN, ELOOP, ENAMETOOLONG, ENOSPC, NoMemory, NotReleased, Stranger}

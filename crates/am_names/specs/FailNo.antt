@@ -1,4 +1,4 @@
--- The numbers of failures: own (docs/DECISIONS.md, "A failure has a number, and may last").
+-- The numbers of failures: own choice (docs/DECISIONS.md, "A failure has a number, and may last").
 use Rattle.std.specs.Prelude.{ℕ, ◌==◌, Option, Some, None, Result, Ok, Err, if◌then◌else◌}
 use Rattle.am_names.specs.Errno.{errno_number}
 use Rattle.am_names.specs.declared.errno.Errno.{Errno}
@@ -36,6 +36,7 @@ fail_no_numbered n =
     else if n == 9 then Some ENOSPC
     else None
 
+-- the failure, or EINVAL where there is none
 abbrev pub or_invalid : Option FailNo → Result FailNo Errno
 or_invalid (Some error) = Ok error
 or_invalid None = Err errno.EINVAL

@@ -1,4 +1,5 @@
--- The ranges of the limits.
+-- The ranges of the limits: own choice (docs/DECISIONS.md, "A sort of numbers that is used up is
+-- ENOSPC").
 use Rattle.std.specs.Prelude.{◌≤◌, ◌&&◌, Bool, nat_le}
 use Rattle.am_names.specs.declared.limits.Limits.{Limits}
 
@@ -9,7 +10,9 @@ pub record IsInRange (limits : Limits) : Type 0 where
   pub few_waiters : limits.waiters ≤ 65536
   pub some_tokens : 1 ≤ limits.tokens
 
--- the test of that
+-- The same as a test, which scripts make of what they read: the record is what holds of limits that
+-- passed it.
 abbrev pub is_in_range : Limits → Bool
 is_in_range limits =
-    nat_le 1 limits.mounts && nat_le 1 limits.waiters && nat_le limits.waiters 65536 && nat_le 1 limits.tokens
+    nat_le 1 limits.mounts && nat_le 1 limits.waiters && nat_le limits.waiters 65536
+    && nat_le 1 limits.tokens

@@ -1,9 +1,11 @@
--- What a name is: 1 to 255 bytes, no slash, no zero byte, and neither a dot nor two.
+-- What a name is: 1 to 255 bytes, no slash, no zero byte, and neither a dot nor two
+-- (path_resolution(7); docs/FORMATS.md, "Numbers and bytes").
 use Rattle.std.specs.Prelude.{◌≡◌, ℕ, ◌-◌, ◌++◌, take, replicate, IsTrue, ◌≤◌, Bool, false, ◌&&◌, not, ◌==◌, nat_lt, List, [], ◌∷◌, length, Result, Ok, Err, if◌then◌else◌}
 use Rattle.std.specs.List.{list_all}
 use Rattle.am_names.specs.declared.errno.Errno.{Errno}
 use Rattle.am_names.specs.declared.errno.Errno.TheVariants.{ENAMETOOLONG, EINVAL}
 
+-- the byte may stand in a name: it is no slash and no zero byte
 abbrev pub is_name_byte : ℕ → Bool
 is_name_byte b = not (b == 47) && not (b == 0)
 
@@ -14,12 +16,18 @@ is_dots (a ∷ []) = a == 46
 is_dots (a ∷ b ∷ []) = (a == 46) && (b == 46)
 is_dots (a ∷ b ∷ c ∷ bytes) = false
 
+-- the bytes are a name
 abbrev pub is_name : List ℕ → Bool
-is_name bytes = not (length bytes == 0) && not (nat_lt 255 (length bytes)) && not (is_dots bytes) && list_all is_name_byte bytes
+is_name bytes =
+    not (length bytes == 0) && not (nat_lt 255 (length bytes)) && not (is_dots bytes)
+    && list_all is_name_byte bytes
 
 -- what a text of bytes is read as
 abbrev pub name_read : List ℕ → Result (List ℕ) Errno
-name_read bytes = if nat_lt 255 (length bytes) then Err ENAMETOOLONG else if is_name bytes then Ok bytes else Err EINVAL
+name_read bytes =
+    if nat_lt 255 (length bytes) then Err ENAMETOOLONG
+    else if is_name bytes then Ok bytes
+    else Err EINVAL
 
 -- a name's bytes and zeros behind them, 255 in all
 abbrev pub padded : List ℕ → List ℕ

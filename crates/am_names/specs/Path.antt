@@ -1,4 +1,5 @@
--- What an absolute path is, its names, and its canonical text.
+-- What an absolute path is, its names, and its canonical text (path_resolution(7); docs/FORMATS.md,
+-- "Numbers and bytes").
 use Rattle.std.specs.Prelude.{◌≡◌, ℕ, Bool, true, false, not, ◌&&◌, ◌==◌, nat_lt, List, [], ◌∷◌, ◌++◌, length, Result, Ok, Err, if◌then◌else◌}
 use Rattle.std.specs.List.{slice_split, filter, list_all}
 use Rattle.std.specs.Str.{bytes_eq}
@@ -6,6 +7,7 @@ use Rattle.am_names.specs.declared.errno.Errno.{Errno}
 use Rattle.am_names.specs.declared.errno.Errno.TheVariants.{ENAMETOOLONG, EINVAL}
 use Rattle.am_names.specs.Name.{name_read, is_name}
 
+-- the byte is a slash
 abbrev pub is_slash : ℕ → Bool
 is_slash b = b == 47
 
@@ -13,7 +15,9 @@ is_slash b = b == 47
 abbrev pub parts_of : List ℕ → List (List ℕ)
 parts_of bytes = slice_split is_slash bytes
 
-abbrev pub with_name : Result (List ℕ) Errno → Result (List (List ℕ)) Errno → Result (List (List ℕ)) Errno
+-- a name before others, or the first fault
+abbrev pub with_name : Result (List ℕ) Errno → Result (List (List ℕ)) Errno →
+    Result (List (List ℕ)) Errno
 with_name (Ok name) (Ok names) = Ok (name ∷ names)
 with_name (Ok name) (Err e) = Err e
 with_name (Err e) others = Err e
@@ -24,6 +28,7 @@ parts_read [] = Ok []
 parts_read (part ∷ parts) =
     if length part == 0 then parts_read parts else with_name (name_read part) (parts_read parts)
 
+-- the text is that of an absolute path
 abbrev pub begins_with_slash : List ℕ → Bool
 begins_with_slash [] = false
 begins_with_slash (b ∷ bytes) = is_slash b

@@ -1,4 +1,5 @@
--- The first fault of a text that is read as a path.
+-- The first fault of a text that is read as a path (path_resolution(7); the order of the tests is
+-- an own choice, docs/FORMATS.md, "Numbers and bytes").
 use Rattle.std.specs.Prelude.{◌≡◌, ℕ, true, ◌==◌, nat_lt, List, [], ◌∷◌, length, Option, Some, None, if◌then◌else◌}
 use Rattle.std.specs.List.{list_all}
 use Rattle.am_names.specs.declared.errno.Errno.{Errno}
@@ -17,6 +18,7 @@ name_fault bytes =
 abbrev pub part_fault : List ℕ → Option Errno
 part_fault part = if length part == 0 then None else name_fault part
 
+-- the first of two faults
 abbrev pub fault_or : Option Errno → Option Errno → Option Errno
 fault_or (Some e) others = Some e
 fault_or None others = others

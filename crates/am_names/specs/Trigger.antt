@@ -1,4 +1,5 @@
--- When two triggers are one.
+-- When two triggers are one (autofs.rst, "Mount Traps"; docs/DECISIONS.md, "A trigger is a file
+-- system and a name").
 use Rattle.std.specs.Prelude.{ℕ, ◌==◌, Bool, true, false, ◌&&◌, List, Option, None, Some}
 use Rattle.std.specs.Str.{bytes_eq}
 use Rattle.am_names.specs.declared.trigger.Trigger.{Trigger}

@@ -15,8 +15,8 @@ pub struct Limits {
     pub waiters: u32,
     /// 1 to 4,294,967,295.
     pub tokens: u32,
-    /// For so many seconds after a notification is acknowledged with FAIL, walks at its trigger fail
-    /// with the same error, and the daemon isn't notified again. Any number.
+    /// For so many seconds after a notification is acknowledged with FAIL, walks at its trigger
+    /// fail with the same error, and the daemon isn't notified again. Any number.
     pub negative: Seconds,
 }
 

@@ -71,7 +71,8 @@ impl Name {
     }
 }
 
-/// The bytes alone are hashed, and not the zeros behind them. The slash, which no name has, ends them.
+/// The bytes alone are hashed, and not the zeros behind them. The slash, which no name has, ends
+/// them.
 impl Hash for Name {
     ghost hash_input = { hashed };
 

@@ -154,7 +154,8 @@ fn begins_with_slash(bytes: &[u8]) -> bool
 fn cut_at_slash(bytes: &[u8]) -> Option<(&[u8], &[u8])>
     ensures none { IfNone result (parts_of bytes.now ≡ bytes.now ∷ []) }
     ensures some { IfSome result (λ cut. parts_of bytes.now ≡ cut.0.now ∷ parts_of cut.1.now) }
-    ensures parted { IfSome result (λ cut. length cut.0.now + 1 + length cut.1.now ≡ length bytes.now) }
+    ensures parted { IfSome result (λ cut.
+        length cut.0.now + 1 + length cut.1.now ≡ length bytes.now) }
 {
     let at = slash_place(bytes)?;
     Some((&bytes[..at], &bytes[at + 1..]))

@@ -1,4 +1,5 @@
--- What the fields stand for.
+-- What the fields of an ordered map stand for: own choice (docs/DECISIONS.md, "A map in order of
+-- insertion is a crate of its own").
 use Rattle.std.specs.Prelude.{ℕ, ◌-◌, min, Bool, List, Option, slice_get, length}
 use Rattle.std.specs.List.{filter_map}
 use Rattle.std.specs.Option.{option_map}
@@ -30,5 +31,6 @@ module _ {K V : Type 0} where
   }
 
   -- the queue lists each slot once, and no key has two
-  abbrev pub IsOrdered : {S Z : Type 0} → (K → K → Bool) → IndexMap K (Slot V) S → VecDeque ℕ Z → Type 0
+  abbrev pub IsOrdered : {S Z : Type 0} → (K → K → Bool) → IndexMap K (Slot V) S → VecDeque ℕ Z →
+      Type 0
   IsOrdered eq slots order = IsOrderOf (length slots.entries) order.items × IsUnique eq slots

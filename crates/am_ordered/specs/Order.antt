@@ -1,4 +1,5 @@
--- An order of places: each place below a bound once.
+-- An order of places, each place below a bound once: own choice (docs/DECISIONS.md, "A map in
+-- order of insertion is a crate of its own").
 use Rattle.std.specs.Prelude.{◌≡◌, ℕ, suc, ◌==◌, nat_lt, List, [], ◌∷◌, Option, Some, None, slice_get, if◌then◌else◌}
 
 -- how often a place is in the list

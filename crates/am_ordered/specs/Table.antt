@@ -1,7 +1,9 @@
--- What a contract sees of an ordered map.
+-- What a contract sees of an ordered map: own choice (docs/DECISIONS.md, "A map in order of
+-- insertion is a crate of its own").
 use Rattle.std.specs.Prelude.{ℕ, List, refl}
 use Rattle.std.specs.Coded.{Coded, code_by, coded×, coded_list, coded_ℕ}
 
+-- a map in order of insertion, and its room
 pub record OrderedTable (K V : Type 0) : Type 0 where
   -- the keys with their values, in order of insertion
   pub entries : List (K × V)

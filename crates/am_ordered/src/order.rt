@@ -51,7 +51,8 @@ pub(crate) fn rename_last<K: Eq + Hash, V>(
 )
     requires within { place ≤ index_map_len slots.now }
     requires once { times (index_map_len slots.now) order.old.items ≤ 1 }
-    ensures items { order.new.items ≡ map (renamed (index_map_len slots.now) place) order.old.items }
+    ensures items { order.new.items
+        ≡ map (renamed (index_map_len slots.now) place) order.old.items }
     ensures capacity { deque_capacity order.new ≡ deque_capacity order.old }
 {
     let last = slots.len();

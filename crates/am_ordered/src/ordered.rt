@@ -150,7 +150,8 @@ impl<K: Eq + Hash, V> OrderedMap<K, V> {
         K: Drop,
         V: Drop,
         ensures ok { OnOk result (self.new.entries ≡ insert_entry K.eq self.old.entries key value) }
-        ensures map { OnOk result (IsUpdated K.eq key (Some value) self.old.entries self.new.entries) }
+        ensures map { OnOk result
+            (IsUpdated K.eq key (Some value) self.old.entries self.new.entries) }
         ensures err { OnErr result (self.new.entries ≡ self.old.entries) }
         ensures fresh { OnErr result (IsNone (lookup (K.eq key) self.old.entries)) }
         ensures room { self.old.room ≤ self.new.room + 1 }

@@ -1,6 +1,8 @@
 -- A text is cut at its line feeds. The last line is the last of the rest.
 use Rattle.std.proofs.Common.{◌≡◌, ◌<◌, ◌≤◌, ◌+◌, ℕ, cond, ltb, List, [], ◌∷◌, ◌++◌, length, take, drop, Some, None, refl, arith, ap, subst, ◌∙◌}
-use Rattle.std.specs.Prelude.{position}
+use Rattle.std.specs.Prelude.{position, Option, IfNone, IfSome}
+use Rattle.std.specs.Borrow.{Bor}
+use Rattle.std.specs.Option.{option_copied}
 use Rattle.std.specs.List.{position_or_len, after_first}
 use Rattle.std.proofs.lemmas.Grind.{common_steps}
 use Rattle.std.proofs.lemmas.Option.{cond_some}
@@ -9,7 +11,7 @@ use Rattle.std.proofs.lemmas.Bool.Decides.{nat_tests}
 use Rattle.std.proofs.lemmas.List.Sums.{split_at_first, fails_before_first, passes_at_first}
 use Rattle.std.proofs.lemmas.List.Splits.{length-slice_split}
 use Rattle.am_lines.specs.Lines.{is_line_feed}
-use Rattle.am_script.specs.Lines.{lines_of, EndsNoLine, IsCut}
+use Rattle.am_script.specs.Lines.{lines_of, lines_in, size_in, EndsNoLine, IsCut}
 use Rattle.am_script.specs.Read.{last_of, cut_line}
 
 last_more : (line : List ℕ) (lines : List (List ℕ)) → 0 < length lines → last_of (line ∷ lines) ≡ last_of lines
@@ -25,6 +27,15 @@ pub cut_line_last : (text line : List ℕ) → lines_of text ≡ line ∷ [] →
 cut_line_last text line e = ap last_of e
 
 -- ---- at its first line feed
+
+-- the first line and what stands behind it
+pub first_and_rest : (text line : List ℕ) (rest : Option (Bor (List ℕ))) → IfNone rest (lines_of text ≡ line ∷ []) → IfSome rest (λ r. lines_of text ≡ line ∷ lines_of r.now) → lines_of text ≡ line ∷ lines_in (option_copied rest)
+first_and_rest text line None alone cut = alone
+first_and_rest text line (Some r) alone cut = cut
+
+pub sizes_within : (text line : List ℕ) (rest : Option (Bor (List ℕ))) → IfNone rest (line ≡ text) → IfSome rest (λ r. 1 + length line + length r.now ≤ length text) → size_in (option_copied rest) + length line ≤ length text
+sizes_within text line None whole shorter = omega (arith, ap length whole)
+sizes_within text line (Some r) whole shorter = omega (arith, shorter)
 
 not_below : (at len : ℕ) → cond (ltb at len) (Some at) None ≡ None → len ≤ at
 not_below at len e = grind (arith, nat_tests)

@@ -7,7 +7,8 @@ use Rattle.std.specs.List.{list_all}
 use Rattle.std.specs.Result.{result_ok}
 use Rattle.std.specs.Str.{IsAscii, IsUtf8}
 use Rattle.std.specs.Str.Parse.{ParsesUnsigned, digits_value}
-use Rattle.am_script.specs.Numbers.{is_digit, is_numeral, number_read}
+use Rattle.am_lines.specs.Digits.{is_digit}
+use Rattle.am_script.specs.Numbers.{is_numeral, number_read}
 
 own : IsNumeralModel (λ ds. list_all is_digit ds ≡ true) (digits_value 10)
 own = numerals_by_value _ (search rules)

@@ -1,13 +1,12 @@
 //! The lines of a text.
 
-ghost use Rattle.std.specs.Prelude.{◌≡◌, ◌+◌, ◌<◌, ◌≤◌, ◌∷◌, [], length, position, IfNone, IfSome, option_copied};
-ghost use Rattle.am_lines.specs.Lines.{is_line_feed};
+ghost use Rattle.std.specs.Prelude.{◌≡◌, ◌+◌, ◌<◌, ◌≤◌, ◌∷◌, length, IfNone, IfSome, option_copied};
 ghost use Rattle.am_lines.specs.Words.{words_of};
 ghost use Rattle.am_script.specs.Lines.{lines_of, lines_in, size_in, is_long, are_skipped, EndsNoLine, IsCut};
 ghost use Rattle.am_script.specs.Read.{cut_line, cut_kind};
 
 use crate::fault::ScriptFaultKind;
-use am_lines::{begins_with, next_word};
+use am_lines::{begins_with, cut_at_line_feed, line_feed_place, next_word};
 
 /// The first line, without its line feed, and what stands behind that, if there is one.
 pub fn split_line(text: &[u8]) -> (&[u8], Option<&[u8]>)
@@ -15,10 +14,7 @@ pub fn split_line(text: &[u8]) -> (&[u8], Option<&[u8]>)
     ensures shorter { size_in (option_copied result.1) + length result.0.now ≤ length text.now }
     ensures whole { IfNone result.1 (result.0.now ≡ text.now) }
 {
-    match line_feed_place(text) {
-        None => (text, None),
-        Some(at) => (&text[..at], Some(&text[at + 1..])),
-    }
+    cut_at_line_feed(text)
 }
 
 /// The first line, and what stands behind its line feed, if it has one.
@@ -50,12 +46,6 @@ fn behind_line(text: &[u8]) -> Option<&[u8]>
 {
     let at = line_feed_place(text)?;
     Some(&text[at + 1..])
-}
-
-fn line_feed_place(text: &[u8]) -> Option<usize>
-    ensures { result ≡ position is_line_feed text.now }
-{
-    text.iter().position(|b| *b == b'\n')
 }
 
 /// Whether the line has more than 8,192 bytes.

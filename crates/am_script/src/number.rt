@@ -1,11 +1,11 @@
 //! Numbers as scripts write them.
 
 ghost use Rattle.std.specs.Prelude.{◌≡◌, true, false, IfSome, IfNone};
-ghost use Rattle.std.specs.List.{list_all};
 ghost use Rattle.std.specs.Result.{result_ok};
 ghost use Rattle.hex.specs.Hex.{decode_sized};
-ghost use Rattle.am_script.specs.Numbers.{is_digit, is_numeral, u8_read, u32_read, u64_read};
+ghost use Rattle.am_script.specs.Numbers.{is_numeral, u8_read, u32_read, u64_read};
 
+use am_lines::are_digits;
 use hex::decode_to_slice;
 use std::str;
 
@@ -54,12 +54,6 @@ fn is_numeral(digits: &[u8]) -> bool
         return false;
     }
     *first != b'0' || others.is_empty()
-}
-
-fn are_digits(digits: &[u8]) -> bool
-    ensures { result ≡ list_all is_digit digits.now }
-{
-    digits.iter().all(|b| *b >= b'0' && *b <= b'9')
 }
 
 /// The 304 bytes that 608 hex digits spell, in either case.

@@ -1,4 +1,4 @@
--- Changes of a packet.
+-- Changes of a packet (auto_fs.h, struct autofs_v5_packet).
 use Rattle.std.specs.Prelude.{ℕ}
 use Rattle.am_wire.specs.declared.packet.Packet.{Packet}
 

@@ -1,23 +1,14 @@
 -- What tokens and waits keep.
-use Rattle.std.specs.Prelude.{◌≡◌, ◌≤◌, ◌+◌, ◌==◌, ◌&&◌, ℕ, Bool, false, is_none, List, [], ◌∷◌, Option, Some, None}
-use Rattle.std.specs.List.{list_any}
+use Rattle.std.specs.Prelude.{◌≡◌, ◌≤◌, ◌==◌, ◌&&◌, ℕ, Bool, false, is_none, List, [], ◌∷◌, Option, Some, None}
+pub use Rattle.am_names.specs.Numbers.{is_among, RiseBy}
 use Rattle.am_names.specs.declared.row.OpenToken.{OpenToken}
 use Rattle.am_names.specs.declared.row.WaitRow.{WaitRow}
 use Rattle.am_wait.specs.Rows.{WaitRows, token_of, wait_of, waiters_of}
-
--- the rows rise by this number, which is at least low
-abbrev pub RiseBy : {X : Type 0} → (X → ℕ) → ℕ → List X → Type 0
-RiseBy key low [] = Unit {0}
-RiseBy key low (row ∷ rows) = (low ≤ key row) × RiseBy key (key row + 1) rows
 
 -- no token is above the last that was given
 abbrev pub AreGiven : ℕ → List OpenToken → Type 0
 AreGiven last [] = Unit {0}
 AreGiven last (row ∷ rows) = (row.token ≤ last) × AreGiven last rows
-
--- the walker is one of these
-abbrev pub is_among : List ℕ → ℕ → Bool
-is_among walkers walker = list_any (λ other. other == walker) walkers
 
 -- the wait is on this token, and was not released yet
 abbrev pub is_waiting_on : ℕ → Option WaitRow → Bool

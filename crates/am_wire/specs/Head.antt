@@ -1,4 +1,4 @@
--- The numbers of a packet as they stand in the bytes.
+-- The numbers of a packet as they stand in the bytes (auto_fs.h, struct autofs_v5_packet).
 use Rattle.std.specs.Prelude.{◌≡◌, ◌++◌, ◌<◌, ◌^◌, List, ℕ, length}
 use Rattle.byteorder.specs.Endian.{little_bytes}
 use Rattle.am_wire.specs.declared.head.Head.{Head}
@@ -6,6 +6,7 @@ use Rattle.am_wire.specs.Format.{word_at, long_at}
 use Rattle.am_wire.specs.Kind.{kind_number}
 use Rattle.am_wire.specs.Said.{Said}
 
+-- these numbers stand at their offsets
 pub record IsHead (bytes : List ℕ) (h : Head) : Type 0 where
   pub proto_version : word_at 0 bytes ≡ h.proto_version
   pub kind : word_at 4 bytes ≡ h.kind

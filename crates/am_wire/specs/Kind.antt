@@ -5,6 +5,7 @@ use Rattle.am_names.specs.declared.row.TokenKind.TheVariants.{Missing, Expire}
 use Rattle.am_wire.specs.declared.kind.Kind.{Kind}
 use Rattle.am_wire.specs.declared.kind.Kind.TheVariants.{MissingIndirect, ExpireIndirect, MissingDirect, ExpireDirect}
 
+-- the number in the field `type`
 abbrev pub kind_number : Kind → ℕ
 kind_number MissingIndirect = 3
 kind_number ExpireIndirect = 4

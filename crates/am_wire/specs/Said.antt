@@ -1,9 +1,10 @@
--- What a packet says, wherever its name lies.
+-- What a packet says, wherever its name lies (auto_fs.h, struct autofs_v5_packet).
 use Rattle.std.specs.Prelude.{ℕ, List}
 use Rattle.am_wire.specs.declared.kind.Kind.{Kind}
 use Rattle.am_wire.specs.declared.packet.Packet.{Packet}
 use Rattle.am_wire.specs.declared.packet.PacketRef.{PacketRef}
 
+-- the fields of a packet; its name without what stands behind it
 pub record Said : Type 0 where
   pub kind : Kind
   pub token : ℕ

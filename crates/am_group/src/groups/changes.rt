@@ -16,52 +16,8 @@ use crate::kind::{Change, asked, row_as};
 use crate::tables::{
     Tables, are_groups_free, clear, is_among as is_live, is_one_of, live_groups, without_these,
 };
-use am_names::{Errno, GroupId, GroupRow, MemberRow, MountId};
+use am_names::{Errno, GroupId, GroupRow, MemberRow, MountId, are_ordered, is_among, is_found};
 use std::alloc::{AllocError, Global};
-
-fn is_among(mount: MountId, mounts: &[MountId]) -> bool
-    ensures { result ≡ is_among mounts.now mount }
-{
-    mounts.iter().copied().any(|other| other == mount)
-}
-
-/// Whether the mount is lower or higher than all of these, which stand in order of number. Most
-/// are, where new ones go.
-fn is_beyond(mounts: &[MountId], mount: MountId) -> bool
-    requires { IsNonDecreasing mounts.now }
-    ensures { OnTrue result (is_among mounts.now mount ≡ false) }
-{
-    let Some(first) = mounts.first() else {
-        return true;
-    };
-    let Some(last) = mounts.last() else {
-        return true;
-    };
-    if mount < *first {
-        return true;
-    }
-    *last < mount
-}
-
-/// Whether the mount is one of these, which stand in order of number.
-fn is_found(mount: MountId, mounts: &[MountId]) -> bool
-    requires { IsNonDecreasing mounts.now }
-    ensures { result ≡ is_among mounts.now mount }
-{
-    if is_beyond(mounts, mount) {
-        return false;
-    }
-    let number = mount.0;
-    mounts
-        .binary_search_by_key(&number, |other| other.0)
-        .is_ok()
-}
-
-fn are_ordered(mounts: &[MountId]) -> bool
-    ensures { OnTrue result (IsNonDecreasing mounts.now) }
-{
-    mounts.is_sorted()
-}
 
 /// Leaves out the mount's row, which is found by halves.
 fn leave_one_out(members: &mut Vec<MemberRow>, mount: MountId)

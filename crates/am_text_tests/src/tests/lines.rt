@@ -1,7 +1,10 @@
 //! Lines and words, each call once.
 
 use crate::tests::table::{Row, hold};
-use am_lines::{begins_with, cut_at_colon, first_word, next_line, next_word};
+use am_lines::{
+    are_digits, begins_with, cut_at_colon, cut_at_line_feed, first_word, line_feed_place,
+    next_line, next_word,
+};
 use am_names::Errno;
 use std::alloc::Global;
 
@@ -9,6 +12,9 @@ use std::alloc::Global;
 enum Text {
     /// The lines of a text, and of how many raw lines each is made.
     Lines(&'static [u8], &'static [(&'static [u8], usize)]),
+    /// The first raw line of a text, and what stands behind its line feed, if it has one.
+    RawLine(&'static [u8], &'static [u8], Option<&'static [u8]>),
+    AreDigits(&'static [u8], bool),
     /// The words of a line.
     Words(&'static [u8], &'static [&'static [u8]]),
     /// The first word of a line that says something, and what stands behind it.
@@ -33,6 +39,17 @@ fn has_lines(alloc: Global, text: &[u8], lines: &[(&[u8], usize)]) -> Result<boo
         rest = behind.rest;
     }
     Ok(rest.is_none())
+}
+
+fn has_raw_line(text: &[u8], line: &[u8], rest: Option<&[u8]>) -> bool {
+    let (raw, others) = cut_at_line_feed(text);
+    match (others, rest) {
+        (Some(others), Some(rest)) => {
+            raw == line && others == rest && line_feed_place(text) == Some(line.len())
+        }
+        (None, None) => raw == line && line_feed_place(text).is_none(),
+        _ => false,
+    }
 }
 
 /// The line has these words, and no more.
@@ -67,6 +84,8 @@ impl Row for Text {
     fn holds(&self, alloc: Global) -> Result<bool, Errno> {
         match self {
             Text::Lines(text, lines) => has_lines(alloc, text, lines),
+            Text::RawLine(text, line, rest) => Ok(has_raw_line(text, line, *rest)),
+            Text::AreDigits(text, expected) => Ok(are_digits(text) == *expected),
             Text::Words(line, words) => Ok(has_words(line, words)),
             Text::FirstWord(line, expected) => Ok(has_first_word(line, *expected)),
             Text::BeginsWith(word, byte, expected) => Ok(begins_with(word, *byte) == *expected),
@@ -88,6 +107,12 @@ static ENDS: [Text; 5] = [
     Text::Lines(b"\\\n\\\n\\", &[(b"", 3)]),
 ];
 
+static RAW_LINES: [Text; 3] = [
+    Text::RawLine(b"ab\\\nc\nd", b"ab\\", Some(b"c\nd")),
+    Text::RawLine(b"\n", b"", Some(b"")),
+    Text::RawLine(b"ab\r", b"ab\r", None),
+];
+
 static WORDS: [Text; 1] = [Text::Words(b" \t a\tb#\r  \x0bc ", &[b"a", b"b#\r", b"\x0bc"])];
 
 static FIRST_WORDS: [Text; 6] = [
@@ -99,7 +124,10 @@ static FIRST_WORDS: [Text; 6] = [
     Text::FirstWord(b" a# b", Some((b"a#", b"b"))),
 ];
 
-static BYTES: [Text; 6] = [
+static BYTES: [Text; 9] = [
+    Text::AreDigits(b"0123456789", true),
+    Text::AreDigits(b"12:", false),
+    Text::AreDigits(b"/0", false),
     Text::BeginsWith(b"-a", b'-', true),
     Text::BeginsWith(b"a-", b'-', false),
     Text::BeginsWith(b"", b'-', false),
@@ -122,6 +150,12 @@ fn texts_of_lines(rt: HostRuntime) {
         "a line feed at the end is followed by an empty line",
         &ENDS,
     );
+    hold(
+        &rt,
+        rt.alloc(),
+        "raw lines end with their line feed",
+        &RAW_LINES,
+    );
     hold(&rt, rt.alloc(), "words stand between blanks", &WORDS);
     hold(
         &rt,
@@ -132,7 +166,7 @@ fn texts_of_lines(rt: HostRuntime) {
     hold(
         &rt,
         rt.alloc(),
-        "the first byte and the first colon",
+        "digits the first byte and the first colon",
         &BYTES,
     );
 }

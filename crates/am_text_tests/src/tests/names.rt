@@ -3,7 +3,7 @@
 use crate::tests::table::{Row, hold, stretched};
 use am_names::{
     AbsPath, Errno, FailNo, FsId, Limits, MountId, MountRow, Mounts, Name, NsId, Place, Position,
-    Seconds, Waiters, WalkerId, split_first_name,
+    Seconds, Waiters, WalkerId, are_ordered, is_among, is_found, split_first_name,
 };
 use std::alloc::Global;
 
@@ -39,6 +39,8 @@ enum Text {
     GoesDown(&'static [u8], &'static [u8], &'static [u8]),
     /// The copy of these mounts is the same, has so many, and isn't that of none.
     MountsCopied(&'static [u64]),
+    /// Whether a mount is one of these, which are looked through by halves where they stand in order.
+    IsAmong(&'static [u64], u64, bool),
     /// The copy of a position in a mount, at a path, is the same.
     PositionCopied(u64, &'static [u8]),
     /// The copy of the row of a mount, on another one, at a path, has its number and its mountpoint.
@@ -212,6 +214,15 @@ fn mounts_copied(alloc: Global, numbers: &[u64]) -> Result<bool, Errno> {
     Ok(copy.is_same(&mounts) && same_length && !copy.is_same(&none))
 }
 
+fn is_among_mounts(alloc: Global, numbers: &[u64], number: u64) -> Result<bool, Errno> {
+    let mounts = mounts_of(alloc, numbers)?;
+    let these = mounts.as_slice();
+    if are_ordered(these) {
+        return Ok(is_found(MountId(number), these));
+    }
+    Ok(is_among(MountId(number), these))
+}
+
 /// A place of a mount.
 fn position(alloc: Global, mount: u64, path: &[u8]) -> Result<Position, Errno> {
     Ok(Position {
@@ -315,6 +326,10 @@ impl Row for Text {
             Text::IsNoRoot(names) => is_no_root(alloc, names),
             Text::GoesDown(path, name, text) => goes_down(alloc, path, name, text),
             Text::MountsCopied(numbers) => mounts_copied(alloc, numbers),
+            Text::IsAmong(numbers, number, expected) => {
+                let is_there = is_among_mounts(alloc, numbers, *number)?;
+                Ok(is_there == *expected)
+            }
             Text::PositionCopied(mount, path) => position_copied(alloc, *mount, path),
             Text::RowCopied(mount, on, path) => row_copied(alloc, *mount, *on, path),
             Text::Joins(one, others, all) => joins(alloc, *one, others, all),
@@ -394,6 +409,13 @@ static COPIES: [Text; 4] = [
     Text::MountsCopied(&[5, 6]),
     Text::PositionCopied(1, b"/"),
     Text::RowCopied(2, 1, b"/"),
+];
+
+static AMONG: [Text; 4] = [
+    Text::IsAmong(&[3, 5, 9], 5, true),
+    Text::IsAmong(&[3, 5, 9], 4, false),
+    Text::IsAmong(&[9, 3], 3, true),
+    Text::IsAmong(&[9, 3], 4, false),
 ];
 
 static TWO_WAITERS: [Text; 1] = [Text::Joins(7, &[3], &[7, 3])];
@@ -478,6 +500,7 @@ fn texts_of_names(rt: HostRuntime) {
     );
     hold(&rt, rt.alloc(), "places grow and are compared", &PLACES);
     hold(&rt, rt.alloc(), "rows and lists are copied", &COPIES);
+    hold(&rt, rt.alloc(), "mounts in order and in no order", &AMONG);
     hold(&rt, rt.alloc(), "waiters join in order", &TWO_WAITERS);
     hold(&rt, rt.alloc(), "errors have their numbers", &NUMBERS);
     hold(

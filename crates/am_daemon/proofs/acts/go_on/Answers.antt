@@ -3,7 +3,7 @@ use Rattle.std.specs.Prelude.{position, remove}
 use Rattle.am_job.specs.Job.{JobState}
 use Rattle.am_daemon.specs.State.{JobPlan, job_plan}
 use Rattle.am_daemon.specs.Acts.{finished_in}
-use Rattle.am_daemon.proofs.JobLemmas.{position_mapped, nowhere, stands_at, remove_mapped, no_job, written_back}
+use Rattle.am_daemon.proofs.JobLemmas.{position_mapped, finished_in-none, stands_at, remove_mapped, no_job, written_back}
 use Rattle.am_daemon.proofs.acts.go_on.Goals as goal
 
 pub returns-in_default : goal.returns-in_default
@@ -13,7 +13,7 @@ returns-in_default c =
     ∙ ap (position (λ (row : JobState). row.token == c.args.job)) (sym c.deref.ensures.value)
     ∙ sym c.place_of.ensures
     ∙ c.in_default.is in
-    nowhere (map job_plan c.args.jobs.now.items) c.args.job c.args.outcome e
+    finished_in-none (map job_plan c.args.jobs.now.items) c.args.job c.args.outcome e
 
 pub returns-then-done_at : goal.returns-then-done_at
 returns-then-done_at c =

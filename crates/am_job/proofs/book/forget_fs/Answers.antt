@@ -1,5 +1,5 @@
 use Rattle.std.proofs.Common.{◌<◌, ◌-◌, ◌==◌, arith}
-use Rattle.am_job.proofs.BookLemmas.{left_out_more}
+use Rattle.am_names.proofs.LeftOutLemmas.{left_out_more}
 use Rattle.am_job.proofs.book.forget_fs.Goals as goal
 
 pub loop-left-preserved : goal.loop-left-preserved

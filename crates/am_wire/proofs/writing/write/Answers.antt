@@ -6,7 +6,7 @@ use Rattle.am_wire.specs.declared.head.Head.{Head}
 use Rattle.am_wire.specs.Head.{head_bytes, head_of, HasFittingNumbers}
 use Rattle.am_wire.specs.Said.{said}
 use Rattle.am_wire.specs.Stored.{padded}
-use Rattle.am_names.proofs.Puts.{next}
+use Rattle.am_names.proofs.Puts.{put_behind}
 use Rattle.am_wire.proofs.FormatLemmas.{canonical_reads_back, canonical_300_reads_back}
 use Rattle.am_wire.proofs.writing.write.Goals as goal
 
@@ -18,8 +18,8 @@ returns-clause-bytes c =
     let first : c.write_head.new.out ≡ head_bytes head ++ drop 44 out = subst (λ (h : Head). c.write_head.new.out ≡ head_bytes h ++ drop 44 out) c.head_of-head.ensures c.write_head.ensures.bytes in
     let long : length name ≡ 256 = c.padded.ensures.long in
     let w : c.write_bytes.new.out ≡ take 44 c.write_head.new.out ++ (name ++ drop (44 + 256) c.write_head.new.out) = subst (λ (n : ℕ). c.write_bytes.new.out ≡ take 44 c.write_head.new.out ++ (name ++ drop (44 + n) c.write_head.new.out)) long c.write_bytes.ensures in
-    let second = next 44 256 (head_bytes head) out c.write_head.new.out c.write_bytes.new.out name refl first w in
-    let third = next 300 4 (head_bytes head ++ name) out c.write_bytes.new.out c.write_bytes-2.new.out (0 ∷ 0 ∷ 0 ∷ 0 ∷ []) (omega (arith, length-append (head_bytes head) name)) second c.write_bytes-2.ensures in
+    let second = put_behind 44 256 (head_bytes head) out c.write_head.new.out c.write_bytes.new.out name refl first w in
+    let third = put_behind 300 4 (head_bytes head ++ name) out c.write_bytes.new.out c.write_bytes-2.new.out (0 ∷ 0 ∷ 0 ∷ 0 ∷ []) (omega (arith, length-append (head_bytes head) name)) second c.write_bytes-2.ensures in
     let nothing : drop 304 out ≡ [] = drop_of_length-le out {i = 304} (omega (arith, c.told-out)) in
     third ∙ rw (nothing, c.padded.ensures.bytes) (append-nil _)
 

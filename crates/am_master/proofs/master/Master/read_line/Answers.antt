@@ -9,7 +9,7 @@ use Rattle.am_master.specs.Stored.{added}
 use Rattle.am_master.specs.Served.{served_of}
 use Rattle.am_master.proofs.FaultLemmas.{is_fault}
 use Rattle.am_master.proofs.PointLemmas.{line_is, taken_is, row_added}
-use Rattle.am_master.proofs.TextLemmas.{held}
+use Rattle.am_names.proofs.Basics.{holds_where_ok}
 use Rattle.am_master.proofs.master.Master.read_line.Goals as goal
 
 pub returns-then-has_point-clause-err : goal.returns-then-has_point-clause-err
@@ -32,4 +32,4 @@ returns-clause-ok c =
     (c.in-Some.ensures.some c.args.number) (sym c.is_direct.ensures ∙ c.if-is_direct.false) c.in_ok-path.ensures.ok
     (taken_is c.args.self.now c.in_ok-path.path c.text.result.now c.has_point.result false (c.text.ensures.text ∙ ap text_of c.in-Ok.ensures) c.has_point.ensures c.if-has_point.false) in
     let row = row_added c.args.self.now c.args.number c.in_ok-path.path _ (served_of c.in_ok-served-2.served) c.in-Ok.place c.in_ok-served-2.ensures.ok c.in-Ok.ensures in
-    on_ok_weaker c.in_memory-2.result (λ is_ok. line ∙ row ∙ ap (λ (rows : List MasterRow). Ok rows) (sym (held c.add-2.result is_ok c.add-2.ensures.ok))) c.in_memory-2.ensures.ok
+    on_ok_weaker c.in_memory-2.result (λ is_ok. line ∙ row ∙ ap (λ (rows : List MasterRow). Ok rows) (sym (holds_where_ok c.add-2.result is_ok c.add-2.ensures.ok))) c.in_memory-2.ensures.ok

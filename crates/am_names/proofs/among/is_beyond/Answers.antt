@@ -1,7 +1,7 @@
 use Rattle.std.proofs.Common.{Option, sym, ap, ◌∙◌}
 use Rattle.std.specs.Option.{option_copied}
-use Rattle.am_group.proofs.BeyondLemmas.{none_below_first, none_above_last}
-use Rattle.am_group.proofs.groups.changes.is_beyond.Goals as goal
+use Rattle.am_names.proofs.BeyondLemmas.{none_below_first, none_above_last}
+use Rattle.am_names.proofs.among.is_beyond.Goals as goal
 
 pub returns-then-lt : goal.returns-then-lt
 returns-then-lt c =
