@@ -394,8 +394,8 @@ impl Groups {
         Ok(lost)
     }
 
-    /// Whether none of the other mounts, and no peer group but one of these, has one of these as its
-    /// master.
+    /// Whether none of the other mounts, and no peer group but one of these, has one of these as
+    /// its master.
     fn is_free_of(&self, gone: &[MountId], lost: &[GroupId]) -> bool
         requires { IsNonDecreasing lost.now }
         ensures { OnTrue result
