@@ -126,17 +126,17 @@ pub record RowThins (change : MemberRow → MemberRow) : Type 0 where
   pub home_stays : (r : MemberRow) (h : ℕ) → home_where (change r).group (change r).master ≡ Some h → home_where r.group r.master ≡ Some h
   pub master_named : (r : MemberRow) (g : ℕ) → (change r).master ≡ Some g → (r.group ≡ Some g) ⊎ (r.master ≡ Some g)
 
-either : (P : MemberRow → Type 0) (b : Bool) (x y : MemberRow) → P x → P y → P (cond b x y)
-either P true x y p q = p
-either P false x y p q = q
+holds_in_either_case : (P : MemberRow → Type 0) (b : Bool) (x y : MemberRow) → P x → P y → P (cond b x y)
+holds_in_either_case P true x y p q = p
+holds_in_either_case P false x y p q = q
 
 -- so it is where only the row of m changes
 at_row_thins : (change : MemberRow → MemberRow) (m : ℕ) → RowThins change → RowThins (at_row change m)
 at_row_thins change m thin = record {
-  same_mount = λ r. either (λ x. x.mount ≡ r.mount) (r.mount == m) (change r) r (thin.same_mount r) refl;
-  group_stays = λ r g. either (λ x. x.group ≡ Some g → r.group ≡ Some g) (r.mount == m) (change r) r (thin.group_stays r g) (λ e. e);
-  home_stays = λ r h. either (λ x. home_where x.group x.master ≡ Some h → home_where r.group r.master ≡ Some h) (r.mount == m) (change r) r (thin.home_stays r h) (λ e. e);
-  master_named = λ r g. either (λ x. x.master ≡ Some g → (r.group ≡ Some g) ⊎ (r.master ≡ Some g)) (r.mount == m) (change r) r (thin.master_named r g) (λ e. inr e);
+  same_mount = λ r. holds_in_either_case (λ x. x.mount ≡ r.mount) (r.mount == m) (change r) r (thin.same_mount r) refl;
+  group_stays = λ r g. holds_in_either_case (λ x. x.group ≡ Some g → r.group ≡ Some g) (r.mount == m) (change r) r (thin.group_stays r g) (λ e. e);
+  home_stays = λ r h. holds_in_either_case (λ x. home_where x.group x.master ≡ Some h → home_where r.group r.master ≡ Some h) (r.mount == m) (change r) r (thin.home_stays r h) (λ e. e);
+  master_named = λ r g. holds_in_either_case (λ x. x.master ≡ Some g → (r.group ≡ Some g) ⊎ (r.master ≡ Some g)) (r.mount == m) (change r) r (thin.master_named r g) (λ e. inr e);
 }
 
 pub slave_row_thins : RowThins slave_row
@@ -247,4 +247,4 @@ pub without_keeps : (gone : ℕ → Bool) (s : PeerGroups) → IsSound s → Kee
 without_keeps gone s sound = thinned s (with_only (λ m. not (gone m)) s) (only_thins s (λ m. not (gone m)) sound.orderly) sound
 
 pub at_row_mount : (change : MemberRow → MemberRow) (m : ℕ) → ((r : MemberRow) → (change r).mount ≡ r.mount) → (r : MemberRow) → (at_row change m r).mount ≡ r.mount
-at_row_mount change m same r = either (λ x. x.mount ≡ r.mount) (r.mount == m) (change r) r (same r) refl
+at_row_mount change m same r = holds_in_either_case (λ x. x.mount ≡ r.mount) (r.mount == m) (change r) r (same r) refl

@@ -29,7 +29,7 @@ rank_at_most a b le (x ∷ xs) = go (nat_lt x a) (nat_lt x b) refl refl (rank_at
     go false true e f ih = omega arith
     go false false e f ih = ih
 
-rank_less : (a b : ℕ) → a < b → (xs : List ℕ) → has a xs ≡ true → rank a xs < rank b xs
+pub rank_less : (a b : ℕ) → a < b → (xs : List ℕ) → has a xs ≡ true → rank a xs < rank b xs
 rank_less a b lt [] h = absurd cc
 rank_less a b lt (x ∷ xs) h = go (nat_lt x a) (nat_lt x b) refl refl (eqb a x) refl h (rank_at_most a b (omega arith) xs) (rank_less a b lt xs)
   where
@@ -70,7 +70,7 @@ members_follow low c (x ∷ xs) ys rises le below more =
     later m true e = refl
     later m false e = e
 
-copy_mount : (stand : ℕ → ℕ) (number : ℕ) (group master : Option ℕ) → (copy_row stand number group master).mount ≡ number
+pub copy_mount : (stand : ℕ → ℕ) (number : ℕ) (group master : Option ℕ) → (copy_row stand number group master).mount ≡ number
 copy_mount stand number (Some g) master = refl
 copy_mount stand number None master = refl
 

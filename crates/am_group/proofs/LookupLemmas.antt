@@ -1,7 +1,8 @@
 -- Look-ups by number after rows are mapped, filtered or pushed.
-use Rattle.std.proofs.Common.{◌≡◌, ◌≤◌, ◌<◌, ◌+◌, ℕ, Bool, true, false, ◌||◌, cond, List, [], ◌∷◌, ◌++◌, Option, Some, None, refl, ap, subst, arith}
+use Rattle.std.proofs.Common.{◌≡◌, ◌≤◌, ◌<◌, ◌+◌, ℕ, Bool, true, false, ◌||◌, cond, List, [], ◌∷◌, ◌++◌, Option, Some, None, refl, subst, arith}
 use Rattle.std.specs.Prelude.{find, filter, map, option_map, is_some, ◌==◌}
 use Rattle.std.proofs.lemmas.Bool.{eqb-true, eq-eqb}
+use Rattle.am_group.proofs.ScanLemmas.{just_same}
 use Rattle.am_names.specs.declared.row.MemberRow.{MemberRow}
 use Rattle.am_names.specs.declared.row.GroupRow.{GroupRow}
 use Rattle.am_names.specs.PeerGroups.{PeerGroups}
@@ -118,11 +119,6 @@ groups_follow low c (x ∷ xs) ys rises le below more =
     later h true e = refl
     later h false e = e
 
--- a row in the group is that of a member
-pub is_just_same : (g : ℕ) (o : Option ℕ) → is_just g o ≡ true → o ≡ Some g
-is_just_same g None e = absurd cc
-is_just_same g (Some h) e = ap Some (eqb-true h g e)
-
 pub member_from_row : (low : ℕ) (rows : List MemberRow) → RiseFrom low rows → (g : ℕ) → has_members rows g ≡ true → (m : ℕ) × (low ≤ m) × (group_in (member_row rows m) ≡ Some g)
 member_from_row low [] rises g e = absurd cc
 member_from_row low (row ∷ rows) rises g e = go (is_just g row.group) refl e (member_from_row (row.mount + 1) rows rises.1 g)
@@ -137,7 +133,7 @@ member_from_row low (row ∷ rows) rises g e = go (is_just g row.group) refl e (
     later m le = grind arith
 
     go : (b : Bool) → is_just g row.group ≡ b → (b || has_members rows g) ≡ true → (has_members rows g ≡ true → (m : ℕ) × (row.mount + 1 ≤ m) × (group_in (member_row rows m) ≡ Some g)) → (m : ℕ) × (low ≤ m) × (group_in (member_row (row ∷ rows) m) ≡ Some g)
-    go true f e ih = (row.mount, first, rw (self row.mount) (is_just_same g row.group f))
+    go true f e ih = (row.mount, first, rw (self row.mount) (just_same g row.group f))
     go false f e ih =
         let rest = ih e in
         let le : row.mount + 1 ≤ rest.0 = rest.1 in

@@ -1,6 +1,6 @@
 -- One row that changes, where others are in its peer group: no group is lost.
-use Rattle.std.proofs.Common.{◌≡◌, ◌≢◌, ◌≤◌, ◌<◌, ◌+◌, ◌⊎◌, ℕ, zero, suc, Bool, true, false, cond, ◌||◌, ◌&&◌, List, [], ◌∷◌, ◌++◌, length, take, drop, get_or, Option, Some, None, Ok, Err, inl, inr, ⊎_elim, refl, sym, ap, subst, ◌∙◌, arith}
-use Rattle.std.specs.Prelude.{map, filter, not, ◌==◌}
+use Rattle.std.proofs.Common.{◌≡◌, ◌≢◌, ◌≤◌, ◌<◌, ◌+◌, ◌⊎◌, ℕ, zero, suc, Bool, true, false, cond, ◌&&◌, List, [], ◌∷◌, ◌++◌, length, get_or, Option, Some, None, Ok, Err, inl, inr, ⊎_elim, refl, sym, ap, subst, ◌∙◌, arith}
+use Rattle.std.specs.Prelude.{map, not, ◌==◌}
 use Rattle.std.specs.List.{list_any, slice_set}
 use Rattle.std.specs.List.Sorted.{IsBinarySearchResult}
 use Rattle.std.specs.Ordering.{nat_cmp}
@@ -11,9 +11,9 @@ use Rattle.am_names.specs.declared.row.MemberRow.{MemberRow}
 use Rattle.am_names.specs.declared.row.GroupRow.{GroupRow}
 use Rattle.am_names.specs.PeerGroups.{PeerGroups}
 use Rattle.am_group.specs.Propagation.{member_row}
-use Rattle.am_group.specs.Changes.{is_just, has_members, is_among, at_row, with_row, left, shared_row}
+use Rattle.am_group.specs.Changes.{is_just, has_members, at_row, with_row, left, shared_row}
 use Rattle.am_group.specs.Invariant.{RiseFrom, IsOrderly}
-use Rattle.am_group.specs.Tables.{AreLost, is_other_in, not_alone_in, is_not_alone, without_groups}
+use Rattle.am_group.specs.Tables.{AreLost, is_other_in, not_alone_in, is_not_alone}
 use Rattle.am_group.proofs.FindLemmas.{rows_rise, index_found, all_differ}
 use Rattle.am_group.proofs.LiftLemmas.{same_state}
 use Rattle.am_group.proofs.LostLemmas.{free_left, free_of_none}

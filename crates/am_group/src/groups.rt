@@ -197,6 +197,7 @@ impl Groups {
             return Err(Errno::EINVAL);
         }
         let row = membership.row(mount);
+        // For the checker, which is to know the type.
         let _group: Option<GroupId> = row.group;
         let index = self.rank(mount);
         self.members.insert(index, row)?;

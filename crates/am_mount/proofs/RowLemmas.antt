@@ -1,5 +1,5 @@
 -- Rows in rising order, and those of them that pass a test.
-use Rattle.std.proofs.Common.{◌≡◌, ◌≤◌, ◌<◌, ◌+◌, ◌-◌, ◌↔◌, ℕ, zero, suc, Bool, true, false, cond, eqb, ◌||◌, List, [], ◌∷◌, ◌++◌, length, take, get_or, Decides, Option, Some, None, refl, sym, ap, subst, ⊎_elim, ◌∙◌, arith, add-one}
+use Rattle.std.proofs.Common.{◌≡◌, ◌≤◌, ◌<◌, ◌+◌, ◌-◌, ◌↔◌, ℕ, zero, suc, Bool, true, false, cond, eqb, List, [], ◌∷◌, ◌++◌, length, take, get_or, Decides, Option, Some, None, refl, sym, ap, subst, ⊎_elim, ◌∙◌, arith, add-one}
 use Rattle.std.specs.Prelude.{map, filter, ◌==◌, option_map, IfSome, IfNone}
 use Rattle.std.specs.List.{list_any, Contains, slice_get}
 use Rattle.std.specs.List.Sorted.{IsStrictlyIncreasing}
@@ -103,7 +103,7 @@ abbrev pub RiseOn : ℕ → List ℕ → Type 0
 RiseOn low [] = Unit {0}
 RiseOn low (n ∷ others) = (low ≤ n) × RiseOn (n + 1) others
 
-RiseOn-lower : (low high : ℕ) (xs : List ℕ) → low ≤ high → RiseOn high xs → RiseOn low xs
+pub RiseOn-lower : (low high : ℕ) (xs : List ℕ) → low ≤ high → RiseOn high xs → RiseOn low xs
 RiseOn-lower low high [] le rises = tt
 RiseOn-lower low high (n ∷ xs) le rises = let first : high ≤ n = rises.0 in (omega arith, rises.1)
 

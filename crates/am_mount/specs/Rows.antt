@@ -1,5 +1,5 @@
--- The rows of all mounts (Linux: the mounts of all namespaces), and which of them are where. The top
--- at a place is the most recently mounted (sharedsubtree.rst, 5f).
+-- The rows of all mounts (Linux: the mounts of all namespaces), and which of them are where.
+-- The top at a place is the most recently mounted (sharedsubtree.rst, 5f).
 use Rattle.std.specs.Prelude.{◌≡◌, ◌≤◌, ◌==◌, ◌&&◌, ◌+◌, ℕ, Bool, false, is_none, List, [], ◌∷◌, map, filter, find, Option, Some, None}
 use Rattle.std.specs.Option.{option_map}
 use Rattle.std.specs.Cmp.Lexicographic.{pointwise}

@@ -22,7 +22,7 @@ use Rattle.am_group.specs.Receivers.{receivers_of}
 use Rattle.am_group.proofs.ReceiveLemmas.{home_where, under_from_way}
 use Rattle.am_group.proofs.UnderLemmas.{receivers_rise}
 use Rattle.am_group.proofs.ScanLemmas.{has, any_has, has-from_filter, just_same}
-use Rattle.am_group.proofs.CopyLemmas.{stands_of_receiver, stands_of_slave, stands_above}
+use Rattle.am_group.proofs.CopyLemmas.{stands_of_receiver, stands_of_slave, stands_above, copy_mount, rank_less}
 use Rattle.am_mount.specs.Rows.{IsOn}
 use Rattle.am_mount.proofs.RowLemmas.{RiseOn}
 use Rattle.am_propagate.specs.MountTable.{MountTable, is_mount}
@@ -38,53 +38,6 @@ use Rattle.am_propagate.proofs.AdditionLemmas.{receiver_exact, in_group}
 use Rattle.am_propagate.proofs.NewMountLemmas.{takes_second, none_above, one_each, each_there}
 use Rattle.am_propagate.proofs.ReceiverCopyLemmas.{copy_number_is}
 
--- where more passes one test than another, there is more of it
-module _ (p q : ℕ → Bool) (wider : (x : ℕ) → p x ≡ true → q x ≡ true) where
-  no_more : (xs : List ℕ) → length (filter p xs) ≤ length (filter q xs)
-  no_more [] = omega arith
-  no_more (x ∷ xs) = go (p x) (q x) refl refl (no_more xs)
-    where
-      go : (a b : Bool) → p x ≡ a → q x ≡ b → length (filter p xs) ≤ length (filter q xs) →
-          length (cond a (x ∷ filter p xs) (filter p xs)) ≤ length (cond b (x ∷ filter q xs) (filter q xs))
-      go true true e f ih = omega arith
-      go true false e f ih = absurd (let no : true ≡ false = sym (wider x e) ∙ f in cc)
-      go false true e f ih = omega arith
-      go false false e f ih = ih
-
-  fewer : (g : ℕ) → p g ≡ false → q g ≡ true → (xs : List ℕ) → has g xs ≡ true →
-      length (filter p xs) < length (filter q xs)
-  fewer g out inside [] h = absurd cc
-  fewer g out inside (x ∷ xs) h =
-      go (p x) (q x) refl refl (eqb g x) refl h (no_more xs) (fewer g out inside xs)
-    where
-      go : (a b : Bool) → p x ≡ a → q x ≡ b → (s : Bool) → eqb g x ≡ s → (s || has g xs) ≡ true →
-          length (filter p xs) ≤ length (filter q xs) →
-          (has g xs ≡ true → length (filter p xs) < length (filter q xs)) →
-          length (cond a (x ∷ filter p xs) (filter p xs)) <
-          length (cond b (x ∷ filter q xs) (filter q xs))
-      go true false e f s same h most ih =
-          absurd (let no : true ≡ false = sym (wider x e) ∙ f in cc)
-      go true true e f true same h most ih =
-          absurd (let no : false ≡ true = sym out ∙ ap p (eqb-true g x same) ∙ e in cc)
-      go true true e f false same h most ih =
-          let rest : length (filter p xs) < length (filter q xs) = ih h in omega arith
-      go false true e f s same h most ih = omega arith
-      go false false e f true same h most ih =
-          absurd (let no : true ≡ false = sym inside ∙ ap q (eqb-true g x same) ∙ f in cc)
-      go false false e f false same h most ih = ih h
-
-rank_less : (g h : ℕ) → g < h → (xs : List ℕ) → has g xs ≡ true → rank g xs < rank h xs
-rank_less g h less xs there = fewer (λ x. nat_lt x g) (λ x. nat_lt x h) wider g out inside xs there
-  where
-    wider : (x : ℕ) → nat_lt x g ≡ true → nat_lt x h ≡ true
-    wider x e = let low : x < g = ltb-true x g e in grind (arith, nat_tests)
-
-    out : nat_lt g g ≡ false
-    out = grind (arith, nat_tests)
-
-    inside : nat_lt g h ≡ true
-    inside = grind (arith, nat_tests)
-
 copies_each : (stand : ℕ → ℕ) (s : PeerGroups) (number : ℕ) (receivers : List ℕ) →
     copies_from stand s number receivers ≡
     one_each (λ n r. copy_row stand n (group_of s r) (slave_in (member_row s.members r))) number receivers
@@ -92,11 +45,6 @@ copies_each stand s number [] = refl
 copies_each stand s number (r ∷ receivers) =
     ap (λ (xs : List MemberRow). copy_row stand number (group_of s r) (slave_in (member_row s.members r)) ∷ xs)
     (copies_each stand s (number + 1) receivers)
-
-copy_mount : (stand : ℕ → ℕ) (n : ℕ) (group master : Option ℕ) →
-    (copy_row stand n group master).mount ≡ n
-copy_mount stand n (Some g) master = refl
-copy_mount stand n None master = refl
 
 row_mount : (k : Membership) (n : ℕ) → (row_with k n).mount ≡ n
 row_mount (InGroup g) n = refl

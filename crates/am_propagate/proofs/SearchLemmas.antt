@@ -9,27 +9,19 @@ use Rattle.std.proofs.lemmas.Bool.Decides.{nat_tests}
 use Rattle.am_names.proofs.Basics.{or_true}
 use Rattle.am_group.specs.Copies.{rank}
 use Rattle.am_mount.specs.Rows.{is_among}
+use Rattle.am_mount.proofs.RowLemmas.{RiseOn, RiseOn-lower}
 use Rattle.am_propagate.specs.Namespaces.{count_up_to}
-
--- numbers in rising order, from this one on
-abbrev pub RiseOn : ℕ → List ℕ → Type 0
-RiseOn low [] = Unit {0}
-RiseOn low (n ∷ xs) = (low ≤ n) × RiseOn (n + 1) xs
-
-rise_lower : (low high : ℕ) (xs : List ℕ) → low ≤ high → RiseOn high xs → RiseOn low xs
-rise_lower low high [] le rises = tt
-rise_lower low high (n ∷ xs) le rises = let first : high ≤ n = rises.0 in (omega arith, rises.1)
 
 rise_from : (n : ℕ) (xs : List ℕ) → IsStrictlyIncreasing (n ∷ xs) → RiseOn n (n ∷ xs)
 rise_from n [] steps = (omega arith, tt)
 rise_from n (m ∷ xs) steps =
     let first : n < m = steps 0 (omega arith) in
     let rest : RiseOn m (m ∷ xs) = rise_from m xs (λ k h. rw (add-one) (rw (add-one) at (steps (suc k) (omega arith)))) in
-    (omega arith, rise_lower (n + 1) m (m ∷ xs) (omega arith) rest)
+    (omega arith, RiseOn-lower (n + 1) m (m ∷ xs) (omega arith) rest)
 
 pub rise_all : (xs : List ℕ) → IsStrictlyIncreasing xs → RiseOn 0 xs
 rise_all [] steps = tt
-rise_all (n ∷ xs) steps = rise_lower 0 n (n ∷ xs) (omega arith) (rise_from n xs steps)
+rise_all (n ∷ xs) steps = RiseOn-lower 0 n (n ∷ xs) (omega arith) (rise_from n xs steps)
 
 at_least : (low : ℕ) (xs : List ℕ) → RiseOn low xs → (i d : ℕ) → i < length xs → low ≤ get_or xs i d
 at_least low [] rises i d h = absurd (omega arith)

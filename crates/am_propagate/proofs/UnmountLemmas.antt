@@ -5,18 +5,19 @@ use Rattle.std.specs.List.{list_any, Contains, dedup, cons_option}
 use Rattle.std.specs.List.Sorted.{IsStrictlyIncreasing}
 use Rattle.std.proofs.lemmas.Bool.{eqb-true, eq-eqb, ne_eqb, or_cases, and_parts, and_from}
 use Rattle.std.proofs.lemmas.List.Kept.{Contains-dedup_nat, Contains-from_dedup}
+use Rattle.am_group.proofs.ScanLemmas.{just_same}
 use Rattle.am_names.proofs.Basics.{or_right, same_test}
 use Rattle.am_names.specs.declared.row.MountRow.{MountRow}
 use Rattle.am_names.specs.declared.row.Position.{Position}
 use Rattle.am_group.specs.Changes.{is_just}
 use Rattle.am_group.specs.Receivers.{receivers_of}
 use Rattle.am_mount.specs.Rows.{mount_row, is_among, mounts_where, top_of, last_of, HasRow, IsAt, IsTop}
-use Rattle.am_mount.proofs.RowLemmas.{where_every, where_rises, top_is, IsTopOf}
+use Rattle.am_mount.proofs.RowLemmas.{where_every, where_rises, top_is, IsTopOf, RiseOn}
 use Rattle.am_propagate.specs.MountTable.{MountTable, mountpoint_in, mountpoint_of}
 use Rattle.am_propagate.specs.Invariant.{IsWhole}
 use Rattle.am_propagate.specs.Removed.{is_bare, is_top_at, if_bare, bare_top, goes_with}
 use Rattle.am_propagate.proofs.RemovalLemmas.{among_from, among_contains}
-use Rattle.am_propagate.proofs.SearchLemmas.{RiseOn, rise_all}
+use Rattle.am_propagate.proofs.SearchLemmas.{rise_all}
 
 -- `dedup` keeps the numbers
 pub dedup_among : (xs : List ℕ) (m : ℕ) → is_among (dedup eqb xs) m ≡ is_among xs m
@@ -107,10 +108,6 @@ found_number (r ∷ rows) m row e = go (r.mount == m) refl e (found_number rows 
     go true f e ih = let same : r ≡ row = cc in ap (λ (x : MountRow). x.mount) (sym same) ∙ eqb-true r.mount m f
     go false f e ih = ih e
 
-just_of : (x : ℕ) (o : Option ℕ) → is_just x o ≡ true → o ≡ Some x
-just_of x None e = absurd cc
-just_of x (Some y) e = ap Some (eqb-true y x e)
-
 module _ (t : MountTable) (whole : IsWhole t) (m : ℕ) (position : Position) where
   abbrev Goes : MountRow → Type 0
   Goes row = goes_with t m (Some position) row ≡ true
@@ -157,7 +154,7 @@ module _ (t : MountTable) (whole : IsWhole t) (m : ℕ) (position : Position) wh
   copy_among c row None number on free = absurd cc
   copy_among c row (Some q) number on free =
       let parts = and_parts (is_among rs q.mount) (is_just row.mount (top_of t.rows q.mount position.place)) on in
-      let top : top_of t.rows q.mount position.place ≡ Some row.mount = just_of row.mount (top_of t.rows q.mount position.place) parts.1 in
+      let top : top_of t.rows q.mount position.place ≡ Some row.mount = just_same row.mount (top_of t.rows q.mount position.place) parts.1 in
       let gives : bare_top t position.place q.mount ≡ Some row.mount = rw (top, free) refl in
       mapped_from (bare_top t position.place) rs q.mount c parts.0 (gives ∙ ap Some number)
 

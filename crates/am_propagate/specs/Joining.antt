@@ -1,5 +1,5 @@
--- The rows of peer groups, as they are made for a mount and its copies: own choice (docs/DECISIONS.md,
--- "Copies in groups").
+-- The rows of peer groups, as they are made for a mount and its copies: own choice
+-- (docs/DECISIONS.md, "Copies in groups").
 use Rattle.std.specs.Prelude.{◌≡◌, ◌==◌, ◌+◌, ℕ, nat_lt, List, [], Option, Some, None, option_map, if◌then◌else◌}
 use Rattle.am_names.specs.declared.row.GroupRow.{GroupRow}
 use Rattle.am_names.specs.PeerGroups.{PeerGroups}

@@ -148,7 +148,7 @@ impl Subtree {
             grown rows.items joining.members.items joining.groups.items last_ns self.old) }
         ensures err { OnErr result (self.new ≡ self.old) }
     {
-        // The numbers of groups have 64 bits, also where none is added.
+        // For the checker: the numbers of groups have 64 bits, also where none is added.
         let _last = self.groups.last_group().0;
         let count = rows.len();
         self.tree.add_all(rows)?;

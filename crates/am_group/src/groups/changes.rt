@@ -323,6 +323,7 @@ impl Groups {
         ensures law { IsPeopled self.old → AddsNoReceivers self.old self.new }
         ensures peopled { IsPeopled self.old → IsPeopled self.new }
     {
+        // For the checker: what the groups keep is known where a field is named.
         let _members = &self.members;
         match change {
             Change::MakeShared => self.make_shared(mount),
@@ -338,6 +339,7 @@ impl Groups {
         ensures exact { IfOk result (λ v. AreLost self.now.members
             (filter (λ row. not (is_among gone.now row.mount)) self.now.members) v.items) }
     {
+        // For the checker: what the groups keep is known where a field is named.
         let _members = &self.members;
         let left = self.groups_in_order(alloc, gone)?;
         if left.as_slice().is_empty() {
@@ -348,13 +350,14 @@ impl Groups {
         Ok(lost)
     }
 
-    /// Whether none of the other mounts, and no peer group but one of these, has one of these as its
-    /// master.
+    /// Whether none of the other mounts, and no peer group but one of these, has one of these as
+    /// its master.
     fn is_free_of(&self, gone: &[MountId], lost: &[GroupId]) -> bool
         requires { IsNonDecreasing lost.now }
         ensures { OnTrue result
             (is_free_of lost.now (with_only (λ m. not (is_among gone.now m)) self.now) ≡ true) }
     {
+        // For the checker: what the groups keep is known where a field is named.
         let _members = &self.members;
         lost.is_empty()
             || (are_members_free(self.members.as_slice(), gone, lost)
@@ -370,6 +373,7 @@ impl Groups {
         ensures law { IsPeopled self.old → AddsNoReceivers self.old self.new }
         ensures peopled { IsPeopled self.old → IsPeopled self.new }
     {
+        // For the checker: what the groups keep is known where a field is named.
         let _members = &self.members;
         let lost = self.lost(alloc, gone)?;
         if self.is_free_of(gone, lost.as_slice()) {

@@ -91,6 +91,7 @@ impl Groups {
     fn groups_below(&self, alloc: Global, own: GroupId) -> Result<Vec<GroupId>, AllocError>
         ensures { IfOk result (λ v. v.items ≡ groups_below self.now own) }
     {
+        // For the checker: what the groups keep is known where a field is named.
         let _members = &self.members;
         let mut below = Vec::new(alloc);
         for row in self.groups.iter() {
@@ -123,6 +124,7 @@ impl Groups {
         requires exact { AreLiveAmong (groups_below self.now own) self.now.members live.now }
         ensures { IfOk result (λ v. v.items ≡ groups_under self.now own) }
     {
+        // For the checker: what the groups keep is known where a field is named.
         let _members = &self.members;
         let mut under = Vec::new(alloc);
         for row in self.groups.iter() {
@@ -160,6 +162,7 @@ impl Groups {
         ensures rising { IfOk result (λ v. IsStrictlyIncreasing v.items) }
         ensures listed { IfOk result (λ v. v.items ≡ receivers_of self.now mount) }
     {
+        // For the checker: what the groups keep is known where a field is named.
         let _members = &self.members;
         let Some(own) = self.group_of(mount) else {
             return Ok(Vec::new(alloc));
@@ -174,6 +177,7 @@ impl Groups {
     fn groups_of(&self, alloc: Global, receivers: &[MountId]) -> Result<Vec<GroupId>, AllocError>
         ensures { IfOk result (λ v. AreOfReceivers self.now receivers.now v.items) }
     {
+        // For the checker: what the groups keep is known where a field is named.
         let _members = &self.members;
         let mut groups = Vec::new(alloc);
         for receiver in receivers {
@@ -193,6 +197,7 @@ impl Groups {
         ensures ordered { IfOk result (λ v. IsNonDecreasing v.items) }
         ensures exact { IfOk result (λ v. AreOfReceivers self.now receivers.now v.items) }
     {
+        // For the checker: what the groups keep is known where a field is named.
         let _members = &self.members;
         let mut groups = self.groups_of(alloc, receivers)?;
         groups.sort_unstable_by_key(|group| group.0);

@@ -37,6 +37,7 @@ impl Joining {
     {
         let mut members = Vec::new(alloc);
         let row = membership.row(mount);
+        // For the checker, which is to know the type.
         let _group: Option<GroupId> = row.group;
         members.push(row)?;
         Ok(Joining {
@@ -82,6 +83,7 @@ impl Subtree {
     {
         let mut members = Vec::new(alloc);
         let first = Membership::InGroup(stands.new).row(mount);
+        // For the checker, which is to know the type.
         let _group: Option<GroupId> = first.group;
         members.push(first)?;
         let mut number = mount.0;

@@ -109,6 +109,7 @@ impl Subtree {
             mounts_where (goes_with self.now mount None) self.now.rows) }
         ensures rising { IfOk result (λ v. IsStrictlyIncreasing v.items) }
     {
+        // For the checker: what the mounts keep is known where a field is named.
         let _tree = &self.tree;
         let mut found = Vec::new(alloc);
         if !self.is_mount(mount) {

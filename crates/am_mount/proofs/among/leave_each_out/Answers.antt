@@ -1,5 +1,5 @@
-use Rattle.std.proofs.Common.{◌≡◌, ◌+◌, ◌<◌, ℕ, List, length, take, sym, ap, subst, ◌∙◌, rules}
-use Rattle.std.specs.Prelude.{filter, not}
+use Rattle.std.proofs.Common.{◌<◌, List, length, take, sym, ap, subst, ◌∙◌, rules}
+use Rattle.std.specs.Prelude.{not}
 use Rattle.am_names.specs.declared.row.MountRow.{MountRow}
 use Rattle.am_mount.specs.Rows.{IsRising, is_among}
 use Rattle.am_mount.proofs.RowLemmas.{RiseFrom-filter}

@@ -1,4 +1,4 @@
-use Rattle.std.proofs.Common.{Option, sym, ap, ◌∙◌}
+use Rattle.std.proofs.Common.{sym, ap, ◌∙◌}
 use Rattle.std.specs.Option.{option_copied}
 use Rattle.am_names.proofs.BeyondLemmas.{none_below_first, none_above_last}
 use Rattle.am_names.proofs.among.is_beyond.Goals as goal

@@ -1,4 +1,4 @@
-use Rattle.std.proofs.Common.{◌≡◌, List, ℕ, [], true, not, sym, ap, rules, ◌∙◌}
+use Rattle.std.proofs.Common.{◌≡◌, List, ℕ, [], true, not, sym, ap, ◌∙◌}
 use Rattle.std.proofs.lemmas.Bool.{OnTrue_from}
 use Rattle.std.specs.List.{list_all}
 use Rattle.am_names.specs.declared.row.MemberRow.{MemberRow}

@@ -1,4 +1,4 @@
-use Rattle.std.proofs.Common.{◌≡◌, ◌&&◌, List, ap, ◌∙◌}
+use Rattle.std.proofs.Common.{◌&&◌, List, ap, ◌∙◌}
 use Rattle.am_names.specs.declared.row.MemberRow.{MemberRow}
 use Rattle.am_names.specs.PeerGroups.{PeerGroups}
 use Rattle.am_group.specs.Changes.{has_members, is_among}

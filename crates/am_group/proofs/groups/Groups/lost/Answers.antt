@@ -1,6 +1,5 @@
-use Rattle.std.proofs.Common.{◌≡◌, List, ℕ, [], refl, sym, ap, subst, rules, ◌∙◌}
+use Rattle.std.proofs.Common.{◌≡◌, List, ℕ, [], refl, sym, subst, rules, ◌∙◌}
 use Rattle.std.specs.Prelude.{filter, not}
-use Rattle.am_names.specs.declared.row.MemberRow.{MemberRow}
 use Rattle.am_names.specs.PeerGroups.{PeerGroups}
 use Rattle.am_group.specs.Changes.{is_among}
 use Rattle.am_group.specs.Invariant.{IsOrderly}

@@ -1,4 +1,4 @@
-use Rattle.std.proofs.Common.{◌≡◌, List, ℕ, [], true, false, not, sym, ap, subst, rules, tests, ◌∙◌}
+use Rattle.std.proofs.Common.{◌≡◌, List, ℕ, [], not, sym, ap, rules, tests, ◌∙◌}
 use Rattle.std.specs.Prelude.{filter}
 use Rattle.std.proofs.lemmas.Fn.{filter_same}
 use Rattle.am_names.proofs.LeaveLemmas.{none_out}

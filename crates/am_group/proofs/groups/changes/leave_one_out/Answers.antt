@@ -1,4 +1,4 @@
-use Rattle.std.proofs.Common.{◌≡◌, ◌++◌, ℕ, List, suc, take, drop, sym, subst, ◌∙◌, rules}
+use Rattle.std.proofs.Common.{◌≡◌, ◌++◌, List, suc, take, drop, sym, subst, ◌∙◌, rules}
 use Rattle.std.proofs.lemmas.List.Sorted.{answers_always}
 use Rattle.am_names.specs.declared.row.MemberRow.{MemberRow}
 use Rattle.am_group.specs.Invariant.{RiseFrom}

@@ -1,5 +1,4 @@
-use Rattle.std.proofs.Common.{◌≡◌, ◌∷◌, ◌++◌, ◌<◌, [], ℕ, List, Option, length, take, sym, ap, rules, ◌∙◌}
-use Rattle.std.specs.List.{filter_map}
+use Rattle.std.proofs.Common.{◌∷◌, ◌++◌, ◌<◌, [], ℕ, List, length, sym, ap, rules, ◌∙◌}
 use Rattle.am_names.specs.Path.{names_of}
 use Rattle.am_propagate.specs.Removed.{bare_top}
 use Rattle.am_propagate.proofs.LoopLemmas.{gives_more, gives_none}

@@ -1,6 +1,5 @@
-use Rattle.std.proofs.Common.{◌≡◌, ℕ, sym, ap, ◌∙◌, rules}
+use Rattle.std.proofs.Common.{ℕ, sym, rules}
 use Rattle.std.proofs.lemmas.List.Sorted.{answers_always}
-use Rattle.am_propagate.specs.Namespaces.{count_up_to}
 use Rattle.am_propagate.proofs.SearchLemmas.{count_found, count_absent}
 use Rattle.am_propagate.proofs.subtree.namespace.count_up_to.Goals as goal
 

@@ -1,6 +1,5 @@
 use Rattle.std.proofs.Common.{◌≡◌, ℕ, List, eqb, sym, ap, subst, rules, ◌∙◌}
 use Rattle.std.specs.Prelude.{◌==◌}
-use Rattle.std.specs.List.{dedup}
 use Rattle.std.specs.List.Sorted.{IsStrictlyIncreasing, IsSorted}
 use Rattle.std.specs.Ordering.{nat_cmp}
 use Rattle.std.proofs.lemmas.Fn.{always_returns_same}

@@ -1,6 +1,5 @@
-use Rattle.std.proofs.Common.{◌≡◌, ℕ, sym, ap, ◌∙◌, rules}
+use Rattle.std.proofs.Common.{ℕ, sym, rules}
 use Rattle.std.proofs.lemmas.List.Sorted.{answers_always}
-use Rattle.am_mount.specs.Rows.{is_among}
 use Rattle.am_propagate.proofs.SearchLemmas.{among_found, among_absent}
 use Rattle.am_propagate.proofs.subtree.removal.is_among.Goals as goal
 

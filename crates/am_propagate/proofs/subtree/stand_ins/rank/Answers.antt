@@ -1,4 +1,4 @@
-use Rattle.std.proofs.Common.{◌≡◌, ℕ, sym, ap, ◌∙◌, rules}
+use Rattle.std.proofs.Common.{ℕ, sym, rules}
 use Rattle.std.proofs.lemmas.List.Sorted.{answers_always}
 use Rattle.am_propagate.proofs.SearchLemmas.{rank_found, rank_absent}
 use Rattle.am_propagate.proofs.subtree.stand_ins.rank.Goals as goal
