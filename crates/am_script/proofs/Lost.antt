@@ -1,6 +1,5 @@
 -- The first answer that a writer didn't take whole.
 use Rattle.std.proofs.Common.{◌≡◌, ◌⊎◌, ◌<◌, ℕ, suc, List, [], ◌∷◌, ◌++◌, length, take, drop, refl, sym, ap, ap₂, ◌∙◌, append_assoc, append-nil, ⊎_elim, inl, inr, arith}
-use Rattle.std.proofs.lemmas.List.{map-append}
 use Rattle.std.proofs.lemmas.Grind.{flat_map-append}
 use Rattle.am_script.proofs.OwedLemmas.{bytes_more}
 use Rattle.am_script.specs.Answers.{answer_line}
