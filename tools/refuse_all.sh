@@ -20,6 +20,7 @@ two_namespaces
 reduced_copy_of_a_namespace
 expiry_and_a_walk_that_waits
 death_and_reattachment
+a_failure_that_lasts
 a_slave_on_a_shared_mount
 an_expiry_and_a_death_among_shared_mounts
 a_use_and_a_wait

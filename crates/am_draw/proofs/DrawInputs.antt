@@ -1,5 +1,5 @@
 -- What is drawn of a whole script that is read.
-use Rattle.std.proofs.Common.{◌≡◌, ℕ, List, length, Option, Some, None, Result, Ok, Err, OnOk, IfOk, IfErr, IfNone, IfSome, option_copied, refl, sym, ap, ◌∙◌, subst, inl, inr}
+use Rattle.std.proofs.Common.{◌≡◌, ℕ, List, length, Option, Some, None, Result, Ok, Err, OnOk, IfOk, IfErr, IfNone, IfSome, refl, sym, ◌∙◌, subst, inl, inr}
 use Rattle.std.proofs.KnownBytes.{Appends-nil}
 use Rattle.std.specs.Io.KnownBytes.{Consumes, IsAtEnd}
 use Rattle.am_machine.specs.State.{State, Opening, opening_in, opening_of}
@@ -7,19 +7,15 @@ use Rattle.am_script.specs.declared.fault.ScriptFault.{ScriptFault}
 use Rattle.am_script.specs.declared.fault.ScriptFaultKind.{ScriptFaultKind}
 use Rattle.am_script.specs.declared.play.Summary.{Summary}
 use Rattle.am_script.specs.declared.visit.Opened.{Opened}
-use Rattle.am_script.specs.Lines.{lines_of, lines_in}
+use Rattle.am_script.specs.Lines.{lines_of}
 use Rattle.am_script.specs.Opened.{OpenedAs, NotOpened}
-use Rattle.am_script.specs.Read.{IsReadFault, WasRead, broken, played}
-use Rattle.am_script.specs.Script.{Script, Told, events_from, script_of}
-use Rattle.am_views.specs.Traced.{HeadStops}
+use Rattle.am_script.specs.Read.{IsReadFault, broken, played}
+use Rattle.am_script.specs.Script.{Script, Told, script_of}
+use Rattle.am_views.proofs.TraceInputs.{was_read, head_stops, told_in}
 use Rattle.am_draw.specs.Drawn.{AllDrawn, DrawStops, DrawnFrom, DrawsInput, StopsDrawing}
 use Rattle.am_world.specs.Table.{state_of}
 
 -- ---- what was read
-
-was_read : (ro rn : Option (List ℕ)) (text : List ℕ) (broke : Option ScriptFaultKind) → Consumes ro rn text → IfNone broke (IsAtEnd rn) → IfSome broke IsReadFault → WasRead ro rn text broke
-was_read ro rn text None read end fault = (read, end)
-was_read ro rn text (Some kind) read end fault = (read, fault)
 
 -- the script, played to its end, is one that was read to its end
 whole_input : (first last : ℕ) → (ro rn wo wn : Option (List ℕ)) (text : List ℕ) (broke : Option ScriptFaultKind) (summary : Summary) → Consumes ro rn text → IfNone broke (IsAtEnd rn) → broken broke text ≡ None → DrawnFrom first last (script_of broke text).opening (script_of broke text).told wo wn summary → DrawsInput first last ro rn wo wn summary
@@ -32,22 +28,15 @@ pub draws_none : (first last : ℕ) → (ro rn wo : Option (List ℕ)) (text : L
 draws_none first last ro rn wo text broke read end h =
     whole_input first last ro rn wo wo text broke (record { lines = 0; refused = 0 }) read end h.1 (subst (λ (s : Script). DrawnFrom first last s.opening s.told wo wo (record { lines = 0; refused = 0 })) (sym h.0) (record { no_fault = refl; written = Appends-nil wo; lines = refl; refused = refl }))
 
-found_by : (lines : ℕ) (script : Script) (wo : Option (List ℕ)) (fault : ScriptFault) → NotOpened lines script fault → HeadStops lines script wo wo fault
-found_by lines script wo fault (inl e) = record { found = inl (ap (λ (s : Script). s.opening) e, ap (λ (s : Script). s.told.fault) e); written = Appends-nil wo }
-found_by lines script wo fault (inr none) = record { found = inr none; written = Appends-nil wo }
-
 pub draws_head : (first last : ℕ) → (ro rn wo : Option (List ℕ)) (text : List ℕ) (broke : Option ScriptFaultKind) (fault : ScriptFault) → Consumes ro rn text → IfNone broke (IsAtEnd rn) → IfSome broke IsReadFault → NotOpened (length (lines_of (played broke text))) (script_of broke text) fault → StopsDrawing first last ro rn wo wo fault
 draws_head first last ro rn wo text broke fault read end kind h = record {
   text = text;
   broke = broke;
   read = was_read ro rn text broke read end kind;
-  stopped = inl (found_by (length (lines_of (played broke text))) (script_of broke text) wo fault h);
+  stopped = inl (head_stops (length (lines_of (played broke text))) (script_of broke text) wo fault h);
 }
 
 -- ---- a head with its events
-
-abbrev pub told_in : Opened → Told
-told_in opened = events_from opened.broke opened.line (lines_in (option_copied opened.rest))
 
 all_from : (first last : ℕ) → (opening : Option Opening) (told : Told) (opened : Opened) (wo wn : Option (List ℕ)) (summary : Summary) → opening ≡ Some (opening_in (state_of opened.world)) → state_of opened.world ≡ opening_of (opening_in (state_of opened.world)) → told ≡ told_in opened → AllDrawn first last (state_of opened.world) (told_in opened) wo wn summary → DrawnFrom first last opening told wo wn summary
 all_from first last opening told opened wo wn summary e world f all =

@@ -1,4 +1,5 @@
--- What lasts from one event to the next: who holds which lane, and what bar stands in it.
+-- What lasts from one event to the next: who holds which lane, and what bar stands in it. Own
+-- choice (docs/DECISIONS.md, "A picture has a fixed width").
 use Rattle.std.specs.Prelude.{ℕ, ◌-◌, Bool, true, false, ◌==◌, List, [], ◌∷◌, length, set, map, replicate, Option, None, Some, if◌then◌else◌}
 use Rattle.std.specs.List.{position, list_any}
 use Rattle.am_wire.specs.declared.kind.Kind.{Kind}
@@ -19,6 +20,7 @@ abbrev pub is_of : ℕ → Option Holder → Bool
 is_of number None = false
 is_of number (Some holder) = holder.number == number
 
+-- the token isn't open any more
 abbrev pub is_over : Look → Bool
 is_over Ended = true
 is_over look = false
@@ -48,6 +50,7 @@ abbrev pub own_or_free : List (Option Holder) → Option ℕ → ℕ
 own_or_free lanes None = free_lane lanes
 own_or_free lanes (Some lane) = lane
 
+-- the lane that a token or a walker takes
 abbrev pub lane_for : ℕ → List (Option Holder) → ℕ
 lane_for number lanes = own_or_free lanes (position (λ lane. is_of number lane) lanes)
 
@@ -73,11 +76,13 @@ answered_lane token (Some holder) =
 abbrev pub look_behind : ℕ → ℕ → Look → Look
 look_behind catatonic fs look = if fs == catatonic then Ended else look
 
+-- how a token looks behind the moment in which this file system becomes catatonic
 abbrev pub look_in : ℕ → Look → Look
 look_in catatonic (Missing fs) = look_behind catatonic fs (Missing fs)
 look_in catatonic (Expire fs) = look_behind catatonic fs (Expire fs)
 look_in catatonic look = look
 
+-- a lane behind that moment
 abbrev pub catatonic_lane : ℕ → Option Holder → Option Holder
 catatonic_lane fs None = None
 catatonic_lane fs (Some holder) = Some (record holder { look = look_in fs holder.look })
@@ -91,9 +96,11 @@ token_look ExpireIndirect fs = Expire fs
 token_look MissingDirect fs = Missing fs
 token_look ExpireDirect fs = Expire fs
 
+-- the walker looks so from here on
 abbrev pub with_walker : ℕ → Look → Lasting → Lasting
 with_walker walker look lasting = record lasting { walkers = placed walker look lasting.walkers }
 
+-- so it is behind this observation
 abbrev pub changed : Lasting → Obs → Lasting
 changed lasting (seen.Queued token attach packet) =
     record lasting { tokens = placed token (token_look packet.kind packet.dev) lasting.tokens }
@@ -114,6 +121,7 @@ seen_behind lasting (obs ∷ seen) = seen_behind (changed lasting obs) seen
 
 -- ---- what an event changes
 
+-- the walker has a lane
 abbrev pub with_sighted : ℕ → Lasting → Lasting
 with_sighted walker lasting = record lasting { walkers = sighted walker lasting.walkers }
 

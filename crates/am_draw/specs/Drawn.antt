@@ -1,4 +1,5 @@
--- How a script is drawn: its run, a row for each event, between a head and a tail.
+-- How a script is drawn: its run, a row for each event, between a head and a tail. Own choice
+-- (docs/FORMATS.md, "Pictures").
 use Rattle.std.specs.Prelude.{◌≡◌, ◌⊎◌, ◌<◌, ℕ, ◌+◌, ◌==◌, Bool, nat_lt, List, [], ◌∷◌, ◌++◌, map, length, take, count_by, Option, None, Some, Result, Ok, Err, if◌then◌else◌}
 use Rattle.std.specs.List.{flat_map}
 use Rattle.std.specs.Io.KnownBytes.{Appends, Consumes, IsAtEnd}
@@ -32,8 +33,8 @@ use Rattle.am_draw.specs.Trees.{rows_before}
 
 -- ---- a run with its mounts
 
--- an event of a script, its answer, what is seen of it, the mounts before it, if some may go in it, and
--- those behind it
+-- an event of a script, its answer, what is seen of it, the mounts before it, if some may go in it,
+-- and those behind it
 pub record Viewed : Type 0 where
   pub asked : Numbered
   pub answer : Answer
@@ -41,9 +42,11 @@ pub record Viewed : Type 0 where
   pub before : List MountRow
   pub after : List MountRow
 
+-- the events of these rows
 abbrev pub asked_in : List Viewed → List Numbered
 asked_in rows = map (λ row. row.asked) rows
 
+-- the answers of these rows
 abbrev pub answers_in : List Viewed → List Answer
 answers_in rows = map (λ row. row.answer) rows
 
@@ -70,6 +73,7 @@ row_in before after part number lasting event seen sides =
 abbrev pub head_in : Part → ℕ → List ℕ
 head_in part number = if number == 1 then head_text part.rows part.events else []
 
+-- what is drawn for the event with this number: the head before the first, and its row
 abbrev pub drawn_for : List MountRow → List MountRow → Part → ℕ → Lasting → Event → List Obs → List ℕ → List ℕ
 drawn_for before after part number lasting event seen sides =
     head_in part number ++ row_in before after part number lasting event seen sides
@@ -79,6 +83,7 @@ pub record Piece : Type 0 where
   pub line : ℕ
   pub bytes : List ℕ
 
+-- what is drawn for the event's line
 abbrev pub event_piece : Part → ℕ → Lasting → Viewed → Piece
 event_piece part number lasting row = record {
   line = row.asked.line;
@@ -104,9 +109,11 @@ tail_pieces (row ∷ next ∷ rows) = tail_pieces (next ∷ rows)
 abbrev pub pieces_of : Part → List Viewed → List Piece
 pieces_of part rows = event_pieces part 1 nothing_lasts rows ++ tail_pieces rows
 
+-- the bytes of these pieces
 abbrev pub bytes_in : List Piece → List ℕ
 bytes_in pieces = flat_map (λ piece. piece.bytes) pieces
 
+-- the picture of a run of these events
 abbrev pub picture : Part → List Viewed → List ℕ
 picture part rows = bytes_in (pieces_of part rows)
 
@@ -183,6 +190,7 @@ pub record DrawnToCount (told : Told) (old new : Option (List ℕ)) (fault : Scr
   pub not_counted : NotCounted told fault
   pub written : Appends old new []
 
+-- the picture stops: at the script's fault, for want of memory, or where the writer takes no more
 abbrev pub DrawStops : ℕ → ℕ → State → Told → Option (List ℕ) → Option (List ℕ) → ScriptFault → Type 0
 DrawStops first last start told old new fault =
     DrawnToFault first last start told old new fault
@@ -196,6 +204,7 @@ DrawEnds first last start told old new (Err fault) = DrawStops first last start 
 
 -- ---- any script
 
+-- all events are drawn where there is a world; where there is none, nothing is written
 abbrev pub DrawnFrom : ℕ → ℕ → Option Opening → Told → Option (List ℕ) → Option (List ℕ) → Summary → Type 0
 DrawnFrom first last None told old new summary = NothingPlayed told old new summary
 DrawnFrom first last (Some opening) told old new summary =

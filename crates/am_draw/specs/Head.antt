@@ -1,4 +1,5 @@
--- What stands before the rows of a picture, and behind them.
+-- What stands before the rows of a picture, and behind them: own choice (docs/FORMATS.md,
+-- "Pictures").
 use Rattle.std.specs.Prelude.{ℕ, ◌+◌, ◌*◌, List, ◌++◌, codes, decimal}
 use Rattle.am_draw.specs.Marks.{label}
 use Rattle.am_draw.specs.Look.{look_text}
@@ -7,6 +8,7 @@ use Rattle.am_draw.specs.Look.{look_text}
 abbrev pub height : ℕ → ℕ
 height rows = 140 + 26 * rows
 
+-- the element that holds all others, as high as so many rows
 abbrev pub size_text : ℕ → List ℕ
 size_text rows =
     codes "<svg xmlns='http://www.w3.org/2000/svg' width='1312' height='" ++ decimal (height rows)
@@ -19,6 +21,7 @@ ground rows =
     ++ decimal (26 * rows)
     ++ codes "'/>\n"
 
+-- how many rows there are, of how many events
 abbrev pub count_words : ℕ → ℕ → List ℕ
 count_words rows events = decimal rows ++ ((codes " of " ++ decimal events) ++ codes " events")
 
@@ -28,5 +31,6 @@ head_text rows events =
     size_text rows
     ++ (look_text ++ (ground rows ++ label (codes "h") 46 84 (count_words rows events)))
 
+-- what stands behind the rows
 abbrev pub tail_text : List ℕ
 tail_text = codes "</svg>\n"

@@ -1,7 +1,8 @@
 -- How the parts of a picture look: its styles, its symbols, and what they stand for. It begins
--- behind the size, within the tag.
+-- behind the size, within the tag. Own choice (docs/FORMATS.md, "Pictures").
 use Rattle.std.specs.Prelude.{ℕ, List, ◌++◌, codes}
 
+-- the styles of texts, lanes, bars and walkers
 abbrev pub look_part_1 : List ℕ
 look_part_1 =
     codes "'>\n<style>text{font:12px 'DejaVu Sans',Verdana,sans-serif;fill:#1b1f24}"
@@ -19,6 +20,7 @@ look_part_1 =
     ++ (codes ".asks{stroke:#1f5fbf;stroke-width:1.3;stroke-dasharray:2 3}"
     ++ codes ".packet{stroke:#1a7f4b;stroke-width:1.6;marker-end:url(#taken)}"))))))))))))
 
+-- the styles of lines and mounts, and the heads of arrows
 abbrev pub look_part_2 : List ℕ
 look_part_2 =
     codes ".ready{stroke:#1f5fbf;stroke-width:1.6;marker-end:url(#head)}"
@@ -36,6 +38,7 @@ look_part_2 =
     ++ (codes "markerWidth='8' markerHeight='8' orient='auto'>"
     ++ codes "<path d='M1 1L7 7M7 1L1 7' style='stroke:#b42318;stroke-width:1.8'/></marker>\n"))))))))))))
 
+-- the hatching, the lanes of all rows, and the bars
 abbrev pub look_part_3 : List ℕ
 look_part_3 =
     codes "<pattern id='hatch' width='6' height='6' patternUnits='userSpaceOnUse' "
@@ -54,6 +57,8 @@ look_part_3 =
     ++ (codes "<path id='waits' class='waiting' d='M0 0v13'/>\n"
     ++ codes "<path id='inside' class='inside' d='M0 0v13'/>\n")))))))))))))
 
+-- symbols: who acts, how tokens and mounts are marked, and catatonic mode; the first word of the
+-- key
 abbrev pub look_part_4 : List ℕ
 look_part_4 =
     codes "<circle id='walks' class='walks' r='4.5'/>\n"
@@ -71,6 +76,7 @@ look_part_4 =
     ++ (codes "<g transform='translate(46 14)'>\n<use href='#missing' x='12' y='0'/>\n"
     ++ codes "<text class='s' x='30' y='10'>open token of a missing mount</text>\n"))))))))))))
 
+-- the key: tokens, packets, releases and waits
 abbrev pub look_part_5 : List ℕ
 look_part_5 =
     codes "<use href='#expire' x='222' y='0'/>\n"
@@ -88,6 +94,7 @@ look_part_5 =
     ++ (codes "<path class='asks' d='M1046 6H1070'/>\n"
     ++ codes "<text class='s' x='1076' y='10'>waits on a token</text>\n"))))))))))))
 
+-- the key: walkers, who acts, and mounts
 abbrev pub look_part_6 : List ℕ
 look_part_6 =
     codes "<path class='waiting' d='M0 30H24'/>\n"
@@ -105,6 +112,7 @@ look_part_6 =
     ++ (codes "<use href='#came' x='880' y='30'/>\n<text class='s' x='888' y='34'>came</text>\n"
     ++ codes "<use href='#went' x='928' y='30'/>\n"))))))))))))
 
+-- the end of the key, and the titles of the columns
 abbrev pub look_part_7 : List ℕ
 look_part_7 =
     codes "<text class='s' x='936' y='34'>went (a mount)</text>\n"
@@ -125,6 +133,7 @@ look_part_8 =
     ++ (codes "<text class='k' x='1115' y='110'>6</text>\n<text class='k' x='1129' y='110'>7..</text>\n"
     ++ codes "<text class='h' x='1148' y='108'>where</text>\n"))))
 
+-- all of them
 abbrev pub look_text : List ℕ
 look_text =
     look_part_1

@@ -4,6 +4,7 @@ use Rattle.std.specs.Prelude.{ℕ, ◌+◌, ◌*◌, List, ◌++◌, codes, deci
 use Rattle.am_draw.specs.declared.marks.Lanes.{Lanes}
 use Rattle.am_draw.specs.declared.marks.Lanes.TheVariants.{OfTokens, OfWalkers}
 
+-- where it stands
 abbrev pub at_text : ℕ → ℕ → List ℕ
 at_text x y = codes "' x='" ++ decimal x ++ (codes "' y='" ++ decimal y)
 
@@ -11,6 +12,7 @@ at_text x y = codes "' x='" ++ decimal x ++ (codes "' y='" ++ decimal y)
 abbrev pub stamp : List ℕ → ℕ → ℕ → List ℕ
 stamp symbol x y = codes "<use href='#" ++ (symbol ++ (at_text x y ++ codes "'/>\n"))
 
+-- from one place of the row's middle to another
 abbrev pub span_text : ℕ → ℕ → List ℕ
 span_text from to = codes "' d='M" ++ decimal from ++ (codes " 13H" ++ decimal to)
 
@@ -18,6 +20,7 @@ span_text from to = codes "' d='M" ++ decimal from ++ (codes " 13H" ++ decimal t
 abbrev pub stroke : List ℕ → ℕ → ℕ → List ℕ
 stroke class from to = codes "<path class='" ++ (class ++ (span_text from to ++ codes "'/>\n"))
 
+-- the tag of a text of this class
 abbrev pub opening : List ℕ → ℕ → ℕ → List ℕ
 opening class x y = codes "<text class='" ++ (class ++ (at_text x y ++ codes "'>"))
 

@@ -1,4 +1,4 @@
--- Which events of a script are drawn.
+-- Which events of a script are drawn: own choice (docs/FORMATS.md, "Pictures").
 use Rattle.std.specs.Prelude.{ℕ, ◌+◌, ◌-◌, ◌*◌, Bool, ◌&&◌, min, nat_lt, nat_le}
 use Rattle.am_draw.specs.declared.part.Part.{Part}
 
@@ -6,8 +6,8 @@ use Rattle.am_draw.specs.declared.part.Part.{Part}
 abbrev pub most_rows : ℕ
 most_rows = 1000000
 
--- Of so many events those from one number to another are drawn, but at most so many. Numbers of events
--- begin with 1.
+-- Of so many events those from one number to another are drawn, but at most so many. Numbers of
+-- events begin with 1.
 abbrev pub part_of : ℕ → ℕ → ℕ → Part
 part_of first last events = record {
   skipped = first - 1;
@@ -15,6 +15,7 @@ part_of first last events = record {
   events = events;
 }
 
+-- the event with this number is drawn
 abbrev pub is_drawn : Part → ℕ → Bool
 is_drawn part number = nat_lt part.skipped number && nat_le (number - part.skipped) part.rows
 

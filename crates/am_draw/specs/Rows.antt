@@ -1,4 +1,4 @@
--- The row of an event.
+-- The row of an event: own choice (docs/FORMATS.md, "Pictures").
 use Rattle.std.specs.Prelude.{ℕ, ◌+◌, ◌-◌, Bool, List, [], ◌∷◌, ◌++◌, codes, decimal, Option, None, Some, if◌then◌else◌}
 use Rattle.am_names.specs.declared.row.MountRow.{MountRow}
 use Rattle.am_names.specs.declared.trigger.Status.{Status}
@@ -26,9 +26,11 @@ use Rattle.am_draw.specs.Words.{words}
 
 -- ---- where things stand
 
+-- the middle of the token's lane
 abbrev pub token_x : Lasting → ℕ → ℕ
 token_x lasting token = lane_x OfTokens (lane_of token lasting.tokens)
 
+-- the middle of the walker's lane
 abbrev pub walker_x : Lasting → ℕ → ℕ
 walker_x lasting walker = lane_x OfWalkers (lane_of walker lasting.walkers)
 
@@ -43,6 +45,7 @@ look_half Waits x y = stamp (codes "waits") x y
 look_half Inside x y = stamp (codes "inside") x y
 look_half Idle x y = []
 
+-- half a row of the bar in a lane, if somebody holds it
 abbrev pub lane_half : Option Holder → ℕ → ℕ → List ℕ
 lane_half None x y = []
 lane_half (Some holder) x y = look_half holder.look x y
@@ -53,6 +56,7 @@ lanes_half lanes y number [] = []
 lanes_half lanes y number (lane ∷ others) =
     lane_half lane (lane_x lanes number) y ++ lanes_half lanes y (number + 1) others
 
+-- half a row of the bars in all lanes
 abbrev pub half : ℕ → Lasting → List ℕ
 half y lasting = lanes_half OfTokens y 0 lasting.tokens ++ lanes_half OfWalkers y 0 lasting.walkers
 
@@ -62,6 +66,7 @@ bars before behind = half 0 before ++ half 13 behind
 
 -- ---- what stands at the sides
 
+-- an answer that refuses looks otherwise
 abbrev pub answer_class : Bool → List ℕ
 answer_class refused = if refused then codes "m refused" else codes "m"
 
@@ -78,12 +83,15 @@ labels number event answer refused =
 abbrev pub walker_mark : List ℕ → ℕ → ℕ → List ℕ
 walker_mark symbol x walker = stamp symbol x 13 ++ label (codes "s n") (x - 8) 17 (decimal walker)
 
+-- the mark of the administrator
 abbrev pub administrator_mark : List ℕ
 administrator_mark = stamp (codes "administrator") 1010 13
 
+-- the mark of the daemon
 abbrev pub daemon_mark : List ℕ
 daemon_mark = stamp (codes "daemon") 884 13
 
+-- the mark of whoever makes the event; one that only reads has none
 abbrev pub actor_marks : Lasting → Event → List ℕ
 actor_marks lasting (events.Walk walker ns path now pipe) =
     walker_mark (codes "walks") (walker_x lasting walker) walker
@@ -114,6 +122,7 @@ kind_words ExpireIndirect = codes "expire "
 kind_words MissingDirect = []
 kind_words ExpireDirect = codes "expire "
 
+-- what a packet asks for, and its name
 abbrev pub packet_words : Packet → List ℕ
 packet_words packet = kind_words packet.kind ++ words 16 packet.name
 
@@ -124,19 +133,22 @@ queued_marks x token packet =
     ++ (label (codes "k") x 24 (decimal token)
     ++ label (codes "s") (x + 11) 24 (packet_words packet))
 
+-- the mark at a token that is acknowledged so
 abbrev pub answered_symbol : Status → List ℕ
 answered_symbol Ready = codes "edge"
 answered_symbol (Fail error) = codes "failed"
 
+-- the arrow to a walker that is released with this status
 abbrev pub released_class : Status → List ℕ
 released_class Ready = codes "ready"
 released_class (Fail error) = codes "fail"
 
+-- what is said where a file system becomes catatonic
 abbrev pub catatonic_words : ℕ → List ℕ
 catatonic_words fs = codes "file system " ++ decimal fs ++ codes " is catatonic"
 
--- what is drawn of an observation, where this lasts behind it, and these are the mounts before the event
--- and behind it
+-- what is drawn of an observation, where this lasts behind it, and these are the mounts before the
+-- event and behind it
 abbrev pub obs_marks : List MountRow → List MountRow → Lasting → Obs → List ℕ
 obs_marks before after lasting (seen.Queued token attach packet) =
     queued_marks (token_x lasting token) token packet
@@ -165,6 +177,7 @@ obs_marks before after lasting (seen.Reattached fs attach) =
     label (codes "s") 895 17 (codes "attached again, by " ++ decimal attach)
 obs_marks before after lasting seen.Died = label (codes "h") 897 17 (codes "the daemon dies")
 
+-- what is drawn of these observations, in order, each as it lasts behind it
 abbrev pub seen_marks : List MountRow → List MountRow → Lasting → List Obs → List ℕ
 seen_marks before after lasting [] = []
 seen_marks before after lasting (obs ∷ seen) =
@@ -173,6 +186,7 @@ seen_marks before after lasting (obs ∷ seen) =
 
 -- ---- the row
 
+-- the tag of the row whose top is at y
 abbrev pub row_opening : ℕ → List ℕ
 row_opening y = codes "<g transform='translate(0 " ++ decimal y ++ codes ")'>\n"
 
@@ -180,6 +194,7 @@ row_opening y = codes "<g transform='translate(0 " ++ decimal y ++ codes ")'>\n"
 abbrev pub scene : ℕ → Lasting → Lasting → List ℕ → List ℕ
 scene y before behind sides = row_opening y ++ (bars before behind ++ sides)
 
+-- who acts, and what is seen
 abbrev pub marks : List MountRow → List MountRow → Lasting → Event → List Obs → List ℕ
 marks before after lasting event seen =
     actor_marks lasting event ++ (seen_marks before after lasting seen ++ codes "</g>\n")
@@ -190,6 +205,7 @@ row_text before after y lasting event seen sides =
     scene y lasting (behind lasting event seen) sides
     ++ marks before after (acted lasting event) event seen
 
+-- what stands at the sides of the row of this event
 abbrev pub sides_of : ℕ → Event → Answer → List ℕ
 sides_of number event answer =
     labels number (event_text event) (answer_text answer) (is_refused answer)

@@ -1,5 +1,5 @@
--- Mounts on their trees: where those stand that come, and where those stood that go. A namespace is a
--- tree, and has a lane.
+-- Mounts on their trees: where those stand that come, and where those stood that go. A namespace is
+-- a tree, and has a lane. Own choice (docs/FORMATS.md, "Pictures").
 use Rattle.std.specs.Prelude.{ℕ, ◌+◌, ◌*◌, Bool, true, false, min, nat_lt, List, [], ◌∷◌, ◌++◌, length, take, slice_get, codes, decimal, Option, None, Some, if◌then◌else◌}
 use Rattle.std.specs.List.{flat_map}
 use Rattle.am_names.specs.declared.row.MountRow.{MountRow}
@@ -17,11 +17,13 @@ use Rattle.am_draw.specs.Words.{words}
 
 -- ---- where they stood
 
+-- the act unmounts
 abbrev pub is_umount : Option Act → Bool
 is_umount (Some (acts.Umount trigger)) = true
 is_umount act = false
 
--- mounts may go in the event: it unmounts, drops a namespace, or is an act of the daemon that unmounts
+-- mounts may go in the event: it unmounts, drops a namespace, or is an act of the daemon that
+-- unmounts
 abbrev pub takes_mounts : State → Event → Bool
 takes_mounts s (events.Umount ns path) = true
 takes_mounts s (events.DropNamespace ns) = true
@@ -43,6 +45,7 @@ abbrev pub tree_mark : List ℕ → Option MountRow → List ℕ
 tree_mark symbol None = []
 tree_mark symbol (Some row) = stamp symbol (tree_x row.ns) 13
 
+-- a mark for each of these mounts
 abbrev pub tree_marks : List ℕ → List MountRow → List ℕ → List ℕ
 tree_marks symbol rows mounts = flat_map (λ mount. tree_mark symbol (mount_row rows mount)) mounts
 
@@ -54,10 +57,12 @@ point_words joint None = codes ", a root"
 point_words joint (Some position) =
     (joint ++ decimal position.mount) ++ words 14 (place_text position.place)
 
+-- where the mount stands, if it is among the rows
 abbrev pub row_words : List ℕ → Option MountRow → List ℕ
 row_words joint None = []
 row_words joint (Some row) = point_words joint row.mountpoint
 
+-- three dots, if there are more
 abbrev pub more_dots : Bool → List ℕ
 more_dots more = if more then codes " ..." else []
 
@@ -66,9 +71,11 @@ abbrev pub tree_words : List ℕ → List MountRow → ℕ → Bool → List ℕ
 tree_words joint rows mount more =
     decimal mount ++ (row_words joint (mount_row rows mount) ++ more_dots more)
 
+-- the words of a mount, at this height
 abbrev pub tree_label : ℕ → List ℕ → List MountRow → ℕ → Bool → List ℕ
 tree_label y joint rows mount more = label (codes "s") 1148 y (tree_words joint rows mount more)
 
+-- the same, if there is a mount
 abbrev pub tree_label_in : ℕ → List ℕ → List MountRow → Option ℕ → Bool → List ℕ
 tree_label_in y joint rows None more = []
 tree_label_in y joint rows (Some mount) more = tree_label y joint rows mount more

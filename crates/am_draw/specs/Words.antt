@@ -20,6 +20,7 @@ xml_byte byte =
     else if byte == 34 then codes "&quot;"
     else plain byte
 
+-- bytes as text in XML
 abbrev pub xml : List ℕ → List ℕ
 xml bytes = flat_map xml_byte bytes
 

@@ -25,10 +25,10 @@ use am_world::{Event, Obs, World};
 use std::alloc::{AllocError, Global};
 use std::io::{Read, Write};
 
-/// Reads a script to its end, plays it on a world of its own, and writes a picture of what happened,
-/// an SVG, with a row for each event from one number to another; numbers begin with 1. It has the
-/// faults of `run_script`, but that an event for which there is no memory is one. What is drawn isn't
-/// kept: it goes to the writer piece by piece.
+/// Reads a script to its end, plays it on a world of its own, and writes a picture of what
+/// happened, an SVG, with a row for each event from one number to another; numbers begin with 1. It
+/// has the faults of `run_script`, but that an event for which there is no memory is one. What is
+/// drawn isn't kept: it goes to the writer piece by piece.
 pub fn draw_script<R: Read, W: Write>(
     alloc: Global,
     reader: &mut R,

@@ -78,7 +78,8 @@ fn put_administrator<W: Write>(output: &mut Output, writer: &mut W)
 }
 
 fn put_daemon<W: Write>(output: &mut Output, writer: &mut W)
-    ensures { Puts output.old output.new daemon_mark (W.contents writer.old) (W.contents writer.new) }
+    ensures { Puts output.old output.new daemon_mark (W.contents writer.old)
+        (W.contents writer.new) }
 {
     put_stamp(output, b"daemon", 884, 13, writer);
 }

@@ -12,7 +12,7 @@ use Rattle.am_script.specs.Lines.{lines_of}
 use Rattle.am_script.specs.Opened.{OpenedAs, NotOpened}
 use Rattle.am_script.specs.Read.{IsReadFault, broken, played}
 use Rattle.am_script.specs.Script.{Script, Told, events_in, script_of}
-use Rattle.am_views.proofs.TraceInputs.{was_read, found_by, told_in}
+use Rattle.am_views.proofs.TraceInputs.{was_read, head_stops, told_in}
 use Rattle.am_mountinfo.specs.WorldText.{WorldShown, AllShown, ShowStops, ShownFrom, ShowsInput, StopsShowing}
 use Rattle.am_mountinfo.proofs.Placed.{are_placed}
 use Rattle.am_world.specs.Table.{state_of}
@@ -35,7 +35,7 @@ shows_head only ro rn wo text broke fault read end kind h = record {
   text = text;
   broke = broke;
   read = was_read ro rn text broke read end kind;
-  stopped = inl (found_by (length (lines_of (played broke text))) (script_of broke text) wo fault h);
+  stopped = inl (head_stops (length (lines_of (played broke text))) (script_of broke text) wo fault h);
 }
 
 -- ---- a head with its events

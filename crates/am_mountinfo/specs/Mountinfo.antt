@@ -16,6 +16,7 @@ use Rattle.am_trigger.specs.declared.autofs.Autofs.{Autofs}
 
 -- ---- where mounts are
 
+-- the mount of this position; a root is its own parent
 abbrev pub parent_in : ℕ → Option Position → ℕ
 parent_in m None = m
 parent_in m (Some position) = position.mount
@@ -67,6 +68,7 @@ abbrev pub tag_text : List ℕ → Option ℕ → List ℕ
 tag_text word None = []
 tag_text word (Some number) = word ++ decimal number
 
+-- there is a number, and it is this
 abbrev pub is_number : ℕ → Option ℕ → Bool
 is_number n None = false
 is_number n (Some other) = other == n
@@ -85,6 +87,7 @@ masters_from zero s group = []
 masters_from (suc most) s None = []
 masters_from (suc most) s (Some group) = group ∷ masters_from most s (master_of_group s group)
 
+-- the number, or 0 where there is none
 abbrev pub number_or_0 : Option ℕ → ℕ
 number_or_0 None = 0
 number_or_0 (Some n) = n
@@ -99,6 +102,7 @@ masters_of s m = masters_from (number_or_0 (master_of s m)) s (master_of s m)
 abbrev pub dominating : MountTable → MountRow → Option ℕ
 dominating t row = find (has_peer t row.ns) (masters_of t.groups row.mount)
 
+-- the peer group, if it isn't the master
 abbrev pub but : Option ℕ → Option ℕ → Option ℕ
 but master None = None
 but master (Some group) = if is_number group master then None else Some group
@@ -107,10 +111,12 @@ but master (Some group) = if is_number group master then None else Some group
 abbrev pub source_of : MountTable → MountRow → Option ℕ
 source_of t row = but (master_of t.groups row.mount) (dominating t row)
 
+-- whether it is unbindable
 abbrev pub flag_text : Bool → List ℕ
 flag_text true = codes " unbindable"
 flag_text false = []
 
+-- the same of a mount that has a row
 abbrev pub unbindable_text : Option MemberRow → List ℕ
 unbindable_text None = []
 unbindable_text (Some member) = flag_text member.unbindable
@@ -134,10 +140,12 @@ numbers_text row =
 abbrev pub point_text : List ℕ → List ℕ
 point_text path = codes " / " ++ (path_text path ++ codes " rw")
 
+-- the type of the file system: an autofs, or a plain one
 abbrev pub type_text : Option Autofs → List ℕ
 type_text None = codes " - plain none rw\n"
 type_text (Some autofs) = codes " - autofs none rw\n"
 
+-- the line of a mount
 abbrev pub mount_line : KernelState → MountRow → List ℕ
 mount_line k row =
     numbers_text row ++
@@ -150,6 +158,7 @@ mountinfo k ns = flat_map (mount_line k) (filter (is_in ns) k.table.rows)
 
 -- ---- the namespaces
 
+-- the mounts of a namespace, behind a comment with its number
 abbrev pub namespace_text : KernelState → ℕ → List ℕ
 namespace_text k ns = codes "# namespace " ++ decimal ns ++ (codes "\n" ++ mountinfo k ns)
 
@@ -158,5 +167,6 @@ pub record AreNamespaces (rows : List MountRow) (order : List ℕ) : Type 0 wher
   pub rising : IsStrictlyIncreasing order
   pub each : (ns : ℕ) → Contains order ns ↔ Contains (map (λ row. row.ns) rows) ns
 
+-- those of these namespaces
 abbrev pub namespaces_text : KernelState → List ℕ → List ℕ
 namespaces_text k order = flat_map (namespace_text k) order

@@ -1,5 +1,6 @@
--- What stands behind the mounts of a world, each in a comment of its own: what is open, queued, written
--- down and at work, and where walkers are.
+-- What stands behind the mounts of a world, each in a comment of its own: what is open, queued,
+-- written down and at work, and where walkers are. Own choice (docs/DECISIONS.md, "A world is
+-- printed as Linux prints mounts").
 use Rattle.std.specs.Prelude.{ℕ, List, [], ◌∷◌, ◌++◌, codes, decimal, Option, None, Some}
 use Rattle.std.specs.List.{flat_map}
 use Rattle.std.specs.Option.{option_map}
@@ -30,6 +31,7 @@ obs_note obs = codes "# " ++ (obs_text obs ++ 10 ∷ [])
 abbrev pub walkers_text : List ℕ → List ℕ
 walkers_text walkers = flat_map (λ walker. codes " " ++ decimal walker) walkers
 
+-- the trigger, if there is one
 abbrev pub trigger_text : Option Trigger → List ℕ
 trigger_text None = []
 trigger_text (Some trigger) = trigger_part trigger
@@ -44,9 +46,11 @@ token_note w token =
 
 -- ---- the daemon
 
+-- a packet in the queue
 abbrev pub packet_note : QueuedRow → List ℕ
 packet_note row = obs_note (seen.Queued row.token row.attach row.packet)
 
+-- a record of the daemon's book
 abbrev pub record_note : RecordRow → List ℕ
 record_note row = obs_note (seen.Recorded row.trigger (Some row.entry))
 
@@ -58,6 +62,7 @@ job_note job =
 
 -- ---- walkers
 
+-- the status, if there is one
 abbrev pub status_text : Option Status → List ℕ
 status_text None = []
 status_text (Some status) = status_part status
@@ -88,26 +93,34 @@ fs_notes w fs = flat_map (token_note w) (tokens_of w.tokens fs)
 abbrev pub tokens_notes : KernelState → List ℕ
 tokens_notes k = flat_map (λ row. fs_notes k.waits row.fs) k.attached
 
+-- the packets in the queue, in order
 abbrev pub packets_notes : KernelState → List ℕ
 packets_notes k = flat_map packet_note k.queue
 
+-- the records of the daemon's book
 abbrev pub book_notes : DaemonState → List ℕ
 book_notes d = flat_map record_note d.book
 
+-- the jobs that haven't ended
 abbrev pub jobs_notes : DaemonState → List ℕ
 jobs_notes d = flat_map job_note d.jobs
 
+-- the walkers that wait or have still to collect their status
 abbrev pub walks_notes : KernelState → List ℕ
 walks_notes k = flat_map (walk_note k.waits) k.walks
 
+-- the walkers that are inside of mounts
 abbrev pub uses_notes : KernelState → List ℕ
 uses_notes k = flat_map use_note k.uses
 
+-- what the kernel holds beside open tokens
 abbrev pub kernel_notes : KernelState → List ℕ
 kernel_notes k = packets_notes k ++ (walks_notes k ++ uses_notes k)
 
+-- what the daemon holds
 abbrev pub daemon_notes : DaemonState → List ℕ
 daemon_notes d = book_notes d ++ jobs_notes d
 
+-- all of them, open tokens first
 abbrev pub notes : State → List ℕ
 notes s = tokens_notes s.kernel ++ (kernel_notes s.kernel ++ daemon_notes s.daemon)

@@ -1,4 +1,5 @@
--- The open tokens as they are gathered, and a row that may be there. For the code alone.
+-- The open tokens as they are gathered, and a row that may be there. For the code
+-- alone: own choice.
 use Rattle.std.specs.Prelude.{List, [], ◌++◌, codes, decimal, ℕ, Option, None, Some}
 use Rattle.std.specs.List.{flat_map}
 use Rattle.std.specs.Option.{option_map}
@@ -14,6 +15,7 @@ open_text w o =
     (walkers_text o.waiters.items ++
     (trigger_text (option_map (λ row. row.trigger) (token_of w.tokens o.token)) ++ codes "\n")))
 
+-- what is written of these open tokens
 abbrev pub opens_text : WaitRows → List Open → List ℕ
 opens_text w opens = flat_map (open_text w) opens
 

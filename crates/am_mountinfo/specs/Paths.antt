@@ -1,10 +1,11 @@
--- The paths of mounts as they are kept. For the code alone.
+-- The paths of mounts as they are kept. For the code alone: own choice.
 use Rattle.std.specs.Prelude.{◌≡◌, ◌==◌, ℕ, nat_eq, List, [], Option, None, Some, Vec, if◌then◌else◌}
 use Rattle.indexmap.specs.IndexMap.{get}
 use Rattle.am_names.specs.declared.row.MountRow.{MountRow}
 use Rattle.am_mountinfo.specs.declared.paths.Paths.{Paths}
 use Rattle.am_mountinfo.specs.Mountinfo.{below, parent_of, path_of}
 
+-- the text, if one is kept
 abbrev pub text_in : {Z : Type 0} → Option (Vec ℕ Z) → List ℕ
 text_in None = []
 text_in (Some text) = text.items

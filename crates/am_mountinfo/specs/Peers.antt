@@ -1,4 +1,5 @@
--- The peer groups of each namespace as they are kept. For the code alone.
+-- The peer groups of each namespace as they are kept. For the code alone: own
+-- choice.
 use Rattle.std.specs.Prelude.{◌≡◌, ◌==◌, ◌&&◌, ◌||◌, ℕ, Bool, nat_eq, List, Option}
 use Rattle.std.specs.List.{list_any}
 use Rattle.indexmap.specs.IndexSet.{contains}
@@ -7,6 +8,7 @@ use Rattle.am_names.specs.declared.row.MountRow.{MountRow}
 use Rattle.am_mountinfo.specs.declared.peers.Peers.{Peers}
 use Rattle.am_mountinfo.specs.Mountinfo.{is_number, is_peer_in}
 
+-- the same namespace and the same peer group
 abbrev pub same_site : ℕ × ℕ → ℕ × ℕ → Bool
 same_site x y = nat_eq x.0 y.0 && nat_eq x.1 y.1
 

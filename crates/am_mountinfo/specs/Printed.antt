@@ -1,4 +1,5 @@
--- What is gathered of a world before it is printed. For the code alone.
+-- What is gathered of a world before it is printed. For the code alone: own choice
+-- (docs/DECISIONS.md, "A world is gathered before it is printed").
 use Rattle.std.specs.Prelude.{ℕ, List, ◌++◌}
 use Rattle.am_daemon.specs.State.{DaemonState}
 use Rattle.am_kernel.specs.State.{KernelState}

@@ -1,4 +1,4 @@
--- The mounts of each namespace as they are kept. For the code alone.
+-- The mounts of each namespace as they are kept. For the code alone: own choice.
 use Rattle.std.specs.Prelude.{◌≡◌, ◌==◌, ℕ, nat_eq, List, [], ◌∷◌, ◌++◌, map, filter, Option, None, Some, Vec, if◌then◌else◌}
 use Rattle.std.specs.Borrow.{Bor}
 use Rattle.indexmap.specs.IndexMap.{get}
@@ -6,6 +6,7 @@ use Rattle.am_names.specs.declared.row.MountRow.{MountRow}
 use Rattle.am_mount.specs.Rows.{is_in}
 use Rattle.am_mountinfo.specs.declared.residents.Residents.{Residents}
 
+-- the rows, if a list of them is kept
 abbrev pub rows_in : {Z : Type 0} → Option (Vec (Bor MountRow) Z) → List MountRow
 rows_in None = []
 rows_in (Some list) = map (λ row. row.now) list.items

@@ -1,4 +1,5 @@
--- What is looked up of mounts while they are printed. For the code alone.
+-- What is looked up of mounts while they are printed. For the code alone: own
+-- choice.
 use Rattle.am_propagate.specs.MountTable.{MountTable}
 use Rattle.am_mountinfo.specs.declared.tables.Tables.{Tables}
 use Rattle.am_mountinfo.specs.Paths.{ArePaths}

@@ -1,4 +1,5 @@
--- How the world after a script is printed.
+-- How the world after a script is printed: own choice (docs/DECISIONS.md, "A world is printed as
+-- Linux prints mounts").
 use Rattle.std.specs.Prelude.{◌≡◌, ◌⊎◌, ◌<◌, ⊤, ℕ, Bool, List, [], ◌∷◌, ◌++◌, length, take, count_by, Option, None, Some}
 use Rattle.std.specs.Io.KnownBytes.{Appends, Consumes, IsAtEnd}
 use Rattle.am_machine.specs.declared.event.Event.{Event}
@@ -21,8 +22,8 @@ use Rattle.am_mountinfo.specs.Notes.{notes}
 
 -- ---- a world as a text
 
--- the mounts of all namespaces, each behind a line that names it, and then what else there is; or the
--- mounts of one namespace alone
+-- the mounts of all namespaces, each behind a line that names it, and then what else there is; or
+-- the mounts of one namespace alone
 abbrev pub IsText : Option ℕ → State → List ℕ → Type 0
 IsText None s text =
     (order : List ℕ) × AreNamespaces s.kernel.table.rows order × (text ≡ namespaces_text s.kernel order ++ notes s)
@@ -48,6 +49,7 @@ pub record NoRoomToWrite (line : ℕ) (old new : Option (List ℕ)) (fault : Scr
   pub line_is : fault.line ≡ line
   pub written : Appends old new []
 
+-- memory runs out before the text, or the writer takes only a beginning of it
 abbrev pub NotWritten : Option ℕ → State → ℕ → Option (List ℕ) → Option (List ℕ) → ScriptFault → Type 0
 NotWritten only s line old new fault =
     NoRoomToWrite line old new fault
@@ -83,6 +85,7 @@ pub record NoRoomToPlay (told : Told) (fault : ScriptFault) : Type 0 where
 abbrev pub NotPlayed : Told → ScriptFault → Type 0
 NotPlayed told fault = (told.fault ≡ Some fault) ⊎ NoRoomToPlay told fault
 
+-- the line of the last of these events, or this one where there is none
 abbrev pub last_line : ℕ → List Numbered → ℕ
 last_line line [] = line
 last_line line (asked ∷ others) = last_line asked.line others
@@ -114,18 +117,20 @@ pub record StopsWriting (only : Option ℕ) (start : State) (told : Told) (old n
   pub is_last : IsLastLine line told.events
   pub stops : NotWritten only last line old new fault
 
+-- not all events come, or the world isn't written to its end
 abbrev pub ShowStops : Option ℕ → State → Told → Option (List ℕ) → Option (List ℕ) → ScriptFault → Type 0
 ShowStops only start told old new fault =
     StopsPlaying told old new fault ⊎ StopsWriting only start told old new fault
 
 -- ---- any script
 
--- the world that is written is one that the initial world leads to, and each path in it is below that of
--- its parent
+-- the world that is written is one that the initial world leads to, and each path in it is below
+-- that of its parent
 pub record AllShown (only : Option ℕ) (opening : Opening) (told : Told) (old new : Option (List ℕ)) (summary : Summary) : Type 0 where
   pub shown : WorldShown only (opening_of opening) told old new summary
   pub placed : ArePlaced shown.last.kernel.table.rows
 
+-- the world is shown where there is one; where there is none, nothing is written
 abbrev pub ShownFrom : Option ℕ → Option Opening → Told → Option (List ℕ) → Option (List ℕ) → Summary → Type 0
 ShownFrom only None told old new summary = NothingPlayed told old new summary
 ShownFrom only (Some opening) told old new summary = AllShown only opening told old new summary

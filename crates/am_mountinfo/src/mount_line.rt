@@ -28,7 +28,8 @@ pub(crate) fn put_mounts<W: Write>(
     writer: &mut W,
 )
     requires { AreTables tables.now world.now.kernel.table }
-    ensures { Puts output.old output.new (mountinfo world.now.kernel ns) (W.contents writer.old) (W.contents writer.new) }
+    ensures { Puts output.old output.new (mountinfo world.now.kernel ns) (W.contents writer.old)
+        (W.contents writer.new) }
 {
     if let Some(rows) = tables.residents.list(ns) {
         put_rows(output, world, tables, rows, writer);
@@ -44,7 +45,8 @@ fn put_rows<W: Write>(
     writer: &mut W,
 )
     requires { AreTables tables.now world.now.kernel.table }
-    ensures { Puts output.old output.new (flat_map (mount_line world.now.kernel) (map (λ row. row.now) rows.now)) (W.contents writer.old) (W.contents writer.new) }
+    ensures { Puts output.old output.new (flat_map (mount_line world.now.kernel)
+        (map (λ row. row.now) rows.now)) (W.contents writer.old) (W.contents writer.new) }
 {
     for row in rows {
         put_mount(output, world, tables, row, writer);
@@ -60,7 +62,8 @@ fn put_mount<W: Write>(
     writer: &mut W,
 )
     requires { AreTables tables.now world.now.kernel.table }
-    ensures { Puts output.old output.new (mount_line world.now.kernel row.now) (W.contents writer.old) (W.contents writer.new) }
+    ensures { Puts output.old output.new (mount_line world.now.kernel row.now)
+        (W.contents writer.old) (W.contents writer.new) }
 {
     put_numbers(output, row, writer);
     put_point(output, tables.paths.path(row.mount), writer);
@@ -70,7 +73,8 @@ fn put_mount<W: Write>(
 
 #[tactic(auto, using(am_script::proofs::Pieces::puts_three))]
 fn put_numbers<W: Write>(output: &mut Output, row: &MountRow, writer: &mut W)
-    ensures { Puts output.old output.new (numbers_text row.now) (W.contents writer.old) (W.contents writer.new) }
+    ensures { Puts output.old output.new (numbers_text row.now) (W.contents writer.old)
+        (W.contents writer.new) }
 {
     put_number(output, b"", row.mount.0, writer);
     put_number(output, b" ", parent_of(row).0, writer);
@@ -79,7 +83,8 @@ fn put_numbers<W: Write>(output: &mut Output, row: &MountRow, writer: &mut W)
 
 #[tactic(auto, using(am_script::proofs::Pieces::puts_three))]
 fn put_point<W: Write>(output: &mut Output, path: &[u8], writer: &mut W)
-    ensures { Puts output.old output.new (point_text path.now) (W.contents writer.old) (W.contents writer.new) }
+    ensures { Puts output.old output.new (point_text path.now) (W.contents writer.old)
+        (W.contents writer.new) }
 {
     put_word(output, b" / ", writer);
     put_path(output, path, writer);
@@ -87,7 +92,8 @@ fn put_point<W: Write>(output: &mut Output, path: &[u8], writer: &mut W)
 }
 
 fn put_path<W: Write>(output: &mut Output, path: &[u8], writer: &mut W)
-    ensures { Puts output.old output.new (path_text path.now) (W.contents writer.old) (W.contents writer.new) }
+    ensures { Puts output.old output.new (path_text path.now) (W.contents writer.old)
+        (W.contents writer.new) }
 {
     if path.is_empty() {
         put_word(output, b"/", writer);
@@ -98,7 +104,8 @@ fn put_path<W: Write>(output: &mut Output, path: &[u8], writer: &mut W)
 
 #[tactic(auto, using(am_script::proofs::Pieces::puts_none))]
 fn put_bytes<W: Write>(output: &mut Output, bytes: &[u8], writer: &mut W)
-    ensures { Puts output.old output.new (flat_map byte_text bytes.now) (W.contents writer.old) (W.contents writer.new) }
+    ensures { Puts output.old output.new (flat_map byte_text bytes.now) (W.contents writer.old)
+        (W.contents writer.new) }
 {
     for byte in bytes {
         put_byte(output, *byte, writer);
@@ -106,7 +113,8 @@ fn put_bytes<W: Write>(output: &mut Output, bytes: &[u8], writer: &mut W)
 }
 
 fn put_byte<W: Write>(output: &mut Output, byte: u8, writer: &mut W)
-    ensures { Puts output.old output.new (byte_text byte) (W.contents writer.old) (W.contents writer.new) }
+    ensures { Puts output.old output.new (byte_text byte) (W.contents writer.old)
+        (W.contents writer.new) }
 {
     match byte {
         b' ' => put_word(output, b"\\040", writer),
@@ -126,7 +134,8 @@ fn put_optional<W: Write>(
     writer: &mut W,
 )
     requires { ArePeers peers.now world.now.kernel.table.groups world.now.kernel.table.rows }
-    ensures { Puts output.old output.new (optional_text world.now.kernel.table row.now) (W.contents writer.old) (W.contents writer.new) }
+    ensures { Puts output.old output.new (optional_text world.now.kernel.table row.now)
+        (W.contents writer.old) (W.contents writer.new) }
 {
     put_tag(output, b" shared:", group_of(world, row.mount), writer);
     put_tag(output, b" master:", master_of(world, row.mount), writer);
@@ -140,7 +149,8 @@ fn put_optional<W: Write>(
 }
 
 fn put_tag<W: Write>(output: &mut Output, word: &[u8], group: Option<GroupId>, writer: &mut W)
-    ensures { Puts output.old output.new (tag_text word.now group) (W.contents writer.old) (W.contents writer.new) }
+    ensures { Puts output.old output.new (tag_text word.now group) (W.contents writer.old)
+        (W.contents writer.new) }
 {
     match group {
         None => put_word(output, b"", writer),
@@ -149,7 +159,8 @@ fn put_tag<W: Write>(output: &mut Output, word: &[u8], group: Option<GroupId>, w
 }
 
 fn put_unbindable<W: Write>(output: &mut Output, member: Option<MemberRow>, writer: &mut W)
-    ensures { Puts output.old output.new (unbindable_text member) (W.contents writer.old) (W.contents writer.new) }
+    ensures { Puts output.old output.new (unbindable_text member) (W.contents writer.old)
+        (W.contents writer.new) }
 {
     match member {
         None => put_word(output, b"", writer),
@@ -158,7 +169,8 @@ fn put_unbindable<W: Write>(output: &mut Output, member: Option<MemberRow>, writ
 }
 
 fn put_flag<W: Write>(output: &mut Output, unbindable: bool, writer: &mut W)
-    ensures { Puts output.old output.new (flag_text unbindable) (W.contents writer.old) (W.contents writer.new) }
+    ensures { Puts output.old output.new (flag_text unbindable) (W.contents writer.old)
+        (W.contents writer.new) }
 {
     match unbindable {
         true => put_word(output, b" unbindable", writer),
@@ -167,7 +179,8 @@ fn put_flag<W: Write>(output: &mut Output, unbindable: bool, writer: &mut W)
 }
 
 fn put_type<W: Write>(output: &mut Output, world: &World, fs: FsId, writer: &mut W)
-    ensures { Puts output.old output.new (type_text (autofs_of world.now.kernel.triggers fs)) (W.contents writer.old) (W.contents writer.new) }
+    ensures { Puts output.old output.new (type_text (autofs_of world.now.kernel.triggers fs))
+        (W.contents writer.old) (W.contents writer.new) }
 {
     match world.autofs(fs) {
         Some(_) => put_word(output, b" - autofs none rw\n", writer),

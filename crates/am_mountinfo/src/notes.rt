@@ -28,7 +28,8 @@ pub struct Open {
 
 /// The open tokens of all file systems, in order of attaching.
 pub(crate) fn opens(alloc: Global, world: &World) -> Result<Vec<Open>, AllocError>
-    ensures { IfOk result (λ opens. opens_text world.now.kernel.waits opens.items ≡ tokens_notes world.now.kernel) }
+    ensures { IfOk result (λ opens. opens_text world.now.kernel.waits opens.items
+        ≡ tokens_notes world.now.kernel) }
 {
     let mut opens = Vec::new(alloc);
     for row in world.attached() {
@@ -43,7 +44,8 @@ fn add_opens(
     fs: FsId,
     opens: &mut Vec<Open>,
 ) -> Result<(), AllocError>
-    ensures { OnOk result (opens_text world.now.kernel.waits opens.new.items ≡ opens_text world.now.kernel.waits opens.old.items ++ fs_notes world.now.kernel.waits fs) }
+    ensures { OnOk result (opens_text world.now.kernel.waits opens.new.items
+        ≡ opens_text world.now.kernel.waits opens.old.items ++ fs_notes world.now.kernel.waits fs) }
 {
     let tokens = world.tokens_of(alloc, fs)?;
     for token in &tokens {
@@ -58,7 +60,9 @@ fn add_open(
     token: Token,
     opens: &mut Vec<Open>,
 ) -> Result<(), AllocError>
-    ensures { OnOk result (opens_text world.now.kernel.waits opens.new.items ≡ opens_text world.now.kernel.waits opens.old.items ++ token_note world.now.kernel.waits token) }
+    ensures { OnOk result (opens_text world.now.kernel.waits opens.new.items
+        ≡ opens_text world.now.kernel.waits opens.old.items ++ token_note world.now.kernel.waits
+        token) }
 {
     let waiters = world.waiters_of(alloc, token)?;
     opens.push(Open { token, waiters })?;
@@ -73,7 +77,8 @@ pub(crate) fn put_opens<W: Write>(
     opens: &[Open],
     writer: &mut W,
 )
-    ensures { Puts output.old output.new (opens_text world.now.kernel.waits opens.now) (W.contents writer.old) (W.contents writer.new) }
+    ensures { Puts output.old output.new (opens_text world.now.kernel.waits opens.now)
+        (W.contents writer.old) (W.contents writer.new) }
 {
     for row in opens {
         put_open(output, world, row, writer);
@@ -82,7 +87,8 @@ pub(crate) fn put_opens<W: Write>(
 
 #[tactic(auto, using(crate::proofs::MorePieces::puts_five))]
 fn put_open<W: Write>(output: &mut Output, world: &World, row: &Open, writer: &mut W)
-    ensures { Puts output.old output.new (open_text world.now.kernel.waits row.now) (W.contents writer.old) (W.contents writer.new) }
+    ensures { Puts output.old output.new (open_text world.now.kernel.waits row.now)
+        (W.contents writer.old) (W.contents writer.new) }
 {
     put_number(output, b"# open ", u64::from(row.token.0), writer);
     put_word(output, b" waiters", writer);
@@ -93,7 +99,8 @@ fn put_open<W: Write>(output: &mut Output, world: &World, row: &Open, writer: &m
 
 #[tactic(auto, using(am_script::proofs::Pieces::puts_none))]
 fn put_walkers<W: Write>(output: &mut Output, walkers: &[WalkerId], writer: &mut W)
-    ensures { Puts output.old output.new (walkers_text walkers.now) (W.contents writer.old) (W.contents writer.new) }
+    ensures { Puts output.old output.new (walkers_text walkers.now) (W.contents writer.old)
+        (W.contents writer.new) }
 {
     for walker in walkers {
         put_number(output, b" ", u64::from(walker.0), writer);
@@ -101,7 +108,8 @@ fn put_walkers<W: Write>(output: &mut Output, walkers: &[WalkerId], writer: &mut
 }
 
 fn put_trigger_of<W: Write>(output: &mut Output, trigger: &Option<Trigger>, writer: &mut W)
-    ensures { Puts output.old output.new (trigger_text trigger.now) (W.contents writer.old) (W.contents writer.new) }
+    ensures { Puts output.old output.new (trigger_text trigger.now) (W.contents writer.old)
+        (W.contents writer.new) }
 {
     match trigger {
         None => put_word(output, b"", writer),
@@ -112,7 +120,8 @@ fn put_trigger_of<W: Write>(output: &mut Output, trigger: &Option<Trigger>, writ
 /// Puts an observation out as a comment.
 #[tactic(auto, unfolding(crate::specs::Notes::obs_note), using(am_script::proofs::Pieces::puts_three))]
 fn put_note<W: Write>(output: &mut Output, obs: &Obs, writer: &mut W)
-    ensures { Puts output.old output.new (obs_note obs.now) (W.contents writer.old) (W.contents writer.new) }
+    ensures { Puts output.old output.new (obs_note obs.now) (W.contents writer.old)
+        (W.contents writer.new) }
 {
     put_word(output, b"# ", writer);
     put_obs(output, obs, writer);
@@ -122,7 +131,8 @@ fn put_note<W: Write>(output: &mut Output, obs: &Obs, writer: &mut W)
 /// Puts out what else the kernel has: packets in the pipes, and walkers.
 #[tactic(auto, using(am_script::proofs::Pieces::puts_three))]
 pub(crate) fn put_kernel<W: Write>(output: &mut Output, world: &World, writer: &mut W)
-    ensures { Puts output.old output.new (kernel_notes world.now.kernel) (W.contents writer.old) (W.contents writer.new) }
+    ensures { Puts output.old output.new (kernel_notes world.now.kernel) (W.contents writer.old)
+        (W.contents writer.new) }
 {
     put_packets(output, world, writer);
     put_walks(output, world, writer);
@@ -131,7 +141,8 @@ pub(crate) fn put_kernel<W: Write>(output: &mut Output, world: &World, writer: &
 
 #[tactic(auto, using(am_script::proofs::Pieces::puts_none))]
 fn put_packets<W: Write>(output: &mut Output, world: &World, writer: &mut W)
-    ensures { Puts output.old output.new (packets_notes world.now.kernel) (W.contents writer.old) (W.contents writer.new) }
+    ensures { Puts output.old output.new (packets_notes world.now.kernel) (W.contents writer.old)
+        (W.contents writer.new) }
 {
     for row in world.packets() {
         put_packet(output, row, writer);
@@ -147,7 +158,8 @@ fn put_queued_note<W: Write>(
     packet: &Packet,
     writer: &mut W,
 )
-    ensures { Puts output.old output.new (obs_note (Queued token attach packet.now)) (W.contents writer.old) (W.contents writer.new) }
+    ensures { Puts output.old output.new (obs_note (Queued token attach packet.now))
+        (W.contents writer.old) (W.contents writer.new) }
 {
     put_word(output, b"# ", writer);
     put_queued(output, token, attach, packet, writer);
@@ -155,14 +167,16 @@ fn put_queued_note<W: Write>(
 }
 
 fn put_packet<W: Write>(output: &mut Output, row: &QueuedRow, writer: &mut W)
-    ensures { Puts output.old output.new (packet_note row.now) (W.contents writer.old) (W.contents writer.new) }
+    ensures { Puts output.old output.new (packet_note row.now) (W.contents writer.old)
+        (W.contents writer.new) }
 {
     put_queued_note(output, row.token, row.attach, &row.packet, writer);
 }
 
 #[tactic(auto, using(am_script::proofs::Pieces::puts_none))]
 fn put_walks<W: Write>(output: &mut Output, world: &World, writer: &mut W)
-    ensures { Puts output.old output.new (walks_notes world.now.kernel) (W.contents writer.old) (W.contents writer.new) }
+    ensures { Puts output.old output.new (walks_notes world.now.kernel) (W.contents writer.old)
+        (W.contents writer.new) }
 {
     for row in world.walks() {
         put_walk(output, world, row, writer);
@@ -171,7 +185,8 @@ fn put_walks<W: Write>(output: &mut Output, world: &World, writer: &mut W)
 
 #[tactic(auto, using(crate::proofs::MorePieces::puts_six))]
 fn put_walk<W: Write>(output: &mut Output, world: &World, row: &WalkRow, writer: &mut W)
-    ensures { Puts output.old output.new (walk_note world.now.kernel.waits row.now) (W.contents writer.old) (W.contents writer.new) }
+    ensures { Puts output.old output.new (walk_note world.now.kernel.waits row.now)
+        (W.contents writer.old) (W.contents writer.new) }
 {
     put_number(output, b"# walk ", u64::from(row.walker.0), writer);
     put_wait(output, world.wait_of(row.walker), writer);
@@ -183,7 +198,8 @@ fn put_walk<W: Write>(output: &mut Output, world: &World, row: &WalkRow, writer:
 
 #[tactic(auto, using(am_script::proofs::Pieces::puts_two))]
 fn put_wait<W: Write>(output: &mut Output, wait: Option<WaitRow>, writer: &mut W)
-    ensures { Puts output.old output.new (wait_text wait) (W.contents writer.old) (W.contents writer.new) }
+    ensures { Puts output.old output.new (wait_text wait) (W.contents writer.old)
+        (W.contents writer.new) }
 {
     match wait {
         None => put_word(output, b"", writer),
@@ -195,7 +211,8 @@ fn put_wait<W: Write>(output: &mut Output, wait: Option<WaitRow>, writer: &mut W
 }
 
 fn put_status_of<W: Write>(output: &mut Output, status: Option<Status>, writer: &mut W)
-    ensures { Puts output.old output.new (status_text status) (W.contents writer.old) (W.contents writer.new) }
+    ensures { Puts output.old output.new (status_text status) (W.contents writer.old)
+        (W.contents writer.new) }
 {
     match status {
         None => put_word(output, b"", writer),
@@ -205,7 +222,8 @@ fn put_status_of<W: Write>(output: &mut Output, status: Option<Status>, writer: 
 
 #[tactic(auto, using(am_script::proofs::Pieces::puts_none))]
 fn put_uses<W: Write>(output: &mut Output, uses: &Uses, writer: &mut W)
-    ensures { Puts output.old output.new (flat_map use_note uses.now) (W.contents writer.old) (W.contents writer.new) }
+    ensures { Puts output.old output.new (flat_map use_note uses.now) (W.contents writer.old)
+        (W.contents writer.new) }
 {
     for index in 0..uses.len() {
         put_use_at(output, uses.row(index), writer);
@@ -213,7 +231,8 @@ fn put_uses<W: Write>(output: &mut Output, uses: &Uses, writer: &mut W)
 }
 
 fn put_use_at<W: Write>(output: &mut Output, row: Option<Use>, writer: &mut W)
-    ensures { Puts output.old output.new (row_note use_note row) (W.contents writer.old) (W.contents writer.new) }
+    ensures { Puts output.old output.new (row_note use_note row) (W.contents writer.old)
+        (W.contents writer.new) }
 {
     match row {
         None => put_word(output, b"", writer),
@@ -222,7 +241,8 @@ fn put_use_at<W: Write>(output: &mut Output, row: Option<Use>, writer: &mut W)
 }
 
 fn put_use<W: Write>(output: &mut Output, row: Use, writer: &mut W)
-    ensures { Puts output.old output.new (use_note row) (W.contents writer.old) (W.contents writer.new) }
+    ensures { Puts output.old output.new (use_note row) (W.contents writer.old)
+        (W.contents writer.new) }
 {
     let entered = Obs::Entered {
         walker: row.walker,
@@ -234,7 +254,8 @@ fn put_use<W: Write>(output: &mut Output, row: Use, writer: &mut W)
 /// Puts out what the daemon has: its book and its jobs.
 #[tactic(auto, using(am_script::proofs::Pieces::puts_two))]
 pub(crate) fn put_daemon<W: Write>(output: &mut Output, world: &World, writer: &mut W)
-    ensures { Puts output.old output.new (daemon_notes (rows_of world.now.daemon)) (W.contents writer.old) (W.contents writer.new) }
+    ensures { Puts output.old output.new (daemon_notes (rows_of world.now.daemon))
+        (W.contents writer.old) (W.contents writer.new) }
 {
     put_book(output, world.book(), writer);
     put_jobs(output, world, writer);
@@ -242,7 +263,8 @@ pub(crate) fn put_daemon<W: Write>(output: &mut Output, world: &World, writer: &
 
 #[tactic(auto, using(am_script::proofs::Pieces::puts_none))]
 fn put_book<W: Write>(output: &mut Output, book: &Book, writer: &mut W)
-    ensures { Puts output.old output.new (flat_map record_note book.now.rows) (W.contents writer.old) (W.contents writer.new) }
+    ensures { Puts output.old output.new (flat_map record_note book.now.rows)
+        (W.contents writer.old) (W.contents writer.new) }
 {
     for index in 0..book.len() {
         put_record_at(output, book.row(index), writer);
@@ -250,7 +272,8 @@ fn put_book<W: Write>(output: &mut Output, book: &Book, writer: &mut W)
 }
 
 fn put_record_at<W: Write>(output: &mut Output, row: Option<RecordRow>, writer: &mut W)
-    ensures { Puts output.old output.new (row_note record_note row) (W.contents writer.old) (W.contents writer.new) }
+    ensures { Puts output.old output.new (row_note record_note row) (W.contents writer.old)
+        (W.contents writer.new) }
 {
     match row {
         None => put_word(output, b"", writer),
@@ -266,7 +289,8 @@ fn put_recorded_note<W: Write>(
     entry: &Option<Record>,
     writer: &mut W,
 )
-    ensures { Puts output.old output.new (obs_note (Recorded trigger.now entry.now)) (W.contents writer.old) (W.contents writer.new) }
+    ensures { Puts output.old output.new (obs_note (Recorded trigger.now entry.now))
+        (W.contents writer.old) (W.contents writer.new) }
 {
     put_word(output, b"# ", writer);
     put_recorded(output, trigger, entry, writer);
@@ -274,14 +298,16 @@ fn put_recorded_note<W: Write>(
 }
 
 fn put_record<W: Write>(output: &mut Output, row: RecordRow, writer: &mut W)
-    ensures { Puts output.old output.new (record_note row) (W.contents writer.old) (W.contents writer.new) }
+    ensures { Puts output.old output.new (record_note row) (W.contents writer.old)
+        (W.contents writer.new) }
 {
     put_recorded_note(output, &row.trigger, &Some(row.entry), writer);
 }
 
 #[tactic(auto, using(am_script::proofs::Pieces::puts_none))]
 fn put_jobs<W: Write>(output: &mut Output, world: &World, writer: &mut W)
-    ensures { Puts output.old output.new (jobs_notes (rows_of world.now.daemon)) (W.contents writer.old) (W.contents writer.new) }
+    ensures { Puts output.old output.new (jobs_notes (rows_of world.now.daemon))
+        (W.contents writer.old) (W.contents writer.new) }
 {
     for job in world.jobs() {
         put_job(output, job, writer);
@@ -290,7 +316,8 @@ fn put_jobs<W: Write>(output: &mut Output, world: &World, writer: &mut W)
 
 #[tactic(auto, using(am_views::proofs::FourPieces::puts_four))]
 fn put_job<W: Write>(output: &mut Output, job: &Job, writer: &mut W)
-    ensures { Puts output.old output.new (job_note (job_plan job.now)) (W.contents writer.old) (W.contents writer.new) }
+    ensures { Puts output.old output.new (job_note (job_plan job.now)) (W.contents writer.old)
+        (W.contents writer.new) }
 {
     put_number(output, b"# job ", u64::from(job.job().0), writer);
     put_number(output, b" attach ", u64::from(job.attach().0), writer);

@@ -34,7 +34,8 @@ impl Peers {
 
     /// Those of all mounts of a world.
     pub fn of(alloc: Global, world: &World) -> Result<Peers, AllocError>
-        ensures { IfOk result (λ peers. ArePeers peers world.now.kernel.table.groups world.now.kernel.table.rows) }
+        ensures { IfOk result (λ peers. ArePeers peers world.now.kernel.table.groups
+            world.now.kernel.table.rows) }
     {
         let mut peers = Peers::new(alloc);
         for row in world.mounts() {

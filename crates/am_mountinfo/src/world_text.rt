@@ -26,18 +26,20 @@ use am_world::{Event, World};
 use std::alloc::{AllocError, Global};
 use std::io::{Read, Write};
 
-/// Reads a script to its end, plays it on a world of its own, and writes the mounts of each namespace
-/// as they are then, and behind them, in comments, what else there is; or only the mounts of one
-/// namespace. It has the faults of `run_script`, but that an event
-/// for whose line there is no memory is one. Nothing is written before the script has ended.
+/// Reads a script to its end, plays it on a world of its own, and writes the mounts of each
+/// namespace as they are then, and behind them, in comments, what else there is; or only the mounts
+/// of one namespace. It has the faults of `run_script`, but that an event for whose line there is
+/// no memory is one. Nothing is written before the script has ended.
 pub fn world_script<R: Read, W: Write>(
     alloc: Global,
     reader: &mut R,
     writer: &mut W,
     only: Option<NsId>,
 ) -> Result<Summary, ScriptFault>
-    ensures ok { IfOk result (ShowsInput only (R.remaining reader.old) (R.remaining reader.new) (W.contents writer.old) (W.contents writer.new)) }
-    ensures err { IfErr result (StopsShowing only (R.remaining reader.old) (R.remaining reader.new) (W.contents writer.old) (W.contents writer.new)) }
+    ensures ok { IfOk result (ShowsInput only (R.remaining reader.old) (R.remaining reader.new)
+        (W.contents writer.old) (W.contents writer.new)) }
+    ensures err { IfErr result (StopsShowing only (R.remaining reader.old) (R.remaining reader.new)
+        (W.contents writer.old) (W.contents writer.new)) }
 {
     let input = read_all(alloc, reader);
     match open_script(alloc, &input) {
@@ -59,8 +61,14 @@ fn show_opened<W: Write>(
 ) -> Result<Summary, ScriptFault>
     requires { opened.line + size_in (option_copied opened.rest) ≤ 2 ^ 63 }
     ensures whole { OnOk result (opened.entry.broke ≡ None) }
-    ensures ok { IfOk result (WorldShown only (state_of opened.entry.world) (events_from opened.entry.broke opened.entry.line (lines_in (option_copied opened.entry.rest))) (W.contents writer.old) (W.contents writer.new)) }
-    ensures err { IfErr result (ShowStops only (state_of opened.entry.world) (events_from opened.entry.broke opened.entry.line (lines_in (option_copied opened.entry.rest))) (W.contents writer.old) (W.contents writer.new)) }
+    ensures ok { IfOk result (WorldShown only (state_of opened.entry.world)
+        (events_from opened.entry.broke opened.entry.line
+        (lines_in (option_copied opened.entry.rest))) (W.contents writer.old)
+        (W.contents writer.new)) }
+    ensures err { IfErr result (ShowStops only (state_of opened.entry.world)
+        (events_from opened.entry.broke opened.entry.line
+        (lines_in (option_copied opened.entry.rest))) (W.contents writer.old)
+        (W.contents writer.new)) }
 {
     let Opened {
         mut world,
@@ -99,9 +107,13 @@ fn play_events(
 ) -> Result<Played, ScriptFault>
     requires { line + size_in (option_copied rest) ≤ 2 ^ 63 }
     ensures whole { OnOk result (broke ≡ None) }
-    ensures ok { IfOk result (λ played. EventsPlayed (state_of world.old) (events_from broke line (lines_in (option_copied rest.entry))) (state_of world.new) played.summary) }
-    ensures last { IfOk result (λ played. IsLastLine played.line (events_from broke line (lines_in (option_copied rest.entry))).events) }
-    ensures err { IfErr result (NotPlayed (events_from broke line (lines_in (option_copied rest.entry)))) }
+    ensures ok { IfOk result (λ played. EventsPlayed (state_of world.old)
+        (events_from broke line (lines_in (option_copied rest.entry)))
+        (state_of world.new) played.summary) }
+    ensures last { IfOk result (λ played. IsLastLine played.line
+        (events_from broke line (lines_in (option_copied rest.entry))).events) }
+    ensures err { IfErr result (NotPlayed (events_from broke line
+        (lines_in (option_copied rest.entry)))) }
 {
     let mut summary = Summary {
         lines: 0,
@@ -138,7 +150,8 @@ struct Behind<'a> {
 
 /// Makes the step of an event that was found.
 fn play_found<'a>(alloc: Global, world: &mut World, found: Found<'a>) -> Behind<'a>
-    ensures played { IsPlayed (state_of world.old) found.entry.event (state_of world.new) result.refused }
+    ensures played { IsPlayed (state_of world.old) found.entry.event
+        (state_of world.new) result.refused }
     ensures line { result.line ≡ found.entry.line }
     ensures rest { option_copied result.rest ≡ option_copied found.entry.rest }
 {
@@ -183,8 +196,10 @@ fn show_world<W: Write>(
     writer: &mut W,
 ) -> Result<Summary, ScriptFault>
     ensures same { IfOk result (λ summary. summary ≡ played.summary) }
-    ensures ok { OnOk result (IsWritten only (state_of world.now) (W.contents writer.old) (W.contents writer.new)) }
-    ensures err { IfErr result (NotWritten only (state_of world.now) played.line (W.contents writer.old) (W.contents writer.new)) }
+    ensures ok { OnOk result (IsWritten only (state_of world.now) (W.contents writer.old)
+        (W.contents writer.new)) }
+    ensures err { IfErr result (NotWritten only (state_of world.now) played.line
+        (W.contents writer.old) (W.contents writer.new)) }
 {
     match gather(alloc, world, only) {
         Ok(view) => print(world, &view, played, writer),
@@ -197,7 +212,8 @@ fn show_world<W: Write>(
 
 fn gather<'a>(alloc: Global, world: &'a World, only: Option<NsId>) -> Result<View<'a>, AllocError>
     ensures tables { IfOk result (λ view. AreTables view.tables world.now.kernel.table) }
-    ensures text { IfOk result (λ view. IsText only (state_of world.now) (part_text world.now.kernel (rows_of world.now.daemon) view.part)) }
+    ensures text { IfOk result (λ view. IsText only (state_of world.now)
+        (part_text world.now.kernel (rows_of world.now.daemon) view.part)) }
 {
     let tables = Tables::of(alloc, world)?;
     let part = part_of(alloc, world, only)?;
@@ -205,7 +221,8 @@ fn gather<'a>(alloc: Global, world: &'a World, only: Option<NsId>) -> Result<Vie
 }
 
 fn part_of(alloc: Global, world: &World, only: Option<NsId>) -> Result<Part, AllocError>
-    ensures { IfOk result (λ part. IsText only (state_of world.now) (part_text world.now.kernel (rows_of world.now.daemon) part)) }
+    ensures { IfOk result (λ part. IsText only (state_of world.now)
+        (part_text world.now.kernel (rows_of world.now.daemon) part)) }
 {
     match only {
         Some(ns) => Ok(Part::One { ns }),
@@ -225,8 +242,10 @@ fn print<W: Write>(
 ) -> Result<Summary, ScriptFault>
     requires { AreTables view.now.tables world.now.kernel.table }
     ensures same { IfOk result (λ summary. summary ≡ played.summary) }
-    ensures ok { OnOk result (Appends (W.contents writer.old) (W.contents writer.new) (part_text world.now.kernel (rows_of world.now.daemon) view.now.part)) }
-    ensures err { IfErr result (IsCut played.line (part_text world.now.kernel (rows_of world.now.daemon) view.now.part) (W.contents writer.old) (W.contents writer.new)) }
+    ensures ok { OnOk result (Appends (W.contents writer.old) (W.contents writer.new)
+        (part_text world.now.kernel (rows_of world.now.daemon) view.now.part)) }
+    ensures err { IfErr result (IsCut played.line (part_text world.now.kernel
+        (rows_of world.now.daemon) view.now.part) (W.contents writer.old) (W.contents writer.new)) }
 {
     let mut output = Output::new();
     output.begin(played.line, writer);
@@ -237,7 +256,8 @@ fn print<W: Write>(
 #[tactic(auto, using(am_views::proofs::FourPieces::puts_four))]
 fn put_part<W: Write>(output: &mut Output, world: &World, view: &View<'_>, writer: &mut W)
     requires { AreTables view.now.tables world.now.kernel.table }
-    ensures { Puts output.old output.new (part_text world.now.kernel (rows_of world.now.daemon) view.now.part) (W.contents writer.old) (W.contents writer.new) }
+    ensures { Puts output.old output.new (part_text world.now.kernel
+        (rows_of world.now.daemon) view.now.part) (W.contents writer.old) (W.contents writer.new) }
 {
     match &view.part {
         Part::One { ns } => put_mounts(output, world, &view.tables, *ns, writer),
@@ -259,7 +279,8 @@ fn put_namespaces<W: Write>(
     writer: &mut W,
 )
     requires { AreTables tables.now world.now.kernel.table }
-    ensures { Puts output.old output.new (namespaces_text world.now.kernel order.now) (W.contents writer.old) (W.contents writer.new) }
+    ensures { Puts output.old output.new (namespaces_text world.now.kernel order.now)
+        (W.contents writer.old) (W.contents writer.new) }
 {
     for ns in order {
         put_namespace(output, world, tables, *ns, writer);
@@ -275,7 +296,8 @@ fn put_namespace<W: Write>(
     writer: &mut W,
 )
     requires { AreTables tables.now world.now.kernel.table }
-    ensures { Puts output.old output.new (namespace_text world.now.kernel ns) (W.contents writer.old) (W.contents writer.new) }
+    ensures { Puts output.old output.new (namespace_text world.now.kernel ns)
+        (W.contents writer.old) (W.contents writer.new) }
 {
     put_number(output, b"# namespace ", u64::from(ns), writer);
     put_word(output, b"\n", writer);

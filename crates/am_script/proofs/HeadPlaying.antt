@@ -10,7 +10,7 @@ use Rattle.am_script.specs.declared.output.Output.{Output}
 use Rattle.am_script.specs.declared.play.Summary.{Summary}
 use Rattle.am_script.specs.Fault.{fault_at}
 use Rattle.am_script.specs.HeadLeft.{IsLeft}
-use Rattle.am_script.specs.Heading.{HeadSoFar, Stops, GoesOn, EventsBegin, line_taken, first_open}
+use Rattle.am_script.specs.Heading.{HeadSoFar, HeadFault, GoesOn, EventsBegin, after_line, first_open}
 use Rattle.am_script.specs.Lines.{is_long}
 use Rattle.am_script.specs.Maps.{opening_read}
 use Rattle.am_script.specs.Outputs.{Owed, bytes_of, StandsBy, Settles}
@@ -53,7 +53,7 @@ one_more front line number e = length_push front line ∙ ap (λ (n : ℕ). n + 
 -- ---- the head goes on
 
 pub head_more : (heading next : HeadSoFar) (number : ℕ) (summary : Summary) (output : Output) (front : List (List ℕ)) (line : List ℕ) (start held : Option (List ℕ)) → HeadStands heading number summary output front start held →
-    line_taken heading (number + 1) line ≡ GoesOn next → HeadStands next (number + 1) summary output (front ++ line ∷ []) start held
+    after_line heading (number + 1) line ≡ GoesOn next → HeadStands next (number + 1) summary output (front ++ line ∷ []) start held
 head_more heading next number summary output front line start held h taken = record {
   counted = one_more front line number h.counted;
   left = λ rest. subst (λ (all : List (List ℕ)). IsLeft all next (number + 1) rest) (sym (append_assoc front (line ∷ []) rest))
@@ -65,7 +65,7 @@ head_more heading next number summary output front line start held h taken = rec
 
 -- the events begin
 pub head_begins : (heading whole : HeadSoFar) (world : State) (number : ℕ) (summary : Summary) (output : Output) (front : List (List ℕ)) (line : List ℕ) (start held : Option (List ℕ)) → HeadStands heading number summary output front start held →
-    line_taken heading (number + 1) line ≡ EventsBegin whole → opening_read whole.said ≡ Ok (opening_in world) → world ≡ opening_of (opening_in world) → EventsStand world (number + 1) summary output (front ++ line ∷ []) start held
+    after_line heading (number + 1) line ≡ EventsBegin whole → opening_read whole.said ≡ Ok (opening_in world) → world ≡ opening_of (opening_in world) → EventsStand world (number + 1) summary output (front ++ line ∷ []) start held
 head_begins heading whole world number summary output front line start held h taken opens begins = record {
   counted = one_more front line number h.counted;
   opening = opening_in world;
@@ -113,7 +113,7 @@ pub head_stops : (heading : HeadSoFar) (number : ℕ) (summary : Summary) (outpu
     HeadStops heading (number + 1) line fault → (ending : Ending) → HaltsIn (script_behind front (with_next line ending)) (length front + 1) start held fault
 head_stops heading number summary output front line start held fault h (inl (inl stops)) ending =
     faulty (script_behind front (with_next line ending)) fault (length front + 1) start held
-    (ap (script_by ending.broke (front ++ line ∷ ending.lines)) (went (front ++ line ∷ ending.lines) heading number (line ∷ ending.lines) line ending.lines (Stops fault) (h.left (line ∷ ending.lines)) refl stops))
+    (ap (script_by ending.broke (front ++ line ∷ ending.lines)) (went (front ++ line ∷ ending.lines) heading number (line ∷ ending.lines) line ending.lines (HeadFault fault) (h.left (line ∷ ending.lines)) refl stops))
     (nothing_written heading number summary output front start held h)
 head_stops heading number summary output front line start held fault h (inl (inr none)) ending =
     ran_out (script_behind front (with_next line ending)) (number + 1) (length front + 1) fault start held none (omega arith) (ap (λ (n : ℕ). n + 1) (sym h.counted)) (nothing_written heading number summary output front start held h)
@@ -130,8 +130,8 @@ pub head_long : (heading : HeadSoFar) (number : ℕ) (summary : Summary) (output
     Closes output (Err (fault_at (number + 1) LongLine)) held new (Err fault) → (ending : Ending) → HaltsIn (script_behind front (with_next line ending)) (length front + 1) start new fault
 head_long heading number summary output front line start held new fault h long closes ending =
     let told = fault_at (number + 1) LongLine in
-    let stops : line_taken heading (number + 1) line ≡ Stops told = rw long refl in
-    let script = ap (script_by ending.broke (front ++ line ∷ ending.lines)) (went (front ++ line ∷ ending.lines) heading number (line ∷ ending.lines) line ending.lines (Stops told) (h.left (line ∷ ending.lines)) refl stops) in
+    let stops : after_line heading (number + 1) line ≡ HeadFault told = rw long refl in
+    let script = ap (script_by ending.broke (front ++ line ∷ ending.lines)) (went (front ++ line ∷ ending.lines) heading number (line ∷ ending.lines) line ending.lines (HeadFault told) (h.left (line ∷ ending.lines)) refl stops) in
     elim (closes [] start h.empty) [
       | inl w ↦ subst (λ (f : ScriptFault). HaltsIn (script_behind front (with_next line ending)) (length front + 1) start new f) (sym (same_fault fault told w.same)) (faulty (script_behind front (with_next line ending)) told (length front + 1) start new script w.written)
       | inr w ↦ absurd (none_before w.lost.front w.lost.first w.lost.others w.lost.parts)

@@ -13,15 +13,15 @@ use Rattle.am_lines.specs.Words.{words_of}
 use Rattle.am_script.specs.Lines.{is_long, are_skipped}
 use Rattle.am_script.specs.Limits.{limits_read, negative_read}
 use Rattle.am_script.specs.Sections.{Section, Part, Alone, Whole, Unended, Long, parts_in, part_by, with_line, is_end, are_only, map_name}
-use Rattle.am_script.specs.Head.{Head, Headed, Begins, Ends, Faulty, is_limits, is_negative, with_negative, limits_by, negative_by, negative_then, master_by, section_read, bad, too_long}
+use Rattle.am_script.specs.Head.{Head, Headed, Begins, Ends, Faulty, is_limits, is_negative, with_negative, limits_by, negative_by, negative_then, master_by, section_read, bad_section, too_long}
 use Rattle.am_script.specs.HeadLeft.{stage_then, section_then, left_in, head_left}
-use Rattle.am_script.specs.Heading.{HeadSoFar, Taken, GoesOn, EventsBegin, Stops, line_taken, short_taken, words_taken, alone_taken, limits_taken, negative_taken, events_taken, may_open, closed, mastered, first_open}
+use Rattle.am_script.specs.Heading.{HeadSoFar, Taken, GoesOn, EventsBegin, HeadFault, after_line, after_short_line, after_words, after_lone_line, after_limits, after_negative, after_events, may_open, closed, mastered, first_open}
 
 -- what follows a line by what it makes of the head
 abbrev pub follows : Taken → ℕ → (HeadSoFar → Headed) → Headed
 follows (GoesOn next) number others = others next
 follows (EventsBegin head) number others = Begins head.said number
-follows (Stops fault) number others = Faulty fault
+follows (HeadFault fault) number others = Faulty fault
 
 -- two functions of choices by the same tests
 choose : {A B T : Type 0} (f : A → T) (g : B → T) (b : Bool) (p q : A) (x y : B) → f p ≡ g x → f q ≡ g y → f (if b then p else q) ≡ g (if b then x else y)
@@ -72,7 +72,7 @@ open_parts P first name cut whole text number (line ∷ lines) =
 abbrev OpensAs : Stage → ℕ → Option (List ℕ) → Head → List Part → Type 0
 OpensAs stage first name said parts =
     stage_then stage said parts
-    ≡ (if may_open stage (record { first = first; name = name; text = [] }) then section_then (record { first = first; name = name; text = [] }) said parts else bad first)
+    ≡ (if may_open stage (record { first = first; name = name; text = [] }) then section_then (record { first = first; name = name; text = [] }) said parts else bad_section first)
 
 opens_as : (stage : Stage) (first : ℕ) (name : Option (List ℕ)) (said : Head) (number : ℕ) (lines : List (List ℕ)) →
     OpensAs stage first name said (parts_in (Some (record { first = first; name = name; text = [] })) number lines)
@@ -86,37 +86,37 @@ opens_as stages.Mastered first None said number lines = open_parts (OpensAs stag
 opens_as stages.Mastered first (Some name) said number lines = open_parts (OpensAs stages.Mastered first (Some name) said) first (Some name) (λ text long parts. refl) (λ text parts. refl) [] number lines
 
 section_begins : (b : Bool) (first : ℕ) (name : Option (List ℕ)) (head : HeadSoFar) (number : ℕ) (lines : List (List ℕ)) →
-    (if b then section_then (record { first = first; name = name; text = [] }) head.said (parts_in (Some (record { first = first; name = name; text = [] })) number lines) else bad first)
-    ≡ follows (if b then GoesOn (record head { within = Some (record { first = first; name = name; text = [] }) }) else Stops (fault_at first BadSection)) number (λ next. head_left next number lines)
+    (if b then section_then (record { first = first; name = name; text = [] }) head.said (parts_in (Some (record { first = first; name = name; text = [] })) number lines) else bad_section first)
+    ≡ follows (if b then GoesOn (record head { within = Some (record { first = first; name = name; text = [] }) }) else HeadFault (fault_at first BadSection)) number (λ next. head_left next number lines)
 section_begins true first name head number lines = refl
 section_begins false first name head number lines = refl
 
 events_step : (b : Bool) (head : HeadSoFar) (number : ℕ) (others : HeadSoFar → Headed) →
-    (if b then Begins head.said number else bad number) ≡ follows (if b then EventsBegin head else Stops (fault_at number BadSection)) number others
+    (if b then Begins head.said number else bad_section number) ≡ follows (if b then EventsBegin head else HeadFault (fault_at number BadSection)) number others
 events_step true head number others = refl
 events_step false head number others = refl
 
 limits_step : (limits : Option Limits) (head : HeadSoFar) (number : ℕ) (lines : List (List ℕ)) → head.within ≡ None →
-    limits_by limits number head.said (parts_in None number lines) ≡ follows (limits_taken head number limits) number (λ next. head_left next number lines)
+    limits_by limits number head.said (parts_in None number lines) ≡ follows (after_limits head number limits) number (λ next. head_left next number lines)
 limits_step (Some limits) head number lines outside = ap (λ (w : Option Section). left_in w (record head { stage = stages.Limited; said = record head.said { limits = limits } }) number lines) (sym outside)
 limits_step None head number lines outside = refl
 
 negative_step : (seconds : Option ℕ) (head : HeadSoFar) (number : ℕ) (lines : List (List ℕ)) → head.within ≡ None →
-    negative_by seconds number head.said (parts_in None number lines) ≡ follows (negative_taken head number seconds) number (λ next. head_left next number lines)
+    negative_by seconds number head.said (parts_in None number lines) ≡ follows (after_negative head number seconds) number (λ next. head_left next number lines)
 negative_step (Some seconds) head number lines outside = ap (λ (w : Option Section). left_in w (record head { stage = stages.Lasting; said = with_negative head.said seconds }) number lines) (sym outside)
 negative_step None head number lines outside = refl
 
 -- neither limits nor a section
 later_step : (head : HeadSoFar) (number : ℕ) (words : List (List ℕ)) (lines : List (List ℕ)) → head.within ≡ None →
     negative_then head.said (Alone number words ∷ parts_in None number lines)
-    ≡ follows (if is_negative words then negative_taken head number (negative_read (drop 1 words)) else events_taken head number words) number (λ next. head_left next number lines)
+    ≡ follows (if is_negative words then after_negative head number (negative_read (drop 1 words)) else after_events head number words) number (λ next. head_left next number lines)
 later_step head number words lines outside =
     choose (λ (h : Headed). h) (λ (t : Taken). follows t number (λ next. head_left next number lines)) (is_negative words) _ _ _ _
     (negative_step (negative_read (drop 1 words)) head number lines outside)
     (events_step (are_only (codes "events") words) head number _)
 
 alone_step : (stage : Stage) (head : HeadSoFar) (number : ℕ) (words : List (List ℕ)) (lines : List (List ℕ)) → head.within ≡ None →
-    stage_then stage head.said (Alone number words ∷ parts_in None number lines) ≡ follows (alone_taken (record head { stage = stage }) number words) number (λ next. head_left next number lines)
+    stage_then stage head.said (Alone number words ∷ parts_in None number lines) ≡ follows (after_lone_line (record head { stage = stage }) number words) number (λ next. head_left next number lines)
 alone_step stages.Start head number words lines outside =
     choose (λ (h : Headed). h) (λ (t : Taken). follows t number (λ next. head_left next number lines)) (is_limits words) _ _ _ _
     (limits_step (limits_read (drop 1 words)) (record head { stage = stages.Start }) number lines outside)
@@ -131,7 +131,7 @@ opened_by is_master name number =
     else option_map (λ (n : List ℕ). record { first = number; name = Some n; text = [] }) name
 
 words_step : (is_master : Bool) (name : Option (List ℕ)) (head : HeadSoFar) (number : ℕ) (words : List (List ℕ)) (lines : List (List ℕ)) → head.within ≡ None →
-    stage_then head.stage head.said (part_by (opened_by is_master name number) number words (λ s. parts_in (Some s) number lines) (parts_in None number lines)) ≡ follows (words_taken (opened_by is_master name number) head number words) number (λ next. head_left next number lines)
+    stage_then head.stage head.said (part_by (opened_by is_master name number) number words (λ s. parts_in (Some s) number lines) (parts_in None number lines)) ≡ follows (after_words (opened_by is_master name number) head number words) number (λ next. head_left next number lines)
 words_step true name head number words lines outside =
     opens_as head.stage number None head.said number lines ∙ section_begins (may_open head.stage (record { first = number; name = None; text = [] })) number None head number lines
 words_step false (Some name) head number words lines outside =
@@ -141,7 +141,7 @@ words_step false None head number words lines outside = alone_step head.stage he
 -- ---- any line
 
 left_step : (within : Option Section) (head : HeadSoFar) (before : ℕ) (line : List ℕ) (lines : List (List ℕ)) → head.within ≡ within →
-    left_in within head before (line ∷ lines) ≡ follows (if is_long line then Stops (fault_at (before + 1) LongLine) else short_taken within head (before + 1) line) (before + 1) (λ next. head_left next (before + 1) lines)
+    left_in within head before (line ∷ lines) ≡ follows (if is_long line then HeadFault (fault_at (before + 1) LongLine) else after_short_line within head (before + 1) line) (before + 1) (λ next. head_left next (before + 1) lines)
 left_step None head before line lines outside =
     let words = words_of line in
     let next = λ (t : Taken). follows t (before + 1) (λ (n : HeadSoFar). head_left n (before + 1) lines) in
@@ -160,7 +160,7 @@ left_step (Some section) head before line lines inside =
 
 -- the first of the lines that are left is taken
 pub head_step : (head : HeadSoFar) (before : ℕ) (line : List ℕ) (lines : List (List ℕ)) →
-    head_left head before (line ∷ lines) ≡ follows (line_taken head (before + 1) line) (before + 1) (λ next. head_left next (before + 1) lines)
+    head_left head before (line ∷ lines) ≡ follows (after_line head (before + 1) line) (before + 1) (λ next. head_left next (before + 1) lines)
 head_step head before line lines = left_step head.within head before line lines refl
 
 stage_ends : (stage : Stage) (said : Head) → stage_then stage said [] ≡ Ends None

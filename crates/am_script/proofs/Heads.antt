@@ -4,7 +4,7 @@ use Rattle.std.proofs.lemmas.List.{drop-drop}
 use Rattle.am_script.specs.declared.fault.ScriptFaultKind.{ScriptFaultKind}
 use Rattle.am_script.specs.Sections.{parts_of_lines}
 use Rattle.am_script.specs.Head.{head_of}
-use Rattle.am_script.specs.Heading.{HeadSoFar, no_lines, Taken, GoesOn, EventsBegin, line_taken, first_open}
+use Rattle.am_script.specs.Heading.{HeadSoFar, no_lines, Taken, GoesOn, EventsBegin, after_line, first_open}
 use Rattle.am_script.specs.Maps.{opening_read}
 use Rattle.am_script.specs.Script.{script_from, script_by, begun_by, events_from, head_ends}
 use Rattle.am_script.specs.HeadLeft.{IsLeft, head_left}
@@ -14,7 +14,7 @@ pub none_taken : (all : List (List ℕ)) → IsLeft all no_lines 0 all
 none_taken all = record { goes = refl; behind = refl; counted = omega arith }
 
 pub went : (all : List (List ℕ)) (head : HeadSoFar) (number : ℕ) (rest : List (List ℕ)) (line : List ℕ) (lines : List (List ℕ)) (taken : Taken) →
-    IsLeft all head number rest → rest ≡ line ∷ lines → line_taken head (number + 1) line ≡ taken → head_of (parts_of_lines all) ≡ follows taken (number + 1) (λ next. head_left next (number + 1) lines)
+    IsLeft all head number rest → rest ≡ line ∷ lines → after_line head (number + 1) line ≡ taken → head_of (parts_of_lines all) ≡ follows taken (number + 1) (λ next. head_left next (number + 1) lines)
 went all head number rest line lines taken left e t =
     left.goes ∙ ap (head_left head number) e ∙ head_step head number line lines ∙ ap (λ (x : Taken). follows x (number + 1) (λ (next : HeadSoFar). head_left next (number + 1) lines)) t
 
@@ -22,7 +22,7 @@ pub behind_more : (all : List (List ℕ)) (head : HeadSoFar) (number : ℕ) (res
 behind_more all head number rest line lines left e = sym (drop-drop 1 number all) ∙ ap (drop 1) (left.behind ∙ e)
 
 pub one_taken : (all : List (List ℕ)) (head next : HeadSoFar) (number : ℕ) (rest : List (List ℕ)) (line : List ℕ) (lines : List (List ℕ)) →
-    IsLeft all head number rest → rest ≡ line ∷ lines → line_taken head (number + 1) line ≡ GoesOn next → IsLeft all next (number + 1) lines
+    IsLeft all head number rest → rest ≡ line ∷ lines → after_line head (number + 1) line ≡ GoesOn next → IsLeft all next (number + 1) lines
 one_taken all head next number rest line lines left e t = record {
   goes = went all head number rest line lines (GoesOn next) left e t;
   behind = behind_more all head number rest line lines left e;
@@ -36,7 +36,7 @@ taken_within all head number rest line lines left e = omega (arith, left.counted
 
 -- the script is what the lines that are left say of the world that the head opens
 pub begun : (broke : Option ScriptFaultKind) (all : List (List ℕ)) (head next : HeadSoFar) (number : ℕ) (rest : List (List ℕ)) (line : List ℕ) (lines : List (List ℕ)) →
-    IsLeft all head number rest → rest ≡ line ∷ lines → line_taken head (number + 1) line ≡ EventsBegin next → script_from broke all ≡ begun_by (opening_read next.said) (events_from broke (number + 1) lines)
+    IsLeft all head number rest → rest ≡ line ∷ lines → after_line head (number + 1) line ≡ EventsBegin next → script_from broke all ≡ begun_by (opening_read next.said) (events_from broke (number + 1) lines)
 begun broke all head next number rest line lines left e t =
     let starts = went all head number rest line lines (EventsBegin next) left e t in
     ap (script_by broke all) starts ∙ ap (λ (ls : List (List ℕ)). begun_by (opening_read next.said) (events_from broke (number + 1) ls)) (behind_more all head number rest line lines left e)

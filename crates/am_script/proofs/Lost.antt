@@ -1,7 +1,7 @@
 -- The first answer that a writer didn't take whole.
 use Rattle.std.proofs.Common.{◌≡◌, ◌⊎◌, ◌<◌, ℕ, suc, List, [], ◌∷◌, ◌++◌, length, take, drop, refl, sym, ap, ap₂, ◌∙◌, append_assoc, append-nil, ⊎_elim, inl, inr, arith}
-use Rattle.std.proofs.lemmas.List.{map-append}
 use Rattle.std.proofs.lemmas.Grind.{flat_map-append}
+use Rattle.am_script.proofs.OwedLemmas.{bytes_more}
 use Rattle.am_script.specs.Answers.{answer_line}
 use Rattle.am_script.specs.Outputs.{Owed, owed_by, bytes_of}
 use Rattle.am_script.specs.Played.{lines_for}
@@ -15,9 +15,6 @@ owed_push rows row =
 pub bytes_by : (line : ℕ) (text : List ℕ) → bytes_of (owed_by line text) ≡ text
 bytes_by line [] = refl
 bytes_by line (b ∷ text) = ap (λ (t : List ℕ). b ∷ t) (bytes_by line text)
-
-pub bytes_more : (xs ys : List Owed) → bytes_of (xs ++ ys) ≡ bytes_of xs ++ bytes_of ys
-bytes_more xs ys = map-append (λ (o : Owed). o.byte) xs ys
 
 pub bytes_for : (rows : List Answered) → bytes_of (owed_for rows) ≡ lines_for (answers_in rows)
 bytes_for [] = refl

@@ -1,5 +1,5 @@
 -- A numeral is text, and std reads its number.
-use Rattle.std.proofs.Common.{◌≡◌, ℕ, ◌^◌, ◌<◌, ◌&&◌, zero, suc, Bool, true, false, List, [], ◌∷◌, length, Result, Ok, Err, refl, arith, rules, ltb}
+use Rattle.std.proofs.Common.{◌≡◌, ℕ, ◌^◌, ◌<◌, ◌&&◌, zero, suc, true, false, List, [], ◌∷◌, length, Result, Ok, Err, refl, arith, rules, ltb}
 use Rattle.std.proofs.lemmas.Bool.Decides.{nat_tests}
 use Rattle.std.proofs.lemmas.Str.{IsUtf8-from_ascii}
 use Rattle.std.proofs.lemmas.Str.Parse.{IsNumeralModel, numerals_by_value, parse_digits}
@@ -7,31 +7,25 @@ use Rattle.std.specs.List.{list_all}
 use Rattle.std.specs.Result.{result_ok}
 use Rattle.std.specs.Str.{IsAscii, IsUtf8}
 use Rattle.std.specs.Str.Parse.{ParsesUnsigned, digits_value}
+use Rattle.am_names.proofs.Basics.{left_of_and, right_of_and}
 use Rattle.am_lines.specs.Digits.{is_digit}
 use Rattle.am_script.specs.Numbers.{is_numeral, number_read}
 
-own : IsNumeralModel (λ ds. list_all is_digit ds ≡ true) (digits_value 10)
-own = numerals_by_value _ (search rules)
-
-and_left : (a b : Bool) → (a && b) ≡ true → a ≡ true
-and_left true b e = refl
-and_left false b e = e
-
-and_right : (a b : Bool) → (a && b) ≡ true → b ≡ true
-and_right true b e = e
-and_right false b e = absurd cc
+-- std reads decimal digits as `digits_value` does
+std_reads_digits : IsNumeralModel (λ ds. list_all is_digit ds ≡ true) (digits_value 10)
+std_reads_digits = numerals_by_value _ (search rules)
 
 digits_of : (bytes : List ℕ) → is_numeral bytes ≡ true → list_all is_digit bytes ≡ true
 digits_of [] e = absurd cc
-digits_of (b ∷ bytes) e = and_left (list_all is_digit (b ∷ bytes)) _ e
+digits_of (b ∷ bytes) e = left_of_and (list_all is_digit (b ∷ bytes)) _ e
 
 below_128 : (b : ℕ) → is_digit b ≡ true → b < 128
 below_128 b e = grind (arith, nat_tests)
 
 ascii : (bytes : List ℕ) → list_all is_digit bytes ≡ true → IsAscii bytes
 ascii [] e i = omega arith
-ascii (b ∷ bytes) e zero = below_128 b (and_left (is_digit b) (list_all is_digit bytes) e)
-ascii (b ∷ bytes) e (suc i) = ascii bytes (and_right (is_digit b) (list_all is_digit bytes) e) i
+ascii (b ∷ bytes) e zero = below_128 b (left_of_and (is_digit b) (list_all is_digit bytes) e)
+ascii (b ∷ bytes) e (suc i) = ascii bytes (right_of_and (is_digit b) (list_all is_digit bytes) e) i
 
 pub numeral_is_text : (bytes : List ℕ) → is_numeral bytes ≡ true → IsUtf8 bytes
 numeral_is_text bytes e = IsUtf8-from_ascii bytes (ascii bytes (digits_of bytes e))
@@ -45,9 +39,9 @@ too_great n bound h = search (rules, nat_tests)
 
 pub number_is : {E : Type 0} (k : ℕ) (bytes : List ℕ) (r : Result ℕ E) → is_numeral bytes ≡ true → ParsesUnsigned k 10 bytes r → result_ok r ≡ number_read (2 ^ k) bytes
 number_is {E} k bytes (Ok x) e h =
-    let p : ((0 < length bytes) × (digits_value 10 bytes < 2 ^ k)) × (x ≡ digits_value 10 bytes) = parse_digits own {E = E} k bytes (Ok x) h (digits_of bytes e) in
+    let p : ((0 < length bytes) × (digits_value 10 bytes < 2 ^ k)) × (x ≡ digits_value 10 bytes) = parse_digits std_reads_digits {E = E} k bytes (Ok x) h (digits_of bytes e) in
     let fits : ltb (digits_value 10 bytes) (2 ^ k) ≡ true = grind (arith, nat_tests, p.0.1) in
     rw (e, fits, p.1) refl
 number_is {E} k bytes (Err d) e h =
-    let p = parse_digits own {E = E} k bytes (Err d) h (digits_of bytes e) in
+    let p = parse_digits std_reads_digits {E = E} k bytes (Err d) h (digits_of bytes e) in
     rw (e, too_great (digits_value 10 bytes) (2 ^ k) (λ fits. p (some_byte bytes e, fits))) refl

@@ -7,7 +7,7 @@ use Rattle.am_script.specs.declared.fault.ScriptFaultKind.{ScriptFaultKind}
 use Rattle.am_script.specs.declared.fault.ScriptFaultKind.TheVariants.{NoMemory}
 use Rattle.am_script.specs.declared.visit.Opened.{Opened}
 use Rattle.am_script.specs.Fault.{fault_at, IsFaultOr}
-use Rattle.am_script.specs.Heading.{HeadSoFar, EventsBegin, Stops, StopsAt, line_taken, first_open}
+use Rattle.am_script.specs.Heading.{HeadSoFar, EventsBegin, HeadFault, StopsAt, after_line, first_open}
 use Rattle.am_script.specs.Lines.{lines_of, lines_in}
 use Rattle.am_script.specs.Maps.{opening_read}
 use Rattle.am_script.specs.Opened.{OpenedAs, NotOpened, NoRoom, NoNext}
@@ -27,9 +27,9 @@ no_room count number fault e first fits =
 
 -- a line of the head stops the script, or there is no memory for it
 pub head_stops_it : (broke : Option ScriptFaultKind) (all : List (List ℕ)) (head : HeadSoFar) (number : ℕ) (rest : List (List ℕ)) (line : List ℕ) (lines : List (List ℕ)) (fault : ScriptFault) →
-    IsLeft all head number rest → rest ≡ line ∷ lines → StopsAt (number + 1) (line_taken head (number + 1) line) fault → NotOpened (length all) (script_from broke all) fault
+    IsLeft all head number rest → rest ≡ line ∷ lines → StopsAt (number + 1) (after_line head (number + 1) line) fault → NotOpened (length all) (script_from broke all) fault
 head_stops_it broke all head number rest line lines fault left e (inl t) =
-    inl (ap (script_by broke all) (went all head number rest line lines (Stops fault) left e t))
+    inl (ap (script_by broke all) (went all head number rest line lines (HeadFault fault) left e t))
 head_stops_it broke all head number rest line lines fault left e (inr none) =
     inr (no_room (length all) (number + 1) fault none (omega arith) (taken_within all head number rest line lines left e))
 
@@ -43,7 +43,7 @@ begin_fails_it before read told fault first (inr none) = inr (no_room before bef
 
 -- what is opened behind the head is the whole script
 pub begins_opened : (broke : Option ScriptFaultKind) (all : List (List ℕ)) (head next : HeadSoFar) (number : ℕ) (rest : List (List ℕ)) (line : List ℕ) (lines : List (List ℕ)) (r : Result (Option Opened) ScriptFault) →
-    IsLeft all head number rest → rest ≡ line ∷ lines → line_taken head (number + 1) line ≡ EventsBegin next →
+    IsLeft all head number rest → rest ≡ line ∷ lines → after_line head (number + 1) line ≡ EventsBegin next →
     IfOk r (OpenedAs broke (begun_by (opening_read next.said) (events_from broke (number + 1) lines))) → IfOk r (OpenedAs broke (script_from broke all))
 begins_opened broke all head next number rest line lines r left e t h =
     subst (λ (s : Script). IfOk r (OpenedAs broke s)) (sym (begun broke all head next number rest line lines left e t)) h
@@ -53,7 +53,7 @@ not_opened_more few many script (Ok opened) fits h = tt
 not_opened_more few many script (Err fault) fits h = more_room few many script fault fits h
 
 pub begins_not : (broke : Option ScriptFaultKind) (all : List (List ℕ)) (head next : HeadSoFar) (number : ℕ) (rest : List (List ℕ)) (line : List ℕ) (lines : List (List ℕ)) (r : Result (Option Opened) ScriptFault) →
-    IsLeft all head number rest → rest ≡ line ∷ lines → line_taken head (number + 1) line ≡ EventsBegin next →
+    IsLeft all head number rest → rest ≡ line ∷ lines → after_line head (number + 1) line ≡ EventsBegin next →
     IfErr r (NotOpened (number + 1) (begun_by (opening_read next.said) (events_from broke (number + 1) lines))) → IfErr r (NotOpened (length all) (script_from broke all))
 begins_not broke all head next number rest line lines r left e t h =
     subst (λ (s : Script). IfErr r (NotOpened (length all) s)) (sym (begun broke all head next number rest line lines left e t)) (not_opened_more (number + 1) (length all) (begun_by (opening_read next.said) (events_from broke (number + 1) lines)) r (taken_within all head number rest line lines left e) h)

@@ -61,7 +61,7 @@ owed_marked marks last line bytes e = owed_before marks last line 0 bytes (omega
 
 -- ---- what a writer took
 
-bytes_more : (xs ys : List Owed) → bytes_of (xs ++ ys) ≡ bytes_of xs ++ bytes_of ys
+pub bytes_more : (xs ys : List Owed) → bytes_of (xs ++ ys) ≡ bytes_of xs ++ bytes_of ys
 bytes_more xs ys = map-append (λ (o : Owed). o.byte) xs ys
 
 -- more is put out, and kept

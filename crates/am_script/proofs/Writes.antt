@@ -43,6 +43,3 @@ took_none old mid new bytes rest n e t g = subst (λ (k : ℕ). Took old new byt
 
 pub took_first : (old : Option (List ℕ)) (bytes : List ℕ) → Took old old bytes bytes
 took_first old bytes = record { front = []; parts = refl; taken = appends_none old }
-
-pub took_all : (old new : Option (List ℕ)) (bytes rest : List ℕ) → length rest ≡ 0 → Took old new bytes rest → Appends old new (take (length bytes) bytes)
-took_all old new bytes rest e t = subst (λ (n : ℕ). Appends old new (take n bytes)) (omega (arith, e)) (took_count old new bytes rest t)

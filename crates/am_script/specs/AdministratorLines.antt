@@ -1,4 +1,4 @@
--- The lines of what an administrator does.
+-- The lines of what an administrator does: own choice (docs/FORMATS.md, "Events").
 use Rattle.std.specs.Prelude.{ℕ, List, [], ◌∷◌, codes, bytes_eq, Option, None, Some, option_map, if◌then◌else◌}
 use Rattle.std.specs.Result.{result_ok}
 use Rattle.am_names.specs.Path.{path_read}
@@ -10,6 +10,7 @@ use Rattle.am_machine.specs.declared.event.Event.TheVariants as events
 use Rattle.am_script.specs.Numbers.{u32_read}
 use Rattle.am_script.specs.EventWords.{change_read, form_read}
 
+-- the event, where both words are read
 abbrev pub mount_of : Option ℕ → Option (List (List ℕ)) → Option Event
 mount_of (Some ns) (Some path) = Some (events.Mount ns path)
 mount_of ns path = None
@@ -23,6 +24,7 @@ mount_read words = None
 abbrev pub mount_event : ℕ × List (List ℕ) → Event
 mount_event words = events.Mount words.0 words.1
 
+-- the event, where all three words are read
 abbrev pub bind_of : Option ℕ → Option (List (List ℕ)) → Option (List (List ℕ)) → Option Event
 bind_of (Some ns) (Some from) (Some to) = Some (events.Bind ns from to)
 bind_of ns from to = None
@@ -33,9 +35,11 @@ bind_read (ns ∷ from ∷ to ∷ []) =
     bind_of (u32_read ns) (result_ok (path_read from)) (result_ok (path_read to))
 bind_read words = None
 
+-- the event of a line whose words are these
 abbrev pub bind_event : ℕ × List (List ℕ) × List (List ℕ) → Event
 bind_event words = events.Bind words.0 words.1 words.2
 
+-- the event, where both words are read
 abbrev pub umount_of : Option ℕ → Option (List (List ℕ)) → Option Event
 umount_of (Some ns) (Some path) = Some (events.Umount ns path)
 umount_of ns path = None
@@ -45,9 +49,11 @@ abbrev pub umount_read : List (List ℕ) → Option Event
 umount_read (ns ∷ path ∷ []) = umount_of (u32_read ns) (result_ok (path_read path))
 umount_read words = None
 
+-- the event of a line whose words are these
 abbrev pub umount_event : ℕ × List (List ℕ) → Event
 umount_event words = events.Umount words.0 words.1
 
+-- the event, where all three words are read
 abbrev pub change_of : Option ℕ → Option (List (List ℕ)) → Option Change → Option Event
 change_of (Some ns) (Some path) (Some change) = Some (events.Change ns path change)
 change_of ns path change = None
@@ -58,9 +64,11 @@ change_line_read (ns ∷ path ∷ kind ∷ []) =
     change_of (u32_read ns) (result_ok (path_read path)) (change_read kind)
 change_line_read words = None
 
+-- the event of a line whose words are these
 abbrev pub change_event : ℕ × List (List ℕ) × Change → Event
 change_event words = events.Change words.0 words.1 words.2
 
+-- the event, where both words are read
 abbrev pub kind_of : Option ℕ → Option (List (List ℕ)) → Option Event
 kind_of (Some ns) (Some path) = Some (events.Kind ns path)
 kind_of ns path = None
@@ -70,9 +78,11 @@ abbrev pub kind_read : List (List ℕ) → Option Event
 kind_read (ns ∷ path ∷ []) = kind_of (u32_read ns) (result_ok (path_read path))
 kind_read words = None
 
+-- the event of a line whose words are these
 abbrev pub kind_event : ℕ × List (List ℕ) → Event
 kind_event words = events.Kind words.0 words.1
 
+-- the event, where the number is read and so is the form
 abbrev pub nscopy_of : Option ℕ → Option CopyForm → Option Event
 nscopy_of (Some ns) (Some form) = Some (events.CopyNamespace ns form)
 nscopy_of ns form = None

@@ -1,4 +1,4 @@
--- How answers are written.
+-- How answers are written: own choice (docs/FORMATS.md, "Answer lines").
 use Rattle.std.specs.Prelude.{ℕ, Bool, true, false, ◌==◌, List, [], ◌∷◌, ◌++◌, length, codes, decimal, Option, None, Some, if◌then◌else◌}
 use Rattle.std.specs.List.{flat_map}
 use Rattle.am_names.specs.Errno.{errno_number}
@@ -26,6 +26,7 @@ kind_text Unbindable = codes "unbindable"
 abbrev pub mounts_text : List ℕ → List ℕ
 mounts_text mounts = flat_map (λ mount. codes " " ++ decimal mount) mounts
 
+-- a record of the book
 abbrev pub record_text : Record → List ℕ
 record_text (Mounting token) = codes "mounting " ++ decimal token
 record_text (Mounted mount) = codes "mounted " ++ decimal mount
@@ -37,6 +38,7 @@ abbrev pub entry_text : Option Record → List ℕ
 entry_text None = codes "none"
 entry_text (Some entry) = record_text entry
 
+-- what an answer says
 abbrev pub answer_text : Answer → List ℕ
 answer_text (answers.Attached fs attach mount) =
     codes "fs " ++ decimal fs ++ (codes " attach " ++ decimal attach ++ (codes " mount " ++ decimal mount))

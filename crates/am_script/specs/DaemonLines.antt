@@ -1,4 +1,4 @@
--- The lines of what the daemon does.
+-- The lines of what the daemon does: own choice (docs/FORMATS.md, "Events").
 use Rattle.std.specs.Prelude.{ℕ, List, [], ◌∷◌, codes, bytes_eq, Option, None, Some, option_map, if◌then◌else◌}
 use Rattle.std.specs.Result.{result_ok}
 use Rattle.am_names.specs.Path.{path_read}
@@ -18,6 +18,7 @@ attach_read words = None
 abbrev pub attach_event : List (List ℕ) → Event
 attach_event path = events.Attach path
 
+-- the event, where the token and the packet's bytes are read
 abbrev pub deliver_of : Option ℕ → Option (List ℕ) → Option Event
 deliver_of (Some token) (Some bytes) = Some (events.Deliver token (Some bytes))
 deliver_of token bytes = None
@@ -28,6 +29,7 @@ deliver_read (token ∷ []) = option_map (λ t. events.Deliver t None) (u32_read
 deliver_read (token ∷ digits ∷ []) = deliver_of (u32_read token) (packet_read digits)
 deliver_read words = None
 
+-- the event, where the job is read and how its act goes
 abbrev pub act_of : Option ℕ → Option (Option FailNo) → Option Event
 act_of (Some job) (Some failure) = Some (events.Act job failure)
 act_of job failure = None
@@ -37,6 +39,7 @@ abbrev pub act_read : List (List ℕ) → Option Event
 act_read (job ∷ outcome) = act_of (u32_read job) (outcome_read outcome)
 act_read [] = None
 
+-- the event, where all three words are read
 abbrev pub repeat_of : Option ℕ → Option ℕ → Option Status → Option Event
 repeat_of (Some attach) (Some token) (Some status) = Some (events.Repeat attach token status)
 repeat_of attach token status = None
@@ -47,6 +50,7 @@ repeat_read (attach ∷ token ∷ status ∷ []) =
     repeat_of (u32_read attach) (u32_read token) (status_read status)
 repeat_read words = None
 
+-- the event, where both words are read
 abbrev pub catatonic_of : Option ℕ → Option ℕ → Option Event
 catatonic_of (Some attach) (Some fs) = Some (events.Catatonic attach fs)
 catatonic_of attach fs = None
@@ -56,6 +60,7 @@ abbrev pub catatonic_read : List (List ℕ) → Option Event
 catatonic_read (attach ∷ fs ∷ []) = catatonic_of (u32_read attach) (u32_read fs)
 catatonic_read words = None
 
+-- the event, where all three words are read
 abbrev pub timeout_of : Option ℕ → Option ℕ → Option ℕ → Option Event
 timeout_of (Some attach) (Some fs) (Some seconds) = Some (events.Timeout attach fs seconds)
 timeout_of attach fs seconds = None
@@ -76,6 +81,7 @@ abbrev pub reattach_read : List (List ℕ) → Option Event
 reattach_read (fs ∷ []) = option_map events.Reattach (u32_read fs)
 reattach_read words = None
 
+-- the event, where both words are read
 abbrev pub record_of : Option ℕ → Option (Option (List ℕ)) → Option Event
 record_of (Some fs) (Some name) = Some (events.Record (record { fs = fs; name = name }))
 record_of fs name = None

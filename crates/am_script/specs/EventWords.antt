@@ -1,4 +1,5 @@
--- The words of event lines that are neither plain numbers nor paths.
+-- The words of event lines that are neither plain numbers nor paths: own choice (docs/FORMATS.md,
+-- "Events").
 use Rattle.std.specs.Prelude.{ℕ, Bool, true, false, List, [], ◌∷◌, codes, bytes_eq, Option, None, Some, option_map, if◌then◌else◌}
 use Rattle.std.specs.Option.{option_and_then}
 use Rattle.std.specs.Result.{result_ok}

@@ -1,4 +1,5 @@
--- The event that a line spells by its words, if it spells one.
+-- The event that a line spells by its words, if it spells one: own choice (docs/FORMATS.md,
+-- "Events").
 use Rattle.std.specs.Prelude.{◌≡◌, ℕ, true, is_some, List, [], ◌∷◌, Option, None, Result, Ok, Err}
 use Rattle.std.specs.Option.{option_or}
 use Rattle.am_machine.specs.declared.event.Event.{Event}

@@ -1,9 +1,10 @@
--- Faults: their numbers, and where they are told.
+-- Faults: their numbers, and where they are told: own choice (docs/FORMATS.md, "Faults").
 use Rattle.std.specs.Prelude.{◌≡◌, ◌⊎◌, ℕ, ◌+◌, Result, Err}
 use Rattle.am_script.specs.declared.fault.ScriptFault.{ScriptFault}
 use Rattle.am_script.specs.declared.fault.ScriptFaultKind.{ScriptFaultKind}
 use Rattle.am_script.specs.declared.fault.ScriptFaultKind.TheVariants.{BadSection, BadLimits, BadMaster, BadMap, NoSuchMap, BadEvent, LongLine, NoMemory, ReadFailed, WriteFailed}
 
+-- the number of a fault, which its line on standard error doesn't tell
 abbrev pub kind_number : ScriptFaultKind → ℕ
 kind_number BadSection = 1
 kind_number BadLimits = 2
@@ -16,6 +17,7 @@ kind_number NoMemory = 8
 kind_number ReadFailed = 9
 kind_number WriteFailed = 10
 
+-- a fault on this line
 abbrev pub fault_at : ℕ → ScriptFaultKind → ScriptFault
 fault_at line kind = record { line = line; kind = kind }
 

@@ -1,5 +1,6 @@
 -- What the head of a script says: limits if wanted, how long failures last if wanted, a master
--- section if wanted, any number of map sections, and the line `events`.
+-- section if wanted, any number of map sections, and the line `events`. Own choice
+-- (docs/FORMATS.md, "The head").
 use Rattle.std.specs.Prelude.{ℕ, Bool, false, is_some, List, [], ◌∷◌, ◌++◌, codes, bytes_eq, drop, Option, None, Some, Result, Ok, Err, if◌then◌else◌}
 use Rattle.am_names.specs.declared.limits.Limits.{Limits}
 use Rattle.am_master.specs.declared.fault.MasterFault.{MasterFault}
@@ -35,9 +36,11 @@ pub data Headed : Type 0 where
   -- its first fault
   Faulty : ScriptFault → Headed
 
-abbrev pub bad : ℕ → Headed
-bad number = Faulty (fault_at number BadSection)
+-- what stands on this line may not stand there
+abbrev pub bad_section : ℕ → Headed
+bad_section number = Faulty (fault_at number BadSection)
 
+-- this line is too long
 abbrev pub too_long : ℕ → Headed
 too_long number = Faulty (fault_at number LongLine)
 
@@ -46,9 +49,11 @@ abbrev pub unended : Section → Option ℕ → Headed
 unended section None = Ends (Some section.first)
 unended section (Some number) = too_long number
 
+-- it is the section of a map, which has a name
 abbrev pub is_map : Section → Bool
 is_map section = is_some section.name
 
+-- the head says one map more
 abbrev pub with_map : Head → Section → Head
 with_map head section = record head { maps = head.maps ++ section ∷ [] }
 
@@ -56,10 +61,11 @@ with_map head section = record head { maps = head.maps ++ section ∷ [] }
 abbrev pub maps_then : Head → List Part → Headed
 maps_then head [] = Ends None
 maps_then head (Long number ∷ parts) = too_long number
-maps_then head (Alone number words ∷ parts) = if are_only (codes "events") words then Begins head number else bad number
-maps_then head (Unended section long ∷ parts) = if is_map section then unended section long else bad section.first
-maps_then head (Whole section ∷ parts) = if is_map section then maps_then (with_map head section) parts else bad section.first
+maps_then head (Alone number words ∷ parts) = if are_only (codes "events") words then Begins head number else bad_section number
+maps_then head (Unended section long ∷ parts) = if is_map section then unended section long else bad_section section.first
+maps_then head (Whole section ∷ parts) = if is_map section then maps_then (with_map head section) parts else bad_section section.first
 
+-- the rows of a master map; its fault is told at the line of the script
 abbrev pub master_in : ℕ → Result (List MasterRow) MasterFault → Result (List MasterRow) ScriptFault
 master_in first (Ok rows) = Ok rows
 master_in first (Err fault) = Err (fault_in first fault.line (BadMaster fault.kind))
@@ -68,9 +74,11 @@ master_in first (Err fault) = Err (fault_in first fault.line (BadMaster fault.ki
 abbrev pub section_read : Section → Result (List MasterRow) ScriptFault
 section_read section = master_in section.first (master_read section.text)
 
+-- the head says this master map, which begins at this line
 abbrev pub with_master : Head → ℕ → List MasterRow → Head
 with_master head first rows = record head { master = record { first = first; rows = rows } }
 
+-- map sections may follow a master map without a fault
 abbrev pub master_by : Result (List MasterRow) ScriptFault → ℕ → Head → List Part → Headed
 master_by (Ok rows) first head parts = maps_then (with_master head first rows) parts
 master_by (Err fault) first head parts = Faulty fault
@@ -85,6 +93,7 @@ master_then head (Whole section ∷ parts) =
     if is_map section then maps_then head (Whole section ∷ parts)
     else master_by (section_read section) section.first head parts
 
+-- the line begins with `negative`
 abbrev pub is_negative : List (List ℕ) → Bool
 is_negative [] = false
 is_negative (word ∷ words) = bytes_eq word (codes "negative")
@@ -93,6 +102,7 @@ is_negative (word ∷ words) = bytes_eq word (codes "negative")
 abbrev pub with_negative : Head → ℕ → Head
 with_negative head seconds = record head { limits = record head.limits { negative = seconds } }
 
+-- `negative` says how long failures last, or has a fault
 abbrev pub negative_by : Option ℕ → ℕ → Head → List Part → Headed
 negative_by (Some seconds) number head parts = master_then (with_negative head seconds) parts
 negative_by None number head parts = Faulty (fault_at number BadLimits)
@@ -105,10 +115,12 @@ negative_then head (Alone number words ∷ parts) =
     else master_then head (Alone number words ∷ parts)
 negative_then head parts = master_then head parts
 
+-- the line begins with `limits`
 abbrev pub is_limits : List (List ℕ) → Bool
 is_limits [] = false
 is_limits (word ∷ words) = bytes_eq word (codes "limits")
 
+-- `limits` says the limits, or has a fault
 abbrev pub limits_by : Option Limits → ℕ → Head → List Part → Headed
 limits_by (Some limits) number head parts = negative_then (record head { limits = limits }) parts
 limits_by None number head parts = Faulty (fault_at number BadLimits)

@@ -1,4 +1,5 @@
--- What lines that are left make of a head that was taken so far. For the code alone.
+-- What lines that are left make of a head that was taken so far. For the code
+-- alone: own choice.
 use Rattle.std.specs.Prelude.{◌≡◌, ℕ, ◌+◌, List, length, drop, Option, None, Some, if◌then◌else◌}
 use Rattle.am_script.specs.declared.heading.Stage.{Stage}
 use Rattle.am_script.specs.declared.heading.Stage.TheVariants as stages
@@ -17,6 +18,7 @@ stage_then stages.Mastered said parts = maps_then said parts
 abbrev pub section_then : Section → Head → List Part → Headed
 section_then section said parts = if is_map section then maps_then said parts else master_then said parts
 
+-- how a head goes that has said this, in this section or outside of any, where these lines are left
 abbrev pub left_in : Option Section → HeadSoFar → ℕ → List (List ℕ) → Headed
 left_in None head before lines = stage_then head.stage head.said (parts_in None before lines)
 left_in (Some section) head before lines = section_then section head.said (parts_in (Some section) before lines)

@@ -1,4 +1,4 @@
--- A head that is read line by line.
+-- A head that is read line by line: own choice (docs/FORMATS.md, "The head").
 use Rattle.std.specs.Prelude.{◌≡◌, ◌⊎◌, ℕ, Bool, true, false, ◌&&◌, List, codes, drop, Option, None, Some, Result, Ok, Err, if◌then◌else◌}
 use Rattle.am_names.specs.declared.limits.Limits.{Limits}
 use Rattle.am_master.specs.MasterRow.{MasterRow}
@@ -27,17 +27,19 @@ no_lines = record { stage = stages.Start; within = None; said = no_head }
 pub data Taken : Type 0 where
   GoesOn : HeadSoFar → Taken
   EventsBegin : HeadSoFar → Taken
-  Stops : ScriptFault → Taken
+  HeadFault : ScriptFault → Taken
 
-abbrev pub bad_section : ℕ → Taken
-bad_section number = Stops (fault_at number BadSection)
+-- what stands on this line may not stand there
+abbrev pub stops_at_section : ℕ → Taken
+stops_at_section number = HeadFault (fault_at number BadSection)
 
 -- ---- a line of a section
 
+-- the master section has ended: its rows are said, or it has a fault
 abbrev pub mastered : Result (List MasterRow) ScriptFault → HeadSoFar → ℕ → Taken
 mastered (Ok rows) head first =
     GoesOn (record head { stage = stages.Mastered; within = None; said = with_master head.said first rows })
-mastered (Err fault) head first = Stops fault
+mastered (Err fault) head first = HeadFault fault
 
 -- the section ends
 abbrev pub closed : HeadSoFar → Section → Taken
@@ -45,8 +47,9 @@ closed head section =
     if is_map section then GoesOn (record head { stage = stages.Mastered; within = None; said = with_map head.said section })
     else mastered (section_read section) head section.first
 
-abbrev pub within_taken : HeadSoFar → Section → List ℕ → Taken
-within_taken head section line =
+-- behind a line of the section
+abbrev pub in_section : HeadSoFar → Section → List ℕ → Taken
+in_section head section line =
     if is_end line then closed head section else GoesOn (record head { within = Some (with_line section line) })
 
 -- ---- a line outside of sections
@@ -56,18 +59,21 @@ abbrev pub may_open : Stage → Section → Bool
 may_open stages.Mastered section = is_map section
 may_open stage section = true
 
+-- behind a line that opens this section, if it may stand there
 abbrev pub opened : HeadSoFar → Section → Taken
 opened head section =
     if may_open head.stage section then GoesOn (record head { within = Some section })
-    else bad_section section.first
+    else stops_at_section section.first
 
-abbrev pub events_taken : HeadSoFar → ℕ → List (List ℕ) → Taken
-events_taken head number words = if are_only (codes "events") words then EventsBegin head else bad_section number
+-- behind a line that is to be `events`
+abbrev pub after_events : HeadSoFar → ℕ → List (List ℕ) → Taken
+after_events head number words = if are_only (codes "events") words then EventsBegin head else stops_at_section number
 
-abbrev pub negative_taken : HeadSoFar → ℕ → Option ℕ → Taken
-negative_taken head number (Some seconds) =
+-- behind `negative`, which says these seconds or none
+abbrev pub after_negative : HeadSoFar → ℕ → Option ℕ → Taken
+after_negative head number (Some seconds) =
     GoesOn (record head { stage = stages.Lasting; said = with_negative head.said seconds })
-negative_taken head number None = Stops (fault_at number BadLimits)
+after_negative head number None = HeadFault (fault_at number BadLimits)
 
 -- how long failures last isn't said yet, and may still be
 abbrev pub is_early : Stage → Bool
@@ -76,43 +82,49 @@ is_early stages.Limited = true
 is_early stage = false
 
 -- how long failures last, or `events`
-abbrev pub later_taken : HeadSoFar → ℕ → List (List ℕ) → Taken
-later_taken head number words =
-    if is_early head.stage && is_negative words then negative_taken head number (negative_read (drop 1 words))
-    else events_taken head number words
+abbrev pub after_later_line : HeadSoFar → ℕ → List (List ℕ) → Taken
+after_later_line head number words =
+    if is_early head.stage && is_negative words then after_negative head number (negative_read (drop 1 words))
+    else after_events head number words
 
-abbrev pub limits_taken : HeadSoFar → ℕ → Option Limits → Taken
-limits_taken head number (Some limits) =
+-- behind `limits`, which says these or none
+abbrev pub after_limits : HeadSoFar → ℕ → Option Limits → Taken
+after_limits head number (Some limits) =
     GoesOn (record head { stage = stages.Limited; said = record head.said { limits = limits } })
-limits_taken head number None = Stops (fault_at number BadLimits)
+after_limits head number None = HeadFault (fault_at number BadLimits)
 
+-- nothing was said yet
 abbrev pub is_start : Stage → Bool
 is_start stages.Start = true
 is_start stage = false
 
-abbrev pub alone_taken : HeadSoFar → ℕ → List (List ℕ) → Taken
-alone_taken head number words =
-    if is_start head.stage && is_limits words then limits_taken head number (limits_read (drop 1 words))
-    else later_taken head number words
+-- behind a line that opens no section: `limits`, `negative` or `events`
+abbrev pub after_lone_line : HeadSoFar → ℕ → List (List ℕ) → Taken
+after_lone_line head number words =
+    if is_start head.stage && is_limits words then after_limits head number (limits_read (drop 1 words))
+    else after_later_line head number words
 
-abbrev pub words_taken : Option Section → HeadSoFar → ℕ → List (List ℕ) → Taken
-words_taken (Some section) head number words = opened head section
-words_taken None head number words = alone_taken head number words
+-- behind a line with words, which opens this section or none
+abbrev pub after_words : Option Section → HeadSoFar → ℕ → List (List ℕ) → Taken
+after_words (Some section) head number words = opened head section
+after_words None head number words = after_lone_line head number words
 
-abbrev pub outside_taken : HeadSoFar → ℕ → List (List ℕ) → Taken
-outside_taken head number words =
-    if are_skipped words then GoesOn head else words_taken (section_opened number words) head number words
+-- behind a line outside of sections, which has these words
+abbrev pub between_sections : HeadSoFar → ℕ → List (List ℕ) → Taken
+between_sections head number words =
+    if are_skipped words then GoesOn head else after_words (section_opened number words) head number words
 
 -- ---- any line
 
-abbrev pub short_taken : Option Section → HeadSoFar → ℕ → List ℕ → Taken
-short_taken (Some section) head number line = within_taken head section line
-short_taken None head number line = outside_taken head number (words_of line)
+-- behind a line that isn't too long, in this section or outside of any
+abbrev pub after_short_line : Option Section → HeadSoFar → ℕ → List ℕ → Taken
+after_short_line (Some section) head number line = in_section head section line
+after_short_line None head number line = between_sections head number (words_of line)
 
 -- the line with this number is taken
-abbrev pub line_taken : HeadSoFar → ℕ → List ℕ → Taken
-line_taken head number line =
-    if is_long line then Stops (fault_at number LongLine) else short_taken head.within head number line
+abbrev pub after_line : HeadSoFar → ℕ → List ℕ → Taken
+after_line head number line =
+    if is_long line then HeadFault (fault_at number LongLine) else after_short_line head.within head number line
 
 -- what taking a line answers: whether the events begin
 abbrev pub taken_as : Bool → HeadSoFar → Taken
@@ -120,7 +132,7 @@ taken_as begins head = if begins then EventsBegin head else GoesOn head
 
 -- the line with this number has this fault, or memory ran out
 abbrev pub StopsAt : ℕ → Taken → ScriptFault → Type 0
-StopsAt number taken fault = (taken ≡ Stops fault) ⊎ (fault ≡ fault_at number NoMemory)
+StopsAt number taken fault = (taken ≡ HeadFault fault) ⊎ (fault ≡ fault_at number NoMemory)
 
 -- the first line of the section that the lines are in, if they are in one
 abbrev pub first_open : Option Section → Option ℕ

@@ -11,6 +11,7 @@ abbrev pub rows_of : Option (List MasterRow) → List MasterRow
 rows_of None = []
 rows_of (Some rows) = rows
 
+-- what the lines so far have said, as the fields keep it
 abbrev pub view_of : Inside → HeadSoFar
 view_of h = record {
   stage = h.stage;

@@ -1,4 +1,4 @@
--- The limits of a script, and how long its failures last.
+-- The limits of a script, and how long its failures last: own choice (docs/FORMATS.md, "The head").
 use Rattle.std.specs.Prelude.{ℕ, List, [], ◌∷◌, Option, None, Some, if◌then◌else◌}
 use Rattle.am_names.specs.declared.limits.Limits.{Limits}
 use Rattle.am_names.specs.Limits.{is_in_range}
@@ -8,9 +8,11 @@ use Rattle.am_script.specs.Numbers.{u32_read, u64_read}
 abbrev pub default_limits : Limits
 default_limits = record { mounts = 1000000; waiters = 1024; tokens = 4294967295; negative = 0 }
 
+-- the limits, if each is in its range
 abbrev pub checked : Limits → Option Limits
 checked limits = if is_in_range limits then Some limits else None
 
+-- the limits, where all three numbers are read
 abbrev pub limits_of : Option ℕ → Option ℕ → Option ℕ → Option Limits
 limits_of (Some mounts) (Some waiters) (Some tokens) =
     checked (record { mounts = mounts; waiters = waiters; tokens = tokens; negative = 0 })

@@ -1,4 +1,5 @@
 -- The lines of a text, and those that are skipped. The words of a line are am_lines'.
+-- Own choice (docs/FORMATS.md, "Lines and words").
 use Rattle.std.specs.Prelude.{◌≡◌, ℕ, ◌+◌, Bool, true, false, nat_lt, All, List, [], ◌∷◌, ◌++◌, length, Option, None, Some}
 use Rattle.std.specs.List.{slice_split}
 use Rattle.am_lines.specs.Lines.{is_line_feed}

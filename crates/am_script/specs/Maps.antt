@@ -1,4 +1,5 @@
--- The maps of a master: for each of its lines, in order, the first section of that name.
+-- The maps of a master: for each of its lines, in order, the first section of that name. Own choice
+-- (docs/FORMATS.md, "The head").
 use Rattle.std.specs.Prelude.{ℕ, Bool, false, List, [], ◌∷◌, find, bytes_eq, Option, None, Some, Result, Ok, Err}
 use Rattle.am_map.specs.EntryText.{Row}
 use Rattle.am_map.specs.Grammar.{map_read}
@@ -15,6 +16,7 @@ use Rattle.am_script.specs.Sections.{Section}
 use Rattle.am_script.specs.Fault.{fault_in}
 use Rattle.am_script.specs.Head.{Head}
 
+-- it has a name, and it is this
 abbrev pub is_named : List ℕ → Option (List ℕ) → Bool
 is_named name None = false
 is_named name (Some other) = bytes_eq other name
@@ -28,6 +30,7 @@ abbrev pub kind_for : Point → MapKind
 kind_for Direct = kinds.Direct
 kind_for (Indirect names) = kinds.Indirect
 
+-- the rows of a map; its fault is told at the line of the script
 abbrev pub rows_in : ℕ → Result (List Row) MapFault → Result (List Row) ScriptFault
 rows_in first (Ok rows) = Ok rows
 rows_in first (Err fault) = Err (fault_in first fault.line (BadMap fault.kind))
@@ -37,6 +40,7 @@ abbrev pub map_by : Option Section → ℕ → MasterRow → Result (List Row) S
 map_by None first row = Err (fault_in first row.line NoSuchMap)
 map_by (Some section) first row = rows_in section.first (map_read (kind_for row.point) section.text)
 
+-- a map before others, or the first fault
 abbrev pub before_maps : Result (List Row) ScriptFault → Result (List (List Row)) ScriptFault → Result (List (List Row)) ScriptFault
 before_maps (Ok rows) (Ok maps) = Ok (rows ∷ maps)
 before_maps (Ok rows) (Err fault) = Err fault
@@ -47,6 +51,7 @@ abbrev pub maps_read : List Section → ℕ → List MasterRow → Result (List 
 maps_read sections first [] = Ok []
 maps_read sections first (row ∷ rows) = before_maps (map_by (section_for sections row.map) first row) (maps_read sections first rows)
 
+-- what a world begins with that has these maps
 abbrev pub opening_with : Head → Result (List (List Row)) ScriptFault → Result Opening ScriptFault
 opening_with head (Ok maps) = Ok (record { limits = head.limits; master = head.master.rows; maps = maps })
 opening_with head (Err fault) = Err fault

@@ -1,4 +1,4 @@
--- How scripts write numbers.
+-- How scripts write numbers: own choice (docs/FORMATS.md, "Numbers and bytes").
 use Rattle.std.specs.Prelude.{ℕ, ◌^◌, Bool, false, not, ◌&&◌, ◌||◌, ◌==◌, nat_lt, List, [], ◌∷◌, length, Option, None, Some, if◌then◌else◌}
 use Rattle.std.specs.List.{list_all}
 use Rattle.std.specs.Str.Parse.{digits_value}

@@ -1,4 +1,4 @@
--- A script that others play: its world, and then its events one by one.
+-- A script that others play: its world, and then its events one by one. Own choice.
 use Rattle.std.specs.Prelude.{◌≡◌, ◌⊎◌, ◌≤◌, ◌<◌, ℕ, ◌+◌, ◌^◌, ◌∷◌, Option, None, Some, Ok, option_copied}
 use Rattle.am_machine.specs.State.{opening_in, opening_of}
 use Rattle.am_script.specs.declared.fault.ScriptFault.{ScriptFault}

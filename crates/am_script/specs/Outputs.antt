@@ -1,5 +1,5 @@
 -- Bytes of answers on their way to a writer, each with the line of the script that it answers. For
--- the code alone.
+-- the code alone: own choice.
 use Rattle.std.specs.Prelude.{◌≡◌, ℕ, ◌+◌, ◌≤◌, nat_lt, List, [], ◌∷◌, ◌++◌, map, find, length, All, Option, None, Some, if◌then◌else◌}
 use Rattle.std.specs.Io.KnownBytes.{Appends}
 use Rattle.am_script.specs.declared.output.Mark.{Mark}
@@ -14,11 +14,13 @@ pub record Owed : Type 0 where
 abbrev pub owed_by : ℕ → List ℕ → List Owed
 owed_by line bytes = map (λ b. record { byte = b; line = line }) bytes
 
+-- the bytes without their lines
 abbrev pub bytes_of : List Owed → List ℕ
 bytes_of owed = map (λ o. o.byte) owed
 
 -- ---- what an output keeps
 
+-- the line of the mark, or this one where there is none
 abbrev pub line_of : ℕ → Option Mark → ℕ
 line_of line None = line
 line_of line (Some mark) = mark.line
@@ -54,10 +56,12 @@ pub record IsLost (all : List Owed) (line : ℕ) (old new : Option (List ℕ)) :
   pub line_is : first.line ≡ line
   pub written : Appends old new (bytes_of front)
 
+-- no byte is lost, or the first that is answers this line
 abbrev pub StandsBy : Option ℕ → List Owed → List Owed → Option (List ℕ) → Option (List ℕ) → Type 0
 StandsBy None owed all old new = IsOwed all owed old new
 StandsBy (Some line) owed all old new = IsLost all line old new
 
+-- where all these bytes were put out, these are kept, by marks that stand within them
 pub record StandsOf (bytes : List ℕ) (marks : List Mark) (line : ℕ) (lost : Option ℕ) (all : List Owed) (old new : Option (List ℕ)) : Type 0 where
   pub marked : All (λ mark. mark.end ≤ length bytes) marks
   pub owes : StandsBy lost (owed_from marks line 0 bytes) all old new

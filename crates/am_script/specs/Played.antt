@@ -1,5 +1,5 @@
 -- How a script is played: its answers are those of a run from its world, and their lines are
--- what is written.
+-- what is written. Own choice (docs/FORMATS.md, "Scripts").
 use Rattle.std.specs.Prelude.{⊤, ◌≡◌, ◌⊎◌, ◌<◌, ◌≤◌, ℕ, List, [], ◌∷◌, ◌++◌, length, take, count_by, Option, None, Some, Result, Ok, Err}
 use Rattle.std.specs.List.{flat_map}
 use Rattle.std.specs.Io.KnownBytes.{Appends, Consumes, IsAtEnd}
@@ -16,6 +16,7 @@ use Rattle.am_script.specs.Answers.{answer_line, is_refused}
 use Rattle.am_script.specs.Read.{played}
 use Rattle.am_script.specs.Script.{Numbered, events_in, Told, Script, script_of}
 
+-- the lines of these answers
 abbrev pub lines_for : List Answer → List ℕ
 lines_for answers = flat_map answer_line answers
 
@@ -55,24 +56,28 @@ pub record StopsAtEvent (start : State) (told : Told) (old new : Option (List �
   pub short : taken < length (answer_line answer)
   pub written : Appends old new (lines_for answers ++ take taken (answer_line answer))
 
+-- the script stops at its own fault, or at an event whose answer isn't taken
 abbrev pub Stops : State → Told → Option (List ℕ) → Option (List ℕ) → ScriptFault → Type 0
 Stops start told old new fault =
     StopsAtFault start told old new fault ⊎ StopsAtEvent start told old new fault
 
 -- ---- a script that ends before its events
 
+-- the script ends before its events, so that nothing is written
 pub record NothingPlayed (told : Told) (old new : Option (List ℕ)) (summary : Summary) : Type 0 where
   pub no_fault : told.fault ≡ None
   pub written : Appends old new []
   pub lines : summary.lines ≡ 0
   pub refused : summary.refused ≡ 0
 
+-- the script stops at a fault of its head, and nothing is written
 pub record StopsBefore (told : Told) (old new : Option (List ℕ)) (fault : ScriptFault) : Type 0 where
   pub found : told.fault ≡ Some fault
   pub written : Appends old new []
 
 -- ---- any script
 
+-- all events are answered where there is a world; where there is none, nothing is played
 abbrev pub PlayedFrom : Option Opening → Told → Option (List ℕ) → Option (List ℕ) → Summary → Type 0
 PlayedFrom None told old new summary = NothingPlayed told old new summary
 PlayedFrom (Some opening) told old new summary = AllAnswered (opening_of opening) told old new summary
@@ -81,6 +86,7 @@ PlayedFrom (Some opening) told old new summary = AllAnswered (opening_of opening
 abbrev pub IsPlayed : Script → Option (List ℕ) → Option (List ℕ) → Summary → Type 0
 IsPlayed script old new summary = PlayedFrom script.opening script.told old new summary
 
+-- the script stops behind the beginning of its world, or before it
 abbrev pub StoppedFrom : Option Opening → Told → Option (List ℕ) → Option (List ℕ) → ScriptFault → Type 0
 StoppedFrom None told old new fault = StopsBefore told old new fault
 StoppedFrom (Some opening) told old new fault = Stops (opening_of opening) told old new fault
@@ -122,8 +128,8 @@ abbrev pub IsAhead : List ℕ → Type 0
 IsAhead [] = ⊤
 IsAhead (b ∷ bytes) = (b ≡ 10) × (length bytes ≤ 4095)
 
--- The script stops at the last line of what was read, but for what was read ahead. It stops so whatever
--- else the input has.
+-- The script stops at the last line of what was read, but for what was read ahead. It stops so
+-- whatever else the input has.
 pub record Halts (text : List ℕ) (old new : Option (List ℕ)) (fault : ScriptFault) : Type 0 where
   pub upto : List ℕ
   pub ahead : List ℕ
@@ -136,7 +142,8 @@ pub record StopsAtEnd (rest : Option (List ℕ)) (text : List ℕ) (old new : Op
   pub ended : IsAtEnd rest
   pub stopped : HaltsIn (script_of None text) (length (lines_of text)) old new fault
 
--- the reader failed, or was asked too often, and the script stops behind the lines that were read whole
+-- the reader failed, or was asked too often, and the script stops behind the lines that were read
+-- whole
 abbrev pub BreaksOff : List ℕ → Option (List ℕ) → Option (List ℕ) → ScriptFault → Type 0
 BreaksOff text old new fault =
     HaltsIn (script_of (Some ReadFailed) text) (length (lines_of (played (Some ReadFailed) text))) old new fault

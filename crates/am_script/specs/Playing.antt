@@ -1,4 +1,5 @@
--- A script that is played line by line, while more of it may follow. For the code alone.
+-- A script that is played line by line, while more of it may follow. For the code
+-- alone: own choice.
 use Rattle.std.specs.Prelude.{◌≡◌, ◌⊎◌, ℕ, ◌+◌, true, List, [], ◌∷◌, ◌++◌, length, map, count_by, Option, None, Some, Ok}
 use Rattle.std.specs.List.{flat_map}
 use Rattle.am_machine.specs.declared.answer.Answer.{Answer}
@@ -14,7 +15,7 @@ use Rattle.am_script.specs.declared.player.Player.{Player}
 use Rattle.am_script.specs.Answers.{answer_line, is_refused}
 use Rattle.am_script.specs.Fault.{IsFaultOr}
 use Rattle.am_script.specs.HeadLeft.{IsLeft}
-use Rattle.am_script.specs.Heading.{HeadSoFar, GoesOn, EventsBegin, StopsAt, line_taken}
+use Rattle.am_script.specs.Heading.{HeadSoFar, GoesOn, EventsBegin, StopsAt, after_line}
 use Rattle.am_script.specs.Lines.{is_long}
 use Rattle.am_script.specs.Maps.{opening_read}
 use Rattle.am_script.specs.Outputs.{Owed, owed_by, Stands}
@@ -24,7 +25,8 @@ use Rattle.am_world.specs.Table.{WorldTable, state_of}
 
 -- ---- what may follow
 
--- how a script goes on behind its first lines: with these lines, and a fault of the reading behind them
+-- how a script goes on behind its first lines: with these lines, and a fault of the reading behind
+-- them
 pub record Ending : Type 0 where
   pub broke : Option ScriptFaultKind
   pub lines : List (List ℕ)
@@ -44,9 +46,11 @@ pub record Answered : Type 0 where
   pub asked : Numbered
   pub answer : Answer
 
+-- the events that were answered
 abbrev pub asked_in : List Answered → List Numbered
 asked_in rows = map (λ row. row.asked) rows
 
+-- their answers
 abbrev pub answers_in : List Answered → List Answer
 answers_in rows = map (λ row. row.answer) rows
 
@@ -79,6 +83,7 @@ pub record EventsStand (state : State) (number : ℕ) (summary : Summary) (outpu
   pub lines : summary.lines ≡ length rows
   pub refused : summary.refused ≡ count_by is_refused (answers_in rows)
 
+-- the lines were taken as those of a head, or its events are answered
 abbrev pub PlaceStands : Place → ℕ → Summary → Output → List (List ℕ) → Option (List ℕ) → Option (List ℕ) → Type 0
 PlaceStands (places.Head heading) number summary output front start now =
     HeadStands heading number summary output front start now
@@ -94,9 +99,9 @@ PlayerStands player front start now =
 
 -- what a line makes of a head: it goes on, or the world begins that the head opens
 abbrev pub HeadTaken : HeadSoFar → ℕ → List ℕ → HeadSoFar → Option WorldTable → Type 0
-HeadTaken old number line new None = line_taken old number line ≡ GoesOn new
+HeadTaken old number line new None = after_line old number line ≡ GoesOn new
 HeadTaken old number line new (Some world) =
-    (whole : HeadSoFar) × (line_taken old number line ≡ EventsBegin whole)
+    (whole : HeadSoFar) × (after_line old number line ≡ EventsBegin whole)
     × (opening_read whole.said ≡ Ok (opening_in (state_of world))) × (state_of world ≡ opening_of (opening_in (state_of world)))
 
 -- where a player is then
@@ -107,8 +112,8 @@ place_after heading (Some world) = places.Events world
 -- the line stops the head, or the world of the head that it ends can't begin
 abbrev pub HeadStops : HeadSoFar → ℕ → List ℕ → ScriptFault → Type 0
 HeadStops old number line fault =
-    StopsAt number (line_taken old number line) fault
-    ⊎ ((whole : HeadSoFar) × (line_taken old number line ≡ EventsBegin whole) × IsFaultOr number fault (opening_read whole.said))
+    StopsAt number (after_line old number line) fault
+    ⊎ ((whole : HeadSoFar) × (after_line old number line ≡ EventsBegin whole) × IsFaultOr number fault (opening_read whole.said))
 
 -- the line is played, whatever came before
 abbrev pub TakesLine : Player → Player → List ℕ → Option (List ℕ) → Option (List ℕ) → Type 0

@@ -1,10 +1,11 @@
--- What was read of a script.
+-- What was read of a script: own choice (docs/FORMATS.md, "Faults").
 use Rattle.std.specs.Prelude.{◌≡◌, ◌⊎◌, ℕ, ◌-◌, List, [], ◌∷◌, length, take, Option, None, Some, if◌then◌else◌}
 use Rattle.std.specs.Io.KnownBytes.{Consumes, IsAtEnd}
 use Rattle.am_script.specs.declared.fault.ScriptFaultKind.{ScriptFaultKind}
 use Rattle.am_script.specs.declared.fault.ScriptFaultKind.TheVariants.{LongLine, NoMemory, ReadFailed}
 use Rattle.am_script.specs.Lines.{lines_of, is_long}
 
+-- reading broke off: it failed, or memory ran out
 abbrev pub IsReadFault : ScriptFaultKind → Type 0
 IsReadFault kind = (kind ≡ ReadFailed) ⊎ (kind ≡ NoMemory)
 
@@ -13,6 +14,7 @@ abbrev pub WasRead : Option (List ℕ) → Option (List ℕ) → List ℕ → Op
 WasRead old new text None = Consumes old new text × IsAtEnd new
 WasRead old new text (Some kind) = Consumes old new text × IsReadFault kind
 
+-- the last line, which is empty where there is none
 abbrev pub last_of : List (List ℕ) → List ℕ
 last_of [] = []
 last_of (line ∷ []) = line

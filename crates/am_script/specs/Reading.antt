@@ -1,4 +1,5 @@
--- A script that is read in pieces, each of which ends anywhere. For the code alone.
+-- A script that is read in pieces, each of which ends anywhere. For the code
+-- alone: own choice.
 use Rattle.std.specs.Prelude.{◌≡◌, ◌≤◌, ℕ, List, ◌++◌, length, Option, None}
 use Rattle.am_script.specs.declared.fault.ScriptFault.{ScriptFault}
 use Rattle.am_script.specs.declared.reading.Reading.{Reading}

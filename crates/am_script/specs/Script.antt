@@ -1,5 +1,5 @@
 -- What the whole text of a script says: the opening of its world, its events with their lines,
--- and its first fault.
+-- and its first fault. Own choice (docs/FORMATS.md, "Scripts").
 use Rattle.std.specs.Prelude.{ℕ, ◌+◌, List, [], ◌∷◌, map, length, drop, Option, None, Some, Result, Ok, Err, if◌then◌else◌}
 use Rattle.am_machine.specs.declared.event.Event.{Event}
 use Rattle.am_machine.specs.State.{Opening}
@@ -20,6 +20,7 @@ pub record Numbered : Type 0 where
   pub line : ℕ
   pub event : Event
 
+-- the events without their lines
 abbrev pub events_in : List Numbered → List Event
 events_in rows = map (λ row. row.event) rows
 
@@ -33,11 +34,13 @@ pub record Script : Type 0 where
   pub opening : Option Opening
   pub told : Told
 
+-- no event, and this fault
 abbrev pub only_fault : Option ScriptFault → Told
 only_fault fault = record { events = []; fault = fault }
 
 -- ---- the events
 
+-- the event, or the fault of a line that spells none
 abbrev pub event_or_fault : Option Event → Result (Option Event) ScriptFaultKind
 event_or_fault (Some event) = Ok (Some event)
 event_or_fault None = Err BadEvent
@@ -69,6 +72,7 @@ events_from broke before (line ∷ lines) =
 
 -- ---- the head
 
+-- no world begins, for this fault or for none
 abbrev pub without_world : Option ScriptFault → Script
 without_world fault = record { opening = None; told = only_fault fault }
 
@@ -93,6 +97,7 @@ script_by broke lines (Begins head number) = begun_by (opening_read head) (event
 script_by broke lines (Ends section) = head_ends broke section (length lines)
 script_by broke lines (Faulty fault) = without_world (Some fault)
 
+-- the script of these lines, behind which reading broke off or not
 abbrev pub script_from : Option ScriptFaultKind → List (List ℕ) → Script
 script_from broke lines = script_by broke lines (head_of (parts_of_lines lines))
 

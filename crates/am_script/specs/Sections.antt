@@ -1,5 +1,5 @@
 -- The head of a script in parts: lines that stand by themselves, and sections, each from its first
--- line to the first line that is just `end`.
+-- line to the first line that is just `end`. Own choice (docs/FORMATS.md, "The head").
 use Rattle.std.specs.Prelude.{ℕ, ◌+◌, Bool, false, List, [], ◌∷◌, ◌++◌, codes, bytes_eq, Option, None, Some, if◌then◌else◌}
 use Rattle.std.specs.Option.{option_map}
 use Rattle.am_lines.specs.Words.{words_of}
@@ -47,6 +47,7 @@ section_opened number words =
 abbrev pub with_line : Section → List ℕ → Section
 with_line section line = record section { text = section.text ++ line ++ 10 ∷ [] }
 
+-- a line opens this section, or stands by itself before these parts
 abbrev pub part_by : Option Section → ℕ → List (List ℕ) → (Section → List Part) → List Part → List Part
 part_by (Some section) number words within behind = within section
 part_by None number words within behind = Alone number words ∷ behind

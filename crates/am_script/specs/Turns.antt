@@ -1,4 +1,4 @@
--- One line of events is played.
+-- One line of events is played: own choice (docs/FORMATS.md, "Scripts").
 use Rattle.std.specs.Prelude.{⊤, ◌≡◌, ◌⊎◌, ℕ, ◌+◌, Bool, cond, List, Option, None, Some, Result, Ok, Err}
 use Rattle.std.specs.Io.KnownBytes.{Appends}
 use Rattle.am_machine.specs.declared.event.Event.{Event}
@@ -74,6 +74,7 @@ pub record IsShort (result : Result Summary ScriptFault) (all : List Owed) (old 
   pub told : result ≡ Err (fault_at line WriteFailed)
   pub lost : IsLost all line old new
 
+-- wherever the output stood: all of it is written, or all up to a byte that is lost
 abbrev pub Closes : Output → Result Summary ScriptFault → Option (List ℕ) → Option (List ℕ) → Result Summary ScriptFault → Type 0
 Closes output ended held holds result =
     (all : List Owed) → (start : Option (List ℕ)) → Stands output all start held

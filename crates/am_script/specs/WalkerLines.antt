@@ -1,4 +1,4 @@
--- The lines of what walkers do.
+-- The lines of what walkers do: own choice (docs/FORMATS.md, "Events").
 use Rattle.std.specs.Prelude.{ℕ, Bool, List, [], ◌∷◌, codes, bytes_eq, Option, None, Some, option_map, if◌then◌else◌}
 use Rattle.std.specs.Result.{result_ok}
 use Rattle.am_names.specs.Path.{path_read}
@@ -8,6 +8,7 @@ use Rattle.am_machine.specs.declared.event.Event.TheVariants as events
 use Rattle.am_script.specs.Numbers.{u32_read, u64_read}
 use Rattle.am_script.specs.EventWords.{pipe_read, immediate_read}
 
+-- the event, where all five words are read
 abbrev pub walk_of : Option ℕ → Option ℕ → Option (List (List ℕ)) → Option ℕ → Option PipeState → Option Event
 walk_of (Some walker) (Some ns) (Some path) (Some now) (Some pipe) =
     Some (events.Walk walker ns path now pipe)
@@ -23,6 +24,7 @@ walk_read words = None
 abbrev pub walk_event : ℕ × ℕ × List (List ℕ) × ℕ × PipeState → Event
 walk_event words = events.Walk words.0 words.1 words.2 words.3 words.4
 
+-- the event, where all three words are read
 abbrev pub resume_of : Option ℕ → Option ℕ → Option PipeState → Option Event
 resume_of (Some walker) (Some now) (Some pipe) = Some (events.Resume walker now pipe)
 resume_of walker now pipe = None
@@ -38,6 +40,7 @@ abbrev pub leave_read : List (List ℕ) → Option Event
 leave_read (walker ∷ []) = option_map events.Leave (u32_read walker)
 leave_read words = None
 
+-- the event, where all five words are read
 abbrev pub expire_of : Option ℕ → Option ℕ → Option ℕ → Option Bool → Option PipeState → Option Event
 expire_of (Some walker) (Some fs) (Some now) (Some immediate) (Some pipe) =
     Some (events.Expire walker fs now immediate pipe)

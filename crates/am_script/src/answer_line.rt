@@ -30,7 +30,8 @@ pub fn push_answer(line: &mut Vec<u8>, answer: &Answer) -> Result<(), AllocError
 /// Puts the line of an answer behind what the output keeps.
 #[tactic(auto, using(crate::proofs::Pieces::puts_two))]
 pub fn put_answer<W: Write>(output: &mut Output, answer: &Answer, writer: &mut W)
-    ensures { Puts output.old output.new (answer_line answer.now) (W.contents writer.old) (W.contents writer.new) }
+    ensures { Puts output.old output.new (answer_line answer.now) (W.contents writer.old)
+        (W.contents writer.new) }
 {
     put_text(output, answer, writer);
     put_word(output, b"\n", writer);
@@ -48,7 +49,8 @@ pub fn is_refused(answer: &Answer) -> bool
 
 #[tactic(auto, using(crate::proofs::Pieces::puts_two, crate::proofs::Pieces::puts_three))]
 fn put_text<W: Write>(output: &mut Output, answer: &Answer, writer: &mut W)
-    ensures { Puts output.old output.new (answer_text answer.now) (W.contents writer.old) (W.contents writer.new) }
+    ensures { Puts output.old output.new (answer_text answer.now) (W.contents writer.old)
+        (W.contents writer.new) }
 {
     match answer {
         Answer::Attached { fs, attach, mount } => {
@@ -108,7 +110,8 @@ pub fn put_word<W: Write>(output: &mut Output, word: &[u8], writer: &mut W)
 /// Puts a text and a number out.
 #[tactic(auto, using(crate::proofs::Pieces::puts_two))]
 pub fn put_number<W: Write>(output: &mut Output, word: &[u8], number: u64, writer: &mut W)
-    ensures { Puts output.old output.new (word.now ++ decimal number) (W.contents writer.old) (W.contents writer.new) }
+    ensures { Puts output.old output.new (word.now ++ decimal number) (W.contents writer.old)
+        (W.contents writer.new) }
 {
     let mut digits = Buffer::new();
     put_word(output, word, writer);
@@ -116,7 +119,8 @@ pub fn put_number<W: Write>(output: &mut Output, word: &[u8], number: u64, write
 }
 
 fn put_errno<W: Write>(output: &mut Output, word: &[u8], errno: Errno, writer: &mut W)
-    ensures { Puts output.old output.new (word.now ++ decimal (errno_number errno)) (W.contents writer.old) (W.contents writer.new) }
+    ensures { Puts output.old output.new (word.now ++ decimal (errno_number errno))
+        (W.contents writer.old) (W.contents writer.new) }
 {
     put_number(output, word, u64::from(errno.number()), writer)
 }
@@ -124,7 +128,8 @@ fn put_errno<W: Write>(output: &mut Output, word: &[u8], errno: Errno, writer: &
 /// Puts numbers of mounts out, each behind a blank.
 #[tactic(auto, using(crate::proofs::Pieces::puts_none))]
 pub fn put_mounts<W: Write>(output: &mut Output, mounts: &Mounts, writer: &mut W)
-    ensures { Puts output.old output.new (mounts_text mounts.now) (W.contents writer.old) (W.contents writer.new) }
+    ensures { Puts output.old output.new (mounts_text mounts.now) (W.contents writer.old)
+        (W.contents writer.new) }
 {
     for mount in mounts.as_slice() {
         put_number(output, b" ", mount.0, writer);
@@ -132,7 +137,8 @@ pub fn put_mounts<W: Write>(output: &mut Output, mounts: &Mounts, writer: &mut W
 }
 
 fn put_kind<W: Write>(output: &mut Output, kind: Kind, writer: &mut W)
-    ensures { Puts output.old output.new (kind_text kind) (W.contents writer.old) (W.contents writer.new) }
+    ensures { Puts output.old output.new (kind_text kind) (W.contents writer.old)
+        (W.contents writer.new) }
 {
     match kind {
         Kind::Shared => put_word(output, b"shared", writer),
@@ -145,7 +151,8 @@ fn put_kind<W: Write>(output: &mut Output, kind: Kind, writer: &mut W)
 
 /// Puts a path out: one slash for the root, else each name behind a slash.
 pub fn put_place<W: Write>(output: &mut Output, place: &Place, writer: &mut W)
-    ensures { Puts output.old output.new (place_text place.now) (W.contents writer.old) (W.contents writer.new) }
+    ensures { Puts output.old output.new (place_text place.now) (W.contents writer.old)
+        (W.contents writer.new) }
 {
     let text = place.text();
     if text.is_empty() {
@@ -157,7 +164,8 @@ pub fn put_place<W: Write>(output: &mut Output, place: &Place, writer: &mut W)
 
 /// Puts out what the book says of a trigger.
 pub fn put_entry<W: Write>(output: &mut Output, entry: &Option<Record>, writer: &mut W)
-    ensures { Puts output.old output.new (entry_text entry.now) (W.contents writer.old) (W.contents writer.new) }
+    ensures { Puts output.old output.new (entry_text entry.now) (W.contents writer.old)
+        (W.contents writer.new) }
 {
     match entry {
         None => put_word(output, b"none", writer),
@@ -167,7 +175,8 @@ pub fn put_entry<W: Write>(output: &mut Output, entry: &Option<Record>, writer: 
 
 #[tactic(auto, using(crate::proofs::Pieces::puts_two))]
 fn put_record<W: Write>(output: &mut Output, entry: &Record, writer: &mut W)
-    ensures { Puts output.old output.new (record_text entry.now) (W.contents writer.old) (W.contents writer.new) }
+    ensures { Puts output.old output.new (record_text entry.now) (W.contents writer.old)
+        (W.contents writer.new) }
 {
     match entry {
         Record::Mounting { token } => put_number(output, b"mounting ", u64::from(token.0), writer),

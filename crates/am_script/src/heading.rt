@@ -61,7 +61,7 @@ impl Model for Heading {
 }
 
 impl Heading {
-    ghost use Rattle.am_script.specs.Heading.{no_lines, line_taken, within_taken, outside_taken, alone_taken, later_taken, opened, closed, limits_taken, negative_taken, taken_as, first_open, Stops, StopsAt};
+    ghost use Rattle.am_script.specs.Heading.{no_lines, after_line, in_section, between_sections, after_lone_line, after_later_line, opened, closed, after_limits, after_negative, taken_as, first_open, HeadFault, StopsAt};
     ghost use Rattle.am_script.specs.Limits.{limits_read, negative_read};
     ghost use Rattle.am_script.specs.Maps.{opening_read};
     ghost use Rattle.am_machine.specs.State.{opening_in, opening_of};
@@ -89,8 +89,9 @@ impl Heading {
         line: &[u8],
     ) -> Result<bool, ScriptFault>
         requires { number ≤ 2 ^ 62 }
-        ensures ok { IfOk result (λ begins. line_taken self.old number line.now ≡ taken_as begins self.new) }
-        ensures err { IfErr result (StopsAt number (line_taken self.old number line.now)) }
+        ensures ok { IfOk result (λ begins. after_line self.old number line.now
+            ≡ taken_as begins self.new) }
+        ensures err { IfErr result (StopsAt number (after_line self.old number line.now)) }
     {
         if is_long(line) {
             return Err(fault_at(number, ScriptFaultKind::LongLine));
@@ -110,8 +111,9 @@ impl Heading {
         line: &[u8],
     ) -> Result<bool, ScriptFault>
         requires { self.old.within ≡ None }
-        ensures ok { IfOk result (λ begins. within_taken self.old section line.now ≡ taken_as begins self.new) }
-        ensures err { IfErr result (StopsAt number (within_taken self.old section line.now)) }
+        ensures ok { IfOk result (λ begins. in_section self.old section line.now
+            ≡ taken_as begins self.new) }
+        ensures err { IfErr result (StopsAt number (in_section self.old section line.now)) }
     {
         if is_end(line) {
             return self.close(alloc, section, number);
@@ -152,8 +154,10 @@ impl Heading {
     fn take_outside(&mut self, alloc: Global, number: u64, line: &[u8]) -> Result<bool, ScriptFault>
         requires number { number ≤ 2 ^ 62 }
         requires outside { self.old.within ≡ None }
-        ensures ok { IfOk result (λ begins. outside_taken self.old number (words_of line.now) ≡ taken_as begins self.new) }
-        ensures err { IfErr result (StopsAt number (outside_taken self.old number (words_of line.now))) }
+        ensures ok { IfOk result (λ begins. between_sections self.old number (words_of line.now)
+            ≡ taken_as begins self.new) }
+        ensures err { IfErr result (StopsAt number (between_sections self.old number
+            (words_of line.now))) }
     {
         if is_skipped(line) {
             return Ok(false);
@@ -168,7 +172,7 @@ impl Heading {
     /// A section begins, if it may.
     fn open_section(&mut self, section: Section) -> Result<bool, ScriptFault>
         ensures ok { IfOk result (λ begins. opened self.old section ≡ taken_as begins self.new) }
-        ensures err { IfErr result (λ fault. opened self.old section ≡ Stops fault) }
+        ensures err { IfErr result (λ fault. opened self.old section ≡ HeadFault fault) }
     {
         if !may_open(&self.stage, &section) {
             return Err(fault_at(section.first(), ScriptFaultKind::BadSection));
@@ -179,8 +183,10 @@ impl Heading {
 
     /// Takes a line that opens no section.
     fn take_alone(&mut self, number: u64, line: &[u8]) -> Result<bool, ScriptFault>
-        ensures ok { IfOk result (λ begins. alone_taken self.old number (words_of line.now) ≡ taken_as begins self.new) }
-        ensures err { IfErr result (λ fault. alone_taken self.old number (words_of line.now) ≡ Stops fault) }
+        ensures ok { IfOk result (λ begins. after_lone_line self.old number (words_of line.now)
+            ≡ taken_as begins self.new) }
+        ensures err { IfErr result (λ fault. after_lone_line self.old number (words_of line.now)
+            ≡ HeadFault fault) }
     {
         if is_start(&self.stage) {
             if let Some(words) = behind_limits(line) {
@@ -192,8 +198,10 @@ impl Heading {
 
     /// Takes a line that tells how long failures last, or begins the events.
     fn take_later(&mut self, number: u64, line: &[u8]) -> Result<bool, ScriptFault>
-        ensures ok { IfOk result (λ begins. later_taken self.old number (words_of line.now) ≡ taken_as begins self.new) }
-        ensures err { IfErr result (λ fault. later_taken self.old number (words_of line.now) ≡ Stops fault) }
+        ensures ok { IfOk result (λ begins. after_later_line self.old number (words_of line.now)
+            ≡ taken_as begins self.new) }
+        ensures err { IfErr result (λ fault. after_later_line self.old number (words_of line.now)
+            ≡ HeadFault fault) }
     {
         if is_early(&self.stage) {
             if let Some(words) = behind_negative(line) {
@@ -208,8 +216,10 @@ impl Heading {
 
     /// Takes the words behind `limits`.
     fn take_limits(&mut self, number: u64, words: &[u8]) -> Result<bool, ScriptFault>
-        ensures ok { IfOk result (λ begins. limits_taken self.old number (limits_read (words_of words.now)) ≡ taken_as begins self.new) }
-        ensures err { IfErr result (λ fault. limits_taken self.old number (limits_read (words_of words.now)) ≡ Stops fault) }
+        ensures ok { IfOk result (λ begins. after_limits self.old number
+            (limits_read (words_of words.now)) ≡ taken_as begins self.new) }
+        ensures err { IfErr result (λ fault. after_limits self.old number
+            (limits_read (words_of words.now)) ≡ HeadFault fault) }
     {
         match read_limits(words) {
             Some(limits) => {
@@ -223,8 +233,10 @@ impl Heading {
 
     /// Takes the words behind `negative`.
     fn take_negative(&mut self, number: u64, words: &[u8]) -> Result<bool, ScriptFault>
-        ensures ok { IfOk result (λ begins. negative_taken self.old number (negative_read (words_of words.now)) ≡ taken_as begins self.new) }
-        ensures err { IfErr result (λ fault. negative_taken self.old number (negative_read (words_of words.now)) ≡ Stops fault) }
+        ensures ok { IfOk result (λ begins. after_negative self.old number
+            (negative_read (words_of words.now)) ≡ taken_as begins self.new) }
+        ensures err { IfErr result (λ fault. after_negative self.old number
+            (negative_read (words_of words.now)) ≡ HeadFault fault) }
     {
         match read_negative(words) {
             Some(seconds) => {
@@ -238,8 +250,10 @@ impl Heading {
 
     /// The world that begins behind the line with this number.
     pub fn begin(self, alloc: Global, number: u64) -> Result<World, ScriptFault>
-        ensures opening { IfOk result (λ world. opening_read self.said ≡ Ok (opening_in (state_of world))) }
-        ensures world { IfOk result (λ world. state_of world ≡ opening_of (opening_in (state_of world))) }
+        ensures opening { IfOk result (λ world. opening_read self.said ≡ Ok
+            (opening_in (state_of world))) }
+        ensures world { IfOk result (λ world. state_of world ≡ opening_of
+            (opening_in (state_of world))) }
         ensures err { IfErr result (λ fault. IsFaultOr number fault (opening_read self.said)) }
     {
         let Heading {
@@ -330,9 +344,11 @@ fn behind_negative(line: &[u8]) -> Option<&[u8]>
 
 /// The master map of a section. Out of memory is told at the line `number`.
 fn read_master(alloc: Global, section: &Section, number: u64) -> Result<Master, ScriptFault>
-    ensures ok { IfOk result (λ master. master_in section.now.first (master_read section.now.text) ≡ Ok master) }
+    ensures ok { IfOk result (λ master. master_in section.now.first (master_read section.now.text)
+        ≡ Ok master) }
     ensures lines { IfOk result (StandWithin (2 ^ 63)) }
-    ensures err { IfErr result (λ fault. IsFaultOr number fault (master_in section.now.first (master_read section.now.text))) }
+    ensures err { IfErr result (λ fault. IsFaultOr number fault
+        (master_in section.now.first (master_read section.now.text))) }
 {
     match Master::read(alloc, section.text()) {
         Ok(master) => Ok(master),

@@ -51,7 +51,8 @@ pub(crate) fn three_words(words: &[u8]) -> Option<(&[u8], &[u8], &[u8])>
 /// The words of a line, if there are five.
 pub(crate) fn five_words(words: &[u8]) -> Option<FiveWords<'_>>
     ensures none { IfNone result (are_five (words_of words.now) ≡ false) }
-    ensures some { IfSome result (λ w. words_of words.now ≡ w.0.now ∷ w.1.now ∷ w.2.now ∷ w.3.now ∷ w.4.now ∷ []) }
+    ensures some { IfSome result (λ w. words_of words.now ≡ w.0.now ∷ w.1.now ∷ w.2.now ∷ w.3.now ∷
+        w.4.now ∷ []) }
 {
     let (first, words) = next_word(words)?;
     let (second, words) = next_word(words)?;

@@ -20,7 +20,8 @@ fn first_sections<'a>(
     alloc: Global,
     sections: &'a [Section],
 ) -> Result<IndexMap<&'a [u8], &'a Section>, AllocError>
-    ensures { IfOk result (λ index. (name : List ℕ) → option_copied (get_by (λ key. bytes_eq name key.now) index) ≡ section_for sections.now name) }
+    ensures { IfOk result (λ index. (name : List ℕ) → option_copied
+        (get_by (λ key. bytes_eq name key.now) index) ≡ section_for sections.now name) }
 {
     let mut index = IndexMap::with_capacity(alloc, sections.len())?;
     for section in sections {
@@ -56,7 +57,8 @@ pub fn read_maps(
     requires lines { StandWithin (2 ^ 63) entries.now }
     ensures ok { IfOk result (λ maps. maps_read sections.now first entries.now ≡ Ok maps.items) }
     ensures counted { IfOk result (λ maps. length maps.items ≡ length entries.now) }
-    ensures err { IfErr result (λ fault. IsFaultOr number fault (maps_read sections.now first entries.now)) }
+    ensures err { IfErr result (λ fault. IsFaultOr number fault
+        (maps_read sections.now first entries.now)) }
 {
     let Ok(index) = first_sections(alloc, sections) else {
         return Err(fault_at(number, ScriptFaultKind::NoMemory));
@@ -84,8 +86,10 @@ fn read_map(
 ) -> Result<Map, ScriptFault>
     requires first { first ≤ 2 ^ 62 }
     requires line { entry.now.line ≤ 2 ^ 63 }
-    ensures ok { IfOk result (λ map. map_by (option_copied section.entry) first entry.now ≡ Ok map) }
-    ensures err { IfErr result (λ fault. IsFaultOr number fault (map_by (option_copied section.entry) first entry.now)) }
+    ensures ok { IfOk result (λ map. map_by (option_copied section.entry) first entry.now
+        ≡ Ok map) }
+    ensures err { IfErr result (λ fault. IsFaultOr number fault
+        (map_by (option_copied section.entry) first entry.now)) }
 {
     match section {
         None => Err(fault_in(first, entry.line, ScriptFaultKind::NoSuchMap)),
@@ -100,8 +104,10 @@ fn read_section(
     kind: MapKind,
     number: u64,
 ) -> Result<Map, ScriptFault>
-    ensures ok { IfOk result (λ map. rows_in section.now.first (map_read kind section.now.text) ≡ Ok map) }
-    ensures err { IfErr result (λ fault. IsFaultOr number fault (rows_in section.now.first (map_read kind section.now.text))) }
+    ensures ok { IfOk result (λ map. rows_in section.now.first (map_read kind section.now.text)
+        ≡ Ok map) }
+    ensures err { IfErr result (λ fault. IsFaultOr number fault
+        (rows_in section.now.first (map_read kind section.now.text))) }
 {
     match Map::read(alloc, section.text(), kind) {
         Ok(map) => Ok(map),

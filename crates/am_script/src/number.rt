@@ -33,7 +33,8 @@ pub fn read_u64(digits: &[u8]) -> Option<u64>
 /// The text of a numeral.
 fn numeral(digits: &[u8]) -> Option<&str>
     ensures none { IfNone result (is_numeral digits.now ≡ false) }
-    ensures some { IfSome result (λ text. (is_numeral digits.now ≡ true) × (text.now ≡ digits.now)) }
+    ensures some { IfSome result (λ text. (is_numeral digits.now ≡ true)
+        × (text.now ≡ digits.now)) }
 {
     if !is_numeral(digits) {
         return None;

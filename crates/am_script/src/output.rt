@@ -46,7 +46,8 @@ impl Output {
     /// What is put from here on is the answer to this line.
     pub fn begin<W: Write>(&mut self, line: u64, writer: &mut W)
         ensures line { self.new.line ≡ line }
-        ensures settles { Settles self.old self.new (W.contents writer.old) (W.contents writer.new) }
+        ensures settles { Settles self.old self.new (W.contents writer.old)
+            (W.contents writer.new) }
     {
         if self.marks.is_full() {
             self.flush(writer);
@@ -64,7 +65,8 @@ impl Output {
     /// Puts a text behind what is kept.
     pub fn put<W: Write>(&mut self, text: &[u8], writer: &mut W)
         ensures line { self.new.line ≡ self.old.line }
-        ensures puts { PutsOut self.old self.new (owed_by self.old.line text.now) (W.contents writer.old) (W.contents writer.new) }
+        ensures puts { PutsOut self.old self.new (owed_by self.old.line text.now)
+            (W.contents writer.old) (W.contents writer.new) }
     {
         if let Ok(()) = self.bytes.try_extend_from_slice(text) {
             return;
@@ -79,7 +81,8 @@ impl Output {
     /// Gives to the writer what is kept.
     pub fn flush<W: Write>(&mut self, writer: &mut W)
         ensures line { self.new.line ≡ self.old.line }
-        ensures settles { Settles self.old self.new (W.contents writer.old) (W.contents writer.new) }
+        ensures settles { Settles self.old self.new (W.contents writer.old)
+            (W.contents writer.new) }
         ensures empty { self.new.bytes.items ≡ [] }
     {
         if self.lost.is_some() {
@@ -95,7 +98,8 @@ impl Output {
     fn pass<W: Write>(&mut self, text: &[u8], writer: &mut W)
         requires { self.old.bytes.items ≡ [] }
         ensures line { self.new.line ≡ self.old.line }
-        ensures puts { PutsOut self.old self.new (owed_by self.old.line text.now) (W.contents writer.old) (W.contents writer.new) }
+        ensures puts { PutsOut self.old self.new (owed_by self.old.line text.now)
+            (W.contents writer.old) (W.contents writer.new) }
     {
         if self.lost.is_some() {
             return;
@@ -118,7 +122,8 @@ impl Output {
 
     /// The line of the first byte that isn't among so many of those that are kept.
     fn lost_behind(&self, taken: usize) -> Option<u64>
-        ensures { result ≡ lost_behind self.now.marks.items self.now.line self.now.bytes.items taken }
+        ensures { result ≡ lost_behind self.now.marks.items self.now.line self.now.bytes.items
+            taken }
     {
         if taken < self.bytes.len() {
             return Some(line_at(self.marks.as_slice(), self.line, taken));
@@ -144,10 +149,12 @@ fn mark_behind(marks: &[Mark], at: usize) -> Option<Mark>
     marks.iter().copied().find(|mark| at < mark.end)
 }
 
-/// Writes the bytes, and tells how many of them the writer took: all, unless it failed or took none.
+/// Writes the bytes, and tells how many of them the writer took: all, unless it failed or took
+/// none.
 pub fn write_bytes<W: Write>(writer: &mut W, bytes: &[u8]) -> usize
     ensures bound { result ≤ length bytes.now }
-    ensures taken { Appends (W.contents writer.old) (W.contents writer.new) (take result bytes.now) }
+    ensures taken { Appends (W.contents writer.old) (W.contents writer.new)
+        (take result bytes.now) }
 {
     let mut rest = bytes;
     while !rest.is_empty() {
@@ -164,7 +171,8 @@ pub fn write_bytes<W: Write>(writer: &mut W, bytes: &[u8]) -> usize
 #[tactic(auto, using(crate::proofs::Writes::keeps_appends))]
 fn write_once<W: Write>(writer: &mut W, bytes: &[u8]) -> usize
     ensures bound { result ≤ length bytes.now }
-    ensures taken { Appends (W.contents writer.old) (W.contents writer.new) (take result bytes.now) }
+    ensures taken { Appends (W.contents writer.old) (W.contents writer.new)
+        (take result bytes.now) }
 {
     match writer.write(bytes) {
         Ok(taken) => taken,

@@ -17,9 +17,9 @@ pub struct Summary {
     pub refused: u64,
 }
 
-/// Plays a script as it is read, on a world of its own, and writes the line of each answer. It takes
-/// no memory for the script but for its head. The reader is asked for 4,096 bytes each time, and only
-/// when the answers to all lines that were read are written.
+/// Plays a script as it is read, on a world of its own, and writes the line of each answer. It
+/// takes no memory for the script but for its head. The reader is asked for 4,096 bytes each time,
+/// and only when the answers to all lines that were read are written.
 ///
 /// The first fault ends it. A fault of the head leaves the writer as it was, and one behind
 /// `events` the lines of all answers before it. Where the reader fails, or was asked
@@ -30,8 +30,10 @@ pub fn run_script<R: Read, W: Write>(
     reader: &mut R,
     writer: &mut W,
 ) -> Result<Summary, ScriptFault>
-    ensures ok { IfOk result (PlaysInput (R.remaining reader.old) (R.remaining reader.new) (W.contents writer.old) (W.contents writer.new)) }
-    ensures err { IfErr result (StopsInput (R.remaining reader.old) (R.remaining reader.new) (W.contents writer.old) (W.contents writer.new)) }
+    ensures ok { IfOk result (PlaysInput (R.remaining reader.old) (R.remaining reader.new)
+        (W.contents writer.old) (W.contents writer.new)) }
+    ensures err { IfErr result (StopsInput (R.remaining reader.old) (R.remaining reader.new)
+        (W.contents writer.old) (W.contents writer.new)) }
 {
     let mut reading = Reading::new(alloc);
     let ended = reading.play(alloc, reader, writer);

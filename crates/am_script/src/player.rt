@@ -66,8 +66,10 @@ impl Player {
         writer: &mut W,
     ) -> Result<(), ScriptFault>
         requires { self.old.number < 2 ^ 62 }
-        ensures ok { OnOk result (TakesLine self.old self.new line.now (W.contents writer.old) (W.contents writer.new)) }
-        ensures err { IfErr result (StopsAtLine self.old line.now (W.contents writer.old) (W.contents writer.new)) }
+        ensures ok { OnOk result (TakesLine self.old self.new line.now (W.contents writer.old)
+            (W.contents writer.new)) }
+        ensures err { IfErr result (StopsAtLine self.old line.now (W.contents writer.old)
+            (W.contents writer.new)) }
         ensures number { OnOk result (self.new.number ≡ self.old.number + 1) }
     {
         self.number += 1;
@@ -112,7 +114,8 @@ impl Player {
     /// Writes what is kept, and answers the fault that ends the script: this one, but where the
     /// writer doesn't take all, that.
     fn stop<W: Write>(&mut self, fault: ScriptFault, writer: &mut W) -> ScriptFault
-        ensures { Closes self.old.output (Err fault) (W.contents writer.old) (W.contents writer.new) (Err result) }
+        ensures { Closes self.old.output (Err fault) (W.contents writer.old) (W.contents writer.new)
+            (Err result) }
     {
         self.output.flush(writer);
         match self.output.lost {
@@ -126,8 +129,10 @@ impl Player {
 
     /// Writes what is kept.
     pub fn flush<W: Write>(&mut self, writer: &mut W) -> Result<(), ScriptFault>
-        ensures ok { OnOk result (Flushes self.old self.new (W.contents writer.old) (W.contents writer.new)) }
-        ensures err { IfErr result (LosesAnswer self.old (W.contents writer.old) (W.contents writer.new)) }
+        ensures ok { OnOk result (Flushes self.old self.new (W.contents writer.old)
+            (W.contents writer.new)) }
+        ensures err { IfErr result (LosesAnswer self.old (W.contents writer.old)
+            (W.contents writer.new)) }
         ensures written { OnOk result (self.new.output.bytes.items ≡ []) }
         ensures number { self.new.number ≡ self.old.number }
     {
@@ -148,8 +153,10 @@ impl Player {
         writer: &mut W,
     ) -> Result<Summary, ScriptFault>
         ensures whole { OnOk result (broke ≡ None) }
-        ensures ok { IfOk result (EndsPlayed self.old broke (W.contents writer.old) (W.contents writer.new)) }
-        ensures err { IfErr result (EndsStopped self.old broke (W.contents writer.old) (W.contents writer.new)) }
+        ensures ok { IfOk result (EndsPlayed self.old broke (W.contents writer.old)
+            (W.contents writer.new)) }
+        ensures err { IfErr result (EndsStopped self.old broke (W.contents writer.old)
+            (W.contents writer.new)) }
     {
         match &self.place {
             Place::Head(heading) => end_head(broke, heading.section(), self.number),

@@ -23,7 +23,8 @@ const READ: usize = 4096;
 fn read_once<R: Read>(reader: &mut R, buffer: &mut [u8; READ]) -> Option<usize>
     ensures bound { IfSome result (λ n. n ≤ length buffer.new) }
     ensures few { IfSome result (λ n. length (take n buffer.new) ≤ 4096) }
-    ensures bytes { IfSome result (λ n. Consumes (R.remaining reader.old) (R.remaining reader.new) (take n buffer.new)) }
+    ensures bytes { IfSome result (λ n. Consumes (R.remaining reader.old) (R.remaining reader.new)
+        (take n buffer.new)) }
     ensures end { IfSome result (λ n. n ≡ 0 → IsAtEnd (R.remaining reader.new)) }
     ensures kept { IfNone result (Keeps (R.remaining reader.old) (R.remaining reader.new)) }
 {
@@ -65,11 +66,14 @@ impl Reading {
         reader: &mut R,
         writer: &mut W,
     ) -> Result<Summary, ScriptFault>
-        requires stands { ReadingStands self.old [] (W.contents writer.old) (W.contents writer.old) }
+        requires stands { ReadingStands self.old [] (W.contents writer.old)
+            (W.contents writer.old) }
         requires number { self.old.player.number ≡ 0 }
         requires written { self.old.player.output.bytes.items ≡ [] }
-        ensures ok { IfOk result (PlaysInput (R.remaining reader.old) (R.remaining reader.new) (W.contents writer.old) (W.contents writer.new)) }
-        ensures err { IfErr result (StopsInput (R.remaining reader.old) (R.remaining reader.new) (W.contents writer.old) (W.contents writer.new)) }
+        ensures ok { IfOk result (PlaysInput (R.remaining reader.old) (R.remaining reader.new)
+            (W.contents writer.old) (W.contents writer.new)) }
+        ensures err { IfErr result (StopsInput (R.remaining reader.old) (R.remaining reader.new)
+            (W.contents writer.old) (W.contents writer.new)) }
     {
         let mut buffer = [0; READ];
         for _ in 0..MOST_READS {
@@ -91,10 +95,13 @@ impl Reading {
     ) -> Result<(), ScriptFault>
         requires few { length bytes.now ≤ 4096 }
         requires fits { self.old.player.number + length bytes.now < 2 ^ 62 }
-        ensures ok { OnOk result (TakesBytes self.old self.new bytes.now (W.contents writer.old) (W.contents writer.new)) }
-        ensures err { IfErr result (StopsInBytes self.old bytes.now (W.contents writer.old) (W.contents writer.new)) }
+        ensures ok { OnOk result (TakesBytes self.old self.new bytes.now (W.contents writer.old)
+            (W.contents writer.new)) }
+        ensures err { IfErr result (StopsInBytes self.old bytes.now (W.contents writer.old)
+            (W.contents writer.new)) }
         ensures written { OnOk result (self.new.player.output.bytes.items ≡ []) }
-        ensures number { OnOk result (self.new.player.number ≤ self.old.player.number + length bytes.now) }
+        ensures number { OnOk result (self.new.player.number
+            ≤ self.old.player.number + length bytes.now) }
     {
         let mut rest = bytes;
         while let Some((end, after)) = split_end(rest) {
@@ -115,8 +122,10 @@ impl Reading {
         writer: &mut W,
     ) -> Result<(), ScriptFault>
         requires { self.old.player.number < 2 ^ 62 }
-        ensures ok { OnOk result (TakesLine self.old.player self.new.player (self.old.held.items ++ end.now) (W.contents writer.old) (W.contents writer.new)) }
-        ensures err { IfErr result (StopsAtLine self.old.player (self.old.held.items ++ end.now) (W.contents writer.old) (W.contents writer.new)) }
+        ensures ok { OnOk result (TakesLine self.old.player self.new.player
+            (self.old.held.items ++ end.now) (W.contents writer.old) (W.contents writer.new)) }
+        ensures err { IfErr result (StopsAtLine self.old.player (self.old.held.items ++ end.now)
+            (W.contents writer.old) (W.contents writer.new)) }
         ensures empty { OnOk result (self.new.held.items ≡ []) }
         ensures number { OnOk result (self.new.player.number ≡ self.old.player.number + 1) }
     {
@@ -134,8 +143,10 @@ impl Reading {
     /// The reader came to its end.
     fn end<W: Write>(&mut self, alloc: Global, writer: &mut W) -> Result<Summary, ScriptFault>
         requires { self.old.player.number < 2 ^ 62 }
-        ensures ok { IfOk result (EndsRead self.old (W.contents writer.old) (W.contents writer.new)) }
-        ensures err { IfErr result (StopsRead self.old (W.contents writer.old) (W.contents writer.new)) }
+        ensures ok { IfOk result (EndsRead self.old (W.contents writer.old)
+            (W.contents writer.new)) }
+        ensures err { IfErr result (StopsRead self.old (W.contents writer.old)
+            (W.contents writer.new)) }
     {
         self.player.take_line(alloc, self.held.as_slice(), writer)?;
         self.player.end(None, writer)
@@ -145,7 +156,8 @@ impl Reading {
     fn break_off<W: Write>(&mut self, alloc: Global, writer: &mut W) -> Result<Summary, ScriptFault>
         requires { self.old.player.number < 2 ^ 62 }
         ensures ok { ¬ IsOk result }
-        ensures err { IfErr result (BreaksRead self.old (W.contents writer.old) (W.contents writer.new)) }
+        ensures err { IfErr result (BreaksRead self.old (W.contents writer.old)
+            (W.contents writer.new)) }
     {
         self.player.take_line(alloc, b"", writer)?;
         self.player.end(Some(ScriptFaultKind::ReadFailed), writer)

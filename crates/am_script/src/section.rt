@@ -31,7 +31,12 @@ impl Model for Section {
 
     ghost Value = { Section };
 
-    ghost view = { λ s. record { first = s.first; name = option_map (λ name. name.items) s.name; text = s.text.items } };
+    ghost view = { λ s. record {
+      first = s.first;
+      name = option_map
+          (λ name. name.items) s.name;
+      text = s.text.items;
+    } };
 
     // So that the line of a fault in its text fits.
     ghost invariant = { λ s. s.first ≤ 2 ^ 62 };

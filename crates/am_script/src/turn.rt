@@ -18,7 +18,7 @@ use std::io::Write;
 
 /// Plays the line of events with this number. It answers whether the event was refused, or none
 /// where the line is skipped.
-#[tactic(auto, using(crate::proofs::LineAnswers::told, crate::proofs::LineAnswers::idle, crate::proofs::LineAnswers::stopped))]
+#[tactic(auto, using(crate::proofs::LineAnswers::turn_of_an_event, crate::proofs::LineAnswers::turn_of_no_event, crate::proofs::LineAnswers::turn_of_a_fault))]
 pub(crate) fn play_line<W: Write>(
     alloc: Global,
     world: &mut World,
@@ -27,8 +27,12 @@ pub(crate) fn play_line<W: Write>(
     output: &mut Output,
     writer: &mut W,
 ) -> Result<Option<bool>, ScriptFaultKind>
-    ensures ok { IfOk result (TurnDone (state_of world.old) (line_read line.now) (state_of world.new) number output.old output.new (W.contents writer.old) (W.contents writer.new)) }
-    ensures err { IfErr result (TurnStopped (state_of world.old) (line_read line.now) (state_of world.new) output.old output.new (W.contents writer.old) (W.contents writer.new)) }
+    ensures ok { IfOk result (TurnDone (state_of world.old) (line_read line.now)
+        (state_of world.new) number output.old output.new (W.contents writer.old)
+        (W.contents writer.new)) }
+    ensures err { IfErr result (TurnStopped (state_of world.old) (line_read line.now)
+        (state_of world.new) output.old output.new (W.contents writer.old)
+        (W.contents writer.new)) }
 {
     let Some(answer) = answer_event(alloc, world, line)? else {
         return Ok(None);
@@ -48,7 +52,12 @@ fn answer_event(
 {
     match read_line(alloc, line) {
         Ok(None) => Ok(None),
-        Ok(Some(event)) => Ok(Some(world.step(alloc, &event))),
+        Ok(Some(event)) => {
+            let answer = world.step(alloc, &event);
+            // It goes by a call, which is cheaper to check.
+            drop(event);
+            Ok(Some(answer))
+        }
         // The event finds no memory before its step: it is refused, as a step refuses it.
         Err(ScriptFaultKind::NoMemory) => Ok(Some(Answer::Refused {
             errno: Errno::NoMemory,
@@ -81,7 +90,8 @@ pub fn close<W: Write>(
     ended: Result<Summary, ScriptFault>,
     writer: &mut W,
 ) -> Result<Summary, ScriptFault>
-    ensures closes { Closes output.old ended (W.contents writer.old) (W.contents writer.new) result }
+    ensures closes { Closes output.old ended (W.contents writer.old)
+        (W.contents writer.new) result }
     ensures whole { OnOk result (result ≡ ended) }
 {
     output.flush(writer);

@@ -42,8 +42,11 @@ pub struct Found<'a> {
 /// its head.
 pub fn open_script<'a>(alloc: Global, input: &'a Input) -> Result<Option<Opened<'a>>, ScriptFault>
     requires { vec_len input.now.text < 2 ^ 62 }
-    ensures ok { IfOk result (OpenedAs (broken input.now.broke input.now.text.items) (script_of input.now.broke input.now.text.items)) }
-    ensures err { IfErr result (NotOpened (length (lines_of (played input.now.broke input.now.text.items))) (script_of input.now.broke input.now.text.items)) }
+    ensures ok { IfOk result (OpenedAs (broken input.now.broke input.now.text.items)
+        (script_of input.now.broke input.now.text.items)) }
+    ensures err { IfErr result (NotOpened (length (lines_of
+        (played input.now.broke input.now.text.items))) (script_of input.now.broke
+        input.now.text.items)) }
 {
     let text = input.text.as_slice();
     match input.broke {
@@ -64,7 +67,8 @@ fn open_text<'a>(
 ) -> Result<Option<Opened<'a>>, ScriptFault>
     requires { length text.now < 2 ^ 62 }
     ensures ok { IfOk result (OpenedAs broke (script_from broke (lines_of text.now))) }
-    ensures err { IfErr result (NotOpened (length (lines_of text.now)) (script_from broke (lines_of text.now))) }
+    ensures err { IfErr result (NotOpened (length (lines_of text.now))
+        (script_from broke (lines_of text.now))) }
 {
     let mut heading = Heading::new(alloc);
     let mut rest = Some(text);
@@ -75,10 +79,16 @@ fn open_text<'a>(
         match heading.take_line(alloc, number, line) {
             Ok(false) => rest = after,
             Ok(true) => return begin_behind(alloc, heading, after, number, broke),
-            Err(fault) => return Err(fault),
+            Err(fault) => {
+                // It goes by a call, which is cheaper to check.
+                drop(heading);
+                return Err(fault);
+            }
         }
     }
-    match head_fault(broke, heading.section(), number) {
+    let fault = head_fault(broke, heading.section(), number);
+    drop(heading);
+    match fault {
         None => Ok(None),
         Some(fault) => Err(fault),
     }
@@ -94,8 +104,10 @@ fn begin_behind<'a>(
 ) -> Result<Option<Opened<'a>>, ScriptFault>
     requires first { 1 ≤ line }
     requires fits { line + size_in (option_copied rest) ≤ 2 ^ 63 }
-    ensures ok { IfOk result (OpenedAs broke (begun_by (opening_read heading.said) (events_from broke line (lines_in (option_copied rest.entry))))) }
-    ensures err { IfErr result (NotOpened line (begun_by (opening_read heading.said) (events_from broke line (lines_in (option_copied rest.entry))))) }
+    ensures ok { IfOk result (OpenedAs broke (begun_by (opening_read heading.said)
+        (events_from broke line (lines_in (option_copied rest.entry))))) }
+    ensures err { IfErr result (NotOpened line (begun_by (opening_read heading.said)
+        (events_from broke line (lines_in (option_copied rest.entry))))) }
 {
     match heading.begin(alloc, line) {
         Ok(world) => Ok(Some(Opened {
@@ -135,9 +147,12 @@ pub fn next_event<'a>(
     broke: Option<ScriptFaultKind>,
 ) -> Result<Option<Found<'a>>, ScriptFault>
     requires { line + size_in (option_copied rest) ≤ 2 ^ 63 }
-    ensures ok { IfOk result (NextOf broke (events_from broke line (lines_in (option_copied rest.entry)))) }
-    ensures within { IfOk result (λ next. IfSome next (IsWithin (line + size_in (option_copied rest.entry)) (size_in (option_copied rest.entry)))) }
-    ensures err { IfErr result (NoNext (events_from broke line (lines_in (option_copied rest.entry)))) }
+    ensures ok { IfOk result (NextOf broke (events_from broke line
+        (lines_in (option_copied rest.entry)))) }
+    ensures within { IfOk result (λ next. IfSome next (IsWithin
+        (line + size_in (option_copied rest.entry)) (size_in (option_copied rest.entry)))) }
+    ensures err { IfErr result (NoNext (events_from broke line
+        (lines_in (option_copied rest.entry)))) }
 {
     let mut rest = rest;
     let mut number = line;

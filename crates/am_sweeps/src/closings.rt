@@ -1,6 +1,6 @@
-//! Nothing is stuck. From each world to which a script leads, the daemon alone closes every open token
-//! of a file system that it serves, by six events at most, whatever words stand in them; catatonic mode
-//! closes the tokens of the others. Then everybody who waited goes on.
+//! Nothing is stuck. From each world to which a script leads, the daemon alone closes every open
+//! token of a file system that it serves, by six events at most, whatever words stand in them;
+//! catatonic mode closes the tokens of the others. Then everybody who waited goes on.
 
 use crate::agreement::is_served;
 use crate::script::Script;

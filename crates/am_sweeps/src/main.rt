@@ -1,8 +1,8 @@
-//! Plays each script that lies beside it over and over, each time with something else done to it: the
-//! daemon dies, the file system becomes catatonic, the daemon attaches again, or a pipe is full or
-//! gone, at every position. Whatever comes of it, the laws hold of the trace, kernel and daemon agree,
-//! and acts of an old attachment are refused. And from each world of a script every open token can be
-//! closed.
+//! Plays each script that lies beside it over and over, each time with something else done to it:
+//! the daemon dies, the file system becomes catatonic, the daemon attaches again, or a pipe is full
+//! or gone, at every position. Whatever comes of it, the laws hold of the trace, kernel and daemon
+//! agree, and acts of an old attachment are refused. And from each world of a script every open
+//! token can be closed.
 #![tactic(auto)]
 
 mod agreement;

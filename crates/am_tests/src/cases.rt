@@ -1,6 +1,6 @@
 //! Files of cases. What stands before the first mark `>>>` stands before the text of each case.
-//! Behind the rest of its mark's line comes a case's text, then a line of `---` and the words of the
-//! fault in which it ends, none where it ends well, and then what it writes.
+//! Behind the rest of its mark's line comes a case's text, then a line of `---` and the words of
+//! the fault in which it ends, none where it ends well, and then what it writes.
 //!
 //! In a text `{0d}` is the byte of this number, `{20*607}` so many of them, and `{}` before a line
 //! feed takes that away.

@@ -1,7 +1,7 @@
 //! A script that is cut at every byte, and that is written to writers which take only so many.
 //!
-//! Its file has it in pieces, most of them lines. A piece's name is the fault of the script where it
-//! is cut in the midst of the piece: where there is none, it comes to what it came to before the
+//! Its file has it in pieces, most of them lines. A piece's name is the fault of the script where
+//! it is cut in the midst of the piece: where there is none, it comes to what it came to before the
 //! piece. Behind the piece, with its line feed or without, it comes to the piece's own fault, and
 //! the piece's answers stand behind those of the lines before.
 

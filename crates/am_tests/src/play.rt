@@ -1,5 +1,5 @@
-//! Scripts that are played in every way: whole, of readers that give a few bytes at a time, and event
-//! by event.
+//! Scripts that are played in every way: whole, of readers that give a few bytes at a time, and
+//! event by event.
 
 use crate::by_event::play_by_event;
 use crate::cases::{Case, decoded, put, script_of};
@@ -263,8 +263,8 @@ fn goes_at_each_place(
     Ok(true)
 }
 
-/// Whether lines that are just not too long, and one that is, go as they must wherever they begin in
-/// what is read at once.
+/// Whether lines that are just not too long, and one that is, go as they must wherever they begin
+/// in what is read at once.
 pub fn are_long_lines_played(alloc: Global) -> Result<bool, AllocError> {
     Ok(
         goes_at_each_place(alloc, 8_191, "", b"kind private\n")?

@@ -5,7 +5,8 @@ use am_script::visit::read_at_most;
 use std::alloc::Global;
 use std::io::{self, ErrorKind, Read};
 
-/// Gives these bytes, so many at a time, and then fails so, once; behind that it would be at its end.
+/// Gives these bytes, so many at a time, and then fails so, once; behind that it would be at its
+/// end.
 #[derive(Drop)]
 pub struct Pieces<'a> {
     pub text: &'a [u8],

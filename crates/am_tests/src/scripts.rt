@@ -1,5 +1,5 @@
-//! Scripts whose answers and fault stand in files of their own. Where any allocation may be refused,
-//! whatever finds no memory is done again.
+//! Scripts whose answers and fault stand in files of their own. Where any allocation may be
+//! refused, whatever finds no memory is done again.
 
 use crate::by_event::play_by_event;
 use crate::files::bytes_of;

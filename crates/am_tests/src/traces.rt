@@ -1,5 +1,5 @@
-//! Short traces, a line each: the word `lawful` or `unlawful`, and what is seen of walker 7 and token
-//! 1, of file system 2, and of mount 5, in these words:
+//! Short traces, a line each: the word `lawful` or `unlawful`, and what is seen of walker 7 and
+//! token 1, of file system 2, and of mount 5, in these words:
 //!
 //! - `queued`, `expiring` (the packet of an expiry is queued), `delivered`, `waits`, `answered`,
 //!   `released`, `failed`, `catatonic`;

@@ -1,5 +1,5 @@
-//! Values that no script shows: how large events are, long lists of them, rare answers, the numbers of
-//! faults, long scripts and long lines.
+//! Values that no script shows: how large events are, long lists of them, rare answers, the numbers
+//! of faults, long scripts and long lines.
 
 use crate::event_lines::is_no_event;
 use crate::play::{are_long_lines_played, is_long_script_played};

@@ -3,7 +3,8 @@ use Rattle.std.proofs.Common.{◌≡◌, ◌<◌, ℕ, List, [], ◌∷◌, ◌+
 use Rattle.std.specs.List.{flat_map}
 use Rattle.std.proofs.lemmas.Grind.{flat_map-append}
 use Rattle.am_script.specs.Outputs.{Owed, owed_by, bytes_of}
-use Rattle.am_script.proofs.Lost.{bytes_by, bytes_more, InText, Behind, split_owed}
+use Rattle.am_script.proofs.Lost.{bytes_by, InText, Behind, split_owed}
+use Rattle.am_script.proofs.OwedLemmas.{bytes_more}
 use Rattle.am_views.specs.Traced.{Shown, shown_text, printed_trace}
 
 -- the bytes of these events

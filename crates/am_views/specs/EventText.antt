@@ -1,4 +1,4 @@
--- How events are written: as a line of a script says them.
+-- How events are written: as a line of a script says them. Own choice (docs/FORMATS.md, "Events").
 use Rattle.std.specs.Prelude.{ℕ, Bool, true, false, List, [], ◌++◌, codes, decimal, Option, None, Some}
 use Rattle.hex.specs.Hex.{encode_lower}
 use Rattle.am_names.specs.FailNo.{fail_number}
@@ -18,11 +18,13 @@ use Rattle.am_script.specs.Answers.{place_text}
 
 -- ---- the words of a line, each behind a blank
 
+-- what the kernel meets at the pipe
 abbrev pub pipe_part : PipeState → List ℕ
 pipe_part Room = codes " room"
 pipe_part Full = codes " full"
 pipe_part Gone = codes " gone"
 
+-- the state that a mount is to have
 abbrev pub change_part : Change → List ℕ
 change_part MakeShared = codes " shared"
 change_part MakeSlave = codes " slave"
@@ -39,6 +41,7 @@ abbrev pub failure_part : FailNo → List ℕ
 failure_part ENOENT = codes " fail"
 failure_part error = codes " fail " ++ decimal (fail_number error)
 
+-- how a notification is acknowledged
 abbrev pub status_part : Status → List ℕ
 status_part Ready = codes " ready"
 status_part (Fail error) = failure_part error
@@ -53,6 +56,7 @@ abbrev pub outcome_part : Option FailNo → List ℕ
 outcome_part None = codes " ok"
 outcome_part (Some error) = failure_part error
 
+-- a path
 abbrev pub path_part : List (List ℕ) → List ℕ
 path_part path = codes " " ++ place_text path
 
@@ -64,6 +68,7 @@ site_part ns path = codes " " ++ decimal ns ++ path_part path
 abbrev pub moment_part : ℕ → PipeState → List ℕ
 moment_part now pipe = codes " " ++ decimal now ++ pipe_part pipe
 
+-- a moment, what may expire, and what the kernel meets at the pipe
 abbrev pub expiry_part : ℕ → Bool → PipeState → List ℕ
 expiry_part now immediate pipe = codes " " ++ decimal now ++ (how_part immediate ++ pipe_part pipe)
 
@@ -79,6 +84,7 @@ name_part (Some name) = codes " " ++ name
 
 -- ---- the line
 
+-- an event, as its line of a script
 abbrev pub event_text : Event → List ℕ
 event_text (events.Attach path) = codes "attach" ++ path_part path
 event_text (events.Mount ns path) = codes "mount" ++ site_part ns path

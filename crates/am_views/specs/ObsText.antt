@@ -1,4 +1,4 @@
--- How observations are written.
+-- How observations are written: own choice (docs/FORMATS.md, "Traces").
 use Rattle.std.specs.Prelude.{ℕ, List, [], ◌∷◌, ◌++◌, codes, decimal, Option, None, Some}
 use Rattle.std.specs.List.{flat_map}
 use Rattle.am_names.specs.declared.trigger.Trigger.{Trigger}
@@ -17,6 +17,7 @@ abbrev pub key_part : Option (List ℕ) → List ℕ
 key_part None = codes " direct"
 key_part (Some name) = codes " name " ++ name
 
+-- a trigger: its file system and its key
 abbrev pub trigger_part : Trigger → List ℕ
 trigger_part trigger = codes " fs " ++ decimal trigger.fs ++ key_part trigger.name
 
@@ -27,24 +28,30 @@ type_part ExpireIndirect = codes " expire-indirect"
 type_part MissingDirect = codes " missing-direct"
 type_part ExpireDirect = codes " expire-direct"
 
--- a packet in the order of its fields (auto_fs.h, struct autofs_v5_packet); its name is the last word
+-- a packet in the order of its fields (auto_fs.h, struct autofs_v5_packet); its name is the last
+-- word
 abbrev pub root_part : Packet → List ℕ
 root_part packet = codes " dev " ++ decimal packet.dev ++ (codes " ino " ++ decimal packet.ino)
 
+-- who asked for it
 abbrev pub owner_part : Packet → List ℕ
 owner_part packet = codes " uid " ++ decimal packet.uid ++ (codes " gid " ++ decimal packet.gid)
 
+-- the process that asked, and its group of threads
 abbrev pub process_part : Packet → List ℕ
 process_part packet = codes " pid " ++ decimal packet.pid ++ (codes " tgid " ++ decimal packet.tgid)
 
+-- who asked, in which process, and the name
 abbrev pub caller_part : Packet → List ℕ
 caller_part packet = owner_part packet ++ (process_part packet ++ (codes " name " ++ packet.name))
 
+-- a packet in the order of its fields
 abbrev pub packet_part : Packet → List ℕ
 packet_part packet = type_part packet.kind ++ (root_part packet ++ caller_part packet)
 
 -- ---- the line
 
+-- an observation, without its line feed
 abbrev pub obs_text : Obs → List ℕ
 obs_text (seen.Queued token attach packet) =
     codes "queued " ++ decimal token ++ (codes " attach " ++ decimal attach ++ packet_part packet)
@@ -73,5 +80,6 @@ obs_text seen.Died = codes "died"
 abbrev pub obs_line : Obs → List ℕ
 obs_line obs = codes "  " ++ (obs_text obs ++ 10 ∷ [])
 
+-- the lines of these observations, in order
 abbrev pub obs_lines : List Obs → List ℕ
 obs_lines seen = flat_map obs_line seen

@@ -1,4 +1,5 @@
 -- How the trace of a script is printed: its run, each event with its answer and what is seen of it.
+-- Own choice (docs/FORMATS.md, "Traces").
 use Rattle.std.specs.Prelude.{◌≡◌, ◌⊎◌, ◌<◌, ◌≤◌, ℕ, ◌+◌, Bool, cond, List, [], ◌∷◌, ◌++◌, map, length, take, codes, decimal, count_by, Option, None, Some}
 use Rattle.std.specs.List.{flat_map}
 use Rattle.std.specs.Io.KnownBytes.{Appends, Consumes, IsAtEnd}
@@ -29,9 +30,11 @@ pub record Shown : Type 0 where
   pub answer : Answer
   pub seen : List Obs
 
+-- the events of these rows
 abbrev pub asked_in : List Shown → List Numbered
 asked_in rows = map (λ row. row.asked) rows
 
+-- the answers of these rows
 abbrev pub answers_in : List Shown → List Answer
 answers_in rows = map (λ row. row.answer) rows
 
@@ -47,6 +50,7 @@ told_line answer = codes "= " ++ answer_line answer
 abbrev pub shown_text : Shown → List ℕ
 shown_text row = asked_line row.asked ++ (told_line row.answer ++ obs_lines row.seen)
 
+-- the trace of these rows
 abbrev pub printed_trace : List Shown → List ℕ
 printed_trace rows = flat_map shown_text rows
 
@@ -105,6 +109,7 @@ pub record TracedToLoss (start : State) (told : Told) (old new : Option (List �
   pub short : taken < length (shown_text here)
   pub written : Appends old new (printed_trace done ++ take taken (shown_text here))
 
+-- the trace stops: at the script's fault, for want of memory, or where the writer takes no more
 abbrev pub TraceStops : State → Told → Option (List ℕ) → Option (List ℕ) → ScriptFault → Type 0
 TraceStops start told old new fault =
     TracedToFault start told old new fault
@@ -112,6 +117,7 @@ TraceStops start told old new fault =
 
 -- ---- any script
 
+-- all events are traced where there is a world; where there is none, nothing is written
 abbrev pub TracedFrom : Option Opening → Told → Option (List ℕ) → Option (List ℕ) → Summary → Type 0
 TracedFrom None told old new summary = NothingPlayed told old new summary
 TracedFrom (Some opening) told old new summary = AllTraced (opening_of opening) told old new summary

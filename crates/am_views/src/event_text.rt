@@ -31,7 +31,8 @@ pub fn push_event(line: &mut Vec<u8>, event: &Event) -> Result<(), AllocError>
 /// Puts an event out.
 #[tactic(auto, using(am_script::proofs::Pieces::puts_two, am_script::proofs::Pieces::puts_three))]
 pub(crate) fn put_event<W: Write>(output: &mut Output, event: &Event, writer: &mut W)
-    ensures { Puts output.old output.new (event_text event.now) (W.contents writer.old) (W.contents writer.new) }
+    ensures { Puts output.old output.new (event_text event.now) (W.contents writer.old)
+        (W.contents writer.new) }
 {
     match event {
         Event::Attach { path } => {
@@ -134,7 +135,8 @@ pub(crate) fn put_event<W: Write>(output: &mut Output, event: &Event, writer: &m
 
 #[tactic(auto, using(am_script::proofs::Pieces::puts_two))]
 fn put_path<W: Write>(output: &mut Output, path: &Place, writer: &mut W)
-    ensures { Puts output.old output.new (path_part path.now) (W.contents writer.old) (W.contents writer.new) }
+    ensures { Puts output.old output.new (path_part path.now) (W.contents writer.old)
+        (W.contents writer.new) }
 {
     put_word(output, b" ", writer);
     put_place(output, path, writer);
@@ -142,7 +144,8 @@ fn put_path<W: Write>(output: &mut Output, path: &Place, writer: &mut W)
 
 #[tactic(auto, using(am_script::proofs::Pieces::puts_two))]
 fn put_site<W: Write>(output: &mut Output, ns: NsId, path: &Place, writer: &mut W)
-    ensures { Puts output.old output.new (site_part ns path.now) (W.contents writer.old) (W.contents writer.new) }
+    ensures { Puts output.old output.new (site_part ns path.now) (W.contents writer.old)
+        (W.contents writer.new) }
 {
     put_number(output, b" ", u64::from(ns.0), writer);
     put_path(output, path, writer);
@@ -150,7 +153,8 @@ fn put_site<W: Write>(output: &mut Output, ns: NsId, path: &Place, writer: &mut 
 
 #[tactic(auto, using(am_script::proofs::Pieces::puts_two))]
 fn put_moment<W: Write>(output: &mut Output, now: Seconds, pipe: PipeState, writer: &mut W)
-    ensures { Puts output.old output.new (moment_part now pipe) (W.contents writer.old) (W.contents writer.new) }
+    ensures { Puts output.old output.new (moment_part now pipe) (W.contents writer.old)
+        (W.contents writer.new) }
 {
     put_number(output, b" ", now.0, writer);
     put_pipe(output, pipe, writer);
@@ -164,7 +168,8 @@ fn put_expiry<W: Write>(
     pipe: PipeState,
     writer: &mut W,
 )
-    ensures { Puts output.old output.new (expiry_part now immediate pipe) (W.contents writer.old) (W.contents writer.new) }
+    ensures { Puts output.old output.new (expiry_part now immediate pipe) (W.contents writer.old)
+        (W.contents writer.new) }
 {
     put_number(output, b" ", now.0, writer);
     put_how(output, immediate, writer);
@@ -172,7 +177,8 @@ fn put_expiry<W: Write>(
 }
 
 fn put_pipe<W: Write>(output: &mut Output, pipe: PipeState, writer: &mut W)
-    ensures { Puts output.old output.new (pipe_part pipe) (W.contents writer.old) (W.contents writer.new) }
+    ensures { Puts output.old output.new (pipe_part pipe) (W.contents writer.old)
+        (W.contents writer.new) }
 {
     match pipe {
         PipeState::Room => put_word(output, b" room", writer),
@@ -182,7 +188,8 @@ fn put_pipe<W: Write>(output: &mut Output, pipe: PipeState, writer: &mut W)
 }
 
 fn put_form<W: Write>(output: &mut Output, form: CopyForm, writer: &mut W)
-    ensures { Puts output.old output.new (form_part form) (W.contents writer.old) (W.contents writer.new) }
+    ensures { Puts output.old output.new (form_part form) (W.contents writer.old)
+        (W.contents writer.new) }
 {
     match form {
         CopyForm::Full => put_word(output, b"", writer),
@@ -191,7 +198,8 @@ fn put_form<W: Write>(output: &mut Output, form: CopyForm, writer: &mut W)
 }
 
 fn put_change<W: Write>(output: &mut Output, change: Change, writer: &mut W)
-    ensures { Puts output.old output.new (change_part change) (W.contents writer.old) (W.contents writer.new) }
+    ensures { Puts output.old output.new (change_part change) (W.contents writer.old)
+        (W.contents writer.new) }
 {
     match change {
         Change::MakeShared => put_word(output, b" shared", writer),
@@ -202,7 +210,8 @@ fn put_change<W: Write>(output: &mut Output, change: Change, writer: &mut W)
 }
 
 fn put_failure<W: Write>(output: &mut Output, no: FailNo, writer: &mut W)
-    ensures { Puts output.old output.new (failure_part no) (W.contents writer.old) (W.contents writer.new) }
+    ensures { Puts output.old output.new (failure_part no) (W.contents writer.old)
+        (W.contents writer.new) }
 {
     match no {
         FailNo::ENOENT => put_word(output, b" fail", writer),
@@ -212,7 +221,8 @@ fn put_failure<W: Write>(output: &mut Output, no: FailNo, writer: &mut W)
 
 /// Puts a status out, behind a blank.
 pub fn put_status<W: Write>(output: &mut Output, status: Status, writer: &mut W)
-    ensures { Puts output.old output.new (status_part status) (W.contents writer.old) (W.contents writer.new) }
+    ensures { Puts output.old output.new (status_part status) (W.contents writer.old)
+        (W.contents writer.new) }
 {
     match status {
         Status::Ready => put_word(output, b" ready", writer),
@@ -221,7 +231,8 @@ pub fn put_status<W: Write>(output: &mut Output, status: Status, writer: &mut W)
 }
 
 fn put_how<W: Write>(output: &mut Output, immediate: bool, writer: &mut W)
-    ensures { Puts output.old output.new (how_part immediate) (W.contents writer.old) (W.contents writer.new) }
+    ensures { Puts output.old output.new (how_part immediate) (W.contents writer.old)
+        (W.contents writer.new) }
 {
     match immediate {
         false => put_word(output, b" idle", writer),
@@ -230,7 +241,8 @@ fn put_how<W: Write>(output: &mut Output, immediate: bool, writer: &mut W)
 }
 
 fn put_outcome<W: Write>(output: &mut Output, failure: Option<FailNo>, writer: &mut W)
-    ensures { Puts output.old output.new (outcome_part failure) (W.contents writer.old) (W.contents writer.new) }
+    ensures { Puts output.old output.new (outcome_part failure) (W.contents writer.old)
+        (W.contents writer.new) }
 {
     match failure {
         None => put_word(output, b" ok", writer),
@@ -240,7 +252,8 @@ fn put_outcome<W: Write>(output: &mut Output, failure: Option<FailNo>, writer: &
 
 #[tactic(auto, using(am_script::proofs::Pieces::puts_two, am_script::proofs::Pieces::puts_none))]
 fn put_bytes<W: Write>(output: &mut Output, bytes: &Option<[u8; 304]>, writer: &mut W)
-    ensures { Puts output.old output.new (bytes_part bytes.now) (W.contents writer.old) (W.contents writer.new) }
+    ensures { Puts output.old output.new (bytes_part bytes.now) (W.contents writer.old)
+        (W.contents writer.new) }
 {
     if let Some(bytes) = bytes {
         put_word(output, b" ", writer);
@@ -250,7 +263,8 @@ fn put_bytes<W: Write>(output: &mut Output, bytes: &Option<[u8; 304]>, writer: &
 
 /// Puts bytes out by two hex digits each.
 fn put_hex<W: Write>(output: &mut Output, bytes: &[u8; 304], writer: &mut W)
-    ensures { Puts output.old output.new (encode_lower bytes.now) (W.contents writer.old) (W.contents writer.new) }
+    ensures { Puts output.old output.new (encode_lower bytes.now) (W.contents writer.old)
+        (W.contents writer.new) }
 {
     let mut digits = [0; 608];
     // There is a place for each digit.
@@ -260,7 +274,8 @@ fn put_hex<W: Write>(output: &mut Output, bytes: &[u8; 304], writer: &mut W)
 
 #[tactic(auto, using(am_script::proofs::Pieces::puts_two))]
 fn put_name<W: Write>(output: &mut Output, name: &Option<Name>, writer: &mut W)
-    ensures { Puts output.old output.new (name_part name.now) (W.contents writer.old) (W.contents writer.new) }
+    ensures { Puts output.old output.new (name_part name.now) (W.contents writer.old)
+        (W.contents writer.new) }
 {
     match name {
         None => put_word(output, b" -", writer),

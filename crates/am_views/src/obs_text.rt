@@ -30,7 +30,8 @@ pub fn push_observation(line: &mut Vec<u8>, obs: &Obs) -> Result<(), AllocError>
 /// Puts the lines of observations out.
 #[tactic(auto, using(am_script::proofs::Pieces::puts_none))]
 pub(crate) fn put_seen<W: Write>(output: &mut Output, seen: &[Obs], writer: &mut W)
-    ensures { Puts output.old output.new (obs_lines seen.now) (W.contents writer.old) (W.contents writer.new) }
+    ensures { Puts output.old output.new (obs_lines seen.now) (W.contents writer.old)
+        (W.contents writer.new) }
 {
     for obs in seen {
         put_obs_line(output, obs, writer);
@@ -39,7 +40,8 @@ pub(crate) fn put_seen<W: Write>(output: &mut Output, seen: &[Obs], writer: &mut
 
 #[tactic(auto, using(am_script::proofs::Pieces::puts_two, am_script::proofs::Pieces::puts_three))]
 fn put_obs_line<W: Write>(output: &mut Output, obs: &Obs, writer: &mut W)
-    ensures { Puts output.old output.new (obs_line obs.now) (W.contents writer.old) (W.contents writer.new) }
+    ensures { Puts output.old output.new (obs_line obs.now) (W.contents writer.old)
+        (W.contents writer.new) }
 {
     put_word(output, b"  ", writer);
     put_obs(output, obs, writer);
@@ -49,7 +51,8 @@ fn put_obs_line<W: Write>(output: &mut Output, obs: &Obs, writer: &mut W)
 /// Puts an observation out.
 #[tactic(auto, using(am_script::proofs::Pieces::puts_two, am_script::proofs::Pieces::puts_three))]
 pub fn put_obs<W: Write>(output: &mut Output, obs: &Obs, writer: &mut W)
-    ensures { Puts output.old output.new (obs_text obs.now) (W.contents writer.old) (W.contents writer.new) }
+    ensures { Puts output.old output.new (obs_text obs.now) (W.contents writer.old)
+        (W.contents writer.new) }
 {
     match obs {
         Obs::Queued {
@@ -124,7 +127,8 @@ pub fn put_queued<W: Write>(
     packet: &Packet,
     writer: &mut W,
 )
-    ensures { Puts output.old output.new (obs_text (Queued token attach packet.now)) (W.contents writer.old) (W.contents writer.new) }
+    ensures { Puts output.old output.new (obs_text (Queued token attach packet.now))
+        (W.contents writer.old) (W.contents writer.new) }
 {
     put_number(output, b"queued ", u64::from(token.0), writer);
     put_number(output, b" attach ", u64::from(attach.0), writer);
@@ -139,7 +143,8 @@ pub fn put_recorded<W: Write>(
     entry: &Option<Record>,
     writer: &mut W,
 )
-    ensures { Puts output.old output.new (obs_text (Recorded trigger.now entry.now)) (W.contents writer.old) (W.contents writer.new) }
+    ensures { Puts output.old output.new (obs_text (Recorded trigger.now entry.now))
+        (W.contents writer.old) (W.contents writer.new) }
 {
     put_word(output, b"recorded ", writer);
     put_entry(output, entry, writer);
@@ -149,7 +154,8 @@ pub fn put_recorded<W: Write>(
 /// Puts a trigger out, behind a blank.
 #[tactic(auto, using(am_script::proofs::Pieces::puts_two))]
 pub fn put_trigger<W: Write>(output: &mut Output, trigger: &Trigger, writer: &mut W)
-    ensures { Puts output.old output.new (trigger_part trigger.now) (W.contents writer.old) (W.contents writer.new) }
+    ensures { Puts output.old output.new (trigger_part trigger.now) (W.contents writer.old)
+        (W.contents writer.new) }
 {
     put_number(output, b" fs ", u64::from(trigger.fs.0), writer);
     put_key(output, &trigger.name, writer);
@@ -157,7 +163,8 @@ pub fn put_trigger<W: Write>(output: &mut Output, trigger: &Trigger, writer: &mu
 
 #[tactic(auto, using(am_script::proofs::Pieces::puts_two))]
 fn put_key<W: Write>(output: &mut Output, name: &Option<Name>, writer: &mut W)
-    ensures { Puts output.old output.new (key_part name.now) (W.contents writer.old) (W.contents writer.new) }
+    ensures { Puts output.old output.new (key_part name.now) (W.contents writer.old)
+        (W.contents writer.new) }
 {
     match name {
         None => put_word(output, b" direct", writer),
@@ -170,7 +177,8 @@ fn put_key<W: Write>(output: &mut Output, name: &Option<Name>, writer: &mut W)
 
 #[tactic(auto, using(am_script::proofs::Pieces::puts_three))]
 fn put_packet<W: Write>(output: &mut Output, packet: &Packet, writer: &mut W)
-    ensures { Puts output.old output.new (packet_part packet.now) (W.contents writer.old) (W.contents writer.new) }
+    ensures { Puts output.old output.new (packet_part packet.now) (W.contents writer.old)
+        (W.contents writer.new) }
 {
     put_type(output, packet.kind, writer);
     put_root(output, packet, writer);
@@ -178,7 +186,8 @@ fn put_packet<W: Write>(output: &mut Output, packet: &Packet, writer: &mut W)
 }
 
 fn put_type<W: Write>(output: &mut Output, kind: Kind, writer: &mut W)
-    ensures { Puts output.old output.new (type_part kind) (W.contents writer.old) (W.contents writer.new) }
+    ensures { Puts output.old output.new (type_part kind) (W.contents writer.old)
+        (W.contents writer.new) }
 {
     match kind {
         Kind::MissingIndirect => put_word(output, b" missing-indirect", writer),
@@ -190,7 +199,8 @@ fn put_type<W: Write>(output: &mut Output, kind: Kind, writer: &mut W)
 
 #[tactic(auto, using(am_script::proofs::Pieces::puts_two))]
 fn put_root<W: Write>(output: &mut Output, packet: &Packet, writer: &mut W)
-    ensures { Puts output.old output.new (root_part packet.now) (W.contents writer.old) (W.contents writer.new) }
+    ensures { Puts output.old output.new (root_part packet.now) (W.contents writer.old)
+        (W.contents writer.new) }
 {
     put_number(output, b" dev ", u64::from(packet.dev.0), writer);
     put_number(output, b" ino ", packet.ino, writer);
@@ -198,7 +208,8 @@ fn put_root<W: Write>(output: &mut Output, packet: &Packet, writer: &mut W)
 
 #[tactic(auto, using(am_script::proofs::Pieces::puts_three))]
 fn put_caller<W: Write>(output: &mut Output, packet: &Packet, writer: &mut W)
-    ensures { Puts output.old output.new (caller_part packet.now) (W.contents writer.old) (W.contents writer.new) }
+    ensures { Puts output.old output.new (caller_part packet.now) (W.contents writer.old)
+        (W.contents writer.new) }
 {
     put_owner(output, packet, writer);
     put_process(output, packet, writer);
@@ -207,7 +218,8 @@ fn put_caller<W: Write>(output: &mut Output, packet: &Packet, writer: &mut W)
 
 #[tactic(auto, using(am_script::proofs::Pieces::puts_two))]
 fn put_owner<W: Write>(output: &mut Output, packet: &Packet, writer: &mut W)
-    ensures { Puts output.old output.new (owner_part packet.now) (W.contents writer.old) (W.contents writer.new) }
+    ensures { Puts output.old output.new (owner_part packet.now) (W.contents writer.old)
+        (W.contents writer.new) }
 {
     put_number(output, b" uid ", u64::from(packet.uid), writer);
     put_number(output, b" gid ", u64::from(packet.gid), writer);
@@ -215,7 +227,8 @@ fn put_owner<W: Write>(output: &mut Output, packet: &Packet, writer: &mut W)
 
 #[tactic(auto, using(am_script::proofs::Pieces::puts_two))]
 fn put_process<W: Write>(output: &mut Output, packet: &Packet, writer: &mut W)
-    ensures { Puts output.old output.new (process_part packet.now) (W.contents writer.old) (W.contents writer.new) }
+    ensures { Puts output.old output.new (process_part packet.now) (W.contents writer.old)
+        (W.contents writer.new) }
 {
     put_number(output, b" pid ", u64::from(packet.pid), writer);
     put_number(output, b" tgid ", u64::from(packet.tgid), writer);
@@ -223,7 +236,8 @@ fn put_process<W: Write>(output: &mut Output, packet: &Packet, writer: &mut W)
 
 #[tactic(auto, using(am_script::proofs::Pieces::puts_two))]
 fn put_packet_name<W: Write>(output: &mut Output, packet: &Packet, writer: &mut W)
-    ensures { Puts output.old output.new (codes " name " ++ packet.now.name) (W.contents writer.old) (W.contents writer.new) }
+    ensures { Puts output.old output.new (codes " name " ++ packet.now.name) (W.contents writer.old)
+        (W.contents writer.new) }
 {
     put_word(output, b" name ", writer);
     put_word(output, packet.name.as_bytes(), writer);

@@ -17,16 +17,19 @@ use am_world::{Answer, Event, Obs, World};
 use std::alloc::Global;
 use std::io::{Read, Write};
 
-/// Reads a script to its end, plays it on a world of its own, and writes of each event its line, its
-/// answer and what is seen of it. It has the faults of `run_script`, but that an event for whose line
-/// there is no memory is one. What is printed isn't kept: it goes to the writer piece by piece.
+/// Reads a script to its end, plays it on a world of its own, and writes of each event its line,
+/// its answer and what is seen of it. It has the faults of `run_script`, but that an event for
+/// whose line there is no memory is one. What is printed isn't kept: it goes to the writer piece by
+/// piece.
 pub fn trace_script<R: Read, W: Write>(
     alloc: Global,
     reader: &mut R,
     writer: &mut W,
 ) -> Result<Summary, ScriptFault>
-    ensures ok { IfOk result (TracesInput (R.remaining reader.old) (R.remaining reader.new) (W.contents writer.old) (W.contents writer.new)) }
-    ensures err { IfErr result (StopsTrace (R.remaining reader.old) (R.remaining reader.new) (W.contents writer.old) (W.contents writer.new)) }
+    ensures ok { IfOk result (TracesInput (R.remaining reader.old) (R.remaining reader.new)
+        (W.contents writer.old) (W.contents writer.new)) }
+    ensures err { IfErr result (StopsTrace (R.remaining reader.old) (R.remaining reader.new)
+        (W.contents writer.old) (W.contents writer.new)) }
 {
     let input = read_all(alloc, reader);
     match open_script(alloc, &input) {
@@ -47,8 +50,14 @@ fn trace_opened<W: Write>(
 ) -> Result<Summary, ScriptFault>
     requires { opened.line + size_in (option_copied opened.rest) ≤ 2 ^ 63 }
     ensures whole { OnOk result (opened.entry.broke ≡ None) }
-    ensures ok { IfOk result (AllTraced (state_of opened.entry.world) (events_from opened.entry.broke opened.entry.line (lines_in (option_copied opened.entry.rest))) (W.contents writer.old) (W.contents writer.new)) }
-    ensures err { IfErr result (TraceStops (state_of opened.entry.world) (events_from opened.entry.broke opened.entry.line (lines_in (option_copied opened.entry.rest))) (W.contents writer.old) (W.contents writer.new)) }
+    ensures ok { IfOk result (AllTraced (state_of opened.entry.world)
+        (events_from opened.entry.broke opened.entry.line
+        (lines_in (option_copied opened.entry.rest))) (W.contents writer.old)
+        (W.contents writer.new)) }
+    ensures err { IfErr result (TraceStops (state_of opened.entry.world)
+        (events_from opened.entry.broke opened.entry.line
+        (lines_in (option_copied opened.entry.rest))) (W.contents writer.old)
+        (W.contents writer.new)) }
 {
     let Opened {
         mut world,
@@ -74,8 +83,12 @@ fn trace_events<W: Write>(
 ) -> Result<Summary, ScriptFault>
     requires { line + size_in (option_copied rest) ≤ 2 ^ 63 }
     ensures whole { OnOk result (broke ≡ None) }
-    ensures ok { IfOk result (AllTraced (state_of world.old) (events_from broke line (lines_in (option_copied rest.entry))) (W.contents writer.old) (W.contents writer.new)) }
-    ensures err { IfErr result (TraceStops (state_of world.old) (events_from broke line (lines_in (option_copied rest.entry))) (W.contents writer.old) (W.contents writer.new)) }
+    ensures ok { IfOk result (AllTraced (state_of world.old)
+        (events_from broke line (lines_in (option_copied rest.entry))) (W.contents writer.old)
+        (W.contents writer.new)) }
+    ensures err { IfErr result (TraceStops (state_of world.old)
+        (events_from broke line (lines_in (option_copied rest.entry))) (W.contents writer.old)
+        (W.contents writer.new)) }
 {
     let mut output = Output::new();
     let mut summary = Summary {
@@ -118,7 +131,9 @@ fn show_found<'a, W: Write>(
     output: &mut Output,
     writer: &mut W,
 ) -> Behind<'a>
-    ensures shown { IsShown (state_of world.old) (record { line = found.entry.line; event = found.entry.event }) (state_of world.new) output.old output.new (W.contents writer.old) (W.contents writer.new) result.refused }
+    ensures shown { IsShown (state_of world.old)
+        (record { line = found.entry.line; event = found.entry.event }) (state_of world.new)
+        output.old output.new (W.contents writer.old) (W.contents writer.new) result.refused }
     ensures line { result.line ≡ found.entry.line }
     ensures rest { option_copied result.rest ≡ option_copied found.entry.rest }
 {
@@ -152,7 +167,9 @@ fn show<W: Write>(
     output: &mut Output,
     writer: &mut W,
 ) -> bool
-    ensures { IsShown (state_of world.old) (record { line = line; event = event.now }) (state_of world.new) output.old output.new (W.contents writer.old) (W.contents writer.new) result }
+    ensures { IsShown (state_of world.old) (record { line = line; event = event.now })
+        (state_of world.new) output.old output.new (W.contents writer.old)
+        (W.contents writer.new) result }
 {
     let before = world.trace().len();
     let answer = world.step(alloc, event);
@@ -187,7 +204,12 @@ fn put_shown<W: Write>(
     seen: &[Obs],
     writer: &mut W,
 )
-    ensures { Puts output.old output.new (shown_text (record { asked = record { line = line; event = event.now }; answer = answer.now; seen = seen.now })) (W.contents writer.old) (W.contents writer.new) }
+    ensures { Puts output.old output.new
+        (shown_text (record {
+          asked = record { line = line; event = event.now };
+          answer = answer.now;
+          seen = seen.now;
+        })) (W.contents writer.old) (W.contents writer.new) }
 {
     put_asked(output, line, event, writer);
     put_told(output, answer, writer);
@@ -196,7 +218,8 @@ fn put_shown<W: Write>(
 
 #[tactic(auto, using(crate::proofs::FourPieces::puts_four))]
 fn put_asked<W: Write>(output: &mut Output, line: u64, event: &Event, writer: &mut W)
-    ensures { Puts output.old output.new (asked_line (record { line = line; event = event.now })) (W.contents writer.old) (W.contents writer.new) }
+    ensures { Puts output.old output.new (asked_line (record { line = line; event = event.now }))
+        (W.contents writer.old) (W.contents writer.new) }
 {
     put_number(output, b"", line, writer);
     put_word(output, b": ", writer);
@@ -206,7 +229,8 @@ fn put_asked<W: Write>(output: &mut Output, line: u64, event: &Event, writer: &m
 
 #[tactic(auto, using(am_script::proofs::Pieces::puts_two))]
 fn put_told<W: Write>(output: &mut Output, answer: &Answer, writer: &mut W)
-    ensures { Puts output.old output.new (told_line answer.now) (W.contents writer.old) (W.contents writer.new) }
+    ensures { Puts output.old output.new (told_line answer.now) (W.contents writer.old)
+        (W.contents writer.new) }
 {
     put_word(output, b"= ", writer);
     put_answer(output, answer, writer);

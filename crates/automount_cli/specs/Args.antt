@@ -1,10 +1,12 @@
--- The exit statuses of a command line that is none, and the numbers of one that is.
+-- The exit statuses of a command line that is none, and the numbers of one that is: own choice
+-- (docs/FORMATS.md, "The program").
 use Rattle.std.specs.Prelude.{ℕ, ◌≤◌, ⊤}
 use Rattle.automount_cli.specs.declared.args.Args.{Args}
 use Rattle.automount_cli.specs.declared.args.Args.TheVariants.{Script, Trace, Draw, World, Threads}
 use Rattle.automount_cli.specs.declared.args.ArgsFault.{ArgsFault}
 use Rattle.automount_cli.specs.declared.args.ArgsFault.TheVariants.{NoMemory, Usage}
 
+-- the exit status
 abbrev pub fault_number : ArgsFault → ℕ
 fault_number NoMemory = 1
 fault_number Usage = 2

@@ -1,4 +1,5 @@
--- The commands that there are, as `clap` has them, and what they ask for.
+-- The commands that there are, as `clap` has them, and what they ask for: own choice
+-- (docs/FORMATS.md, "The program").
 use Rattle.std.specs.Prelude.{◌≡◌, ℕ, pos, false, true, List, [], ◌∷◌, codes, Option, None, Some}
 use Rattle.std.specs.Str.Parse.{IsNumeral, digits_value, without_leading_plus}
 use Rattle.clap.specs.declared.builder.command.Command.{Command}
@@ -24,20 +25,25 @@ number_rule name = record (new_rule name) {
 abbrev pub default_rule : Text → Text → Rule
 default_rule name default = record (number_rule name) { defaults = default ∷ [] }
 
+-- the command `script`, which has no options
 abbrev pub script_app : App
 script_app = new_app (codes "script")
 
+-- the command `trace`, which has no options
 abbrev pub trace_app : App
 trace_app = new_app (codes "trace")
 
+-- the command `draw`, with the numbers of the first and the last event
 abbrev pub draw_app : App
 draw_app =
     with_rule (with_rule (new_app (codes "draw")) (default_rule (codes "from") (codes "1")))
     (default_rule (codes "to") (codes "4294967295"))
 
+-- the command `world`, with the number of a namespace if it is to be one alone
 abbrev pub world_app : App
 world_app = with_rule (new_app (codes "world")) (number_rule (codes "namespace"))
 
+-- the command `threads`, with how many walkers and workers there are, and rounds
 abbrev pub threads_app : App
 threads_app =
     with_rule
@@ -50,6 +56,7 @@ threads_app =
 abbrev pub bare_program : App
 bare_program = on_top (λ s. record s { subcommand_required = true }) (new_app (codes "automount_cli"))
 
+-- the program, with its five commands
 abbrev pub cli : App
 cli =
     with_subcommand

@@ -1,4 +1,4 @@
--- How a run of the program ends.
+-- How a run of the program ends: own choice (docs/FORMATS.md, "The program").
 use Rattle.std.specs.Prelude.{◌≡◌, ⊤, ◌++◌, ℕ, List, Option, None, Some, codes, decimal}
 use Rattle.std.specs.Io.KnownBytes.{Appends}
 use Rattle.am_mountinfo.specs.WorldText.{ShowsInput, StopsShowing}
@@ -20,6 +20,7 @@ use Rattle.automount_cli.specs.declared.args.ArgsFault.{ArgsFault}
 abbrev pub rounds_line : ℕ → List ℕ
 rounds_line rounds = codes "rounds " ++ decimal rounds ++ codes "\n"
 
+-- how a run of the program ends
 pub data End : Type 0 where
   -- the script is played to its end
   Played : Summary → End
@@ -37,8 +38,8 @@ pub data End : Type 0 where
   Shown : Option ℕ → Summary → End
   -- it isn't printed to its end
   ShowStopped : Option ℕ → ScriptFault → End
-  -- so many walkers and workers, of so many rounds each, have made them, and the line that tells them is
-  -- written
+  -- so many walkers and workers, of so many rounds each, have made them, and the line that tells
+  -- them is written
   Ran : ℕ → ℕ → ℕ → Tally → End
   -- they have, but the writer didn't take the whole line
   Untold : ℕ → ℕ → ℕ → Tally → End
@@ -77,9 +78,10 @@ asked_of (Untold walkers workers rounds tally) = Some (Threads walkers workers r
 asked_of (NotRun walkers workers rounds) = Some (Threads walkers workers rounds)
 asked_of (Refused fault) = None
 
--- What is read and written, and what is told of it: nothing is told of a script that is played, traced or
--- drawn to its end, or whose world is printed, nor of threads whose rounds stand written. Threads read
--- nothing. Nothing is read or written where they don't run, or the command line is none.
+-- What is read and written, and what is told of it: nothing is told of a script that is played,
+-- traced or drawn to its end, or whose world is printed, nor of threads whose rounds stand written.
+-- Threads read nothing. Nothing is read or written where they don't run, or the command line is
+-- none.
 abbrev pub Leaves : End → Option (List ℕ) → Option (List ℕ) → Option (List ℕ) → Option (List ℕ) → Option (List ℕ) → Option (List ℕ) → Type 0
 Leaves (Played summary) input rest old new quiet told = PlaysInput input rest old new summary × (told ≡ quiet)
 Leaves (Stopped fault) input rest old new quiet told = StopsInput input rest old new fault

@@ -132,7 +132,8 @@ fn named(namespace: Option<u32>) -> Option<NsId>
     }
 }
 
-/// Prints the world that the script leaves which the reader gives; of one namespace alone, if it is named.
+/// Prints the world that the script leaves which the reader gives; of one namespace alone, if it is
+/// named.
 fn show<R: Read, W: Write, E: Write>(
     alloc: Global,
     reader: &mut R,

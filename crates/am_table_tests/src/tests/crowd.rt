@@ -31,11 +31,17 @@ fn are_ready(waits: &mut Waits) -> bool {
     true
 }
 
+fn is_collected(alloc: Global, waits: &mut Waits) -> Result<bool, Errno> {
+    let token = gather(alloc, waits)?;
+    waits.answer(token, Status::Ready)?;
+    Ok(are_ready(waits))
+}
+
 fn plays(alloc: Global) -> Result<bool, Errno> {
     let mut waits = Waits::new(alloc, CROWD, 1);
-    let token = gather(alloc, &mut waits)?;
-    waits.answer(token, Status::Ready)?;
-    Ok(are_ready(&mut waits))
+    let is_collected = is_collected(alloc, &mut waits);
+    drop(waits);
+    is_collected
 }
 
 #[test]

@@ -1,4 +1,5 @@
-//! What failed last at each trigger: how long that lasts, what takes its place, and what makes it good.
+//! What failed last at each trigger: how long that lasts, what takes its place, and what makes it
+//! good.
 
 use crate::tests::script::{Stage, Step, plays_all};
 use crate::tests::trap::Trap;

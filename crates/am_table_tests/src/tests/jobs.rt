@@ -233,8 +233,8 @@ const DIRECT: &[Step<Call>] = &[
     Step::Does(Call::Ends),
 ];
 
-/// The reply has the number of the mount or the unmount that failed. What other acts come to changes no
-/// number.
+/// The reply has the number of the mount or the unmount that failed. What other acts come to
+/// changes no number.
 const NUMBERS: &[Step<Call>] = &[
     Step::Does(Call::On(Trap(2, b"home"))),
     Step::Does(Call::Asks(MISSING, None, true)),

@@ -11,6 +11,7 @@ use am_names::{
 use am_state::Obs;
 use am_wire::Request;
 use std::alloc::Global;
+use std::mem;
 
 /// What a request or a walk comes to.
 #[derive(Clone, Copy)]
@@ -315,6 +316,15 @@ fn sees(
     Ok(asks(alloc, kernel, asked, told, seen)? && are(sights, seen.as_slice()))
 }
 
+/// A new kernel takes the place of the old one.
+fn begins(alloc: Global, kernel: &mut Kernel, negative: u64) -> Result<bool, Errno> {
+    let new = kernel_of(alloc, negative)?;
+    let old = mem::replace(kernel, new);
+    // It goes by a call, which is cheaper to check.
+    drop(old);
+    Ok(true)
+}
+
 fn make(
     alloc: Global,
     kernel: &mut Kernel,
@@ -322,10 +332,7 @@ fn make(
     seen: &mut Vec<Obs>,
 ) -> Result<bool, Errno> {
     match call {
-        Call::Begins(negative) => {
-            *kernel = kernel_of(alloc, negative)?;
-            Ok(true)
-        }
+        Call::Begins(negative) => begins(alloc, kernel, negative),
         Call::Indirect(path, fs) => attach(alloc, kernel, path, false, fs, seen),
         Call::Direct(path, fs) => attach(alloc, kernel, path, true, fs, seen),
         Call::AdminCatatonic(fs) => catatonic(kernel, fs),
@@ -560,8 +567,8 @@ const REQUESTS: &[Step<Call>] = &[
     ),
 ];
 
-/// A walk at 50 counts as one at 100, so work is due at 160 too. A walk at 900 that is refused doesn't
-/// count.
+/// A walk at 50 counts as one at 100, so work is due at 160 too. A walk at 900 that is refused
+/// doesn't count.
 const MOMENTS: &[Step<Call>] = &[
     Step::Does(Call::Walk(7, b"/auto/work", 50, Told::Arrives(4))),
     Step::Refused(
@@ -577,8 +584,8 @@ const MOMENTS: &[Step<Call>] = &[
     Step::Does(Call::Asks(Asked::Expire(8, 2, 0, false), Told::Waits(2))),
 ];
 
-/// A failure at `/auto/home` is acknowledged at 100, and lasts before 160. Its number goes to all that
-/// wait.
+/// A failure at `/auto/home` is acknowledged at 100, and lasts before 160. Its number goes to all
+/// that wait.
 const FAILED: &[Step<Call>] = &[
     Step::Does(Call::Indirect(b"/auto", 2)),
     Step::Does(Call::Walk(7, b"/auto/home", 90, Told::Waits(1))),
@@ -596,8 +603,8 @@ const FAILED: &[Step<Call>] = &[
     Step::Does(Call::Resume(8, 110, Told::Fails(Errno::EPERM))),
 ];
 
-/// A walk that is refused doesn't count, and a moment that goes back counts as the latest. The failure
-/// that comes next has another number, and takes the place of the one before.
+/// A walk that is refused doesn't count, and a moment that goes back counts as the latest. The
+/// failure that comes next has another number, and takes the place of the one before.
 const LASTS: &[Step<Call>] = &[
     Step::Refused(
         Call::Walk(7, b"/auto/home", 120, Told::Waits(2)),
@@ -651,8 +658,8 @@ const ANOTHER_NAME: &[Step<Call>] = &[
     Step::Does(Call::Walk(8, b"/auto/other", 190, Told::Waits(4))),
 ];
 
-/// What is mounted is walked into, and what isn't any more fails again, until a notification of that
-/// trigger is acknowledged with READY.
+/// What is mounted is walked into, and what isn't any more fails again, until a notification of
+/// that trigger is acknowledged with READY.
 const MADE_GOOD: &[Step<Call>] = &[
     Step::Does(Call::Mkdir(1, Trap(2, b"home"))),
     Step::Refused(
@@ -709,8 +716,8 @@ const CATATONIC: &[Step<Call>] = &[
     Step::Does(Call::Walk(8, b"/next/home", 190, Told::Waits(4))),
 ];
 
-/// So it is where an administrator or a pipe that nobody reads makes it catatonic. A walk at a failure
-/// finds out nothing about the pipe.
+/// So it is where an administrator or a pipe that nobody reads makes it catatonic. A walk at a
+/// failure finds out nothing about the pipe.
 const CATATONIC_TOO: &[Step<Call>] = &[
     Step::Does(Call::AdminCatatonic(2)),
     Step::Does(Call::Asks(Asked::SetPipe(2), Told::Attached(2))),
@@ -729,7 +736,8 @@ const CATATONIC_TOO: &[Step<Call>] = &[
     Step::Does(Call::Walk(8, b"/auto/more", 140, Told::Waits(5))),
 ];
 
-/// An unmount that failed leaves nothing. Who asked for it is told the number; who walks there goes on.
+/// An unmount that failed leaves nothing. Who asked for it is told the number; who walks there goes
+/// on.
 const EXPIRY_FAILED: &[Step<Call>] = &[
     Step::Does(Call::Asks(Asked::Expire(7, 2, 160, false), Told::Waits(1))),
     Step::Does(Call::Walk(8, b"/auto/home", 160, Told::Waits(1))),

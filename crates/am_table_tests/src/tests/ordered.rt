@@ -69,14 +69,20 @@ static CALLS: [(Call, &[u32]); 18] = [
     (Call::Insert(5, 53), &[5]),
 ];
 
-fn plays(alloc: Global) -> Result<bool, AllocError> {
-    let mut map = OrderedMap::new(alloc);
+fn all_answer(map: &mut OrderedMap<u32, u32>) -> Result<bool, AllocError> {
     for (call, keys) in CALLS.iter() {
-        if !answers(&mut map, call)? || !has_keys(&map, keys) {
+        if !answers(map, call)? || !has_keys(map, keys) {
             return Ok(false);
         }
     }
     Ok(true)
+}
+
+fn plays(alloc: Global) -> Result<bool, AllocError> {
+    let mut map = OrderedMap::new(alloc);
+    let all_answer = all_answer(&mut map);
+    drop(map);
+    all_answer
 }
 
 #[test]

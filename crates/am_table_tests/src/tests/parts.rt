@@ -122,8 +122,8 @@ pub enum Call {
     IsPending(u32, Trap),
     Makes(Trap),
     Catatonic(u32),
-    /// Something failed at the trigger, so and at this moment. Walks are made at moment 100, and a failure
-    /// lasts 60 seconds.
+    /// Something failed at the trigger, so and at this moment. Walks are made at moment 100, and a
+    /// failure lasts 60 seconds.
     Failed(Trap, FailNo, u64),
     /// The trigger was last used at this moment.
     Used(Trap, u64),
@@ -535,6 +535,9 @@ impl Setting {
     /// Whether a call goes as it says where these facts hold, each told by its letter.
     pub fn is_so_where(self, alloc: Global, facts: &[u8], call: Call) -> Result<bool, Errno> {
         let mut parts = Parts::new(alloc)?;
-        parts.is_so_where(alloc, self, facts, call)
+        let is_so = parts.is_so_where(alloc, self, facts, call);
+        // They go by a call, which is cheaper to check.
+        drop(parts);
+        is_so
     }
 }

@@ -72,6 +72,8 @@ fn plays_tables<S: Stage>(rt: &impl Abort, alloc: Global, name: &str, tables: &[
             for steps in tables {
                 plays(rt, alloc, &mut stage, name, steps);
             }
+            // It goes by a call, which is cheaper to check.
+            drop(stage);
         }
         Err(_) => panic!(rt; "{name}: it doesn't begin"),
     }

@@ -293,7 +293,9 @@ fn steps(
 
 fn world(alloc: Global, random: &mut Random, total: &mut Total) -> Result<(), Errno> {
     let mut subtree = Subtree::new(alloc, 40)?;
-    steps(alloc, &mut subtree, random, total)
+    let made = steps(alloc, &mut subtree, random, total);
+    drop(subtree);
+    made
 }
 
 fn number_of(alloc: Global, count: u64) -> Result<u64, Errno> {

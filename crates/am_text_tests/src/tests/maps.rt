@@ -7,7 +7,7 @@ use crate::tests::maps::look_ups::{
     Line, Said, finds, finds_all, finds_lines, finds_none, good, look_up, read,
 };
 use crate::tests::table::{Row, hold, joined, push_digits, stretched};
-use am_map::{Map, MapFault, MapFaultKind, MapKind, key_text};
+use am_map::{Entry, Map, MapFault, MapFaultKind, MapKind, key_text};
 use am_names::{AbsPath, Errno};
 use std::alloc::Global;
 
@@ -51,7 +51,13 @@ fn looks_up(
     missing: &[&[u8]],
 ) -> Result<bool, Errno> {
     let map = good(alloc, text, kind)?;
-    Ok(finds_lines(alloc, &map, lines)? && finds_none(alloc, &map, missing)?)
+    let finds = finds_among(alloc, &map, lines, missing);
+    drop(map);
+    finds
+}
+
+fn finds_among(alloc: Global, map: &Map, lines: &[Line], missing: &[&[u8]]) -> Result<bool, Errno> {
+    Ok(finds_lines(alloc, map, lines)? && finds_none(alloc, map, missing)?)
 }
 
 /// The line and the kind of the fault that a text has, if it has one.
@@ -132,8 +138,20 @@ fn big_text(alloc: Global, lines: u32) -> Result<Vec<u8>, Errno> {
 fn finds_in_big(alloc: Global, lines: u32, key: &[u8], said: Said) -> Result<bool, Errno> {
     let text = big_text(alloc, lines)?;
     let map = good(alloc, text.as_slice(), MapKind::Indirect)?;
-    for _ in 0..lines {
-        if !finds(alloc, &map, key, Some(said))? {
+    let finds = finds_as_often(alloc, &map, lines, key, said);
+    drop(map);
+    finds
+}
+
+fn finds_as_often(
+    alloc: Global,
+    map: &Map,
+    times: u32,
+    key: &[u8],
+    said: Said,
+) -> Result<bool, Errno> {
+    for _ in 0..times {
+        if !finds(alloc, map, key, Some(said))? {
             return Ok(false);
         }
     }
@@ -152,18 +170,51 @@ fn has_key(alloc: Global, path: &[u8], key: &[u8]) -> Result<bool, Errno> {
 /// Whether the entries of two keys are the same; none where one has no entry.
 fn are_same(alloc: Global, text: &[u8], one: &[u8], other: &[u8]) -> Result<Option<bool>, Errno> {
     let map = good(alloc, text, MapKind::Indirect)?;
-    match (look_up(alloc, &map, one)?, look_up(alloc, &map, other)?) {
-        (Some(one), Some(other)) => Ok(Some(one.is_same(&other))),
-        _ => Ok(None),
-    }
+    let are_same = are_same_in(alloc, &map, one, other);
+    drop(map);
+    are_same
+}
+
+fn are_same_in(alloc: Global, map: &Map, one: &[u8], other: &[u8]) -> Result<Option<bool>, Errno> {
+    let Some(one) = look_up(alloc, map, one)? else {
+        return Ok(None);
+    };
+    let is_same = is_that_of(alloc, map, other, &one);
+    drop(one);
+    is_same
+}
+
+/// Whether a key has this entry; none where it has none.
+fn is_that_of(alloc: Global, map: &Map, key: &[u8], entry: &Entry) -> Result<Option<bool>, Errno> {
+    let Some(other) = look_up(alloc, map, key)? else {
+        return Ok(None);
+    };
+    let is_same = entry.is_same(&other);
+    drop(other);
+    Ok(Some(is_same))
 }
 
 fn is_copied(alloc: Global, text: &[u8], key: &[u8]) -> Result<bool, Errno> {
     let map = good(alloc, text, MapKind::Indirect)?;
-    match look_up(alloc, &map, key)? {
-        Some(entry) => Ok(entry.copy(alloc)?.is_same(&entry)),
-        None => Ok(false),
-    }
+    let is_copied = is_copied_in(alloc, &map, key);
+    drop(map);
+    is_copied
+}
+
+fn is_copied_in(alloc: Global, map: &Map, key: &[u8]) -> Result<bool, Errno> {
+    let Some(entry) = look_up(alloc, map, key)? else {
+        return Ok(false);
+    };
+    let is_same = is_same_copied(alloc, &entry);
+    drop(entry);
+    is_same
+}
+
+fn is_same_copied(alloc: Global, entry: &Entry) -> Result<bool, Errno> {
+    let copy = entry.copy(alloc)?;
+    let is_same = copy.is_same(entry);
+    drop(copy);
+    Ok(is_same)
 }
 
 fn has_number(alloc: Global, kind: MapFaultKind, number: u8, word: &str) -> Result<bool, Errno> {

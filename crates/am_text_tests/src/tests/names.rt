@@ -43,7 +43,8 @@ enum Text {
     IsAmong(&'static [u64], u64, bool),
     /// The copy of a position in a mount, at a path, is the same.
     PositionCopied(u64, &'static [u8]),
-    /// The copy of the row of a mount, on another one, at a path, has its number and its mountpoint.
+    /// The copy of the row of a mount, on another one, at a path, has its number and its
+    /// mountpoint.
     RowCopied(u64, u64, &'static [u8]),
     /// One walker waits, and others join. Without memory the list is as before.
     Joins(u32, &'static [u32], &'static [u32]),
@@ -52,8 +53,8 @@ enum Text {
     Fails(u8, Errno),
     /// From the first number to the last there is no failure.
     NoFailures(u8, u8),
-    /// The greatest mount number, the most waits and the greatest token are in their ranges, however
-    /// long failures last.
+    /// The greatest mount number, the most waits and the greatest token are in their ranges,
+    /// however long failures last.
     InRange(u32, u32, u32, u64, bool),
 }
 

@@ -35,7 +35,8 @@ static SERVED: [Step; 10] = [
     Step(b"record 2 home", b"record mounted 3\n"),
 ];
 
-/// The packet of token 1 up to the name's end, as `struct autofs_v5_packet` lays it out; zeros follow.
+/// The packet of token 1 up to the name's end, as `struct autofs_v5_packet` lays it out; zeros
+/// follow.
 static PACKET: [u8; 48] = [
     5, 0, 0, 0, 3, 0, 0, 0, 1, 0, 0, 0, 2, 0, 0, 0, 1, 0, 0, 0, 0, 0, 0, 0, 0, 0, 0, 0, 0, 0, 0, 0,
     7, 0, 0, 0, 7, 0, 0, 0, 4, 0, 0, 0, b'h', b'o', b'm', b'e',
@@ -126,8 +127,8 @@ fn plays<L: Opened, R: Wait + Abort>(rt: &R, alloc: Global, callers: &mut [Calle
     position
 }
 
-/// What is left when all is over: how many receipts there are, whether they match the history, and how
-/// many events of the history met no want of memory.
+/// What is left when all is over: how many receipts there are, whether they match the history, and
+/// how many events of the history met no want of memory.
 #[derive(Drop)]
 struct End {
     count: u64,

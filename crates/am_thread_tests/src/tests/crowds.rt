@@ -23,8 +23,8 @@ use std::thread::Threads;
 /// Every key is mounted from one place.
 const ANY: &[u8] = b"* srv:/any";
 
-/// How many threads make how many calls, each of them, and how much of the trace is judged then: the
-/// time for that grows faster than its length.
+/// How many threads make how many calls, each of them, and how much of the trace is judged then:
+/// the time for that grows faster than its length.
 #[derive(Clone, Copy)]
 struct Size {
     threads: u32,
@@ -104,8 +104,8 @@ fn goes_on<L: Opened, R: Wait>(
     Ok(())
 }
 
-/// A walk to one of three keys, an expiry, and a mount that goes again. A walk that waited for another
-/// thread's work goes on first.
+/// A walk to one of three keys, an expiry, and a mount that goes again. A walk that waited for
+/// another thread's work goes on first.
 fn round<L: Opened, R: Wait>(
     rt: &R,
     alloc: Global,
@@ -192,8 +192,8 @@ fn are_same_waits(one: &World, other: &World, walkers: u32) -> bool {
     true
 }
 
-/// Whether what can be asked of two worlds is the same: as much was seen, and the same packets, jobs and
-/// waits are left.
+/// Whether what can be asked of two worlds is the same: as much was seen, and the same packets,
+/// jobs and waits are left.
 fn are_same_worlds(one: &World, other: &World, size: Size) -> bool {
     let seen = one.trace().len();
     let last = u32::try_from(seen).unwrap_or(u32::MAX);

@@ -318,8 +318,8 @@ fn daemon_dies(rt: HostRuntime) -> Result<(), Fail> {
     Ok(())
 }
 
-/// All walks are made at moment 0, so a failure lasts until its file system is catatonic. Nobody waits
-/// for ever where walks are refused meanwhile.
+/// All walks are made at moment 0, so a failure lasts until its file system is catatonic. Nobody
+/// waits for ever where walks are refused meanwhile.
 #[test]
 fn daemon_dies_where_failures_last(rt: HostRuntime) -> Result<(), Fail> {
     plays(&rt, rt.alloc(), size_of(&rt), Seconds(1))?;

@@ -1,4 +1,5 @@
-//! What a shared world begins with, events that are read from their lines, and the calls that are made.
+//! What a shared world begins with, events that are read from their lines, and the calls that are
+//! made.
 
 ghost use Rattle.std.specs.Prelude.{◌≡◌, length};
 ghost use Rattle.am_names.specs.Limits.{IsInRange};

@@ -52,8 +52,8 @@ fn taker(alloc: Global, most: usize, room: usize) -> Taker {
     Taker { bytes, most, room }
 }
 
-/// What is shown, of the bytes that a writer takes at once, and how many it takes in all; and the line at
-/// which the loss is told.
+/// What is shown, of the bytes that a writer takes at once, and how many it takes in all; and the
+/// line at which the loss is told.
 static CUTS: [(View, usize, usize, u64); 8] = [
     (View::Trace, 100, 0, 2),
     (View::Trace, 7, 1, 2),
@@ -112,7 +112,8 @@ fn room_in_the_end(alloc: Global) -> Result<Vec<u8>, Fail> {
     }
 }
 
-/// Whether it is shown, once more where there was no memory for an event: then those before it were shown.
+/// Whether it is shown, once more where there was no memory for an event: then those before it were
+/// shown.
 fn is_shown_in_the_end(alloc: Global, view: View, bytes: Vec<u8>) -> bool {
     let most = 10_000;
     let mut writer = Taker {

@@ -10,8 +10,8 @@ use std::io::Write;
 use std::process::Abort;
 use std::test::Fail;
 
-/// Behind it stand two namespaces, an open token with a waiter, its packet, and a walker inside of a
-/// mount. The event on line 11 is the last.
+/// Behind it stand two namespaces, an open token with a waiter, its packet, and a walker inside of
+/// a mount. The event on line 11 is the last.
 const SCRIPT: &[u8] = b"master\n/auto auto.home\nend\nmap auto.home\nhome srv:/home\nend\nevents\n\
     attach /auto\nmount 0 /a\\b\nnscopy 0 reduced\nwalk 7 0 /auto/home 5 room\n";
 
@@ -86,7 +86,8 @@ fn show<W: Write>(alloc: Global, mut script: &[u8], writer: &mut W) -> Option<Sc
     world_script(alloc, &mut script, writer, None).err()
 }
 
-/// Whether a writer gets the beginning that it takes, and the rest is told as lost at the last event.
+/// Whether a writer gets the beginning that it takes, and the rest is told as lost at the last
+/// event.
 fn is_cut(alloc: Global, whole: &[u8], room: usize) -> bool {
     let bytes = Vec::new(alloc);
     let most = usize::MAX;

@@ -11,11 +11,11 @@ const HOME: Trap = Trap(2, b"home");
 
 const ROOT: Trap = Trap(2, b"");
 
-/// Autofs 2 is at `/auto` of namespace 0 as the daemon's mount 2, and of namespace 1 as mount 4. A mount at
-/// the trigger `home` failed, and that lasts for one second more (`f`) or no longer (`o`). The trigger is
-/// expiring (`x`), a mount is pending (`p`), something is mounted on it at mount 4 (`m`), the file
-/// system is catatonic (`c`), the directory is made (`k`), something is mounted on it at mount 2, the
-/// daemon's (`d`).
+/// Autofs 2 is at `/auto` of namespace 0 as the daemon's mount 2, and of namespace 1 as mount 4. A
+/// mount at the trigger `home` failed, and that lasts for one second more (`f`) or no longer (`o`).
+/// The trigger is expiring (`x`), a mount is pending (`p`), something is mounted on it at mount 4
+/// (`m`), the file system is catatonic (`c`), the directory is made (`k`), something is mounted on
+/// it at mount 2, the daemon's (`d`).
 pub const INDIRECT: Setting = Setting(
     &[Call::Indirect(1, b"/auto", 2), Call::Copy],
     &[
