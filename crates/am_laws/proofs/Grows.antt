@@ -7,6 +7,7 @@ use Rattle.std.proofs.lemmas.List.{take-append-le, take-append-drop, length-appe
 use Rattle.std.proofs.Math.ListN.{drop_of_length-le}
 use Rattle.std.proofs.Math.Seq.{take-add}
 use Rattle.std.proofs.lemmas.List.Folds.{list_any-append, list_all-append}
+use Rattle.am_names.proofs.Basics.{both_of_and, false_unless_true}
 use Rattle.am_state.specs.declared.obs.Obs.{Obs}
 use Rattle.am_state.specs.declared.obs.Obs.TheVariants.{Queued, Released}
 use Rattle.am_wire.specs.declared.packet.Packet.{Packet}
@@ -15,7 +16,6 @@ use Rattle.am_laws.specs.Counts.{first_of, packet_of, dev_of, fs_of_token}
 use Rattle.am_laws.specs.Fold.{IsLawfulAt}
 use Rattle.am_laws.specs.Tests.{Has, since, is_open, is_lawful_at}
 use Rattle.am_laws.specs.Lately.{WereLawful, AreSettled, WereSettled, AreUpTo, Remembers, Settles, can_close, is_pending, greatest_with, is_lawful_lately}
-use Rattle.am_laws.proofs.Bools.{and_both, no_true}
 use Rattle.am_laws.proofs.Lists.{AtEnd, at_end, since-append, if_no}
 use Rattle.am_laws.proofs.Words.{never_queued_test}
 use Rattle.am_laws.proofs.Late.{in_part, open_same}
@@ -50,7 +50,7 @@ packet_early token (o ∷ seen) rest h = first_early token o (packet_of token (s
 
 not_again : (token : ℕ) (seen : List Obs) (next : Obs) (rest : List Obs) → Has (queues token) seen → IsLawfulAt seen next rest → queues token next ≡ false
 not_again token seen (Queued k a p) rest has at =
-    no_true (k == token) (λ so.
+    false_unless_true (k == token) (λ so.
     let same : k ≡ token = grind (arith, nat_tests, so) in
     let none = never_queued_test k seen at in
     let no = subst (λ (x : ℕ). list_any (queues x) seen ≡ false) same none in
@@ -76,8 +76,8 @@ released_no _ h = absurd cc
 row_end : (old seen : List Obs) (next : Obs) (before : List Obs) (cause : Obs) (row : List Obs) → AreSettled old seen → (can_close next ≡ false → WereSettled old seen) → AtEnd seen next before cause row → list_all is_released row ≡ true → can_close cause ≡ true → AreSettled old before
 row_end old seen next before cause row settled were (inl h) is_row is_cause = subst (λ (s : List Obs). AreSettled old s) (sym h.0) settled
 row_end old seen next before cause row settled were (inr h) is_row is_cause =
-    let all = and_both (list_all is_released h.0) (is_released next && true) (sym (list_all-append is_released h.0 (next ∷ [])) ∙ subst (λ (s : List Obs). list_all is_released s ≡ true) h.1 is_row) in
-    were (released_no next (and_both (is_released next) true all.1).0) before cause h.0 h.2 all.0 is_cause
+    let all = both_of_and (list_all is_released h.0) (is_released next && true) (sym (list_all-append is_released h.0 (next ∷ [])) ∙ subst (λ (s : List Obs). list_all is_released s ≡ true) h.1 is_row) in
+    were (released_no next (both_of_and (is_released next) true all.1).0) before cause h.0 h.2 all.0 is_cause
 
 pub row_grows : (old seen : List Obs) (next : Obs) → AreSettled old seen → (can_close next ≡ false → WereSettled old seen) → WereSettled old (seen ++ next ∷ [])
 row_grows old seen next settled were = λ before cause row e is_row is_cause. row_end old seen next before cause row settled were (at_end seen next before cause row e) is_row is_cause
@@ -174,7 +174,7 @@ no_place (x ∷ before) o later e = absurd cc
 
 -- a greater token was not queued
 pub greater_no : (greatest token : ℕ) (seen : List Obs) → AreUpTo greatest seen → greatest < token → list_any (queues token) seen ≡ false
-greater_no greatest token seen up_to h = no_true (list_any (queues token) seen) (λ has. let no = up_to token has in absurd (grind (arith, h, no)))
+greater_no greatest token seen up_to h = false_unless_true (list_any (queues token) seen) (λ has. let no = up_to token has in absurd (grind (arith, h, no)))
 
 -- nothing was seen yet
 pub remembers_nothing : Remembers 0 0 []

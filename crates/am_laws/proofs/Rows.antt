@@ -7,6 +7,7 @@ use Rattle.std.proofs.lemmas.List.Folds.{list_all-append}
 use Rattle.am_state.specs.declared.obs.Obs.{Obs}
 use Rattle.am_state.specs.declared.obs.Obs.TheVariants.{Released}
 use Rattle.am_names.specs.declared.trigger.Status.{Status}
+use Rattle.am_names.proofs.Basics.{or_false}
 use Rattle.am_laws.specs.OneObservation.{closes_as, is_released}
 use Rattle.am_laws.specs.Counts.{fs_of_token}
 use Rattle.am_laws.specs.Tests.{is_open, is_cause, ends_in_row}
@@ -29,10 +30,6 @@ and_true false = refl
 and_false : (a : Bool) → (a && (false && true)) ≡ false
 and_false true = refl
 and_false false = refl
-
-or_false : (a : Bool) → (a || false) ≡ a
-or_false true = refl
-or_false false = refl
 
 pub row_goes_on : (front seen : List Obs) (o : Obs) (token : ℕ) (status : Status) → is_released o ≡ true → ends_in_row front (seen ++ o ∷ []) token status ≡ ends_in_row front seen token status
 row_goes_on front [] o token status h = or_false (is_cause front o [] token status) ∙ no_cause front o [] token status (closes_not token (fs_of_token token front) status o h)

@@ -11,6 +11,7 @@ use Rattle.am_names.specs.declared.errno.Errno.TheVariants as errnos
 use Rattle.am_names.specs.declared.trigger.Trigger.{Trigger}
 use Rattle.am_names.specs.declared.trigger.Status.{Status}
 use Rattle.am_names.specs.declared.row.OpenToken.{OpenToken}
+use Rattle.am_names.proofs.Basics.{equal_to_itself}
 use Rattle.am_map.specs.EntryText.{EntryText}
 use Rattle.am_state.specs.declared.daemon_row.Record.{Record}
 use Rattle.am_state.specs.declared.obs.Obs.{Obs}
@@ -35,7 +36,6 @@ use Rattle.am_daemon.specs.Attachments.{attach_held, holds}
 use Rattle.am_daemon.specs.Acts.{finished_in, finished}
 use Rattle.am_daemon.specs.Deliveries.{job_of}
 use Rattle.am_daemon.proofs.JobLemmas.{others_stay}
-use Rattle.am_laws.proofs.Packets.{nat_same}
 use Rattle.am_machine.specs.declared.event.Event.TheVariants as events
 use Rattle.am_machine.specs.declared.answer.Answer.{Answer}
 use Rattle.am_machine.specs.declared.answer.Answer.TheVariants as answers
@@ -180,7 +180,7 @@ reply_fine s number row w =
     let of_fs : token_fs k row.token ≡ Some fs = ap (option_map (λ (r : OpenToken). r.trigger.fs)) token.is_open ∙ ap (λ (n : ℕ). Some n) (sym token.fs) in
     ap (λ (o : Option ℕ). answer_tests o k row.token) (fs_of_current k fs row.attach w.world.holds.kernel.attaches (its_current s number row w))
     ∙ ap (λ (o : Option ℕ). if is_number o fs then None else Some errnos.EINVAL) of_fs
-    ∙ ap (λ (b : Bool). if b then None else Some errnos.EINVAL) (nat_same fs)
+    ∙ ap (λ (b : Bool). if b then None else Some errnos.EINVAL) (equal_to_itself fs)
 
 replies : (s : State) (number : ℕ) (row : JobPlan) (status : Status) → Acting s number row → Does s row (act.Reply status) (acts.reply_by (answer_refusal s.kernel row.attach row.token) s row status)
 replies s number row status w =

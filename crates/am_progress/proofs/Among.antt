@@ -5,6 +5,7 @@ use Rattle.std.specs.List.{list_any}
 use Rattle.am_names.specs.declared.fail_no.FailNo.{FailNo}
 use Rattle.am_names.specs.declared.trigger.Trigger.{Trigger}
 use Rattle.am_names.specs.declared.row.OpenToken.{OpenToken}
+use Rattle.am_names.proofs.Basics.{neither_of_or, equal_to_itself}
 use Rattle.am_wait.specs.Rows.{WaitRows, token_of}
 use Rattle.am_wait.proofs.FindLemmas.{token_taken}
 use Rattle.am_state.specs.declared.kernel_row.QueuedRow.{QueuedRow}
@@ -18,20 +19,18 @@ use Rattle.am_daemon.specs.Acts.{walked}
 use Rattle.am_daemon.specs.Deliveries.{job_of}
 use Rattle.am_laws.specs.OneObservation.{queues}
 use Rattle.am_laws.specs.Tests.{Has}
-use Rattle.am_laws.proofs.Bools.{or_no}
 use Rattle.am_laws.proofs.Late.{in_part}
-use Rattle.am_laws.proofs.Packets.{nat_same}
 use Rattle.am_machine.specs.declared.event.Event.{Event}
 use Rattle.am_machine.specs.declared.event.Event.TheVariants as events
 use Rattle.am_machine.specs.declared.answer.Answer.{Answer}
 use Rattle.am_machine.specs.State.{State}
 use Rattle.am_machine.specs.Machine.{Run}
 use Rattle.am_machine.specs.Invariant.Books.{IsServed}
-use Rattle.am_machine.proofs.TraceRows.{some_is}
-use Rattle.am_machine.proofs.GivenPlans.{acknowledges}
-use Rattle.am_machine.proofs.TokenLists.{all_found}
-use Rattle.am_machine.proofs.TokenClose.{token_number}
-use Rattle.am_machine.proofs.AgreeTokens.{in_pipe}
+use Rattle.am_machine.proofs.Lists.Counts.{some_is}
+use Rattle.am_machine.proofs.Planned.Acts.{acknowledges}
+use Rattle.am_machine.proofs.Lists.Different.{all_found}
+use Rattle.am_machine.proofs.Tokens.Catatonic.{token_number}
+use Rattle.am_machine.proofs.Agreement.Tokens.{in_pipe}
 use Rattle.am_progress.specs.Runs.{IsDone, next}
 use Rattle.am_progress.specs.Acts.{HasActs}
 use Rattle.am_progress.specs.Others.{is_act_of, OthersAct, IsClosed, event_about, ClosesAmong, TokensCloseAmong, OpenTokensCloseAmongOthers}
@@ -49,7 +48,7 @@ use Rattle.am_progress.proofs.Worlds.{IsWorld, run_world, after_runs}
 run_jobs : (old : State) (events : List Event) (answers : List Answer) (new : State) → Run old events answers new → (job : ℕ) (row : JobPlan) → list_any (is_act_of job) events ≡ false → job_of old.daemon.jobs job ≡ Some row → job_of new.daemon.jobs job ≡ Some row
 run_jobs old [] [] new run job row others is = ap (λ (s : State). job_of s.daemon.jobs job) run ∙ is
 run_jobs old (event ∷ events) (answer ∷ answers) new run job row others is =
-    let both = or_no (is_act_of job event) (list_any (is_act_of job) events) others in
+    let both = neither_of_or (is_act_of job event) (list_any (is_act_of job) events) others in
     run_jobs run.0 events answers new run.3 job row both.1 (jobs_stay old event answer run.1 run.0 run.2 job row both.0 is)
 run_jobs old [] (answer ∷ answers) new run job row others is = absurd run
 run_jobs old (event ∷ events) [] new run job row others is = absurd run
@@ -135,7 +134,7 @@ module _ (fs attach token : ℕ) where
   goes_by most s row h failure (act.Reply status) e queued few = record {
     world = act_world s fs attach token row s.kernel.waits h failure (act.Reply status) e;
     queued = seen_still s (events.Act token failure) queued;
-    left = inl (ap (λ (w : WaitRows). token_of w.tokens token) (act_waits s fs attach token row s.kernel.waits h failure (act.Reply status) e) ∙ token_taken token s.kernel.waits.tokens token true (nat_same token));
+    left = inl (ap (λ (w : WaitRows). token_of w.tokens token) (act_waits s fs attach token row s.kernel.waits h failure (act.Reply status) e) ∙ token_taken token s.kernel.waits.tokens token true (equal_to_itself token));
   }
   goes_by most s row h failure (act.Mkdir t) e queued few = goes_job most s row h failure (act.Mkdir t) e refl refl queued few
   goes_by most s row h failure (act.Mount t entry) e queued few = goes_job most s row h failure (act.Mount t entry) e refl refl queued few

@@ -4,15 +4,14 @@ use Rattle.std.specs.Prelude.{◌==◌, ◌&&◌, find, if◌then◌else◌}
 use Rattle.std.specs.Option.{option_map}
 use Rattle.std.specs.List.{All}
 use Rattle.std.proofs.lemmas.List.Elements.{All-nil, All-cons, All-head, All-tail, All-push, All-map, All-weaker}
+use Rattle.am_names.proofs.Basics.{both_of_and, equal_by_test}
 use Rattle.am_kernel.specs.declared.row.Attached.{Attached}
 use Rattle.am_kernel.specs.State.{KernelState}
 use Rattle.am_kernel.specs.Sites.{is_live, is_attached_by, fs_of_attach, is_current}
 use Rattle.am_kernel.specs.Attachments.{attached_row}
-use Rattle.am_laws.proofs.Bools.{and_both}
-use Rattle.am_laws.proofs.Packets.{nat_is}
-use Rattle.am_machine.proofs.TraceRows.{some_is, found_passes}
-use Rattle.am_machine.proofs.TokenLists.{all_found, found_none}
-use Rattle.am_machine.proofs.KnownRows.{any_found}
+use Rattle.am_machine.proofs.Lists.Counts.{some_is, found_passes}
+use Rattle.am_machine.proofs.Lists.Different.{all_found, found_none}
+use Rattle.am_machine.proofs.Attachments.Known.{any_found}
 
 -- another row with the attachment is of the same file system
 abbrev pub IsOfOne : Attached → Attached → Type 0
@@ -44,7 +43,7 @@ one_same change (row ∷ rows) attach fs h = (
 
 piped_by : (fs last : ℕ) (row other : Attached) (b c : Bool) → (row.fs == fs) ≡ b → (other.fs == fs) ≡ c → row.attach ≤ last → other.attach ≤ last → IsOfOne row other →
     (if c then record other { attach = last + 1 } else other).attach ≡ (if b then record row { attach = last + 1 } else row).attach → (if c then record other { attach = last + 1 } else other).fs ≡ (if b then record row { attach = last + 1 } else row).fs
-piped_by fs last row other true true is its low lower one same = nat_is other.fs fs its ∙ sym (nat_is row.fs fs is)
+piped_by fs last row other true true is its low lower one same = equal_by_test other.fs fs its ∙ sym (equal_by_test row.fs fs is)
 piped_by fs last row other true false is its low lower one same = omega (arith, same, lower)
 piped_by fs last row other false true is its low lower one same = omega (arith, same, low)
 piped_by fs last row other false false is its low lower one same = one same
@@ -80,16 +79,16 @@ all_same test (x ∷ rows) row h e = same_by test x row rows (test x) h.0 (all_s
 fs_by : (k : KernelState) (fs attach : ℕ) (row : Attached) (o : Option Attached) → find (λ (r : Attached). is_attached_by k attach r) k.attached ≡ o → (o ≡ None → ⊥) → row.fs ≡ fs → row.attach ≡ attach → All (IsOfOne row) k.attached → option_map (λ (r : Attached). r.fs) o ≡ Some fs
 fs_by k fs attach row None is some its own h = absurd (some refl)
 fs_by k fs attach row (Some other) is some its own h =
-    let passes = and_both (other.attach == attach) (is_live k other.fs) (found_passes (λ (r : Attached). is_attached_by k attach r) k.attached other is) in
-    ap (λ (n : ℕ). Some n) (all_found (IsOfOne row) (λ (r : Attached). is_attached_by k attach r) k.attached other h is (nat_is other.attach attach passes.0 ∙ sym own) ∙ its)
+    let passes = both_of_and (other.attach == attach) (is_live k other.fs) (found_passes (λ (r : Attached). is_attached_by k attach r) k.attached other is) in
+    ap (λ (n : ℕ). Some n) (all_found (IsOfOne row) (λ (r : Attached). is_attached_by k attach r) k.attached other h is (equal_by_test other.attach attach passes.0 ∙ sym own) ∙ its)
 
 -- the current attachment of a file system is of no other
 pub fs_of_current : (k : KernelState) (fs attach : ℕ) → AreOfOne k.attached → is_current k fs attach ≡ true → fs_of_attach k attach ≡ Some fs
 fs_of_current k fs attach h e =
     let test : Attached → Bool = λ row. row.fs == fs && is_attached_by k attach row in
     let found = some_is (find test k.attached) (any_found test k.attached e) in
-    let passes = and_both (found.0.fs == fs) (is_attached_by k attach found.0) (found_passes test k.attached found.0 found.1) in
-    let lives = and_both (found.0.attach == attach) (is_live k found.0.fs) passes.1 in
+    let passes = both_of_and (found.0.fs == fs) (is_attached_by k attach found.0) (found_passes test k.attached found.0 found.1) in
+    let lives = both_of_and (found.0.attach == attach) (is_live k found.0.fs) passes.1 in
     fs_by k fs attach found.0 (find (λ (r : Attached). is_attached_by k attach r) k.attached) refl
     (λ none. let no : is_attached_by k attach found.0 ≡ false = found_none (λ (r : Attached). is_attached_by k attach r) test k.attached found.0 none found.1 in let yes = passes.1 in absurd cc)
-    (nat_is found.0.fs fs passes.0) (nat_is found.0.attach attach lives.0) (all_same test k.attached found.0 h found.1)
+    (equal_by_test found.0.fs fs passes.0) (equal_by_test found.0.attach attach lives.0) (all_same test k.attached found.0 h found.1)

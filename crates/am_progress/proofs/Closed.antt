@@ -24,7 +24,7 @@ use Rattle.am_machine.specs.State.{State}
 use Rattle.am_machine.specs.Machine.{Run}
 use Rattle.am_machine.specs.Invariant.Traces.{Asked, asked_in, asked_by}
 use Rattle.am_machine.specs.Invariant.Consistent.{IsTraced}
-use Rattle.am_machine.proofs.SafetyLemmas.{step_lawful}
+use Rattle.am_machine.proofs.Consistent.{step_lawful}
 
 -- ---- the trace of a run
 

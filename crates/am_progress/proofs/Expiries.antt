@@ -9,6 +9,7 @@ use Rattle.am_names.specs.declared.trigger.Status.{Status}
 use Rattle.am_names.specs.declared.trigger.Status.TheVariants.{Ready, Fail}
 use Rattle.am_names.specs.declared.row.OpenToken.{OpenToken}
 use Rattle.am_names.proofs.SameTriggers.{is_itself}
+use Rattle.am_names.proofs.Basics.{equal_to_itself}
 use Rattle.am_state.specs.declared.daemon_row.Record.{Record}
 use Rattle.am_state.specs.declared.daemon_row.Record.TheVariants.{Mounted}
 use Rattle.am_mount.specs.Rows.{top_of}
@@ -35,20 +36,19 @@ use Rattle.am_job.specs.Plans.{next_of, rest_of, claims, at_directory, reply, bo
 use Rattle.am_daemon.specs.State.{JobPlan}
 use Rattle.am_daemon.specs.Acts.{next_in, writes, writing_of, book_after, walked}
 use Rattle.am_daemon.specs.Packets.{is_pending, mounted_in}
-use Rattle.am_laws.proofs.Packets.{nat_same}
 use Rattle.am_machine.specs.declared.event.Event.TheVariants as events
 use Rattle.am_machine.specs.State.{State}
 use Rattle.am_machine.specs.Outcome.{Outcome}
 use Rattle.am_machine.specs.Machine.{after, outcome_of}
 use Rattle.am_machine.specs.Invariant.Planned.{has_record_left}
-use Rattle.am_machine.proofs.PlanRests.{umount_left}
+use Rattle.am_machine.proofs.Planned.Rests.{umount_left}
 use Rattle.am_machine.specs.Invariant.Books.{IsServed}
-use Rattle.am_machine.proofs.BookRecords.{recorded_is}
+use Rattle.am_machine.proofs.Books.Pending.{recorded_is}
 use Rattle.am_progress.specs.Runs.{next}
 use Rattle.am_progress.specs.Ways.{LeadsTo}
 use Rattle.am_progress.specs.Expiries.{IsAsFound, IsTrapAgain, EndsWell, ExpiriesEndWell, ExpiriesLeaveTrapOrMount}
 use Rattle.am_progress.proofs.Plans.{umount_whole}
-use Rattle.am_progress.proofs.SiteWalks.{IsSite}
+use Rattle.am_progress.proofs.Triggers.Walks.{IsSite}
 use Rattle.am_progress.proofs.Jobs.{its_acts, its_token, on_its_token, its_site, job_number}
 use Rattle.am_progress.proofs.Acts.{Does, LeavesKernel}
 use Rattle.am_progress.proofs.Tokens.{Served, served_acts, its_act, act_done, act_world, act_served, act_waits, act_goes}
@@ -129,7 +129,7 @@ module _ (s : State) (fs attach token : ℕ) (row : JobPlan) (w : WaitRows) (h :
   reply_waits = act_waits s fs attach token row w h failure (act.Reply status) reply_next
 
   reply_closes : token_of (next s (events.Act token failure)).kernel.waits.tokens token ≡ None
-  reply_closes = ap (λ (v : WaitRows). token_of v.tokens token) reply_waits ∙ token_taken token w.tokens token true (nat_same token)
+  reply_closes = ap (λ (v : WaitRows). token_of v.tokens token) reply_waits ∙ token_taken token w.tokens token true (equal_to_itself token)
 
   reply_kernel : (next s (events.Act token failure)).kernel ≡ acknowledged row.token status s.kernel
   reply_kernel = act_kernel s fs attach token row w h failure (act.Reply status) reply_next ∙ (its_act s fs attach token row w h failure (act.Reply status) reply_next).leaves
@@ -181,7 +181,7 @@ module _ (s : State) (fs attach token : ℕ) (row : JobPlan) (w : WaitRows) (h :
       false_by (same_trigger r.trigger row.trigger)
       (λ both.
       let one : r.token ≡ row.token = h.world.consistent.agreed.tokens.once r.token row.token r its.token was its.is_open (subst (λ (g : Trigger). same_trigger r.trigger g ≡ true) (on_its_token s token row acting) both) in
-      let is : (token == r.token) ≡ true = subst (λ (n : ℕ). (token == n) ≡ true) (sym (one ∙ job_number s token row acting)) (nat_same token) in
+      let is : (token == r.token) ≡ true = subst (λ (n : ℕ). (token == n) ≡ true) (sym (one ∙ job_number s token row acting)) (equal_to_itself token) in
       let no = left.0 in
       absurd cc))
 

@@ -1,20 +1,20 @@
 -- What is found by a token, its packet and its job, and by a file system, its attachment.
 use Rattle.std.proofs.Common.{◌≡◌, ℕ, Bool, true, false, Option, Some, None, refl}
 use Rattle.std.specs.Prelude.{◌==◌, if◌then◌else◌}
+use Rattle.am_names.proofs.Basics.{equal_by_test}
 use Rattle.am_state.specs.declared.kernel_row.QueuedRow.{QueuedRow}
 use Rattle.am_kernel.specs.State.{KernelState}
 use Rattle.am_kernel.specs.Sites.{is_live, latest_attach, attach_of}
 use Rattle.am_kernel.specs.Requests.{queued_of}
 use Rattle.am_daemon.specs.State.{DaemonState, JobPlan}
 use Rattle.am_daemon.specs.Deliveries.{job_of}
-use Rattle.am_laws.proofs.Packets.{nat_is}
 use Rattle.am_machine.specs.Invariant.Tokens.{HasToken, TokensAgree}
-use Rattle.am_machine.proofs.TraceRows.{found_passes}
-use Rattle.am_machine.proofs.TokenLists.{all_found}
+use Rattle.am_machine.proofs.Lists.Counts.{found_passes}
+use Rattle.am_machine.proofs.Lists.Different.{all_found}
 
 -- the packet has the number by which it is found
 pub queued_number : (k : KernelState) (token : ℕ) (row : QueuedRow) → queued_of k.queue token ≡ Some row → row.token ≡ token
-queued_number k token row is = nat_is row.token token (found_passes (λ (r : QueuedRow). r.token == token) k.queue row is)
+queued_number k token row is = equal_by_test row.token token (found_passes (λ (r : QueuedRow). r.token == token) k.queue row is)
 
 -- a job whose attachment the file system still has, has its open token
 pub token_at_work : (k : KernelState) (d : DaemonState) → TokensAgree k d.jobs → (token : ℕ) (job : JobPlan) → job_of d.jobs token ≡ Some job → attach_of k job.trigger.fs ≡ Some job.attach → HasToken k job

@@ -5,20 +5,19 @@ use Rattle.std.specs.Option.{option_map}
 use Rattle.std.specs.List.{list_any}
 use Rattle.std.proofs.lemmas.Slice.Eq.{bytes_eq-Decides}
 use Rattle.am_names.specs.declared.errno.Errno.TheVariants.{Stranger}
+use Rattle.am_names.proofs.Basics.{and_of_both, equal_to_itself}
 use Rattle.am_state.specs.declared.daemon_row.HeldRow.{HeldRow}
 use Rattle.am_state.specs.declared.kernel_row.QueuedRow.{QueuedRow}
 use Rattle.am_kernel.specs.Sites.{attach_of}
 use Rattle.am_kernel.specs.Requests.{queued_of}
 use Rattle.am_daemon.specs.State.{DaemonState}
 use Rattle.am_daemon.specs.Attachments.{attach_held, holds}
-use Rattle.am_laws.proofs.Bools.{and_of}
-use Rattle.am_laws.proofs.Packets.{nat_same}
 use Rattle.am_machine.specs.State.{State}
 use Rattle.am_machine.specs.Outcome.{refused}
 use Rattle.am_machine.specs.Events.Deliveries.{packet_bytes, has_bytes, takes, delivered_at, deliver_outcome}
-use Rattle.am_machine.proofs.TokenClose.{dev_of}
-use Rattle.am_machine.proofs.AgreeTokens.{in_pipe}
-use Rattle.am_machine.proofs.InStep.{in_step, refuses_in_step}
+use Rattle.am_machine.proofs.Tokens.Catatonic.{dev_of}
+use Rattle.am_machine.proofs.Agreement.Tokens.{in_pipe}
+use Rattle.am_machine.proofs.InStep.States.{in_step, refuses_in_step}
 use Rattle.am_progress.specs.Packets.{PacketsCanBeTaken, QueuedPacketsCanBeDelivered}
 use Rattle.am_progress.proofs.Found.{queued_number, same_number}
 use Rattle.am_progress.proofs.Worlds.{IsWorld, after_runs}
@@ -30,7 +29,7 @@ held_by : (fs attach : ℕ) (row : HeldRow) (rows : List HeldRow) (b : Bool) →
     option_map (λ (r : HeldRow). r.attach) (if b then Some row else find (λ r. r.fs == fs) rows) ≡ Some attach → ((b && row.attach == attach) || list_any (λ (r : HeldRow). r.fs == fs && r.attach == attach) rows) ≡ true
 held_by fs attach row rows true is later e =
     let same : row.attach ≡ attach = cc in
-    ap (λ (b : Bool). b || list_any (λ (r : HeldRow). r.fs == fs && r.attach == attach) rows) (subst (λ (n : ℕ). (row.attach == n) ≡ true) same (nat_same row.attach))
+    ap (λ (b : Bool). b || list_any (λ (r : HeldRow). r.fs == fs && r.attach == attach) rows) (subst (λ (n : ℕ). (row.attach == n) ≡ true) same (equal_to_itself row.attach))
 held_by fs attach row rows false is later e = later e
 
 held_any : (fs attach : ℕ) (rows : List HeldRow) → option_map (λ (r : HeldRow). r.attach) (find (λ r. r.fs == fs) rows) ≡ Some attach → list_any (λ (r : HeldRow). r.fs == fs && r.attach == attach) rows ≡ true
@@ -44,7 +43,7 @@ holds_held d fs attach e = held_any fs attach d.held e
 
 took : (s : State) (token : ℕ) (row : QueuedRow) (bytes : Option (List ℕ)) → IsWorld s → queued_of s.kernel.queue token ≡ Some row → has_bytes bytes row ≡ true → holds s.daemon row.packet.dev row.attach ≡ true → deliver_outcome s token bytes ≡ takes s row
 took s token row bytes w is own held =
-    let may = (refuses_in_step s (in_step s w.consistent w.named)).deliver token row bytes is ∙ and_of (has_bytes bytes row) (holds s.daemon row.packet.dev row.attach) own held in
+    let may = (refuses_in_step s (in_step s w.consistent w.named)).deliver token row bytes is ∙ and_of_both (has_bytes bytes row) (holds s.daemon row.packet.dev row.attach) own held in
     ap (λ (o : Option QueuedRow). delivered_at o s bytes) is ∙ ap (λ (b : Bool). if b then takes s row else refused s Stranger) may
 
 pub taken : (s : State) → IsWorld s → PacketsCanBeTaken s

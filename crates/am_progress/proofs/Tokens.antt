@@ -5,6 +5,7 @@ use Rattle.am_names.specs.declared.fail_no.FailNo.{FailNo}
 use Rattle.am_names.specs.declared.trigger.Status.{Status}
 use Rattle.am_names.specs.declared.row.OpenToken.{OpenToken}
 use Rattle.am_names.specs.declared.row.WaitRow.{WaitRow}
+use Rattle.am_names.proofs.Basics.{equal_to_itself}
 use Rattle.am_wait.specs.Rows.{WaitRows, token_of, wait_of}
 use Rattle.am_wait.specs.Calls.{answered, released_row}
 use Rattle.am_wait.proofs.FindLemmas.{token_taken}
@@ -19,7 +20,6 @@ use Rattle.am_job.specs.Laws.{AcknowledgesLast}
 use Rattle.am_daemon.specs.State.{JobPlan}
 use Rattle.am_daemon.specs.Acts.{walked}
 use Rattle.am_daemon.specs.Deliveries.{job_of, job_for}
-use Rattle.am_laws.proofs.Packets.{nat_same}
 use Rattle.am_machine.specs.declared.event.Event.TheVariants as events
 use Rattle.am_machine.specs.declared.answer.Answer.{Answer}
 use Rattle.am_machine.specs.State.{State}
@@ -27,12 +27,12 @@ use Rattle.am_machine.specs.Outcome.{Outcome}
 use Rattle.am_machine.specs.Machine.{after, outcome_of}
 use Rattle.am_machine.specs.Invariant.Tokens.{IsAtWork}
 use Rattle.am_machine.specs.Invariant.Books.{IsServed}
-use Rattle.am_machine.proofs.TraceRows.{some_is}
-use Rattle.am_machine.proofs.TokenLists.{all_found}
-use Rattle.am_machine.proofs.TokenClose.{token_number, dev_of}
-use Rattle.am_machine.proofs.GivenPlans.{acknowledges, goes_after}
-use Rattle.am_machine.proofs.BookFound.{find_new}
-use Rattle.am_machine.proofs.AgreeTokens.{in_pipe}
+use Rattle.am_machine.proofs.Lists.Counts.{some_is}
+use Rattle.am_machine.proofs.Lists.Different.{all_found}
+use Rattle.am_machine.proofs.Tokens.Catatonic.{token_number, dev_of}
+use Rattle.am_machine.proofs.Planned.Acts.{acknowledges, goes_after}
+use Rattle.am_machine.proofs.Lists.Found.{find_new}
+use Rattle.am_machine.proofs.Agreement.Tokens.{in_pipe}
 use Rattle.am_progress.specs.Runs.{IsDone, is_refused, next}
 use Rattle.am_progress.specs.Acts.{TellsOf, HasActs, most_acts, goes_on_as}
 use Rattle.am_progress.specs.Ways.{LeadsTo, CanReach}
@@ -114,7 +114,7 @@ released_by : (walker token : ℕ) (status : Status) (x row : WaitRow) (rows : L
     cond b (Some x) (wait_of rows walker) ≡ Some row → cond b (Some (released_row token status x)) (wait_of (map (released_row token status) rows) walker) ≡ Some (record row { status = Some status })
 released_by walker token status x row rows true same is on later e =
     let its : x ≡ row = cc in
-    let here : (row.token == token) ≡ true = subst (λ (n : ℕ). (row.token == n) ≡ true) on (nat_same row.token) in
+    let here : (row.token == token) ≡ true = subst (λ (n : ℕ). (row.token == n) ≡ true) on (equal_to_itself row.token) in
     ap (λ (r : WaitRow). Some (released_row token status r)) its ∙ ap (λ (b : Bool). Some (if b then record row { status = Some status } else row)) here
 released_by walker token status x row rows false same is on later e = later e
 
@@ -131,7 +131,7 @@ released_is walker token status (x ∷ rows) row e on =
 
 answers_all : (old : State) (token : ℕ) (status : Status) (new : State) → new.kernel.waits ≡ answered token status old.kernel.waits → HasReleased old token new
 answers_all old token status new same = record {
-  closed = ap (λ (w : WaitRows). token_of w.tokens token) same ∙ token_taken token old.kernel.waits.tokens token true (nat_same token);
+  closed = ap (λ (w : WaitRows). token_of w.tokens token) same ∙ token_taken token old.kernel.waits.tokens token true (equal_to_itself token);
   status = status;
   released = λ walker row is on still. ap (λ (w : WaitRows). wait_of w.waits walker) same ∙ released_is walker token status old.kernel.waits.waits row is on;
 }
@@ -207,7 +207,7 @@ takes_packet s world fs attach served token row is same queued in_queue =
     let t = taken s world fs attach served token queued in_queue dev in
     let event = events.Deliver token None in
     let job = job_for queued.attach queued.packet s.daemon in
-    let its : (job.token == token) ≡ true = subst (λ (n : ℕ). (queued.packet.token == n) ≡ true) t.numbered (nat_same queued.packet.token) in
+    let its : (job.token == token) ≡ true = subst (λ (n : ℕ). (queued.packet.token == n) ≡ true) t.numbered (equal_to_itself queued.packet.token) in
     record {
       done = ap (λ (o : Outcome). is_refused o.answer) t.alone;
       job = job;

@@ -10,6 +10,7 @@ use Rattle.am_names.specs.declared.row.MountRow.{MountRow}
 use Rattle.am_names.specs.declared.row.OpenToken.{OpenToken}
 use Rattle.am_names.specs.declared.row.TokenKind.{TokenKind}
 use Rattle.am_names.specs.declared.row.TokenKind.TheVariants.{Missing, Expire}
+use Rattle.am_names.proofs.Basics.{equal_by_test}
 use Rattle.am_mount.specs.Rows.{top_of}
 use Rattle.am_trigger.specs.declared.failures.Failure.{Failure}
 use Rattle.am_trigger.specs.Failures.{FailureRows, failure_of, without_failure, error_while}
@@ -24,13 +25,12 @@ use Rattle.am_walk.specs.Scene.{Scene, autofs_at}
 use Rattle.am_kernel.specs.Previews.{is_trigger_of}
 use Rattle.am_kernel.specs.Sites.{is_live_row, attach_of, scene_of}
 use Rattle.am_kernel.specs.DaemonMounts.{location_in, location_of, mounted_on}
-use Rattle.am_laws.proofs.Packets.{nat_is}
 use Rattle.am_machine.specs.State.{State}
-use Rattle.am_machine.proofs.TraceRows.{found_passes}
-use Rattle.am_machine.proofs.StandKeeps.{attached_autofs}
-use Rattle.am_machine.proofs.StandMounts.{trigger_same}
+use Rattle.am_machine.proofs.Lists.Counts.{found_passes}
+use Rattle.am_machine.proofs.Stands.Unchanged.{attached_autofs}
+use Rattle.am_machine.proofs.Stands.Mounts.{trigger_same}
 use Rattle.am_progress.proofs.Found.{live_of}
-use Rattle.am_progress.proofs.SiteWalks.{IsSite}
+use Rattle.am_progress.proofs.Triggers.Walks.{IsSite}
 use Rattle.am_progress.proofs.Worlds.{IsWorld}
 
 find_none : {X : Type 0} (test : X → Bool) (rows : List X) → All (λ (x : X). test x ≡ false) rows → find test rows ≡ None
@@ -85,7 +85,7 @@ notifies s world attach g current site off free well moment =
     let here : location_of k g.fs ≡ a.location = ap location_in is in
     let at : autofs_at scene a.location ≡ Some a =
     ap (λ (o : Option MountRow). option_and_then (λ fs. autofs_of k.triggers fs) (option_map (λ (r : MountRow). r.fs) o)) place.is_row ∙ ap (autofs_of k.triggers) place.fs ∙ is in
-    let same : a.fs ≡ g.fs = nat_is a.fs g.fs (found_passes (λ (r : Autofs). r.fs == g.fs) k.triggers.autofs a is) in
+    let same : a.fs ≡ g.fs = equal_by_test a.fs g.fs (found_passes (λ (r : Autofs). r.fs == g.fs) k.triggers.autofs a is) in
     let trigger : trigger_in a (place_of g) ≡ Some g = trigger_by a g g.name a.direct refl refl same (sym (ap (λ (o : Option Autofs). is_trigger_of o g) is) ∙ site) in
     let live : is_live_row (Some a) ≡ true = sym (ap is_live_row is) ∙ live_of k g.fs attach current in
     ap (λ (n : ℕ). next_at scene n (place_of g)) here

@@ -12,6 +12,7 @@ use Rattle.am_names.specs.declared.row.OpenToken.{OpenToken}
 use Rattle.am_names.specs.declared.row.WaitRow.{WaitRow}
 use Rattle.am_names.specs.declared.row.TokenKind.{TokenKind}
 use Rattle.am_names.specs.declared.row.TokenKind.TheVariants.{Missing, Expire}
+use Rattle.am_names.proofs.Basics.{equal_to_itself, equal_by_test}
 use Rattle.am_trigger.specs.declared.autofs.Autofs.{Autofs}
 use Rattle.am_wait.specs.Rows.{token_of, wait_of}
 use Rattle.am_wait.specs.Calls.{failed_row}
@@ -29,18 +30,17 @@ use Rattle.am_kernel.specs.Attachments.{autofs_refusal, closed_if_live, closing_
 use Rattle.am_kernel.specs.Walks as walks
 use Rattle.am_kernel.specs.Walks.{closed}
 use Rattle.am_kernel.specs.Resumes as resumes
-use Rattle.am_laws.proofs.Packets.{nat_is, nat_same}
 use Rattle.am_machine.specs.declared.event.Event.TheVariants as events
 use Rattle.am_machine.specs.declared.answer.Answer.TheVariants as answers
 use Rattle.am_machine.specs.State.{State}
 use Rattle.am_machine.specs.Outcome.{Outcome, unless, with_kernel}
 use Rattle.am_machine.specs.Machine.{after, outcome_of}
 use Rattle.am_machine.specs.Events.Walkers.{answer_of, goes}
-use Rattle.am_machine.proofs.TraceRows.{some_is, found_passes}
-use Rattle.am_machine.proofs.TokenLists.{all_found}
-use Rattle.am_machine.proofs.StandKeeps.{attached_autofs}
-use Rattle.am_machine.proofs.AgreeTokens.{in_pipe}
-use Rattle.am_machine.proofs.InStep.{in_step}
+use Rattle.am_machine.proofs.Lists.Counts.{some_is, found_passes}
+use Rattle.am_machine.proofs.Lists.Different.{all_found}
+use Rattle.am_machine.proofs.Stands.Unchanged.{attached_autofs}
+use Rattle.am_machine.proofs.Agreement.Tokens.{in_pipe}
+use Rattle.am_machine.proofs.InStep.States.{in_step}
 use Rattle.am_progress.specs.Runs.{is_refused, next}
 use Rattle.am_progress.specs.Acts.{most_acts}
 use Rattle.am_progress.specs.Walkers.{CanResume, CanBeBroughtOn, WalkersCanGoOn, WaitingWalkersCanGoOn}
@@ -105,7 +105,7 @@ resumes_by pipe k walker moment row status out is its walks =
     subst Goes (sym same) (resumed_walk (resumes.walk_in k.walks row.walker) status pipe k row moment walks)
 
 wait_number : (w : List WaitRow) (walker : ℕ) (row : WaitRow) → wait_of w walker ≡ Some row → row.walker ≡ walker
-wait_number w walker row is = nat_is row.walker walker (found_passes (λ (r : WaitRow). r.walker == walker) w row is)
+wait_number w walker row is = equal_by_test row.walker walker (found_passes (λ (r : WaitRow). r.walker == walker) w row is)
 
 -- its resume is answered
 pub resumes_on : (s : State) → IsWorld s → (walker : ℕ) (row : WaitRow) (status : Status) → wait_of s.kernel.waits.waits walker ≡ Some row → row.status ≡ Some status → CanResume walker s
@@ -172,7 +172,7 @@ failed_by : (walker fs : ℕ) (x row : WaitRow) (rows : List WaitRow) (b : Bool)
     cond b (Some x) (wait_of rows walker) ≡ Some row → cond b (Some (failed_row fs x)) (wait_of (map (failed_row fs) rows) walker) ≡ Some (record row { status = Some (Fail ENOENT) })
 failed_by walker fs x row rows true on still later e =
     let its : x ≡ row = cc in
-    let here : (row.trigger.fs == fs) ≡ true = subst (λ (n : ℕ). (row.trigger.fs == n) ≡ true) on (nat_same row.trigger.fs) in
+    let here : (row.trigger.fs == fs) ≡ true = subst (λ (n : ℕ). (row.trigger.fs == n) ≡ true) on (equal_to_itself row.trigger.fs) in
     ap (λ (r : WaitRow). Some (failed_row fs r)) its
     ∙ ap (λ (b : Bool). Some (if b && is_none row.status then record row { status = Some (Fail ENOENT) } else row)) here
     ∙ ap (λ (o : Option Status). Some (if is_none o then record row { status = Some (Fail ENOENT) } else row)) still

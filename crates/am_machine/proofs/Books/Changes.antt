@@ -25,15 +25,15 @@ use Rattle.am_machine.specs.Invariant.Tokens.{TokensAgree}
 use Rattle.am_machine.specs.Invariant.Planned.{IsPlanned, ArePlanned}
 use Rattle.am_machine.specs.Invariant.Traces.{AreDifferent}
 use Rattle.am_machine.specs.Invariant.Books.{BookAgrees}
-use Rattle.am_machine.proofs.TokenLists.{all_found}
-use Rattle.am_machine.proofs.BookNarrows.{Narrows, narrowed, same_attachments, stays, one_after_another, narrows_latest, timeout_narrows, closed_narrows}
-use Rattle.am_machine.proofs.BookActs.{IsJob, goes_on_kept, goes_on_written}
-use Rattle.am_machine.proofs.BookDeliver.{may_take, taken_kept}
-use Rattle.am_machine.proofs.BookAttach.{attached_kept, dead_kept, reattached_kept}
+use Rattle.am_machine.proofs.Lists.Different.{all_found}
+use Rattle.am_machine.proofs.Books.Unchanged.{Narrows, narrowed, same_attachments, stays, one_after_another, narrows_latest, timeout_narrows, closed_narrows}
+use Rattle.am_machine.proofs.Books.Acts.{IsJob, goes_on_kept, goes_on_written}
+use Rattle.am_machine.proofs.Books.Deliver.{may_take, taken_kept}
+use Rattle.am_machine.proofs.Books.Attach.{attached_kept, dead_kept, reattached_kept}
 use Rattle.am_machine.proofs.Tour.Walks as tour
 use Rattle.am_machine.proofs.Tour.Walks.{AnyPath}
 use Rattle.am_machine.proofs.Tour.Events as tours
-use Rattle.am_machine.proofs.Tour.Events.{with_half, going, IsNext, any_paths}
+use Rattle.am_machine.proofs.Tour.Events.{with_half, going, IsNext, any_event, AnyJob}
 
 -- ---- what walkers do
 
@@ -79,7 +79,7 @@ goes s shown row outcome k is none n = record {
   book = λ given planned differ h. narrowed s.kernel k (finished row.token outcome s.daemon) n (goes_on_kept s.kernel s.daemon row outcome (its_job s row is planned differ) none h);
 }
 
-book : tours.Keeps AnyPath NarrowsBy BookStays
+book : tours.Keeps AnyPath AnyJob NarrowsBy BookStays
 book = record {
   same = λ s. record { book = λ given planned differ h. h };
   attached = λ s path point at is fresh may. record { book = λ given planned differ h. attached_kept s.kernel s.daemon point.direct (line_timeout s.daemon point.entry) at path given h };
@@ -115,7 +115,7 @@ book = record {
 
 -- an outcome leaves the book right
 pub outcome_book : (s : State) (event : Event) → AreGiven s.kernel s.daemon → TokensAgree s.kernel s.daemon.jobs → ArePlanned s.daemon.jobs → BookAgrees s.kernel s.daemon → BookAgrees (after s (outcome_of s event)).kernel (after s (outcome_of s event)).daemon
-outcome_book s event given tokens planned h = (tours.outcome AnyPath NarrowsBy BookStays book s event (any_paths s event)).well.book given planned tokens.numbers h
+outcome_book s event given tokens planned h = (tours.outcome AnyPath AnyJob NarrowsBy BookStays book s event (any_event s event)).well.book given planned tokens.numbers h
 
 -- in the initial world nothing is served, and nothing is written down
 pub initial_book : (opening : Opening) → BookAgrees (opening_of opening).kernel (opening_of opening).daemon

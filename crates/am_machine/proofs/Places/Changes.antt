@@ -40,17 +40,17 @@ use Rattle.am_machine.specs.State.{State}
 use Rattle.am_machine.specs.Machine.{after, outcome_of}
 use Rattle.am_machine.specs.Invariant.Places.{PlacesAgree}
 use Rattle.am_machine.proofs.Tests.{else_none, first_none, others_none, not_false, none_of}
-use Rattle.am_machine.proofs.SiteKeeps.{Keeps, keeps_all, keeps_then, keeps_latest, marked_sites}
-use Rattle.am_machine.proofs.PlaceKeeps.{kept_places}
-use Rattle.am_machine.proofs.PlaceGrown.{mounted_places, mounted_here}
-use Rattle.am_machine.proofs.PlaceUmounts.{plain_places, dropped_places, daemons_places}
-use Rattle.am_machine.proofs.PlaceCopies.{copied_places, changed_places}
-use Rattle.am_machine.proofs.PlaceInside.{position_inside}
-use Rattle.am_machine.proofs.PlaceAttached.{attached_places}
+use Rattle.am_machine.proofs.Places.Sites.{Keeps, keeps_all, keeps_then, keeps_latest, marked_sites}
+use Rattle.am_machine.proofs.Places.Unchanged.{kept_places}
+use Rattle.am_machine.proofs.Places.Grown.{mounted_places, mounted_here}
+use Rattle.am_machine.proofs.Places.Umounts.{plain_places, dropped_places, daemons_places}
+use Rattle.am_machine.proofs.Places.Copies.{copied_places, changed_places}
+use Rattle.am_machine.proofs.Places.Paths.{position_inside}
+use Rattle.am_machine.proofs.Places.Attach.{attached_places}
 use Rattle.am_machine.proofs.Tour.Walks as tour
 use Rattle.am_machine.proofs.Tour.Walks.{AnyPath}
 use Rattle.am_machine.proofs.Tour.Events as tours
-use Rattle.am_machine.proofs.Tour.Events.{IsUnmounted, any_paths}
+use Rattle.am_machine.proofs.Tour.Events.{IsUnmounted, any_event, AnyJob}
 
 -- ---- what walkers do changes no mount, and of an autofs just whether it is catatonic
 
@@ -215,7 +215,7 @@ unmounts_from s row trigger m u h =
 
 -- ---- events
 
-places : tours.Keeps AnyPath KeepsBy StaysPlaced
+places : tours.Keeps AnyPath AnyJob KeepsBy StaysPlaced
 places = record {
   same = λ s. quietly s _ s (keeps_all s.kernel);
   attached = λ s path point at is fresh may. record { holds = attach_at s.kernel path at point.direct (line_timeout s.daemon point.entry) is may };
@@ -243,7 +243,7 @@ places = record {
 }
 
 outcome_placed : (s : State) (event : Event) → PlacesAgree s.kernel → Placed s.kernel (after s (outcome_of s event)).kernel
-outcome_placed s event h = (tours.outcome AnyPath KeepsBy StaysPlaced places s event (any_paths s event)).well.holds h
+outcome_placed s event h = (tours.outcome AnyPath AnyJob KeepsBy StaysPlaced places s event (any_event s event)).well.holds h
 
 -- an outcome leaves the agreement on places
 pub outcome_places : (s : State) (event : Event) → PlacesAgree s.kernel → PlacesAgree (after s (outcome_of s event)).kernel

@@ -45,28 +45,28 @@ use Rattle.am_machine.specs.Invariant.Places.{PlacesAgree}
 use Rattle.am_machine.specs.Invariant.Books.{BookAgrees}
 use Rattle.am_machine.specs.Invariant.Stands.{StandsAgree, OnTriggers}
 use Rattle.am_machine.proofs.Tests.{else_none, first_none, others_none, not_false, none_of}
-use Rattle.am_machine.proofs.GivenCurrent.{attach_from_current}
-use Rattle.am_machine.proofs.SiteKeeps.{Keeps, keeps_all, keeps_latest}
-use Rattle.am_machine.proofs.PlaceInside.{position_inside}
-use Rattle.am_machine.proofs.BookNarrows.{Narrows, same_attachments, stays, narrows_latest, timeout_narrows, closed_narrows}
-use Rattle.am_machine.proofs.BookDeliver.{may_take}
-use Rattle.am_machine.proofs.StandKeeps.{Knows, Still, kept_still, attached_autofs, stands_still, on_still}
-use Rattle.am_machine.proofs.StandTops.{none_there}
-use Rattle.am_machine.proofs.StandPlain.{mounted_still, copied_still, plain_still, dropped_still}
-use Rattle.am_machine.proofs.StandJobs.{MovesNothing, mounts, unmounts, claims_record}
-use Rattle.am_machine.proofs.StandActs.{goes_plainly, goes_moved, goes_written}
-use Rattle.am_machine.proofs.StandMounts.{mounted_others, mounted_here, mounted_on_triggers}
-use Rattle.am_machine.proofs.StandUmounts.{unmounted_others, unmounted_here, unmounted_on_triggers}
-use Rattle.am_machine.proofs.StandDeliver.{taken_stands}
-use Rattle.am_machine.proofs.StandAttach.{attached_stands, attached_on_triggers, dead_stands}
-use Rattle.am_machine.proofs.StandReattach.{pipe_still, reattached_stands}
+use Rattle.am_machine.proofs.Attachments.Current.{attach_from_current}
+use Rattle.am_machine.proofs.Places.Sites.{Keeps, keeps_all, keeps_latest}
+use Rattle.am_machine.proofs.Places.Paths.{position_inside}
+use Rattle.am_machine.proofs.Books.Unchanged.{Narrows, same_attachments, stays, narrows_latest, timeout_narrows, closed_narrows}
+use Rattle.am_machine.proofs.Books.Deliver.{may_take}
+use Rattle.am_machine.proofs.Stands.Unchanged.{Knows, Still, kept_still, attached_autofs, stands_still, on_still}
+use Rattle.am_machine.proofs.Stands.Tops.{none_there}
+use Rattle.am_machine.proofs.Stands.Administrator.{mounted_still, copied_still, plain_still, dropped_still}
+use Rattle.am_machine.proofs.Stands.Jobs.{MovesNothing, mounts, unmounts, claims_record}
+use Rattle.am_machine.proofs.Stands.Acts.{goes_plainly, goes_moved, goes_written}
+use Rattle.am_machine.proofs.Stands.Mounts.{mounted_others, mounted_here, mounted_on_triggers}
+use Rattle.am_machine.proofs.Stands.Umounts.{unmounted_others, unmounted_here, unmounted_on_triggers}
+use Rattle.am_machine.proofs.Stands.Deliver.{taken_stands}
+use Rattle.am_machine.proofs.Stands.Attach.{attached_stands, attached_on_triggers, dead_stands}
+use Rattle.am_machine.proofs.Stands.Reattach.{pipe_still, reattached_stands}
 use Rattle.am_machine.proofs.Books.Changes as books
 use Rattle.am_machine.proofs.Books.Changes.{NarrowsBy, its_job}
 use Rattle.am_machine.proofs.Places.Changes as places
 use Rattle.am_machine.proofs.Places.Changes.{KeepsBy, closes}
 use Rattle.am_machine.proofs.Tour.Walks.{AnyPath, Both, both}
 use Rattle.am_machine.proofs.Tour.Events as tours
-use Rattle.am_machine.proofs.Tour.Events.{with_half, going, attached, IsNext, IsTaken, IsUnmounted, any_paths}
+use Rattle.am_machine.proofs.Tour.Events.{with_half, going, attached, IsNext, IsTaken, IsUnmounted, any_event, AnyJob}
 
 -- ---- what an event leaves
 
@@ -147,13 +147,13 @@ other_ns ns h same = let no : true ≡ false = sym (eq-eqb ns 0 same) ∙ h in c
 -- ---- a job goes on
 
 -- by an act that mounts and unmounts nothing, and writes nothing
-plainly : (s : State) (shown : List Obs) (row : JobPlan) (outcome : job.Outcome) (k : KernelState) (a : Act) → IsNext s row a → writes (Some a) ≡ None → MovesNothing (Some a) outcome → Narrows s.kernel k → Keeps s.kernel k → StaysKnown s shown (going row outcome k s)
+plainly : (s : State) (shown : List Obs) (row : JobPlan) (outcome : job.Outcome) (k : KernelState) (a : Act) → IsNext AnyJob s row a → writes (Some a) ≡ None → MovesNothing (Some a) outcome → Narrows s.kernel k → Keeps s.kernel k → StaysKnown s shown (going row outcome k s)
 plainly s shown row outcome k a i none moves n keeps = record {
   sites = λ w. on_still s.kernel k (kept_still s.kernel k keeps) w.on;
   stands = λ w h. goes_plainly s.kernel k s.daemon row outcome n (kept_still s.kernel k keeps) (its_job s row i.is w.planned w.differ) (ap writes i.next ∙ none) (subst (λ (o : Option Act). MovesNothing o outcome) (sym i.next) moves) w.book h;
 }
 
-mounts_on : (s : State) (row : JobPlan) (trigger : Trigger) (entry : EntryText) → IsNext s row (act.Mount trigger entry) → mount_on_refusal s.kernel row.attach trigger ≡ None →
+mounts_on : (s : State) (row : JobPlan) (trigger : Trigger) (entry : EntryText) → IsNext AnyJob s row (act.Mount trigger entry) → mount_on_refusal s.kernel row.attach trigger ≡ None →
     StaysKnown s (seen.Mounted (coming s.kernel (location_of s.kernel trigger.fs)) ∷ []) (going row (came.Made (s.kernel.table.last_mount + 1)) (with_mount_on trigger s.kernel) s)
 mounts_on s row trigger entry i may = record {
   sites = λ w.
@@ -182,7 +182,7 @@ mounts_on s row trigger entry i may = record {
       }) w.book h;
 }
 
-unmounts_from : (s : State) (row : JobPlan) (trigger : Trigger) (m : ℕ) → IsNext s row (act.Umount trigger) → IsUnmounted s row trigger m → Holds s → Knows s.kernel s.daemon →
+unmounts_from : (s : State) (row : JobPlan) (trigger : Trigger) (m : ℕ) → IsNext AnyJob s row (act.Umount trigger) → IsUnmounted s row trigger m → Holds s → Knows s.kernel s.daemon →
     Knows (without_mounts (gone_with s.kernel (Some m)) s.kernel) (finished row.token came.Done s.daemon)
 unmounts_from s row trigger m i u w h =
     let k = s.kernel in
@@ -216,7 +216,7 @@ takes s token row taken =
 
 -- ---- events
 
-stand : tours.Keeps AnyPath (Both NarrowsBy KeepsBy) StaysKnown
+stand : tours.Keeps AnyPath AnyJob (Both NarrowsBy KeepsBy) StaysKnown
 stand = record {
   same = λ s. record { stands = λ w h. h; sites = λ w. w.on };
   attached = λ s path point at is fresh may. attaches s path point.direct (line_timeout s.daemon point.entry) at is may;
@@ -250,7 +250,7 @@ stand = record {
 pub outcome_stands : (s : State) (event : Event) → AreGiven s.kernel s.daemon → TokensAgree s.kernel s.daemon.jobs → ArePlanned s.daemon.jobs → PlacesAgree s.kernel → BookAgrees s.kernel s.daemon → StandsAgree s.kernel s.daemon →
     StandsAgree (after s (outcome_of s event)).kernel (after s (outcome_of s event)).daemon
 outcome_stands s event given tokens planned places book h =
-    let keeps = (tours.outcome AnyPath (Both NarrowsBy KeepsBy) StaysKnown stand s event (any_paths s event)).well in
+    let keeps = (tours.outcome AnyPath AnyJob (Both NarrowsBy KeepsBy) StaysKnown stand s event (any_event s event)).well in
     let others : Holds s = record { given = given; planned = planned; differ = tokens.numbers; places = places; book = book; on = h.on_triggers } in
     let before : Knows s.kernel s.daemon = record { at_work = h.at_work; settled = h.settled } in
     let now = keeps.stands others before in

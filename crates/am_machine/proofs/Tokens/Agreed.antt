@@ -16,11 +16,11 @@ use Rattle.am_machine.specs.Invariant.Attachments.{AreGiven}
 use Rattle.am_machine.specs.Invariant.Tokens.{TokensAgree}
 use Rattle.am_machine.specs.Invariant.Planned.{ArePlanned}
 use Rattle.am_machine.specs.Invariant.Records.{AreOfTheirTokens}
-use Rattle.am_machine.proofs.GivenRows.{given_more, given_closed}
-use Rattle.am_machine.proofs.TokenStays.{bare, Stays, stays_agree}
-use Rattle.am_machine.proofs.TokenClose.{closed_agree}
-use Rattle.am_machine.proofs.TokenNotify.{AreNumbered}
-use Rattle.am_machine.proofs.RecordTokens.{later_records, stays_later, closed_later}
+use Rattle.am_machine.proofs.Attachments.Rows.{given_more, given_closed}
+use Rattle.am_machine.proofs.Tokens.Unchanged.{bare, Stays, stays_agree}
+use Rattle.am_machine.proofs.Tokens.Catatonic.{closed_agree}
+use Rattle.am_machine.proofs.Tokens.Notify.{AreNumbered}
+use Rattle.am_machine.proofs.Records.Tokens.{later_records, stays_later, closed_later}
 
 pub record Agreed (k : KernelState) (d : DaemonState) : Type 0 where
   pub given : AreGiven k d

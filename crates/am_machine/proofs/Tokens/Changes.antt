@@ -12,10 +12,10 @@ use Rattle.am_job.specs.Book.{without_fs}
 use Rattle.am_daemon.specs.State.{DaemonState, JobPlan}
 use Rattle.am_machine.specs.State.{State}
 use Rattle.am_machine.specs.Invariant.Records.{IsOfItsToken}
-use Rattle.am_machine.proofs.GivenSites.{attached_grows, pipe_grows, timeout_grows}
-use Rattle.am_machine.proofs.GivenRows.{given_attached, given_reattached, given_timeout, given_more}
-use Rattle.am_machine.proofs.TokenStays.{stays_agree}
-use Rattle.am_machine.proofs.RecordTokens.{mounted_fits, later_records, answered_later, taken_fits, finished_fits}
+use Rattle.am_machine.proofs.Attachments.Grows.{attached_grows, pipe_grows, timeout_grows}
+use Rattle.am_machine.proofs.Attachments.Rows.{given_attached, given_reattached, given_timeout, given_more}
+use Rattle.am_machine.proofs.Tokens.Unchanged.{stays_agree}
+use Rattle.am_machine.proofs.Records.Tokens.{mounted_fits, later_records, answered_later, taken_fits, finished_fits}
 use Rattle.am_names.specs.declared.trigger.Status.{Status}
 use Rattle.am_wire.specs.Kind.{token_kind}
 use Rattle.am_state.specs.declared.kernel_row.QueuedRow.{QueuedRow}
@@ -29,16 +29,16 @@ use Rattle.am_daemon.specs.Deliveries.{job_for}
 use Rattle.am_machine.specs.Events.Deliveries as deliveries
 use Rattle.am_machine.specs.Invariant.Tokens.{IsInPipe}
 use Rattle.am_machine.specs.Invariant.Planned.{IsPlanned}
-use Rattle.am_machine.proofs.GivenActs.{given_taken, given_finished}
-use Rattle.am_machine.proofs.PlanRests.{plan_rest}
-use Rattle.am_machine.proofs.GivenPlans.{acknowledges, goes_after, ends_after, finished_planned}
-use Rattle.am_machine.proofs.TokenLists.{all_found}
-use Rattle.am_machine.proofs.TokenDeliver.{taken_agree}
-use Rattle.am_machine.proofs.TokenActs.{goes_agree, ends_agree}
+use Rattle.am_machine.proofs.Attachments.Acts.{given_taken, given_finished}
+use Rattle.am_machine.proofs.Planned.Rests.{plan_rest}
+use Rattle.am_machine.proofs.Planned.Acts.{acknowledges, goes_after, ends_after, finished_planned}
+use Rattle.am_machine.proofs.Lists.Different.{all_found}
+use Rattle.am_machine.proofs.Tokens.Deliver.{taken_agree}
+use Rattle.am_machine.proofs.Tokens.Acts.{goes_agree, ends_agree}
 use Rattle.am_machine.specs.declared.event.Event.{Event}
 use Rattle.am_machine.specs.Machine.{after, outcome_of}
 use Rattle.am_machine.specs.Invariant.Consistent.{IsTraced}
-use Rattle.am_machine.proofs.TokenNotify.{AreNumbered, numbered}
+use Rattle.am_machine.proofs.Tokens.Notify.{AreNumbered, numbered}
 use Rattle.am_names.specs.declared.row.Position.{Position}
 use Rattle.am_kernel.specs.Outcome.{with_latest}
 use Rattle.am_kernel.specs.Sites.{is_live}
@@ -53,7 +53,7 @@ use Rattle.am_machine.proofs.Tokens.Agreed.{Agreed, Holds, IsQuiet, quiet_agreed
 use Rattle.am_machine.proofs.Tokens.Walks.{HoldsBy, holds}
 use Rattle.am_machine.proofs.Tour.Walks.{AnyPath}
 use Rattle.am_machine.proofs.Tour.Events as tours
-use Rattle.am_machine.proofs.Tour.Events.{with_half, going, IsNext, IsTaken, any_paths}
+use Rattle.am_machine.proofs.Tour.Events.{with_half, going, IsNext, IsTaken, any_event, AnyJob}
 
 record Keeps (s : State) (shown : List Obs) (t : State) : Type 0 where
   keeps : AreNumbered s.kernel.waits.tokens s.kernel.waits.last_token s.daemon.jobs → Agreed s.kernel s.daemon → Agreed t.kernel t.daemon
@@ -144,7 +144,7 @@ takes s token row taken = record {
       };
 }
 
-goes_keeps : (s : State) (row : JobPlan) (a : Act) (outcome : job.Outcome) (shown : List Obs) (k : KernelState) → IsNext s row a → acknowledges a ≡ false → IsQuiet s.kernel k → Keeps s shown (going row outcome k s)
+goes_keeps : (s : State) (row : JobPlan) (a : Act) (outcome : job.Outcome) (shown : List Obs) (k : KernelState) → IsNext AnyJob s row a → acknowledges a ≡ false → IsQuiet s.kernel k → Keeps s shown (going row outcome k s)
 goes_keeps s row a outcome shown k i other q = record {
   keeps = λ n h.
       let jobs = s.daemon.jobs in
@@ -159,7 +159,7 @@ goes_keeps s row a outcome shown k i other q = record {
 }
 
 -- it acknowledges, and ends
-replies : (s : State) (row : JobPlan) (status : Status) → IsNext s row (act.Reply status) → Keeps s (answering row.token status s.kernel) (going row came.Done (acknowledged row.token status s.kernel) s)
+replies : (s : State) (row : JobPlan) (status : Status) → IsNext AnyJob s row (act.Reply status) → Keeps s (answering row.token status s.kernel) (going row came.Done (acknowledged row.token status s.kernel) s)
 replies s row status i = record {
   keeps = λ n h.
       let jobs = s.daemon.jobs in
@@ -175,7 +175,7 @@ replies s row status i = record {
 
 -- ---- events
 
-agreed : tours.Keeps AnyPath HoldsBy Keeps
+agreed : tours.Keeps AnyPath AnyJob HoldsBy Keeps
 agreed = record {
   same = λ s. record { keeps = λ n h. h };
   attached = λ s path point at is fresh may. record { keeps = λ n h. attached_keeps point.direct (line_timeout s.daemon point.entry) s.kernel at path s.daemon h };
@@ -204,4 +204,4 @@ agreed = record {
 
 -- an outcome keeps the numbers, the tokens and the plans together
 pub outcome_agreed : (s : State) (event : Event) → IsTraced s → Agreed s.kernel s.daemon → Agreed (after s (outcome_of s event)).kernel (after s (outcome_of s event)).daemon
-outcome_agreed s event traced h = (tours.outcome AnyPath HoldsBy Keeps agreed s event (any_paths s event)).well.keeps (numbered s.kernel s.daemon.jobs s.trace traced.fits) h
+outcome_agreed s event traced h = (tours.outcome AnyPath AnyJob HoldsBy Keeps agreed s event (any_event s event)).well.keeps (numbered s.kernel s.daemon.jobs s.trace traced.fits) h

@@ -1,8 +1,8 @@
 -- What walkers do keeps what kernel and daemon agree on.
 use Rattle.std.proofs.Common.{◌≡◌, ℕ, ◌+◌, Bool, true, false, not, ◌&&◌, ◌==◌, List, [], ◌∷◌, Option, Some, None, refl, ap, subst, ◌∙◌, inl, arith, sym}
-use Rattle.std.specs.Prelude.{is_some, find}
+use Rattle.std.specs.Prelude.{is_some}
 use Rattle.std.specs.Option.{option_map}
-use Rattle.std.proofs.lemmas.List.Elements.{filter_passes}
+use Rattle.std.proofs.lemmas.List.Elements.{filter_passes, All-weaker}
 use Rattle.am_names.specs.Trigger.{same_trigger}
 use Rattle.am_names.specs.declared.trigger.Trigger.{Trigger}
 use Rattle.am_names.specs.declared.row.OpenToken.{OpenToken}
@@ -13,27 +13,27 @@ use Rattle.am_wait.specs.Rows.{WaitRows, token_of, is_open_on, same_kind, open_o
 use Rattle.am_wait.specs.Calls.{joined_on}
 use Rattle.am_wait.proofs.CallLemmas.{is_none_of}
 use Rattle.am_wait.proofs.FindLemmas.{joined_if, token_joined}
-use Rattle.am_expire.specs.Pick.{Expiry, is_due, is_open, may_go, mount_on, is_eligible, candidates, is_first, pick_of}
+use Rattle.am_expire.specs.Pick.{Expiry, is_due, is_open, may_go, mount_on, is_eligible, candidates, pick_of}
 use Rattle.am_walk.specs.Laws.{IsIdle}
 use Rattle.am_kernel.specs.declared.begun.Begin.{Begin}
 use Rattle.am_kernel.specs.State.{KernelState}
 use Rattle.am_kernel.specs.Walks as walks
 use Rattle.am_kernel.specs.Walks.{packet_for}
 use Rattle.am_kernel.specs.Expires as expires
-use Rattle.am_laws.proofs.Bools.{and_both, or_no}
-use Rattle.am_laws.proofs.Packets.{nat_is}
-use Rattle.am_machine.proofs.GivenRows.{given_more}
-use Rattle.am_machine.proofs.TokenLists.{all_found, found_none}
-use Rattle.am_machine.proofs.TokenStays.{bare, stays_agree}
-use Rattle.am_machine.proofs.TokenNotify.{notices_agree, AreNumbered}
-use Rattle.am_machine.proofs.RecordTokens.{later_records, stays_later, opened_later}
+use Rattle.am_machine.proofs.Attachments.Rows.{given_more}
+use Rattle.am_machine.proofs.Lists.Different.{all_found, found_none}
+use Rattle.am_machine.proofs.Tokens.Unchanged.{bare, stays_agree}
+use Rattle.am_machine.proofs.Tokens.Notify.{notices_agree, AreNumbered}
+use Rattle.am_machine.proofs.Records.Tokens.{later_records, stays_later, opened_later}
 use Rattle.am_names.specs.declared.row.WaitRow.{WaitRow}
 use Rattle.am_kernel.specs.Resumes as resumes
 use Rattle.am_names.specs.declared.row.WaitRow.{WaitRow}
+use Rattle.am_names.proofs.Basics.{neither_of_or, both_of_and, equal_by_test}
 use Rattle.am_kernel.specs.Sites.{attach_of}
 use Rattle.am_state.specs.declared.obs.Obs.{Obs}
 use Rattle.am_machine.proofs.Traces.Walks.{packet_asks}
 use Rattle.am_machine.proofs.Tokens.Agreed.{Holds, IsQuiet, quiet_itself, quiet_holds, old_jobs, closes}
+use Rattle.am_machine.proofs.Tour.Picked.{picked_candidate}
 use Rattle.am_machine.proofs.Tour.Walks as tour
 use Rattle.am_machine.proofs.Tour.Walks.{AnyPath}
 
@@ -159,21 +159,16 @@ eligible e row h =
     let one = row.0.fs == e.fs in
     let due = is_due e.timeout e.moment e.immediate row.1 in
     let shut = not (is_open e.waits row.0) in
-    let first = and_both (one && due && shut) (may_go e.table e.uses (mount_on e row.0)) h in
-    let second = and_both (one && due) shut first.0 in
-    let third = and_both one due second.0 in
-    let closed = or_no (is_some (open_on e.waits.tokens Missing row.0)) (is_some (open_on e.waits.tokens Expire row.0)) (not_false (is_open e.waits row.0) second.1) in
-    (nat_is row.0.fs e.fs third.0, (is_none_of (open_on e.waits.tokens Expire row.0) closed.1, is_none_of (open_on e.waits.tokens Missing row.0) closed.0))
-
-picked_by : (e : Expiry) (trigger : Trigger) (o : Option (Trigger × ℕ)) → find (is_first (candidates e)) (candidates e) ≡ o → option_map (λ (row : Trigger × ℕ). row.0) o ≡ Some trigger → IsPicked e trigger
-picked_by e trigger None is h = absurd cc
-picked_by e trigger (Some row) is h =
-    let may = all_found (λ (r : Trigger × ℕ). is_eligible e r ≡ true) (is_first (candidates e)) (candidates e) row (filter_passes (is_eligible e) e.triggers.uses) is in
-    let same : row.0 ≡ trigger = cc in
-    subst (IsPicked e) same (eligible e row may)
+    let first = both_of_and (one && due && shut) (may_go e.table e.uses (mount_on e row.0)) h in
+    let second = both_of_and (one && due) shut first.0 in
+    let third = both_of_and one due second.0 in
+    let closed = neither_of_or (is_some (open_on e.waits.tokens Missing row.0)) (is_some (open_on e.waits.tokens Expire row.0)) (not_false (is_open e.waits row.0) second.1) in
+    (equal_by_test row.0.fs e.fs third.0, (is_none_of (open_on e.waits.tokens Expire row.0) closed.1, is_none_of (open_on e.waits.tokens Missing row.0) closed.0))
 
 picked : (e : Expiry) (trigger : Trigger) → pick_of e ≡ Some trigger → IsPicked e trigger
-picked e trigger h = picked_by e trigger (find (is_first (candidates e)) (candidates e)) refl h
+picked e trigger h =
+    picked_candidate (IsPicked e) e trigger h
+    (All-weaker (λ (row : Trigger × ℕ). is_eligible e row ≡ true) (λ (row : Trigger × ℕ). IsPicked e row.0) (eligible e) (candidates e) (filter_passes (is_eligible e) e.triggers.uses))
 
 -- ---- a wait is collected
 

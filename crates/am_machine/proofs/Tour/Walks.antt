@@ -14,6 +14,7 @@ use Rattle.am_names.specs.declared.row.Position.{Position}
 use Rattle.am_names.specs.declared.row.WaitRow.{WaitRow}
 use Rattle.am_names.specs.declared.row.TokenKind.{TokenKind}
 use Rattle.am_names.specs.declared.row.TokenKind.TheVariants.{Missing, Expire}
+use Rattle.am_names.proofs.Basics.{neither_of_or, equal_by_test}
 use Rattle.am_state.specs.declared.obs.Obs.{Obs}
 use Rattle.am_state.specs.declared.obs.Obs.TheVariants as seen
 use Rattle.am_wait.specs.Rows.{wait_of}
@@ -38,9 +39,7 @@ use Rattle.am_kernel.specs.Walks as walks
 use Rattle.am_kernel.specs.Walks.{passes, packet_for, closing, closed}
 use Rattle.am_kernel.specs.Resumes as resumes
 use Rattle.am_kernel.specs.Expires as expires
-use Rattle.am_laws.proofs.Bools.{or_no}
-use Rattle.am_laws.proofs.Packets.{nat_is}
-use Rattle.am_machine.proofs.TraceRows.{found_passes}
+use Rattle.am_machine.proofs.Lists.Counts.{found_passes}
 
 -- ---- what is known where a change comes
 
@@ -49,11 +48,13 @@ pub record IsFree (k : KernelState) (walker : ℕ) : Type 0 where
   pub waits : wait_of k.waits.waits walker ≡ None
   pub uses : mount_of k.uses walker ≡ None
 
--- a walker that is free walks along its path, passes idle triggers, and stops so
+-- a walker that is free walks along its path, in a scene with the kernel's autofs, passes idle
+-- triggers, and stops so
 pub record Walking (Fits : List (List ℕ) → Type 0) (k : KernelState) (begin : Begin) (stop : Stop) (passed : List Trigger) : Type 0 where
   pub free : IsFree k begin.walker
   pub path : Fits begin.path
   pub scene : Scene
+  pub autofs : scene.triggers.autofs ≡ k.triggers.autofs
   pub stop_is : (walk_of scene begin.ns begin.path).stop ≡ stop
   pub passed_is : (walk_of scene begin.ns begin.path).passed ≡ passed
   pub passes : All (IsIdle k.waits.tokens) passed
@@ -106,7 +107,7 @@ pub record Leaves (P : KernelState → List Obs → KernelState → Type 0) (k :
 
 not_busy : (k : KernelState) (walker : ℕ) → is_busy k walker ≡ false → IsFree k walker
 not_busy k walker h =
-    let both = or_no (is_some (wait_of k.waits.waits walker)) (is_some (mount_of k.uses walker)) h in
+    let both = neither_of_or (is_some (wait_of k.waits.waits walker)) (is_some (mount_of k.uses walker)) h in
     record { waits = is_none_of (wait_of k.waits.waits walker) both.0; uses = is_none_of (mount_of k.uses walker) both.1 }
 
 -- the walker is free once its wait is collected
@@ -120,6 +121,10 @@ freed_free Expire k wait status moment walker g same =
 orderly_in : (kind : TokenKind) (k : KernelState) (wait : WaitRow) (row : WalkRow) (moment : ℕ) → IsOrderly (resumes.freed_from kind wait moment k).waits.tokens (walk_of (scene_of k moment) row.ns row.path)
 orderly_in Missing k wait row moment = orderly k.waits.tokens (scene_of k moment) refl row.ns row.path
 orderly_in Expire k wait row moment = orderly k.waits.tokens (scene_of k moment) refl row.ns row.path
+
+autofs_in : (kind : TokenKind) (k : KernelState) (wait : WaitRow) (moment : ℕ) → (scene_of k moment).triggers.autofs ≡ (resumes.freed_from kind wait moment k).triggers.autofs
+autofs_in Missing k wait moment = refl
+autofs_in Expire k wait moment = refl
 
 module _ (Fits : List (List ℕ) → Type 0) (P : KernelState → List Obs → KernelState → Type 0) (keeps : Keeps Fits P) where
   fails : (k : KernelState) (e : Errno) → Leaves P k (Fails e)
@@ -161,16 +166,16 @@ module _ (Fits : List (List ℕ) → Type 0) (P : KernelState → List Obs → K
   begun_by (stops.Refuse e) pipe k begin passed w = fails k e
 
   -- in a scene whose tokens are the kernel's
-  begun_with : (scene : Scene) (pipe : PipeState) (k : KernelState) (begin : Begin) → IsFree k begin.walker → Fits begin.path → IsOrderly k.waits.tokens (walk_of scene begin.ns begin.path) →
+  begun_with : (scene : Scene) (pipe : PipeState) (k : KernelState) (begin : Begin) → scene.triggers.autofs ≡ k.triggers.autofs → IsFree k begin.walker → Fits begin.path → IsOrderly k.waits.tokens (walk_of scene begin.ns begin.path) →
       Leaves P k (walks.begun_with (walk_of scene begin.ns begin.path) pipe k begin)
-  begun_with scene pipe k begin free path well =
+  begun_with scene pipe k begin same free path well =
       let walked = walk_of scene begin.ns begin.path in
-      begun_by walked.stop pipe k begin walked.passed (record { free = free; path = path; scene = scene; stop_is = refl; passed_is = refl; passes = well.passes; stops = well.stops })
+      begun_by walked.stop pipe k begin walked.passed (record { free = free; path = path; scene = scene; autofs = same; stop_is = refl; passed_is = refl; passes = well.passes; stops = well.stops })
 
   pub walk : (pipe : PipeState) (k : KernelState) (begin : Begin) → Fits begin.path → Leaves P k (walks.walk_at pipe k begin)
   walk pipe k begin path =
       where_false k (is_busy k begin.walker) _ _ (fails k _)
-      (λ idle. begun_with (scene_of k begin.moment) pipe k begin (not_busy k begin.walker idle) path (orderly k.waits.tokens (scene_of k begin.moment) refl begin.ns begin.path))
+      (λ idle. begun_with (scene_of k begin.moment) pipe k begin refl (not_busy k begin.walker idle) path (orderly k.waits.tokens (scene_of k begin.moment) refl begin.ns begin.path))
 
   -- ---- an expiry is asked for
 
@@ -214,7 +219,7 @@ module _ (Fits : List (List ℕ) → Type 0) (P : KernelState → List Obs → K
       after (resumes.again pipe k base row moment) k kind wait status moment g
       (either base (nat_le resumes.most_begins row.begins) _ _ (nothing base _)
       (or_failed (walks.begun_with (walk_of (scene_of k moment) row.ns row.path) pipe base begin) base
-      (begun_with (scene_of k moment) pipe base begin (freed_free kind k wait status moment row.walker g same) path (orderly_in kind k wait row moment))))
+      (begun_with (scene_of k moment) pipe base begin (autofs_in kind k wait moment) (freed_free kind k wait status moment row.walker g same) path (orderly_in kind k wait row moment))))
 
   resumed_as : (kind : TokenKind) (status : Status) (pipe : PipeState) (k : KernelState) (wait : WaitRow) (row : WalkRow) (moment : ℕ) → IsGiven k wait status → row.walker ≡ wait.walker → Fits row.path →
       Leaves P k (resumes.resumed_as kind status pipe k wait row moment)
@@ -240,7 +245,7 @@ module _ (Fits : List (List ℕ) → Type 0) (P : KernelState → List Obs → K
       Leaves P k (resumes.resumed_walk row status pipe k wait moment)
   resumed_walk None status pipe k wait moment paths g e = told_as wait.kind status k wait moment g
   resumed_walk (Some row) status pipe k wait moment paths g e =
-      resumed_as wait.kind status pipe k wait row moment g (nat_is row.walker wait.walker (found_passes (λ (r : WalkRow). r.walker == wait.walker) k.walks row e)) (paths wait.walker row e)
+      resumed_as wait.kind status pipe k wait row moment g (equal_by_test row.walker wait.walker (found_passes (λ (r : WalkRow). r.walker == wait.walker) k.walks row e)) (paths wait.walker row e)
 
   resumed_by : (status : Option Status) (pipe : PipeState) (k : KernelState) (wait : WaitRow) (moment : ℕ) → FitWalks k → wait.status ≡ status → wait_of k.waits.waits wait.walker ≡ Some wait → mount_of k.uses wait.walker ≡ None →
       Leaves P k (resumes.resumed_by status pipe k wait moment)
@@ -251,7 +256,7 @@ module _ (Fits : List (List ℕ) → Type 0) (P : KernelState → List Obs → K
   resumed_at : (wait : Option WaitRow) (pipe : PipeState) (k : KernelState) (walker moment : ℕ) → FitWalks k → wait_of k.waits.waits walker ≡ wait → mount_of k.uses walker ≡ None → Leaves P k (resumes.resumed_at wait pipe k moment)
   resumed_at None pipe k walker moment paths e outside = fails k _
   resumed_at (Some wait) pipe k walker moment paths e outside =
-      let same = sym (nat_is wait.walker walker (found_passes (λ (r : WaitRow). r.walker == walker) k.waits.waits wait e)) in
+      let same = sym (equal_by_test wait.walker walker (found_passes (λ (r : WaitRow). r.walker == walker) k.waits.waits wait e)) in
       resumed_by wait.status pipe k wait moment paths refl (subst (λ (w : ℕ). wait_of k.waits.waits w ≡ Some wait) same e) (subst (λ (w : ℕ). mount_of k.uses w ≡ None) same outside)
 
   pub resume : (pipe : PipeState) (k : KernelState) (walker moment : ℕ) → FitWalks k → Leaves P k (resumes.resume_at pipe k walker moment)

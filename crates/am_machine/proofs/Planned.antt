@@ -1,0 +1,3 @@
+-- What jobs have left to do stays the rest of a plan.
+pub mod Rests
+pub mod Acts

@@ -1,0 +1,2 @@
+-- A pending record stays one of its token.
+pub mod Tokens
