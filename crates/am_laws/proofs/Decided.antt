@@ -173,8 +173,8 @@ pub row_split : (front rest : List Obs) (token : ℕ) (status : Status) → ends
 row_split front [] token status h = absurd cc
 row_split front (o ∷ rest) token status h = row_either front o rest token status (is_cause front o rest token status) refl (row_split (front ++ o ∷ []) rest token status) h
 
-may_true : (before : List Obs) (walker token : ℕ) (status : Status) → MayBeReleased before walker token status → may_be_released before walker token status ≡ true
-may_true before walker token status h = and_of_both _ _ (and_of_both _ _ (waits_true walker token before h.waited) (not_where_false _ (once_test walker token before h.once))) (row_true before token status h.in_row)
+may_be_released_passes : (before : List Obs) (walker token : ℕ) (status : Status) → MayBeReleased before walker token status → may_be_released before walker token status ≡ true
+may_be_released_passes before walker token status h = and_of_both _ _ (and_of_both _ _ (waits_true walker token before h.waited) (not_where_false _ (once_test walker token before h.once))) (row_true before token status h.in_row)
 
 may_from_test : (before : List Obs) (walker token : ℕ) (status : Status) → may_be_released before walker token status ≡ true → MayBeReleased before walker token status
 may_from_test before walker token status h =
@@ -199,16 +199,16 @@ unused_from_test before (m ∷ mounts) h =
 
 -- the laws
 
-pub at_true : (before : List Obs) (o : Obs) (rest : List Obs) → IsLawfulAt before o rest → is_lawful_at before o rest ≡ true
-at_true before (Queued token attach packet) rest h = not_where_false _ (never_queued_test token before h)
-at_true before (Waits walker token) rest h = is_open_true before token h
-at_true before (Answered token status) rest h = and_of_both _ _ (and_of_both _ _ (is_open_true before token h.0) (delivered_test token before h.1)) (released_true token rest before h.2)
-at_true before (Catatonic fs) rest h = closed_true fs before rest h
-at_true before (Released walker token status) rest h = may_true before walker token status h
-at_true before (Passed walker trigger) rest h = not_where_false _ (false_unless_true (list_any (is_expiry before trigger) before) (λ e. h (expiring_from_test before trigger e)))
-at_true before (Unmounted mounts) rest h = unused_true before mounts h
-at_true before (Delivered token attach packet) rest h = and_of_both _ _ (since_true _ _ before (since_from_queued before token attach packet h.0)) (not_where_false _ (never_delivered_test token before h.1))
-at_true before _ rest h = refl
+pub lawful_at_passes : (before : List Obs) (o : Obs) (rest : List Obs) → IsLawfulAt before o rest → is_lawful_at before o rest ≡ true
+lawful_at_passes before (Queued token attach packet) rest h = not_where_false _ (never_queued_test token before h)
+lawful_at_passes before (Waits walker token) rest h = is_open_true before token h
+lawful_at_passes before (Answered token status) rest h = and_of_both _ _ (and_of_both _ _ (is_open_true before token h.0) (delivered_test token before h.1)) (released_true token rest before h.2)
+lawful_at_passes before (Catatonic fs) rest h = closed_true fs before rest h
+lawful_at_passes before (Released walker token status) rest h = may_be_released_passes before walker token status h
+lawful_at_passes before (Passed walker trigger) rest h = not_where_false _ (false_unless_true (list_any (is_expiry before trigger) before) (λ e. h (expiring_from_test before trigger e)))
+lawful_at_passes before (Unmounted mounts) rest h = unused_true before mounts h
+lawful_at_passes before (Delivered token attach packet) rest h = and_of_both _ _ (since_true _ _ before (since_from_queued before token attach packet h.0)) (not_where_false _ (never_delivered_test token before h.1))
+lawful_at_passes before _ rest h = refl
 
 pub at_from_test : (before : List Obs) (o : Obs) (rest : List Obs) → is_lawful_at before o rest ≡ true → IsLawfulAt before o rest
 at_from_test before (Queued token attach packet) rest h = never_queued_from_test token before (false_where_not _ h)
@@ -226,9 +226,9 @@ at_from_test before (Delivered token attach packet) rest h =
     (queued_from_since before token attach packet (has_since _ _ before both.0), never_delivered_from_test token before (false_where_not _ both.1))
 at_from_test before _ rest h = tt
 
-are_true : (before rest : List Obs) → AreLawful before rest → are_lawful before rest ≡ true
-are_true before [] h = refl
-are_true before (o ∷ rest) h = and_of_both (is_lawful_at before o rest) _ (at_true before o rest h.0) (are_true (before ++ o ∷ []) rest h.1)
+lawful_passes : (before rest : List Obs) → AreLawful before rest → are_lawful before rest ≡ true
+lawful_passes before [] h = refl
+lawful_passes before (o ∷ rest) h = and_of_both (is_lawful_at before o rest) _ (lawful_at_passes before o rest h.0) (lawful_passes (before ++ o ∷ []) rest h.1)
 
 are_from_test : (before rest : List Obs) → are_lawful before rest ≡ true → AreLawful before rest
 are_from_test before [] h = tt
@@ -237,7 +237,7 @@ are_from_test before (o ∷ rest) h =
     (at_from_test before o rest both.0, are_from_test (before ++ o ∷ []) rest both.1)
 
 pub lawful_true : (trace : List Obs) → Lawful trace → are_lawful [] trace ≡ true
-lawful_true trace h = are_true [] trace (lawful_from_front trace h)
+lawful_true trace h = lawful_passes [] trace (lawful_from_front trace h)
 
 pub lawful_from_test : (trace : List Obs) → are_lawful [] trace ≡ true → Lawful trace
 lawful_from_test trace h = front_from_lawful trace (are_from_test [] trace h)

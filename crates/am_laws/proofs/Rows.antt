@@ -37,12 +37,12 @@ row_goes_on front (x ∷ seen) o token status h =
     ap (λ (b : Bool). (closes_as token (fs_of_token token front) status x && b && is_open token front) || ends_in_row (front ++ x ∷ []) (seen ++ o ∷ []) token status) (row_of_more seen o true h ∙ and_true (list_all is_released seen))
     ∙ ap (λ (b : Bool). is_cause front x seen token status || b) (row_goes_on (front ++ x ∷ []) seen o token status h)
 
-cut_by : (a c : Bool) → (a && false && c) ≡ false
-cut_by true c = refl
-cut_by false c = refl
+cut_by_cases : (a c : Bool) → (a && false && c) ≡ false
+cut_by_cases true c = refl
+cut_by_cases false c = refl
 
 cut_cause : (front : List Obs) (x : Obs) (row : List Obs) (token : ℕ) (status : Status) → list_all is_released row ≡ false → is_cause front x row token status ≡ false
-cut_cause front x row token status h = ap (λ (b : Bool). closes_as token (fs_of_token token front) status x && b && is_open token front) h ∙ cut_by (closes_as token (fs_of_token token front) status x) (is_open token front)
+cut_cause front x row token status h = ap (λ (b : Bool). closes_as token (fs_of_token token front) status x && b && is_open token front) h ∙ cut_by_cases (closes_as token (fs_of_token token front) status x) (is_open token front)
 
 -- what is no Released is the only cause there can be
 pub row_begins : (front seen : List Obs) (o : Obs) (token : ℕ) (status : Status) → is_released o ≡ false → ends_in_row front (seen ++ o ∷ []) token status ≡ is_cause (front ++ seen) o [] token status

@@ -5,3 +5,4 @@ pub mod Held
 pub mod Known
 pub mod Rows
 pub mod Acts
+pub mod Changes

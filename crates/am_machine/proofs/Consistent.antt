@@ -15,9 +15,11 @@ use Rattle.am_machine.specs.Invariant.Consistent.{IsTraced, HalvesAgree, IsConsi
 use Rattle.am_machine.specs.StepLaws.{IsLawful}
 use Rattle.am_machine.specs.Safety.{RunsAreLawful}
 use Rattle.am_machine.proofs.Traces.Changes.{outcome_follows}
-use Rattle.am_machine.proofs.Tokens.Agreed.{Agreed}
-use Rattle.am_machine.proofs.Tokens.Initial.{initial_given, initial_tokens, initial_planned}
-use Rattle.am_machine.proofs.Tokens.Changes.{outcome_agreed}
+use Rattle.am_machine.proofs.Tokens.Notify.{numbered}
+use Rattle.am_machine.proofs.Attachments.Changes.{initial_given, outcome_given}
+use Rattle.am_machine.proofs.Tokens.Changes.{initial_tokens, outcome_tokens}
+use Rattle.am_machine.proofs.Planned.Changes.{initial_planned, outcome_planned}
+use Rattle.am_machine.proofs.Records.Changes.{initial_records, outcome_records}
 use Rattle.am_machine.proofs.Places.Initial.{initial_places}
 use Rattle.am_machine.proofs.Places.Changes.{outcome_places}
 use Rattle.am_machine.proofs.Books.Changes.{initial_book, outcome_book}
@@ -85,24 +87,21 @@ initial_agree opening = record {
   planned = initial_planned opening;
   places = initial_places opening;
   book = initial_book opening;
-  records = All-nil _;
+  records = initial_records opening;
   stands = initial_stands opening;
 }
-
-agreed_of : (s : State) → HalvesAgree s → Agreed s.kernel s.daemon
-agreed_of s h = record { given = h.given; tokens = h.tokens; planned = h.planned; records = h.records }
 
 -- an outcome leaves it so
 pub outcome_agree : (s : State) (event : Event) → IsTraced s → HalvesAgree s → HalvesAgree (after s (outcome_of s event))
 outcome_agree s event traced h =
-    let next = outcome_agreed s event traced (agreed_of s h) in
+    let numbers = numbered s.kernel s.daemon.jobs s.trace traced.fits in
     record {
-      given = next.given;
-      tokens = next.tokens;
-      planned = next.planned;
+      given = outcome_given s event h.planned h.tokens h.given;
+      tokens = outcome_tokens s event numbers h.given h.planned h.tokens;
+      planned = outcome_planned s event h.planned;
       places = outcome_places s event h.places;
       book = outcome_book s event h.given h.tokens h.planned h.book;
-      records = next.records;
+      records = outcome_records s event numbers h.planned h.tokens h.records;
       stands = outcome_stands s event h.given h.tokens h.planned h.places h.book h.stands;
     }
 

@@ -1,5 +1,4 @@
 -- Kernel and triggers go on agreeing on places.
-pub mod Sites
 pub mod Unchanged
 pub mod Rows
 pub mod Paths

@@ -6,7 +6,5 @@ pub mod Names
 pub mod Jobs
 pub mod Deliver
 pub mod Acts
-pub mod Agreed
 pub mod Walks
 pub mod Changes
-pub mod Initial

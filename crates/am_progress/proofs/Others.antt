@@ -34,7 +34,7 @@ use Rattle.am_machine.specs.Invariant.Books.{IsServed}
 use Rattle.am_machine.proofs.Attachments.Held.{held_others}
 use Rattle.am_machine.proofs.Attachments.Acts.{attach_given}
 use Rattle.am_machine.proofs.Attachments.Grows.{attach_other, pipe_grows, attached_grows, timeout_grows}
-use Rattle.am_machine.proofs.Tokens.Unchanged.{still}
+use Rattle.am_machine.proofs.Tokens.Unchanged.{still_current}
 use Rattle.am_machine.proofs.Tour.Walks as tour
 use Rattle.am_machine.proofs.Tour.Walks.{AnyPath}
 use Rattle.am_machine.proofs.Tour.Events as tours
@@ -118,7 +118,7 @@ changes Acts = record {
     serves = λ g fs attach served.
         let old : fs ≤ s.kernel.last_fs = (attach_given s.kernel s.daemon fs attach served.current g).1 in
         inl (record {
-          current = still s.kernel (attached_at point.direct (line_timeout s.daemon point.entry) s.kernel at) fs attach (attached_grows point.direct (line_timeout s.daemon point.entry) s.kernel at fs g.autofs g.rise) served.current;
+          current = still_current s.kernel (attached_at point.direct (line_timeout s.daemon point.entry) s.kernel at) fs attach (attached_grows point.direct (line_timeout s.daemon point.entry) s.kernel at fs g.autofs g.rise) served.current;
           held = held_others s.daemon.held (s.kernel.last_fs + 1) (s.kernel.last_attach + 1) fs (grind (arith, nat_tests, old)) ∙ served.held;
         });
   };
@@ -135,7 +135,7 @@ changes Acts = record {
   timed = λ s fs timeout. record {
     jobs = λ number row other is. is;
     serves = λ g other attach served.
-        inl (record { current = still s.kernel (with_timeout fs timeout s.kernel) other attach (timeout_grows s.kernel fs timeout other) served.current; held = served.held });
+        inl (record { current = still_current s.kernel (with_timeout fs timeout s.kernel) other attach (timeout_grows s.kernel fs timeout other) served.current; held = served.held });
   };
   died = λ s. record { jobs = λ number row other is. is; serves = λ g fs attach served. inr refl };
   reattached = λ s fs row is dead. record {
@@ -143,7 +143,7 @@ changes Acts = record {
     serves = λ g other attach served.
         let differs = other_fs s.kernel other fs attach (other == fs) refl dead served.current in
         inl (record {
-          current = still s.kernel (with_pipe fs s.kernel) other attach (pipe_grows s.kernel fs other dead) served.current;
+          current = still_current s.kernel (with_pipe fs s.kernel) other attach (pipe_grows s.kernel fs other dead) served.current;
           held = held_others s.daemon.held fs _ other (differ_the_other_way other fs differs) ∙ served.held;
         });
   };

@@ -22,18 +22,11 @@ use Rattle.am_machine.specs.Invariant.Books.{IsServed}
 use Rattle.am_machine.specs.Invariant.Places.{HasCopy, PlacesAgree}
 use Rattle.am_machine.specs.Invariant.Stands.{AreWritten}
 use Rattle.am_machine.specs.Agreement.{IsMounted}
+use Rattle.am_machine.proofs.Stands.Unchanged.{attached_autofs}
 
 -- the top at a place is a mount at that place
 pub top_there : (t : MountTable) → IsWhole t → (x m : ℕ) (place : List (List ℕ)) → top_of t.rows x place ≡ Some m → HasRow (IsAt x place) t.rows m
 top_there t whole x m place e = (subst (IsTopOf t.rows x place) e (top_is t.rows whole.rising x place)).is_there
-
--- a file system that has an attachment is an autofs
-pub attached_autofs : (k : KernelState) (fs attach : ℕ) → attach_of k fs ≡ Some attach → (a : Autofs) × (autofs_of k.triggers fs ≡ Some a)
-attached_autofs k fs attach e = by (autofs_of k.triggers fs) refl e
-  where
-    by : (o : Option Autofs) → autofs_of k.triggers fs ≡ o → (if is_live_row o then latest_attach k.attached fs else None) ≡ Some attach → (a : Autofs) × (autofs_of k.triggers fs ≡ Some a)
-    by None is e = absurd cc
-    by (Some a) is e = (a, is)
 
 -- what is mounted on a trigger of an autofs has its copies
 pub copied_on : (k : KernelState) → PlacesAgree k → (g : Trigger) (m : ℕ) (a : Autofs) → autofs_of k.triggers g.fs ≡ Some a → mounted_on k g ≡ Some m → (y : ℕ) → Receives k.table.groups (location_of k g.fs) y → y < m → HasCopy k.table.rows y (place_of g) m

@@ -17,21 +17,14 @@ use Rattle.am_job.specs.Book.{record_of}
 use Rattle.am_daemon.specs.State.{DaemonState, JobPlan}
 use Rattle.am_daemon.specs.Deliveries.{job_of}
 use Rattle.am_names.proofs.SameTriggers.{is_one}
-use Rattle.am_names.proofs.Basics.{equal_by_test}
+use Rattle.am_names.proofs.Basics.{equal_by_test, some_injective, value_where_some, found_passes}
 use Rattle.am_machine.specs.Invariant.Walks.{is_named, WalksFit}
 use Rattle.am_machine.specs.Invariant.Tokens.{IsInPipe, IsAtWork, HasToken, TokensAgree}
 use Rattle.am_machine.specs.Invariant.Planned.{has_record_left, IsPlanned, ArePlanned}
 use Rattle.am_machine.specs.Invariant.Books.{IsServed, is_pending_for, is_to_record, BookAgrees}
 use Rattle.am_machine.specs.Invariant.Records.{IsOfItsToken, AreOfTheirTokens}
 use Rattle.am_machine.specs.Agreement.{IsPending, IsToDeliver, IsToAnswer}
-use Rattle.am_machine.proofs.Lists.Counts.{some_is, found_passes}
 use Rattle.am_machine.proofs.Lists.Different.{all_found}
-
-same_number : {a b : ℕ} → Some a ≡ Some b → a ≡ b
-same_number e = cc
-
-same_token : {a b : OpenToken} → Some a ≡ Some b → a ≡ b
-same_token e = cc
 
 first_two : (a b c : Bool) → (a && b && c) ≡ true → (a ≡ true) × (b ≡ true)
 first_two true true c e = (refl, refl)
@@ -58,7 +51,7 @@ pub token_named : (k : KernelState) → WalksFit k → (token : ℕ) (row : Open
 token_named k named token row is = all_found (λ (r : OpenToken). is_named r.trigger ≡ true) (λ (r : OpenToken). r.token == token) k.waits.tokens row named.tokens is
 
 -- a job whose attachment the file system still has, has its open token
-token_at_work : (k : KernelState) (d : DaemonState) → TokensAgree k d.jobs → (token : ℕ) (job : JobPlan) → job_of d.jobs token ≡ Some job → attach_of k job.trigger.fs ≡ Some job.attach → HasToken k job
+pub token_at_work : (k : KernelState) (d : DaemonState) → TokensAgree k d.jobs → (token : ℕ) (job : JobPlan) → job_of d.jobs token ≡ Some job → attach_of k job.trigger.fs ≡ Some job.attach → HasToken k job
 token_at_work k d h token job is current = all_found (λ (row : JobPlan). attach_of k row.trigger.fs ≡ Some row.attach → HasToken k row) (λ (row : JobPlan). row.token == token) d.jobs job h.at_work is current
 
 -- ---- the record
@@ -76,7 +69,7 @@ its_token w book g entry h found =
 pub in_pipe : (k : KernelState) (d : DaemonState) → TokensAgree k d.jobs → (token : ℕ) (row : QueuedRow) → queued_of k.queue token ≡ Some row → IsInPipe k d.jobs row
 in_pipe k d h token row is = all_found (IsInPipe k d.jobs) (λ (r : QueuedRow). r.token == token) k.queue row h.in_pipe is
 
-queued_number : (k : KernelState) (token : ℕ) (row : QueuedRow) → queued_of k.queue token ≡ Some row → row.token ≡ token
+pub queued_number : (k : KernelState) (token : ℕ) (row : QueuedRow) → queued_of k.queue token ≡ Some row → row.token ≡ token
 queued_number k token row is = equal_by_test row.token token (found_passes (λ (r : QueuedRow). r.token == token) k.queue row is)
 
 -- no job has the token
@@ -117,14 +110,14 @@ module _ (k : KernelState) (d : DaemonState) (tokens : TokensAgree k d.jobs) (fs
   -- an open token whose packet is in the pipe is to be delivered
   to_deliver : (token : ℕ) (row : OpenToken) → token_of k.waits.tokens token ≡ Some row → row.trigger.fs ≡ fs → is_some (queued_of k.queue token) ≡ true → IsToDeliver k d attach token
   to_deliver token row is same waits =
-      let queued = some_is (queued_of k.queue token) waits in
+      let queued = value_where_some (queued_of k.queue token) waits in
       let pipe = in_pipe k d tokens token queued.0 queued.1 in
-      let one : pipe.token ≡ row = same_token (sym pipe.is_open ∙ ap (token_of k.waits.tokens) (queued_number k token queued.0 queued.1) ∙ is) in
+      let one : pipe.token ≡ row = some_injective (sym pipe.is_open ∙ ap (token_of k.waits.tokens) (queued_number k token queued.0 queued.1) ∙ is) in
       let system : pipe.token.trigger.fs ≡ fs = ap (λ (t : OpenToken). t.trigger.fs) one ∙ same in
       record {
         row = queued.0;
         is_queued = queued.1;
-        attach = same_number (sym pipe.current ∙ ap (attach_of k) system ∙ served.current);
+        attach = some_injective (sym pipe.current ∙ ap (attach_of k) system ∙ served.current);
         untaken = untaken k d tokens token queued.0 queued.1;
       }
 
@@ -135,7 +128,7 @@ module _ (k : KernelState) (d : DaemonState) (tokens : TokensAgree k d.jobs) (fs
       record {
         job = work.job;
         is_job = taken;
-        attach = same_number (sym work.current ∙ ap (attach_of k) same ∙ served.current);
+        attach = some_injective (sym work.current ∙ ap (attach_of k) same ∙ served.current);
         left = (all_found IsPlanned (λ (r : JobPlan). r.token == token) d.jobs work.job planned taken).last;
         unqueued = unqueued k d tokens token work.job taken;
       }

@@ -6,7 +6,7 @@ use Rattle.std.specs.List.{All}
 use Rattle.std.proofs.lemmas.Bool.Decides.{nat_tests}
 use Rattle.std.proofs.lemmas.List.Elements.{All-nil, All-cons, All-head, All-tail}
 use Rattle.am_names.specs.declared.row.Position.{Position}
-use Rattle.am_names.proofs.Basics.{equal_to_itself, equal_by_test}
+use Rattle.am_names.proofs.Basics.{equal_to_itself, equal_by_test, found_passes}
 use Rattle.am_trigger.specs.declared.autofs.Autofs.{Autofs}
 use Rattle.am_trigger.specs.Rows.{TriggerRows, autofs_of, catatonic_row, with_catatonic}
 use Rattle.am_wait.proofs.FindLemmas.{or_none, find_append, find_map}
@@ -20,7 +20,6 @@ use Rattle.am_kernel.specs.DaemonMounts as mounts
 use Rattle.am_kernel.specs.DaemonMounts.{attached_at}
 use Rattle.am_kernel.specs.Requests.{timeout_row, with_timeout}
 use Rattle.am_machine.specs.Invariant.Attachments.{RiseTo}
-use Rattle.am_machine.proofs.Lists.Counts.{found_passes}
 
 -- ---- numbers that rise
 
@@ -54,12 +53,12 @@ none_above {X} key last k (x ∷ rows) h above =
 autofs_fs : (t : TriggerRows) (fs : ℕ) (row : Autofs) → autofs_of t fs ≡ Some row → row.fs ≡ fs
 autofs_fs t fs row e = equal_by_test row.fs fs (found_passes (λ (r : Autofs). r.fs == fs) t.autofs row e)
 
-catatonic_by : (b c : Bool) (row : Autofs) (other : ℕ) → ((if c then record row { catatonic = b } else row).fs == other) ≡ (row.fs == other)
-catatonic_by b true row other = refl
-catatonic_by b false row other = refl
+catatonic_by_cases : (b c : Bool) (row : Autofs) (other : ℕ) → ((if c then record row { catatonic = b } else row).fs == other) ≡ (row.fs == other)
+catatonic_by_cases b true row other = refl
+catatonic_by_cases b false row other = refl
 
 autofs_changed : (fs other : ℕ) (b : Bool) (t : TriggerRows) → autofs_of (with_catatonic fs b t) other ≡ option_map (catatonic_row fs b) (autofs_of t other)
-autofs_changed fs other b t = find_map (λ (r : Autofs). r.fs == other) (catatonic_row fs b) (λ r. catatonic_by b (r.fs == fs) r other) t.autofs
+autofs_changed fs other b t = find_map (λ (r : Autofs). r.fs == other) (catatonic_row fs b) (λ r. catatonic_by_cases b (r.fs == fs) r other) t.autofs
 
 other_row : (fs other : ℕ) (b : Bool) (t : TriggerRows) (o : Option Autofs) → autofs_of t other ≡ o → (other == fs) ≡ false → is_live_row (option_map (catatonic_row fs b) o) ≡ is_live_row o
 other_row fs other b t None e d = refl
@@ -97,12 +96,12 @@ Grows k made fs = (attach_of made fs ≡ attach_of k fs) ⊎ ((attach_of k fs �
 attached_same : (f : Attached → Attached) (fs : ℕ) → ((row : Attached) → (f row).fs ≡ row.fs) → (rows : List Attached) → find (λ (r : Attached). r.fs == fs) (map f rows) ≡ option_map f (find (λ (r : Attached). r.fs == fs) rows)
 attached_same f fs same rows = find_map (λ (r : Attached). r.fs == fs) f (λ r. ap (λ (n : ℕ). n == fs) (same r)) rows
 
-piped_by : (b : Bool) (n : ℕ) (row : Attached) → (if b then record row { attach = n } else row).fs ≡ row.fs
-piped_by true n row = refl
-piped_by false n row = refl
+piped_by_cases : (b : Bool) (n : ℕ) (row : Attached) → (if b then record row { attach = n } else row).fs ≡ row.fs
+piped_by_cases true n row = refl
+piped_by_cases false n row = refl
 
 pub piped_fs : (fs n : ℕ) (row : Attached) → (piped.attached_row fs n row).fs ≡ row.fs
-piped_fs fs n row = piped_by (row.fs == fs) n row
+piped_fs fs n row = piped_by_cases (row.fs == fs) n row
 
 other_attach : (fs other n : ℕ) (rows : List Attached) (o : Option Attached) → find (λ (r : Attached). r.fs == other) rows ≡ o → (other == fs) ≡ false → option_map (λ (r : Attached). r.attach) (option_map (piped.attached_row fs n) o) ≡ option_map (λ (r : Attached). r.attach) o
 other_attach fs other n rows None e d = refl
@@ -143,13 +142,13 @@ pipe_grows k fs other dead = piped_grows k fs other (other == fs) refl dead
 
 -- ---- a file system is new
 
-attached_by : (direct : Bool) (timeout : ℕ) (k : KernelState) (at : Position) (other : ℕ) (b : Bool) → (k.last_fs + 1 == other) ≡ b → All (λ (row : Autofs). row.fs ≤ k.last_fs) k.triggers.autofs → RiseTo k.last_fs 0 k.attached → Grows k (attached_at direct timeout k at) other
-attached_by direct timeout k at other false e autofs rise =
+attached_by_cases : (direct : Bool) (timeout : ℕ) (k : KernelState) (at : Position) (other : ℕ) (b : Bool) → (k.last_fs + 1 == other) ≡ b → All (λ (row : Autofs). row.fs ≤ k.last_fs) k.triggers.autofs → RiseTo k.last_fs 0 k.attached → Grows k (attached_at direct timeout k at) other
+attached_by_cases direct timeout k at other false e autofs rise =
     let made = attached_at direct timeout k at in
     let row : autofs_of made.triggers other ≡ autofs_of k.triggers other = find_append (λ (r : Autofs). r.fs == other) k.triggers.autofs _ ∙ rw e (or_none (autofs_of k.triggers other)) in
     let last : find (λ (r : Attached). r.fs == other) made.attached ≡ find (λ (r : Attached). r.fs == other) k.attached = find_append (λ (r : Attached). r.fs == other) k.attached _ ∙ rw e (or_none (find (λ (r : Attached). r.fs == other) k.attached)) in
     inl (ap (λ (o : Option Autofs). attach_by (is_live_row o) (latest_attach made.attached other)) row ∙ ap (λ (o : Option Attached). attach_by (is_live k other) (option_map (λ (r : Attached). r.attach) o)) last)
-attached_by direct timeout k at other true e autofs rise =
+attached_by_cases direct timeout k at other true e autofs rise =
     let made = attached_at direct timeout k at in
     let is : k.last_fs + 1 ≡ other = equal_by_test (k.last_fs + 1) other e in
     let no_autofs : autofs_of k.triggers other ≡ None = none_above (λ (r : Autofs). r.fs) k.last_fs other k.triggers.autofs autofs (omega (arith, is)) in
@@ -159,16 +158,16 @@ attached_by direct timeout k at other true e autofs rise =
     inr (ap (λ (o : Option Autofs). attach_by (is_live_row o) (latest_attach k.attached other)) no_autofs, ap (λ (o : Option Autofs). attach_by (is_live_row o) (latest_attach made.attached other)) row ∙ ap (λ (o : Option Attached). option_map (λ (r : Attached). r.attach) o) last)
 
 pub attached_grows : (direct : Bool) (timeout : ℕ) (k : KernelState) (at : Position) (other : ℕ) → All (λ (row : Autofs). row.fs ≤ k.last_fs) k.triggers.autofs → RiseTo k.last_fs 0 k.attached → Grows k (attached_at direct timeout k at) other
-attached_grows direct timeout k at other autofs rise = attached_by direct timeout k at other (k.last_fs + 1 == other) refl autofs rise
+attached_grows direct timeout k at other autofs rise = attached_by_cases direct timeout k at other (k.last_fs + 1 == other) refl autofs rise
 
 -- ---- a timeout
 
-timeout_by : (b : Bool) (n : ℕ) (row : Attached) → ((if b then record row { timeout = n } else row).fs ≡ row.fs) × ((if b then record row { timeout = n } else row).attach ≡ row.attach)
-timeout_by true n row = (refl, refl)
-timeout_by false n row = (refl, refl)
+timeout_by_cases : (b : Bool) (n : ℕ) (row : Attached) → ((if b then record row { timeout = n } else row).fs ≡ row.fs) × ((if b then record row { timeout = n } else row).attach ≡ row.attach)
+timeout_by_cases true n row = (refl, refl)
+timeout_by_cases false n row = (refl, refl)
 
 pub timeout_keeps : (fs n : ℕ) (row : Attached) → ((timeout_row fs n row).fs ≡ row.fs) × ((timeout_row fs n row).attach ≡ row.attach)
-timeout_keeps fs n row = timeout_by (row.fs == fs) n row
+timeout_keeps fs n row = timeout_by_cases (row.fs == fs) n row
 
 timeout_attach : (fs n : ℕ) (o : Option Attached) → option_map (λ (r : Attached). r.attach) (option_map (timeout_row fs n) o) ≡ option_map (λ (r : Attached). r.attach) o
 timeout_attach fs n None = refl

@@ -5,14 +5,12 @@ use Rattle.std.specs.List.{All}
 use Rattle.std.specs.Option.{option_map}
 use Rattle.std.proofs.lemmas.Bool.Decides.{nat_tests}
 use Rattle.std.proofs.lemmas.List.Elements.{All-push, All-filter}
-use Rattle.am_names.proofs.Basics.{equal_to_itself}
+use Rattle.am_names.proofs.Basics.{equal_to_itself, differ_the_other_way}
 use Rattle.am_state.specs.declared.daemon_row.HeldRow.{HeldRow}
 use Rattle.am_daemon.specs.Attachments.{held_as}
 use Rattle.am_machine.specs.Invariant.Traces.{AreDifferent}
-use Rattle.am_machine.proofs.Lists.Found.{find_others, find_new, absent, different_more, different_kept, gone, found_left}
-
-pub other_way : (a b : ℕ) → (a == b) ≡ false → (b == a) ≡ false
-other_way a b e = grind (arith, nat_tests, e)
+use Rattle.am_machine.proofs.Lists.Found.{find_others, find_new, absent, different_more, gone, found_left}
+use Rattle.am_machine.proofs.Lists.Different.{differ_filter}
 
 module _ (held : List HeldRow) (fs attach : ℕ) where
   abbrev left : List HeldRow
@@ -31,11 +29,11 @@ module _ (held : List HeldRow) (fs attach : ℕ) where
   pub held_others : (f : ℕ) → (fs == f) ≡ false → option_map (λ (row : HeldRow). row.attach) (find (λ (row : HeldRow). row.fs == f) (held_as fs attach held)) ≡ option_map (λ (row : HeldRow). row.attach) (find (λ (row : HeldRow). row.fs == f) held)
   held_others f other =
       ap (option_map (λ (row : HeldRow). row.attach))
-      (find_others (λ (row : HeldRow). row.fs == f) left new other ∙ found_left (λ (row : HeldRow). row.fs) fs f held (other_way fs f other))
+      (find_others (λ (row : HeldRow). row.fs == f) left new other ∙ found_left (λ (row : HeldRow). row.fs) fs f held (differ_the_other_way fs f other))
 
   pub held_differ : AreDifferent (map (λ (row : HeldRow). row.fs) held) → AreDifferent (map (λ (row : HeldRow). row.fs) (held_as fs attach held))
   held_differ h =
-      different_more (λ (row : HeldRow). row.fs) left new (different_kept (λ (row : HeldRow). row.fs) (λ (row : HeldRow). not (row.fs == fs)) held h) (gone (λ (row : HeldRow). row.fs) fs held)
+      different_more (λ (row : HeldRow). row.fs) left new (differ_filter (λ (row : HeldRow). row.fs) (λ (row : HeldRow). not (row.fs == fs)) held h) (gone (λ (row : HeldRow). row.fs) fs held)
 
   pub held_below : (last : ℕ) → fs ≤ last → All (λ (row : HeldRow). row.fs ≤ last) held → All (λ (row : HeldRow). row.fs ≤ last) (held_as fs attach held)
   held_below last le h =

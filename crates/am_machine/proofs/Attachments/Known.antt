@@ -6,26 +6,16 @@ use Rattle.std.proofs.lemmas.Bool.{and_parts}
 use Rattle.std.proofs.lemmas.List.Elements.{All-map, All-weaker, All-push, All-filter}
 use Rattle.std.proofs.lemmas.List.Folds.{list_any-append}
 use Rattle.std.proofs.lemmas.Map.Views.{any-filter_same}
-use Rattle.am_names.proofs.Basics.{equal_to_itself, equal_by_test}
+use Rattle.am_names.proofs.Basics.{equal_to_itself, equal_by_test, or_left, or_right, value_where_some, found_passes, differ_the_other_way}
 use Rattle.am_state.specs.declared.daemon_row.HeldRow.{HeldRow}
 use Rattle.am_state.specs.declared.daemon_row.KnownRow.{KnownRow}
 use Rattle.am_trigger.specs.declared.autofs.Autofs.{Autofs}
 use Rattle.am_kernel.specs.declared.row.Attached.{Attached}
 use Rattle.am_daemon.specs.Attachments.{known_at, held_as}
 use Rattle.am_machine.specs.Invariant.Attachments.{is_known, was_attached, AreKnown}
-use Rattle.am_machine.proofs.Lists.Counts.{some_is, found_passes}
 use Rattle.am_machine.proofs.Lists.Different.{all_found}
-use Rattle.am_machine.proofs.Attachments.Held.{other_way}
 
 -- ---- a test that a row passes
-
-or_left : (a b : Bool) → a ≡ true → (a || b) ≡ true
-or_left true b h = refl
-or_left false b h = absurd cc
-
-or_right : (a b : Bool) → b ≡ true → (a || b) ≡ true
-or_right true b h = refl
-or_right false b h = h
 
 module _ {X : Type 0} (test : X → Bool) where
   -- among more rows
@@ -40,21 +30,21 @@ module _ {X : Type 0} (test : X → Bool) where
   any_mapped change [] same = refl
   any_mapped change (x ∷ rows) same = ap (λ (b : Bool). b || list_any test (map change rows)) (same x) ∙ ap (λ (b : Bool). test x || b) (any_mapped change rows same)
 
-  any_by : (x : X) (rows : List X) (b : Bool) → (list_any test rows ≡ true → is_some (find test rows) ≡ true) → (b || list_any test rows) ≡ true → is_some (cond b (Some x) (find test rows)) ≡ true
-  any_by x rows true later h = refl
-  any_by x rows false later h = later h
+  any_by_cases : (x : X) (rows : List X) (b : Bool) → (list_any test rows ≡ true → is_some (find test rows) ≡ true) → (b || list_any test rows) ≡ true → is_some (cond b (Some x) (find test rows)) ≡ true
+  any_by_cases x rows true later h = refl
+  any_by_cases x rows false later h = later h
 
   -- the row is found
   pub any_found : (rows : List X) → list_any test rows ≡ true → is_some (find test rows) ≡ true
   any_found [] h = absurd cc
-  any_found (x ∷ rows) h = any_by x rows (test x) (any_found rows) h
+  any_found (x ∷ rows) h = any_by_cases x rows (test x) (any_found rows) h
 
 -- ---- what is known
 
 -- an autofs that is found is known, and was attached
 pub autofs_is : (autofs : List Autofs) (attached : List Attached) (known : List KnownRow) (held : List HeldRow) → AreKnown autofs attached known held → (fs : ℕ) → is_some (find (λ (row : Autofs). row.fs == fs) autofs) ≡ true → (is_known known fs ≡ true) × (was_attached attached fs ≡ true)
 autofs_is autofs attached known held h fs is =
-    let found = some_is (find (λ (row : Autofs). row.fs == fs) autofs) is in
+    let found = value_where_some (find (λ (row : Autofs). row.fs == fs) autofs) is in
     let same = equal_by_test found.0.fs fs (found_passes (λ (row : Autofs). row.fs == fs) autofs found.0 found.1) in (
       subst (λ (n : ℕ). is_known known n ≡ true) same (all_found (λ (row : Autofs). is_known known row.fs ≡ true) (λ (row : Autofs). row.fs == fs) autofs found.0 h.autofs_known found.1),
       subst (λ (n : ℕ). was_attached attached n ≡ true) same (all_found (λ (row : Autofs). was_attached attached row.fs ≡ true) (λ (row : Autofs). row.fs == fs) autofs found.0 h.autofs_attached found.1),
@@ -64,7 +54,7 @@ autofs_is autofs attached known held h fs is =
 pub held_is : (known : List KnownRow) (held : List HeldRow) → All (λ (row : HeldRow). is_known known row.fs ≡ true) held → (fs attach : ℕ) → list_any (λ (row : HeldRow). row.fs == fs && row.attach == attach) held ≡ true → is_known known fs ≡ true
 held_is known held h fs attach is =
     let test : HeldRow → Bool = λ row. row.fs == fs && row.attach == attach in
-    let found = some_is (find test held) (any_found test held is) in
+    let found = value_where_some (find test held) (any_found test held is) in
     let passes = and_parts (found.0.fs == fs) (found.0.attach == attach) (found_passes test held found.0 found.1) in
     subst (λ (n : ℕ). is_known known n ≡ true) (equal_by_test found.0.fs fs passes.0) (all_found (λ (row : HeldRow). is_known known row.fs ≡ true) test held found.0 h found.1)
 
@@ -96,7 +86,7 @@ module _ (autofs : List Autofs) (attached : List Attached) (known : List KnownRo
   still_known new path fs false other was =
       any_more (λ (r : KnownRow). r.fs == fs) (filter (λ (r : KnownRow). not (r.fs == new)) known) _
       (any-filter_same (λ (r : KnownRow). r.fs == fs) (λ (r : KnownRow). not (r.fs == new)) true
-      (λ r is. ap not (subst (λ (n : ℕ). (n == new) ≡ false) (sym (equal_by_test r.fs fs is)) (other_way new fs other))) known ∙ was)
+      (λ r is. ap not (subst (λ (n : ℕ). (n == new) ≡ false) (sym (equal_by_test r.fs fs is)) (differ_the_other_way new fs other))) known ∙ was)
 
   -- one autofs more
   pub known_more : (a : Autofs) (row : Attached) (path : List (List ℕ)) (attach : ℕ) → row.fs ≡ a.fs → AreKnown (autofs ++ a ∷ []) (attached ++ row ∷ []) (known_at a.fs path known) (held_as a.fs attach held)

@@ -74,19 +74,19 @@ given_more k made d attached autofs last le h =
     (subst (λ (rows : List Attached). AreKnown made.triggers.autofs rows d.known d.held) (sym attached)
     (subst (λ (rows : List Autofs). AreKnown rows k.attached d.known d.held) (sym autofs) h.familiar)) h
 
-catatonic_by : (b c : Bool) (row : Autofs) → (if c then record row { catatonic = b } else row).fs ≡ row.fs
-catatonic_by b true row = refl
-catatonic_by b false row = refl
+catatonic_by_cases : (b c : Bool) (row : Autofs) → (if c then record row { catatonic = b } else row).fs ≡ row.fs
+catatonic_by_cases b true row = refl
+catatonic_by_cases b false row = refl
 
 catatonic_all : (fs last : ℕ) (b : Bool) (rows : List Autofs) → All (λ (row : Autofs). row.fs ≤ last) rows → All (λ (row : Autofs). row.fs ≤ last) (map (catatonic_row fs b) rows)
 catatonic_all fs last b rows h =
     All-map (λ (row : Autofs). row.fs ≤ last) (catatonic_row fs b) rows
-    (All-weaker (λ (row : Autofs). row.fs ≤ last) (λ (row : Autofs). (catatonic_row fs b row).fs ≤ last) (λ row le. subst (λ (n : ℕ). n ≤ last) (sym (catatonic_by b (row.fs == fs) row)) le) rows h)
+    (All-weaker (λ (row : Autofs). row.fs ≤ last) (λ (row : Autofs). (catatonic_row fs b row).fs ≤ last) (λ row le. subst (λ (n : ℕ). n ≤ last) (sym (catatonic_by_cases b (row.fs == fs) row)) le) rows h)
 
 pub given_closed : (k : KernelState) (d : DaemonState) (fs : ℕ) → AreGiven k d → AreGiven (closed fs k) d
 given_closed k d fs h =
     given_kernel k (closed fs k) d (record { rise = h.rise; attached = h.attached; autofs = catatonic_all fs k.last_fs true k.triggers.autofs h.autofs; more_fs = omega arith; more_attach = omega arith })
-    (known_marked k.triggers.autofs k.attached d.known d.held h.familiar (catatonic_row fs true) (λ row. catatonic_by true (row.fs == fs) row)) h
+    (known_marked k.triggers.autofs k.attached d.known d.held h.familiar (catatonic_row fs true) (λ row. catatonic_by_cases true (row.fs == fs) row)) h
 
 pub given_timeout : (k : KernelState) (d : DaemonState) (fs n : ℕ) → AreGiven k d → AreGiven (with_timeout fs n k) d
 given_timeout k d fs n h =
@@ -119,7 +119,7 @@ given_pipe k d fs h =
     })
     (known_marked k.triggers.autofs made.attached d.known d.held
     (known_changed k.triggers.autofs k.attached d.known d.held h.familiar (piped.attached_row fs (k.last_attach + 1)) (piped_fs fs (k.last_attach + 1)))
-    (catatonic_row fs false) (λ row. catatonic_by false (row.fs == fs) row)) h
+    (catatonic_row fs false) (λ row. catatonic_by_cases false (row.fs == fs) row)) h
 
 pub given_attached : (direct : Bool) (timeout : ℕ) (k : KernelState) (at : Position) (path : List (List ℕ)) (d : DaemonState) → AreGiven k d → AreGiven (attached_at direct timeout k at) (with_attachment (k.last_fs + 1) (k.last_attach + 1) path d)
 given_attached direct timeout k at path d h =
@@ -148,17 +148,17 @@ given_attached direct timeout k at path d h =
 abbrev Below : ℕ → RecordRow → Type 0
 Below last row = row.trigger.fs ≤ last
 
-record_by : (b : Bool) (row : RecordRow) (entry : Record) → (if b then record row { entry = entry } else row).trigger ≡ row.trigger
-record_by true row entry = refl
-record_by false row entry = refl
+record_by_cases : (b : Bool) (row : RecordRow) (entry : Record) → (if b then record row { entry = entry } else row).trigger ≡ row.trigger
+record_by_cases true row entry = refl
+record_by_cases false row entry = refl
 
-with_by : (last : ℕ) (g : Trigger) (entry : Record) (book : List RecordRow) (b : Bool) → g.fs ≤ last → All (Below last) book → All (Below last) (if b then map (record_row g entry) book else book ++ (record { trigger = g; entry = entry }) ∷ [])
-with_by last g entry book true le h =
-    All-map (Below last) (record_row g entry) book (All-weaker (Below last) (λ (row : RecordRow). Below last (record_row g entry row)) (λ row m. subst (λ (t : Trigger). t.fs ≤ last) (sym (record_by (same_trigger row.trigger g) row entry)) m) book h)
-with_by last g entry book false le h = All-push (Below last) book _ h le
+with_by_cases : (last : ℕ) (g : Trigger) (entry : Record) (book : List RecordRow) (b : Bool) → g.fs ≤ last → All (Below last) book → All (Below last) (if b then map (record_row g entry) book else book ++ (record { trigger = g; entry = entry }) ∷ [])
+with_by_cases last g entry book true le h =
+    All-map (Below last) (record_row g entry) book (All-weaker (Below last) (λ (row : RecordRow). Below last (record_row g entry row)) (λ row m. subst (λ (t : Trigger). t.fs ≤ last) (sym (record_by_cases (same_trigger row.trigger g) row entry)) m) book h)
+with_by_cases last g entry book false le h = All-push (Below last) book _ h le
 
 pub book_with : (last : ℕ) (g : Trigger) (entry : Record) (book : List RecordRow) → g.fs ≤ last → All (Below last) book → All (Below last) (with_record g entry book)
-book_with last g entry book le h = with_by last g entry book (list_any (λ row. same_trigger row.trigger g) book) le h
+book_with last g entry book le h = with_by_cases last g entry book (list_any (λ row. same_trigger row.trigger g) book) le h
 
 pub book_recorded : (last : ℕ) (g : Trigger) (entry : Option Record) (book : List RecordRow) → g.fs ≤ last → All (Below last) book → All (Below last) (recorded g entry book)
 book_recorded last g None book le h = All-filter (λ (row : RecordRow). not (same_trigger row.trigger g)) (Below last) book h

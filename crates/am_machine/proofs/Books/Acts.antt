@@ -36,8 +36,8 @@ its_writing : (d : DaemonState) (row : JobPlan) (w : Option Writing) → IsJob d
 its_writing d row w j e = ap (λ (o : Option JobPlan). writes (next_in o)) j.found ∙ e
 
 -- the book is of the file systems that were served before
-before : (k : KernelState) (d : DaemonState) (row : JobPlan) (outcome : Outcome) (fs attach : ℕ) → IsServed k (finished row.token outcome d) fs attach → IsServed k d fs attach
-before k d row outcome fs attach s = record { current = s.current; held = s.held }
+pub served_before_act : (k : KernelState) (d : DaemonState) (row : JobPlan) (outcome : Outcome) (fs attach : ℕ) → IsServed k (finished row.token outcome d) fs attach → IsServed k d fs attach
+served_before_act k d row outcome fs attach s = record { current = s.current; held = s.held }
 
 -- ---- an act that writes nothing
 
@@ -48,11 +48,11 @@ kept_here k d row outcome fs attach g j none h s same =
     ∙ ap (is_to_record attach g) j.found
     ∙ sym (finished_here attach g outcome row.token row d.jobs j.differ j.found ∙ ap (is_left attach g row) (left_kept row.trigger row.plan outcome none j.planned.rest))
 
-kept_by : (k : KernelState) (d : DaemonState) (row : JobPlan) (outcome : Outcome) (fs attach : ℕ) (g : Trigger) (token : ℕ) (b : Bool) → (token == row.token) ≡ b → IsJob d row → writes (next_of row.plan) ≡ None → BookAgrees k d → IsServed k d fs attach → g.fs ≡ fs →
+kept_by_cases : (k : KernelState) (d : DaemonState) (row : JobPlan) (outcome : Outcome) (fs attach : ℕ) (g : Trigger) (token : ℕ) (b : Bool) → (token == row.token) ≡ b → IsJob d row → writes (next_of row.plan) ≡ None → BookAgrees k d → IsServed k d fs attach → g.fs ≡ fs →
     is_pending_for token (record_of d.book g) ≡ is_to_record attach g (job_of (finished_in row.token outcome d.jobs) token)
-kept_by k d row outcome fs attach g token true is j none h s same =
+kept_by_cases k d row outcome fs attach g token true is j none h s same =
     subst (λ (n : ℕ). is_pending_for n (record_of d.book g) ≡ is_to_record attach g (job_of (finished_in row.token outcome d.jobs) n)) (sym (equal_by_test token row.token is)) (kept_here k d row outcome fs attach g j none h s same)
-kept_by k d row outcome fs attach g token false other j none h s same =
+kept_by_cases k d row outcome fs attach g token false other j none h s same =
     h.pending fs attach s g same token ∙ ap (is_to_record attach g) (sym (others_stay d.jobs row.token outcome token other))
 
 -- the book stays, and what the jobs have still to write
@@ -60,7 +60,7 @@ pub goes_on_kept : (k : KernelState) (d : DaemonState) (row : JobPlan) (outcome 
 goes_on_kept k d row outcome j none h = record {
   pending = λ fs attach s g same token.
       ap (λ (w : Option Writing). is_pending_for token (record_of (book_after w d.book) g)) (its_writing d row None j none)
-      ∙ kept_by k d row outcome fs attach g token (token == row.token) refl j none h (before k d row outcome fs attach s) same;
+      ∙ kept_by_cases k d row outcome fs attach g token (token == row.token) refl j none h (served_before_act k d row outcome fs attach s) same;
   held = h.held;
   given = h.given;
 }
@@ -101,19 +101,19 @@ pub not_its : (a b c : Bool) → b ≡ false → (a && b && c) ≡ false
 not_its true b c other = rw other refl
 not_its false b c other = refl
 
-written_by : (k : KernelState) (d : DaemonState) (row : JobPlan) (outcome : Outcome) (trigger : Trigger) (entry : Option Record) (fs attach : ℕ) (g : Trigger) (token : ℕ) (t b : Bool) → (token == row.token) ≡ t → same_trigger row.trigger g ≡ b →
+written_by_cases : (k : KernelState) (d : DaemonState) (row : JobPlan) (outcome : Outcome) (trigger : Trigger) (entry : Option Record) (fs attach : ℕ) (g : Trigger) (token : ℕ) (t b : Bool) → (token == row.token) ≡ t → same_trigger row.trigger g ≡ b →
     IsJob d row → Writes row.trigger row.plan outcome trigger entry → holds d row.trigger.fs row.attach ≡ true → BookAgrees k d → IsServed k d fs attach → g.fs ≡ fs →
     is_pending_for token (if b then entry else record_of d.book g) ≡ is_to_record attach g (job_of (finished_in row.token outcome d.jobs) token)
-written_by k d row outcome trigger entry fs attach g token true true is its j p w h s same =
+written_by_cases k d row outcome trigger entry fs attach g token true true is its j p w h s same =
     settled_for token entry p.settled
     ∙ sym (subst (λ (n : ℕ). is_to_record attach g (job_of (finished_in row.token outcome d.jobs) n) ≡ false) (sym (equal_by_test token row.token is)) (written_here attach g d row outcome j p.written))
-written_by k d row outcome trigger entry fs attach g token true false is other j p w h s same =
+written_by_cases k d row outcome trigger entry fs attach g token true false is other j p w h s same =
     let job : job_of d.jobs token ≡ Some row = subst (λ (n : ℕ). job_of d.jobs n ≡ Some row) (sym (equal_by_test token row.token is)) j.found in
     h.pending fs attach s g same token
     ∙ ap (is_to_record attach g) job
     ∙ not_its (row.attach == attach) (same_trigger row.trigger g) (has_record_left row.plan) other
     ∙ sym (subst (λ (n : ℕ). is_to_record attach g (job_of (finished_in row.token outcome d.jobs) n) ≡ false) (sym (equal_by_test token row.token is)) (written_here attach g d row outcome j p.written))
-written_by k d row outcome trigger entry fs attach g token false true differs its j p w h s same =
+written_by_cases k d row outcome trigger entry fs attach g token false true differs its j p w h s same =
     let g_is : row.trigger ≡ g = is_one row.trigger g its in
     let system : row.trigger.fs ≡ fs = ap (λ (t : Trigger). t.fs) g_is ∙ same in
     let mine : is_pending_for row.token (record_of d.book g) ≡ true =
@@ -122,7 +122,7 @@ written_by k d row outcome trigger entry fs attach g token false true differs it
     ∙ sym (pending_once row.token token (record_of d.book g) mine differs)
     ∙ h.pending fs attach s g same token
     ∙ ap (is_to_record attach g) (sym (others_stay d.jobs row.token outcome token differs))
-written_by k d row outcome trigger entry fs attach g token false false differs other j p w h s same =
+written_by_cases k d row outcome trigger entry fs attach g token false false differs other j p w h s same =
     h.pending fs attach s g same token ∙ ap (is_to_record attach g) (sym (others_stay d.jobs row.token outcome token differs))
 
 -- the record is pending no more, and the job has it no longer to write
@@ -135,7 +135,7 @@ goes_on_written k d row outcome trigger entry j w h =
           ap (λ (o : Option Writing). is_pending_for token (record_of (book_after o d.book) g)) (its_writing d row (Some writing) j (ap writes w.next))
           ∙ ap (is_pending_for token) (recorded_is trigger entry d.book g)
           ∙ ap (λ (t : Trigger). is_pending_for token (if same_trigger t g then entry else record_of d.book g)) p.trigger_is
-          ∙ written_by k d row outcome trigger entry fs attach g token (token == row.token) (same_trigger row.trigger g) refl refl j p w.holds h (before k d row outcome fs attach s) same;
+          ∙ written_by_cases k d row outcome trigger entry fs attach g token (token == row.token) (same_trigger row.trigger g) refl refl j p w.holds h (served_before_act k d row outcome fs attach s) same;
       held = h.held;
       given = h.given;
     }

@@ -26,7 +26,7 @@ use Rattle.am_machine.specs.Invariant.Planned.{IsPlanned, ArePlanned}
 use Rattle.am_machine.specs.Invariant.Traces.{AreDifferent}
 use Rattle.am_machine.specs.Invariant.Books.{BookAgrees}
 use Rattle.am_machine.proofs.Lists.Different.{all_found}
-use Rattle.am_machine.proofs.Books.Unchanged.{Narrows, narrowed, same_attachments, stays, one_after_another, narrows_latest, timeout_narrows, closed_narrows}
+use Rattle.am_machine.proofs.Books.Unchanged.{Narrows, narrowed, same_attachments, narrows_itself, one_after_another, narrows_latest, timeout_narrows, closed_narrows}
 use Rattle.am_machine.proofs.Books.Acts.{IsJob, goes_on_kept, goes_on_written}
 use Rattle.am_machine.proofs.Books.Deliver.{may_take, taken_kept}
 use Rattle.am_machine.proofs.Books.Attach.{attached_kept, dead_kept, reattached_kept}
@@ -47,7 +47,7 @@ freed_narrows Expire k wait moment = same_attachments k (resumes.freed_from Expi
 
 pub walks : tour.Keeps AnyPath NarrowsBy
 walks = record {
-  nothing = stays;
+  nothing = narrows_itself;
   arrived = λ k begin at passed w. same_attachments k _ (λ fs. refl) (omega arith);
   joined = λ k begin token passed w. same_attachments k _ (λ fs. refl) (omega arith);
   notified = λ k begin trigger attach passed w is. same_attachments k _ (λ fs. refl) (omega arith);
@@ -102,7 +102,7 @@ book = record {
         narrowed s.kernel made (taken_up row.attach row.packet s.daemon) (same_attachments s.kernel made (λ fs. refl) (omega arith))
         (taken_kept s.kernel s.daemon row.attach row.packet (may_take s.daemon row.attach row.packet taken.held taken.free) h);
   };
-  rested = λ s row a outcome i r. goes s _ row outcome _ i.is (ap writes i.next ∙ r.writes) (stays s.kernel);
+  rested = λ s row a outcome i r. goes s _ row outcome _ i.is (ap writes i.next ∙ r.writes) (narrows_itself s.kernel);
   directory_made = λ s row trigger i. goes s _ row _ _ i.is (ap writes i.next) (same_attachments s.kernel _ (λ fs. refl) (omega arith));
   directory_gone = λ s row trigger i. goes s _ row _ _ i.is (ap writes i.next) (same_attachments s.kernel _ (λ fs. refl) (omega arith));
   mounted_on = λ s row trigger entry i may. goes s _ row _ _ i.is (ap writes i.next) (same_attachments s.kernel _ (λ fs. refl) (omega arith));

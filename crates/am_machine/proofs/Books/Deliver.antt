@@ -66,28 +66,28 @@ told_is true d packet entry g = refl
 told_is false d packet entry g = recorded_is (trigger_of packet) entry d.book g
 
 -- of another token
-others_by : (d : DaemonState) (packet : Packet) (g : Trigger) (token : ℕ) (reply b : Bool) → same_trigger (trigger_of packet) g ≡ b → (packet.token == token) ≡ false → is_pending (record_of d.book (trigger_of packet)) ≡ false →
+others_by_cases : (d : DaemonState) (packet : Packet) (g : Trigger) (token : ℕ) (reply b : Bool) → same_trigger (trigger_of packet) g ≡ b → (packet.token == token) ≡ false → is_pending (record_of d.book (trigger_of packet)) ≡ false →
     is_pending_for token (told_by reply d packet (pending_of d packet) g) ≡ is_pending_for token (record_of d.book g)
-others_by d packet g token true b is differs settled = refl
-others_by d packet g token false true is differs settled =
+others_by_cases d packet g token true b is differs settled = refl
+others_by_cases d packet g token false true is differs settled =
     let g_is : trigger_of packet ≡ g = is_one (trigger_of packet) g is in
     rw is (pending_other (token_kind packet.kind) packet.token token (mounted_for d packet) differs
     ∙ sym (subst (λ (t : Trigger). is_pending_for token (record_of d.book t) ≡ false) g_is (settled_for token (record_of d.book (trigger_of packet)) settled)))
-others_by d packet g token false false is differs settled = rw is refl
+others_by_cases d packet g token false false is differs settled = rw is refl
 
 -- of the packet's
-here_by : (k : KernelState) (d : DaemonState) (attach : ℕ) (packet : Packet) (fs own : ℕ) (g : Trigger) (reply b : Bool) → is_reply (plan_of_packet d packet) ≡ reply → same_trigger (trigger_of packet) g ≡ b → MayTake d own packet → BookAgrees k d → IsServed k d fs attach → g.fs ≡ fs →
+pending_here_by_cases : (k : KernelState) (d : DaemonState) (attach : ℕ) (packet : Packet) (fs own : ℕ) (g : Trigger) (reply b : Bool) → is_reply (plan_of_packet d packet) ≡ reply → same_trigger (trigger_of packet) g ≡ b → MayTake d own packet → BookAgrees k d → IsServed k d fs attach → g.fs ≡ fs →
     is_pending_for packet.token (told_by reply d packet (pending_of d packet) g) ≡ is_left attach g (job_for own packet d) (not reply)
-here_by k d attach packet fs own g true b replies is m h s same =
+pending_here_by_cases k d attach packet fs own g true b replies is m h s same =
     h.pending fs attach s g same packet.token ∙ ap (is_to_record attach g) m.idle ∙ sym (never_left (own == attach) (same_trigger (trigger_of packet) g))
-here_by k d attach packet fs own g false true more is m h s same =
+pending_here_by_cases k d attach packet fs own g false true more is m h s same =
     let g_is : trigger_of packet ≡ g = is_one (trigger_of packet) g is in
     let system : packet.dev ≡ fs = ap (λ (t : Trigger). t.fs) g_is ∙ same in
     let held : attach_held d packet.dev ≡ Some attach = subst (λ (n : ℕ). attach_held d n ≡ Some attach) (sym system) s.held in
     let under : own ≡ attach = held_is d packet.dev attach own h.held m.holds held in
     let now : (own == attach) ≡ true = subst (λ (n : ℕ). (own == n) ≡ true) under (equal_to_itself own) in
     rw (is, now) (pending_here (token_kind packet.kind) packet.token (trigger_of packet) (mounted_for d packet) (entry_of d (trigger_of packet)) more)
-here_by k d attach packet fs own g false false more is m h s same =
+pending_here_by_cases k d attach packet fs own g false false more is m h s same =
     rw is (h.pending fs attach s g same packet.token ∙ ap (is_to_record attach g) m.idle ∙ sym (not_its (own == attach) false true refl))
 
 -- ---- the job
@@ -101,28 +101,28 @@ job_new d attach packet idle = find_new (λ (r : JobPlan). r.token == packet.tok
 left_as : (d : DaemonState) (packet : Packet) → has_record_left (plan_of_packet d packet) ≡ not (is_reply (plan_of_packet d packet))
 left_as d packet = plan_left (token_kind packet.kind) (trigger_of packet) (mounted_for d packet) (entry_of d (trigger_of packet))
 
-taken_by : (k : KernelState) (d : DaemonState) (own : ℕ) (packet : Packet) (fs attach : ℕ) (g : Trigger) (token : ℕ) (b : Bool) → (packet.token == token) ≡ b → MayTake d own packet → BookAgrees k d → IsServed k d fs attach → g.fs ≡ fs →
+taken_by_cases : (k : KernelState) (d : DaemonState) (own : ℕ) (packet : Packet) (fs attach : ℕ) (g : Trigger) (token : ℕ) (b : Bool) → (packet.token == token) ≡ b → MayTake d own packet → BookAgrees k d → IsServed k d fs attach → g.fs ≡ fs →
     is_pending_for token (told_by (is_reply (plan_of_packet d packet)) d packet (pending_of d packet) g) ≡ is_to_record attach g (job_of (d.jobs ++ job_for own packet d ∷ []) token)
-taken_by k d own packet fs attach g token true is m h s same =
+taken_by_cases k d own packet fs attach g token true is m h s same =
     let reply = is_reply (plan_of_packet d packet) in
     subst (λ (n : ℕ). is_pending_for n (told_by reply d packet (pending_of d packet) g) ≡ is_to_record attach g (job_of (d.jobs ++ job_for own packet d ∷ []) n)) (equal_by_test packet.token token is)
-    (here_by k d attach packet fs own g reply (same_trigger (trigger_of packet) g) refl refl m h s same
+    (pending_here_by_cases k d attach packet fs own g reply (same_trigger (trigger_of packet) g) refl refl m h s same
     ∙ ap (is_left attach g (job_for own packet d)) (sym (left_as d packet))
     ∙ ap (is_to_record attach g) (sym (job_new d own packet m.idle)))
-taken_by k d own packet fs attach g token false differs m h s same =
-    others_by d packet g token (is_reply (plan_of_packet d packet)) (same_trigger (trigger_of packet) g) refl differs m.settled
+taken_by_cases k d own packet fs attach g token false differs m h s same =
+    others_by_cases d packet g token (is_reply (plan_of_packet d packet)) (same_trigger (trigger_of packet) g) refl differs m.settled
     ∙ h.pending fs attach s g same token
     ∙ ap (is_to_record attach g) (sym (job_others d own packet token differs))
 
-before : (k : KernelState) (d : DaemonState) (own : ℕ) (packet : Packet) (fs attach : ℕ) → IsServed k (taken_up own packet d) fs attach → IsServed k d fs attach
-before k d own packet fs attach s = record { current = s.current; held = s.held }
+pub served_before_taken : (k : KernelState) (d : DaemonState) (own : ℕ) (packet : Packet) (fs attach : ℕ) → IsServed k (taken_up own packet d) fs attach → IsServed k d fs attach
+served_before_taken k d own packet fs attach s = record { current = s.current; held = s.held }
 
 -- the job of a packet begins
 pub taken_kept : (k : KernelState) (d : DaemonState) (own : ℕ) (packet : Packet) → MayTake d own packet → BookAgrees k d → BookAgrees k (taken_up own packet d)
 taken_kept k d own packet m h = record {
   pending = λ fs attach s g same token.
       ap (is_pending_for token) (told_is (is_reply (plan_of_packet d packet)) d packet (pending_of d packet) g)
-      ∙ taken_by k d own packet fs attach g token (packet.token == token) refl m h (before k d own packet fs attach s) same;
+      ∙ taken_by_cases k d own packet fs attach g token (packet.token == token) refl m h (served_before_taken k d own packet fs attach s) same;
   held = h.held;
   given = h.given;
 }

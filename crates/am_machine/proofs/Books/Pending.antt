@@ -68,27 +68,27 @@ put_other : (trigger g : Trigger) (entry : Record) (book : List RecordRow) (b : 
 put_other trigger g entry book true other = changed_other trigger g entry book other
 put_other trigger g entry book false other = added_other trigger g entry book other
 
-put_by : (trigger g : Trigger) (entry : Record) (book : List RecordRow) (b : Bool) → same_trigger trigger g ≡ b → record_of (with_record trigger entry book) g ≡ (if b then Some entry else record_of book g)
-put_by trigger g entry book true same =
+put_by_cases : (trigger g : Trigger) (entry : Record) (book : List RecordRow) (b : Bool) → same_trigger trigger g ≡ b → record_of (with_record trigger entry book) g ≡ (if b then Some entry else record_of book g)
+put_by_cases trigger g entry book true same =
     subst (λ (t : Trigger). record_of (with_record trigger entry book) t ≡ Some entry) (is_one trigger g same) (put_here trigger entry book (list_any (λ row. same_trigger row.trigger trigger) book) refl)
-put_by trigger g entry book false other = put_other trigger g entry book (list_any (λ row. same_trigger row.trigger trigger) book) other
+put_by_cases trigger g entry book false other = put_other trigger g entry book (list_any (λ row. same_trigger row.trigger trigger) book) other
 
 -- the record is written, and the others stay
 pub recorded_is : (trigger : Trigger) (entry : Option Record) (book : List RecordRow) → IsRecorded trigger entry book (recorded trigger entry book)
 recorded_is trigger None book = λ g. removed trigger g book
-recorded_is trigger (Some entry) book = λ g. put_by trigger g entry book (same_trigger trigger g) refl
+recorded_is trigger (Some entry) book = λ g. put_by_cases trigger g entry book (same_trigger trigger g) refl
 
 -- ---- file systems of which there is no record
 
-no_record_by : (g : Trigger) (row : RecordRow) (rows : List RecordRow) (b : Bool) → same_trigger row.trigger g ≡ b → (row.trigger.fs ≡ g.fs → ⊥) → record_of rows g ≡ None → record_of (row ∷ rows) g ≡ None
-no_record_by g row rows true same apart later = absurd (apart (ap (λ (t : Trigger). t.fs) (is_one row.trigger g same)))
-no_record_by g row rows false other apart later = rw other later
+no_record_by_cases : (g : Trigger) (row : RecordRow) (rows : List RecordRow) (b : Bool) → same_trigger row.trigger g ≡ b → (row.trigger.fs ≡ g.fs → ⊥) → record_of rows g ≡ None → record_of (row ∷ rows) g ≡ None
+no_record_by_cases g row rows true same apart later = absurd (apart (ap (λ (t : Trigger). t.fs) (is_one row.trigger g same)))
+no_record_by_cases g row rows false other apart later = rw other later
 
 -- no row of the book is of this file system
 pub no_record : (book : List RecordRow) (g : Trigger) → All (λ (row : RecordRow). row.trigger.fs ≡ g.fs → ⊥) book → record_of book g ≡ None
 no_record [] g h = refl
 no_record (row ∷ rows) g h =
-    no_record_by g row rows (same_trigger row.trigger g) refl (All-head (λ (row : RecordRow). row.trigger.fs ≡ g.fs → ⊥) row rows h) (no_record rows g (All-tail (λ (row : RecordRow). row.trigger.fs ≡ g.fs → ⊥) row rows h))
+    no_record_by_cases g row rows (same_trigger row.trigger g) refl (All-head (λ (row : RecordRow). row.trigger.fs ≡ g.fs → ⊥) row rows h) (no_record rows g (All-tail (λ (row : RecordRow). row.trigger.fs ≡ g.fs → ⊥) row rows h))
 
 -- ---- pending records
 
@@ -99,12 +99,12 @@ settled_for token (Some (Mounting other)) h = absurd cc
 settled_for token (Some (Mounted mount)) h = refl
 settled_for token (Some (Unmounting other mount)) h = absurd cc
 
-differs_by : (a b c : ℕ) → (a == b) ≡ true → (c == b) ≡ false → (a == c) ≡ false
-differs_by a b c same differs = grind (arith, nat_tests, same, differs)
+differs_by_cases : (a b c : ℕ) → (a == b) ≡ true → (c == b) ≡ false → (a == c) ≡ false
+differs_by_cases a b c same differs = grind (arith, nat_tests, same, differs)
 
 -- a record is pending for one token
 pub pending_once : (token other : ℕ) (o : Option Record) → is_pending_for token o ≡ true → (other == token) ≡ false → is_pending_for other o ≡ false
 pending_once token other None h differs = refl
-pending_once token other (Some (Mounting k)) h differs = differs_by k token other h differs
+pending_once token other (Some (Mounting k)) h differs = differs_by_cases k token other h differs
 pending_once token other (Some (Mounted mount)) h differs = refl
-pending_once token other (Some (Unmounting k mount)) h differs = differs_by k token other h differs
+pending_once token other (Some (Unmounting k mount)) h differs = differs_by_cases k token other h differs

@@ -8,7 +8,7 @@ use Rattle.am_names.specs.Trigger.{same_trigger}
 use Rattle.am_names.specs.declared.trigger.Trigger.{Trigger}
 use Rattle.am_names.specs.declared.row.MountRow.{MountRow}
 use Rattle.am_names.specs.declared.row.Position.{Position}
-use Rattle.am_names.proofs.Basics.{equal_by_test}
+use Rattle.am_names.proofs.Basics.{equal_by_test, found_passes}
 use Rattle.am_state.specs.declared.daemon_row.Record.{Record}
 use Rattle.am_state.specs.declared.daemon_row.Record.TheVariants.{Mounted}
 use Rattle.am_state.specs.declared.daemon_row.RecordRow.{RecordRow}
@@ -20,7 +20,6 @@ use Rattle.am_kernel.specs.DaemonMounts.{is_top_at, trigger_at, trigger_under, s
 use Rattle.am_job.specs.Book.{record_of, with_record}
 use Rattle.am_daemon.specs.Attachments.{all_mounted}
 use Rattle.am_daemon.specs.Packets.{is_pending}
-use Rattle.am_machine.proofs.Lists.Counts.{found_passes}
 use Rattle.am_machine.proofs.Books.Pending.{recorded_is}
 
 -- ---- they are of one file system
@@ -60,13 +59,13 @@ rows_of k autofs (row ∷ rows) =
     All-append (λ (one : Trigger × ℕ). one.0.fs ≡ autofs.fs) (standing_row k autofs row) (flat_map (standing_row k autofs) rows)
     (on_of autofs.fs (trigger_under k autofs row) row.mount (under_of autofs row.mountpoint (is_top_at k autofs.location row))) (rows_of k autofs rows)
 
-standing_by : (k : KernelState) (fs : ℕ) (o : Option Autofs) → autofs_of k.triggers fs ≡ o → All (λ (one : Trigger × ℕ). one.0.fs ≡ fs) (standing_in k o)
-standing_by k fs None e = All-nil (λ (one : Trigger × ℕ). one.0.fs ≡ fs)
-standing_by k fs (Some row) e =
+standing_by_cases : (k : KernelState) (fs : ℕ) (o : Option Autofs) → autofs_of k.triggers fs ≡ o → All (λ (one : Trigger × ℕ). one.0.fs ≡ fs) (standing_in k o)
+standing_by_cases k fs None e = All-nil (λ (one : Trigger × ℕ). one.0.fs ≡ fs)
+standing_by_cases k fs (Some row) e =
     subst (λ (n : ℕ). All (λ (one : Trigger × ℕ). one.0.fs ≡ n) (standing_of k row)) (equal_by_test row.fs fs (found_passes (λ (r : Autofs). r.fs == fs) k.triggers.autofs row e)) (rows_of k row k.table.rows)
 
 pub standing_fs : (k : KernelState) (fs : ℕ) → All (λ (one : Trigger × ℕ). one.0.fs ≡ fs) (standing k fs)
-standing_fs k fs = standing_by k fs (autofs_of k.triggers fs) refl
+standing_fs k fs = standing_by_cases k fs (autofs_of k.triggers fs) refl
 
 -- ---- they are written down
 
@@ -82,13 +81,13 @@ mounted_others (one ∷ standing) book g fs h other =
     ∙ recorded_is one.0 (Some (Mounted one.1)) book g
     ∙ rw differs refl
 
-settled_by : (b : Bool) (mount : ℕ) (o : Option Record) → is_pending o ≡ false → is_pending (if b then Some (Mounted mount) else o) ≡ false
-settled_by true mount o h = refl
-settled_by false mount o h = h
+settled_by_cases : (b : Bool) (mount : ℕ) (o : Option Record) → is_pending o ≡ false → is_pending (if b then Some (Mounted mount) else o) ≡ false
+settled_by_cases true mount o h = refl
+settled_by_cases false mount o h = h
 
 -- a record that isn't pending stays so
 pub mounted_settled : (standing : List (Trigger × ℕ)) (book : List RecordRow) (g : Trigger) → is_pending (record_of book g) ≡ false → is_pending (record_of (all_mounted standing book) g) ≡ false
 mounted_settled [] book g h = h
 mounted_settled (one ∷ standing) book g h =
     mounted_settled standing (with_record one.0 (Mounted one.1) book) g
-    (ap is_pending (recorded_is one.0 (Some (Mounted one.1)) book g) ∙ settled_by (same_trigger one.0 g) one.1 (record_of book g) h)
+    (ap is_pending (recorded_is one.0 (Some (Mounted one.1)) book g) ∙ settled_by_cases (same_trigger one.0 g) one.1 (record_of book g) h)

@@ -18,6 +18,7 @@ use Rattle.am_kernel.specs.Walks.{closed}
 use Rattle.am_daemon.specs.State.{DaemonState}
 use Rattle.am_machine.specs.Invariant.Books.{IsServed, BookAgrees}
 use Rattle.am_machine.proofs.Lists.Found.{found_unchanged, read_unchanged}
+use Rattle.am_machine.proofs.Places.Unchanged.{catatonic_fs}
 
 -- no file system has an attachment that it hadn't, and no number of one is taken back
 pub record Narrows (k made : KernelState) : Type 0 where
@@ -41,8 +42,8 @@ narrowed k made d n h = record {
 pub same_attachments : (k made : KernelState) → ((fs : ℕ) → attach_of made fs ≡ attach_of k fs) → k.last_fs ≤ made.last_fs → Narrows k made
 same_attachments k made same given = record { current = λ fs attach e. sym (same fs) ∙ e; given = given }
 
-pub stays : (k : KernelState) → Narrows k k
-stays k = record { current = λ fs attach e. e; given = omega arith }
+pub narrows_itself : (k : KernelState) → Narrows k k
+narrows_itself k = record { current = λ fs attach e. e; given = omega arith }
 
 pub one_after_another : (k mid made : KernelState) → Narrows k mid → Narrows mid made → Narrows k made
 one_after_another k mid made n m = record { current = λ fs attach e. n.current fs attach (m.current fs attach e); given = omega (arith, n.given, m.given) }
@@ -82,9 +83,6 @@ timeout_narrows k fs timeout =
 pub not_this : (fs f n : ℕ) → (fs == f) ≡ false → (n == f) ≡ true → (n == fs) ≡ false
 not_this fs f n other same = grind (arith, nat_tests, other, same)
 
-catatonic_fs : (fs : ℕ) (b : Bool) (row : Autofs) → (catatonic_row fs b row).fs ≡ row.fs
-catatonic_fs fs b row = elim (row.fs == fs) as (λ t. (if t then record row { catatonic = b } else row).fs ≡ row.fs) [ true ↦ refl | false ↦ refl ]
-
 -- the other autofs are found as before
 pub autofs_unchanged : (fs f : ℕ) (b : Bool) (rows : List Autofs) → (fs == f) ≡ false → find (λ row. row.fs == f) (map (catatonic_row fs b) rows) ≡ find (λ row. row.fs == f) rows
 autofs_unchanged fs f b rows other =
@@ -102,15 +100,15 @@ no_attachment : (live : Bool) (row : Option ℕ) (attach : ℕ) → live ≡ fal
 no_attachment true row attach dead e = absurd cc
 no_attachment false row attach dead e = absurd cc
 
-closed_by : (k : KernelState) (fs f attach : ℕ) (b : Bool) → (fs == f) ≡ b → attach_of (closed fs k) f ≡ Some attach → attach_of k f ≡ Some attach
-closed_by k fs f attach true same e =
+closed_by_cases : (k : KernelState) (fs f attach : ℕ) (b : Bool) → (fs == f) ≡ b → attach_of (closed fs k) f ≡ Some attach → attach_of k f ≡ Some attach
+closed_by_cases k fs f attach true same e =
     let here : attach_of (closed fs k) fs ≡ Some attach = subst (λ (n : ℕ). attach_of (closed fs k) n ≡ Some attach) (sym (equal_by_test fs f same)) e in
     absurd (no_attachment (is_live (closed fs k) fs) (latest_attach k.attached fs) attach (not_live fs k.triggers.autofs) here)
-closed_by k fs f attach false other e =
+closed_by_cases k fs f attach false other e =
     sym (found_same _ _ _ _ (autofs_unchanged fs f true k.triggers.autofs other) refl) ∙ e
 
 pub closed_narrows : (k : KernelState) (fs : ℕ) → Narrows k (closed fs k)
-closed_narrows k fs = record { current = λ f attach e. closed_by k fs f attach (fs == f) refl e; given = omega arith }
+closed_narrows k fs = record { current = λ f attach e. closed_by_cases k fs f attach (fs == f) refl e; given = omega arith }
 
 -- ---- a new pipe
 

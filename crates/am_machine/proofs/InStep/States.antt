@@ -16,7 +16,7 @@ use Rattle.am_state.specs.declared.daemon_row.Record.TheVariants.{Mounting, Moun
 use Rattle.am_state.specs.declared.kernel_row.QueuedRow.{QueuedRow}
 use Rattle.am_job.specs.Book.{record_of}
 use Rattle.am_names.proofs.SameTriggers.{is_itself}
-use Rattle.am_names.proofs.Basics.{equal_to_itself}
+use Rattle.am_names.proofs.Basics.{equal_to_itself, true_where_not_false}
 use Rattle.am_kernel.specs.State.{KernelState}
 use Rattle.am_kernel.specs.declared.row.Attached.{Attached}
 use Rattle.am_kernel.specs.declared.row.WalkRow.{WalkRow}
@@ -38,20 +38,20 @@ use Rattle.am_machine.specs.Invariant.Books.{IsServed, is_pending_for, BookAgree
 use Rattle.am_machine.specs.Invariant.Records.{AreOfTheirTokens}
 use Rattle.am_machine.specs.Invariant.Consistent.{IsConsistent}
 use Rattle.am_machine.specs.InStep.{AreInStep, RefusesInStep}
-use Rattle.am_machine.proofs.Lists.Different.{all_found, yes_no}
+use Rattle.am_machine.proofs.Lists.Different.{all_found, true_is_not_false}
 use Rattle.am_machine.proofs.Attachments.Known.{any_found, autofs_is, held_is}
-use Rattle.am_machine.proofs.Tests.{else_none, not_false}
+use Rattle.am_machine.proofs.Tests.{test_passed}
 use Rattle.am_machine.proofs.Tokens.Catatonic.{dev_of}
 use Rattle.am_machine.proofs.Tokens.Names.{reads}
 use Rattle.am_machine.proofs.Books.Jobs.{holds_one}
 use Rattle.am_machine.proofs.Agreement.Tokens.{token_named, in_pipe, pending_here}
 
 -- a packet for which the daemon is busy is of an attachment that it holds
-busy_by : (known held busy : Bool) → (if not known then Some UnknownFs else if not held then Some OldAttach else if busy then Some Busy else None) ≡ Some Busy → (held ≡ true) × (busy ≡ true)
-busy_by true true true h = (refl, refl)
-busy_by true true false h = absurd cc
-busy_by true false busy h = absurd cc
-busy_by false held busy h = absurd cc
+busy_by_cases : (known held busy : Bool) → (if not known then Some UnknownFs else if not held then Some OldAttach else if busy then Some Busy else None) ≡ Some Busy → (held ≡ true) × (busy ≡ true)
+busy_by_cases true true true h = (refl, refl)
+busy_by_cases true true false h = absurd cc
+busy_by_cases true false busy h = absurd cc
+busy_by_cases false held busy h = absurd cc
 
 -- a pending record is pending for a token
 record IsFor (o : Option Record) : Type 0 where
@@ -76,7 +76,7 @@ either_busy false b h first second = second h
 module _ (k : KernelState) (d : DaemonState) (tokens : TokensAgree k d.jobs) (book : BookAgrees k d) (records : AreOfTheirTokens k.waits d.book) (named : WalksFit k) where
   -- no job has the packet's token
   no_job : (row : QueuedRow) → IsInPipe k d.jobs row → is_some (job_of d.jobs row.packet.token) ≡ true → ⊥
-  no_job row p h = yes_no (is_some (job_of d.jobs row.packet.token)) h (ap is_some (ap (job_of d.jobs) p.numbered ∙ p.untaken))
+  no_job row p h = true_is_not_false (is_some (job_of d.jobs row.packet.token)) h (ap is_some (ap (job_of d.jobs) p.numbered ∙ p.untaken))
 
   -- and none is at work on its trigger, since another token of it would be open
   no_record : (row : QueuedRow) → IsInPipe k d.jobs row → holds d row.packet.dev row.attach ≡ true → is_pending (record_of d.book (trigger_of row.packet)) ≡ true → ⊥
@@ -99,7 +99,7 @@ module _ (k : KernelState) (d : DaemonState) (tokens : TokensAgree k d.jobs) (bo
   never_busy : (token : ℕ) (row : QueuedRow) → queued_of k.queue token ≡ Some row → delivery_fault row.attach row.packet d ≡ Some Busy → ⊥
   never_busy token row is e =
       let p = in_pipe k d tokens token row is in
-      let both = busy_by (knows d row.packet.dev) (holds d row.packet.dev row.attach) (is_busy d row.packet) e in
+      let both = busy_by_cases (knows d row.packet.dev) (holds d row.packet.dev row.attach) (is_busy d row.packet) e in
       either_busy (is_pending (record_of d.book (trigger_of row.packet))) (is_some (job_of d.jobs row.packet.token)) both.1 (no_record row p both.0) (no_job row p)
 
 -- ---- whom the daemon knows
@@ -139,19 +139,19 @@ in_step s h named =
 has_autofs : (k : KernelState) (fs : ℕ) → pipe_refusal k fs ≡ None → is_some (autofs_of k.triggers fs) ≡ true
 has_autofs k fs may =
     let there = is_some (autofs_of k.triggers fs) in
-    not_false there (else_none (not there) EINVAL (if is_live k fs then Some EBUSY else attach_refusal k) may).0
+    true_where_not_false there (test_passed (not there) EINVAL (if is_live k fs then Some EBUSY else attach_refusal k) may).0
 
-reattach_by : (k : KernelState) (d : DaemonState) (fs : ℕ) (o : Option Errno) → pipe_refusal k fs ≡ o → (is_some (autofs_of k.triggers fs) ≡ true → knows d fs ≡ true) → or_else o (reattach_refusal fs d) ≡ o
-reattach_by k d fs (Some e) is known = refl
-reattach_by k d fs None is known = ap (λ (b : Bool). if b then None else Some ENOENT) (known (has_autofs k fs is))
+refused_by_the_kernel_alone : (k : KernelState) (d : DaemonState) (fs : ℕ) (o : Option Errno) → pipe_refusal k fs ≡ o → (is_some (autofs_of k.triggers fs) ≡ true → knows d fs ≡ true) → or_else o (reattach_refusal fs d) ≡ o
+refused_by_the_kernel_alone k d fs (Some e) is known = refl
+refused_by_the_kernel_alone k d fs None is known = ap (λ (b : Bool). if b then None else Some ENOENT) (known (has_autofs k fs is))
 
-taken_by : (known held busy : Bool) → (held ≡ true → known ≡ true) → ((if not known then Some UnknownFs else if not held then Some OldAttach else if busy then Some Busy else None) ≡ Some Busy → ⊥) →
+taken_where_not_busy : (known held busy : Bool) → (held ≡ true → known ≡ true) → ((if not known then Some UnknownFs else if not held then Some OldAttach else if busy then Some Busy else None) ≡ Some Busy → ⊥) →
     not (is_some (if not known then Some UnknownFs else if not held then Some OldAttach else if busy then Some Busy else None)) ≡ held
-taken_by true true true h free = absurd (free refl)
-taken_by true true false h free = refl
-taken_by true false busy h free = refl
-taken_by false true busy h free = absurd (let no : false ≡ true = h refl in cc)
-taken_by false false busy h free = refl
+taken_where_not_busy true true true h free = absurd (free refl)
+taken_where_not_busy true true false h free = refl
+taken_where_not_busy true false busy h free = refl
+taken_where_not_busy false true busy h free = absurd (let no : false ≡ true = h refl in cc)
+taken_where_not_busy false false busy h free = refl
 
 live_is_there : (row : Option Autofs) → is_live_row row ≡ true → is_some row ≡ true
 live_is_there None live = absurd cc
@@ -164,9 +164,9 @@ pub refuses_in_step : (s : State) → AreInStep s → RefusesInStep s
 refuses_in_step s h =
     let d = s.daemon in
     record {
-      reattach = λ fs. reattach_by s.kernel d fs (pipe_refusal s.kernel fs) refl (h.known fs);
+      reattach = λ fs. refused_by_the_kernel_alone s.kernel d fs (pipe_refusal s.kernel fs) refl (h.known fs);
       deliver = λ token row bytes is. ap (λ (b : Bool). has_bytes bytes row && b)
-          (taken_by (knows d row.packet.dev) (holds d row.packet.dev row.attach) (is_busy d row.packet) (h.held row.packet.dev row.attach) (h.free token row is));
+          (taken_where_not_busy (knows d row.packet.dev) (holds d row.packet.dev row.attach) (is_busy d row.packet) (h.held row.packet.dev row.attach) (h.free token row is));
       attached = λ fs live. attach_found s.kernel fs live (h.attached fs (live_is_there (autofs_of s.kernel.triggers fs) live));
       resume = h.walks;
     }

@@ -4,8 +4,13 @@ use Rattle.std.specs.Prelude.{◌==◌, ◌&&◌, not, find}
 use Rattle.std.specs.List.{list_any}
 use Rattle.std.specs.Option.{option_map}
 use Rattle.std.proofs.lemmas.Bool.Decides.{nat_tests}
-use Rattle.am_names.proofs.Basics.{neither_of_or, equal_by_test}
+use Rattle.am_names.proofs.Basics.{neither_of_or, equal_by_test, differ_the_other_way}
 use Rattle.am_machine.specs.Invariant.Traces.{has, AreDifferent}
+
+-- what is found unless it is taken away
+pub some_unless : {X : Type 0} (b : Bool) (o : Option X) (row : X) → cond b None o ≡ Some row → (b ≡ false) × (o ≡ Some row)
+some_unless true o row e = absurd cc
+some_unless false o row e = (refl, e)
 
 -- ---- one row more, the last
 
@@ -44,32 +49,12 @@ module _ {X : Type 0} (number : X → ℕ) where
       let both = neither_of_or (number x == n) (has n (map number rows)) h in
       rw both.0 (has_more n rows new both.1 other)
 
-  other_way : (a b : ℕ) → (a == b) ≡ false → (b == a) ≡ false
-  other_way a b e = grind (arith, nat_tests, e)
-
   -- one row more, of a new number
   pub different_more : (rows : List X) (new : X) → AreDifferent (map number rows) → has (number new) (map number rows) ≡ false → AreDifferent (map number (rows ++ new ∷ []))
   different_more [] new h fresh = (refl, tt)
   different_more (x ∷ rows) new h fresh =
       let both = neither_of_or (number x == number new) (has (number new) (map number rows)) fresh in
-      (has_more (number x) rows new h.0 (other_way (number x) (number new) both.0), different_more rows new h.1 both.1)
-
-  has_kept : (n : ℕ) (keep : X → Bool) (rows : List X) → has n (map number rows) ≡ false → has n (map number (filter keep rows)) ≡ false
-  has_kept n keep [] h = refl
-  has_kept n keep (x ∷ rows) h = by (neither_of_or (number x == n) (has n (map number rows)) h).0 (has_kept n keep rows (neither_of_or (number x == n) (has n (map number rows)) h).1) (keep x)
-    where
-      by : (number x == n) ≡ false → has n (map number (filter keep rows)) ≡ false → (b : Bool) → has n (map number (cond b (x ∷ filter keep rows) (filter keep rows))) ≡ false
-      by other later true = rw other later
-      by other later false = later
-
-  -- some rows stay
-  pub different_kept : (keep : X → Bool) (rows : List X) → AreDifferent (map number rows) → AreDifferent (map number (filter keep rows))
-  different_kept keep [] h = tt
-  different_kept keep (x ∷ rows) h = by (has_kept (number x) keep rows h.0) (different_kept keep rows h.1) (keep x)
-    where
-      by : has (number x) (map number (filter keep rows)) ≡ false → AreDifferent (map number (filter keep rows)) → (b : Bool) → AreDifferent (map number (cond b (x ∷ filter keep rows) (filter keep rows)))
-      by apart later true = (apart, later)
-      by apart later false = later
+      (has_more (number x) rows new h.0 (differ_the_other_way (number x) (number new) both.0), different_more rows new h.1 both.1)
 
   -- the rows of one number go: none has it then, and the others are found as before
   pub gone : (n : ℕ) (rows : List X) → has n (map number (filter (λ x. not (number x == n)) rows)) ≡ false
@@ -86,7 +71,7 @@ module _ {X : Type 0} (number : X → ℕ) where
     where
       by : find (λ x. number x == m) (filter (λ x. not (number x == n)) rows) ≡ find (λ x. number x == m) rows → (b : Bool) → (number x == n) ≡ b → find (λ x. number x == m) (cond (not b) (x ∷ filter (λ x. not (number x == n)) rows) (filter (λ x. not (number x == n)) rows)) ≡ find (λ x. number x == m) (x ∷ rows)
       by later true same =
-          let skipped : (number x == m) ≡ false = subst (λ (k : ℕ). (k == m) ≡ false) (sym (equal_by_test (number x) n same)) (other_way m n other) in
+          let skipped : (number x == m) ≡ false = subst (λ (k : ℕ). (k == m) ≡ false) (sym (equal_by_test (number x) n same)) (differ_the_other_way m n other) in
           rw skipped later
       by later false differs = ap (λ (o : Option X). cond (number x == m) (Some x) o) later
 

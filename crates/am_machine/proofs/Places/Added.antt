@@ -6,6 +6,7 @@ use Rattle.std.proofs.lemmas.List.Folds.{find-append}
 use Rattle.std.proofs.lemmas.Bool.{eqb-true, eq-eqb, or_cases}
 use Rattle.am_names.specs.declared.row.MountRow.{MountRow}
 use Rattle.am_names.specs.declared.row.Position.{Position}
+use Rattle.am_names.proofs.Basics.{some_injective}
 use Rattle.am_group.specs.declared.membership.Membership.{Membership}
 use Rattle.am_group.specs.Propagation.{Receives}
 use Rattle.am_group.specs.Receivers.{receivers_of}
@@ -15,7 +16,7 @@ use Rattle.am_propagate.specs.MountTable.{MountTable}
 use Rattle.am_propagate.specs.Invariant.{IsWhole}
 use Rattle.am_propagate.specs.Added.{row_at, rows_at, mounted}
 use Rattle.am_propagate.proofs.AdditionLemmas.{receiver_exact, mounted_law}
-use Rattle.am_machine.proofs.Places.Rows.{same_row, Grows}
+use Rattle.am_machine.proofs.Places.Rows.{Grows}
 
 -- a row that is found in what is joined is one of the first, or else one of the others
 pub joined_row : (first others : List MountRow) (m : ℕ) (row : MountRow) → mount_row (first ++ others) m ≡ Some row → (mount_row first m ≡ Some row) ⊎ (mount_row others m ≡ Some row)
@@ -58,7 +59,7 @@ module _ (t : MountTable) (place : List (List ℕ)) (fs origin : ℕ) where
             parent = p;
             among = rw (eq-eqb p p refl) refl;
             above = omega arith;
-            is_row = sym (same_row e) ∙ ap (λ (n : ℕ). row_at t place fs origin n p) same;
+            is_row = sym (some_injective e) ∙ ap (λ (n : ℕ). row_at t place fs origin n p) same;
           }
       go false f e ih =
           let rest = ih e in
@@ -117,7 +118,7 @@ module _ (t : MountTable) (whole : IsWhole t) (at : Position) (fs : ℕ) (member
       (joined_row t.rows (rows_at t at.place fs number number (at.mount ∷ receivers_of t.groups at.mount)) m row e)
     where
       first_or : (b : Bool) → (number == m) ≡ b → cond b (Some (row_at t at.place fs number number at.mount)) (mount_row (rows_at t at.place fs number (number + 1) (receivers_of t.groups at.mount)) m) ≡ Some row → IsFirst m row ⊎ IsCopyRow m row
-      first_or true f e = inl (record { is_next = sym (eqb-true number m f); is_row = sym (same_row e) })
+      first_or true f e = inl (record { is_next = sym (eqb-true number m f); is_row = sym (some_injective e) })
       first_or false f e =
           let added = added_row t at.place fs number (number + 1) (receivers_of t.groups at.mount) m row e in
           let le : number + 1 ≤ m = added.above in

@@ -6,6 +6,7 @@ use Rattle.std.proofs.lemmas.List.Folds.{find-append}
 use Rattle.std.proofs.lemmas.Bool.{eqb-true, ne_eqb}
 use Rattle.am_names.specs.declared.row.MountRow.{MountRow}
 use Rattle.am_names.specs.declared.row.Position.{Position}
+use Rattle.am_names.proofs.Basics.{some_injective}
 use Rattle.am_group.specs.declared.membership.Membership.TheVariants.{Private}
 use Rattle.am_mount.specs.Rows.{mount_row, HasRow, IsIn}
 use Rattle.am_propagate.specs.MountTable.{MountTable}
@@ -17,7 +18,7 @@ use Rattle.am_kernel.specs.State.{KernelState}
 use Rattle.am_kernel.specs.Sites.{is_on_autofs}
 use Rattle.am_kernel.specs.DaemonMounts.{with_mount, attached_at}
 use Rattle.am_machine.specs.Invariant.Places.{IsLocation, PlacesAgree}
-use Rattle.am_machine.proofs.Places.Rows.{same_row, receiver_row, parent_row}
+use Rattle.am_machine.proofs.Places.Rows.{receiver_row, parent_row}
 use Rattle.am_machine.proofs.Places.Added.{mounted_grows, first_row}
 use Rattle.am_machine.proofs.Places.Grown.{position, mounts_same, off_autofs, came_at, mounted_places}
 
@@ -110,7 +111,7 @@ module _ (k : KernelState) (h : PlacesAgree k) (at : Position) (there : HasRow (
     outside = λ p parent on e.
         let is_at : at.mount ≡ p = mounts_same at.mount p at.place on.0 on.1 in
         let stays = (mounted_grows k.table h.whole at (k.last_fs + 1) Private).stays at.mount there.0 there.1 in
-        let same : there.0 ≡ parent = same_row (sym stays ∙ ap (mount_row (mounted at (k.last_fs + 1) Private k.table).rows) is_at ∙ e) in
+        let same : there.0 ≡ parent = some_injective (sym stays ∙ ap (mount_row (mounted at (k.last_fs + 1) Private k.table).rows) is_at ∙ e) in
         ap (λ (r : MountRow). autofs_of k.triggers r.fs) (sym same) ∙ off_autofs k at.mount there.0 there.1 off;
   }
 

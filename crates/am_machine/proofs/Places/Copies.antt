@@ -4,6 +4,7 @@ use Rattle.std.specs.Prelude.{◌==◌, nat_le, map, filter}
 use Rattle.std.proofs.lemmas.Bool.{eqb-true, eq-eqb, ne_eqb}
 use Rattle.std.proofs.lemmas.Bool.Decides.{nat_tests}
 use Rattle.am_names.specs.declared.row.MountRow.{MountRow}
+use Rattle.am_names.proofs.Basics.{some_injective}
 use Rattle.am_group.specs.declared.kind.Change.{Change}
 use Rattle.am_mount.specs.Rows.{RiseFrom, mount_row, is_among, is_in}
 use Rattle.am_propagate.specs.declared.subtree.namespace.CopyForm.{CopyForm}
@@ -17,7 +18,7 @@ use Rattle.am_propagate.proofs.KindLemmas.{changed_keeps, changed_whole}
 use Rattle.am_kernel.specs.State.{KernelState}
 use Rattle.am_kernel.specs.Namespaces.{with_namespace}
 use Rattle.am_machine.specs.Invariant.Places.{IsLocation, PlacesAgree}
-use Rattle.am_machine.proofs.Places.Rows.{same_row, receiver_row, received, parent_row, Grows, StaysFree, free_alone}
+use Rattle.am_machine.proofs.Places.Rows.{receiver_row, received, parent_row, Grows, StaysFree, free_alone}
 use Rattle.am_machine.proofs.Places.Added.{joined_row, first_stays}
 use Rattle.am_machine.proofs.Places.Grown.{grown_places}
 use Rattle.am_machine.proofs.Places.Left.{passes_among, its_number}
@@ -53,7 +54,7 @@ copied_from number ns to low (x ∷ rows) rises m row e = kept (is_in ns x) refl
 
     here : (b : Bool) → is_in ns x ≡ true → cond b (Some (row_in number to x)) (mount_row (map (row_in number to) (filter (is_in ns) rows)) m) ≡ Some row →
         (mount_row (map (row_in number to) (filter (is_in ns) rows)) m ≡ Some row → IsCopyOf rows number ns to (x.mount + 1) row) → IsCopyOf (x ∷ rows) number ns to low row
-    here true k e ih = record { source = x; above = rises.0; is_source = rw (eq-eqb x.mount x.mount refl) refl; inside = k; is_row = sym (same_row e) }
+    here true k e ih = record { source = x; above = rises.0; is_source = rw (eq-eqb x.mount x.mount refl) refl; inside = k; is_row = sym (some_injective e) }
     here false k e ih = later (ih e)
 
     kept : (b : Bool) → is_in ns x ≡ b → mount_row (map (row_in number to) (cond b (x ∷ filter (is_in ns) rows) (filter (is_in ns) rows))) m ≡ Some row →
@@ -95,7 +96,7 @@ module _ (t : MountTable) (whole : IsWhole t) (ns : ℕ) (form : CopyForm) where
     free = λ m row place above e at.
         let from = copy_above m row above e in
         let parent = parent_row (with_copy form ns t) (with_copy_whole t whole ns form) m x row place e at in
-        let same : parent.0 ≡ old = same_row (sym parent.1 ∙ copy_grows.stays x old is_old) in
+        let same : parent.0 ≡ old = some_injective (sym parent.1 ∙ copy_grows.stays x old is_old) in
         let here : row.ns ≡ t.last_ns + 1 = ap (λ (r : MountRow). r.ns) from.is_row in
         let there : old.ns ≡ row.ns = ap (λ (r : MountRow). r.ns) (sym same) ∙ parent.2 in
         let le : old.ns ≤ t.last_ns = (whole.numbered x old is_old).1 in

@@ -4,6 +4,7 @@ use Rattle.std.specs.Prelude.{is_some}
 use Rattle.std.specs.Option.{option_map, option_and_then}
 use Rattle.am_names.specs.declared.row.MountRow.{MountRow}
 use Rattle.am_names.specs.declared.row.Position.{Position}
+use Rattle.am_names.proofs.Basics.{some_injective}
 use Rattle.am_group.specs.declared.membership.Membership.{Membership}
 use Rattle.am_group.specs.Propagation.{Receives}
 use Rattle.am_mount.specs.Rows.{mount_row, IsAt, IsFree}
@@ -17,7 +18,7 @@ use Rattle.am_trigger.specs.Rows.{autofs_of}
 use Rattle.am_kernel.specs.State.{KernelState}
 use Rattle.am_kernel.specs.Sites.{is_on_autofs}
 use Rattle.am_machine.specs.Invariant.Places.{IsLocation, HasCopy, PlacesAgree}
-use Rattle.am_machine.proofs.Places.Rows.{same_row, receiver_row, receiver_fs, received, Grows, ComesAlone, StaysFree, free_alone, grown_one, grown_copied}
+use Rattle.am_machine.proofs.Places.Rows.{receiver_row, receiver_fs, received, Grows, ComesAlone, StaysFree, free_alone, grown_one, grown_copied}
 use Rattle.am_machine.proofs.Places.Added.{IsFirst, IsCopyRow, came_row, mounted_grows, copy_row}
 
 -- ---- positions, and mounts of an autofs
@@ -73,7 +74,7 @@ grown_location k new last whole grows fs x h = record {
   ns = h.ns;
   outside = λ p parent on e.
       let was = whole.parents x p h.row h.is_row on in
-      let same : was.0 ≡ parent = same_row (sym (grows.stays p was.0 was.1) ∙ e) in
+      let same : was.0 ≡ parent = some_injective (sym (grows.stays p was.0 was.1) ∙ e) in
       h.outside p parent on (was.1 ∙ ap Some same);
 }
 
@@ -127,9 +128,6 @@ module _ (k : KernelState) (h : PlacesAgree k) (at : Position) (fs : ℕ) (membe
       pub number : m ≡ k.table.last_mount + 1
       pub place : names ≡ at.place
 
-    same_autofs : {x y : Autofs} → Some x ≡ Some y → x ≡ y
-    same_autofs e = cc
-
     -- two locations of one file system are the same
     other_location : (g : ℕ) (a : Autofs) → autofs_of k.triggers g ≡ Some a → Receives k.table.groups at.mount a.location → a.location ≡ at.mount
     other_location g a is r =
@@ -137,7 +135,7 @@ module _ (k : KernelState) (h : PlacesAgree k) (at : Position) (fs : ℕ) (membe
         let its = h.locations g a is in
         let there : mount_row k.table.rows at.mount ≡ Some mine.row = subst (λ (n : ℕ). mount_row k.table.rows n ≡ Some mine.row) (sym here) mine.is_row in
         let same : g ≡ f = sym its.fs ∙ sym (receiver_fs k.table h.whole at.mount a.location r mine.row its.row there its.is_row) ∙ mine.fs in
-        let one : a ≡ b = same_autofs (sym is ∙ ap (autofs_of k.triggers) same ∙ is_b) in
+        let one : a ≡ b = some_injective (sym is ∙ ap (autofs_of k.triggers) same ∙ is_b) in
         ap (λ (x : Autofs). x.location) one ∙ sym here
 
     is_here : (g : ℕ) (a : Autofs) → autofs_of k.triggers g ≡ Some a → (m : ℕ) (row : MountRow) (place : List (List ℕ)) → k.table.last_mount < m → mount_row (mounted at fs membership k.table).rows m ≡ Some row → IsAt a.location place row → IsHere a.location m place

@@ -7,6 +7,7 @@ use Rattle.std.proofs.lemmas.Map.Views.{Contains-from_any, list_any-from_Contain
 use Rattle.std.proofs.lemmas.Cmp.{nat_eq_equiv}
 use Rattle.am_names.specs.declared.row.MountRow.{MountRow}
 use Rattle.am_names.specs.declared.row.Position.{Position}
+use Rattle.am_names.proofs.Basics.{some_injective, false_unless_true, or_left}
 use Rattle.am_group.specs.Changes.{is_just}
 use Rattle.am_group.specs.Propagation.{Receives}
 use Rattle.am_group.specs.Receivers.{receivers_of}
@@ -24,18 +25,14 @@ use Rattle.am_trigger.specs.Rows.{autofs_of}
 use Rattle.am_kernel.specs.State.{KernelState}
 use Rattle.am_kernel.specs.DaemonMounts.{without_mounts}
 use Rattle.am_machine.specs.Invariant.Places.{IsLocation, PlacesAgree}
-use Rattle.am_machine.proofs.Places.Rows.{same_row, Shrinks, LeavesCopies, left_one, left_copied}
+use Rattle.am_machine.proofs.Places.Rows.{Shrinks, LeavesCopies, left_one, left_copied}
 
 -- ---- what is among the mounts that pass a test
-
-pub not_true : (b : Bool) → (b ≡ true → ⊥) → b ≡ false
-not_true true f = absurd (f refl)
-not_true false f = refl
 
 pub among_passes : (test : MountRow → Bool) (rows : List MountRow) → IsRising rows → (m : ℕ) (row : MountRow) → mount_row rows m ≡ Some row → is_among (mounts_where test rows) m ≡ true → test row ≡ true
 among_passes test rows rising m row e h =
     let found = (where_every test (λ r. test r ≡ true) (λ r. (λ x. x, λ x. x)) rows rising m).0 (Contains-from_any {eq = eqb} eqb-true m (mounts_where test rows) (among_has m (mounts_where test rows) ∙ h)) in
-    subst (λ (r : MountRow). test r ≡ true) (same_row (sym found.1 ∙ e)) found.2
+    subst (λ (r : MountRow). test r ≡ true) (some_injective (sym found.1 ∙ e)) found.2
 
 pub passes_among : (test : MountRow → Bool) (rows : List MountRow) → IsRising rows → (m : ℕ) (row : MountRow) → mount_row rows m ≡ Some row → test row ≡ true → is_among (mounts_where test rows) m ≡ true
 passes_among test rows rising m row e h =
@@ -123,13 +120,9 @@ goes_cases t whole m at is_at n row e goes = ⊎_elim
 pub itself_goes : (t : MountTable) → IsWhole t → (m : ℕ) (row : MountRow) → mount_row t.rows m ≡ Some row → row.mount ≡ m → is_among (unmounted t m) m ≡ true
 itself_goes t whole m row e same = passes_among (goes_with t m (mountpoint_of t m)) t.rows whole.rising m row e (go (mountpoint_of t m))
   where
-    left : (a b : Bool) → a ≡ true → (a || b) ≡ true
-    left true b h = refl
-    left false b h = absurd cc
-
     go : (o : Option Position) → goes_with t m o row ≡ true
     go None = eq-eqb row.mount m same
-    go (Some at) = left (row.mount == m) _ (eq-eqb row.mount m same)
+    go (Some at) = or_left (row.mount == m) _ (eq-eqb row.mount m same)
 
 -- a row is found by its own number
 pub its_number : (rows : List MountRow) (m : ℕ) (row : MountRow) → mount_row rows m ≡ Some row → row.mount ≡ m

@@ -7,6 +7,7 @@ use Rattle.am_names.specs.declared.errno.Errno.TheVariants.{ENOENT}
 use Rattle.am_names.specs.declared.trigger.Trigger.{Trigger}
 use Rattle.am_names.specs.declared.row.MountRow.{MountRow}
 use Rattle.am_names.specs.declared.row.Position.{Position}
+use Rattle.am_names.proofs.Basics.{some_injective}
 use Rattle.am_group.proofs.LookupLemmas.{found_passes}
 use Rattle.am_mount.specs.Rows.{RiseFrom, mount_row, top_of, root_of, HasRow, IsIn, IsTop}
 use Rattle.am_mount.specs.Rows as rows
@@ -24,7 +25,7 @@ use Rattle.am_walk.specs.Walks.{Visit, Stands, Stops, followed, settled_within, 
 use Rattle.am_walk.proofs.RestLemmas.{IsHalt, IsTopIn}
 use Rattle.am_kernel.specs.State.{KernelState}
 use Rattle.am_kernel.specs.Sites.{open_scene, position_at}
-use Rattle.am_machine.proofs.Places.Rows.{same_row, parent_row}
+use Rattle.am_machine.proofs.Places.Rows.{parent_row}
 
 -- ---- what is entered is the top
 
@@ -56,7 +57,7 @@ found_itself test low [] rises row e = absurd cc
 found_itself test low (x ∷ mounts) rises row e = go (test x) e (found_itself test (x.mount + 1) mounts rises.1 row)
   where
     go : (b : Bool) → cond b (Some x) (find test mounts) ≡ Some row → (find test mounts ≡ Some row → IsFound mounts (x.mount + 1) row) → IsFound (x ∷ mounts) low row
-    go true e ih = subst (λ (r : MountRow). IsFound (x ∷ mounts) low r) (same_row e) (record { above = rises.0; is_row = rw (eq-eqb x.mount x.mount refl) refl })
+    go true e ih = subst (λ (r : MountRow). IsFound (x ∷ mounts) low r) (some_injective e) (record { above = rises.0; is_row = rw (eq-eqb x.mount x.mount refl) refl })
     go false e ih =
         let found = ih e in
         let first : low ≤ x.mount = rises.0 in
@@ -74,7 +75,7 @@ module _ (k : KernelState) (whole : IsWhole k.table) (ns : ℕ) where
   below_inside mount below place e inside =
       let top : IsTop k.table.rows mount place below = subst (λ (o : Option ℕ). IfSome o (IsTop k.table.rows mount place)) e (some_greatest k.table.rows mount place (top_of k.table.rows mount place) (top_is k.table.rows whole.rising mount place)) in
       let parent = parent_row k.table whole below mount top.is_there.0 place top.is_there.1 top.is_there.2 in
-      let same : parent.0 ≡ inside.0 = same_row (sym parent.1 ∙ inside.1) in
+      let same : parent.0 ≡ inside.0 = some_injective (sym parent.1 ∙ inside.1) in
       (top.is_there.0, top.is_there.1, sym parent.2 ∙ ap (λ (r : MountRow). r.ns) same ∙ inside.2)
 
   followed_inside : (next : Next) (mount : ℕ) (place : List (List ℕ)) (passed : List Trigger) (enter : ℕ → List Trigger → Visit) → IsTopIn (top_of k.table.rows mount place) next → HasRow (IsIn ns) k.table.rows mount →
@@ -89,13 +90,13 @@ module _ (k : KernelState) (whole : IsWhole k.table) (ns : ℕ) where
   within_inside (suc steps) mount place passed inside =
       followed_inside (next_at (open_scene k) mount place) mount place passed (λ m gs. settled_within steps (open_scene k) m [] gs) (site_top k (autofs_at (open_scene k) mount) mount place) inside (λ below gs h. within_inside steps below [] gs h)
 
-  onward_by : (b : Bool) (mount : ℕ) (place : List (List ℕ)) (passed : List Trigger) → HasRow (IsIn ns) k.table.rows mount → StandsIn (cond b (settled (open_scene k) mount place passed) (Stops (stops.Refuse ENOENT) passed))
-  onward_by true mount place passed inside = within_inside (length k.table.rows + 1) mount place passed inside
-  onward_by false mount place passed inside = tt
+  onward_by_cases : (b : Bool) (mount : ℕ) (place : List (List ℕ)) (passed : List Trigger) → HasRow (IsIn ns) k.table.rows mount → StandsIn (cond b (settled (open_scene k) mount place passed) (Stops (stops.Refuse ENOENT) passed))
+  onward_by_cases true mount place passed inside = within_inside (length k.table.rows + 1) mount place passed inside
+  onward_by_cases false mount place passed inside = tt
 
   onward_inside : (name : List ℕ) (visit : Visit) → StandsIn visit → StandsIn (onward (open_scene k) name visit)
   onward_inside name (Stops stop passed) h = h
-  onward_inside name (Stands mount place passed) h = onward_by (has_names (autofs_at (open_scene k) mount) place) mount (place ++ name ∷ []) passed h
+  onward_inside name (Stands mount place passed) h = onward_by_cases (has_names (autofs_at (open_scene k) mount) place) mount (place ++ name ∷ []) passed h
 
   after_inside : (root : ℕ) (names : List (List ℕ)) → HasRow (IsIn ns) k.table.rows root → StandsIn (after (open_scene k) root names)
   after_inside root [] inside = within_inside (length k.table.rows + 1) root [] [] inside

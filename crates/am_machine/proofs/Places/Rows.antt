@@ -2,6 +2,7 @@
 use Rattle.std.proofs.Common.{◌≡◌, ◌≤◌, ◌<◌, ◌⊎◌, ℕ, Bool, false, List, [], ◌∷◌, Some, sym, ◌∙◌, ap, ⊎_elim, arith}
 use Rattle.std.specs.Prelude.{is_some}
 use Rattle.am_names.specs.declared.row.MountRow.{MountRow}
+use Rattle.am_names.proofs.Basics.{some_injective}
 use Rattle.am_group.specs.Propagation.{PropagatesBy, Receives}
 use Rattle.am_group.specs.Invariant.{AddsNoReceivers}
 use Rattle.am_mount.specs.Rows.{mount_row, HasRow, IsIn, IsAt}
@@ -10,16 +11,13 @@ use Rattle.am_propagate.specs.Invariant.{ShareFs, IsWhole}
 use Rattle.am_propagate.proofs.RemovalLemmas.{same_there, reached_row, same_along}
 use Rattle.am_machine.specs.Invariant.Places.{HoldsOne, HasCopy, IsCopied}
 
-pub same_row : {a b : MountRow} → Some a ≡ Some b → a ≡ b
-same_row e = cc
-
 -- a mount that receives is there
-reached_by : (t : MountTable) → IsWhole t → (way : List ℕ) (b c : ℕ) → PropagatesBy t.groups way b c → (row : MountRow) × (mount_row t.rows c ≡ Some row)
-reached_by t whole [] b c p = reached_row t whole b c p
-reached_by t whole (n ∷ way) b c p = reached_by t whole way n c p.1
+reached_by_a_way : (t : MountTable) → IsWhole t → (way : List ℕ) (b c : ℕ) → PropagatesBy t.groups way b c → (row : MountRow) × (mount_row t.rows c ≡ Some row)
+reached_by_a_way t whole [] b c p = reached_row t whole b c p
+reached_by_a_way t whole (n ∷ way) b c p = reached_by_a_way t whole way n c p.1
 
 pub receiver_row : (t : MountTable) → IsWhole t → (b c : ℕ) → Receives t.groups b c → (row : MountRow) × (mount_row t.rows c ≡ Some row)
-receiver_row t whole b c r = reached_by t whole r.way b c r.arrives
+receiver_row t whole b c r = reached_by_a_way t whole r.way b c r.arrives
 
 -- and of the same file system
 pub receiver_fs : (t : MountTable) → IsWhole t → (b c : ℕ) → Receives t.groups b c → ShareFs t.rows b c

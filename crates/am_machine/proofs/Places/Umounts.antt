@@ -5,6 +5,7 @@ use Rattle.std.specs.Prelude.{IfSome}
 use Rattle.std.proofs.lemmas.Bool.{eqb-true, eq-eqb}
 use Rattle.am_names.specs.declared.row.MountRow.{MountRow}
 use Rattle.am_names.specs.declared.row.Position.{Position}
+use Rattle.am_names.proofs.Basics.{some_injective, false_unless_true}
 use Rattle.am_group.specs.Propagation.{Receives}
 use Rattle.am_mount.specs.Rows.{mount_row, is_among, is_in, top_of, IsAt, IsTop}
 use Rattle.am_mount.proofs.RowLemmas.{top_is, some_greatest}
@@ -19,9 +20,9 @@ use Rattle.am_kernel.specs.Sites.{is_on_autofs}
 use Rattle.am_kernel.specs.Administration.{is_any_on_autofs}
 use Rattle.am_kernel.specs.DaemonMounts.{without_mounts}
 use Rattle.am_machine.specs.Invariant.Places.{IsLocation, PlacesAgree}
-use Rattle.am_machine.proofs.Places.Rows.{same_row, receiver_row, receiver_fs, parent_row}
+use Rattle.am_machine.proofs.Places.Rows.{receiver_row, receiver_fs, parent_row}
 use Rattle.am_machine.proofs.Places.Grown.{position, mounts_same, places_same, on_autofs}
-use Rattle.am_machine.proofs.Places.Left.{not_true, among_passes, passes_among, any_among, left_places, goes_cases, itself_goes, its_number}
+use Rattle.am_machine.proofs.Places.Left.{among_passes, passes_among, any_among, left_places, goes_cases, itself_goes, its_number}
 
 -- a mount that is mounted somewhere has a row, and so has its parent
 record IsMounted (t : MountTable) (m : ℕ) (at : Position) : Type 0 where
@@ -38,11 +39,8 @@ is_mounted t m at e = go (mount_row t.rows m) refl e
 
 -- a mount and what receives from it are of one file system
 reach_fs : (t : MountTable) → IsWhole t → (m x : ℕ) (row other : MountRow) → mount_row t.rows m ≡ Some row → mount_row t.rows x ≡ Some other → (x ≡ m) ⊎ Receives t.groups m x → row.fs ≡ other.fs
-reach_fs t whole m x row other e f (inl same) = ap (λ (r : MountRow). r.fs) (same_row (sym e ∙ ap (mount_row t.rows) (sym same) ∙ f))
+reach_fs t whole m x row other e f (inl same) = ap (λ (r : MountRow). r.fs) (some_injective (sym e ∙ ap (mount_row t.rows) (sym same) ∙ f))
 reach_fs t whole m x row other e f (inr r) = receiver_fs t whole m x r row other e f
-
-same_autofs : {x y : Autofs} → Some x ≡ Some y → x ≡ y
-same_autofs e = cc
 
 module _ (k : KernelState) (h : PlacesAgree k) (m : ℕ) (at : Position) (mounted : mountpoint_of k.table m ≡ Some at) where
   -- what goes with the mount is at the same place of its parent, or of one that receives from that
@@ -55,11 +53,11 @@ module _ (k : KernelState) (h : PlacesAgree k) (m : ℕ) (at : Position) (mounte
   goes_from n row e goes = ⊎_elim
       (λ same.
       let its = is_mounted k.table m at mounted in
-      let one : its.row ≡ row = same_row (sym its.is_row ∙ ap (mount_row k.table.rows) (sym same ∙ its_number k.table.rows n row e) ∙ e) in
+      let one : its.row ≡ row = some_injective (sym its.is_row ∙ ap (mount_row k.table.rows) (sym same ∙ its_number k.table.rows n row e) ∙ e) in
       record { parent = at.mount; is_at = subst (λ (r : MountRow). IsAt at.mount at.place r) one its.is_at; reached = inl refl })
       (λ there.
       let top : IsTop k.table.rows there.on.mount at.place row.mount = subst (λ (o : Option ℕ). IfSome o (IsTop k.table.rows there.on.mount at.place)) there.top (some_greatest k.table.rows there.on.mount at.place (top_of k.table.rows there.on.mount at.place) (top_is k.table.rows h.whole.rising there.on.mount at.place)) in
-      let one : top.is_there.0 ≡ row = same_row (sym top.is_there.1 ∙ ap (mount_row k.table.rows) (its_number k.table.rows n row e) ∙ e) in
+      let one : top.is_there.0 ≡ row = some_injective (sym top.is_there.1 ∙ ap (mount_row k.table.rows) (its_number k.table.rows n row e) ∙ e) in
       record { parent = there.on.mount; is_at = subst (λ (r : MountRow). IsAt there.on.mount at.place r) one top.is_there.2; reached = inr there.receives })
       (goes_cases k.table h.whole m at mounted n row e goes)
 
@@ -74,14 +72,14 @@ module _ (k : KernelState) (h : PlacesAgree k) (m : ℕ) (at : Position) (mounte
 
   pub plain_places : is_bare k.table m ≡ true → is_on_autofs k at.mount ≡ false → is_any_on_autofs k (unmounted k.table m) ≡ false → PlacesAgree (without_mounts (unmounted k.table m) k)
   plain_places bare off none = left_places k (unmounted k.table m) h (unmounted_leaves k.table m bare)
-      (λ g a is. not_true (is_among (unmounted k.table m) a.location) (λ goes.
+      (λ g a is. false_unless_true (is_among (unmounted k.table m) a.location) (λ goes.
       let its = h.locations g a is in
       let on : is_on_autofs k a.location ≡ true = on_autofs k a.location its.row a its.is_row (ap (autofs_of k.triggers) its.fs ∙ is) in
       let any : is_any_on_autofs k (unmounted k.table m) ≡ true = any_among (is_on_autofs k) (unmounted k.table m) a.location goes on in
       let no : true ≡ false = sym any ∙ none in
       cc))
       (λ g a is. record {
-        leaves = λ m' y n p q place stays_m stays_y ep at_p r eq at_q. not_true (is_among (unmounted k.table m) n) (λ goes.
+        leaves = λ m' y n p q place stays_m stays_y ep at_p r eq at_q. false_unless_true (is_among (unmounted k.table m) n) (λ goes.
             let from = goes_from n q eq goes in
             let its = h.locations g a is in
             let other = receiver_row k.table h.whole a.location y r in
@@ -96,7 +94,7 @@ module _ (k : KernelState) (h : PlacesAgree k) (m : ℕ) (at : Position) (mounte
 
   pub daemons_places : is_bare k.table m ≡ true → (f : ℕ) (b : Autofs) → autofs_of k.triggers f ≡ Some b → at.mount ≡ b.location → PlacesAgree (without_mounts (unmounted k.table m) k)
   daemons_places bare f b is_b here = left_places k (unmounted k.table m) h (unmounted_leaves k.table m bare)
-      (λ g a is. not_true (is_among (unmounted k.table m) a.location) (λ goes.
+      (λ g a is. false_unless_true (is_among (unmounted k.table m) a.location) (λ goes.
       let its = h.locations g a is in
       let from = goes_from a.location its.row its.is_row goes in
       let parent = parent_row k.table h.whole a.location from.parent its.row at.place its.is_row from.is_at in
@@ -105,14 +103,14 @@ module _ (k : KernelState) (h : PlacesAgree k) (m : ℕ) (at : Position) (mounte
       let no : Some b ≡ None = sym is_b ∙ ap (autofs_of k.triggers) (sym fs) ∙ outside in
       cc))
       (λ g a is. record {
-        leaves = λ m' y n p q place stays_m stays_y ep at_p r eq at_q. not_true (is_among (unmounted k.table m) n) (λ goes.
+        leaves = λ m' y n p q place stays_m stays_y ep at_p r eq at_q. false_unless_true (is_among (unmounted k.table m) n) (λ goes.
             let from = goes_from n q eq goes in
             let its = h.locations g a is in
             let other = receiver_row k.table h.whole a.location y r in
             let parent : from.parent ≡ y = mounts_same from.parent y at.place place (sym from.is_at ∙ at_q) in
             let same_place : at.place ≡ place = places_same from.parent y at.place place (sym from.is_at ∙ at_q) in
             let fs : f ≡ g = sym mine.fs ∙ reach_fs k.table h.whole at.mount from.parent mine.row other.0 there (ap (mount_row k.table.rows) parent ∙ other.1) from.reached ∙ sym (receiver_fs k.table h.whole a.location y r its.row other.0 its.is_row other.1) ∙ its.fs in
-            let same : b ≡ a = same_autofs (sym is_b ∙ ap (autofs_of k.triggers) fs ∙ is) in
+            let same : b ≡ a = some_injective (sym is_b ∙ ap (autofs_of k.triggers) fs ∙ is) in
             let location : at.mount ≡ a.location = here ∙ ap (λ (x : Autofs). x.location) same in
             let me = is_mounted k.table m at mounted in
             let both : Some (position at.mount at.place) ≡ Some (position a.location place) = ap (λ (x : ℕ). Some (position x at.place)) location ∙ ap (λ (names : List (List ℕ)). Some (position a.location names)) same_place in
@@ -132,11 +130,11 @@ module _ (k : KernelState) (h : PlacesAgree k) (m : ℕ) (at : Position) (mounte
 
 pub dropped_places : (k : KernelState) → PlacesAgree k → (ns : ℕ) → ns ≢ 0 → PlacesAgree (without_mounts (mounts_in k.table ns) k)
 dropped_places k h ns other = left_places k (mounts_in k.table ns) h (dropped_leaves k.table ns h.whole)
-    (λ g a is. not_true (is_among (mounts_in k.table ns) a.location) (λ goes.
+    (λ g a is. false_unless_true (is_among (mounts_in k.table ns) a.location) (λ goes.
     let its = h.locations g a is in
     other (sym (eqb-true its.row.ns ns (among_passes (is_in ns) k.table.rows h.whole.rising a.location its.row its.is_row goes)) ∙ its.ns)))
     (λ g a is. record {
-      leaves = λ m y n p q place stays_m stays_y ep at_p r eq at_q. not_true (is_among (mounts_in k.table ns) n) (λ goes.
+      leaves = λ m y n p q place stays_m stays_y ep at_p r eq at_q. false_unless_true (is_among (mounts_in k.table ns) n) (λ goes.
           let parent = parent_row k.table h.whole n y q place eq at_q in
           let inside : q.ns ≡ ns = eqb-true q.ns ns (among_passes (is_in ns) k.table.rows h.whole.rising n q eq goes) in
           let too : is_among (mounts_in k.table ns) y ≡ true = passes_among (is_in ns) k.table.rows h.whole.rising y parent.0 parent.1 (eq-eqb parent.0.ns ns (parent.2 ∙ inside)) in

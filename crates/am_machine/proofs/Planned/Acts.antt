@@ -36,9 +36,9 @@ goes_after (Next b rest) outcome a h e r =
     let same : b ≡ a = cc in
     act_left rest b outcome h (ap acknowledges same ∙ r)
 
-ended_by : (rest : Plan) → IsEnded rest → not (is_some (next_of rest)) ≡ true
-ended_by Ended h = refl
-ended_by (Next a rest) h = absurd h
+no_next_where_ended : (rest : Plan) → IsEnded rest → not (is_some (next_of rest)) ≡ true
+no_next_where_ended Ended h = refl
+no_next_where_ended (Next a rest) h = absurd h
 
 reply_ended : (rest : Outcome → Plan) (b : Act) (status : Status) → b ≡ act.Reply status → AcknowledgesLast (Next b rest) → IsEnded (rest Done)
 reply_ended rest (act.Reply other) status e l = l Done
@@ -49,7 +49,7 @@ pub ends_after : (plan : Plan) (status : Status) → AcknowledgesLast plan → n
 ends_after Ended status h e = absurd h
 ends_after (Next b rest) status h e =
     let same : b ≡ act.Reply status = cc in
-    ended_by (rest Done) (reply_ended rest b status same h)
+    no_next_where_ended (rest Done) (reply_ended rest b status same h)
 
 -- ---- the jobs
 
@@ -74,12 +74,12 @@ going_planned : (ended : Bool) (row : JobPlan) (jobs : List JobPlan) → (ended 
 going_planned true row jobs p h = h
 going_planned false row jobs p h = All-cons IsPlanned row jobs (p refl) h
 
-planned_by : (outcome : Outcome) (row : JobPlan) (jobs left : List JobPlan) (b : Bool) → IsPlanned row → ArePlanned jobs → ArePlanned left → ArePlanned (if b then going (walked outcome row) jobs else row ∷ left)
-planned_by outcome row jobs left true p h later = going_planned (is_ended (walked outcome row)) (walked outcome row) jobs (walked_planned row outcome p) h
-planned_by outcome row jobs left false p h later = All-cons IsPlanned row left p later
+planned_by_cases : (outcome : Outcome) (row : JobPlan) (jobs left : List JobPlan) (b : Bool) → IsPlanned row → ArePlanned jobs → ArePlanned left → ArePlanned (if b then going (walked outcome row) jobs else row ∷ left)
+planned_by_cases outcome row jobs left true p h later = going_planned (is_ended (walked outcome row)) (walked outcome row) jobs (walked_planned row outcome p) h
+planned_by_cases outcome row jobs left false p h later = All-cons IsPlanned row left p later
 
 pub finished_planned : (job : ℕ) (outcome : Outcome) (jobs : List JobPlan) → ArePlanned jobs → ArePlanned (finished_in job outcome jobs)
 finished_planned job outcome [] h = All-nil IsPlanned
 finished_planned job outcome (row ∷ jobs) h =
     let rest = All-tail IsPlanned row jobs h in
-    planned_by outcome row jobs (finished_in job outcome jobs) (row.token == job) (All-head IsPlanned row jobs h) rest (finished_planned job outcome jobs rest)
+    planned_by_cases outcome row jobs (finished_in job outcome jobs) (row.token == job) (All-head IsPlanned row jobs h) rest (finished_planned job outcome jobs rest)

@@ -66,17 +66,17 @@ plan_rest Expire g None entry = reply_rest g (Fail ENOENT)
 
 -- ---- the record is still to be written where a plan is more than a reply
 
-left_by : (g : Trigger) (a : Act) (rest : Outcome → Plan) → IsRest g (Next a rest) → has_record_left (Next a rest) ≡ not (is_reply (Next a rest))
-left_by g (act.Mkdir trigger) rest h = (h Done).0
-left_by g (act.Mount trigger entry) rest h = (h Done).0.1
-left_by g (act.Umount trigger) rest h = (h Done).0.1
-left_by g (act.Rmdir trigger) rest h = (h Done).0
-left_by g (act.Record trigger entry) rest h = refl
-left_by g (act.Reply status) rest h = refl
+left_by_cases : (g : Trigger) (a : Act) (rest : Outcome → Plan) → IsRest g (Next a rest) → has_record_left (Next a rest) ≡ not (is_reply (Next a rest))
+left_by_cases g (act.Mkdir trigger) rest h = (h Done).0
+left_by_cases g (act.Mount trigger entry) rest h = (h Done).0.1
+left_by_cases g (act.Umount trigger) rest h = (h Done).0.1
+left_by_cases g (act.Rmdir trigger) rest h = (h Done).0
+left_by_cases g (act.Record trigger entry) rest h = refl
+left_by_cases g (act.Reply status) rest h = refl
 
 left_of : (g : Trigger) (plan : Plan) → AcknowledgesLast plan → IsRest g plan → has_record_left plan ≡ not (is_reply plan)
 left_of g Ended last h = absurd last
-left_of g (Next a rest) last h = left_by g a rest h
+left_of g (Next a rest) last h = left_by_cases g a rest h
 
 pub plan_left : (kind : TokenKind) (g : Trigger) (mounted : Option ℕ) (entry : Option EntryText) → has_record_left (plan_for kind g mounted entry) ≡ not (is_reply (plan_for kind g mounted entry))
 plan_left kind g mounted entry = left_of g (plan_for kind g mounted entry) (plan_acknowledges kind g mounted entry) (plan_rest kind g mounted entry)
@@ -92,18 +92,18 @@ ended_none : (rest : Plan) → IsEnded rest → has_record_left rest ≡ false
 ended_none Ended h = refl
 ended_none (Next a rest) h = absurd h
 
-kept_by : (g : Trigger) (a : Act) (rest : Outcome → Plan) (outcome : Outcome) → writes (Some a) ≡ None → IsRest g (Next a rest) → has_record_left (rest outcome) ≡ has_record_left (Next a rest)
-kept_by g (act.Mkdir trigger) rest outcome none h = (h outcome).0 ∙ sym (h Done).0
-kept_by g (act.Mount trigger entry) rest outcome none h = (h outcome).0.1 ∙ sym (h Done).0.1
-kept_by g (act.Umount trigger) rest outcome none h = (h outcome).0.1 ∙ sym (h Done).0.1
-kept_by g (act.Rmdir trigger) rest outcome none h = (h outcome).0 ∙ sym (h Done).0
-kept_by g (act.Record trigger entry) rest outcome none h = absurd cc
-kept_by g (act.Reply status) rest outcome none h = ended_none (rest outcome) (h outcome).0
+kept_by_cases : (g : Trigger) (a : Act) (rest : Outcome → Plan) (outcome : Outcome) → writes (Some a) ≡ None → IsRest g (Next a rest) → has_record_left (rest outcome) ≡ has_record_left (Next a rest)
+kept_by_cases g (act.Mkdir trigger) rest outcome none h = (h outcome).0 ∙ sym (h Done).0
+kept_by_cases g (act.Mount trigger entry) rest outcome none h = (h outcome).0.1 ∙ sym (h Done).0.1
+kept_by_cases g (act.Umount trigger) rest outcome none h = (h outcome).0.1 ∙ sym (h Done).0.1
+kept_by_cases g (act.Rmdir trigger) rest outcome none h = (h outcome).0 ∙ sym (h Done).0
+kept_by_cases g (act.Record trigger entry) rest outcome none h = absurd cc
+kept_by_cases g (act.Reply status) rest outcome none h = ended_none (rest outcome) (h outcome).0
 
 -- an act that writes nothing leaves the record to be written as before
 pub left_kept : (g : Trigger) (plan : Plan) (outcome : Outcome) → writes (next_of plan) ≡ None → IsRest g plan → has_record_left (rest_of outcome plan) ≡ has_record_left plan
 left_kept g Ended outcome none h = refl
-left_kept g (Next a rest) outcome none h = kept_by g a rest outcome none h
+left_kept g (Next a rest) outcome none h = kept_by_cases g a rest outcome none h
 
 -- an act that writes the record, and what it leaves
 pub record Writes (g : Trigger) (plan : Plan) (outcome : Outcome) (trigger : Trigger) (entry : Option Record) : Type 0 where
@@ -112,8 +112,8 @@ pub record Writes (g : Trigger) (plan : Plan) (outcome : Outcome) (trigger : Tri
   pub before : has_record_left plan ≡ true
   pub written : has_record_left (rest_of outcome plan) ≡ false
 
-writes_by : (g : Trigger) (a : Act) (rest : Outcome → Plan) (outcome : Outcome) (trigger : Trigger) (entry : Option Record) → a ≡ act.Record trigger entry → IsRest g (Next a rest) → Writes g (Next a rest) outcome trigger entry
-writes_by g (act.Record to what) rest outcome trigger entry e h =
+writes_by_cases : (g : Trigger) (a : Act) (rest : Outcome → Plan) (outcome : Outcome) (trigger : Trigger) (entry : Option Record) → a ≡ act.Record trigger entry → IsRest g (Next a rest) → Writes g (Next a rest) outcome trigger entry
+writes_by_cases g (act.Record to what) rest outcome trigger entry e h =
     let f = (h outcome).0 in
     let same_to : to ≡ trigger = cc in
     let same_what : what ≡ entry = cc in
@@ -123,10 +123,10 @@ writes_by g (act.Record to what) rest outcome trigger entry e h =
       before = refl;
       written = f.2;
     }
-writes_by g a rest outcome trigger entry e h = absurd cc
+writes_by_cases g a rest outcome trigger entry e h = absurd cc
 
 pub left_written : (g : Trigger) (plan : Plan) (outcome : Outcome) (trigger : Trigger) (entry : Option Record) → next_of plan ≡ Some (act.Record trigger entry) → IsRest g plan → Writes g plan outcome trigger entry
 left_written g Ended outcome trigger entry e h = absurd cc
 left_written g (Next a rest) outcome trigger entry e h =
     let same : a ≡ act.Record trigger entry = cc in
-    writes_by g a rest outcome trigger entry same h
+    writes_by_cases g a rest outcome trigger entry same h

@@ -41,6 +41,7 @@ use Rattle.am_machine.proofs.Lists.Different.{mapped_some}
 use Rattle.am_machine.proofs.Tokens.Unchanged.{bare}
 use Rattle.am_machine.proofs.Tokens.Catatonic.{kept_row}
 use Rattle.am_machine.proofs.Tokens.Notify.{AreNumbered, token_given}
+use Rattle.am_machine.proofs.Lists.Found.{some_unless}
 
 -- ---- tokens go on
 
@@ -76,24 +77,20 @@ closed_later fs w rise = record {
   old = λ t row e most. (row, (kept_row fs (token_of w.tokens t) row (sym (tokens_off fs t 0 w.tokens rise) ∙ e)).0, refl);
 }
 
-taken_by : (b : Bool) (o : Option OpenToken) (row : OpenToken) → cond b None o ≡ Some row → o ≡ Some row
-taken_by true o row e = absurd cc
-taken_by false o row e = e
-
 -- one token closes
 pub answered_later : (token : ℕ) (status : Status) (w : WaitRows) → Later w (answered token status w)
 answered_later token status w = record {
   more = omega arith;
-  old = λ t row e most. (row, taken_by (token == t) (token_of w.tokens t) row (sym (token_taken token w.tokens t (token == t) refl) ∙ e), refl);
+  old = λ t row e most. (row, (some_unless (token == t) (token_of w.tokens t) row (sym (token_taken token w.tokens t (token == t) refl) ∙ e)).1, refl);
 }
 
 above : (last n t : ℕ) → n ≡ last + 1 → t ≤ last → (n == t) ≡ false
 above last n t new most = grind (arith, nat_tests, new, most)
 
-first_is : (o : Option OpenToken) (b : Bool) (new row : OpenToken) → b ≡ false → or_first o (cond b (Some new) None) ≡ Some row → o ≡ Some row
-first_is (Some x) b new row other e = e
-first_is None true new row other e = absurd cc
-first_is None false new row other e = e
+found_in_the_first : (o : Option OpenToken) (b : Bool) (new row : OpenToken) → b ≡ false → or_first o (cond b (Some new) None) ≡ Some row → o ≡ Some row
+found_in_the_first (Some x) b new row other e = e
+found_in_the_first None true new row other e = absurd cc
+found_in_the_first None false new row other e = e
 
 -- one more token is open
 pub opened_later : (w made : WaitRows) (new : OpenToken) → made.tokens ≡ w.tokens ++ new ∷ [] → new.token ≡ w.last_token + 1 → made.last_token ≡ w.last_token + 1 → Later w made
@@ -101,7 +98,7 @@ opened_later w made new tokens number last = record {
   more = omega (arith, last);
   old = λ t row e most.
       let now = ap (λ (rows : List OpenToken). token_of rows t) tokens ∙ find_append (λ (r : OpenToken). r.token == t) w.tokens (new ∷ []) in
-      (row, first_is (token_of w.tokens t) (new.token == t) new row (above w.last_token new.token t number most) (sym now ∙ e), refl);
+      (row, found_in_the_first (token_of w.tokens t) (new.token == t) new row (above w.last_token new.token t number most) (sym now ∙ e), refl);
 }
 
 -- ---- the book changes
@@ -112,18 +109,18 @@ settled_fits w (Mounting token) h = absurd cc
 settled_fits w (Mounted mount) h = record { given = λ token is. absurd cc; kind = λ token row e is. absurd cc }
 settled_fits w (Unmounting token mount) h = absurd cc
 
-row_by : (w : WaitRows) (b : Bool) (row : RecordRow) (entry : Record) → IsOfItsToken w entry → IsOfItsToken w row.entry → IsOfItsToken w (if b then record row { entry = entry } else row).entry
-row_by w true row entry here old = here
-row_by w false row entry here old = old
+record_row_fits : (w : WaitRows) (b : Bool) (row : RecordRow) (entry : Record) → IsOfItsToken w entry → IsOfItsToken w row.entry → IsOfItsToken w (if b then record row { entry = entry } else row).entry
+record_row_fits w true row entry here old = here
+record_row_fits w false row entry here old = old
 
-with_by : (w : WaitRows) (g : Trigger) (entry : Record) (book : List RecordRow) (b : Bool) → IsOfItsToken w entry → AreOfTheirTokens w book → AreOfTheirTokens w (if b then map (record_row g entry) book else book ++ (record { trigger = g; entry = entry }) ∷ [])
-with_by w g entry book true here h =
+with_by_cases : (w : WaitRows) (g : Trigger) (entry : Record) (book : List RecordRow) (b : Bool) → IsOfItsToken w entry → AreOfTheirTokens w book → AreOfTheirTokens w (if b then map (record_row g entry) book else book ++ (record { trigger = g; entry = entry }) ∷ [])
+with_by_cases w g entry book true here h =
     All-map (λ (row : RecordRow). IsOfItsToken w row.entry) (record_row g entry) book
-    (All-weaker (λ (row : RecordRow). IsOfItsToken w row.entry) (λ (row : RecordRow). IsOfItsToken w (record_row g entry row).entry) (λ row old. row_by w (same_trigger row.trigger g) row entry here old) book h)
-with_by w g entry book false here h = All-push (λ (row : RecordRow). IsOfItsToken w row.entry) book (record { trigger = g; entry = entry }) h here
+    (All-weaker (λ (row : RecordRow). IsOfItsToken w row.entry) (λ (row : RecordRow). IsOfItsToken w (record_row g entry row).entry) (λ row old. record_row_fits w (same_trigger row.trigger g) row entry here old) book h)
+with_by_cases w g entry book false here h = All-push (λ (row : RecordRow). IsOfItsToken w row.entry) book (record { trigger = g; entry = entry }) h here
 
 pub records_with : (w : WaitRows) (g : Trigger) (entry : Record) (book : List RecordRow) → IsOfItsToken w entry → AreOfTheirTokens w book → AreOfTheirTokens w (with_record g entry book)
-records_with w g entry book here h = with_by w g entry book (list_any (λ row. same_trigger row.trigger g) book) here h
+records_with w g entry book here h = with_by_cases w g entry book (list_any (λ row. same_trigger row.trigger g) book) here h
 
 recorded_fits : (w : WaitRows) (g : Trigger) (entry : Option Record) (book : List RecordRow) → ((e : Record) → entry ≡ Some e → IsOfItsToken w e) → AreOfTheirTokens w book → AreOfTheirTokens w (recorded g entry book)
 recorded_fits w g None book here h = All-filter (λ (row : RecordRow). not (same_trigger row.trigger g)) (λ (row : RecordRow). IsOfItsToken w row.entry) book h
@@ -165,16 +162,16 @@ taken_fits k d row p n h =
 
 -- ---- a job goes on, or ends
 
-after_by : (w : WaitRows) (next : Option Act) (book : List RecordRow) → ((g : Trigger) (entry : Option Record) → next ≡ Some (act.Record g entry) → is_pending entry ≡ false) → AreOfTheirTokens w book → AreOfTheirTokens w (book_after (writes next) book)
-after_by w None book settled h = h
-after_by w (Some (act.Mkdir g)) book settled h = h
-after_by w (Some (act.Mount g entry)) book settled h = h
-after_by w (Some (act.Umount g)) book settled h = h
-after_by w (Some (act.Rmdir g)) book settled h = h
-after_by w (Some (act.Record g entry)) book settled h = recorded_fits w g entry book (λ e is. settled_fits w e (ap is_pending (sym is) ∙ settled g entry refl)) h
-after_by w (Some (act.Reply status)) book settled h = h
+after_by_cases : (w : WaitRows) (next : Option Act) (book : List RecordRow) → ((g : Trigger) (entry : Option Record) → next ≡ Some (act.Record g entry) → is_pending entry ≡ false) → AreOfTheirTokens w book → AreOfTheirTokens w (book_after (writes next) book)
+after_by_cases w None book settled h = h
+after_by_cases w (Some (act.Mkdir g)) book settled h = h
+after_by_cases w (Some (act.Mount g entry)) book settled h = h
+after_by_cases w (Some (act.Umount g)) book settled h = h
+after_by_cases w (Some (act.Rmdir g)) book settled h = h
+after_by_cases w (Some (act.Record g entry)) book settled h = recorded_fits w g entry book (λ e is. settled_fits w e (ap is_pending (sym is) ∙ settled g entry refl)) h
+after_by_cases w (Some (act.Reply status)) book settled h = h
 
 pub finished_fits : (w : WaitRows) (d : DaemonState) (row : JobPlan) (outcome : Outcome) → job_of d.jobs row.token ≡ Some row → IsPlanned row → AreOfTheirTokens w d.book → AreOfTheirTokens w (finished row.token outcome d).book
 finished_fits w d row outcome is planned h =
     subst (λ (o : Option JobPlan). AreOfTheirTokens w (book_after (writes (next_in o)) d.book)) (sym is)
-    (after_by w (next_of row.plan) d.book (λ g entry e. (left_written row.trigger row.plan outcome g entry e planned.rest).settled) h)
+    (after_by_cases w (next_of row.plan) d.book (λ g entry e. (left_written row.trigger row.plan outcome g entry e planned.rest).settled) h)

@@ -4,6 +4,7 @@ use Rattle.std.specs.Prelude.{◌==◌, map, filter}
 use Rattle.std.proofs.lemmas.Bool.{eqb-true}
 use Rattle.am_names.specs.declared.row.MountRow.{MountRow}
 use Rattle.am_names.specs.declared.row.Position.{Position}
+use Rattle.am_names.proofs.Basics.{some_injective, false_unless_true}
 use Rattle.am_group.specs.declared.membership.Membership.{Membership}
 use Rattle.am_group.specs.Propagation.{Receives}
 use Rattle.am_mount.specs.Rows.{mount_row, is_among, is_in, IsAt}
@@ -24,10 +25,10 @@ use Rattle.am_kernel.specs.Sites.{is_on_autofs}
 use Rattle.am_kernel.specs.DaemonMounts.{without_mounts}
 use Rattle.am_kernel.specs.Namespaces.{with_namespace}
 use Rattle.am_machine.specs.Invariant.Places.{PlacesAgree}
-use Rattle.am_machine.proofs.Places.Rows.{same_row, parent_row, Grows, StaysFree}
+use Rattle.am_machine.proofs.Places.Rows.{parent_row, Grows, StaysFree}
 use Rattle.am_machine.proofs.Places.Added.{joined_row, first_stays, mounted_grows}
 use Rattle.am_machine.proofs.Places.Grown.{mounts_same, off_location, stays_free}
-use Rattle.am_machine.proofs.Places.Left.{not_true, among_passes, removed_shrinks, goes_cases, its_number}
+use Rattle.am_machine.proofs.Places.Left.{among_passes, removed_shrinks, goes_cases, its_number}
 use Rattle.am_machine.proofs.Stands.Unchanged.{Still, table_still}
 
 -- ---- mounts come
@@ -55,7 +56,7 @@ copied_ns number to [] m row e = absurd cc
 copied_ns number to (x ∷ rows) m row e = by (number x.mount == m) e (copied_ns number to rows m row)
   where
     by : (b : Bool) → cond b (Some (row_in number to x)) (mount_row (map (row_in number to) rows) m) ≡ Some row → (mount_row (map (row_in number to) rows) m ≡ Some row → row.ns ≡ to) → row.ns ≡ to
-    by true e later = ap (λ (r : MountRow). r.ns) (sym (same_row e))
+    by true e later = ap (λ (r : MountRow). r.ns) (sym (some_injective e))
     by false e later = later e
 
 -- the copies
@@ -75,7 +76,7 @@ copied_still k h ns form = table_still k (with_namespace form ns k) refl h.whole
     apart fs a is m row place e at new =
         let its = h.locations fs a is in
         let parent = parent_row (with_copy form ns k.table) whole m a.location row place e at in
-        let same : parent.0 ≡ its.row = same_row (sym parent.1 ∙ first_stays k.table.rows (copies_in k.table ns) a.location its.row its.is_row) in
+        let same : parent.0 ≡ its.row = some_injective (sym parent.1 ∙ first_stays k.table.rows (copies_in k.table ns) a.location its.row its.is_row) in
         let here : row.ns ≡ k.table.last_ns + 1 = copied_ns _ (k.table.last_ns + 1) (filter (is_in ns) k.table.rows) m row new in
         let there : its.row.ns ≡ row.ns = ap (λ (r : MountRow). r.ns) (sym same) ∙ parent.2 in
         let first : its.row.ns ≡ 0 = its.ns in
@@ -104,12 +105,12 @@ mounted_row t m at e = by (mount_row t.rows m) refl e
 -- the administrator's unmount
 pub plain_still : (k : KernelState) → PlacesAgree k → (m : ℕ) (at : Position) → mountpoint_of k.table m ≡ Some at → is_on_autofs k at.mount ≡ false → Still k (without_mounts (unmounted k.table m) k)
 plain_still k h m at mounted off = left_still k (unmounted k.table m) h (λ fs a is n row place e on.
-    not_true (is_among (unmounted k.table m) n) (λ goes.
+    false_unless_true (is_among (unmounted k.table m) n) (λ goes.
     let its = mounted_row k.table m at mounted in
     let parent = parent_row k.table h.whole m at.mount its.0 at.place its.1 its.2 in
     ⊎_elim
     (λ same.
-    let one : its.0 ≡ row = same_row (sym its.1 ∙ ap (mount_row k.table.rows) (sym same ∙ its_number k.table.rows n row e) ∙ e) in
+    let one : its.0 ≡ row = some_injective (sym its.1 ∙ ap (mount_row k.table.rows) (sym same ∙ its_number k.table.rows n row e) ∙ e) in
     let here : IsAt at.mount at.place row = subst (λ (r : MountRow). IsAt at.mount at.place r) one its.2 in
     off_location k h at.mount a.location fs parent.0 a parent.1 off is refl (inl (mounts_same a.location at.mount place at.place (sym on ∙ here))))
     (λ top.
@@ -120,9 +121,9 @@ plain_still k h m at mounted off = left_still k (unmounted k.table m) h (λ fs a
 -- a namespace that isn't the first is dropped
 pub dropped_still : (k : KernelState) → PlacesAgree k → (ns : ℕ) → ns ≢ 0 → Still k (without_mounts (mounts_in k.table ns) k)
 dropped_still k h ns other = left_still k (mounts_in k.table ns) h (λ fs a is n row place e on.
-    not_true (is_among (mounts_in k.table ns) n) (λ goes.
+    false_unless_true (is_among (mounts_in k.table ns) n) (λ goes.
     let its = h.locations fs a is in
     let parent = parent_row k.table h.whole n a.location row place e on in
-    let same : parent.0 ≡ its.row = same_row (sym parent.1 ∙ its.is_row) in
+    let same : parent.0 ≡ its.row = some_injective (sym parent.1 ∙ its.is_row) in
     let inside : row.ns ≡ ns = eqb-true row.ns ns (among_passes (is_in ns) k.table.rows h.whole.rising n row e goes) in
     other (sym inside ∙ sym parent.2 ∙ ap (λ (r : MountRow). r.ns) same ∙ its.ns)))

@@ -6,7 +6,7 @@ use Rattle.std.proofs.lemmas.List.Elements.{All-weaker}
 use Rattle.am_names.specs.declared.trigger.Trigger.{Trigger}
 use Rattle.am_names.specs.declared.row.MountRow.{MountRow}
 use Rattle.am_names.specs.declared.row.Position.{Position}
-use Rattle.am_names.proofs.Basics.{equal_to_itself, equal_by_test}
+use Rattle.am_names.proofs.Basics.{equal_to_itself, equal_by_test, some_injective}
 use Rattle.am_group.specs.declared.membership.Membership.TheVariants.{Private}
 use Rattle.am_state.specs.declared.daemon_row.RecordRow.{RecordRow}
 use Rattle.am_mount.specs.Rows.{mount_row, top_of, IsAt, IsFree}
@@ -53,9 +53,6 @@ dead_stands k d h = record {
 }
 
 -- ---- an autofs is attached
-
-same_autofs : {x y : Autofs} → Some x ≡ Some y → x ≡ y
-same_autofs e = cc
 
 -- no autofs has the next number
 none_yet : (k : KernelState) → PlacesAgree k → (fs : ℕ) → k.last_fs + 1 ≡ fs → autofs_of k.triggers fs ≡ None
@@ -105,19 +102,19 @@ module _ (k : KernelState) (h : PlacesAgree k) (direct : Bool) (timeout : ℕ) (
       ∙ (mounted_still k at (k.last_fs + 1) (k.last_fs + 1) Private h there off (inl refl)).still g a is
 
   -- what is mounted on the locations is mounted on those that there were
-  on_by : OnTriggers k → (fs : ℕ) (a : Autofs) → autofs_of (attached_at direct timeout k at).triggers fs ≡ Some a → (m : ℕ) (row : MountRow) (place : List (List ℕ)) → mount_row (attached_at direct timeout k at).table.rows m ≡ Some row → IsAt a.location place row → (b : Bool) → (k.last_fs + 1 == fs) ≡ b →
+  on_by_cases : OnTriggers k → (fs : ℕ) (a : Autofs) → autofs_of (attached_at direct timeout k at).triggers fs ≡ Some a → (m : ℕ) (row : MountRow) (place : List (List ℕ)) → mount_row (attached_at direct timeout k at).table.rows m ≡ Some row → IsAt a.location place row → (b : Bool) → (k.last_fs + 1 == fs) ≡ b →
       is_some (trigger_in a place) ≡ true
-  on_by on fs a is m row place e here true new =
+  on_by_cases on fs a is m row place e here true new =
       let fs_is = equal_by_test (k.last_fs + 1) fs new in
       let found : autofs_of (attached_at direct timeout k at).triggers fs ≡ Some new_row = find_new (λ (r : Autofs). r.fs == fs) k.triggers.autofs new_row (none_yet k h fs fs_is) new in
       let both : Some new_row ≡ Some a = sym found ∙ is in
-      absurd (new_free place m (row, e, subst (λ (x : Autofs). IsAt x.location place row) (sym (same_autofs both)) here))
-  on_by on fs a is m row place e here false other =
+      absurd (new_free place m (row, e, subst (λ (x : Autofs). IsAt x.location place row) (sym (some_injective both)) here))
+  on_by_cases on fs a is m row place e here false other =
       let old : autofs_of k.triggers fs ≡ Some a = sym (find_others (λ (r : Autofs). r.fs == fs) k.triggers.autofs new_row other) ∙ is in
       on.on fs a old m row place ((mounted_still k at (k.last_fs + 1) (k.last_fs + 1) Private h there off (inl refl)).rows fs a old m row place e here) here
 
   pub attached_on_triggers : OnTriggers k → OnTriggers (attached_at direct timeout k at)
-  attached_on_triggers on = record { on = λ fs a is m row place e here. on_by on fs a is m row place e here (k.last_fs + 1 == fs) refl }
+  attached_on_triggers on = record { on = λ fs a is m row place e here. on_by_cases on fs a is m row place e here (k.last_fs + 1 == fs) refl }
 
   served_before : (d : DaemonState) (path : List (List ℕ)) (fs attach : ℕ) → (k.last_fs + 1 == fs) ≡ false → IsServed (attached_at direct timeout k at) (with_attachment (k.last_fs + 1) (k.last_attach + 1) path d) fs attach → IsServed k d fs attach
   served_before d path fs attach other s =
@@ -134,24 +131,24 @@ module _ (k : KernelState) (h : PlacesAgree k) (direct : Bool) (timeout : ℕ) (
     abbrev d_new : DaemonState
     d_new = with_attachment (k.last_fs + 1) (k.last_attach + 1) path d
 
-    at_work_by : (fs attach : ℕ) (b : Bool) → (k.last_fs + 1 == fs) ≡ b → IsServed made d_new fs attach → (job : ℕ) (row : JobPlan) → job_of d.jobs job ≡ Some row → row.trigger.fs ≡ fs → (IsServed k d fs attach → mounted_on k row.trigger ≡ claims row.plan) → mounted_on made row.trigger ≡ claims row.plan
-    at_work_by fs attach true is s job row found same old =
+    at_work_by_cases : (fs attach : ℕ) (b : Bool) → (k.last_fs + 1 == fs) ≡ b → IsServed made d_new fs attach → (job : ℕ) (row : JobPlan) → job_of d.jobs job ≡ Some row → row.trigger.fs ≡ fs → (IsServed k d fs attach → mounted_on k row.trigger ≡ claims row.plan) → mounted_on made row.trigger ≡ claims row.plan
+    at_work_by_cases fs attach true is s job row found same old =
         let bound = all_found (λ (r : JobPlan). (r.attach ≤ k.last_attach) × (r.trigger.fs ≤ k.last_fs)) (λ (r : JobPlan). r.token == job) d.jobs row given.jobs found in
         let le : row.trigger.fs ≤ k.last_fs = bound.1 in
         let new : k.last_fs + 1 ≡ fs = equal_by_test (k.last_fs + 1) fs is in
         absurd (omega arith)
-    at_work_by fs attach false other s job row found same old =
+    at_work_by_cases fs attach false other s job row found same old =
         let was = served_before d path fs attach other s in
         let its = its_autofs k fs attach row.trigger was.current same in
         old_mounted row.trigger its.0 its.1 (subst (λ (n : ℕ). (k.last_fs + 1 == n) ≡ false) (sym same) other) ∙ old was
 
-    settled_by : (fs attach : ℕ) (g : Trigger) (b : Bool) → (k.last_fs + 1 == fs) ≡ b → IsServed made d_new fs attach → g.fs ≡ fs → is_pending (record_of d.book g) ≡ false → mounted_on made g ≡ mounted_in (record_of d.book g)
-    settled_by fs attach g true is s same written =
+    settled_by_cases : (fs attach : ℕ) (g : Trigger) (b : Bool) → (k.last_fs + 1 == fs) ≡ b → IsServed made d_new fs attach → g.fs ≡ fs → is_pending (record_of d.book g) ≡ false → mounted_on made g ≡ mounted_in (record_of d.book g)
+    settled_by_cases fs attach g true is s same written =
         let new : k.last_fs + 1 ≡ g.fs = equal_by_test (k.last_fs + 1) fs is ∙ sym same in
         let none : record_of d.book g ≡ None =
         no_record d.book g (All-weaker (λ (row : RecordRow). row.trigger.fs ≤ k.last_fs) (λ (row : RecordRow). row.trigger.fs ≡ g.fs → ⊥) (λ row least e. omega (arith, least, e, new)) d.book given.book) in
         new_mounted g new ∙ sym (ap mounted_in none)
-    settled_by fs attach g false other s same written =
+    settled_by_cases fs attach g false other s same written =
         let was = served_before d path fs attach other s in
         let its = its_autofs k fs attach g was.current same in
         old_mounted g its.0 its.1 (subst (λ (n : ℕ). (k.last_fs + 1 == n) ≡ false) (sym same) other) ∙ stands.settled fs attach was g same written
@@ -159,6 +156,6 @@ module _ (k : KernelState) (h : PlacesAgree k) (direct : Bool) (timeout : ℕ) (
     pub attached_stands : Knows made d_new
     attached_stands = record {
       at_work = λ fs attach s job row found same under left.
-          at_work_by fs attach (k.last_fs + 1 == fs) refl s job row found same (λ was. stands.at_work fs attach was job row found same under left);
-      settled = λ fs attach s g same written. settled_by fs attach g (k.last_fs + 1 == fs) refl s same written;
+          at_work_by_cases fs attach (k.last_fs + 1 == fs) refl s job row found same (λ was. stands.at_work fs attach was job row found same under left);
+      settled = λ fs attach s g same written. settled_by_cases fs attach g (k.last_fs + 1 == fs) refl s same written;
     }

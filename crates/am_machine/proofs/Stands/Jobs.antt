@@ -55,22 +55,22 @@ ended_none : (rest : Plan) → IsEnded rest → has_record_left rest ≡ true �
 ended_none Ended h left = absurd cc
 ended_none (Next a rest) h left = h
 
-kept_by : (g : Trigger) (a : Act) (rest : Outcome → Plan) (outcome : Outcome) → MovesNothing (Some a) outcome → IsRest g (Next a rest) → ClaimsRight (Next a rest) → has_record_left (rest outcome) ≡ true → claims (rest outcome) ≡ claims (Next a rest)
-kept_by g (act.Mkdir trigger) rest outcome still own h left = (h outcome).0
-kept_by g (act.Mount trigger entry) rest (Failed error) still own h left = (h (Failed error)).0
-kept_by g (act.Mount trigger entry) rest Done still own h left = absurd (let no_failure = still.1 in cc)
-kept_by g (act.Mount trigger entry) rest (Made mount) still own h left = absurd (let no_failure = still.1 in cc)
-kept_by g (act.Umount trigger) rest (Failed error) still own h left = (h (Failed error)).0
-kept_by g (act.Umount trigger) rest Done still own h left = absurd (let no_failure = still.1 in cc)
-kept_by g (act.Umount trigger) rest (Made mount) still own h left = absurd (let no_failure = still.1 in cc)
-kept_by g (act.Rmdir trigger) rest outcome still own h left = (h outcome).0
-kept_by g (act.Record trigger entry) rest outcome still own h left = absurd still
-kept_by g (act.Reply status) rest outcome still own h left = absurd (ended_none (rest outcome) (own outcome).0 left)
+kept_by_cases : (g : Trigger) (a : Act) (rest : Outcome → Plan) (outcome : Outcome) → MovesNothing (Some a) outcome → IsRest g (Next a rest) → ClaimsRight (Next a rest) → has_record_left (rest outcome) ≡ true → claims (rest outcome) ≡ claims (Next a rest)
+kept_by_cases g (act.Mkdir trigger) rest outcome still own h left = (h outcome).0
+kept_by_cases g (act.Mount trigger entry) rest (Failed error) still own h left = (h (Failed error)).0
+kept_by_cases g (act.Mount trigger entry) rest Done still own h left = absurd (let no_failure = still.1 in cc)
+kept_by_cases g (act.Mount trigger entry) rest (Made mount) still own h left = absurd (let no_failure = still.1 in cc)
+kept_by_cases g (act.Umount trigger) rest (Failed error) still own h left = (h (Failed error)).0
+kept_by_cases g (act.Umount trigger) rest Done still own h left = absurd (let no_failure = still.1 in cc)
+kept_by_cases g (act.Umount trigger) rest (Made mount) still own h left = absurd (let no_failure = still.1 in cc)
+kept_by_cases g (act.Rmdir trigger) rest outcome still own h left = (h outcome).0
+kept_by_cases g (act.Record trigger entry) rest outcome still own h left = absurd still
+kept_by_cases g (act.Reply status) rest outcome still own h left = absurd (ended_none (rest outcome) (own outcome).0 left)
 
 -- what is left claims what was claimed
 pub claims_kept : (g : Trigger) (plan : Plan) (outcome : Outcome) → MovesNothing (next_of plan) outcome → IsRest g plan → ClaimsRight plan → has_record_left (rest_of outcome plan) ≡ true → claims (rest_of outcome plan) ≡ claims plan
 claims_kept g Ended outcome still own h left = absurd still
-claims_kept g (Next a rest) outcome still own h left = kept_by g a rest outcome still own h left
+claims_kept g (Next a rest) outcome still own h left = kept_by_cases g a rest outcome still own h left
 
 -- ---- the act mounts, or unmounts
 
@@ -80,15 +80,15 @@ pub record Mounts (g : Trigger) (plan : Plan) (trigger : Trigger) (mount : ℕ) 
   pub left : has_record_left plan ≡ true
   pub claimed : claims (rest_of (Made mount) plan) ≡ Some mount
 
-mounts_by : (g trigger : Trigger) (entry : EntryText) (mount : ℕ) (a : Act) (rest : Outcome → Plan) → a ≡ act.Mount trigger entry → IsRest g (Next a rest) → ClaimsRight (Next a rest) → Mounts g (Next a rest) trigger mount
-mounts_by g trigger entry mount (act.Mount to what) rest e own h =
+mounts_by_cases : (g trigger : Trigger) (entry : EntryText) (mount : ℕ) (a : Act) (rest : Outcome → Plan) → a ≡ act.Mount trigger entry → IsRest g (Next a rest) → ClaimsRight (Next a rest) → Mounts g (Next a rest) trigger mount
+mounts_by_cases g trigger entry mount (act.Mount to what) rest e own h =
     let same : to ≡ trigger = cc in
     record { on = sym same ∙ (own Done).0.0; left = (own Done).0.1; claimed = (h (Made mount)).0 }
-mounts_by g trigger entry mount a rest e own h = absurd cc
+mounts_by_cases g trigger entry mount a rest e own h = absurd cc
 
 pub mounts : (g trigger : Trigger) (entry : EntryText) (mount : ℕ) (plan : Plan) → next_of plan ≡ Some (act.Mount trigger entry) → IsRest g plan → ClaimsRight plan → Mounts g plan trigger mount
 mounts g trigger entry mount Ended e own h = absurd cc
-mounts g trigger entry mount (Next a rest) e own h = mounts_by g trigger entry mount a rest (let same : a ≡ act.Mount trigger entry = cc in same) own h
+mounts g trigger entry mount (Next a rest) e own h = mounts_by_cases g trigger entry mount a rest (let same : a ≡ act.Mount trigger entry = cc in same) own h
 
 -- an unmount: nothing is claimed any more
 pub record Unmounts (g : Trigger) (plan : Plan) (trigger : Trigger) : Type 0 where
@@ -96,15 +96,15 @@ pub record Unmounts (g : Trigger) (plan : Plan) (trigger : Trigger) : Type 0 whe
   pub left : has_record_left plan ≡ true
   pub claimed : claims (rest_of Done plan) ≡ None
 
-unmounts_by : (g trigger : Trigger) (a : Act) (rest : Outcome → Plan) → a ≡ act.Umount trigger → IsRest g (Next a rest) → ClaimsRight (Next a rest) → Unmounts g (Next a rest) trigger
-unmounts_by g trigger (act.Umount to) rest e own h =
+unmounts_by_cases : (g trigger : Trigger) (a : Act) (rest : Outcome → Plan) → a ≡ act.Umount trigger → IsRest g (Next a rest) → ClaimsRight (Next a rest) → Unmounts g (Next a rest) trigger
+unmounts_by_cases g trigger (act.Umount to) rest e own h =
     let same : to ≡ trigger = cc in
     record { on = sym same ∙ (own Done).0.0; left = (own Done).0.1; claimed = (h Done).0 }
-unmounts_by g trigger a rest e own h = absurd cc
+unmounts_by_cases g trigger a rest e own h = absurd cc
 
 pub unmounts : (g trigger : Trigger) (plan : Plan) → next_of plan ≡ Some (act.Umount trigger) → IsRest g plan → ClaimsRight plan → Unmounts g plan trigger
 unmounts g trigger Ended e own h = absurd cc
-unmounts g trigger (Next a rest) e own h = unmounts_by g trigger a rest (let same : a ≡ act.Umount trigger = cc in same) own h
+unmounts g trigger (Next a rest) e own h = unmounts_by_cases g trigger a rest (let same : a ≡ act.Umount trigger = cc in same) own h
 
 -- ---- the act writes the record
 

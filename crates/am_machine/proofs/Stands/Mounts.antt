@@ -7,6 +7,7 @@ use Rattle.am_names.specs.declared.row.MountRow.{MountRow}
 use Rattle.am_group.specs.declared.membership.Membership.TheVariants.{Private}
 use Rattle.am_group.specs.Propagation.{Receives}
 use Rattle.am_names.proofs.SameTriggers.{is_itself}
+use Rattle.am_names.proofs.Basics.{some_injective}
 use Rattle.am_mount.specs.Rows.{mount_row, top_of, IsAt, IsFree}
 use Rattle.am_propagate.specs.MountTable.{is_mount}
 use Rattle.am_propagate.specs.Invariant.{IsWhole}
@@ -19,7 +20,7 @@ use Rattle.am_kernel.specs.State.{KernelState}
 use Rattle.am_kernel.specs.DaemonMounts.{is_there_in, is_there, location_in, location_of, mounted_on, trigger_position, with_mount_on}
 use Rattle.am_machine.specs.Invariant.Places.{PlacesAgree}
 use Rattle.am_machine.specs.Invariant.Stands.{OnTriggers}
-use Rattle.am_machine.proofs.Places.Rows.{same_row, receiver_fs}
+use Rattle.am_machine.proofs.Places.Rows.{receiver_fs}
 use Rattle.am_machine.proofs.Places.Added.{came_row, mounted_grows, first_row}
 use Rattle.am_machine.proofs.Places.Grown.{position, mounts_same, places_same}
 use Rattle.am_machine.proofs.Stands.Tops.{top_same, only_top}
@@ -37,9 +38,6 @@ pub trigger_same : (a b : Trigger) → a.fs ≡ b.fs → place_of a ≡ place_of
 trigger_same a b fs place =
     let make : ℕ → Option (List ℕ) → Trigger = λ n name. record { fs = n; name = name } in
     ap (λ (n : ℕ). make n a.name) fs ∙ ap (make b.fs) (name_same a.name b.name place)
-
-same_autofs : {x y : Autofs} → Some x ≡ Some y → x ≡ y
-same_autofs e = cc
 
 -- what is there has the place of a trigger
 there_fits : (k : KernelState) (t : Trigger) (b : Autofs) → is_there_in (Some b) k t ≡ true → is_some (trigger_in b (place_of t)) ≡ true
@@ -61,7 +59,7 @@ module _ (k : KernelState) (h : PlacesAgree k) (t : Trigger) (b : Autofs) (is_b 
   one_system fs a is same =
       let mine = h.locations t.fs b is_b in
       let its = h.locations fs a is in
-      let one : its.row ≡ mine.row = same_row (sym its.is_row ∙ ap (mount_row k.table.rows) same ∙ mine.is_row) in
+      let one : its.row ≡ mine.row = some_injective (sym its.is_row ∙ ap (mount_row k.table.rows) same ∙ mine.is_row) in
       sym its.fs ∙ ap (λ (r : MountRow). r.fs) one ∙ mine.fs
 
   -- at its place stands this trigger alone
@@ -78,7 +76,7 @@ module _ (k : KernelState) (h : PlacesAgree k) (t : Trigger) (b : Autofs) (is_b 
       let its = h.locations fs a is in
       let there : mount_row k.table.rows (location_of k t.fs) ≡ Some mine.row = ap (mount_row k.table.rows) location_is ∙ mine.is_row in
       let same : fs ≡ t.fs = sym its.fs ∙ sym (receiver_fs k.table h.whole (location_of k t.fs) a.location r mine.row its.row there its.is_row) ∙ mine.fs in
-      let one : a ≡ b = same_autofs (sym is ∙ ap (autofs_of k.triggers) same ∙ is_b) in
+      let one : a ≡ b = some_injective (sym is ∙ ap (autofs_of k.triggers) same ∙ is_b) in
       r.is_other (ap (λ (x : Autofs). x.location) one ∙ sym location_is)
 
 -- ---- the mount
@@ -141,7 +139,7 @@ module _ (k : KernelState) (h : PlacesAgree k) (t : Trigger) (b : Autofs) (is_b 
     on = λ fs a is m row place e at. ⊎_elim
         (λ old. on.on fs a is m row place old at)
         (λ new.
-        let same : a ≡ b = same_autofs (sym is ∙ ap (autofs_of k.triggers) (one_system k h t b is_b fs a is (new.location ∙ location_is k h t b is_b)) ∙ is_b) in
+        let same : a ≡ b = some_injective (sym is ∙ ap (autofs_of k.triggers) (one_system k h t b is_b fs a is (new.location ∙ location_is k h t b is_b)) ∙ is_b) in
         ap (λ (p : List (List ℕ)). is_some (trigger_in a p)) new.place_is
         ∙ ap (λ (x : Autofs). is_some (trigger_in x (place_of t))) same
         ∙ there_fits k t b (ap (λ (o : Option Autofs). is_there_in o k t) (sym is_b) ∙ there))

@@ -15,7 +15,7 @@ use Rattle.am_group.specs.Changes.{is_just}
 use Rattle.am_group.proofs.ScanLemmas.{just_same}
 use Rattle.am_job.specs.Book.{record_of, with_record}
 use Rattle.am_names.proofs.SameTriggers.{is_one, is_itself, both_are}
-use Rattle.am_names.proofs.Basics.{equal_to_itself, equal_by_test}
+use Rattle.am_names.proofs.Basics.{equal_to_itself, equal_by_test, or_left, or_right, some_injective, value_where_some, found_passes}
 use Rattle.am_mount.specs.Rows.{mount_row, top_of}
 use Rattle.am_trigger.specs.declared.autofs.Autofs.{Autofs}
 use Rattle.am_trigger.specs.Rows.{autofs_of}
@@ -26,7 +26,6 @@ use Rattle.am_daemon.specs.Attachments.{all_mounted}
 use Rattle.am_daemon.specs.Packets.{mounted_in}
 use Rattle.am_machine.specs.Invariant.Places.{PlacesAgree}
 use Rattle.am_machine.specs.Invariant.Stands.{OnTriggers}
-use Rattle.am_machine.proofs.Lists.Counts.{found_passes, some_is}
 use Rattle.am_machine.proofs.Places.Left.{its_number}
 use Rattle.am_machine.proofs.Books.Pending.{recorded_is}
 use Rattle.am_machine.proofs.Stands.Tops.{top_there}
@@ -55,16 +54,13 @@ all_say g what (one ∷ rows) book says h = all_say g what rows (with_record one
 
 -- ---- the triggers at places
 
-some_same : {x y : Trigger} → Some x ≡ Some y → x ≡ y
-some_same e = cc
-
 -- a trigger is at its place
 at_place : (a : Autofs) (place : List (List ℕ)) (t : Trigger) → trigger_in a place ≡ Some t → (t.fs ≡ a.fs) × (place_of t ≡ place)
 at_place a [] t e = by a.direct e
   where
     by : (b : Bool) → (if b then Some (record { fs = a.fs; name = None }) else None) ≡ Some t → (t.fs ≡ a.fs) × (place_of t ≡ [])
     by true e =
-        let same : record { fs = a.fs; name = None } ≡ t = some_same e in
+        let same : record { fs = a.fs; name = None } ≡ t = some_injective e in
         (ap (λ (x : Trigger). x.fs) (sym same), ap place_of (sym same))
     by false e = absurd cc
 at_place a (name ∷ []) t e = by a.direct e
@@ -72,31 +68,23 @@ at_place a (name ∷ []) t e = by a.direct e
     by : (b : Bool) → (if b then None else Some (record { fs = a.fs; name = Some name })) ≡ Some t → (t.fs ≡ a.fs) × (place_of t ≡ name ∷ [])
     by true e = absurd cc
     by false e =
-        let same : record { fs = a.fs; name = Some name } ≡ t = some_same e in
+        let same : record { fs = a.fs; name = Some name } ≡ t = some_injective e in
         (ap (λ (x : Trigger). x.fs) (sym same), ap place_of (sym same))
 at_place a (name ∷ below ∷ names) t e = absurd cc
 
 -- ---- what stands there
 
-or_left : (a b : Bool) → a ≡ true → (a || b) ≡ true
-or_left true b h = refl
-or_left false b h = absurd cc
-
-or_right : (a b : Bool) → b ≡ true → (a || b) ≡ true
-or_right true b h = refl
-or_right false b h = h
-
-any_by : {X : Type 0} (p : X → Bool) (f : MountRow → List X) (x row : MountRow) (rows : List MountRow) (m : ℕ) (b : Bool) → cond b (Some x) (mount_row rows m) ≡ Some row → list_any p (f row) ≡ true → (mount_row rows m ≡ Some row → list_any p (flat_map f rows) ≡ true) →
+any_of_mount_by_cases : {X : Type 0} (p : X → Bool) (f : MountRow → List X) (x row : MountRow) (rows : List MountRow) (m : ℕ) (b : Bool) → cond b (Some x) (mount_row rows m) ≡ Some row → list_any p (f row) ≡ true → (mount_row rows m ≡ Some row → list_any p (flat_map f rows) ≡ true) →
     list_any p (f x ++ flat_map f rows) ≡ true
-any_by p f x row rows m true e h later =
+any_of_mount_by_cases p f x row rows m true e h later =
     let same : x ≡ row = cc in
     list_any-append p (f x) (flat_map f rows) ∙ or_left (list_any p (f x)) (list_any p (flat_map f rows)) (subst (λ (r : MountRow). list_any p (f r) ≡ true) (sym same) h)
-any_by p f x row rows m false e h later =
+any_of_mount_by_cases p f x row rows m false e h later =
     list_any-append p (f x) (flat_map f rows) ∙ or_right (list_any p (f x)) (list_any p (flat_map f rows)) (later e)
 
 any_flat : {X : Type 0} (p : X → Bool) (f : MountRow → List X) (rows : List MountRow) (m : ℕ) (row : MountRow) → mount_row rows m ≡ Some row → list_any p (f row) ≡ true → list_any p (flat_map f rows) ≡ true
 any_flat p f [] m row e h = absurd cc
-any_flat p f (x ∷ rows) m row e h = any_by p f x row rows m (x.mount == m) e h (λ later. any_flat p f rows m row later h)
+any_flat p f (x ∷ rows) m row e h = any_of_mount_by_cases p f x row rows m (x.mount == m) e h (λ later. any_flat p f rows m row later h)
 
 module _ (k : KernelState) (h : PlacesAgree k) (g : Trigger) (a : Autofs) (is : autofs_of k.triggers g.fs ≡ Some a) where
   at_location : mounted_on k g ≡ top_of k.table.rows a.location (place_of g)
@@ -135,7 +123,7 @@ module _ (k : KernelState) (h : PlacesAgree k) (g : Trigger) (a : Autofs) (is : 
   stands_on : (mount : ℕ) (b : Bool) (o : Option Trigger) → b ≡ true → o ≡ Some g → list_any (λ (one : Trigger × ℕ). same_trigger one.0 g) (standing_on (if b then o else None) mount) ≡ true
   stands_on mount false o e f = absurd cc
   stands_on mount true None e f = absurd cc
-  stands_on mount true (Some t) e f = let same : t ≡ g = some_same f in subst (λ (x : Trigger). (same_trigger x g || false) ≡ true) (sym same) (rw (is_itself g) refl)
+  stands_on mount true (Some t) e f = let same : t ≡ g = some_injective f in subst (λ (x : Trigger). (same_trigger x g || false) ≡ true) (sym same) (rw (is_itself g) refl)
 
   row_stands : (m : ℕ) (row : MountRow) → row.mount ≡ m → mounted_on k g ≡ Some m → trigger_in a (place_of g) ≡ Some g → (at : Option Position) → at ≡ Some (record { mount = a.location; place = place_of g }) →
       list_any (λ (one : Trigger × ℕ). same_trigger one.0 g) (standing_on (if is_top_of k a.location row at then trigger_at a at else None) row.mount) ≡ true
@@ -149,7 +137,7 @@ module _ (k : KernelState) (h : PlacesAgree k) (g : Trigger) (a : Autofs) (is : 
   mounted_stands : OnTriggers k → (m : ℕ) → mounted_on k g ≡ Some m → list_any (λ (one : Trigger × ℕ). same_trigger one.0 g) (standing_of k a) ≡ true
   mounted_stands on m top =
       let there = top_there k.table.rows a.location (place_of g) m h.whole.rising (sym at_location ∙ top) in
-      let t = some_is (trigger_in a (place_of g)) (on.on g.fs a is m there.0 (place_of g) there.1 there.2) in
+      let t = value_where_some (trigger_in a (place_of g)) (on.on g.fs a is m there.0 (place_of g) there.1 there.2) in
       let its = at_place a (place_of g) t.0 t.1 in
       let system : a.fs ≡ g.fs = equal_by_test a.fs g.fs (found_passes (λ (r : Autofs). r.fs == g.fs) k.triggers.autofs a is) in
       let same : t.0 ≡ g = trigger_same t.0 g (its.0 ∙ system) its.1 in

@@ -3,6 +3,7 @@ use Rattle.std.proofs.Common.{◌≡◌, ℕ, true, false, List, Some, None, sym
 use Rattle.am_names.specs.Trigger.{same_trigger}
 use Rattle.am_names.specs.declared.trigger.Trigger.{Trigger}
 use Rattle.am_names.specs.declared.row.MountRow.{MountRow}
+use Rattle.am_names.proofs.Basics.{some_injective, false_unless_true}
 use Rattle.am_group.specs.Propagation.{Receives}
 use Rattle.am_mount.specs.Rows.{mount_row, is_among, top_of, HasRow, IsAt}
 use Rattle.am_mount.proofs.RowLemmas.{RiseFrom-filter}
@@ -15,9 +16,9 @@ use Rattle.am_kernel.specs.State.{KernelState}
 use Rattle.am_kernel.specs.DaemonMounts.{location_in, location_of, mounted_on, trigger_position, without_mounts}
 use Rattle.am_machine.specs.Invariant.Places.{PlacesAgree}
 use Rattle.am_machine.specs.Invariant.Stands.{OnTriggers}
-use Rattle.am_machine.proofs.Places.Rows.{same_row, Shrinks}
+use Rattle.am_machine.proofs.Places.Rows.{Shrinks}
 use Rattle.am_machine.proofs.Places.Grown.{position, mounts_same, places_same}
-use Rattle.am_machine.proofs.Places.Left.{not_true, removed_shrinks, goes_cases, itself_goes, its_number}
+use Rattle.am_machine.proofs.Places.Left.{removed_shrinks, goes_cases, itself_goes, its_number}
 use Rattle.am_machine.proofs.Stands.Tops.{top_same, no_top, top_there}
 use Rattle.am_machine.proofs.Stands.Mounts.{location_is, one_trigger, none_receives}
 
@@ -39,7 +40,7 @@ module _ (k : KernelState) (h : PlacesAgree k) (t : Trigger) (b : Autofs) (is_b 
   goes_here : (fs : ℕ) (a : Autofs) → autofs_of k.triggers fs ≡ Some a → (n : ℕ) (row : MountRow) (place : List (List ℕ)) → mount_row k.table.rows n ≡ Some row → IsAt a.location place row → is_among (unmounted k.table m) n ≡ true → Goes a.location place
   goes_here fs a is n row place e on goes = ⊎_elim
       (λ same.
-      let one : there.0 ≡ row = same_row (sym there.1 ∙ ap (mount_row k.table.rows) (sym same ∙ its_number k.table.rows n row e) ∙ e) in
+      let one : there.0 ≡ row = some_injective (sym there.1 ∙ ap (mount_row k.table.rows) (sym same ∙ its_number k.table.rows n row e) ∙ e) in
       let here : IsAt (location_of k t.fs) (place_of t) row = subst (λ (r : MountRow). IsAt (location_of k t.fs) (place_of t) r) one there.2 in
       let both : Some (position a.location place) ≡ Some (position (location_of k t.fs) (place_of t)) = sym on ∙ here in
       record {
@@ -57,7 +58,7 @@ module _ (k : KernelState) (h : PlacesAgree k) (t : Trigger) (b : Autofs) (is_b 
       (top_same k.table.rows rows a.location (place_of g) h.whole.rising (RiseFrom-filter _ 0 k.table.rows h.whole.rising)
       (λ n r.
       let stays : is_among (unmounted k.table m) n ≡ false =
-      not_true (is_among (unmounted k.table m) n) (λ goes.
+      false_unless_true (is_among (unmounted k.table m) n) (λ goes.
       let from = goes_here g.fs a is n r.0 (place_of g) r.1 r.2 goes in
       one_trigger k h t b is_b g a is other from.location from.place_is) in
       (r.0, shrinks.stays n r.0 stays r.1, r.2))

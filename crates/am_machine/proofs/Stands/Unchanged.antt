@@ -15,9 +15,9 @@ use Rattle.am_kernel.specs.DaemonMounts.{location_in, location_of, mounted_on}
 use Rattle.am_daemon.specs.State.{DaemonState}
 use Rattle.am_machine.specs.Invariant.Books.{IsServed}
 use Rattle.am_machine.specs.Invariant.Stands.{AreClaimed, AreWritten, OnTriggers}
-use Rattle.am_machine.proofs.Places.Sites.{awake, Keeps, same_location, was_there}
 use Rattle.am_machine.proofs.Books.Unchanged.{Narrows}
 use Rattle.am_machine.proofs.Stands.Tops.{top_same}
+use Rattle.am_machine.proofs.Places.Unchanged.{awake, SamePlaces, same_location, was_there}
 
 -- ---- nothing is mounted on a trigger, and nothing unmounted from one
 
@@ -28,10 +28,10 @@ pub record Still (k made : KernelState) : Type 0 where
   pub rows : (fs : ℕ) (a : Autofs) → autofs_of k.triggers fs ≡ Some a → (m : ℕ) (row : MountRow) (place : List (List ℕ)) → mount_row made.table.rows m ≡ Some row → IsAt a.location place row → mount_row k.table.rows m ≡ Some row
   pub sites : (fs : ℕ) → option_map awake (autofs_of made.triggers fs) ≡ option_map awake (autofs_of k.triggers fs)
 
-pub stays : (k : KernelState) → Still k k
-stays k = record { still = λ g a is. refl; rows = λ fs a is m row place e at. e; sites = λ fs. refl }
+pub still_itself : (k : KernelState) → Still k k
+still_itself k = record { still = λ g a is. refl; rows = λ fs a is m row place e at. e; sites = λ fs. refl }
 
-pub kept_still : (k made : KernelState) → Keeps k made → Still k made
+pub kept_still : (k made : KernelState) → SamePlaces k made → Still k made
 kept_still k made keeps = record {
   still = λ g a is.
       ap (λ (t : MountTable). top_of t.rows (location_of made g.fs) (place_of g)) keeps.table

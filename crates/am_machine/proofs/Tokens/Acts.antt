@@ -4,7 +4,7 @@ use Rattle.std.specs.Prelude.{is_some}
 use Rattle.std.proofs.lemmas.List.Elements.{All-weaker}
 use Rattle.am_names.specs.declared.trigger.Status.{Status}
 use Rattle.am_names.specs.declared.row.OpenToken.{OpenToken}
-use Rattle.am_names.proofs.Basics.{equal_by_test}
+use Rattle.am_names.proofs.Basics.{equal_by_test, differ_the_other_way}
 use Rattle.am_wait.specs.Rows.{token_of}
 use Rattle.am_wait.proofs.FindLemmas.{token_taken}
 use Rattle.am_state.specs.declared.kernel_row.QueuedRow.{QueuedRow}
@@ -17,9 +17,10 @@ use Rattle.am_daemon.specs.Deliveries.{job_of}
 use Rattle.am_daemon.specs.Acts.{walked, is_ended, finished_in}
 use Rattle.am_daemon.proofs.JobLemmas.{others_stay}
 use Rattle.am_machine.specs.Invariant.Tokens.{IsInPipe, IsAtWork, HasToken, TokensAgree}
-use Rattle.am_machine.proofs.Lists.Different.{mapped_some, mapped_none, other_way}
+use Rattle.am_machine.proofs.Lists.Different.{mapped_some, mapped_none}
 use Rattle.am_machine.proofs.Tokens.Catatonic.{token_number}
 use Rattle.am_machine.proofs.Tokens.Jobs.{bare_job, goes_found, differ_finished, finished_all}
+use Rattle.am_machine.proofs.Lists.Found.{some_unless}
 
 -- ---- a job goes on
 
@@ -37,9 +38,9 @@ module _ (k : KernelState) (jobs : List JobPlan) (job : ℕ) (outcome : Outcome)
         current = w.current ∙ ap (λ (r : JobPlan). Some r.attach) (sym new.2);
       }
 
-  has_one : (t : ℕ) (row : OpenToken) → (is_some (queued_of k.queue t) ≡ true) ⊎ IsAtWork k jobs row → (is_some (queued_of k.queue t) ≡ true) ⊎ IsAtWork k left row
-  has_one t row (inl q) = inl q
-  has_one t row (inr w) = inr (works row w)
+  has_packet_or_job : (t : ℕ) (row : OpenToken) → (is_some (queued_of k.queue t) ≡ true) ⊎ IsAtWork k jobs row → (is_some (queued_of k.queue t) ≡ true) ⊎ IsAtWork k left row
+  has_packet_or_job t row (inl q) = inl q
+  has_packet_or_job t row (inr w) = inr (works row w)
 
   packet_goes : (row : QueuedRow) → IsInPipe k jobs row → IsInPipe k left row
   packet_goes row p = record {
@@ -56,17 +57,13 @@ module _ (k : KernelState) (jobs : List JobPlan) (job : ℕ) (outcome : Outcome)
     once = h.once;
     packets = h.packets;
     numbers = differ_finished job outcome jobs h.numbers;
-    open_tokens = λ t row e. has_one t row (h.open_tokens t row e);
+    open_tokens = λ t row e. has_packet_or_job t row (h.open_tokens t row e);
     in_pipe = All-weaker (IsInPipe k jobs) (IsInPipe k left) packet_goes k.queue h.in_pipe;
     at_work = finished_all (λ (row : JobPlan). attach_of k row.trigger.fs ≡ Some row.attach → HasToken k row) (λ (row : JobPlan). attach_of k row.trigger.fs ≡ Some row.attach → HasToken k row) job outcome found
         (λ row other p. p) (λ p ended current. let t = p current in record { token = t.token; is_open = t.is_open; fs = t.fs; trigger = t.trigger }) jobs is h.numbers h.at_work;
   }
 
 -- ---- a job acknowledges, and ends
-
-taken_by : (b : Bool) (o : Option OpenToken) (row : OpenToken) → cond b None o ≡ Some row → (b ≡ false) × (o ≡ Some row)
-taken_by true o row e = absurd cc
-taken_by false o row e = (refl, e)
 
 apart : (job t : ℕ) (jobs : List JobPlan) (found : JobPlan) (b : Bool) → (job == t) ≡ b → job_of jobs job ≡ Some found → job_of jobs t ≡ None → b ≡ false
 apart job t jobs found true e is none = absurd (let here : job_of jobs t ≡ Some found = subst (λ (n : ℕ). job_of jobs n ≡ Some found) (equal_by_test job t e) is in cc)
@@ -80,13 +77,13 @@ module _ (k : KernelState) (jobs : List JobPlan) (job : ℕ) (status : Status) (
   made = acknowledged job status k
 
   was_open : (t : ℕ) (row : OpenToken) → token_of made.waits.tokens t ≡ Some row → ((job == t) ≡ false) × (token_of k.waits.tokens t ≡ Some row)
-  was_open t row e = taken_by (job == t) (token_of k.waits.tokens t) row (sym (token_taken job k.waits.tokens t (job == t) refl) ∙ e)
+  was_open t row e = some_unless (job == t) (token_of k.waits.tokens t) row (sym (token_taken job k.waits.tokens t (job == t) refl) ∙ e)
 
   still_open : (t : ℕ) (row : OpenToken) → (job == t) ≡ false → token_of k.waits.tokens t ≡ Some row → token_of made.waits.tokens t ≡ Some row
   still_open t row other e = token_taken job k.waits.tokens t false other ∙ e
 
   stays : (t : ℕ) → (job == t) ≡ false → job_of ended t ≡ job_of jobs t
-  stays t other = others_stay jobs job outcome t (other_way job t false other)
+  stays t other = others_stay jobs job outcome t (differ_the_other_way job t other)
 
   had : (t : ℕ) (row : OpenToken) → (job == t) ≡ false → row.token ≡ t → (is_some (queued_of k.queue t) ≡ true) ⊎ IsAtWork k jobs row → (is_some (queued_of made.queue t) ≡ true) ⊎ IsAtWork made ended row
   had t row other number (inl q) = inl q
@@ -109,7 +106,7 @@ module _ (k : KernelState) (jobs : List JobPlan) (job : ℕ) (status : Status) (
   work_stays : (row : JobPlan) → (row.token == job) ≡ false → (attach_of k row.trigger.fs ≡ Some row.attach → HasToken k row) → attach_of made row.trigger.fs ≡ Some row.attach → HasToken made row
   work_stays row other token_of_it current =
       let t = token_of_it current in
-      record { token = t.token; is_open = still_open row.token t.token (other_way row.token job false other) t.is_open; fs = t.fs; trigger = t.trigger }
+      record { token = t.token; is_open = still_open row.token t.token (differ_the_other_way row.token job other) t.is_open; fs = t.fs; trigger = t.trigger }
 
   pub ends_agree : TokensAgree made ended
   ends_agree = record {

@@ -2,7 +2,7 @@
 use Rattle.std.proofs.Common.{◌≡◌, ◌⊎◌, ℕ, Bool, true, false, cond, not, ◌==◌, List, get_or, Option, Some, None, refl, sym, ap, subst, ◌∙◌, inl, inr}
 use Rattle.std.specs.Prelude.{is_some}
 use Rattle.am_names.specs.declared.row.OpenToken.{OpenToken}
-use Rattle.am_names.proofs.Basics.{equal_by_test}
+use Rattle.am_names.proofs.Basics.{equal_by_test, value_where_some, found_passes}
 use Rattle.am_wait.specs.Rows.{token_of}
 use Rattle.am_wait.specs.Invariant.{RiseBy}
 use Rattle.am_wait.proofs.FindLemmas.{unless_of, tokens_off}
@@ -15,7 +15,6 @@ use Rattle.am_kernel.specs.Walks.{is_packet_of, closed}
 use Rattle.am_daemon.specs.State.{JobPlan}
 use Rattle.am_machine.specs.Invariant.Traces.{Asked, asked_in, asked_by}
 use Rattle.am_machine.specs.Invariant.Tokens.{IsInPipe, IsAtWork, HasToken, TokensAgree}
-use Rattle.am_machine.proofs.Lists.Counts.{some_is, found_passes}
 use Rattle.am_machine.proofs.Attachments.Grows.{attach_closed, attach_other}
 use Rattle.am_machine.proofs.Lists.Different.{all_found, each_kept, found_stays, differ_filter}
 
@@ -40,14 +39,14 @@ unless_some : (fs : ℕ) (row : OpenToken) (b : Bool) → (row.trigger.fs == fs)
 unless_some fs row true e h = absurd cc
 unless_some fs row false e h = rw e refl
 
-kept_by : (b : Bool) (old row : OpenToken) → cond b None (Some old) ≡ Some row → (b ≡ false) × (old ≡ row)
-kept_by true old row e = absurd cc
-kept_by false old row e = (refl, cc)
+kept_by_cases : (b : Bool) (old row : OpenToken) → cond b None (Some old) ≡ Some row → (b ≡ false) × (old ≡ row)
+kept_by_cases true old row e = absurd cc
+kept_by_cases false old row e = (refl, cc)
 
 pub kept_row : (fs : ℕ) (o : Option OpenToken) (row : OpenToken) → unless_of fs o ≡ Some row → (o ≡ Some row) × ((row.trigger.fs == fs) ≡ false)
 kept_row fs None row e = absurd cc
 kept_row fs (Some old) row e =
-    let both = kept_by (old.trigger.fs == fs) old row e in
+    let both = kept_by_cases (old.trigger.fs == fs) old row e in
     (ap (λ (r : OpenToken). Some r) both.1, ap (λ (r : OpenToken). r.trigger.fs == fs) (sym both.1) ∙ both.0)
 
 not_its : (fs : ℕ) (row : QueuedRow) (b : Bool) → (row.packet.dev == fs) ≡ b → not (row.packet.dev == fs) ≡ true → b ≡ false
@@ -64,13 +63,13 @@ module _ (k : KernelState) (jobs : List JobPlan) (fs : ℕ) (rise : RiseBy (λ (
   still_open : (t : ℕ) (row : OpenToken) → token_of k.waits.tokens t ≡ Some row → (row.trigger.fs == fs) ≡ false → token_of (closed fs k).waits.tokens t ≡ Some row
   still_open t row e other = left t ∙ ap (unless_of fs) e ∙ unless_some fs row (row.trigger.fs == fs) refl other
 
-  has_one : (t : ℕ) (row : OpenToken) → token_of k.waits.tokens t ≡ Some row → (row.trigger.fs == fs) ≡ false → (is_some (queued_of k.queue t) ≡ true) ⊎ IsAtWork k jobs row → (is_some (queued_of (closed fs k).queue t) ≡ true) ⊎ IsAtWork (closed fs k) jobs row
-  has_one t row e other (inl q) =
-      let found = some_is (queued_of k.queue t) q in
+  has_packet_or_job : (t : ℕ) (row : OpenToken) → token_of k.waits.tokens t ≡ Some row → (row.trigger.fs == fs) ≡ false → (is_some (queued_of k.queue t) ≡ true) ⊎ IsAtWork k jobs row → (is_some (queued_of (closed fs k).queue t) ≡ true) ⊎ IsAtWork (closed fs k) jobs row
+  has_packet_or_job t row e other (inl q) =
+      let found = value_where_some (queued_of k.queue t) q in
       let dev = queued_row k jobs t row found.0 h e found.1 in
       let keep : not (is_packet_of fs found.0) ≡ true = ap not (ap (λ (n : ℕ). n == fs) dev ∙ other) in
       inl (ap is_some (found_stays (λ (r : QueuedRow). r.token == t) (λ (r : QueuedRow). not (is_packet_of fs r)) k.queue found.0 found.1 keep))
-  has_one t row e other (inr w) = inr (record { job = w.job; is_job = w.is_job; fs = w.fs; current = attach_other k fs row.trigger.fs other ∙ w.current })
+  has_packet_or_job t row e other (inr w) = inr (record { job = w.job; is_job = w.is_job; fs = w.fs; current = attach_other k fs row.trigger.fs other ∙ w.current })
 
   pipe_left : (row : QueuedRow) → not (is_packet_of fs row) ≡ true → IsInPipe k jobs row → IsInPipe (closed fs k) jobs row
   pipe_left row keep p =
@@ -96,7 +95,7 @@ module _ (k : KernelState) (jobs : List JobPlan) (fs : ℕ) (rise : RiseBy (λ (
     once = λ a b x y p q same. h.once a b x y (was_open a x p).0 (was_open b y q).0 same;
     packets = differ_filter (λ (row : QueuedRow). row.token) (λ (row : QueuedRow). not (is_packet_of fs row)) k.queue h.packets;
     numbers = h.numbers;
-    open_tokens = λ t row e. let old = was_open t row e in has_one t row old.0 old.1 (h.open_tokens t row old.0);
+    open_tokens = λ t row e. let old = was_open t row e in has_packet_or_job t row old.0 old.1 (h.open_tokens t row old.0);
     in_pipe = each_kept (IsInPipe k jobs) (IsInPipe (closed fs k) jobs) (λ (row : QueuedRow). not (is_packet_of fs row)) k.queue pipe_left h.in_pipe;
     at_work = λ i d lt current. let job = get_or jobs i d in work_left job (job.trigger.fs == fs) refl (h.at_work i d lt) current;
   }

@@ -16,12 +16,9 @@ use Rattle.am_daemon.specs.State.{JobPlan}
 use Rattle.am_daemon.specs.Deliveries.{job_of}
 use Rattle.am_daemon.specs.Packets.{trigger_of}
 use Rattle.am_machine.specs.Invariant.Tokens.{IsInPipe, IsAtWork, HasToken, TokensAgree}
-use Rattle.am_machine.proofs.Lists.Different.{each_kept, differ_push, differ_filter}
+use Rattle.am_machine.proofs.Lists.Different.{each_kept, differ_push, differ_filter, differ_as_the_third}
 use Rattle.am_machine.proofs.Tokens.Catatonic.{token_number, dev_of}
 use Rattle.am_machine.proofs.Tokens.Names.{reads}
-
-both_ways : (a n t : ℕ) → (a == t) ≡ true → (n == t) ≡ false → not (a == n) ≡ true
-both_ways a n t e d = grind (arith, nat_tests, e, d)
 
 other_one : (a n : ℕ) → not (a == n) ≡ true → (n == a) ≡ false
 other_one a n e = grind (arith, nat_tests, e)
@@ -66,16 +63,16 @@ module _ (k : KernelState) (jobs : List JobPlan) (row : QueuedRow) (job : JobPla
 
   had : (t : ℕ) (token : OpenToken) → (row.token == t) ≡ false → (is_some (queued_of k.queue t) ≡ true) ⊎ IsAtWork k jobs token → (is_some (queued_of (without_packet row.token k).queue t) ≡ true) ⊎ IsAtWork (without_packet row.token k) (jobs ++ job ∷ []) token
   had t token other (inl q) =
-      inl (ap is_some (find_kept (λ (r : QueuedRow). r.token == t) (λ (r : QueuedRow). not (r.token == row.token)) (λ r e. both_ways r.token row.token t e other) k.queue) ∙ q)
+      inl (ap is_some (find_kept (λ (r : QueuedRow). r.token == t) (λ (r : QueuedRow). not (r.token == row.token)) (λ r e. differ_as_the_third r.token row.token t e other) k.queue) ∙ q)
   had t token other (inr w) = inr (record { job = w.job; is_job = stays token.token w.job w.is_job; fs = w.fs; current = w.current })
 
-  has_one : (t : ℕ) (token : OpenToken) (c : Bool) → (row.token == t) ≡ c → token_of k.waits.tokens t ≡ Some token → (is_some (queued_of (without_packet row.token k).queue t) ≡ true) ⊎ IsAtWork (without_packet row.token k) (jobs ++ job ∷ []) token
-  has_one t token true e is =
+  has_packet_or_job : (t : ℕ) (token : OpenToken) (c : Bool) → (row.token == t) ≡ c → token_of k.waits.tokens t ≡ Some token → (is_some (queued_of (without_packet row.token k).queue t) ≡ true) ⊎ IsAtWork (without_packet row.token k) (jobs ++ job ∷ []) token
+  has_packet_or_job t token true e is =
       let here : token_of k.waits.tokens row.token ≡ Some token = subst (λ (n : ℕ). token_of k.waits.tokens n ≡ Some token) (sym (equal_by_test row.token t e)) is in
       let open_now = p.is_open in
       let same : p.token ≡ token = cc in
       inr (subst (IsAtWork (without_packet row.token k) (jobs ++ job ∷ [])) same taken)
-  has_one t token false e is = had t token e (h.open_tokens t token is)
+  has_packet_or_job t token false e is = had t token e (h.open_tokens t token is)
 
   old_packet : (other : QueuedRow) → not (other.token == row.token) ≡ true → IsInPipe k jobs other → IsInPipe (without_packet row.token k) (jobs ++ job ∷ []) other
   old_packet other keep q = record {
@@ -103,7 +100,7 @@ module _ (k : KernelState) (jobs : List JobPlan) (row : QueuedRow) (job : JobPla
     once = h.once;
     packets = differ_filter (λ (r : QueuedRow). r.token) (λ (r : QueuedRow). not (r.token == row.token)) k.queue h.packets;
     numbers = differ_push (λ (r : JobPlan). r.token) jobs job h.numbers is_new;
-    open_tokens = λ t token e. has_one t token (row.token == t) refl e;
+    open_tokens = λ t token e. has_packet_or_job t token (row.token == t) refl e;
     in_pipe = each_kept (IsInPipe k jobs) (IsInPipe (without_packet row.token k) (jobs ++ job ∷ [])) (λ (r : QueuedRow). not (r.token == row.token)) k.queue old_packet h.in_pipe;
     at_work = All-push (λ (other : JobPlan). attach_of (without_packet row.token k) other.trigger.fs ≡ Some other.attach → HasToken (without_packet row.token k) other) jobs job
         (All-weaker (λ (other : JobPlan). attach_of k other.trigger.fs ≡ Some other.attach → HasToken k other) (λ (other : JobPlan). attach_of (without_packet row.token k) other.trigger.fs ≡ Some other.attach → HasToken (without_packet row.token k) other) old_work jobs h.at_work)

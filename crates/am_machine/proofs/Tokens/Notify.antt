@@ -7,7 +7,7 @@ use Rattle.std.proofs.lemmas.List.Elements.{All-weaker, All-push}
 use Rattle.am_names.specs.Trigger.{same_trigger}
 use Rattle.am_names.specs.declared.row.OpenToken.{OpenToken}
 use Rattle.am_names.proofs.SameTriggers.{either_way}
-use Rattle.am_names.proofs.Basics.{equal_to_itself, equal_by_test}
+use Rattle.am_names.proofs.Basics.{equal_to_itself, equal_by_test, found_passes}
 use Rattle.am_wait.specs.Rows.{token_of}
 use Rattle.am_wait.specs.Invariant.{RiseBy, AreGiven}
 use Rattle.am_wait.proofs.FindLemmas.{or_first, find_append}
@@ -21,9 +21,8 @@ use Rattle.am_daemon.specs.Deliveries.{job_of}
 use Rattle.am_laws.specs.OneObservation.{delivers}
 use Rattle.am_machine.specs.Invariant.Traces.{AreDifferent, names, FitsTrace, rows_of, asked_in, asked_by}
 use Rattle.am_machine.specs.Invariant.Tokens.{IsInPipe, IsAtWork, TokensAgree}
-use Rattle.am_machine.proofs.Lists.Counts.{found_passes}
 use Rattle.am_machine.proofs.Traces.Counts.{any_none_of, delivers_names}
-use Rattle.am_machine.proofs.Lists.Different.{all_found, differ_push, yes_no}
+use Rattle.am_machine.proofs.Lists.Different.{all_found, differ_push, true_is_not_false}
 
 -- ---- numbers that were given
 
@@ -39,18 +38,18 @@ numbered k jobs trace h = record {
   given = h.sound.given;
   jobs_given = λ job is.
       elim (cases_lt k.waits.last_token job) [
-        | inl above ↦ absurd (yes_no (list_any (delivers job) trace) (h.delivered job is) (any_none_of (delivers job) (names job) trace (delivers_names job) (h.known job above)))
+        | inl above ↦ absurd (true_is_not_false (list_any (delivers job) trace) (h.delivered job is) (any_none_of (delivers job) (names job) trace (delivers_names job) (h.known job above)))
         | inr most ↦ most
       ];
 }
 
-given_by : (last t : ℕ) (x row : OpenToken) (tokens : List OpenToken) (b : Bool) → x.token ≤ last → (x.token == t) ≡ b → (token_of tokens t ≡ Some row → t ≤ last) → cond b (Some x) (token_of tokens t) ≡ Some row → t ≤ last
-given_by last t x row tokens true most e later f = let same = equal_by_test x.token t e in omega (arith, most, same)
-given_by last t x row tokens false most e later f = later f
+given_by_cases : (last t : ℕ) (x row : OpenToken) (tokens : List OpenToken) (b : Bool) → x.token ≤ last → (x.token == t) ≡ b → (token_of tokens t ≡ Some row → t ≤ last) → cond b (Some x) (token_of tokens t) ≡ Some row → t ≤ last
+given_by_cases last t x row tokens true most e later f = let same = equal_by_test x.token t e in omega (arith, most, same)
+given_by_cases last t x row tokens false most e later f = later f
 
 pub token_given : (last t : ℕ) (tokens : List OpenToken) (row : OpenToken) → AreGiven last tokens → token_of tokens t ≡ Some row → t ≤ last
 token_given last t [] row h e = absurd cc
-token_given last t (x ∷ tokens) row h e = given_by last t x row tokens (x.token == t) h.0 refl (token_given last t tokens row h.1) e
+token_given last t (x ∷ tokens) row h e = given_by_cases last t x row tokens (x.token == t) h.0 refl (token_given last t tokens row h.1) e
 
 -- what would be above the last isn't there
 none_new : {X : Type 0} (last t : ℕ) (o : Option X) → ((x : X) → o ≡ Some x → t ≤ last) → last < t → o ≡ None
@@ -72,10 +71,10 @@ pub record Notices (k made : KernelState) (new : OpenToken) (packet : QueuedRow)
   pub current : attach_of k new.trigger.fs ≡ Some packet.attach
   pub idle : (t : ℕ) (row : OpenToken) → token_of k.waits.tokens t ≡ Some row → same_trigger row.trigger new.trigger ≡ false
 
-either_by : (o : Option OpenToken) (b : Bool) (new row : OpenToken) → or_first o (cond b (Some new) None) ≡ Some row → (o ≡ Some row) ⊎ ((b ≡ true) × (new ≡ row))
-either_by (Some old) b new row e = inl e
-either_by None true new row e = inr (refl, cc)
-either_by None false new row e = absurd cc
+either_by_cases : (o : Option OpenToken) (b : Bool) (new row : OpenToken) → or_first o (cond b (Some new) None) ≡ Some row → (o ≡ Some row) ⊎ ((b ≡ true) × (new ≡ row))
+either_by_cases (Some old) b new row e = inl e
+either_by_cases None true new row e = inr (refl, cc)
+either_by_cases None false new row e = absurd cc
 
 some_first : {X : Type 0} (o : Option X) (b : Bool) (x : X) → (is_some o ≡ true) ⊎ (b ≡ true) → is_some (or_first o (cond b (Some x) None)) ≡ true
 some_first (Some y) b x h = refl
@@ -88,7 +87,7 @@ module _ (k made : KernelState) (jobs : List JobPlan) (new : OpenToken) (packet 
   now t = ap (λ (tokens : List OpenToken). token_of tokens t) n.tokens ∙ find_append (λ (r : OpenToken). r.token == t) k.waits.tokens (new ∷ [])
 
   either_open : (t : ℕ) (row : OpenToken) → token_of made.waits.tokens t ≡ Some row → (token_of k.waits.tokens t ≡ Some row) ⊎ (((new.token == t) ≡ true) × (new ≡ row))
-  either_open t row e = either_by (token_of k.waits.tokens t) (new.token == t) new row (sym (now t) ∙ e)
+  either_open t row e = either_by_cases (token_of k.waits.tokens t) (new.token == t) new row (sym (now t) ∙ e)
 
   still_open : (t : ℕ) (row : OpenToken) → token_of k.waits.tokens t ≡ Some row → token_of made.waits.tokens t ≡ Some row
   still_open t row e = now t ∙ ap (λ (o : Option OpenToken). or_first o (cond (new.token == t) (Some new) None)) e
@@ -117,21 +116,21 @@ module _ (k made : KernelState) (jobs : List JobPlan) (new : OpenToken) (packet 
       ap is_some (ap (λ (queue : List QueuedRow). queued_of queue t) n.queue ∙ find_append (λ (r : QueuedRow). r.token == t) k.queue (packet ∷ []))
       ∙ some_first (queued_of k.queue t) (packet.token == t) packet either
 
-  once_by : (a b : ℕ) (x y : OpenToken) → (token_of k.waits.tokens a ≡ Some x) ⊎ (((new.token == a) ≡ true) × (new ≡ x)) → (token_of k.waits.tokens b ≡ Some y) ⊎ (((new.token == b) ≡ true) × (new ≡ y)) → same_trigger x.trigger y.trigger ≡ true → a ≡ b
-  once_by a b x y (inl p) (inl q) same = h.once a b x y p q same
-  once_by a b x y (inl p) (inr q) same =
-      absurd (yes_no (same_trigger x.trigger new.trigger) (subst (λ (r : OpenToken). same_trigger x.trigger r.trigger ≡ true) (sym q.1) same) (n.idle a x p))
-  once_by a b x y (inr p) (inl q) same =
-      absurd (yes_no (same_trigger y.trigger new.trigger) (either_way y.trigger new.trigger ∙ subst (λ (r : OpenToken). same_trigger r.trigger y.trigger ≡ true) (sym p.1) same) (n.idle b y q))
-  once_by a b x y (inr p) (inr q) same = sym (equal_by_test new.token a p.0) ∙ equal_by_test new.token b q.0
+  once_by_cases : (a b : ℕ) (x y : OpenToken) → (token_of k.waits.tokens a ≡ Some x) ⊎ (((new.token == a) ≡ true) × (new ≡ x)) → (token_of k.waits.tokens b ≡ Some y) ⊎ (((new.token == b) ≡ true) × (new ≡ y)) → same_trigger x.trigger y.trigger ≡ true → a ≡ b
+  once_by_cases a b x y (inl p) (inl q) same = h.once a b x y p q same
+  once_by_cases a b x y (inl p) (inr q) same =
+      absurd (true_is_not_false (same_trigger x.trigger new.trigger) (subst (λ (r : OpenToken). same_trigger x.trigger r.trigger ≡ true) (sym q.1) same) (n.idle a x p))
+  once_by_cases a b x y (inr p) (inl q) same =
+      absurd (true_is_not_false (same_trigger y.trigger new.trigger) (either_way y.trigger new.trigger ∙ subst (λ (r : OpenToken). same_trigger r.trigger y.trigger ≡ true) (sym p.1) same) (n.idle b y q))
+  once_by_cases a b x y (inr p) (inr q) same = sym (equal_by_test new.token a p.0) ∙ equal_by_test new.token b q.0
 
   had : (t : ℕ) (row : OpenToken) → (is_some (queued_of k.queue t) ≡ true) ⊎ IsAtWork k jobs row → (is_some (queued_of made.queue t) ≡ true) ⊎ IsAtWork made jobs row
   had t row (inl q) = inl (queued_now t (inl q))
   had t row (inr w) = inr (record { job = w.job; is_job = w.is_job; fs = w.fs; current = n.attach row.trigger.fs ∙ w.current })
 
-  has_one : (t : ℕ) (row : OpenToken) → (token_of k.waits.tokens t ≡ Some row) ⊎ (((new.token == t) ≡ true) × (new ≡ row)) → (is_some (queued_of made.queue t) ≡ true) ⊎ IsAtWork made jobs row
-  has_one t row (inl p) = had t row (h.open_tokens t row p)
-  has_one t row (inr p) = inl (queued_now t (inr (ap (λ (m : ℕ). m == t) n.its ∙ p.0)))
+  has_packet_or_job : (t : ℕ) (row : OpenToken) → (token_of k.waits.tokens t ≡ Some row) ⊎ (((new.token == t) ≡ true) × (new ≡ row)) → (is_some (queued_of made.queue t) ≡ true) ⊎ IsAtWork made jobs row
+  has_packet_or_job t row (inl p) = had t row (h.open_tokens t row p)
+  has_packet_or_job t row (inr p) = inl (queued_now t (inr (ap (λ (m : ℕ). m == t) n.its ∙ p.0)))
 
   old_packet : (row : QueuedRow) → IsInPipe k jobs row → IsInPipe made jobs row
   old_packet row p = record {
@@ -155,10 +154,10 @@ module _ (k made : KernelState) (jobs : List JobPlan) (new : OpenToken) (packet 
 
   pub notices_agree : TokensAgree made jobs
   notices_agree = record {
-    once = λ a b x y p q same. once_by a b x y (either_open a x p) (either_open b y q) same;
+    once = λ a b x y p q same. once_by_cases a b x y (either_open a x p) (either_open b y q) same;
     packets = subst (λ (queue : List QueuedRow). AreDifferent (map (λ (row : QueuedRow). row.token) queue)) (sym n.queue) (differ_push (λ (row : QueuedRow). row.token) k.queue packet h.packets not_queued);
     numbers = h.numbers;
-    open_tokens = λ t row e. has_one t row (either_open t row e);
+    open_tokens = λ t row e. has_packet_or_job t row (either_open t row e);
     in_pipe = subst (λ (queue : List QueuedRow). All (IsInPipe made jobs) queue) (sym n.queue) (All-push (IsInPipe made jobs) k.queue packet (All-weaker (IsInPipe k jobs) (IsInPipe made jobs) old_packet k.queue h.in_pipe) new_packet);
     at_work = λ i d lt current.
         let job = get_or jobs i d in

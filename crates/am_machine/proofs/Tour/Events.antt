@@ -10,7 +10,7 @@ use Rattle.am_names.specs.declared.row.Position.{Position}
 use Rattle.am_names.specs.declared.row.OpenToken.{OpenToken}
 use Rattle.am_names.specs.declared.trigger.Trigger.{Trigger}
 use Rattle.am_names.specs.declared.trigger.Status.{Status}
-use Rattle.am_names.proofs.Basics.{both_of_and, equal_by_test}
+use Rattle.am_names.proofs.Basics.{both_of_and, equal_by_test, true_where_not_false, value_where_some, found_passes}
 use Rattle.am_map.specs.EntryText.{EntryText}
 use Rattle.am_state.specs.declared.daemon_row.Record.{Record}
 use Rattle.am_state.specs.declared.kernel_row.QueuedRow.{QueuedRow}
@@ -65,10 +65,9 @@ use Rattle.am_machine.specs.Events.Walkers.{goes}
 use Rattle.am_machine.specs.Events.Requests as requests
 use Rattle.am_machine.specs.Events.Deliveries as deliveries
 use Rattle.am_machine.specs.Events.Acts as acts
-use Rattle.am_machine.proofs.Lists.Counts.{some_is, found_passes}
 use Rattle.am_machine.proofs.Planned.Acts.{acknowledges}
 use Rattle.am_machine.proofs.Stands.Jobs.{MovesNothing}
-use Rattle.am_machine.proofs.Tests.{else_none, first_none, not_false}
+use Rattle.am_machine.proofs.Tests.{test_passed, first_passed}
 use Rattle.am_machine.proofs.Tour.Walks as walks
 
 -- ---- what is known where a change comes
@@ -187,9 +186,9 @@ module _ (Fits : List (List ℕ) → Type 0) (Acts : ℕ → Type 0) (P : Kernel
   refuses : (s : State) (e : Errno) → Leaves R s (refused s e)
   refuses s e = same s _
 
-  either : (s : State) (b : Bool) (first second : Outcome) → Leaves R s first → Leaves R s second → Leaves R s (if b then first else second)
-  either s true first second h g = h
-  either s false first second h g = g
+  in_either_case : (s : State) (b : Bool) (first second : Outcome) → Leaves R s first → Leaves R s second → Leaves R s (if b then first else second)
+  in_either_case s true first second h g = h
+  in_either_case s false first second h g = g
 
   -- the first, where the test passes
   where_true : (s : State) (b : Bool) (first second : Outcome) → (b ≡ true → Leaves R s first) → Leaves R s second → Leaves R s (if b then first else second)
@@ -219,7 +218,7 @@ module _ (Fits : List (List ℕ) → Type 0) (Acts : ℕ → Type 0) (P : Kernel
   attached_as None s path = refuses s _
   attached_as (Some point) s path =
       unless_refused (administration.attach_refusal s path) s _
-      (λ may. let tests = else_none (is_attached s.daemon path) _ _ may in record { well = attaches_at (position_at s.kernel 0 path) s path point refl tests.0 tests.1 })
+      (λ may. let tests = test_passed (is_attached s.daemon path) _ _ may in record { well = attaches_at (position_at s.kernel 0 path) s path point refl tests.0 tests.1 })
 
   mounts_at : (at : Result Position Errno) (s : State) (ns : ℕ) (path : List (List ℕ)) → position_at s.kernel ns path ≡ at → tested at (mount_tests s.kernel) ≡ None →
       R s (mounting_at s.kernel at) (with_half (from_position at s.kernel (λ at. with_mount at s.kernel)) s)
@@ -259,7 +258,7 @@ module _ (Fits : List (List ℕ) → Type 0) (Acts : ℕ → Type 0) (P : Kernel
 
   repeats : (s : State) (attach token : ℕ) → Leaves R s (requests.repeat_outcome s attach token)
   repeats s attach token =
-      either s (not (is_some (fs_of_attach s.kernel attach))) _ _ (refuses s _) (either s (is_some (token_of s.kernel.waits.tokens token)) _ _ (refuses s _) (refuses s _))
+      in_either_case s (not (is_some (fs_of_attach s.kernel attach))) _ _ (refuses s _) (in_either_case s (is_some (token_of s.kernel.waits.tokens token)) _ _ (refuses s _) (refuses s _))
 
   closes : (s : State) (fs : ℕ) → Leaves R s (with_kernel answers.Done (closing fs s.kernel) (closed fs s.kernel) s)
   closes s fs = record { well = keeps.closed s fs }
@@ -270,13 +269,13 @@ module _ (Fits : List (List ℕ) → Type 0) (Acts : ℕ → Type 0) (P : Kernel
 
   reattaches : (s : State) (fs : ℕ) → pipe_refusal s.kernel fs ≡ None → Leaves R s (requests.reattaches s fs)
   reattaches s fs may =
-      let first = else_none (not (is_some (autofs_of s.kernel.triggers fs))) _ _ may in
-      let row = some_is (autofs_of s.kernel.triggers fs) (not_false _ first.0) in
-      record { well = keeps.reattached s fs row.0 row.1 (else_none (is_live s.kernel fs) _ (attach_refusal s.kernel) first.1).0 }
+      let first = test_passed (not (is_some (autofs_of s.kernel.triggers fs))) _ _ may in
+      let row = value_where_some (autofs_of s.kernel.triggers fs) (true_where_not_false _ first.0) in
+      record { well = keeps.reattached s fs row.0 row.1 (test_passed (is_live s.kernel fs) _ (attach_refusal s.kernel) first.1).0 }
 
   reattach : (s : State) (fs : ℕ) → Leaves R s (requests.reattach_outcome s fs)
   reattach s fs =
-      unless_refused (requests.reattach_refused s fs) s (requests.reattaches s fs) (λ may. reattaches s fs (first_none (pipe_refusal s.kernel fs) (reattach_refusal fs s.daemon) may))
+      unless_refused (requests.reattach_refused s fs) s (requests.reattaches s fs) (λ may. reattaches s fs (first_passed (pipe_refusal s.kernel fs) (reattach_refusal fs s.daemon) may))
 
   -- ---- jobs
 
@@ -312,7 +311,7 @@ module _ (Fits : List (List ℕ) → Type 0) (Acts : ℕ → Type 0) (P : Kernel
 
   mount_act : (s : State) (row : JobPlan) (trigger : Trigger) (entry : EntryText) (failure : Option FailNo) → IsNext Acts s row (act.Mount trigger entry) → Leaves R s (acts.mount_act s row trigger failure)
   mount_act s row trigger entry failure i =
-      either s (not (is_current s.kernel trigger.fs row.attach)) _ _ (refuses s _) (mount_tried failure s row trigger entry i)
+      in_either_case s (not (is_current s.kernel trigger.fs row.attach)) _ _ (refuses s _) (mount_tried failure s row trigger entry i)
 
   umounts_from : (mounted : Option ℕ) (s : State) (row : JobPlan) (trigger : Trigger) → IsNext Acts s row (act.Umount trigger) → is_current s.kernel trigger.fs row.attach ≡ true → mounted_on s.kernel trigger ≡ mounted → mounts.umount_tests mounted s.kernel ≡ None →
       R s (seen.Unmounted (gone_with s.kernel mounted) ∷ []) (going row came.Done (without_mounts (gone_with s.kernel mounted) s.kernel) s)
@@ -324,8 +323,8 @@ module _ (Fits : List (List ℕ) → Type 0) (Acts : ℕ → Type 0) (P : Kernel
 
   umount_by : (e : Option Errno) (s : State) (row : JobPlan) (trigger : Trigger) → IsNext Acts s row (act.Umount trigger) → umount_from_refusal s.kernel row.attach trigger ≡ e → Leaves R s (acts.umount_by e s row trigger)
   umount_by None s row trigger i may =
-      let tests = else_none (not (is_current s.kernel trigger.fs row.attach)) _ (mounts.umount_tests (mounted_on s.kernel trigger) s.kernel) may in
-      record { well = umounts_from (mounted_on s.kernel trigger) s row trigger i (not_false _ tests.0) refl tests.1 }
+      let tests = test_passed (not (is_current s.kernel trigger.fs row.attach)) _ (mounts.umount_tests (mounted_on s.kernel trigger) s.kernel) may in
+      record { well = umounts_from (mounted_on s.kernel trigger) s row trigger i (true_where_not_false _ tests.0) refl tests.1 }
   umount_by (Some e) s row trigger i may = umount_fails s row trigger ENOENT i
 
   umount_tried : (failure : Option FailNo) (s : State) (row : JobPlan) (trigger : Trigger) → IsNext Acts s row (act.Umount trigger) → Leaves R s (acts.umount_tried failure s row trigger)
@@ -334,7 +333,7 @@ module _ (Fits : List (List ℕ) → Type 0) (Acts : ℕ → Type 0) (P : Kernel
 
   umount_act : (s : State) (row : JobPlan) (trigger : Trigger) (failure : Option FailNo) → IsNext Acts s row (act.Umount trigger) → Leaves R s (acts.umount_act s row trigger failure)
   umount_act s row trigger failure i =
-      either s (not (is_current s.kernel trigger.fs row.attach)) _ _ (refuses s _) (umount_tried failure s row trigger i)
+      in_either_case s (not (is_current s.kernel trigger.fs row.attach)) _ _ (refuses s _) (umount_tried failure s row trigger i)
 
   rmdir : (e : Option Errno) (s : State) (row : JobPlan) (trigger : Trigger) → IsNext Acts s row (act.Rmdir trigger) → Leaves R s (acts.rmdir_by e s row trigger)
   rmdir None s row trigger i = record { well = keeps.directory_gone s row trigger i }
@@ -344,7 +343,7 @@ module _ (Fits : List (List ℕ) → Type 0) (Acts : ℕ → Type 0) (P : Kernel
 
   record_act : (s : State) (row : JobPlan) (trigger : Trigger) (entry : Option Record) → IsNext Acts s row (act.Record trigger entry) → Leaves R s (acts.record_act s row trigger entry)
   record_act s row trigger entry i =
-      where_false s (not (holds s.daemon row.trigger.fs row.attach)) _ _ (refuses s _) (λ held. record { well = keeps.recorded s row trigger entry i (not_false _ held) })
+      where_false s (not (holds s.daemon row.trigger.fs row.attach)) _ _ (refuses s _) (λ held. record { well = keeps.recorded s row trigger entry i (true_where_not_false _ held) })
 
   reply : (e : Option Errno) (s : State) (row : JobPlan) (status : Status) → IsNext Acts s row (act.Reply status) → answer_refusal s.kernel row.attach row.token ≡ e → Leaves R s (acts.reply_by e s row status)
   reply (Some e) s row status i may = refuses s e
@@ -397,7 +396,7 @@ module _ (Fits : List (List ℕ) → Type 0) (Acts : ℕ → Type 0) (P : Kernel
   outcome s (events.Timeout attach fs timeout) fit = unless_refused (timeout_refusal s.kernel attach fs) s _ (λ may. record { well = keeps.timed s fs timeout })
   outcome s events.Die fit = record { well = keeps.died s }
   outcome s (events.Reattach fs) fit = reattach s fs
-  outcome s (events.Record trigger) fit = either s (not (is_trigger s.kernel trigger)) _ _ (refuses s _) (same s _)
+  outcome s (events.Record trigger) fit = in_either_case s (not (is_trigger s.kernel trigger)) _ _ (refuses s _) (same s _)
 
 -- where nothing is asked of jobs
 abbrev pub AnyJob : ℕ → Type 0

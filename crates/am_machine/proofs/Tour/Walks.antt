@@ -14,7 +14,7 @@ use Rattle.am_names.specs.declared.row.Position.{Position}
 use Rattle.am_names.specs.declared.row.WaitRow.{WaitRow}
 use Rattle.am_names.specs.declared.row.TokenKind.{TokenKind}
 use Rattle.am_names.specs.declared.row.TokenKind.TheVariants.{Missing, Expire}
-use Rattle.am_names.proofs.Basics.{neither_of_or, equal_by_test}
+use Rattle.am_names.proofs.Basics.{neither_of_or, equal_by_test, found_passes}
 use Rattle.am_state.specs.declared.obs.Obs.{Obs}
 use Rattle.am_state.specs.declared.obs.Obs.TheVariants as seen
 use Rattle.am_wait.specs.Rows.{wait_of}
@@ -39,7 +39,6 @@ use Rattle.am_kernel.specs.Walks as walks
 use Rattle.am_kernel.specs.Walks.{passes, packet_for, closing, closed}
 use Rattle.am_kernel.specs.Resumes as resumes
 use Rattle.am_kernel.specs.Expires as expires
-use Rattle.am_machine.proofs.Lists.Counts.{found_passes}
 
 -- ---- what is known where a change comes
 
@@ -136,9 +135,9 @@ module _ (Fits : List (List ℕ) → Type 0) (P : KernelState → List Obs → K
   closes : (k : KernelState) (begun : Begun) (fs : ℕ) → Leaves P k (Goes begun (closing fs k) (closed fs k))
   closes k begun fs = record { well = keeps.closed k fs }
 
-  either : (k : KernelState) (b : Bool) (first second : Outcome) → Leaves P k first → Leaves P k second → Leaves P k (if b then first else second)
-  either k true first second h g = h
-  either k false first second h g = g
+  in_either_case : (k : KernelState) (b : Bool) (first second : Outcome) → Leaves P k first → Leaves P k second → Leaves P k (if b then first else second)
+  in_either_case k true first second h g = h
+  in_either_case k false first second h g = g
 
   -- the second, where the test fails
   where_false : (k : KernelState) (b : Bool) (first second : Outcome) → Leaves P k first → (b ≡ false → Leaves P k second) → Leaves P k (if b then first else second)
@@ -157,11 +156,11 @@ module _ (Fits : List (List ℕ) → Type 0) (P : KernelState → List Obs → K
       Leaves P k (walks.notifies attach pipe k begin trigger passed)
   notifies None pipe k begin trigger passed w is = fails k _
   notifies (Some attach) pipe k begin trigger passed w is =
-      either k (is_exhausted k.waits) _ _ (fails k _) (either k (is_full k.waits) _ _ (fails k _) (notifies_by pipe k begin trigger attach passed w is))
+      in_either_case k (is_exhausted k.waits) _ _ (fails k _) (in_either_case k (is_full k.waits) _ _ (fails k _) (notifies_by pipe k begin trigger attach passed w is))
 
   begun_by : (stop : Stop) (pipe : PipeState) (k : KernelState) (begin : Begin) (passed : List Trigger) → Walking Fits k begin stop passed → Leaves P k (walks.begun_by stop pipe k begin passed)
   begun_by (stops.Arrive at) pipe k begin passed w = record { well = keeps.arrived k begin at passed w }
-  begun_by (stops.Block token) pipe k begin passed w = either k (is_full k.waits) _ _ (fails k _) (record { well = keeps.joined k begin token passed w })
+  begun_by (stops.Block token) pipe k begin passed w = in_either_case k (is_full k.waits) _ _ (fails k _) (record { well = keeps.joined k begin token passed w })
   begun_by (stops.Missing trigger) pipe k begin passed w = notifies (attach_of k trigger.fs) pipe k begin trigger passed w refl
   begun_by (stops.Refuse e) pipe k begin passed w = fails k e
 
@@ -188,8 +187,8 @@ module _ (Fits : List (List ℕ) → Type 0) (P : KernelState → List Obs → K
       Leaves P k (expires.expires_next next pipe k walker attach)
   expires_next None pipe k walker fs moment immediate attach free is e = fails k _
   expires_next (Some trigger) pipe k walker fs moment immediate attach free is e =
-      either k (is_exhausted k.waits) _ _ (fails k _)
-      (either k (is_full k.waits) _ _ (fails k _) (expires_by pipe k walker fs moment immediate trigger attach (record { free = free; current = is; next = e })))
+      in_either_case k (is_exhausted k.waits) _ _ (fails k _)
+      (in_either_case k (is_full k.waits) _ _ (fails k _) (expires_by pipe k walker fs moment immediate trigger attach (record { free = free; current = is; next = e })))
 
   expires_under : (attach : Option ℕ) (pipe : PipeState) (k : KernelState) (walker fs moment : ℕ) (immediate : Bool) → IsFree k walker → attach_of k fs ≡ attach →
       Leaves P k (expires.expires_under attach pipe k walker (expires.next_of k fs moment immediate))
@@ -198,7 +197,7 @@ module _ (Fits : List (List ℕ) → Type 0) (P : KernelState → List Obs → K
 
   pub expire : (pipe : PipeState) (k : KernelState) (walker fs moment : ℕ) (immediate : Bool) → Leaves P k (expires.expire_at pipe k walker fs moment immediate)
   expire pipe k walker fs moment immediate =
-      either k (is_none (autofs_of k.triggers fs)) _ _ (fails k _)
+      in_either_case k (is_none (autofs_of k.triggers fs)) _ _ (fails k _)
       (where_false k (is_busy k walker) _ _ (fails k _) (λ idle. expires_under (attach_of k fs) pipe k walker fs moment immediate (not_busy k walker idle) refl))
 
   -- ---- a walker goes on
@@ -207,23 +206,23 @@ module _ (Fits : List (List ℕ) → Type 0) (P : KernelState → List Obs → K
   or_failed (Goes begun shown made) k h = h
   or_failed (Fails e) k h = nothing k _
 
-  after : (o : Outcome) (k : KernelState) (kind : TokenKind) (wait : WaitRow) (status : Status) (moment : ℕ) → IsGiven k wait status → Leaves P (resumes.freed_from kind wait moment k) o → Leaves P k o
-  after (Goes begun shown made) k kind wait status moment g h = record { well = keeps.collected k kind wait status moment shown made g h.well }
-  after (Fails e) k kind wait status moment g h = fails k e
+  after_collecting : (o : Outcome) (k : KernelState) (kind : TokenKind) (wait : WaitRow) (status : Status) (moment : ℕ) → IsGiven k wait status → Leaves P (resumes.freed_from kind wait moment k) o → Leaves P k o
+  after_collecting (Goes begun shown made) k kind wait status moment g h = record { well = keeps.collected k kind wait status moment shown made g h.well }
+  after_collecting (Fails e) k kind wait status moment g h = fails k e
 
   again : (kind : TokenKind) (pipe : PipeState) (k : KernelState) (wait : WaitRow) (status : Status) (row : WalkRow) (moment : ℕ) → IsGiven k wait status → row.walker ≡ wait.walker → Fits row.path →
       Leaves P k (resumes.again pipe k (resumes.freed_from kind wait moment k) row moment)
   again kind pipe k wait status row moment g same path =
       let base = resumes.freed_from kind wait moment k in
       let begin = resumes.next_begin row moment in
-      after (resumes.again pipe k base row moment) k kind wait status moment g
-      (either base (nat_le resumes.most_begins row.begins) _ _ (nothing base _)
+      after_collecting (resumes.again pipe k base row moment) k kind wait status moment g
+      (in_either_case base (nat_le resumes.most_begins row.begins) _ _ (nothing base _)
       (or_failed (walks.begun_with (walk_of (scene_of k moment) row.ns row.path) pipe base begin) base
       (begun_with (scene_of k moment) pipe base begin (autofs_in kind k wait moment) (freed_free kind k wait status moment row.walker g same) path (orderly_in kind k wait row moment))))
 
   resumed_as : (kind : TokenKind) (status : Status) (pipe : PipeState) (k : KernelState) (wait : WaitRow) (row : WalkRow) (moment : ℕ) → IsGiven k wait status → row.walker ≡ wait.walker → Fits row.path →
       Leaves P k (resumes.resumed_as kind status pipe k wait row moment)
-  resumed_as Missing (Fail error) pipe k wait row moment g same path = after (resumes.failed (errno_of error) (resumes.freed_from Missing wait moment k)) k Missing wait (Fail error) moment g (nothing _ _)
+  resumed_as Missing (Fail error) pipe k wait row moment g same path = after_collecting (resumes.failed (errno_of error) (resumes.freed_from Missing wait moment k)) k Missing wait (Fail error) moment g (nothing _ _)
   resumed_as Missing Ready pipe k wait row moment g same path = again Missing pipe k wait Ready row moment g same path
   resumed_as Expire status pipe k wait row moment g same path = again Expire pipe k wait status row moment g same path
 
@@ -235,7 +234,7 @@ module _ (Fits : List (List ℕ) → Type 0) (P : KernelState → List Obs → K
   told_as Missing status k wait moment g = fails k _
   told_as Expire status k wait moment g =
       let base = resumes.freed_from Expire wait moment k in
-      after (resumes.expired_as status base) k Expire wait status moment g (expired_as status base)
+      after_collecting (resumes.expired_as status base) k Expire wait status moment g (expired_as status base)
 
   -- what is known of the paths of the walks that wait
   abbrev FitWalks : KernelState → Type 0
@@ -282,3 +281,18 @@ both Fits P Q p q = record {
 -- where nothing is asked of paths
 abbrev pub AnyPath : List (List ℕ) → Type 0
 AnyPath path = Unit {0}
+
+-- where nothing is asked of what walkers do
+abbrev pub AnyMove : KernelState → List Obs → KernelState → Type 0
+AnyMove k shown made = Unit {0}
+
+pub any_move : (Fits : List (List ℕ) → Type 0) → Keeps Fits AnyMove
+any_move Fits = record {
+  nothing = λ k. tt;
+  arrived = λ k begin at passed w. tt;
+  joined = λ k begin token passed w. tt;
+  notified = λ k begin trigger attach passed w is. tt;
+  expiring = λ k walker fs moment immediate trigger attach x. tt;
+  closed = λ k fs. tt;
+  collected = λ k kind wait status moment shown made g later. tt;
+}

@@ -18,8 +18,9 @@ use Rattle.am_kernel.specs.Walks as kernel
 use Rattle.am_laws.specs.OneObservation.{waits, releases, delivers, queues, closes, queues_as, unqueues, enters, leaves}
 use Rattle.am_laws.specs.Counts.{packet_of}
 use Rattle.am_laws.specs.Tests.{since, is_open}
+use Rattle.am_laws.proofs.Lists.{since-append}
 use Rattle.am_machine.specs.Invariant.Traces.{Rows, names, KnowsTokens, Asked, asked_in, asked_by, opened, AgreeOnOpen, WaitersFit, AgreeOnWaiters, PacketFits, FitsTrace}
-use Rattle.am_machine.proofs.Traces.Counts.{any_same, packet_same, is_open-append, opened_by, since-append, packet_known, waiters_more}
+use Rattle.am_machine.proofs.Traces.Counts.{any_same, packet_same, is_open-append, opened_by_cases, packet_known, waiters_more, or_neither_and}
 use Rattle.am_machine.proofs.Traces.Unchanged.{delivered_more, inside_still, queue_more}
 use Rattle.am_machine.proofs.Traces.Join.{row_opened}
 
@@ -37,13 +38,9 @@ row_waits : (v k token : ℕ) (status : Status) (walkers : List ℕ) → list_an
 row_waits v k token status [] = refl
 row_waits v k token status (w ∷ walkers) = row_waits v k token status walkers
 
-and_no : (a b c : Bool) → b ≡ false → c ≡ false → ((a && b) || c) ≡ false
-and_no true b c e g = rw e g
-and_no false b c e g = g
-
 row_releases : (v k token : ℕ) (status : Status) (walkers : List ℕ) → (token == k) ≡ false → list_any (releases v k) (kernel.releases token status walkers) ≡ false
 row_releases v k token status [] e = refl
-row_releases v k token status (w ∷ walkers) e = and_no (w == v) (token == k) _ e (row_releases v k token status walkers e)
+row_releases v k token status (w ∷ walkers) e = or_neither_and (w == v) (token == k) _ e (row_releases v k token status walkers e)
 
 row_delivers : (k token : ℕ) (status : Status) (walkers : List ℕ) → list_any (delivers k) (kernel.releases token status walkers) ≡ false
 row_delivers k token status [] = refl
@@ -81,7 +78,7 @@ asked_if false was p = refl
 
 answered_opened : (k token : ℕ) (status : Status) (walkers : List ℕ) (trace : List Obs) → opened k (trace ++ answer token status walkers) ≡ (if token == k then None else opened k trace)
 answered_opened k token status walkers trace =
-    opened_by k trace (trace ++ answer token status walkers) (if token == k then false else is_open k trace)
+    opened_by_cases k trace (trace ++ answer token status walkers) (if token == k then false else is_open k trace)
     (is_open-append k trace (answer token status walkers) ∙ row_since k token _ _ status walkers)
     (packet_same k trace (answer token status walkers) (row_packet k token status walkers))
     ∙ asked_if (token == k) (is_open k trace) (packet_of k trace)
@@ -97,15 +94,15 @@ answered_opens token status walkers tokens trace h = λ k.
 
 -- ---- waiters and the queue
 
-waiters_by : (token k : ℕ) (status : Status) (walkers : List ℕ) (tokens : List OpenToken) (trace : List Obs) (row : OpenToken) (b : Bool) → (token == k) ≡ b → AgreeOnWaiters tokens trace →
+waiters_by_cases : (token k : ℕ) (status : Status) (walkers : List ℕ) (tokens : List OpenToken) (trace : List Obs) (row : OpenToken) (b : Bool) → (token == k) ≡ b → AgreeOnWaiters tokens trace →
     cond b None (token_of tokens k) ≡ Some row → WaitersFit (trace ++ answer token status walkers) k row.waiters
-waiters_by token k status walkers tokens trace row true e h found = absurd cc
-waiters_by token k status walkers tokens trace row false e h found =
+waiters_by_cases token k status walkers tokens trace row true e h found = absurd cc
+waiters_by_cases token k status walkers tokens trace row false e h found =
     waiters_more k trace (answer token status walkers) row.waiters (λ v. row_waits v k token status walkers) (λ v. row_releases v k token status walkers e) (h k row found)
 
 answered_waiters : (token : ℕ) (status : Status) (walkers : List ℕ) (tokens : List OpenToken) (trace : List Obs) → AgreeOnWaiters tokens trace → AgreeOnWaiters (without_token token tokens) (trace ++ answer token status walkers)
 answered_waiters token status walkers tokens trace h = λ k row e.
-    waiters_by token k status walkers tokens trace row (token == k) refl h (sym (token_taken token tokens k (token == k) refl) ∙ e)
+    waiters_by_cases token k status walkers tokens trace row (token == k) refl h (sym (token_taken token tokens k (token == k) refl) ∙ e)
 
 packet_answered : (token : ℕ) (status : Status) (walkers : List ℕ) (trace : List Obs) (row : QueuedRow) → PacketFits trace row → PacketFits (trace ++ answer token status walkers) row
 packet_answered token status walkers trace row h =

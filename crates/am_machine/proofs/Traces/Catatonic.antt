@@ -25,11 +25,12 @@ use Rattle.am_laws.specs.Fold.{IsLawfulAt, AreLawful}
 use Rattle.am_laws.specs.Tests.{since, is_open}
 use Rattle.am_laws.proofs.Words.{waits_true, waits_from_test, once_from_test}
 use Rattle.am_laws.proofs.Decided.{is_open_true, open_from_test}
+use Rattle.am_laws.proofs.Lists.{since-append}
 use Rattle.am_machine.specs.Invariant.Traces.{Rows, names, Asked, asked_in, asked_by, opened, has, WaitersFit, PacketFits, FitsTrace}
-use Rattle.am_machine.proofs.Traces.Counts.{any_same, packet_same, is_open-append, opened_by, since-append, packet_known, waiters_more}
+use Rattle.am_machine.proofs.Traces.Counts.{any_same, packet_same, is_open-append, opened_by_cases, packet_known, waiters_more}
 use Rattle.am_machine.proofs.Traces.Unchanged.{delivered_more, inside_still, queue_kept}
 use Rattle.am_machine.proofs.Traces.Join.{row_opened}
-use Rattle.am_machine.proofs.Traces.Releases.{Waiter, row_of, is_waiter, AreNew, AllMayGo, in_row, row_lawful, row_releases}
+use Rattle.am_machine.proofs.Traces.Releases.{Waiter, row_of, is_waiter, AreNew, AllMayGo, released_in_row, row_lawful, row_releases}
 use Rattle.am_machine.proofs.Traces.Closing.{is_its}
 
 -- what is seen of it
@@ -132,7 +133,7 @@ if_if false was p = refl
 quits_opened : (k fs : ℕ) (ws : List Waiter) (trace : List Obs) → opened k (trace ++ quits fs ws) ≡ (if is_fs (fs_of_token k trace) fs then None else opened k trace)
 quits_opened k fs ws trace =
     let same = packet_same k trace (quits fs ws) (row_packet k (Fail ENOENT) ws) in
-    opened_by k trace (trace ++ quits fs ws) (if is_fs (fs_of_token k trace) fs then false else is_open k trace)
+    opened_by_cases k trace (trace ++ quits fs ws) (if is_fs (fs_of_token k trace) fs then false else is_open k trace)
     (is_open-append k trace (quits fs ws) ∙ row_since k _ _ (Fail ENOENT) ws ∙ ap (λ (p : Option Packet). if is_fs (dev_of p) fs then false else is_open k trace) same) same
     ∙ if_if (is_fs (fs_of_token k trace) fs) (is_open k trace) (packet_of k trace)
 
@@ -144,10 +145,10 @@ mapped_if : (b : Bool) (row : OpenToken) → (if b then None else Some (asked_by
 mapped_if true row = refl
 mapped_if false row = refl
 
-opens_by : (r : Rows) (trace : List Obs) (k fs : ℕ) (found : Option OpenToken) → FitsTrace r trace → token_of r.waits.tokens k ≡ found →
+opens_by_cases : (r : Rows) (trace : List Obs) (k fs : ℕ) (found : Option OpenToken) → FitsTrace r trace → token_of r.waits.tokens k ≡ found →
     (if is_fs (fs_of_token k trace) fs then None else opened k trace) ≡ option_map asked_by (unless_of fs found)
-opens_by r trace k fs None h e = if_none (is_fs (fs_of_token k trace) fs) (opened k trace) (h.opens k ∙ ap (option_map asked_by) e)
-opens_by r trace k fs (Some row) h e =
+opens_by_cases r trace k fs None h e = if_none (is_fs (fs_of_token k trace) fs) (opened k trace) (h.opens k ∙ ap (option_map asked_by) e)
+opens_by_cases r trace k fs (Some row) h e =
     let its = (row_opened r.waits.tokens trace k row h.opens e).1 in
     let dev : fs_of_token k trace ≡ Some row.trigger.fs = ap dev_of its.1 ∙ ap (λ (a : Asked). Some a.trigger.fs) its.2 in
     let is : opened k trace ≡ Some (asked_by row) = h.opens k ∙ ap (option_map asked_by) e in
@@ -155,9 +156,9 @@ opens_by r trace k fs (Some row) h e =
 
 -- ---- all clauses
 
-waiters_by : (r : Rows) (trace : List Obs) (fs : ℕ) (ws : List Waiter) (k : ℕ) (row : OpenToken) (found : Option OpenToken) → Quits r.waits.tokens fs ws → FitsTrace r trace → token_of r.waits.tokens k ≡ found → unless_of fs found ≡ Some row → WaitersFit (trace ++ quits fs ws) k row.waiters
-waiters_by r trace fs ws k row None q h is left = absurd cc
-waiters_by r trace fs ws k row (Some old) q h is left =
+waiters_by_cases : (r : Rows) (trace : List Obs) (fs : ℕ) (ws : List Waiter) (k : ℕ) (row : OpenToken) (found : Option OpenToken) → Quits r.waits.tokens fs ws → FitsTrace r trace → token_of r.waits.tokens k ≡ found → unless_of fs found ≡ Some row → WaitersFit (trace ++ quits fs ws) k row.waiters
+waiters_by_cases r trace fs ws k row None q h is left = absurd cc
+waiters_by_cases r trace fs ws k row (Some old) q h is left =
     let stays = kept_row (old.trigger.fs == fs) old row left in
     let fits = h.waiters k row (is ∙ ap (λ (r : OpenToken). Some r) stays.1) in
     let none : (v : ℕ) → list_any (is_waiter v k) ws ≡ false = λ v. q.released v k ∙ ap (λ (o : Option OpenToken). is_its fs o && has v (waiters_in o)) is ∙ ap (λ (b : Bool). b && has v old.waiters) stays.0 in
@@ -185,8 +186,8 @@ catatonic_fits r trace fs ws q h =
       sound = released_sound r.waits fs h.sound;
       single = h.single;
       known = λ k above. any_same (names k) trace more (not_named r trace fs ws k q h above) ∙ h.known k above;
-      opens = λ k. quits_opened k fs ws trace ∙ opens_by r trace k fs (token_of r.waits.tokens k) h refl ∙ ap (option_map asked_by) (sym (left k));
-      waiters = λ k row e. waiters_by r trace fs ws k row (token_of r.waits.tokens k) q h refl (sym (left k) ∙ e);
+      opens = λ k. quits_opened k fs ws trace ∙ opens_by_cases r trace k fs (token_of r.waits.tokens k) h refl ∙ ap (option_map asked_by) (sym (left k));
+      waiters = λ k row e. waiters_by_cases r trace fs ws k row (token_of r.waits.tokens k) q h refl (sym (left k) ∙ e);
       inside = inside_still r.uses trace more (record { enters = λ m. row_enters m (Fail ENOENT) ws; leaves = λ m. row_leaves m (Fail ENOENT) ws }) h.inside;
       queued = queue_kept (PacketFits trace) (PacketFits (trace ++ more)) (is_packet_of fs) r.queue (packet_stays trace fs ws) h.queued;
       delivered = delivered_more r.jobs trace more h.delivered;
@@ -220,7 +221,7 @@ every_released r trace fs ws k (Some row) q h e dev is = λ w waited.
     let same : (row.trigger.fs == fs) ≡ true = same_fs row.trigger.fs fs (sym own ∙ dev) in
     let fits = h.waiters k row e in
     let has_it : has w row.waiters ≡ true = sym (fits.waited w) ∙ waits_true w k trace waited in
-    in_row w k (Fail ENOENT) ws (q.released w k ∙ ap (λ (o : Option OpenToken). is_its fs o && has w (waiters_in o)) e ∙ ap (λ (b : Bool). b && has w row.waiters) same ∙ has_it)
+    released_in_row w k (Fail ENOENT) ws (q.released w k ∙ ap (λ (o : Option OpenToken). is_its fs o && has w (waiters_in o)) e ∙ ap (λ (b : Bool). b && has w row.waiters) same ∙ has_it)
 
 pub catatonic_lawful : (r : Rows) (trace : List Obs) (fs : ℕ) (ws : List Waiter) → Quits r.waits.tokens fs ws → FitsTrace r trace → AreLawful trace (quits fs ws)
 catatonic_lawful r trace fs ws q h =

@@ -44,7 +44,7 @@ use Rattle.am_machine.proofs.Traces.Deliver.{found_fits, deliver_fits, finish_fi
 use Rattle.am_machine.specs.declared.event.Event.{Event}
 use Rattle.am_machine.specs.Machine.{outcome_of}
 use Rattle.am_machine.proofs.Traces.Answer.{answer, answer_fits}
-use Rattle.am_machine.proofs.Tests.{others_none}
+use Rattle.am_machine.proofs.Tests.{others_passed}
 use Rattle.am_machine.proofs.Traces.Walks.{Moves, moves, closes}
 use Rattle.am_machine.proofs.Tour.Walks.{AnyPath}
 use Rattle.am_machine.proofs.Tour.Events as tours
@@ -119,7 +119,7 @@ umount_free uses m t h =
     (then_none (not (is_bare t m)) EBUSY _ (then_none (not (is_some (mountpoint_of t m))) EBUSY _ (then_none (not (is_mount t m)) EINVAL _ h)))
 
 plain_free : (k : KernelState) (at : Position) → umount_tests k at ≡ None → list_any (is_used k.uses) (gone_at k (Ok at)) ≡ false
-plain_free k at h = umount_free (is_used k.uses) at.mount k.table (others_none (site_refusal k at.mount) _ (others_none (root_refusal at) _ h))
+plain_free k at h = umount_free (is_used k.uses) at.mount k.table (others_passed (site_refusal k at.mount) _ (others_passed (root_refusal at) _ h))
 
 drop_free : (uses : ℕ → Bool) (ns : ℕ) (t : MountTable) → drop_refusal uses ns t ≡ None → list_any uses (mounts_in t ns) ≡ false
 drop_free uses ns t h =

@@ -9,7 +9,7 @@ use Rattle.std.proofs.lemmas.Bool.Decides.{nat_tests}
 use Rattle.am_names.specs.declared.fail_no.FailNo.TheVariants.{ENOENT}
 use Rattle.am_names.specs.declared.trigger.Status.TheVariants.{Fail}
 use Rattle.am_names.specs.declared.row.OpenToken.{OpenToken}
-use Rattle.am_names.proofs.Basics.{or_right, equal_to_itself, equal_by_test}
+use Rattle.am_names.proofs.Basics.{or_right, equal_to_itself, equal_by_test, or_neither}
 use Rattle.am_state.specs.declared.obs.Obs.{Obs}
 use Rattle.am_wait.specs.Rows.{token_of, tokens_of, waiters_in, waiters_of}
 use Rattle.am_wait.specs.Invariant.{RiseBy}
@@ -18,6 +18,7 @@ use Rattle.am_kernel.specs.State.{KernelState}
 use Rattle.am_kernel.specs.Walks.{failures}
 use Rattle.am_machine.specs.Invariant.Traces.{has, AreDifferent, AgreeOnWaiters}
 use Rattle.am_machine.proofs.Traces.Releases.{Waiter, is_waiter, AreNew, row_of, row_of-append, on_token, on_token_has, releases_row, all_new, other_number}
+use Rattle.am_machine.proofs.Traces.Counts.{or_neither_and}
 
 -- the token is of this file system
 abbrev pub is_its : ℕ → Option OpenToken → Bool
@@ -42,57 +43,53 @@ failures_row k (token ∷ others) =
 
 -- ---- who is one of them
 
-and_no : (a b c : Bool) → b ≡ false → c ≡ false → ((a && b) || c) ≡ false
-and_no true b c e g = rw e g
-and_no false b c e g = g
-
 on_other : (token k w : ℕ) (walkers : List ℕ) → (token == k) ≡ false → list_any (is_waiter w k) (on_token token walkers) ≡ false
 on_other token k w [] e = refl
-on_other token k w (v ∷ walkers) e = and_no (v == w) (token == k) (list_any (is_waiter w k) (on_token token walkers)) e (on_other token k w walkers e)
+on_other token k w (v ∷ walkers) e = or_neither_and (v == w) (token == k) (list_any (is_waiter w k) (on_token token walkers)) e (on_other token k w walkers e)
 
-own_or : (x y c h : Bool) → x ≡ h → y ≡ (c && h) → (x || y) ≡ h
-own_or x y c true e g = rw e refl
-own_or x y true false e g = rw (e, g) refl
-own_or x y false false e g = rw (e, g) refl
+or_with_its_part : (x y c h : Bool) → x ≡ h → y ≡ (c && h) → (x || y) ≡ h
+or_with_its_part x y c true e g = rw e refl
+or_with_its_part x y true false e g = rw (e, g) refl
+or_with_its_part x y false false e g = rw (e, g) refl
 
-over_by : (tokens : List OpenToken) (w k token : ℕ) (others : List ℕ) (b : Bool) → (token == k) ≡ b → list_any (is_waiter w k) (waiters_over tokens others) ≡ (has k others && has w (waiters_of tokens k)) →
+waiters_over_by_cases : (tokens : List OpenToken) (w k token : ℕ) (others : List ℕ) (b : Bool) → (token == k) ≡ b → list_any (is_waiter w k) (waiters_over tokens others) ≡ (has k others && has w (waiters_of tokens k)) →
     (list_any (is_waiter w k) (on_token token (waiters_of tokens token)) || list_any (is_waiter w k) (waiters_over tokens others)) ≡ ((b || has k others) && has w (waiters_of tokens k))
-over_by tokens w k token others true e later =
-    own_or _ _ (has k others) (has w (waiters_of tokens k)) (subst (λ (n : ℕ). list_any (is_waiter w n) (on_token token (waiters_of tokens token)) ≡ has w (waiters_of tokens n)) (equal_by_test token k e) (on_token_has token w (waiters_of tokens token))) later
-over_by tokens w k token others false e later =
+waiters_over_by_cases tokens w k token others true e later =
+    or_with_its_part _ _ (has k others) (has w (waiters_of tokens k)) (subst (λ (n : ℕ). list_any (is_waiter w n) (on_token token (waiters_of tokens token)) ≡ has w (waiters_of tokens n)) (equal_by_test token k e) (on_token_has token w (waiters_of tokens token))) later
+waiters_over_by_cases tokens w k token others false e later =
     ap (λ (b : Bool). b || list_any (is_waiter w k) (waiters_over tokens others)) (on_other token k w (waiters_of tokens token) e) ∙ later
 
 pub over_has : (tokens : List OpenToken) (w k : ℕ) (others : List ℕ) → list_any (is_waiter w k) (waiters_over tokens others) ≡ (has k others && has w (waiters_of tokens k))
 over_has tokens w k [] = refl
 over_has tokens w k (token ∷ others) =
     list_any-append (is_waiter w k) (on_token token (waiters_of tokens token)) (waiters_over tokens others)
-    ∙ over_by tokens w k token others (token == k) refl (over_has tokens w k others)
+    ∙ waiters_over_by_cases tokens w k token others (token == k) refl (over_has tokens w k others)
 
-its_by : (fs k : ℕ) (row : OpenToken) (tokens : List OpenToken) (b c : Bool) → (row.token == k) ≡ b → (row.trigger.fs == fs) ≡ c → RiseBy (λ (r : OpenToken). r.token) (row.token + 1) tokens → has k (tokens_of tokens fs) ≡ is_its fs (token_of tokens k) →
+token_of_fs_by_cases : (fs k : ℕ) (row : OpenToken) (tokens : List OpenToken) (b c : Bool) → (row.token == k) ≡ b → (row.trigger.fs == fs) ≡ c → RiseBy (λ (r : OpenToken). r.token) (row.token + 1) tokens → has k (tokens_of tokens fs) ≡ is_its fs (token_of tokens k) →
     has k (map (λ (r : OpenToken). r.token) (cond c (row ∷ filter (λ r. r.trigger.fs == fs) tokens) (filter (λ r. r.trigger.fs == fs) tokens))) ≡ is_its fs (cond b (Some row) (token_of tokens k))
-its_by fs k row tokens true true e f rises later = rw (e, f) refl
-its_by fs k row tokens true false e f rises later =
+token_of_fs_by_cases fs k row tokens true true e f rises later = rw (e, f) refl
+token_of_fs_by_cases fs k row tokens true false e f rises later =
     let above : k < row.token + 1 = grind (arith, nat_tests, e) in
     later ∙ ap (is_its fs) (absent (λ (r : OpenToken). r.token) k (row.token + 1) tokens rises above) ∙ sym f
-its_by fs k row tokens false true e f rises later = rw e later
-its_by fs k row tokens false false e f rises later = later
+token_of_fs_by_cases fs k row tokens false true e f rises later = rw e later
+token_of_fs_by_cases fs k row tokens false false e f rises later = later
 
 -- the open tokens of the file system are those whose rows say so
 pub its_tokens : (fs k low : ℕ) (tokens : List OpenToken) → RiseBy (λ (r : OpenToken). r.token) low tokens → has k (tokens_of tokens fs) ≡ is_its fs (token_of tokens k)
 its_tokens fs k low [] h = refl
-its_tokens fs k low (row ∷ tokens) h = its_by fs k row tokens (row.token == k) (row.trigger.fs == fs) refl refl h.1 (its_tokens fs k (row.token + 1) tokens h.1)
+its_tokens fs k low (row ∷ tokens) h = token_of_fs_by_cases fs k row tokens (row.token == k) (row.trigger.fs == fs) refl refl h.1 (its_tokens fs k (row.token + 1) tokens h.1)
 
 -- ---- each of them is new
 
-differ_by : (fs : ℕ) (row : OpenToken) (tokens : List OpenToken) (c : Bool) → RiseBy (λ (r : OpenToken). r.token) (row.token + 1) tokens → AreDifferent (tokens_of tokens fs) →
+differ_by_cases : (fs : ℕ) (row : OpenToken) (tokens : List OpenToken) (c : Bool) → RiseBy (λ (r : OpenToken). r.token) (row.token + 1) tokens → AreDifferent (tokens_of tokens fs) →
     AreDifferent (map (λ (r : OpenToken). r.token) (cond c (row ∷ filter (λ r. r.trigger.fs == fs) tokens) (filter (λ r. r.trigger.fs == fs) tokens)))
-differ_by fs row tokens true rises later =
+differ_by_cases fs row tokens true rises later =
     (its_tokens fs row.token (row.token + 1) tokens rises ∙ ap (is_its fs) (absent (λ (r : OpenToken). r.token) row.token (row.token + 1) tokens rises (omega arith)), later)
-differ_by fs row tokens false rises later = later
+differ_by_cases fs row tokens false rises later = later
 
 pub tokens_differ : (fs low : ℕ) (tokens : List OpenToken) → RiseBy (λ (r : OpenToken). r.token) low tokens → AreDifferent (tokens_of tokens fs)
 tokens_differ fs low [] h = tt
-tokens_differ fs low (row ∷ tokens) h = differ_by fs row tokens (row.trigger.fs == fs) h.1 (tokens_differ fs (row.token + 1) tokens h.1)
+tokens_differ fs low (row ∷ tokens) h = differ_by_cases fs row tokens (row.trigger.fs == fs) h.1 (tokens_differ fs (row.token + 1) tokens h.1)
 
 walkers_differ : (tokens : List OpenToken) (trace : List Obs) (k : ℕ) (found : Option OpenToken) → token_of tokens k ≡ found → AgreeOnWaiters tokens trace → AreDifferent (waiters_in found)
 walkers_differ tokens trace k None e h = tt
@@ -103,10 +100,6 @@ new_append done [] second h g = subst (λ (d : List Waiter). AreNew d second) (a
 new_append done (w ∷ first) second h g =
     (h.0, new_append (done ++ w ∷ []) first second h.1 (subst (λ (d : List Waiter). AreNew d second) (sym (append_assoc done (w ∷ []) first)) g))
 
-neither : (a b : Bool) → a ≡ false → b ≡ false → (a || b) ≡ false
-neither true b h g = absurd cc
-neither false b h g = g
-
 pub over_new : (tokens : List OpenToken) (trace : List Obs) (done : List Waiter) (others : List ℕ) → ((w k : ℕ) → has k others ≡ true → list_any (is_waiter w k) done ≡ false) → AreDifferent others → AgreeOnWaiters tokens trace → AreNew done (waiters_over tokens others)
 over_new tokens trace done [] apart h waiters = tt
 over_new tokens trace done (token ∷ others) apart h waiters =
@@ -115,5 +108,5 @@ over_new tokens trace done (token ∷ others) apart h waiters =
     new_append done (on_token token walkers) (waiters_over tokens others)
     (all_new token done walkers (λ v is. apart v token here) (walkers_differ tokens trace token (token_of tokens token) refl waiters))
     (over_new tokens trace (done ++ on_token token walkers) others
-    (λ w k is. list_any-append (is_waiter w k) done (on_token token walkers) ∙ neither _ _ (apart w k (or_right (token == k) (has k others) is)) (on_other token k w walkers (other_number token k others (token == k) refl h.0 is)))
+    (λ w k is. list_any-append (is_waiter w k) done (on_token token walkers) ∙ or_neither _ _ (apart w k (or_right (token == k) (has k others) is)) (on_other token k w walkers (other_number token k others (token == k) refl h.0 is)))
     h.1 waiters)

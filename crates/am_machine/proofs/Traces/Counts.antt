@@ -1,36 +1,37 @@
 -- The counts of a trace that grows.
 use Rattle.std.proofs.Common.{◌≡◌, ℕ, Bool, true, false, List, [], ◌∷◌, ◌++◌, Option, Some, None, refl, sym, ap, subst, ◌∙◌, ◌≤◌, arith, inl, inr}
-use Rattle.std.specs.Prelude.{◌==◌, ◌||◌, if◌then◌else◌}
+use Rattle.std.specs.Prelude.{◌&&◌, ◌==◌, ◌||◌, if◌then◌else◌}
 use Rattle.std.specs.Option.{option_map}
 use Rattle.std.specs.List.{list_any, count_by}
 use Rattle.std.proofs.lemmas.Bool.{cases_lt}
 use Rattle.std.proofs.lemmas.List.Folds.{list_any-append}
-use Rattle.am_names.proofs.Basics.{neither_of_or, both_of_and, false_unless_true}
+use Rattle.am_names.proofs.Basics.{neither_of_or, both_of_and, false_unless_true, or_left, or_neither}
 use Rattle.am_wire.specs.declared.packet.Packet.{Packet}
 use Rattle.am_state.specs.declared.obs.Obs.{Obs}
 use Rattle.am_state.specs.declared.obs.Obs.TheVariants.{Queued, Waits, Released, Delivered}
 use Rattle.am_laws.specs.OneObservation.{queues, closes, packet_in, waits, releases, delivers}
 use Rattle.am_laws.specs.Counts.{packet_of, first_of, dev_of, fs_of_token}
 use Rattle.am_laws.specs.Tests.{since, is_open}
+use Rattle.am_laws.proofs.Lists.{since-append}
 use Rattle.am_machine.specs.Invariant.Traces.{KnowsTokens, Asked, asked_in, opened, names, WaitersFit}
 use Rattle.am_machine.proofs.Lists.Counts.{count_append}
 
 -- ---- a test of a longer trace
 
+pub or_neither_and : (a b c : Bool) → b ≡ false → c ≡ false → ((a && b) || c) ≡ false
+or_neither_and true b c h g = or_neither b c h g
+or_neither_and false b c h g = g
+
 or_false : (a b : Bool) → b ≡ false → (a || b) ≡ a
 or_false true b e = refl
 or_false false b e = e
-
-or_first : (a b : Bool) → a ≡ true → (a || b) ≡ true
-or_first true b e = refl
-or_first false b e = absurd cc
 
 -- what was not seen in what is new
 pub any_same : (test : Obs → Bool) (trace more : List Obs) → list_any test more ≡ false → list_any test (trace ++ more) ≡ list_any test trace
 any_same test trace more none = list_any-append test trace more ∙ or_false _ _ none
 
 pub any_stays : (test : Obs → Bool) (trace more : List Obs) → list_any test trace ≡ true → list_any test (trace ++ more) ≡ true
-any_stays test trace more h = list_any-append test trace more ∙ or_first _ _ h
+any_stays test trace more h = list_any-append test trace more ∙ or_left _ _ h
 
 pub any_new : (test : Obs → Bool) (trace more : List Obs) → list_any test trace ≡ false → list_any test (trace ++ more) ≡ list_any test more
 any_new test trace more none = list_any-append test trace more ∙ ap (λ (b : Bool). b || list_any test more) none
@@ -119,10 +120,6 @@ first_none (Some packet) b e = absurd cc
 
 -- ---- open tokens
 
-pub since-append : (these those : Obs → Bool) (b : Bool) (xs ys : List Obs) → since these those b (xs ++ ys) ≡ since these those (since these those b xs) ys
-since-append these those b [] ys = refl
-since-append these those b (o ∷ xs) ys = since-append these those _ xs ys
-
 still_false : (d : Bool) → (if d then false else false) ≡ false
 still_false true = refl
 still_false false = refl
@@ -150,8 +147,8 @@ is_open-append token xs ys =
 abbrev asked_if : Bool → Option Packet → Option Asked
 asked_if b packet = if b then option_map asked_in packet else None
 
-pub opened_by : (token : ℕ) (old new : List Obs) (b : Bool) → is_open token new ≡ b → packet_of token new ≡ packet_of token old → opened token new ≡ asked_if b (packet_of token old)
-opened_by token old new b o p = ap (λ (x : Bool). asked_if x (packet_of token new)) o ∙ ap (λ (x : Option Packet). asked_if b x) p
+pub opened_by_cases : (token : ℕ) (old new : List Obs) (b : Bool) → is_open token new ≡ b → packet_of token new ≡ packet_of token old → opened token new ≡ asked_if b (packet_of token old)
+opened_by_cases token old new b o p = ap (λ (x : Bool). asked_if x (packet_of token new)) o ∙ ap (λ (x : Option Packet). asked_if b x) p
 
 -- a token with a packet isn't above the latest
 pub packet_known : (last token : ℕ) (trace : List Obs) (packet : Packet) → KnowsTokens last trace → packet_of token trace ≡ Some packet → token ≤ last

@@ -6,7 +6,7 @@ use Rattle.std.specs.List.{list_any}
 use Rattle.std.proofs.lemmas.Bool.Decides.{nat_tests}
 use Rattle.std.proofs.lemmas.List.Folds.{list_any-append}
 use Rattle.am_names.specs.declared.row.OpenToken.{OpenToken}
-use Rattle.am_names.proofs.Basics.{equal_by_test}
+use Rattle.am_names.proofs.Basics.{equal_by_test, some_injective}
 use Rattle.am_state.specs.declared.kernel_row.QueuedRow.{QueuedRow}
 use Rattle.am_state.specs.declared.obs.Obs.{Obs}
 use Rattle.am_state.specs.declared.obs.Obs.TheVariants as seen
@@ -19,8 +19,9 @@ use Rattle.am_wait.proofs.AgreeLemmas.{joined_sound}
 use Rattle.am_laws.specs.OneObservation.{waits, releases, delivers}
 use Rattle.am_laws.specs.Counts.{packet_of}
 use Rattle.am_laws.specs.Tests.{is_open}
+use Rattle.am_laws.proofs.Lists.{since-append}
 use Rattle.am_machine.specs.Invariant.Traces.{Rows, names, KnowsTokens, Asked, asked_in, asked_by, opened, AgreeOnOpen, has, AreDifferent, WaitersFit, AgreeOnWaiters, PacketFits, FitsTrace}
-use Rattle.am_machine.proofs.Traces.Counts.{any_same, packet_same, is_open-append, opened_by, since-append, packet_known, waiters_more}
+use Rattle.am_machine.proofs.Traces.Counts.{any_same, packet_same, is_open-append, opened_by_cases, packet_known, waiters_more, or_neither_and}
 use Rattle.am_machine.proofs.Traces.Unchanged.{inside_still, queue_more, delivered_more}
 
 -- ---- what an open token says of its number
@@ -42,7 +43,7 @@ joined_known last w token trace most h = λ k above.
     any_same (names k) trace (seen.Waits w token ∷ []) (rw other refl) ∙ h k above
 
 waits_opened : (k w token : ℕ) (trace : List Obs) → opened k (trace ++ seen.Waits w token ∷ []) ≡ opened k trace
-waits_opened k w token trace = opened_by k trace (trace ++ seen.Waits w token ∷ []) (is_open k trace) (is_open-append k trace (seen.Waits w token ∷ [])) (packet_same k trace (seen.Waits w token ∷ []) refl)
+waits_opened k w token trace = opened_by_cases k trace (trace ++ seen.Waits w token ∷ []) (is_open k trace) (is_open-append k trace (seen.Waits w token ∷ [])) (packet_same k trace (seen.Waits w token ∷ []) refl)
 
 same_asked : (w : ℕ) (b : Bool) (o : Option OpenToken) → option_map asked_by (joined_if b w o) ≡ option_map asked_by o
 same_asked w true None = refl
@@ -76,24 +77,17 @@ one_more_waits w token trace walkers idle h = record {
   different = different_more w walkers idle h.different;
 }
 
-some_one : {x y : OpenToken} → Some x ≡ Some y → x ≡ y
-some_one e = cc
-
-and_last : (a b : Bool) → b ≡ false → ((a && b) || false) ≡ false
-and_last true b e = rw e refl
-and_last false b e = refl
-
-waiters_by : (w token k : ℕ) (row : OpenToken) (tokens : List OpenToken) (trace : List Obs) (new : OpenToken) (b : Bool) → (token == k) ≡ b → token_of tokens token ≡ Some row → has w row.waiters ≡ false → AgreeOnWaiters tokens trace →
+waiters_by_cases : (w token k : ℕ) (row : OpenToken) (tokens : List OpenToken) (trace : List Obs) (new : OpenToken) (b : Bool) → (token == k) ≡ b → token_of tokens token ≡ Some row → has w row.waiters ≡ false → AgreeOnWaiters tokens trace →
     joined_if b w (token_of tokens k) ≡ Some new → WaitersFit (trace ++ seen.Waits w token ∷ []) k new.waiters
-waiters_by w token k row tokens trace new true e is idle h found =
+waiters_by_cases w token k row tokens trace new true e is idle h found =
     let same : token ≡ k = equal_by_test token k e in
     let here : token_of tokens k ≡ Some row = subst (λ (n : ℕ). token_of tokens n ≡ Some row) same is in
-    let it : record row { waiters = row.waiters ++ w ∷ [] } ≡ new = some_one (ap (joined_if true w) (sym here) ∙ found) in
+    let it : record row { waiters = row.waiters ++ w ∷ [] } ≡ new = some_injective (ap (joined_if true w) (sym here) ∙ found) in
     let fits = one_more_waits w token trace row.waiters idle (h token row is) in
     subst (λ (n : ℕ). WaitersFit (trace ++ seen.Waits w token ∷ []) n new.waiters) same
     (subst (λ (r : OpenToken). WaitersFit (trace ++ seen.Waits w token ∷ []) token r.waiters) it fits)
-waiters_by w token k row tokens trace new false e is idle h found =
-    waiters_more k trace (seen.Waits w token ∷ []) new.waiters (λ v. and_last (w == v) (token == k) e) (λ v. refl) (h k new found)
+waiters_by_cases w token k row tokens trace new false e is idle h found =
+    waiters_more k trace (seen.Waits w token ∷ []) new.waiters (λ v. or_neither_and (w == v) (token == k) false e refl) (λ v. refl) (h k new found)
 
 -- who has no wait isn't among them
 not_among : (w : WaitRows) (token walker : ℕ) (row : OpenToken) → IsSound w → token_of w.tokens token ≡ Some row → wait_of w.waits walker ≡ None → has walker row.waiters ≡ false
@@ -122,7 +116,7 @@ joined_fits r trace w token row is none h =
       single = h.single;
       known = joined_known r.waits.last_token w token trace most h.known;
       opens = joined_opens w token r.waits.tokens trace h.opens;
-      waiters = λ k new e. waiters_by w token k row r.waits.tokens trace new (token == k) refl is idle h.waiters (sym (token_joined token w k r.waits.tokens (token == k) refl) ∙ e);
+      waiters = λ k new e. waiters_by_cases w token k row r.waits.tokens trace new (token == k) refl is idle h.waiters (sym (token_joined token w k r.waits.tokens (token == k) refl) ∙ e);
       inside = inside_still r.uses trace more (record { enters = λ m. refl; leaves = λ m. refl }) h.inside;
       queued = queue_more (PacketFits trace) (PacketFits (trace ++ more)) r.queue (packet_waits w token trace) h.queued;
       delivered = delivered_more r.jobs trace more h.delivered;

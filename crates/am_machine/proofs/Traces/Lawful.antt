@@ -25,7 +25,7 @@ use Rattle.am_laws.specs.TraceLaws.{AllReleased}
 use Rattle.am_laws.specs.Fold.{IsLawfulAt, AreLawful}
 use Rattle.am_laws.specs.Tests.{is_open}
 use Rattle.am_names.proofs.SameTriggers.{is_itself}
-use Rattle.am_names.proofs.Basics.{neither_of_or, or_right, equal_to_itself}
+use Rattle.am_names.proofs.Basics.{neither_of_or, or_right, equal_to_itself, none_where_mapped_none}
 use Rattle.am_laws.proofs.Words.{waits_true, waits_from_test, once_from_test, delivered_from_test, never_queued_from_test, never_delivered_from_test, queued_from_since, zero_uses}
 use Rattle.am_laws.proofs.Decided.{is_open_true, open_from_test, has_since}
 use Rattle.am_machine.specs.Invariant.Traces.{has, names, Asked, asked_in, asked_by, opened, AgreeOnOpen, WaitersFit, AgreeOnWaiters, AgreeOnUses, PacketFits, AgreeOnJobs}
@@ -35,13 +35,9 @@ use Rattle.am_machine.proofs.Traces.Unchanged.{opens_quiet}
 use Rattle.am_machine.proofs.Traces.Join.{row_opened}
 use Rattle.am_machine.proofs.Traces.Notify.{notice}
 use Rattle.am_machine.proofs.Traces.Answer.{answer}
-use Rattle.am_machine.proofs.Traces.Releases.{AllMayGo, in_row, row_lawful, on_token, releases_row, on_token_has, all_new}
+use Rattle.am_machine.proofs.Traces.Releases.{AllMayGo, released_in_row, row_lawful, on_token, releases_row, on_token_has, all_new}
 
 -- ---- passes
-
-not_mapped : {X Y : Type 0} (f : X → Y) (o : Option X) → option_map f o ≡ None → o ≡ None
-not_mapped f None e = refl
-not_mapped f (Some x) e = absurd cc
 
 mapped : {X Y : Type 0} (f : X → Y) (o : Option X) (y : Y) → option_map f o ≡ Some y → (x : X) × (o ≡ Some x) × (f x ≡ y)
 mapped f None y e = absurd cc
@@ -70,7 +66,7 @@ not_expiring tokens trace trigger h none = λ expiring.
     let is : opened token trace ≡ Some (asked_in packet) = rw (is_open_true trace token expiring.is_open, expiring.is_its) refl in
     let row = mapped asked_by (token_of tokens token) (asked_in packet) (sym (h token) ∙ is) in
     let passes = asks_same row.0 packet trigger row.2 expiring.asks.is_its expiring.asks.asks in
-    let fails = fails_each (λ r. is_open_on Expire trigger r) (λ r. r.token == token) row.0 tokens (not_mapped (λ (r : OpenToken). r.token) (find (λ r. is_open_on Expire trigger r) tokens) none) row.1 in
+    let fails = fails_each (λ r. is_open_on Expire trigger r) (λ r. r.token == token) row.0 tokens (none_where_mapped_none (λ (r : OpenToken). r.token) (find (λ r. is_open_on Expire trigger r) tokens) none) row.1 in
     absurd cc
 
 pub passes_lawful : (tokens : List OpenToken) (trace : List Obs) (walker : ℕ) (triggers : List Trigger) → AgreeOnOpen tokens trace → All (IsIdle tokens) triggers → AreLawful trace (kernel.passes walker triggers)
@@ -108,7 +104,7 @@ all_may_go trace token status (w ∷ walkers) is waited unreleased = (
 
 every_released : (trace : List Obs) (token : ℕ) (status : Status) (walkers : List ℕ) → WaitersFit trace token walkers → AllReleased trace token (kernel.releases token status walkers)
 every_released trace token status walkers fits = λ w waited.
-    subst (λ (r : List Obs). IsInRow w token r) (sym (releases_row token status walkers)) (in_row w token status (on_token token walkers) (on_token_has token w walkers ∙ sym (fits.waited w) ∙ waits_true w token trace waited))
+    subst (λ (r : List Obs). IsInRow w token r) (sym (releases_row token status walkers)) (released_in_row w token status (on_token token walkers) (on_token_has token w walkers ∙ sym (fits.waited w) ∙ waits_true w token trace waited))
 
 pub answer_lawful : (tokens : List OpenToken) (jobs : List JobPlan) (trace : List Obs) (token : ℕ) (status : Status) (row : OpenToken) → AgreeOnOpen tokens trace → AgreeOnWaiters tokens trace → AgreeOnJobs jobs trace →
     token_of tokens token ≡ Some row → is_some (job_of jobs token) ≡ true → AreLawful trace (answer token status row.waiters)

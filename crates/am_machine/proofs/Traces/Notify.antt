@@ -9,7 +9,7 @@ use Rattle.std.proofs.lemmas.List.Elements.{All-nil, All-cons, All-append}
 use Rattle.am_names.specs.declared.trigger.Trigger.{Trigger}
 use Rattle.am_names.specs.declared.row.OpenToken.{OpenToken}
 use Rattle.am_names.specs.declared.row.TokenKind.{TokenKind}
-use Rattle.am_names.proofs.Basics.{equal_to_itself, equal_by_test}
+use Rattle.am_names.proofs.Basics.{equal_to_itself, equal_by_test, some_injective, none_where_mapped_none}
 use Rattle.am_wire.specs.declared.packet.Packet.{Packet}
 use Rattle.am_state.specs.declared.kernel_row.QueuedRow.{QueuedRow}
 use Rattle.am_state.specs.declared.obs.Obs.{Obs}
@@ -21,8 +21,9 @@ use Rattle.am_laws.specs.OneObservation.{waits, releases, delivers, queues_as, u
 use Rattle.am_laws.specs.Counts.{packet_of}
 use Rattle.am_laws.specs.Tests.{is_open}
 use Rattle.am_laws.proofs.Words.{queues_as_same}
+use Rattle.am_laws.proofs.Lists.{since-append}
 use Rattle.am_machine.specs.Invariant.Traces.{Rows, names, KnowsTokens, Asked, asked_in, asked_by, opened, AgreeOnOpen, WaitersFit, AgreeOnWaiters, PacketFits, AgreeOnQueue, FitsTrace}
-use Rattle.am_machine.proofs.Traces.Counts.{any_same, any_new, packet_same, packet_new, is_open-append, opened_by, since-append, unnamed_packet, packet_known, any_none_of, waits_names, releases_names, delivers_names, waiters_more}
+use Rattle.am_machine.proofs.Traces.Counts.{any_same, any_new, packet_same, packet_new, is_open-append, opened_by_cases, unnamed_packet, packet_known, any_none_of, waits_names, releases_names, delivers_names, waiters_more, or_neither_and}
 use Rattle.am_machine.proofs.Traces.Unchanged.{inside_still, queue_more, delivered_more}
 
 -- what is seen of it
@@ -52,7 +53,7 @@ own_packet token w attach packet = rw (equal_to_itself token) refl
 
 other_opened : (k token w attach : ℕ) (packet : Packet) (trace : List Obs) → (token == k) ≡ false → opened k (trace ++ notice token attach packet w) ≡ opened k trace
 other_opened k token w attach packet trace e =
-    opened_by k trace (trace ++ notice token attach packet w) (is_open k trace)
+    opened_by_cases k trace (trace ++ notice token attach packet w) (is_open k trace)
     (is_open-append k trace (notice token attach packet w) ∙ rw e refl)
     (packet_same k trace (notice token attach packet w) (other_packet k token w attach packet e))
 
@@ -62,10 +63,6 @@ own_opened token w attach packet trace none =
     let its : packet_of token (trace ++ notice token attach packet w) ≡ Some packet = packet_new token trace (notice token attach packet w) none ∙ own_packet token w attach packet in
     rw (is, its) refl
 
-mapped_none : (o : Option OpenToken) → option_map asked_by o ≡ None → o ≡ None
-mapped_none None e = refl
-mapped_none (Some row) e = absurd cc
-
 asked_none : (b : Bool) (p : Option Packet) → p ≡ None → (if b then option_map asked_in p else None) ≡ None
 asked_none true None e = refl
 asked_none true (Some packet) e = absurd cc
@@ -73,29 +70,29 @@ asked_none false p e = refl
 
 -- a token without a packet has no row
 none_opened : (tokens : List OpenToken) (trace : List Obs) (token : ℕ) → AgreeOnOpen tokens trace → packet_of token trace ≡ None → token_of tokens token ≡ None
-none_opened tokens trace token h none = mapped_none (token_of tokens token) (sym (h token) ∙ asked_none (is_open token trace) (packet_of token trace) none)
+none_opened tokens trace token h none = none_where_mapped_none asked_by (token_of tokens token) (sym (h token) ∙ asked_none (is_open token trace) (packet_of token trace) none)
 
-opens_by : (k token w attach : ℕ) (trigger : Trigger) (kind : TokenKind) (packet : Packet) (tokens : List OpenToken) (trace : List Obs) (b : Bool) → (token == k) ≡ b → asked_in packet ≡ record { trigger = trigger; kind = kind } → packet_of token trace ≡ None → AgreeOnOpen tokens trace →
+opens_by_cases : (k token w attach : ℕ) (trigger : Trigger) (kind : TokenKind) (packet : Packet) (tokens : List OpenToken) (trace : List Obs) (b : Bool) → (token == k) ≡ b → asked_in packet ≡ record { trigger = trigger; kind = kind } → packet_of token trace ≡ None → AgreeOnOpen tokens trace →
     opened k (trace ++ notice token attach packet w) ≡ option_map asked_by (if b then Some (new_token token trigger kind w) else token_of tokens k)
-opens_by k token w attach trigger kind packet tokens trace true e asks none h =
+opens_by_cases k token w attach trigger kind packet tokens trace true e asks none h =
     subst (λ (n : ℕ). opened n (trace ++ notice token attach packet w) ≡ Some (record { trigger = trigger; kind = kind })) (equal_by_test token k e) (own_opened token w attach packet trace none ∙ ap (λ (a : Asked). Some a) asks)
-opens_by k token w attach trigger kind packet tokens trace false e asks none h = other_opened k token w attach packet trace e ∙ h k
+opens_by_cases k token w attach trigger kind packet tokens trace false e asks none h = other_opened k token w attach packet trace e ∙ h k
 
-new_by : (token k : ℕ) (row : OpenToken) (b : Bool) (o : Option OpenToken) → (b ≡ true → o ≡ None) → option_or o (cond b (Some row) None) ≡ (if b then Some row else o)
-new_by token k row true None h = refl
-new_by token k row true (Some old) h = let no = h refl in absurd cc
-new_by token k row false None h = refl
-new_by token k row false (Some old) h = refl
+new_by_cases : (token k : ℕ) (row : OpenToken) (b : Bool) (o : Option OpenToken) → (b ≡ true → o ≡ None) → option_or o (cond b (Some row) None) ≡ (if b then Some row else o)
+new_by_cases token k row true None h = refl
+new_by_cases token k row true (Some old) h = let no = h refl in absurd cc
+new_by_cases token k row false None h = refl
+new_by_cases token k row false (Some old) h = refl
 
 token_put : (token : ℕ) (trigger : Trigger) (kind : TokenKind) (w k : ℕ) (tokens : List OpenToken) → token_of tokens token ≡ None → token_of (tokens ++ new_token token trigger kind w ∷ []) k ≡ (if token == k then Some (new_token token trigger kind w) else token_of tokens k)
 token_put token trigger kind w k tokens none =
     find-append (λ (r : OpenToken). r.token == k) tokens (new_token token trigger kind w ∷ [])
-    ∙ new_by token k (new_token token trigger kind w) (token == k) (token_of tokens k) (λ e. subst (λ (n : ℕ). token_of tokens n ≡ None) (equal_by_test token k e) none)
+    ∙ new_by_cases token k (new_token token trigger kind w) (token == k) (token_of tokens k) (λ e. subst (λ (n : ℕ). token_of tokens n ≡ None) (equal_by_test token k e) none)
 
 notified_opens : (token w attach : ℕ) (trigger : Trigger) (kind : TokenKind) (packet : Packet) (tokens : List OpenToken) (trace : List Obs) → asked_in packet ≡ record { trigger = trigger; kind = kind } → packet_of token trace ≡ None → AgreeOnOpen tokens trace →
     AgreeOnOpen (tokens ++ new_token token trigger kind w ∷ []) (trace ++ notice token attach packet w)
 notified_opens token w attach trigger kind packet tokens trace asks none h = λ k.
-    opens_by k token w attach trigger kind packet tokens trace (token == k) refl asks none h
+    opens_by_cases k token w attach trigger kind packet tokens trace (token == k) refl asks none h
     ∙ sym (ap (option_map asked_by) (token_put token trigger kind w k tokens (none_opened tokens trace token h none)))
 
 -- ---- waiters
@@ -109,26 +106,19 @@ first_waits w token attach packet trace unnamed = record {
   different = (refl, tt);
 }
 
-and_last : (a b : Bool) → b ≡ false → ((a && b) || false) ≡ false
-and_last true b e = rw e refl
-and_last false b e = refl
-
-some_one : {x y : OpenToken} → Some x ≡ Some y → x ≡ y
-some_one e = cc
-
-waiters_by : (w token attach k : ℕ) (trigger : Trigger) (kind : TokenKind) (packet : Packet) (tokens : List OpenToken) (trace : List Obs) (new : OpenToken) (b : Bool) → (token == k) ≡ b → list_any (names token) trace ≡ false → AgreeOnWaiters tokens trace →
+waiters_by_cases : (w token attach k : ℕ) (trigger : Trigger) (kind : TokenKind) (packet : Packet) (tokens : List OpenToken) (trace : List Obs) (new : OpenToken) (b : Bool) → (token == k) ≡ b → list_any (names token) trace ≡ false → AgreeOnWaiters tokens trace →
     (if b then Some (new_token token trigger kind w) else token_of tokens k) ≡ Some new → WaitersFit (trace ++ notice token attach packet w) k new.waiters
-waiters_by w token attach k trigger kind packet tokens trace new true e unnamed h found =
+waiters_by_cases w token attach k trigger kind packet tokens trace new true e unnamed h found =
     let fits = first_waits w token attach packet trace unnamed in
     subst (λ (n : ℕ). WaitersFit (trace ++ notice token attach packet w) n new.waiters) (equal_by_test token k e)
-    (subst (λ (r : OpenToken). WaitersFit (trace ++ notice token attach packet w) token r.waiters) (some_one found) fits)
-waiters_by w token attach k trigger kind packet tokens trace new false e unnamed h found =
-    waiters_more k trace (notice token attach packet w) new.waiters (λ v. and_last (w == v) (token == k) e) (λ v. refl) (h k new found)
+    (subst (λ (r : OpenToken). WaitersFit (trace ++ notice token attach packet w) token r.waiters) (some_injective found) fits)
+waiters_by_cases w token attach k trigger kind packet tokens trace new false e unnamed h found =
+    waiters_more k trace (notice token attach packet w) new.waiters (λ v. or_neither_and (w == v) (token == k) false e refl) (λ v. refl) (h k new found)
 
 notified_waiters : (w token attach : ℕ) (trigger : Trigger) (kind : TokenKind) (packet : Packet) (tokens : List OpenToken) (trace : List Obs) → list_any (names token) trace ≡ false → token_of tokens token ≡ None → AgreeOnWaiters tokens trace →
     AgreeOnWaiters (tokens ++ new_token token trigger kind w ∷ []) (trace ++ notice token attach packet w)
 notified_waiters w token attach trigger kind packet tokens trace unnamed new h = λ k row e.
-    waiters_by w token attach k trigger kind packet tokens trace row (token == k) refl unnamed h (sym (token_put token trigger kind w k tokens new) ∙ e)
+    waiters_by_cases w token attach k trigger kind packet tokens trace row (token == k) refl unnamed h (sym (token_put token trigger kind w k tokens new) ∙ e)
 
 -- ---- the queue
 

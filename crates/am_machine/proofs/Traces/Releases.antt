@@ -5,7 +5,7 @@ use Rattle.std.specs.List.{list_any, list_all, Contains}
 use Rattle.std.proofs.lemmas.List.Folds.{list_any-append}
 use Rattle.std.proofs.lemmas.List.Elements.{Contains-append_left}
 use Rattle.am_names.specs.declared.trigger.Status.{Status}
-use Rattle.am_names.proofs.Basics.{or_right, equal_to_itself, equal_by_test}
+use Rattle.am_names.proofs.Basics.{or_right, equal_to_itself, equal_by_test, or_neither}
 use Rattle.am_state.specs.declared.obs.Obs.{Obs}
 use Rattle.am_state.specs.declared.obs.Obs.TheVariants.{Waits, Released}
 use Rattle.am_kernel.specs.Walks as kernel
@@ -62,12 +62,8 @@ row_has walker token status [] = refl
 row_has walker token status (w ∷ xs) = ap (λ (b : Bool). is_waiter walker token w || b) (row_has walker token status xs)
 
 -- each of them is released in the row
-pub in_row : (walker token : ℕ) (status : Status) (waiters : List Waiter) → list_any (is_waiter walker token) waiters ≡ true → IsInRow walker token (row_of status waiters)
-in_row walker token status waiters is = in_row_from_test walker token (row_of status waiters) (row_has walker token status waiters ∙ is)
-
-neither : (a b : Bool) → a ≡ false → b ≡ false → (a || b) ≡ false
-neither true b h g = absurd cc
-neither false b h g = g
+pub released_in_row : (walker token : ℕ) (status : Status) (waiters : List Waiter) → list_any (is_waiter walker token) waiters ≡ true → IsInRow walker token (row_of status waiters)
+released_in_row walker token status waiters is = in_row_from_test walker token (row_of status waiters) (row_has walker token status waiters ∙ is)
 
 -- one after another
 pub row_lawful : (trace : List Obs) (cause : Obs) (status : Status) (done todo : List Waiter) → ((walker token : ℕ) → releases walker token cause ≡ false) → AllMayGo trace cause status todo → AreNew done todo → AreLawful (trace ++ cause ∷ row_of status done) (row_of status todo)
@@ -78,7 +74,7 @@ row_lawful trace cause status done (w ∷ todo) other h new =
     let here : MayBeReleased seen w.walker w.token status = record {
       in_row = record { before = trace; cause = cause; row = row_of status done; splits = refl; unbroken = row_unbroken status done; closed = h.0.closed; was_open = h.0.was_open };
       waited = Contains-append_left trace (cause ∷ row_of status done) (Waits w.walker w.token) h.0.waited;
-      once = once_from_test w.walker w.token seen (list_any-append (releases w.walker w.token) trace (cause ∷ row_of status done) ∙ neither _ _ (once_test w.walker w.token trace h.0.not_yet) (neither _ _ (other w.walker w.token) none));
+      once = once_from_test w.walker w.token seen (list_any-append (releases w.walker w.token) trace (cause ∷ row_of status done) ∙ or_neither _ _ (once_test w.walker w.token trace h.0.not_yet) (or_neither _ _ (other w.walker w.token) none));
     } in
     let longer : trace ++ cause ∷ row_of status (done ++ w ∷ []) ≡ seen ++ Released w.walker w.token status ∷ [] = ap (λ (r : List Obs). trace ++ cause ∷ r) (row_of-append status done (w ∷ [])) ∙ sym (append_assoc trace (cause ∷ row_of status done) (Released w.walker w.token status ∷ [])) in
     (here, subst (λ (b : List Obs). AreLawful b (row_of status todo)) longer (row_lawful trace cause status (done ++ w ∷ []) todo other h.1 new.1))

@@ -4,6 +4,7 @@ use Rattle.std.specs.Prelude.{filter, not, ◌||◌, ◌&&◌, if◌then◌else�
 use Rattle.std.specs.List.{list_any, list_all, count_by, All}
 use Rattle.std.proofs.lemmas.List.Elements.{All-nil, All-cons, All-head, All-tail}
 use Rattle.am_names.specs.declared.row.OpenToken.{OpenToken}
+use Rattle.am_names.proofs.Basics.{or_neither, both_of_and}
 use Rattle.am_wire.specs.declared.packet.Packet.{Packet}
 use Rattle.am_state.specs.declared.kernel_row.QueuedRow.{QueuedRow}
 use Rattle.am_state.specs.declared.obs.Obs.{Obs}
@@ -13,8 +14,9 @@ use Rattle.am_daemon.specs.State.{JobPlan}
 use Rattle.am_laws.specs.OneObservation.{queues, queues_as, closes, unqueues, waits, releases, delivers, enters, leaves}
 use Rattle.am_laws.specs.Counts.{packet_of, fs_of_token}
 use Rattle.am_laws.specs.Tests.{since, is_open, is_in_queue}
+use Rattle.am_laws.proofs.Lists.{since-append}
 use Rattle.am_machine.specs.Invariant.Traces.{Rows, names, opened, KnowsTokens, AgreeOnOpen, AgreeOnWaiters, AgreeOnUses, PacketFits, AgreeOnQueue, AgreeOnJobs, FitsTrace}
-use Rattle.am_machine.proofs.Traces.Counts.{any_same, any_stays, count_same, packet_same, is_open-append, opened_by, since-append, unnamed_packet, waiters_more}
+use Rattle.am_machine.proofs.Traces.Counts.{any_same, any_stays, count_same, packet_same, is_open-append, opened_by_cases, unnamed_packet, waiters_more}
 
 abbrev pub is_quiet : Obs → Bool
 is_quiet (Queued token attach packet) = false
@@ -28,30 +30,22 @@ is_quiet _ = true
 abbrev pub IsQuiet : List Obs → Type 0
 IsQuiet more = list_all is_quiet more ≡ true
 
-and_first : (a b : Bool) → (a && b) ≡ true → (a ≡ true) × (b ≡ true)
-and_first true b h = (refl, h)
-and_first false b h = absurd cc
-
-none_of : (a b : Bool) → a ≡ false → b ≡ false → (a || b) ≡ false
-none_of true b e g = absurd cc
-none_of false b e g = g
-
 quiet_any : (test : Obs → Bool) (more : List Obs) → ((o : Obs) → is_quiet o ≡ true → test o ≡ false) → IsQuiet more → list_any test more ≡ false
 quiet_any test [] h q = refl
 quiet_any test (o ∷ more) h q =
-    let both = and_first (is_quiet o) (list_all is_quiet more) q in
-    none_of _ _ (h o both.0) (quiet_any test more h both.1)
+    let both = both_of_and (is_quiet o) (list_all is_quiet more) q in
+    or_neither _ _ (h o both.0) (quiet_any test more h both.1)
 
-stays : (t d b : Bool) → t ≡ false → d ≡ false → (if t then true else if d then false else b) ≡ b
-stays true d b e g = absurd cc
-stays false true b e g = absurd cc
-stays false false b e g = refl
+unchanged_where_neither : (t d b : Bool) → t ≡ false → d ≡ false → (if t then true else if d then false else b) ≡ b
+unchanged_where_neither true d b e g = absurd cc
+unchanged_where_neither false true b e g = absurd cc
+unchanged_where_neither false false b e g = refl
 
 quiet_since : (these those : Obs → Bool) (b : Bool) (more : List Obs) → ((o : Obs) → is_quiet o ≡ true → these o ≡ false) → ((o : Obs) → is_quiet o ≡ true → those o ≡ false) → IsQuiet more → since these those b more ≡ b
 quiet_since these those b [] h g q = refl
 quiet_since these those b (o ∷ more) h g q =
-    let both = and_first (is_quiet o) (list_all is_quiet more) q in
-    subst (λ (c : Bool). since these those c more ≡ b) (sym (stays (these o) (those o) b (h o both.0) (g o both.0))) (quiet_since these those b more h g both.1)
+    let both = both_of_and (is_quiet o) (list_all is_quiet more) q in
+    subst (λ (c : Bool). since these those c more ≡ b) (sym (unchanged_where_neither (these o) (those o) b (h o both.0) (g o both.0))) (quiet_since these those b more h g both.1)
 
 names_not : (token : ℕ) (o : Obs) → is_quiet o ≡ true → names token o ≡ false
 names_not token (Queued k attach packet) q = absurd cc
@@ -107,7 +101,7 @@ quiet_packet token more q = unnamed_packet token more (quiet_names token more q)
 
 quiet_opened : (token : ℕ) (trace more : List Obs) → IsQuiet more → opened token (trace ++ more) ≡ opened token trace
 quiet_opened token trace more q =
-    opened_by token trace (trace ++ more) (is_open token trace)
+    opened_by_cases token trace (trace ++ more) (is_open token trace)
     (is_open-append token trace more ∙ quiet_since (queues token) (closes token (fs_of_token token (trace ++ more))) (is_open token trace) more (queues_not token) (closes_not token (fs_of_token token (trace ++ more))) q)
     (packet_same token trace more (quiet_packet token more q))
 
@@ -145,15 +139,15 @@ pub queue_more : (P Q : QueuedRow → Type 0) (queue : List QueuedRow) → ((row
 queue_more P Q [] more h = All-nil Q
 queue_more P Q (row ∷ queue) more h = All-cons Q row queue (more row (All-head P row queue h)) (queue_more P Q queue more (All-tail P row queue h))
 
-kept_by : (P Q : QueuedRow → Type 0) (row : QueuedRow) (others : List QueuedRow) (b : Bool) → (b ≡ false → P row → Q row) → P row → All Q others → All Q (cond (not b) (row ∷ others) others)
-kept_by P Q row others true more here later = later
-kept_by P Q row others false more here later = All-cons Q row others (more refl here) later
+kept_by_cases : (P Q : QueuedRow → Type 0) (row : QueuedRow) (others : List QueuedRow) (b : Bool) → (b ≡ false → P row → Q row) → P row → All Q others → All Q (cond (not b) (row ∷ others) others)
+kept_by_cases P Q row others true more here later = later
+kept_by_cases P Q row others false more here later = All-cons Q row others (more refl here) later
 
 -- and so does each one that isn't taken out
 pub queue_kept : (P Q : QueuedRow → Type 0) (gone : QueuedRow → Bool) (queue : List QueuedRow) → ((row : QueuedRow) → gone row ≡ false → P row → Q row) → All P queue → All Q (filter (λ row. not (gone row)) queue)
 queue_kept P Q gone [] more h = All-nil Q
 queue_kept P Q gone (row ∷ queue) more h =
-    kept_by P Q row (filter (λ other. not (gone other)) queue) (gone row) (more row) (All-head P row queue h) (queue_kept P Q gone queue more (All-tail P row queue h))
+    kept_by_cases P Q row (filter (λ other. not (gone other)) queue) (gone row) (more row) (All-head P row queue h) (queue_kept P Q gone queue more (All-tail P row queue h))
 
 packet_quiet : (trace more : List Obs) (row : QueuedRow) → IsQuiet more → PacketFits trace row → PacketFits (trace ++ more) row
 packet_quiet trace more row q h = record {

@@ -12,7 +12,7 @@ use Rattle.am_names.specs.declared.row.OpenToken.{OpenToken}
 use Rattle.am_names.specs.declared.row.TokenKind.{TokenKind}
 use Rattle.am_names.specs.declared.row.TokenKind.TheVariants.{Missing, Expire}
 use Rattle.am_names.specs.declared.row.WaitRow.{WaitRow}
-use Rattle.am_names.proofs.Basics.{equal_to_itself, equal_by_test}
+use Rattle.am_names.proofs.Basics.{equal_to_itself, equal_by_test, false_where_not, differ_the_other_way}
 use Rattle.am_trigger.specs.Rows.{used_in, all_used_in}
 use Rattle.am_wait.specs.Rows.{WaitRows, token_of, with_wait, with_waiter, joined_row}
 use Rattle.am_wait.specs.Calls.{waiting_on, opened, joined_on, released_row, failed_row}
@@ -24,7 +24,7 @@ use Rattle.am_kernel.specs.Requests.{acknowledged}
 use Rattle.am_kernel.specs.Expires.{with_expiring}
 use Rattle.am_kernel.specs.Resumes.{freed, freed_from}
 use Rattle.am_machine.specs.Invariant.Walks.{is_named, has_walk, HasWalk, WalksFit}
-use Rattle.am_machine.proofs.Lists.Different.{other_way, all_found, each_kept}
+use Rattle.am_machine.proofs.Lists.Different.{all_found, each_kept, differ_as_the_third}
 use Rattle.am_machine.proofs.Attachments.Known.{any_more, any_last}
 use Rattle.am_machine.proofs.Walks.Named.{IsNamed, AreNames}
 
@@ -53,15 +53,15 @@ same_rows k made waits walks uses h = record {
 
 -- ---- last uses
 
-used_by : (b : Bool) (row : Trigger × ℕ) (moment : ℕ) (rows later : List (Trigger × ℕ)) → IsNamedUse row → All IsNamedUse rows → All IsNamedUse later → All IsNamedUse (if b then (row.0, moment) ∷ rows else row ∷ later)
-used_by true row moment rows later one h g = All-cons IsNamedUse (row.0, moment) rows one h
-used_by false row moment rows later one h g = All-cons IsNamedUse row later one g
+used_by_cases : (b : Bool) (row : Trigger × ℕ) (moment : ℕ) (rows later : List (Trigger × ℕ)) → IsNamedUse row → All IsNamedUse rows → All IsNamedUse later → All IsNamedUse (if b then (row.0, moment) ∷ rows else row ∷ later)
+used_by_cases true row moment rows later one h g = All-cons IsNamedUse (row.0, moment) rows one h
+used_by_cases false row moment rows later one h g = All-cons IsNamedUse row later one g
 
 used_named : (trigger : Trigger) (moment : ℕ) (uses : List (Trigger × ℕ)) → IsNamed trigger → All IsNamedUse uses → All IsNamedUse (used_in trigger moment uses)
 used_named trigger moment [] named h = All-cons IsNamedUse (trigger, moment) [] named (All-nil IsNamedUse)
 used_named trigger moment (row ∷ rows) named h =
     let rest = All-tail IsNamedUse row rows h in
-    used_by (same_trigger row.0 trigger) row moment rows (used_in trigger moment rows) (All-head IsNamedUse row rows h) rest (used_named trigger moment rows named rest)
+    used_by_cases (same_trigger row.0 trigger) row moment rows (used_in trigger moment rows) (All-head IsNamedUse row rows h) rest (used_named trigger moment rows named rest)
 
 all_used_named : (triggers : List Trigger) (moment : ℕ) (uses : List (Trigger × ℕ)) → All IsNamed triggers → All IsNamedUse uses → All IsNamedUse (all_used_in triggers moment uses)
 all_used_named [] moment uses named h = h
@@ -70,21 +70,21 @@ all_used_named (trigger ∷ triggers) moment uses named h =
 
 -- ---- waits and tokens
 
-wait_more : (P : WaitRow → Type 0) (row : WaitRow) (waits : List WaitRow) → P row → All P waits → All P (with_wait row waits)
+pub wait_more : (P : WaitRow → Type 0) (row : WaitRow) (waits : List WaitRow) → P row → All P waits → All P (with_wait row waits)
 wait_more P row waits one h =
     All-append P (filter (λ (other : WaitRow). nat_lt other.walker row.walker) waits) (row ∷ filter (λ (other : WaitRow). nat_lt row.walker other.walker) waits)
     (All-filter (λ (other : WaitRow). nat_lt other.walker row.walker) P waits h)
     (All-cons P row (filter (λ (other : WaitRow). nat_lt row.walker other.walker) waits) one (All-filter (λ (other : WaitRow). nat_lt row.walker other.walker) P waits h))
 
-waiter_by : (b : Bool) (row : OpenToken) (walker : ℕ) (tokens later : List OpenToken) → IsNamedToken row → All IsNamedToken tokens → All IsNamedToken later → All IsNamedToken (if b then joined_row row walker ∷ tokens else row ∷ later)
-waiter_by true row walker tokens later one h g = All-cons IsNamedToken (joined_row row walker) tokens one h
-waiter_by false row walker tokens later one h g = All-cons IsNamedToken row later one g
+waiter_by_cases : (b : Bool) (row : OpenToken) (walker : ℕ) (tokens later : List OpenToken) → IsNamedToken row → All IsNamedToken tokens → All IsNamedToken later → All IsNamedToken (if b then joined_row row walker ∷ tokens else row ∷ later)
+waiter_by_cases true row walker tokens later one h g = All-cons IsNamedToken (joined_row row walker) tokens one h
+waiter_by_cases false row walker tokens later one h g = All-cons IsNamedToken row later one g
 
 waiter_more : (token walker : ℕ) (tokens : List OpenToken) → All IsNamedToken tokens → All IsNamedToken (with_waiter token walker tokens)
 waiter_more token walker [] h = h
 waiter_more token walker (row ∷ tokens) h =
     let rest = All-tail IsNamedToken row tokens h in
-    waiter_by (row.token == token) row walker tokens (with_waiter token walker tokens) (All-head IsNamedToken row tokens h) rest (waiter_more token walker tokens rest)
+    waiter_by_cases (row.token == token) row walker tokens (with_waiter token walker tokens) (All-head IsNamedToken row tokens h) rest (waiter_more token walker tokens rest)
 
 -- the open tokens and the waits are named
 record WaitsNamed (w : WaitRows) : Type 0 where
@@ -94,9 +94,9 @@ record WaitsNamed (w : WaitRows) : Type 0 where
 waits_of : (k : KernelState) → WalksFit k → WaitsNamed k.waits
 waits_of k h = record { tokens = h.tokens; waits = h.waits }
 
-joined_by : (o : Option OpenToken) (token walker : ℕ) (w : WaitRows) → token_of w.tokens token ≡ o → WaitsNamed w → WaitsNamed (joined_on o token walker w)
-joined_by None token walker w e h = h
-joined_by (Some row) token walker w e h =
+joined_by_cases : (o : Option OpenToken) (token walker : ℕ) (w : WaitRows) → token_of w.tokens token ≡ o → WaitsNamed w → WaitsNamed (joined_on o token walker w)
+joined_by_cases None token walker w e h = h
+joined_by_cases (Some row) token walker w e h =
     let named = all_found IsNamedToken (λ (r : OpenToken). r.token == token) w.tokens row h.tokens e in
     record {
       tokens = waiter_more token walker w.tokens h.tokens;
@@ -109,9 +109,9 @@ opened_named trigger kind walker w named h = record {
   waits = wait_more IsNamedWait _ w.waits named h.waits;
 }
 
-failed_by : (b : Bool) (row : WaitRow) (status : Option Status) → (if b then record row { status = status } else row).trigger ≡ row.trigger
-failed_by true row status = refl
-failed_by false row status = refl
+pub failed_trigger : (b : Bool) (row : WaitRow) (status : Option Status) → (if b then record row { status = status } else row).trigger ≡ row.trigger
+failed_trigger true row status = refl
+failed_trigger false row status = refl
 
 mapped_named : (change : WaitRow → WaitRow) (waits : List WaitRow) → ((row : WaitRow) → (change row).trigger ≡ row.trigger) → All IsNamedWait waits → All IsNamedWait (map change waits)
 mapped_named change waits same h =
@@ -119,22 +119,19 @@ mapped_named change waits same h =
 
 -- ---- walks of those that wait
 
-not_gone : (n gone walker : ℕ) → (n == walker) ≡ true → (gone == walker) ≡ false → not (n == gone) ≡ true
-not_gone n gone walker is other = ap not (subst (λ (m : ℕ). (m == gone) ≡ false) (sym (equal_by_test n walker is)) (other_way gone walker false other))
-
 -- the walk of another stays
 other_walk : (gone walker : ℕ) (walks : List WalkRow) → (gone == walker) ≡ false → has_walk walks walker ≡ true → has_walk (without_walk gone walks) walker ≡ true
 other_walk gone walker walks other h =
-    any-filter_same (λ (row : WalkRow). row.walker == walker) (λ (row : WalkRow). not (row.walker == gone)) true (λ row is. not_gone row.walker gone walker is other) walks ∙ h
+    any-filter_same (λ (row : WalkRow). row.walker == walker) (λ (row : WalkRow). not (row.walker == gone)) true (λ row is. differ_as_the_third row.walker gone walker is other) walks ∙ h
 
-walk_by : (begin : Begin) (walks : List WalkRow) (walker : ℕ) (b : Bool) → (begin.walker == walker) ≡ b → has_walk walks walker ≡ true → has_walk (with_walk begin walks) walker ≡ true
-walk_by begin walks walker true same h = any_last (λ (row : WalkRow). row.walker == walker) (without_walk begin.walker walks) (walk_row begin) same
-walk_by begin walks walker false other h = any_more (λ (row : WalkRow). row.walker == walker) (without_walk begin.walker walks) (walk_row begin ∷ []) (other_walk begin.walker walker walks other h)
+walk_by_cases : (begin : Begin) (walks : List WalkRow) (walker : ℕ) (b : Bool) → (begin.walker == walker) ≡ b → has_walk walks walker ≡ true → has_walk (with_walk begin walks) walker ≡ true
+walk_by_cases begin walks walker true same h = any_last (λ (row : WalkRow). row.walker == walker) (without_walk begin.walker walks) (walk_row begin) same
+walk_by_cases begin walks walker false other h = any_more (λ (row : WalkRow). row.walker == walker) (without_walk begin.walker walks) (walk_row begin ∷ []) (other_walk begin.walker walker walks other h)
 
 -- a walk more: all have theirs as before, and the walker has it
 still_began : (begin : Begin) (walks : List WalkRow) (waits : List WaitRow) → All (HasWalk walks) waits → All (HasWalk (with_walk begin walks)) waits
 still_began begin walks waits h =
-    All-weaker (HasWalk walks) (HasWalk (with_walk begin walks)) (λ row began missing. walk_by begin walks row.walker (begin.walker == row.walker) refl (began missing)) waits h
+    All-weaker (HasWalk walks) (HasWalk (with_walk begin walks)) (λ row began missing. walk_by_cases begin walks row.walker (begin.walker == row.walker) refl (began missing)) waits h
 
 own_walk : (begin : Begin) (walks : List WalkRow) → has_walk (with_walk begin walks) begin.walker ≡ true
 own_walk begin walks = any_last (λ (row : WalkRow). row.walker == begin.walker) (without_walk begin.walker walks) (walk_row begin) (equal_to_itself begin.walker)
@@ -148,7 +145,7 @@ failed_kind : (b : Bool) (row : WaitRow) (status : Option Status) → (if b then
 failed_kind true row status = refl
 failed_kind false row status = refl
 
-failed_walker : (b : Bool) (row : WaitRow) (status : Option Status) → (if b then record row { status = status } else row).walker ≡ row.walker
+pub failed_walker : (b : Bool) (row : WaitRow) (status : Option Status) → (if b then record row { status = status } else row).walker ≡ row.walker
 failed_walker true row status = refl
 failed_walker false row status = refl
 
@@ -157,15 +154,11 @@ mapped_began walks change waits kind walker h =
     All-map (HasWalk walks) change waits
     (All-weaker (HasWalk walks) (λ (row : WaitRow). HasWalk walks (change row)) (λ row began missing. subst (λ (n : ℕ). has_walk walks n ≡ true) (sym (walker row)) (began (sym (kind row) ∙ missing))) waits h)
 
-kept_false : (b : Bool) → not b ≡ true → b ≡ false
-kept_false true h = absurd cc
-kept_false false h = refl
-
 -- one who waits no longer has no walk
 freed_began : (walker : ℕ) (walks : List WalkRow) (waits : List WaitRow) → All (HasWalk walks) waits → All (HasWalk (without_walk walker walks)) (filter (λ (row : WaitRow). not (row.walker == walker)) waits)
 freed_began walker walks waits h =
     each_kept (HasWalk walks) (HasWalk (without_walk walker walks)) (λ (row : WaitRow). not (row.walker == walker)) waits
-    (λ row keep began missing. other_walk walker row.walker walks (other_way row.walker walker false (kept_false (row.walker == walker) keep)) (began missing)) h
+    (λ row keep began missing. other_walk walker row.walker walks (differ_the_other_way row.walker walker (false_where_not (row.walker == walker) keep)) (began missing)) h
 
 -- ---- what the kernel makes of it
 
@@ -178,7 +171,7 @@ arrived_named k begin mount passed named h = record { tokens = h.tokens; waits =
 
 pub joined_named : (k : KernelState) (begin : Begin) (token : ℕ) (passed : List Trigger) → AreNames begin.path → All IsNamed passed → WalksFit k → WalksFit (with_joined begin token passed k)
 joined_named k begin token passed names named h =
-    let w = joined_by (token_of k.waits.tokens token) token begin.walker k.waits refl (waits_of k h) in
+    let w = joined_by_cases (token_of k.waits.tokens token) token begin.walker k.waits refl (waits_of k h) in
     record {
       tokens = w.tokens;
       waits = w.waits;
@@ -212,7 +205,7 @@ expiring_named k walker trigger attach own h =
 pub closed_named : (fs : ℕ) (k : KernelState) → WalksFit k → WalksFit (closed fs k)
 closed_named fs k h = record {
   tokens = All-filter (λ (row : OpenToken). not (row.trigger.fs == fs)) IsNamedToken k.waits.tokens h.tokens;
-  waits = mapped_named (failed_row fs) k.waits.waits (λ row. failed_by (row.trigger.fs == fs && is_none row.status) row _) h.waits;
+  waits = mapped_named (failed_row fs) k.waits.waits (λ row. failed_trigger (row.trigger.fs == fs && is_none row.status) row _) h.waits;
   used = h.used;
   walks = h.walks;
   began = mapped_began k.walks (failed_row fs) k.waits.waits (λ row. failed_kind (row.trigger.fs == fs && is_none row.status) row _) (λ row. failed_walker (row.trigger.fs == fs && is_none row.status) row _) h.began;
@@ -221,7 +214,7 @@ closed_named fs k h = record {
 pub acknowledged_named : (token : ℕ) (status : Status) (k : KernelState) → WalksFit k → WalksFit (acknowledged token status k)
 acknowledged_named token status k h = record {
   tokens = All-filter (λ (row : OpenToken). not (row.token == token)) IsNamedToken k.waits.tokens h.tokens;
-  waits = mapped_named (released_row token status) k.waits.waits (λ row. failed_by (row.token == token) row _) h.waits;
+  waits = mapped_named (released_row token status) k.waits.waits (λ row. failed_trigger (row.token == token) row _) h.waits;
   used = h.used;
   walks = h.walks;
   began = mapped_began k.walks (released_row token status) k.waits.waits (λ row. failed_kind (row.token == token) row _) (λ row. failed_walker (row.token == token) row _) h.began;

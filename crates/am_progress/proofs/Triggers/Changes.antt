@@ -51,11 +51,11 @@ pub record Holds (s : State) : Type 0 where
 
 -- ---- autofs that change
 
-first_by : (x y : Autofs) (o p : Option Autofs) (g : Trigger) (b c : Bool) → c ≡ b → y.direct ≡ x.direct → is_trigger_of p g ≡ is_trigger_of o g → is_trigger_of (if c then Some y else p) g ≡ is_trigger_of (if b then Some x else o) g
-first_by x y o p g true true same direct later = ap (λ (d : Bool). if d then is_none g.name else is_some g.name) direct
-first_by x y o p g false false same direct later = later
-first_by x y o p g true false same direct later = absurd cc
-first_by x y o p g false true same direct later = absurd cc
+first_by_cases : (x y : Autofs) (o p : Option Autofs) (g : Trigger) (b c : Bool) → c ≡ b → y.direct ≡ x.direct → is_trigger_of p g ≡ is_trigger_of o g → is_trigger_of (if c then Some y else p) g ≡ is_trigger_of (if b then Some x else o) g
+first_by_cases x y o p g true true same direct later = ap (λ (d : Bool). if d then is_none g.name else is_some g.name) direct
+first_by_cases x y o p g false false same direct later = later
+first_by_cases x y o p g true false same direct later = absurd cc
+first_by_cases x y o p g false true same direct later = absurd cc
 
 marked_fs : (b c : Bool) (row : Autofs) → (if b then record row { catatonic = c } else row).fs ≡ row.fs
 marked_fs true c row = refl
@@ -69,19 +69,19 @@ marked_direct false c row = refl
 marked_sites : (fs : ℕ) (c : Bool) (rows : List Autofs) (g : Trigger) → is_trigger_of (find (λ (r : Autofs). r.fs == g.fs) (map (catatonic_row fs c) rows)) g ≡ is_trigger_of (find (λ (r : Autofs). r.fs == g.fs) rows) g
 marked_sites fs c [] g = refl
 marked_sites fs c (row ∷ rows) g =
-    first_by row (catatonic_row fs c row) _ _ g (row.fs == g.fs) ((catatonic_row fs c row).fs == g.fs) (ap (λ (n : ℕ). n == g.fs) (marked_fs (row.fs == fs) c row)) (marked_direct (row.fs == fs) c row) (marked_sites fs c rows g)
+    first_by_cases row (catatonic_row fs c row) _ _ g (row.fs == g.fs) ((catatonic_row fs c row).fs == g.fs) (ap (λ (n : ℕ). n == g.fs) (marked_fs (row.fs == fs) c row)) (marked_direct (row.fs == fs) c row) (marked_sites fs c rows g)
 
 pub still_site : (fs : ℕ) (c : Bool) (t : TriggerRows) (g : Trigger) → IsSite t g → IsSite (with_catatonic fs c t) g
 still_site fs c t g h = marked_sites fs c t.autofs g ∙ h
 
-more_by : (x : Autofs) (o p : Option Autofs) (g : Trigger) (b : Bool) → (is_trigger_of o g ≡ true → is_trigger_of p g ≡ true) → is_trigger_of (if b then Some x else o) g ≡ true → is_trigger_of (if b then Some x else p) g ≡ true
-more_by x o p g true later h = h
-more_by x o p g false later h = later h
+more_by_cases : (x : Autofs) (o p : Option Autofs) (g : Trigger) (b : Bool) → (is_trigger_of o g ≡ true → is_trigger_of p g ≡ true) → is_trigger_of (if b then Some x else o) g ≡ true → is_trigger_of (if b then Some x else p) g ≡ true
+more_by_cases x o p g true later h = h
+more_by_cases x o p g false later h = later h
 
 -- one more changes none
 pub more_sites : (rows : List Autofs) (new : Autofs) (g : Trigger) → is_trigger_of (find (λ (r : Autofs). r.fs == g.fs) rows) g ≡ true → is_trigger_of (find (λ (r : Autofs). r.fs == g.fs) (rows ++ new ∷ [])) g ≡ true
 more_sites [] new g h = absurd cc
-more_sites (row ∷ rows) new g h = more_by row (find (λ (r : Autofs). r.fs == g.fs) rows) (find (λ (r : Autofs). r.fs == g.fs) (rows ++ new ∷ [])) g (row.fs == g.fs) (more_sites rows new g) h
+more_sites (row ∷ rows) new g h = more_by_cases row (find (λ (r : Autofs). r.fs == g.fs) rows) (find (λ (r : Autofs). r.fs == g.fs) (rows ++ new ∷ [])) g (row.fs == g.fs) (more_sites rows new g) h
 
 pub closed_leaves : (k : KernelState) (fs : ℕ) → AreSites k → AreSites (closed fs k)
 closed_leaves k fs h = sites_weaker (IsSite k.triggers) (IsSite (with_catatonic fs true k.triggers)) (closed fs k) (still_site fs true k.triggers) (closed_sites (IsSite k.triggers) fs k h)

@@ -11,6 +11,7 @@ use Rattle.am_names.specs.declared.row.OpenToken.{OpenToken}
 use Rattle.am_names.specs.declared.row.TokenKind.{TokenKind}
 use Rattle.am_names.specs.declared.row.TokenKind.TheVariants.{Missing, Expire}
 use Rattle.am_names.specs.declared.row.WaitRow.{WaitRow}
+use Rattle.am_names.proofs.Basics.{differ_the_other_way}
 use Rattle.am_trigger.specs.Rows.{used_in, all_used_in}
 use Rattle.am_wait.specs.Rows.{WaitRows, token_of, wait_of, with_wait, with_waiter, joined_row}
 use Rattle.am_wait.specs.Calls.{waiting_on, opened, joined_on, released_row, failed_row}
@@ -23,8 +24,9 @@ use Rattle.am_kernel.specs.Walks.{arrived, with_joined, with_notified, closed}
 use Rattle.am_kernel.specs.Requests.{acknowledged, without_use}
 use Rattle.am_kernel.specs.Expires.{with_expiring}
 use Rattle.am_kernel.specs.Resumes.{freed, freed_from}
-use Rattle.am_machine.proofs.Lists.Different.{other_way, all_found}
+use Rattle.am_machine.proofs.Lists.Different.{all_found}
 use Rattle.am_machine.proofs.Tour.Walks.{IsFree}
+use Rattle.am_machine.proofs.Walks.Rows.{failed_trigger, failed_walker, wait_more}
 use Rattle.am_progress.proofs.Attaches.{AreOfOne}
 use Rattle.am_progress.proofs.Triggers.Walks.{IsSite}
 
@@ -44,13 +46,13 @@ pub record AreOn (P : Trigger → Type 0) (k : KernelState) : Type 0 where
 abbrev pub AreSites : KernelState → Type 0
 AreSites k = AreOn (IsSite k.triggers) k
 
-none_by : {X : Type 0} (test : X → Bool) (x : X) (rows : List X) (b : Bool) → test x ≡ b → (find test rows ≡ None → All (λ (y : X). test y ≡ false) rows) → (if b then Some x else find test rows) ≡ None → All (λ (y : X). test y ≡ false) (x ∷ rows)
-none_by test x rows true is later e = absurd cc
-none_by test x rows false is later e = All-cons (λ y. test y ≡ false) x rows is (later e)
+none_by_cases : {X : Type 0} (test : X → Bool) (x : X) (rows : List X) (b : Bool) → test x ≡ b → (find test rows ≡ None → All (λ (y : X). test y ≡ false) rows) → (if b then Some x else find test rows) ≡ None → All (λ (y : X). test y ≡ false) (x ∷ rows)
+none_by_cases test x rows true is later e = absurd cc
+none_by_cases test x rows false is later e = All-cons (λ y. test y ≡ false) x rows is (later e)
 
 none_all : {X : Type 0} (test : X → Bool) (rows : List X) → find test rows ≡ None → All (λ (y : X). test y ≡ false) rows
 none_all test [] e = All-nil (λ y. test y ≡ false)
-none_all test (x ∷ rows) e = none_by test x rows (test x) refl (none_all test rows) e
+none_all test (x ∷ rows) e = none_by_cases test x rows (test x) refl (none_all test rows) e
 
 -- ---- who is outside stays outside
 
@@ -58,42 +60,28 @@ both_all : {X : Type 0} (P Q R : X → Type 0) → ((x : X) → P x → Q x → 
 both_all P Q R more [] h g = All-nil R
 both_all P Q R more (x ∷ rows) h g = All-cons R x rows (more x (All-head P x rows h) (All-head Q x rows g)) (both_all P Q R more rows (All-tail P x rows h) (All-tail Q x rows g))
 
-others_by : (mount : ℕ) (b : Bool) (was now : Option ℕ) → b ≡ false → now ≡ (if b then Some mount else was) → was ≡ None → now ≡ None
-others_by mount true was now other e none = absurd cc
-others_by mount false was now other e none = e ∙ none
+others_by_cases : (mount : ℕ) (b : Bool) (was now : Option ℕ) → b ≡ false → now ≡ (if b then Some mount else was) → was ≡ None → now ≡ None
+others_by_cases mount true was now other e none = absurd cc
+others_by_cases mount false was now other e none = e ∙ none
 
 entered_outside : (walker mount : ℕ) (uses : List Use) (waits : List WaitRow) → mount_of uses walker ≡ None → wait_of waits walker ≡ None → All (IsOutside uses) waits → All (IsOutside (entered walker mount uses)) waits
 entered_outside walker mount uses waits free idle h =
     both_all (IsOutside uses) (λ (row : WaitRow). (row.walker == walker) ≡ false) (IsOutside (entered walker mount uses))
-    (λ row out other. others_by mount (walker == row.walker) (mount_of uses row.walker) (mount_of (entered walker mount uses) row.walker) (other_way row.walker walker false other) (enters uses (record { walker = walker; mount = mount }) free row.walker) out)
+    (λ row out other. others_by_cases mount (walker == row.walker) (mount_of uses row.walker) (mount_of (entered walker mount uses) row.walker) (differ_the_other_way row.walker walker other) (enters uses (record { walker = walker; mount = mount }) free row.walker) out)
     waits h (none_all (λ (row : WaitRow). row.walker == walker) waits idle)
 
-left_by : (b : Bool) (was now : Option ℕ) → now ≡ (if b then None else was) → was ≡ None → now ≡ None
-left_by true was now e none = e
-left_by false was now e none = e ∙ none
+left_by_cases : (b : Bool) (was now : Option ℕ) → now ≡ (if b then None else was) → was ≡ None → now ≡ None
+left_by_cases true was now e none = e
+left_by_cases false was now e none = e ∙ none
 
 left_outside : (walker : ℕ) (uses : List Use) (waits : List WaitRow) → All (IsOutside uses) waits → All (IsOutside (left walker uses)) waits
 left_outside walker uses waits h =
-    All-weaker (IsOutside uses) (IsOutside (left walker uses)) (λ row out. left_by (walker == row.walker) (mount_of uses row.walker) (mount_of (left walker uses) row.walker) (leaves uses walker row.walker) out) waits h
+    All-weaker (IsOutside uses) (IsOutside (left walker uses)) (λ row out. left_by_cases (walker == row.walker) (mount_of uses row.walker) (mount_of (left walker uses) row.walker) (leaves uses walker row.walker) out) waits h
 
 mapped_outside : (uses : List Use) (change : WaitRow → WaitRow) (waits : List WaitRow) → ((row : WaitRow) → (change row).walker ≡ row.walker) → All (IsOutside uses) waits → All (IsOutside uses) (map change waits)
 mapped_outside uses change waits walker h =
     All-map (IsOutside uses) change waits
     (All-weaker (IsOutside uses) (λ (row : WaitRow). IsOutside uses (change row)) (λ row out. subst (λ (n : ℕ). mount_of uses n ≡ None) (sym (walker row)) out) waits h)
-
-wait_more : (P : WaitRow → Type 0) (row : WaitRow) (waits : List WaitRow) → P row → All P waits → All P (with_wait row waits)
-wait_more P row waits one h =
-    All-append P (filter (λ (other : WaitRow). nat_lt other.walker row.walker) waits) (row ∷ filter (λ (other : WaitRow). nat_lt row.walker other.walker) waits)
-    (All-filter (λ (other : WaitRow). nat_lt other.walker row.walker) P waits h)
-    (All-cons P row (filter (λ (other : WaitRow). nat_lt row.walker other.walker) waits) one (All-filter (λ (other : WaitRow). nat_lt row.walker other.walker) P waits h))
-
-failed_walker : (b : Bool) (row : WaitRow) (status : Option Status) → (if b then record row { status = status } else row).walker ≡ row.walker
-failed_walker true row status = refl
-failed_walker false row status = refl
-
-failed_trigger : (b : Bool) (row : WaitRow) (status : Option Status) → (if b then record row { status = status } else row).trigger ≡ row.trigger
-failed_trigger true row status = refl
-failed_trigger false row status = refl
 
 -- ---- triggers of which P is said
 
@@ -107,30 +95,30 @@ module _ (P : Trigger → Type 0) where
   abbrev OnUse : Trigger × ℕ → Type 0
   OnUse row = P row.0
 
-  used_by : (b : Bool) (row : Trigger × ℕ) (moment : ℕ) (rows later : List (Trigger × ℕ)) → OnUse row → All OnUse rows → All OnUse later → All OnUse (if b then (row.0, moment) ∷ rows else row ∷ later)
-  used_by true row moment rows later one h g = All-cons OnUse (row.0, moment) rows one h
-  used_by false row moment rows later one h g = All-cons OnUse row later one g
+  used_by_cases : (b : Bool) (row : Trigger × ℕ) (moment : ℕ) (rows later : List (Trigger × ℕ)) → OnUse row → All OnUse rows → All OnUse later → All OnUse (if b then (row.0, moment) ∷ rows else row ∷ later)
+  used_by_cases true row moment rows later one h g = All-cons OnUse (row.0, moment) rows one h
+  used_by_cases false row moment rows later one h g = All-cons OnUse row later one g
 
   used_on : (trigger : Trigger) (moment : ℕ) (uses : List (Trigger × ℕ)) → P trigger → All OnUse uses → All OnUse (used_in trigger moment uses)
   used_on trigger moment [] own h = All-cons OnUse (trigger, moment) [] own (All-nil OnUse)
   used_on trigger moment (row ∷ rows) own h =
       let rest = All-tail OnUse row rows h in
-      used_by (same_trigger row.0 trigger) row moment rows (used_in trigger moment rows) (All-head OnUse row rows h) rest (used_on trigger moment rows own rest)
+      used_by_cases (same_trigger row.0 trigger) row moment rows (used_in trigger moment rows) (All-head OnUse row rows h) rest (used_on trigger moment rows own rest)
 
   all_used_on : (triggers : List Trigger) (moment : ℕ) (uses : List (Trigger × ℕ)) → All P triggers → All OnUse uses → All OnUse (all_used_in triggers moment uses)
   all_used_on [] moment uses own h = h
   all_used_on (trigger ∷ triggers) moment uses own h =
       all_used_on triggers moment (used_in trigger moment uses) (All-tail P trigger triggers own) (used_on trigger moment uses (All-head P trigger triggers own) h)
 
-  waiter_by : (b : Bool) (row : OpenToken) (walker : ℕ) (tokens later : List OpenToken) → OnToken row → All OnToken tokens → All OnToken later → All OnToken (if b then joined_row row walker ∷ tokens else row ∷ later)
-  waiter_by true row walker tokens later one h g = All-cons OnToken (joined_row row walker) tokens one h
-  waiter_by false row walker tokens later one h g = All-cons OnToken row later one g
+  waiter_by_cases : (b : Bool) (row : OpenToken) (walker : ℕ) (tokens later : List OpenToken) → OnToken row → All OnToken tokens → All OnToken later → All OnToken (if b then joined_row row walker ∷ tokens else row ∷ later)
+  waiter_by_cases true row walker tokens later one h g = All-cons OnToken (joined_row row walker) tokens one h
+  waiter_by_cases false row walker tokens later one h g = All-cons OnToken row later one g
 
   waiter_more : (token walker : ℕ) (tokens : List OpenToken) → All OnToken tokens → All OnToken (with_waiter token walker tokens)
   waiter_more token walker [] h = h
   waiter_more token walker (row ∷ tokens) h =
       let rest = All-tail OnToken row tokens h in
-      waiter_by (row.token == token) row walker tokens (with_waiter token walker tokens) (All-head OnToken row tokens h) rest (waiter_more token walker tokens rest)
+      waiter_by_cases (row.token == token) row walker tokens (with_waiter token walker tokens) (All-head OnToken row tokens h) rest (waiter_more token walker tokens rest)
 
   mapped_on : (change : WaitRow → WaitRow) (waits : List WaitRow) → ((row : WaitRow) → (change row).trigger ≡ row.trigger) → All OnWait waits → All OnWait (map change waits)
   mapped_on change waits same h =
@@ -161,9 +149,9 @@ module _ (P : Trigger → Type 0) where
     waits : All OnWait w.waits
     outside : All (IsOutside uses) w.waits
 
-  joined_by : (o : Option OpenToken) (token walker : ℕ) (uses : List Use) (w : WaitRows) → token_of w.tokens token ≡ o → mount_of uses walker ≡ None → WaitsOn uses w → WaitsOn uses (joined_on o token walker w)
-  joined_by None token walker uses w e out h = h
-  joined_by (Some row) token walker uses w e out h =
+  joined_by_cases : (o : Option OpenToken) (token walker : ℕ) (uses : List Use) (w : WaitRows) → token_of w.tokens token ≡ o → mount_of uses walker ≡ None → WaitsOn uses w → WaitsOn uses (joined_on o token walker w)
+  joined_by_cases None token walker uses w e out h = h
+  joined_by_cases (Some row) token walker uses w e out h =
       let own = all_found OnToken (λ (r : OpenToken). r.token == token) w.tokens row h.tokens e in
       record {
         tokens = waiter_more token walker w.tokens h.tokens;
@@ -183,7 +171,7 @@ module _ (P : Trigger → Type 0) where
 
   pub joined_sites : (k : KernelState) (begin : Begin) (token : ℕ) (passed : List Trigger) → IsFree k begin.walker → All P passed → AreOn P k → AreOn P (with_joined begin token passed k)
   joined_sites k begin token passed free own h =
-      let w = joined_by (token_of k.waits.tokens token) token begin.walker k.uses k.waits refl free.uses (waits_of k h) in
+      let w = joined_by_cases (token_of k.waits.tokens token) token begin.walker k.uses k.waits refl free.uses (waits_of k h) in
       record { tokens = w.tokens; waits = w.waits; used = all_used_on passed begin.moment k.triggers.uses own h.used; outside = w.outside; attaches = h.attaches }
 
   pub notified_sites : (k : KernelState) (begin : Begin) (trigger : Trigger) (attach : ℕ) (passed : List Trigger) → IsFree k begin.walker → P trigger → All P passed → AreOn P k → AreOn P (with_notified begin trigger attach passed k)

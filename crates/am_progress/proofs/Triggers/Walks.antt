@@ -10,7 +10,7 @@ use Rattle.am_names.specs.declared.trigger.Trigger.{Trigger}
 use Rattle.am_names.specs.declared.row.OpenToken.{OpenToken}
 use Rattle.am_names.specs.declared.row.MountRow.{MountRow}
 use Rattle.am_names.specs.declared.row.TokenKind.TheVariants.{Missing, Expire}
-use Rattle.am_names.proofs.Basics.{equal_by_test}
+use Rattle.am_names.proofs.Basics.{equal_by_test, found_passes}
 use Rattle.am_mount.specs.Rows.{top_of, root_of, mount_row}
 use Rattle.am_trigger.specs.declared.autofs.Autofs.{Autofs}
 use Rattle.am_trigger.specs.Rows.{TriggerRows, is_made, autofs_of}
@@ -24,7 +24,6 @@ use Rattle.am_walk.specs.Scene.{Scene, autofs_at, has_names}
 use Rattle.am_walk.specs.Meet.{if_open, if_mounted, if_failing, if_entered, at_directory, at_trap, at_trigger, at_plain, at_autofs, at_site, next_at}
 use Rattle.am_walk.specs.Walks.{Visit, Stands, Stops, followed, settled_within, settled, onward, after, visit_from, visit_of, Walked, ended, walk_of}
 use Rattle.am_kernel.specs.Previews.{is_trigger_of}
-use Rattle.am_machine.proofs.Lists.Counts.{found_passes}
 
 -- the trigger is one of an autofs that is there
 abbrev pub IsSite : TriggerRows → Trigger → Type 0
@@ -70,9 +69,9 @@ in_site t row (name ∷ below ∷ names) is = tt
 pub found_itself : (t : TriggerRows) (fs : ℕ) (row : Autofs) → autofs_of t fs ≡ Some row → autofs_of t row.fs ≡ Some row
 found_itself t fs row is = subst (λ (n : ℕ). autofs_of t n ≡ Some row) (sym (equal_by_test row.fs fs (found_passes (λ (r : Autofs). r.fs == fs) t.autofs row is))) is
 
-its_own : (t : TriggerRows) (o : Option ℕ) (row : Autofs) → option_and_then (λ fs. autofs_of t fs) o ≡ Some row → autofs_of t row.fs ≡ Some row
-its_own t None row is = absurd cc
-its_own t (Some fs) row is = found_itself t fs row is
+found_by_its_own_number : (t : TriggerRows) (o : Option ℕ) (row : Autofs) → option_and_then (λ fs. autofs_of t fs) o ≡ Some row → autofs_of t row.fs ≡ Some row
+found_by_its_own_number t None row is = absurd cc
+found_by_its_own_number t (Some fs) row is = found_itself t fs row is
 
 open_site : (t : TriggerRows) (o : Option ℕ) (others : Next) → IsSiteNext t others → IsSiteNext t (if_open o others)
 open_site t (Some token) others h = tt
@@ -124,7 +123,7 @@ module _ (scene : Scene) where
 
   here_site : (mount : ℕ) (place : List (List ℕ)) → IsSiteNext scene.triggers (next_at scene mount place)
   here_site mount place =
-      site_site (autofs_at scene mount) mount place (λ a is. its_own scene.triggers (option_map (λ (row : MountRow). row.fs) (mount_row scene.mounts mount)) a is)
+      site_site (autofs_at scene mount) mount place (λ a is. found_by_its_own_number scene.triggers (option_map (λ (row : MountRow). row.fs) (mount_row scene.mounts mount)) a is)
 
   -- ---- after steps and names
 
