@@ -23,24 +23,24 @@ all_released_more before token rest s h a = λ walker w. in_row_from_test walker
 all_released_less : (before : List Obs) (token : ℕ) (rest s : List Obs) → begins_with_released s ≡ false → AllReleased before token (rest ++ s) → AllReleased before token rest
 all_released_less before token rest s h a = λ walker w. in_row_from_test walker token rest (sym (is_in_row-append (releases walker token) rest s h) ∙ in_row_true walker token (rest ++ s) (a walker w))
 
-at_more : (before rest s : List Obs) (o : Obs) → begins_with_released s ≡ false → IsLawfulAt before o rest → IsLawfulAt before o (rest ++ s)
-at_more before rest s (Answered token status) h a = (a.0, a.1, all_released_more before token rest s h a.2)
-at_more before rest s (Catatonic fs) h a = λ token is_its is_o. all_released_more before token rest s h (a token is_its is_o)
-at_more before rest s _ h a = a
+lawful_at_more : (before rest s : List Obs) (o : Obs) → begins_with_released s ≡ false → IsLawfulAt before o rest → IsLawfulAt before o (rest ++ s)
+lawful_at_more before rest s (Answered token status) h a = (a.0, a.1, all_released_more before token rest s h a.2)
+lawful_at_more before rest s (Catatonic fs) h a = λ token is_its is_o. all_released_more before token rest s h (a token is_its is_o)
+lawful_at_more before rest s _ h a = a
 
-at_less : (before rest s : List Obs) (o : Obs) → begins_with_released s ≡ false → IsLawfulAt before o (rest ++ s) → IsLawfulAt before o rest
-at_less before rest s (Answered token status) h a = (a.0, a.1, all_released_less before token rest s h a.2)
-at_less before rest s (Catatonic fs) h a = λ token is_its is_o. all_released_less before token rest s h (a token is_its is_o)
-at_less before rest s _ h a = a
+lawful_at_less : (before rest s : List Obs) (o : Obs) → begins_with_released s ≡ false → IsLawfulAt before o (rest ++ s) → IsLawfulAt before o rest
+lawful_at_less before rest s (Answered token status) h a = (a.0, a.1, all_released_less before token rest s h a.2)
+lawful_at_less before rest s (Catatonic fs) h a = λ token is_its is_o. all_released_less before token rest s h (a token is_its is_o)
+lawful_at_less before rest s _ h a = a
 
 pub front_more : (before trace s : List Obs) → begins_with_released s ≡ false → AreLawful before trace → AreLawful (before ++ trace) s → AreLawful before (trace ++ s)
 front_more before [] s h a b = subst (λ (x : List Obs). AreLawful x s) (append-nil before) b
 front_more before (o ∷ trace) s h a b =
-    (at_more before trace s o h a.0, front_more (before ++ o ∷ []) trace s h a.1 (subst (λ (x : List Obs). AreLawful x s) (sym (append_assoc before (o ∷ []) trace)) b))
+    (lawful_at_more before trace s o h a.0, front_more (before ++ o ∷ []) trace s h a.1 (subst (λ (x : List Obs). AreLawful x s) (sym (append_assoc before (o ∷ []) trace)) b))
 
 front_first : (before trace s : List Obs) → begins_with_released s ≡ false → AreLawful before (trace ++ s) → AreLawful before trace
 front_first before [] s h a = tt
-front_first before (o ∷ trace) s h a = (at_less before trace s o h a.0, front_first (before ++ o ∷ []) trace s h a.1)
+front_first before (o ∷ trace) s h a = (lawful_at_less before trace s o h a.0, front_first (before ++ o ∷ []) trace s h a.1)
 
 front_second : (before trace s : List Obs) → AreLawful before (trace ++ s) → AreLawful (before ++ trace) s
 front_second before [] s a = subst (λ (x : List Obs). AreLawful x s) (sym (append-nil before)) a

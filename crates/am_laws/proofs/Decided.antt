@@ -10,15 +10,16 @@ use Rattle.am_state.specs.declared.obs.Obs.TheVariants.{Queued, Waits, Answered,
 use Rattle.am_names.specs.declared.trigger.Status.{Status}
 use Rattle.am_wire.specs.declared.packet.Packet.{Packet}
 use Rattle.am_names.specs.declared.trigger.Trigger.{Trigger}
+use Rattle.am_names.proofs.Basics.{neither_of_or, or_right, or_left, both_of_and, and_of_both, false_where_not, not_where_false, false_unless_true}
 use Rattle.am_laws.specs.OneObservation.{queues, waits, delivers, releases, is_released, closes, closes_as, enters, leaves, is_fs}
 use Rattle.am_laws.specs.Counts.{packet_of, fs_of_token, IsOpen, IsExpiring, uses}
 use Rattle.am_laws.specs.TraceLaws.{EndsInRow, MayBeReleased, AllReleased, Lawful}
 use Rattle.am_laws.specs.Fold.{IsLawfulAt, AreLawful}
 use Rattle.am_laws.specs.Tests.{HasNo, HasSince, since, is_open, is_in_queue, is_unused, asks, is_expiry, is_cause, ends_in_row, may_be_released, is_let_go, all_released, is_closed, is_lawful_at, are_lawful, is_in_row}
-use Rattle.am_laws.proofs.Bools.{or_no, or_right, or_left, and_both, and_of, not_true, not_of, if_of, if_then, any_at, any_some, all_each, all_at, no_true}
 use Rattle.am_laws.proofs.Words.{is_fs_true, fs_from_test, waits_true, waits_from_test, never_queued_test, never_queued_from_test, never_delivered_test, never_delivered_from_test, delivered_test, delivered_from_test, once_test, once_from_test, since_from_open, open_from_since, since_from_queued, queued_from_since, closes_true, closes_from_test, in_row_true, in_row_from_test, uses_zero, zero_uses}
 use Rattle.am_laws.proofs.Packets.{expires_true, expires_from_test}
 use Rattle.am_laws.proofs.Places.{lawful_from_front, front_from_lawful}
+use Rattle.am_laws.proofs.Lists.{if_of, if_then, any_at, any_some, all_each, all_at}
 
 -- since
 
@@ -53,7 +54,7 @@ stays_true false false h = refl
 since_stays : (these those : Obs → Bool) (later : List Obs) → HasNo those later → since these those true later ≡ true
 since_stays these those [] h = refl
 since_stays these those (o ∷ later) h =
-    let no = or_no (those o) (list_any those later) h in
+    let no = neither_of_or (those o) (list_any those later) h in
     subst (λ (b : Bool). since these those b later ≡ true) (sym (stays_true (these o) (those o) no.0)) (since_stays these those later no.1)
 
 since_at : (these those : Obs → Bool) (b : Bool) (before : List Obs) (this : Obs) (later : List Obs) → these this ≡ true → HasNo those later → since these those b (before ++ this ∷ later) ≡ true
@@ -80,7 +81,7 @@ expiry_true : (seen : List Obs) (trigger : Trigger) → IsExpiring seen trigger 
 expiry_true seen trigger h =
     let a : asks trigger (packet_of h.token seen) ≡ true = ap (asks trigger) h.is_its ∙ expires_true trigger h.packet h.asks in
     let o : Obs = Queued h.token h.is_open.attach h.is_open.packet in
-    let here : is_expiry seen trigger o ≡ true = and_of _ _ a (is_open_true seen h.token h.is_open) in
+    let here : is_expiry seen trigger o ≡ true = and_of_both _ _ a (is_open_true seen h.token h.is_open) in
     subst (λ (s : List Obs). list_any (is_expiry seen trigger) s ≡ true) (sym h.is_open.queued) (any_at (is_expiry seen trigger) h.is_open.before o h.is_open.later here)
 
 expiring_of : (seen : List Obs) (trigger : Trigger) (token : ℕ) (found : Option Packet) → packet_of token seen ≡ found → asks trigger found ≡ true → IsOpen seen token → IsExpiring seen trigger
@@ -89,7 +90,7 @@ expiring_of seen trigger token (Some packet) e a p = record { token = token; pac
 
 expiring_at : (seen : List Obs) (trigger : Trigger) (o : Obs) → is_expiry seen trigger o ≡ true → IsExpiring seen trigger
 expiring_at seen trigger (Queued k attach packet) h =
-    let both = and_both (asks trigger (packet_of k seen)) (is_open k seen) h in
+    let both = both_of_and (asks trigger (packet_of k seen)) (is_open k seen) h in
     expiring_of seen trigger k (packet_of k seen) refl both.0 (open_from_test seen k both.1)
 expiring_at seen trigger _ h = absurd cc
 
@@ -104,7 +105,7 @@ let_go_of token rest _ h = refl
 
 let_go_at : (token : ℕ) (rest : List Obs) (walker : ℕ) (o : Obs) → is_let_go token rest o ≡ true → waits walker token o ≡ true → is_in_row (releases walker token) rest ≡ true
 let_go_at token rest walker (Waits w k) h q =
-    let both = and_both (w == walker) (k == token) q in
+    let both = both_of_and (w == walker) (k == token) q in
     let same : w ≡ walker = grind (arith, nat_tests, both.0) in
     subst (λ (x : ℕ). is_in_row (releases x token) rest ≡ true) same (if_then (k == token) (is_in_row (releases w token) rest) both.1 h)
 let_go_at token rest walker _ h q = absurd cc
@@ -115,11 +116,11 @@ AllInRow token rest seen = (walker : ℕ) → list_any (waits walker token) seen
 rows_true : (token : ℕ) (rest seen : List Obs) → AllInRow token rest seen → all_released seen token rest ≡ true
 rows_true token rest [] h = refl
 rows_true token rest (o ∷ seen) h =
-    and_of (is_let_go token rest o) (all_released seen token rest) (let_go_of token rest o (λ walker q. h walker (or_left (waits walker token o) (list_any (waits walker token) seen) q))) (rows_true token rest seen (λ walker q. h walker (or_right (waits walker token o) (list_any (waits walker token) seen) q)))
+    and_of_both (is_let_go token rest o) (all_released seen token rest) (let_go_of token rest o (λ walker q. h walker (or_left (waits walker token o) (list_any (waits walker token) seen) q))) (rows_true token rest seen (λ walker q. h walker (or_right (waits walker token o) (list_any (waits walker token) seen) q)))
 
 rows_at : (token : ℕ) (rest seen : List Obs) (walker : ℕ) (o : Obs) (b : Bool) → waits walker token o ≡ b → all_released (o ∷ seen) token rest ≡ true → (all_released seen token rest ≡ true → AllInRow token rest seen) → (b || list_any (waits walker token) seen) ≡ true → is_in_row (releases walker token) rest ≡ true
-rows_at token rest seen walker o true e h later q = let_go_at token rest walker o (and_both (is_let_go token rest o) (all_released seen token rest) h).0 e
-rows_at token rest seen walker o false e h later q = later (and_both (is_let_go token rest o) (all_released seen token rest) h).1 walker q
+rows_at token rest seen walker o true e h later q = let_go_at token rest walker o (both_of_and (is_let_go token rest o) (all_released seen token rest) h).0 e
+rows_at token rest seen walker o false e h later q = later (both_of_and (is_let_go token rest o) (all_released seen token rest) h).1 walker q
 
 rows_from_test : (token : ℕ) (rest seen : List Obs) → all_released seen token rest ≡ true → AllInRow token rest seen
 rows_from_test token rest [] h = λ walker q. absurd cc
@@ -135,7 +136,7 @@ released_from_test token rest seen h = λ walker c. in_row_from_test walker toke
 
 closed_of : (fs : ℕ) (before rest : List Obs) → ((token : ℕ) → fs_of_token token before ≡ Some fs → IsOpen before token → AllReleased before token rest) → (o : Obs) → is_closed fs before rest o ≡ true
 closed_of fs before rest h (Queued k attach packet) =
-    if_of (is_fs (fs_of_token k before) fs && is_open k before) (all_released before k rest) (λ both. let two = and_both (is_fs (fs_of_token k before) fs) (is_open k before) both in released_true k rest before (h k (fs_from_test fs (fs_of_token k before) two.0) (open_from_test before k two.1)))
+    if_of (is_fs (fs_of_token k before) fs && is_open k before) (all_released before k rest) (λ both. let two = both_of_and (is_fs (fs_of_token k before) fs) (is_open k before) both in released_true k rest before (h k (fs_from_test fs (fs_of_token k before) two.0) (open_from_test before k two.1)))
 closed_of fs before rest h _ = refl
 
 closed_true : (fs : ℕ) (before rest : List Obs) → ((token : ℕ) → fs_of_token token before ≡ Some fs → IsOpen before token → AllReleased before token rest) → list_all (is_closed fs before rest) before ≡ true
@@ -144,7 +145,7 @@ closed_true fs before rest h = all_each (is_closed fs before rest) before (close
 closed_from_test : (fs : ℕ) (before rest : List Obs) → list_all (is_closed fs before rest) before ≡ true → (token : ℕ) → fs_of_token token before ≡ Some fs → IsOpen before token → AllReleased before token rest
 closed_from_test fs before rest h = λ token e p.
     let here = all_at (is_closed fs before rest) p.before (Queued token p.attach p.packet) p.later (subst (λ (s : List Obs). list_all (is_closed fs before rest) s ≡ true) p.queued h) in
-    released_from_test token rest before (if_then (is_fs (fs_of_token token before) fs && is_open token before) (all_released before token rest) (and_of _ _ (is_fs_true fs (fs_of_token token before) e) (is_open_true before token p)) here)
+    released_from_test token rest before (if_then (is_fs (fs_of_token token before) fs && is_open token before) (all_released before token rest) (and_of_both _ _ (is_fs_true fs (fs_of_token token before) e) (is_open_true before token p)) here)
 
 -- rows
 
@@ -156,12 +157,12 @@ row_found front (o ∷ before) cause row token status h =
 
 pub row_true : (seen : List Obs) (token : ℕ) (status : Status) → EndsInRow seen token status → ends_in_row [] seen token status ≡ true
 row_true seen token status h =
-    subst (λ (s : List Obs). ends_in_row [] s token status ≡ true) (sym h.splits) (row_found [] h.before h.cause h.row token status (and_of _ _ (and_of _ _ (closes_true h.before token status h.cause h.closed) h.unbroken) (is_open_true h.before token h.was_open)))
+    subst (λ (s : List Obs). ends_in_row [] s token status ≡ true) (sym h.splits) (row_found [] h.before h.cause h.row token status (and_of_both _ _ (and_of_both _ _ (closes_true h.before token status h.cause h.closed) h.unbroken) (is_open_true h.before token h.was_open)))
 
 row_here : (front : List Obs) (o : Obs) (row : List Obs) (token : ℕ) (status : Status) → is_cause front o row token status ≡ true → EndsInRow (front ++ o ∷ row) token status
 row_here front o row token status h =
-    let both = and_both (closes_as token (fs_of_token token front) status o && list_all is_released row) (is_open token front) h in
-    let two = and_both (closes_as token (fs_of_token token front) status o) (list_all is_released row) both.0 in
+    let both = both_of_and (closes_as token (fs_of_token token front) status o && list_all is_released row) (is_open token front) h in
+    let two = both_of_and (closes_as token (fs_of_token token front) status o) (list_all is_released row) both.0 in
     record { before = front; cause = o; row = row; splits = refl; unbroken = two.1; closed = closes_from_test front token status o two.0; was_open = open_from_test front token both.1 }
 
 row_either : (front : List Obs) (o : Obs) (row : List Obs) (token : ℕ) (status : Status) (b : Bool) → is_cause front o row token status ≡ b → (ends_in_row (front ++ o ∷ []) row token status ≡ true → EndsInRow ((front ++ o ∷ []) ++ row) token status) → (b || ends_in_row (front ++ o ∷ []) row token status) ≡ true → EndsInRow (front ++ o ∷ row) token status
@@ -172,14 +173,14 @@ pub row_split : (front rest : List Obs) (token : ℕ) (status : Status) → ends
 row_split front [] token status h = absurd cc
 row_split front (o ∷ rest) token status h = row_either front o rest token status (is_cause front o rest token status) refl (row_split (front ++ o ∷ []) rest token status) h
 
-may_true : (before : List Obs) (walker token : ℕ) (status : Status) → MayBeReleased before walker token status → may_be_released before walker token status ≡ true
-may_true before walker token status h = and_of _ _ (and_of _ _ (waits_true walker token before h.waited) (not_of _ (once_test walker token before h.once))) (row_true before token status h.in_row)
+may_be_released_passes : (before : List Obs) (walker token : ℕ) (status : Status) → MayBeReleased before walker token status → may_be_released before walker token status ≡ true
+may_be_released_passes before walker token status h = and_of_both _ _ (and_of_both _ _ (waits_true walker token before h.waited) (not_where_false _ (once_test walker token before h.once))) (row_true before token status h.in_row)
 
 may_from_test : (before : List Obs) (walker token : ℕ) (status : Status) → may_be_released before walker token status ≡ true → MayBeReleased before walker token status
 may_from_test before walker token status h =
-    let both = and_both (list_any (waits walker token) before && not (list_any (releases walker token) before)) (ends_in_row [] before token status) h in
-    let two = and_both (list_any (waits walker token) before) (not (list_any (releases walker token) before)) both.0 in
-    record { in_row = row_split [] before token status both.1; waited = waits_from_test walker token before two.0; once = once_from_test walker token before (not_true _ two.1) }
+    let both = both_of_and (list_any (waits walker token) before && not (list_any (releases walker token) before)) (ends_in_row [] before token status) h in
+    let two = both_of_and (list_any (waits walker token) before) (not (list_any (releases walker token) before)) both.0 in
+    record { in_row = row_split [] before token status both.1; waited = waits_from_test walker token before two.0; once = once_from_test walker token before (false_where_not _ two.1) }
 
 -- mounts
 
@@ -187,56 +188,56 @@ unused_true : (before : List Obs) (mounts : List ℕ) → All (λ m. uses before
 unused_true before [] h = refl
 unused_true before (m ∷ mounts) h =
     let here = uses_zero (count_by (enters m) before) (count_by (leaves m) before) (All-head (λ m. uses before m ≡ pos 0) m mounts h) in
-    and_of (is_unused before m) _ (grind (arith, nat_tests, here)) (unused_true before mounts (All-tail (λ m. uses before m ≡ pos 0) m mounts h))
+    and_of_both (is_unused before m) _ (grind (arith, nat_tests, here)) (unused_true before mounts (All-tail (λ m. uses before m ≡ pos 0) m mounts h))
 
 unused_from_test : (before : List Obs) (mounts : List ℕ) → list_all (is_unused before) mounts ≡ true → All (λ m. uses before m ≡ pos 0) mounts
 unused_from_test before [] h = All-nil (λ m. uses before m ≡ pos 0)
 unused_from_test before (m ∷ mounts) h =
-    let both = and_both (is_unused before m) (list_all (is_unused before) mounts) h in
+    let both = both_of_and (is_unused before m) (list_all (is_unused before) mounts) h in
     let same : count_by (enters m) before ≡ count_by (leaves m) before = grind (arith, nat_tests, both.0) in
     All-cons (λ m. uses before m ≡ pos 0) m mounts (zero_uses _ _ same) (unused_from_test before mounts both.1)
 
 -- the laws
 
-pub at_true : (before : List Obs) (o : Obs) (rest : List Obs) → IsLawfulAt before o rest → is_lawful_at before o rest ≡ true
-at_true before (Queued token attach packet) rest h = not_of _ (never_queued_test token before h)
-at_true before (Waits walker token) rest h = is_open_true before token h
-at_true before (Answered token status) rest h = and_of _ _ (and_of _ _ (is_open_true before token h.0) (delivered_test token before h.1)) (released_true token rest before h.2)
-at_true before (Catatonic fs) rest h = closed_true fs before rest h
-at_true before (Released walker token status) rest h = may_true before walker token status h
-at_true before (Passed walker trigger) rest h = not_of _ (no_true (list_any (is_expiry before trigger) before) (λ e. h (expiring_from_test before trigger e)))
-at_true before (Unmounted mounts) rest h = unused_true before mounts h
-at_true before (Delivered token attach packet) rest h = and_of _ _ (since_true _ _ before (since_from_queued before token attach packet h.0)) (not_of _ (never_delivered_test token before h.1))
-at_true before _ rest h = refl
+pub lawful_at_passes : (before : List Obs) (o : Obs) (rest : List Obs) → IsLawfulAt before o rest → is_lawful_at before o rest ≡ true
+lawful_at_passes before (Queued token attach packet) rest h = not_where_false _ (never_queued_test token before h)
+lawful_at_passes before (Waits walker token) rest h = is_open_true before token h
+lawful_at_passes before (Answered token status) rest h = and_of_both _ _ (and_of_both _ _ (is_open_true before token h.0) (delivered_test token before h.1)) (released_true token rest before h.2)
+lawful_at_passes before (Catatonic fs) rest h = closed_true fs before rest h
+lawful_at_passes before (Released walker token status) rest h = may_be_released_passes before walker token status h
+lawful_at_passes before (Passed walker trigger) rest h = not_where_false _ (false_unless_true (list_any (is_expiry before trigger) before) (λ e. h (expiring_from_test before trigger e)))
+lawful_at_passes before (Unmounted mounts) rest h = unused_true before mounts h
+lawful_at_passes before (Delivered token attach packet) rest h = and_of_both _ _ (since_true _ _ before (since_from_queued before token attach packet h.0)) (not_where_false _ (never_delivered_test token before h.1))
+lawful_at_passes before _ rest h = refl
 
 pub at_from_test : (before : List Obs) (o : Obs) (rest : List Obs) → is_lawful_at before o rest ≡ true → IsLawfulAt before o rest
-at_from_test before (Queued token attach packet) rest h = never_queued_from_test token before (not_true _ h)
+at_from_test before (Queued token attach packet) rest h = never_queued_from_test token before (false_where_not _ h)
 at_from_test before (Waits walker token) rest h = open_from_test before token h
 at_from_test before (Answered token status) rest h =
-    let both = and_both (is_open token before && list_any (delivers token) before) (all_released before token rest) h in
-    let two = and_both (is_open token before) (list_any (delivers token) before) both.0 in
+    let both = both_of_and (is_open token before && list_any (delivers token) before) (all_released before token rest) h in
+    let two = both_of_and (is_open token before) (list_any (delivers token) before) both.0 in
     (open_from_test before token two.0, delivered_from_test token before two.1, released_from_test token rest before both.1)
 at_from_test before (Catatonic fs) rest h = closed_from_test fs before rest h
 at_from_test before (Released walker token status) rest h = may_from_test before walker token status h
-at_from_test before (Passed walker trigger) rest h = λ e. let yes = expiry_true before trigger e in let no = not_true (list_any (is_expiry before trigger) before) h in absurd cc
+at_from_test before (Passed walker trigger) rest h = λ e. let yes = expiry_true before trigger e in let no = false_where_not (list_any (is_expiry before trigger) before) h in absurd cc
 at_from_test before (Unmounted mounts) rest h = unused_from_test before mounts h
 at_from_test before (Delivered token attach packet) rest h =
-    let both = and_both (is_in_queue token attach packet before) (not (list_any (delivers token) before)) h in
-    (queued_from_since before token attach packet (has_since _ _ before both.0), never_delivered_from_test token before (not_true _ both.1))
+    let both = both_of_and (is_in_queue token attach packet before) (not (list_any (delivers token) before)) h in
+    (queued_from_since before token attach packet (has_since _ _ before both.0), never_delivered_from_test token before (false_where_not _ both.1))
 at_from_test before _ rest h = tt
 
-are_true : (before rest : List Obs) → AreLawful before rest → are_lawful before rest ≡ true
-are_true before [] h = refl
-are_true before (o ∷ rest) h = and_of (is_lawful_at before o rest) _ (at_true before o rest h.0) (are_true (before ++ o ∷ []) rest h.1)
+lawful_passes : (before rest : List Obs) → AreLawful before rest → are_lawful before rest ≡ true
+lawful_passes before [] h = refl
+lawful_passes before (o ∷ rest) h = and_of_both (is_lawful_at before o rest) _ (lawful_at_passes before o rest h.0) (lawful_passes (before ++ o ∷ []) rest h.1)
 
 are_from_test : (before rest : List Obs) → are_lawful before rest ≡ true → AreLawful before rest
 are_from_test before [] h = tt
 are_from_test before (o ∷ rest) h =
-    let both = and_both (is_lawful_at before o rest) (are_lawful (before ++ o ∷ []) rest) h in
+    let both = both_of_and (is_lawful_at before o rest) (are_lawful (before ++ o ∷ []) rest) h in
     (at_from_test before o rest both.0, are_from_test (before ++ o ∷ []) rest both.1)
 
 pub lawful_true : (trace : List Obs) → Lawful trace → are_lawful [] trace ≡ true
-lawful_true trace h = are_true [] trace (lawful_from_front trace h)
+lawful_true trace h = lawful_passes [] trace (lawful_from_front trace h)
 
 pub lawful_from_test : (trace : List Obs) → are_lawful [] trace ≡ true → Lawful trace
 lawful_from_test trace h = front_from_lawful trace (are_from_test [] trace h)

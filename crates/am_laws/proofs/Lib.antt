@@ -1,4 +1,3 @@
-pub mod Bools
 pub mod Packets
 pub mod Words
 pub mod Places

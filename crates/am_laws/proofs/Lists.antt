@@ -1,24 +1,64 @@
--- Lists that are split at a place, and the counting of `since` over two parts.
+-- Lists: what passes a test in them, how they are split at a place, and the counting of `since` over
+-- two parts.
 use Rattle.std.proofs.Common.{◌≡◌, Bool, true, false, List, [], ◌∷◌, ◌++◌, refl, sym, ap, subst, ◌∙◌, inl, inr}
 use Rattle.std.specs.Prelude.{◌⊎◌, ◌&&◌, ◌||◌, if◌then◌else◌}
-use Rattle.std.specs.List.{list_any, list_all}
+use Rattle.std.specs.List.{list_any, list_all, Contains}
+use Rattle.std.proofs.lemmas.List.Elements.{Contains-push, Contains-append_left, Contains-append_right}
+use Rattle.std.proofs.lemmas.List.Folds.{list_any_at}
+use Rattle.am_names.proofs.Basics.{or_left, or_right, or_neither, neither_of_or, and_of_both, both_of_and, false_unless_true}
 use Rattle.am_state.specs.declared.obs.Obs.{Obs}
 use Rattle.am_laws.specs.Tests.{HasNo, since}
-use Rattle.am_laws.proofs.Bools.{or_no, and_of}
+
+pub if_of : (c x : Bool) → (c ≡ true → x ≡ true) → (if c then x else true) ≡ true
+if_of true x h = h refl
+if_of false x h = refl
+
+pub if_then : (c x : Bool) → c ≡ true → (if c then x else true) ≡ true → x ≡ true
+if_then true x g h = h
+if_then false x g h = absurd cc
+
+-- ---- what passes a test
+
+pub any_at : {X : Type 0} (test : X → Bool) (before : List X) (x : X) (later : List X) → test x ≡ true → list_any test (before ++ x ∷ later) ≡ true
+any_at test [] x later h = or_left (test x) (list_any test later) h
+any_at test (y ∷ before) x later h = or_right (test y) (list_any test (before ++ x ∷ later)) (any_at test before x later h)
+
+any_first : {X : Type 0} (test : X → Bool) (x : X) (xs : List X) (b : Bool) → test x ≡ b → (list_any test xs ≡ true → (y : X) × Contains xs y × (test y ≡ true)) → (b || list_any test xs) ≡ true → (y : X) × Contains (x ∷ xs) y × (test y ≡ true)
+any_first test x xs true e later h = (x, Contains-append_left (x ∷ []) xs x (Contains-push [] x), e)
+any_first test x xs false e later h = let y = later h in (y.0, Contains-append_right (x ∷ []) xs y.0 y.1, y.2)
+
+pub any_some : {X : Type 0} (test : X → Bool) (xs : List X) → list_any test xs ≡ true → (x : X) × Contains xs x × (test x ≡ true)
+any_some test [] h = absurd cc
+any_some test (x ∷ xs) h = any_first test x xs (test x) refl (any_some test xs) h
+
+pub any_in : {X : Type 0} (test : X → Bool) (xs : List X) (x : X) → Contains xs x → test x ≡ true → list_any test xs ≡ true
+any_in test xs x c h = list_any_at test xs c.0 x c.1 (ap test c.2 ∙ h)
+
+pub any_none : {X : Type 0} (test : X → Bool) (xs : List X) → ((x : X) → test x ≡ true → ¬ Contains xs x) → list_any test xs ≡ false
+any_none test xs h = false_unless_true (list_any test xs) (λ e. let x = any_some test xs e in h x.0 x.2 x.1)
+
+pub none_in : {X : Type 0} (test : X → Bool) (xs : List X) → list_any test xs ≡ false → (x : X) → test x ≡ true → ¬ Contains xs x
+none_in test xs h x t = λ c. let yes = any_in test xs x c t in absurd cc
+
+pub all_each : {X : Type 0} (test : X → Bool) (xs : List X) → ((x : X) → test x ≡ true) → list_all test xs ≡ true
+all_each test [] h = refl
+all_each test (x ∷ xs) h = and_of_both (test x) (list_all test xs) (h x) (all_each test xs h)
+
+pub all_at : {X : Type 0} (test : X → Bool) (before : List X) (x : X) (later : List X) → list_all test (before ++ x ∷ later) ≡ true → test x ≡ true
+all_at test [] x later h = (both_of_and (test x) (list_all test later) h).0
+all_at test (y ∷ before) x later h = all_at test before x later (both_of_and (test y) (list_all test (before ++ x ∷ later)) h).1
+
+-- ---- lists that are split at a place
 
 pub all_split : {X : Type 0} (test : X → Bool) (xs : List X) → ((before : List X) (x : X) (later : List X) → xs ≡ before ++ x ∷ later → test x ≡ true) → list_all test xs ≡ true
 all_split test [] h = refl
 all_split test (x ∷ xs) h =
-    and_of (test x) (list_all test xs) (h [] x xs refl) (all_split test xs (λ before y later e. h (x ∷ before) y later (ap (λ ys. x ∷ ys) e)))
-
-both_no : (a b : Bool) → a ≡ false → b ≡ false → (a || b) ≡ false
-both_no true b g h = absurd cc
-both_no false b g h = h
+    and_of_both (test x) (list_all test xs) (h [] x xs refl) (all_split test xs (λ before y later e. h (x ∷ before) y later (ap (λ ys. x ∷ ys) e)))
 
 pub none_split : {X : Type 0} (test : X → Bool) (xs : List X) → ((before : List X) (x : X) (later : List X) → xs ≡ before ++ x ∷ later → test x ≡ false) → list_any test xs ≡ false
 none_split test [] h = refl
 none_split test (x ∷ xs) h =
-    both_no (test x) (list_any test xs) (h [] x xs refl) (none_split test xs (λ before y later e. h (x ∷ before) y later (ap (λ ys. x ∷ ys) e)))
+    or_neither (test x) (list_any test xs) (h [] x xs refl) (none_split test xs (λ before y later e. h (x ∷ before) y later (ap (λ ys. x ∷ ys) e)))
 
 pub all_same : {X : Type 0} (f g : X → Bool) → ((x : X) → f x ≡ g x) → (xs : List X) → list_all f xs ≡ list_all g xs
 all_same f g h [] = refl
@@ -51,7 +91,7 @@ at_end [] o (z ∷ y ∷ before) x later e = absurd cc
 at_end (y ∷ xs) o [] x later e = inr (xs, cc, cc)
 at_end (y ∷ xs) o (z ∷ before) x later e = at_end_more y xs o z before x later (head_same y z (xs ++ o ∷ []) (before ++ x ∷ later) e) (at_end xs o before x later (tail_same y z (xs ++ o ∷ []) (before ++ x ∷ later) e))
 
--- since
+-- ---- since
 
 pub since-append : (these those : Obs → Bool) (b : Bool) (xs ys : List Obs) → since these those b (xs ++ ys) ≡ since these those (since these those b xs) ys
 since-append these those b [] ys = refl
@@ -65,5 +105,5 @@ if_no false false h = refl
 pub since_no : (these those : Obs → Bool) (xs : List Obs) → HasNo these xs → since these those false xs ≡ false
 since_no these those [] h = refl
 since_no these those (o ∷ xs) h =
-    let no = or_no (these o) (list_any these xs) h in
+    let no = neither_of_or (these o) (list_any these xs) h in
     subst (λ (b : Bool). since these those b xs ≡ false) (sym (if_no (these o) (those o) no.0)) (since_no these those xs no.1)

@@ -7,6 +7,7 @@ use Rattle.std.proofs.lemmas.List.Folds.{list_all-append}
 use Rattle.am_state.specs.declared.obs.Obs.{Obs}
 use Rattle.am_state.specs.declared.obs.Obs.TheVariants.{Released}
 use Rattle.am_names.specs.declared.trigger.Status.{Status}
+use Rattle.am_names.proofs.Basics.{or_false}
 use Rattle.am_laws.specs.OneObservation.{closes_as, is_released}
 use Rattle.am_laws.specs.Counts.{fs_of_token}
 use Rattle.am_laws.specs.Tests.{is_open, is_cause, ends_in_row}
@@ -30,22 +31,18 @@ and_false : (a : Bool) → (a && (false && true)) ≡ false
 and_false true = refl
 and_false false = refl
 
-or_false : (a : Bool) → (a || false) ≡ a
-or_false true = refl
-or_false false = refl
-
 pub row_goes_on : (front seen : List Obs) (o : Obs) (token : ℕ) (status : Status) → is_released o ≡ true → ends_in_row front (seen ++ o ∷ []) token status ≡ ends_in_row front seen token status
 row_goes_on front [] o token status h = or_false (is_cause front o [] token status) ∙ no_cause front o [] token status (closes_not token (fs_of_token token front) status o h)
 row_goes_on front (x ∷ seen) o token status h =
     ap (λ (b : Bool). (closes_as token (fs_of_token token front) status x && b && is_open token front) || ends_in_row (front ++ x ∷ []) (seen ++ o ∷ []) token status) (row_of_more seen o true h ∙ and_true (list_all is_released seen))
     ∙ ap (λ (b : Bool). is_cause front x seen token status || b) (row_goes_on (front ++ x ∷ []) seen o token status h)
 
-cut_by : (a c : Bool) → (a && false && c) ≡ false
-cut_by true c = refl
-cut_by false c = refl
+cut_by_cases : (a c : Bool) → (a && false && c) ≡ false
+cut_by_cases true c = refl
+cut_by_cases false c = refl
 
 cut_cause : (front : List Obs) (x : Obs) (row : List Obs) (token : ℕ) (status : Status) → list_all is_released row ≡ false → is_cause front x row token status ≡ false
-cut_cause front x row token status h = ap (λ (b : Bool). closes_as token (fs_of_token token front) status x && b && is_open token front) h ∙ cut_by (closes_as token (fs_of_token token front) status x) (is_open token front)
+cut_cause front x row token status h = ap (λ (b : Bool). closes_as token (fs_of_token token front) status x && b && is_open token front) h ∙ cut_by_cases (closes_as token (fs_of_token token front) status x) (is_open token front)
 
 -- what is no Released is the only cause there can be
 pub row_begins : (front seen : List Obs) (o : Obs) (token : ℕ) (status : Status) → is_released o ≡ false → ends_in_row front (seen ++ o ∷ []) token status ≡ is_cause (front ++ seen) o [] token status

@@ -14,12 +14,13 @@ use Rattle.am_names.specs.declared.fail_no.FailNo.TheVariants.{ENOENT}
 use Rattle.am_names.proofs.FailNumbers.{fail_is}
 use Rattle.am_names.specs.declared.trigger.Status.{Status}
 use Rattle.am_names.specs.declared.trigger.Status.TheVariants.{Ready, Fail}
+use Rattle.am_names.proofs.Basics.{both_of_and, and_of_both, equal_to_itself}
 use Rattle.am_laws.specs.OneObservation.{queues, queues_as, closes, closes_as, unqueues, waits, delivers, releases, is_released, is_same_packet, is_same_status, is_no_entry_fail, is_fs}
 use Rattle.am_laws.specs.Counts.{fs_of_token, IsOpen, IsQueued, IsInRow}
 use Rattle.am_laws.specs.TraceLaws.{Closes}
 use Rattle.am_laws.specs.Tests.{HasSince, is_in_row}
-use Rattle.am_laws.proofs.Bools.{and_both, and_of, any_some, any_in, any_none, none_in}
-use Rattle.am_laws.proofs.Packets.{nat_same, packet_is, packet_same}
+use Rattle.am_laws.proofs.Packets.{packet_is, packet_same}
+use Rattle.am_laws.proofs.Lists.{any_some, any_in, any_none, none_in}
 
 -- one observation
 
@@ -44,7 +45,7 @@ status_is _ _ h = absurd cc
 
 status_same : (a : Status) → is_same_status a a ≡ true
 status_same Ready = refl
-status_same (Fail a) = nat_same (fail_number a)
+status_same (Fail a) = equal_to_itself (fail_number a)
 
 no_entry_is : (a : Status) → is_no_entry_fail a ≡ true → a ≡ Fail ENOENT
 no_entry_is (Fail ENOENT) h = refl
@@ -64,8 +65,8 @@ delivers_is token _ h = absurd cc
 
 pub queues_as_is : (token attach : ℕ) (packet : Packet) (o : Obs) → queues_as token attach packet o ≡ true → o ≡ Queued token attach packet
 queues_as_is token attach packet (Queued k a p) h =
-    let both = and_both (k == token && a == attach) (is_same_packet p packet) h in
-    let two = and_both (k == token) (a == attach) both.0 in
+    let both = both_of_and (k == token && a == attach) (is_same_packet p packet) h in
+    let two = both_of_and (k == token) (a == attach) both.0 in
     let t : k ≡ token = grind (arith, nat_tests, two.0) in
     let n : a ≡ attach = grind (arith, nat_tests, two.1) in
     let same : p ≡ packet = packet_is p packet both.1 in
@@ -73,12 +74,12 @@ queues_as_is token attach packet (Queued k a p) h =
 queues_as_is token attach packet _ h = absurd cc
 
 pub queues_as_same : (token attach : ℕ) (packet : Packet) → queues_as token attach packet (Queued token attach packet) ≡ true
-queues_as_same token attach packet = and_of _ _ (grind (arith, nat_tests)) (packet_same packet)
+queues_as_same token attach packet = and_of_both _ _ (grind (arith, nat_tests)) (packet_same packet)
 
 -- lists
 
 pub waits_true : (walker token : ℕ) (seen : List Obs) → Contains seen (Waits walker token) → list_any (waits walker token) seen ≡ true
-waits_true walker token seen c = any_in (waits walker token) seen (Waits walker token) c (and_of _ _ (nat_same walker) (nat_same token))
+waits_true walker token seen c = any_in (waits walker token) seen (Waits walker token) c (and_of_both _ _ (equal_to_itself walker) (equal_to_itself token))
 
 pub waits_from_test : (walker token : ℕ) (seen : List Obs) → list_any (waits walker token) seen ≡ true → Contains seen (Waits walker token)
 waits_from_test walker token seen h =
@@ -89,16 +90,16 @@ pub never_queued_test : (token : ℕ) (seen : List Obs) → ((a : ℕ) (p : Pack
 never_queued_test token seen h = any_none (queues token) seen (λ o t c. let is = queues_is token o t in h is.0 is.1 (subst (λ (x : Obs). Contains seen x) is.2 c))
 
 pub never_queued_from_test : (token : ℕ) (seen : List Obs) → list_any (queues token) seen ≡ false → (a : ℕ) (p : Packet) → ¬ Contains seen (Queued token a p)
-never_queued_from_test token seen h = λ a p. none_in (queues token) seen h (Queued token a p) (nat_same token)
+never_queued_from_test token seen h = λ a p. none_in (queues token) seen h (Queued token a p) (equal_to_itself token)
 
 pub never_delivered_test : (token : ℕ) (seen : List Obs) → ((a : ℕ) (p : Packet) → ¬ Contains seen (Delivered token a p)) → list_any (delivers token) seen ≡ false
 never_delivered_test token seen h = any_none (delivers token) seen (λ o t c. let is = delivers_is token o t in h is.0 is.1 (subst (λ (x : Obs). Contains seen x) is.2 c))
 
 pub never_delivered_from_test : (token : ℕ) (seen : List Obs) → list_any (delivers token) seen ≡ false → (a : ℕ) (p : Packet) → ¬ Contains seen (Delivered token a p)
-never_delivered_from_test token seen h = λ a p. none_in (delivers token) seen h (Delivered token a p) (nat_same token)
+never_delivered_from_test token seen h = λ a p. none_in (delivers token) seen h (Delivered token a p) (equal_to_itself token)
 
 pub delivered_test : (token : ℕ) (seen : List Obs) → ((a : ℕ) × (p : Packet) × Contains seen (Delivered token a p)) → list_any (delivers token) seen ≡ true
-delivered_test token seen h = any_in (delivers token) seen (Delivered token h.0 h.1) h.2 (nat_same token)
+delivered_test token seen h = any_in (delivers token) seen (Delivered token h.0 h.1) h.2 (equal_to_itself token)
 
 pub delivered_from_test : (token : ℕ) (seen : List Obs) → list_any (delivers token) seen ≡ true → (a : ℕ) × (p : Packet) × Contains seen (Delivered token a p)
 delivered_from_test token seen h =
@@ -110,7 +111,7 @@ pub once_test : (walker token : ℕ) (seen : List Obs) → ((s : Status) → ¬ 
 once_test walker token seen h = any_none (releases walker token) seen (λ o t c. let is = releases_is walker token o t in h is.0 (subst (λ (x : Obs). Contains seen x) is.1 c))
 
 pub once_from_test : (walker token : ℕ) (seen : List Obs) → list_any (releases walker token) seen ≡ false → (s : Status) → ¬ Contains seen (Released walker token s)
-once_from_test walker token seen h = λ s. none_in (releases walker token) seen h (Released walker token s) (and_of _ _ (nat_same walker) (nat_same token))
+once_from_test walker token seen h = λ s. none_in (releases walker token) seen h (Released walker token s) (and_of_both _ _ (equal_to_itself walker) (equal_to_itself token))
 
 -- open
 
@@ -125,7 +126,7 @@ since_from_open seen token h = record {
   this = Queued token h.attach h.packet;
   later = h.later;
   splits = h.queued;
-  is_one = nat_same token;
+  is_one = equal_to_itself token;
   none_later = any_none (closes token (fs_of_token token seen)) h.later (no_close token (fs_of_token token seen) h.later h.unanswered h.not_catatonic);
 }
 
@@ -138,7 +139,7 @@ open_from_since seen token h =
       packet = is.1;
       later = h.later;
       queued = h.splits ∙ ap (λ (o : Obs). h.before ++ o ∷ h.later) is.2;
-      unanswered = λ status. none_in (closes token (fs_of_token token seen)) h.later h.none_later (Answered token status) (nat_same token);
+      unanswered = λ status. none_in (closes token (fs_of_token token seen)) h.later h.none_later (Answered token status) (equal_to_itself token);
       not_catatonic = λ fs e. none_in (closes token (fs_of_token token seen)) h.later h.none_later (Catatonic fs) (is_fs_true fs (fs_of_token token seen) e);
     }
 
@@ -162,25 +163,25 @@ queued_from_since seen token attach packet h = record {
   before = h.before;
   later = h.later;
   queued = h.splits ∙ ap (λ (o : Obs). h.before ++ o ∷ h.later) (queues_as_is token attach packet h.this h.is_one);
-  undelivered = λ a p. none_in (unqueues token packet.dev) h.later h.none_later (Delivered token a p) (nat_same token);
-  not_catatonic = none_in (unqueues token packet.dev) h.later h.none_later (Catatonic packet.dev) (nat_same packet.dev);
+  undelivered = λ a p. none_in (unqueues token packet.dev) h.later h.none_later (Delivered token a p) (equal_to_itself token);
+  not_catatonic = none_in (unqueues token packet.dev) h.later h.none_later (Catatonic packet.dev) (equal_to_itself packet.dev);
 }
 
 -- closing
 
 pub closes_true : (before : List Obs) (token : ℕ) (status : Status) (cause : Obs) → Closes before token status cause → closes_as token (fs_of_token token before) status cause ≡ true
-closes_true before token status cause (inl e) = subst (λ (o : Obs). closes_as token (fs_of_token token before) status o ≡ true) (sym e) (and_of _ _ (nat_same token) (status_same status))
+closes_true before token status cause (inl e) = subst (λ (o : Obs). closes_as token (fs_of_token token before) status o ≡ true) (sym e) (and_of_both _ _ (equal_to_itself token) (status_same status))
 closes_true before token status cause (inr h) =
-    subst (λ (o : Obs). closes_as token (fs_of_token token before) status o ≡ true) (sym h.1) (and_of _ _ (is_fs_true h.0 (fs_of_token token before) h.2) (ap is_no_entry_fail h.3))
+    subst (λ (o : Obs). closes_as token (fs_of_token token before) status o ≡ true) (sym h.1) (and_of_both _ _ (is_fs_true h.0 (fs_of_token token before) h.2) (ap is_no_entry_fail h.3))
 
 pub closes_from_test : (before : List Obs) (token : ℕ) (status : Status) (cause : Obs) → closes_as token (fs_of_token token before) status cause ≡ true → Closes before token status cause
 closes_from_test before token status (Answered k s) h =
-    let both = and_both (k == token) (is_same_status s status) h in
+    let both = both_of_and (k == token) (is_same_status s status) h in
     let t : k ≡ token = grind (arith, nat_tests, both.0) in
     let same : s ≡ status = status_is s status both.1 in
     inl cc
 closes_from_test before token status (Catatonic f) h =
-    let both = and_both (is_fs (fs_of_token token before) f) (is_no_entry_fail status) h in
+    let both = both_of_and (is_fs (fs_of_token token before) f) (is_no_entry_fail status) h in
     inr (f, refl, fs_from_test f (fs_of_token token before) both.0, no_entry_is status both.1)
 closes_from_test before token status _ h = absurd cc
 
@@ -193,19 +194,19 @@ row_first false c d h later = later h
 row_found : (test : Obs → Bool) (row others : List Obs) → list_all is_released row ≡ true → list_any test row ≡ true → is_in_row test (row ++ others) ≡ true
 row_found test [] others a h = absurd cc
 row_found test (o ∷ row) others a h =
-    let both = and_both (is_released o) (list_all is_released row) a in
-    and_of (is_released o) _ both.0 (row_first (test o) (list_any test row) (is_in_row test (row ++ others)) h (row_found test row others both.1))
+    let both = both_of_and (is_released o) (list_all is_released row) a in
+    and_of_both (is_released o) _ both.0 (row_first (test o) (list_any test row) (is_in_row test (row ++ others)) h (row_found test row others both.1))
 
 pub in_row_true : (walker token : ℕ) (rest : List Obs) → IsInRow walker token rest → is_in_row (releases walker token) rest ≡ true
 in_row_true walker token rest h =
-    subst (λ (r : List Obs). is_in_row (releases walker token) r ≡ true) (sym h.splits) (row_found (releases walker token) h.row h.others h.unbroken (any_in (releases walker token) h.row (Released walker token h.status) h.is_in (and_of _ _ (nat_same walker) (nat_same token))))
+    subst (λ (r : List Obs). is_in_row (releases walker token) r ≡ true) (sym h.splits) (row_found (releases walker token) h.row h.others h.unbroken (any_in (releases walker token) h.row (Released walker token h.status) h.is_in (and_of_both _ _ (equal_to_itself walker) (equal_to_itself token))))
 
 in_row_later : (walker token : ℕ) (o : Obs) (rest : List Obs) → is_released o ≡ true → IsInRow walker token rest → IsInRow walker token (o ∷ rest)
 in_row_later walker token o rest r h = record {
   row = o ∷ h.row;
   others = h.others;
   splits = ap (λ (xs : List Obs). o ∷ xs) h.splits;
-  unbroken = and_of (is_released o) _ r h.unbroken;
+  unbroken = and_of_both (is_released o) _ r h.unbroken;
   status = h.status;
   is_in = Contains-append_right (o ∷ []) h.row (Released walker token h.status) h.is_in;
 }
@@ -213,13 +214,13 @@ in_row_later walker token o rest r h = record {
 in_row_here : (walker token : ℕ) (o : Obs) (rest : List Obs) (b : Bool) → releases walker token o ≡ b → is_released o ≡ true → (is_in_row (releases walker token) rest ≡ true → IsInRow walker token rest) → (b || is_in_row (releases walker token) rest) ≡ true → IsInRow walker token (o ∷ rest)
 in_row_here walker token o rest true e r later h =
     let is = releases_is walker token o e in
-    record { row = o ∷ []; others = rest; splits = refl; unbroken = and_of (is_released o) _ r refl; status = is.0; is_in = subst (λ (x : Obs). Contains (o ∷ []) x) is.1 (Contains-push [] o) }
+    record { row = o ∷ []; others = rest; splits = refl; unbroken = and_of_both (is_released o) _ r refl; status = is.0; is_in = subst (λ (x : Obs). Contains (o ∷ []) x) is.1 (Contains-push [] o) }
 in_row_here walker token o rest false e r later h = in_row_later walker token o rest r (later h)
 
 pub in_row_from_test : (walker token : ℕ) (rest : List Obs) → is_in_row (releases walker token) rest ≡ true → IsInRow walker token rest
 in_row_from_test walker token [] h = absurd cc
 in_row_from_test walker token (o ∷ rest) h =
-    let both = and_both (is_released o) (releases walker token o || is_in_row (releases walker token) rest) h in
+    let both = both_of_and (is_released o) (releases walker token o || is_in_row (releases walker token) rest) h in
     in_row_here walker token o rest (releases walker token o) refl both.0 (in_row_from_test walker token rest) both.1
 
 -- uses

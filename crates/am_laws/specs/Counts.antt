@@ -1,5 +1,5 @@
 -- What is counted over a trace alone. `seen` is what was seen before a place of the trace, the
--- oldest first.
+-- oldest first (own choice).
 use Rattle.std.specs.Prelude.{◌≡◌, ℕ, true, List, [], ◌∷◌, ◌++◌, Option, None, Some, ℤ, pos, ◌-ℤ◌}
 use Rattle.std.specs.List.{list_all, count_by, Contains}
 use Rattle.am_names.specs.declared.trigger.Trigger.{Trigger}
@@ -15,6 +15,7 @@ use Rattle.am_laws.specs.OneObservation.{trigger_of, is_released, packet_in, ent
 abbrev pub uses : List Obs → ℕ → ℤ
 uses seen mount = pos (count_by (enters mount) seen) -ℤ pos (count_by (leaves mount) seen)
 
+-- the first packet, where there is one, else the later
 abbrev pub first_of : Option Packet → Option Packet → Option Packet
 first_of None later = later
 first_of (Some packet) later = Some packet
@@ -24,6 +25,7 @@ abbrev pub packet_of : ℕ → List Obs → Option Packet
 packet_of token [] = None
 packet_of token (obs ∷ later) = first_of (packet_in token obs) (packet_of token later)
 
+-- the file system of a packet, where there is one
 abbrev pub dev_of : Option Packet → Option ℕ
 dev_of None = None
 dev_of (Some packet) = Some packet.dev
@@ -63,6 +65,7 @@ NeverQueued seen token = (a : ℕ) (p : Packet) → ¬ Contains seen (Queued tok
 abbrev pub WasDelivered : List Obs → ℕ → Type 0
 WasDelivered seen token = (a : ℕ) × (p : Packet) × Contains seen (Delivered token a p)
 
+-- no packet of the token was delivered
 abbrev pub NeverDelivered : List Obs → ℕ → Type 0
 NeverDelivered seen token = (a : ℕ) (p : Packet) → ¬ Contains seen (Delivered token a p)
 

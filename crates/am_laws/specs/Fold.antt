@@ -1,5 +1,5 @@
 -- How the laws are proved: they are told from the front of a trace on, one line an observation,
--- given what was seen before it and what follows.
+-- given what was seen before it and what follows (own choice).
 use Rattle.std.specs.Prelude.{◌≡◌, ℕ, Bool, false, List, [], ◌∷◌, ◌++◌, Some, pos}
 use Rattle.std.specs.List.{All}
 use Rattle.am_state.specs.declared.obs.Obs.{Obs}
@@ -34,6 +34,7 @@ abbrev pub AreLawful : List Obs → List Obs → Type 0
 AreLawful before [] = Unit {0}
 AreLawful before (o ∷ rest) = IsLawfulAt before o rest × AreLawful (before ++ o ∷ []) rest
 
+-- a Released stands first
 abbrev pub begins_with_released : List Obs → Bool
 begins_with_released [] = false
 begins_with_released (o ∷ rest) = is_released o

@@ -1,5 +1,5 @@
 -- How a trace is judged from its front: what is kept in mind of the part that was judged, so that
--- the next place is judged by what was seen lately.
+-- the next place is judged by what was seen lately (own choice).
 use Rattle.std.specs.Prelude.{◌≡◌, ◌≤◌, ℕ, Bool, true, false, not, nat_lt, List, ◌∷◌, ◌++◌, length, take, if◌then◌else◌}
 use Rattle.std.specs.List.{list_any, list_all}
 use Rattle.am_state.specs.declared.obs.Obs.{Obs}

@@ -1,4 +1,5 @@
--- Tests of one observation, and of what it holds.
+-- Tests of one observation, and of what it holds (packets: auto_fs.h, struct autofs_v5_packet; the
+-- observations are own choice).
 use Rattle.std.specs.Prelude.{ℕ, ◌==◌, Bool, true, false, ◌&&◌, List, Option, None, Some, if◌then◌else◌}
 use Rattle.std.specs.Str.{bytes_eq}
 use Rattle.am_names.specs.FailNo.{fail_number}
@@ -20,9 +21,11 @@ use Rattle.am_state.specs.declared.obs.Obs.TheVariants.{Queued, Waits, Answered,
 abbrev pub trigger_name : Packet → Option (List ℕ)
 trigger_name packet = if is_indirect packet.kind then Some packet.name else None
 
+-- the trigger that a packet is about: its file system, and its name
 abbrev pub trigger_of : Packet → Trigger
 trigger_of packet = record { fs = packet.dev; name = trigger_name packet }
 
+-- the token is one of an expiry
 abbrev pub is_expire : TokenKind → Bool
 is_expire Missing = false
 is_expire Expire = true

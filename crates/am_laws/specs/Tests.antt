@@ -1,4 +1,4 @@
--- The tests that decide the laws.
+-- The tests that decide the laws (own choice).
 use Rattle.std.specs.Prelude.{◌≡◌, ℕ, ◌==◌, Bool, true, false, ◌&&◌, ◌||◌, not, List, [], ◌∷◌, ◌++◌, Option, None, Some, if◌then◌else◌}
 use Rattle.std.specs.List.{list_any, list_all, count_by}
 use Rattle.am_state.specs.declared.obs.Obs.{Obs}
@@ -37,16 +37,20 @@ since these those b [] = b
 since these those b (o ∷ later) =
     since these those (if these o then true else if those o then false else b) later
 
+-- the token was queued, and then not closed (`IsOpen`)
 abbrev pub is_open : ℕ → List Obs → Bool
 is_open token seen = since (queues token) (closes token (fs_of_token token seen)) false seen
 
+-- the packet was queued, and has not left the queue since (`IsQueued`)
 abbrev pub is_in_queue : ℕ → ℕ → Packet → List Obs → Bool
 is_in_queue token attach packet seen =
     since (queues_as token attach packet) (unqueues token packet.dev) false seen
 
+-- the mount was entered as often as it was left
 abbrev pub is_unused : List Obs → ℕ → Bool
 is_unused seen mount = count_by (enters mount) seen == count_by (leaves mount) seen
 
+-- there is a packet, and it asks to expire the trigger (`AsksToExpire`)
 abbrev pub asks : Trigger → Option Packet → Bool
 asks trigger None = false
 asks trigger (Some packet) = expires trigger packet
@@ -57,6 +61,8 @@ is_expiry seen trigger (Queued token attach packet) =
     asks trigger (packet_of token seen) && is_open token seen
 is_expiry seen trigger _ = false
 
+-- the cause closes the token with this status, the row behind it is of Released alone, and the
+-- token was open
 abbrev pub is_cause : List Obs → Obs → List Obs → ℕ → Status → Bool
 is_cause before cause row token status =
     closes_as token (fs_of_token token before) status cause && list_all is_released row
@@ -68,6 +74,8 @@ ends_in_row before [] token status = false
 ends_in_row before (o ∷ rest) token status =
     is_cause before o rest token status || ends_in_row (before ++ o ∷ []) rest token status
 
+-- the walker waits on the token, was not released from it, and stands in the row of what closed
+-- it (`MayBeReleased`)
 abbrev pub may_be_released : List Obs → ℕ → ℕ → Status → Bool
 may_be_released before walker token status =
     list_any (waits walker token) before && not (list_any (releases walker token) before)
@@ -79,6 +87,7 @@ is_let_go token rest (Waits walker k) =
     if k == token then is_in_row (releases walker token) rest else true
 is_let_go token rest _ = true
 
+-- each walker that waits on the token is released in the row that follows (`AllReleased`)
 abbrev pub all_released : List Obs → ℕ → List Obs → Bool
 all_released before token rest = list_all (is_let_go token rest) before
 
@@ -90,6 +99,7 @@ is_closed fs before rest (Queued token attach packet) =
     else true
 is_closed fs before rest _ = true
 
+-- the test of one place, one line an observation (`IsLawfulAt`)
 abbrev pub is_lawful_at : List Obs → Obs → List Obs → Bool
 is_lawful_at before (Queued token attach packet) rest = not (list_any (queues token) before)
 is_lawful_at before (Waits walker token) rest = is_open token before
@@ -108,6 +118,7 @@ is_lawful_at before (Recorded trigger entry) rest = true
 is_lawful_at before (Reattached fs attach) rest = true
 is_lawful_at before Died rest = true
 
+-- each place of `rest` passes after `before` (`AreLawful`)
 abbrev pub are_lawful : List Obs → List Obs → Bool
 are_lawful before [] = true
 are_lawful before (o ∷ rest) = is_lawful_at before o rest && are_lawful (before ++ o ∷ []) rest

@@ -1,5 +1,6 @@
 -- The laws of a trace, by its places: wherever an observation stands, what must hold of those
--- before it and of those behind it.
+-- before it and of those behind it (autofs.rst, "Communicating with autofs: the event pipe",
+-- "Catatonic mode" and "Mountpoint expiry"; that they are said of a trace is own choice).
 use Rattle.std.specs.Prelude.{◌≡◌, ◌⊎◌, ℕ, true, List, ◌∷◌, ◌++◌, Some, pos}
 use Rattle.std.specs.List.{list_all, All, Contains}
 use Rattle.am_names.specs.declared.fail_no.FailNo.TheVariants.{ENOENT}

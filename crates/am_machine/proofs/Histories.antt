@@ -9,7 +9,7 @@ use Rattle.am_machine.specs.State.{Opening, State, opening_in, opening_of}
 use Rattle.am_machine.specs.History.{entry, entries, events_of, answers_of}
 use Rattle.am_machine.specs.Machine.{Step, Run, IsLegal, GoesOnBy}
 use Rattle.am_machine.proofs.Runs.{run_more}
-use Rattle.am_machine.proofs.SafetyLemmas.{step_lawful}
+use Rattle.am_machine.proofs.Consistent.{step_lawful}
 
 pub legal_begins : (opening : Opening) → IsLegal [] (opening_of opening)
 legal_begins opening = refl

@@ -10,7 +10,7 @@ use Rattle.am_machine.specs.Invariant.Places.{PlacesAgree}
 use Rattle.am_machine.specs.StepLaws.{StepsAreLawful, AddsNoReceivers, StepsAddNoReceivers, RunsGoOn}
 use Rattle.am_machine.proofs.Runs.{run_more}
 use Rattle.am_machine.proofs.Places.Changes.{outcome_receivers}
-use Rattle.am_machine.proofs.SafetyLemmas.{step_lawful, initial_consistent, run_consistent}
+use Rattle.am_machine.proofs.Consistent.{step_lawful, initial_consistent, run_consistent}
 
 pub steps_lawful : StepsAreLawful
 steps_lawful old event answer seen new step = step_lawful old event answer seen new step

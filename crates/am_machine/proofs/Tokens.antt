@@ -1,5 +1,10 @@
--- Kernel and daemon go on agreeing on numbers, tokens, plans and records.
-pub mod Agreed
+-- Kernel and jobs go on agreeing on tokens.
+pub mod Unchanged
+pub mod Catatonic
+pub mod Notify
+pub mod Names
+pub mod Jobs
+pub mod Deliver
+pub mod Acts
 pub mod Walks
 pub mod Changes
-pub mod Initial

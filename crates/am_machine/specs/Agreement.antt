@@ -1,4 +1,4 @@
--- What kernel and daemon agree on, of each file system that the daemon serves.
+-- What kernel and daemon agree on, of each file system that the daemon serves (own choice).
 use Rattle.std.specs.Prelude.{◌≡◌, ◌⊎◌, ◌<◌, ℕ, true, List, Some, None}
 use Rattle.am_names.specs.declared.trigger.Trigger.{Trigger}
 use Rattle.am_names.specs.declared.row.OpenToken.{OpenToken}

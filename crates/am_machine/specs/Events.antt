@@ -1,4 +1,4 @@
--- What each event comes to.
+-- What each event comes to (the files name their sources).
 pub mod Administration
 pub mod Walkers
 pub mod Deliveries

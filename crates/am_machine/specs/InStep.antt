@@ -1,4 +1,4 @@
--- Kernel and daemon are in step: what the one tells the other finds it ready.
+-- Kernel and daemon are in step: what the one tells the other finds it ready (own choice).
 use Rattle.std.specs.Prelude.{◌≡◌, ◌&&◌, ℕ, true, is_some, List, Option, Some}
 use Rattle.am_names.specs.declared.row.OpenToken.{OpenToken}
 use Rattle.am_names.specs.declared.row.TokenKind.TheVariants.{Missing}
@@ -27,6 +27,7 @@ abbrev pub IsNeverBusy : State → Type 0
 IsNeverBusy s = (token : ℕ) (row : QueuedRow) → queued_of s.kernel.queue token ≡ Some row →
     delivery_fault row.attach row.packet s.daemon ≡ Some Busy → ⊥
 
+-- what the one half is told it is ready for
 pub record AreInStep (s : State) : Type 0 where
   -- the daemon can read the name of each trigger that it is asked for
   pub named : (token : ℕ) (row : OpenToken) → token_of s.kernel.waits.tokens token ≡ Some row →
@@ -61,10 +62,12 @@ abbrev pub RunsAreInStep : Type 0
 RunsAreInStep = (opening : Opening) (events : List Event) (answers : List Answer) (s : State) →
     HavePaths events → Run (opening_of opening) events answers s → AreInStep s
 
+-- after every run from an initial world the daemon is free for each packet
 abbrev pub RunsAreNeverBusy : Type 0
 RunsAreNeverBusy = (opening : Opening) (events : List Event) (answers : List Answer) (s : State) →
     HavePaths events → Run (opening_of opening) events answers s → IsNeverBusy s
 
+-- after every run from an initial world some tests never fail
 abbrev pub RunsRefuseInStep : Type 0
 RunsRefuseInStep = (opening : Opening) (events : List Event) (answers : List Answer) (s : State) →
     HavePaths events → Run (opening_of opening) events answers s → RefusesInStep s

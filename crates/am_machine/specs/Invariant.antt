@@ -1,4 +1,4 @@
--- What every world keeps: its trace is lawful, and kernel and daemon agree.
+-- What every world keeps: its trace is lawful, and kernel and daemon agree (own choice).
 pub mod Traces
 pub mod Walks
 pub mod Attachments

@@ -1,4 +1,4 @@
--- The machine: its steps and its runs.
+-- The machine: its steps and its runs (own choice).
 use Rattle.std.specs.Prelude.{◌≡◌, ◌⊎◌, List, [], ◌∷◌, ◌++◌}
 use Rattle.am_names.specs.declared.errno.Errno.TheVariants.{NoMemory}
 use Rattle.am_state.specs.declared.obs.Obs.{Obs}
@@ -16,6 +16,7 @@ use Rattle.am_machine.specs.Events.Deliveries.{deliver_outcome}
 use Rattle.am_machine.specs.Events.Acts.{act_outcome}
 use Rattle.am_machine.specs.Events.Requests.{repeat_outcome, catatonic_outcome, admin_catatonic_outcome, timeout_outcome, die_outcome, reattach_outcome, record_outcome}
 
+-- what an event comes to, one line an event
 abbrev pub outcome_of : State → Event → Outcome
 outcome_of s (events.Attach path) = attach_outcome s path
 outcome_of s (events.Mount ns path) = mount_outcome s ns path

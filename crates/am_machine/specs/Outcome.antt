@@ -1,4 +1,4 @@
--- What an event comes to.
+-- What an event comes to (own choice).
 use Rattle.std.specs.Prelude.{List, [], Option, Some, None}
 use Rattle.am_names.specs.declared.errno.Errno.{Errno}
 use Rattle.am_state.specs.declared.obs.Obs.{Obs}

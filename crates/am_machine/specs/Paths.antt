@@ -5,6 +5,7 @@ use Rattle.am_names.specs.Name.{is_name}
 use Rattle.am_machine.specs.declared.event.Event.{Event}
 use Rattle.am_machine.specs.declared.event.Event.TheVariants as events
 
+-- each part of the path is a name
 abbrev pub IsPath : List (List ℕ) → Type 0
 IsPath path = list_all is_name path ≡ true
 
@@ -19,5 +20,6 @@ HasPaths (events.Kind ns path) = IsPath path
 HasPaths (events.Walk walker ns path now pipe) = IsPath path
 HasPaths _ = ⊤
 
+-- what these events have for paths are paths
 abbrev pub HavePaths : List Event → Type 0
 HavePaths events = All HasPaths events

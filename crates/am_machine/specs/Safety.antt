@@ -1,4 +1,4 @@
--- The safety theorem, said of the machine alone.
+-- The safety theorem, said of the machine alone (own choice).
 use Rattle.std.specs.Prelude.{List}
 use Rattle.am_laws.specs.TraceLaws.{Lawful}
 use Rattle.am_machine.specs.declared.event.Event.{Event}

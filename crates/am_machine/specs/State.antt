@@ -1,4 +1,4 @@
--- A world as a value.
+-- A world as a value (own choice).
 use Rattle.std.specs.Prelude.{List, []}
 use Rattle.am_names.specs.declared.limits.Limits.{Limits}
 use Rattle.am_map.specs.EntryText.{Row}
@@ -15,11 +15,13 @@ pub record Opening : Type 0 where
   pub master : List MasterRow
   pub maps : List (List Row)
 
+-- the kernel's half, the daemon's half, and what was observed, the oldest first
 pub record State : Type 0 where
   pub kernel : KernelState
   pub daemon : DaemonState
   pub trace : List Obs
 
+-- the limits that the kernel began with
 abbrev pub limits_in : KernelState → Limits
 limits_in k = record {
   mounts = k.table.limit;

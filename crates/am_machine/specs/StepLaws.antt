@@ -1,4 +1,5 @@
--- What each step keeps, and what it adds to the trace.
+-- What each step keeps, and what it adds to the trace (receivers: sharedsubtree.rst, 5a; the rest is
+-- own choice).
 use Rattle.std.specs.Prelude.{◌≡◌, ◌≤◌, ℕ, true, List, [], ◌∷◌, ◌++◌}
 use Rattle.std.specs.List.{count_by}
 use Rattle.am_state.specs.declared.obs.Obs.{Obs}
@@ -16,6 +17,7 @@ pub record IsLawful (old : State) (seen : List Obs) (new : State) : Type 0 where
   pub trace : new.trace ≡ old.trace ++ seen
   pub once : count_by is_queued seen ≤ 1
 
+-- every step keeps the opening, and adds what was seen to the trace
 abbrev pub StepsAreLawful : Type 0
 StepsAreLawful = (old : State) (event : Event) (answer : Answer) (seen : List Obs) (new : State) →
     Step old event answer seen new → IsLawful old seen new
@@ -27,6 +29,7 @@ AddsNoReceivers old new = (b c : ℕ) →
     is_mount old.kernel.table b ≡ true → is_mount old.kernel.table c ≡ true →
     Receives new.kernel.table.groups b c → Receives old.kernel.table.groups b c
 
+-- no step after a run from an initial world adds receivers
 abbrev pub StepsAddNoReceivers : Type 0
 StepsAddNoReceivers = (opening : Opening) (events : List Event) (answers : List Answer) (old : State) →
     Run (opening_of opening) events answers old →

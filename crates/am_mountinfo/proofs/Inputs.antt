@@ -3,7 +3,7 @@ use Rattle.std.proofs.Common.{◌≡◌, ℕ, List, length, Option, Some, None, 
 use Rattle.std.proofs.KnownBytes.{Appends-nil}
 use Rattle.std.specs.Io.KnownBytes.{Consumes, IsAtEnd}
 use Rattle.am_machine.specs.State.{State, Opening, opening_in, opening_of}
-use Rattle.am_machine.proofs.SafetyLemmas.{initial_consistent, run_consistent}
+use Rattle.am_machine.proofs.Consistent.{initial_consistent, run_consistent}
 use Rattle.am_script.specs.declared.fault.ScriptFault.{ScriptFault}
 use Rattle.am_script.specs.declared.fault.ScriptFaultKind.{ScriptFaultKind}
 use Rattle.am_script.specs.declared.play.Summary.{Summary}

@@ -11,6 +11,7 @@ use Rattle.am_names.specs.declared.errno.Errno.TheVariants as errnos
 use Rattle.am_names.specs.declared.trigger.Trigger.{Trigger}
 use Rattle.am_names.specs.declared.trigger.Status.{Status}
 use Rattle.am_names.specs.declared.row.OpenToken.{OpenToken}
+use Rattle.am_names.proofs.Basics.{equal_to_itself}
 use Rattle.am_map.specs.EntryText.{EntryText}
 use Rattle.am_state.specs.declared.daemon_row.Record.{Record}
 use Rattle.am_state.specs.declared.obs.Obs.{Obs}
@@ -34,7 +35,6 @@ use Rattle.am_daemon.specs.Attachments.{attach_held, holds}
 use Rattle.am_daemon.specs.Acts.{finished_in, finished}
 use Rattle.am_daemon.specs.Deliveries.{job_of}
 use Rattle.am_daemon.proofs.JobLemmas.{others_stay}
-use Rattle.am_laws.proofs.Packets.{nat_same}
 use Rattle.am_machine.specs.declared.event.Event.TheVariants as events
 use Rattle.am_machine.specs.declared.answer.Answer.{Answer}
 use Rattle.am_machine.specs.declared.answer.Answer.TheVariants as answers
@@ -76,29 +76,29 @@ pub record Does (s : State) (row : JobPlan) (a : Act) (o : Outcome) : Type 0 whe
   pub leaves : LeavesKernel a came row.token s.kernel made
 
 -- the second of two outcomes, where the test of the first fails
-where_not : (s : State) (row : JobPlan) (a : Act) (b : Bool) (first second : Outcome) → b ≡ true → Does s row a second → Does s row a (if not b then first else second)
-where_not s row a true first second e h = h
-where_not s row a false first second e h = absurd cc
+does_where_not_refused : (s : State) (row : JobPlan) (a : Act) (b : Bool) (first second : Outcome) → b ≡ true → Does s row a second → Does s row a (if not b then first else second)
+does_where_not_refused s row a true first second e h = h
+does_where_not_refused s row a false first second e h = absurd cc
 
 -- ---- directories
 
-indirect_by : (name : Option (List ℕ)) (direct : Bool) → (if direct then is_none name else is_some name) ≡ true → is_some name ≡ true → (not direct && is_some name) ≡ true
-indirect_by (Some name) true h some = absurd cc
-indirect_by None direct h some = absurd cc
-indirect_by (Some name) false h some = refl
+indirect_by_cases : (name : Option (List ℕ)) (direct : Bool) → (if direct then is_none name else is_some name) ≡ true → is_some name ≡ true → (not direct && is_some name) ≡ true
+indirect_by_cases (Some name) true h some = absurd cc
+indirect_by_cases None direct h some = absurd cc
+indirect_by_cases (Some name) false h some = refl
 
 indirect_of : (o : Option Autofs) (g : Trigger) → is_trigger_of o g ≡ true → is_some g.name ≡ true → names_directory o g ≡ true
 indirect_of None g h some = absurd cc
-indirect_of (Some row) g h some = indirect_by g.name row.direct h some
+indirect_of (Some row) g h some = indirect_by_cases g.name row.direct h some
 
-directory_by : (current indirect : Bool) → current ≡ true → indirect ≡ true → (if not current then Some errnos.EPERM else if not indirect then Some errnos.EINVAL else None) ≡ None
-directory_by true true c i = refl
-directory_by true false c i = absurd cc
-directory_by false indirect c i = absurd cc
+directory_by_cases : (current indirect : Bool) → current ≡ true → indirect ≡ true → (if not current then Some errnos.EPERM else if not indirect then Some errnos.EINVAL else None) ≡ None
+directory_by_cases true true c i = refl
+directory_by_cases true false c i = absurd cc
+directory_by_cases false indirect c i = absurd cc
 
 directory_fine : (s : State) (number : ℕ) (row : JobPlan) → Acting s number row → is_some row.trigger.name ≡ true → directory_refusal s.kernel row.attach row.trigger ≡ None
 directory_fine s number row w named =
-    directory_by (is_current s.kernel row.trigger.fs row.attach) (is_indirect s.kernel row.trigger) (its_current s number row w)
+    directory_by_cases (is_current s.kernel row.trigger.fs row.attach) (is_indirect s.kernel row.trigger) (its_current s number row w)
     (indirect_of (triggers.autofs_of s.kernel.triggers row.trigger.fs) row.trigger (its_site s number row w) named)
 
 plainly : (s : State) (row : JobPlan) (a : Act) (outcome : outcomes.Outcome) (answer : Answer) (shown : List Obs) (made : KernelState) → TellsOf a outcome answer → made.waits ≡ waits_after a row.token s.kernel.waits → ((fs : ℕ) → attach_of made fs ≡ attach_of s.kernel fs) → LeavesKernel a outcome row.token s.kernel made →
@@ -145,7 +145,7 @@ mount_tried None s row g entry = mount_by (mount_on_refusal s.kernel row.attach 
 
 mount : (s : State) (number : ℕ) (row : JobPlan) (entry : EntryText) (failure : Option FailNo) → Acting s number row → Does s row (act.Mount row.trigger entry) (acts.mount_act s row row.trigger failure)
 mount s number row entry failure w =
-    where_not s row (act.Mount row.trigger entry) (is_current s.kernel row.trigger.fs row.attach) _ _ (its_current s number row w)
+    does_where_not_refused s row (act.Mount row.trigger entry) (is_current s.kernel row.trigger.fs row.attach) _ _ (its_current s number row w)
     (mount_tried failure s row row.trigger entry)
 
 umount_fails : (s : State) (row : JobPlan) (g : Trigger) (error : FailNo) → Does s row (act.Umount g) (acts.umount_fails s row error)
@@ -161,14 +161,14 @@ umount_tried None s row g = umount_by (umount_from_refusal s.kernel row.attach g
 
 umount : (s : State) (number : ℕ) (row : JobPlan) (failure : Option FailNo) → Acting s number row → Does s row (act.Umount row.trigger) (acts.umount_act s row row.trigger failure)
 umount s number row failure w =
-    where_not s row (act.Umount row.trigger) (is_current s.kernel row.trigger.fs row.attach) _ _ (its_current s number row w)
+    does_where_not_refused s row (act.Umount row.trigger) (is_current s.kernel row.trigger.fs row.attach) _ _ (its_current s number row w)
     (umount_tried failure s row row.trigger)
 
 -- ---- the book, and the reply
 
 writes : (s : State) (number : ℕ) (row : JobPlan) (g : Trigger) (entry : Option Record) → Acting s number row → Does s row (act.Record g entry) (acts.record_act s row g entry)
 writes s number row g entry w =
-    where_not s row (act.Record g entry) (holds s.daemon row.trigger.fs row.attach) _ _ w.held
+    does_where_not_refused s row (act.Record g entry) (holds s.daemon row.trigger.fs row.attach) _ _ w.held
     (plainly s row (act.Record g entry) came.Done answers.DidRecord _ s.kernel (refl, refl) refl (λ fs. refl) refl)
 
 reply_fine : (s : State) (number : ℕ) (row : JobPlan) → Acting s number row → answer_refusal s.kernel row.attach row.token ≡ None
@@ -179,7 +179,7 @@ reply_fine s number row w =
     let of_fs : token_fs k row.token ≡ Some fs = ap (option_map (λ (r : OpenToken). r.trigger.fs)) token.is_open ∙ ap (λ (n : ℕ). Some n) (sym token.fs) in
     ap (λ (o : Option ℕ). answer_tests o k row.token) (fs_of_current k fs row.attach w.world.holds.kernel.attaches (its_current s number row w))
     ∙ ap (λ (o : Option ℕ). if is_number o fs then None else Some errnos.EINVAL) of_fs
-    ∙ ap (λ (b : Bool). if b then None else Some errnos.EINVAL) (nat_same fs)
+    ∙ ap (λ (b : Bool). if b then None else Some errnos.EINVAL) (equal_to_itself fs)
 
 replies : (s : State) (number : ℕ) (row : JobPlan) (status : Status) → Acting s number row → Does s row (act.Reply status) (acts.reply_by (answer_refusal s.kernel row.attach row.token) s row status)
 replies s number row status w =

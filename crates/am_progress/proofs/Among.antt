@@ -5,6 +5,7 @@ use Rattle.std.specs.List.{list_any}
 use Rattle.am_names.specs.declared.fail_no.FailNo.{FailNo}
 use Rattle.am_names.specs.declared.trigger.Trigger.{Trigger}
 use Rattle.am_names.specs.declared.row.OpenToken.{OpenToken}
+use Rattle.am_names.proofs.Basics.{neither_of_or, equal_to_itself, some_injective, value_where_some}
 use Rattle.am_wait.specs.Rows.{WaitRows, token_of}
 use Rattle.am_wait.proofs.FindLemmas.{token_taken}
 use Rattle.am_state.specs.declared.kernel_row.QueuedRow.{QueuedRow}
@@ -18,30 +19,26 @@ use Rattle.am_daemon.specs.Acts.{walked}
 use Rattle.am_daemon.specs.Deliveries.{job_of}
 use Rattle.am_laws.specs.OneObservation.{queues}
 use Rattle.am_laws.specs.Tests.{Has}
-use Rattle.am_laws.proofs.Bools.{or_no}
-use Rattle.am_laws.proofs.Late.{in_part}
-use Rattle.am_laws.proofs.Packets.{nat_same}
+use Rattle.am_laws.proofs.Late.{queued_in_part}
 use Rattle.am_machine.specs.declared.event.Event.{Event}
 use Rattle.am_machine.specs.declared.event.Event.TheVariants as events
 use Rattle.am_machine.specs.declared.answer.Answer.{Answer}
 use Rattle.am_machine.specs.State.{State}
 use Rattle.am_machine.specs.Machine.{Run}
 use Rattle.am_machine.specs.Invariant.Books.{IsServed}
-use Rattle.am_machine.proofs.TraceRows.{some_is}
-use Rattle.am_machine.proofs.GivenPlans.{acknowledges}
-use Rattle.am_machine.proofs.TokenLists.{all_found}
-use Rattle.am_machine.proofs.TokenClose.{token_number}
-use Rattle.am_machine.proofs.AgreeTokens.{in_pipe}
+use Rattle.am_machine.proofs.Planned.Acts.{acknowledges}
+use Rattle.am_machine.proofs.Lists.Different.{all_found}
+use Rattle.am_machine.proofs.Tokens.Catatonic.{token_number}
+use Rattle.am_machine.proofs.Agreement.Tokens.{in_pipe, queued_number}
 use Rattle.am_progress.specs.Runs.{IsDone, next}
 use Rattle.am_progress.specs.Acts.{HasActs}
 use Rattle.am_progress.specs.Others.{is_act_of, OthersAct, IsClosed, event_about, ClosesAmong, TokensCloseAmong, OpenTokensCloseAmongOthers}
 use Rattle.am_progress.proofs.Closed.{run_adds, was_queued, stays_closed, same_trigger_later}
-use Rattle.am_progress.proofs.Found.{queued_number, same_number}
 use Rattle.am_progress.proofs.Others.{jobs_stay}
 use Rattle.am_progress.proofs.Plans.{IsOfPlan, more_acts}
 use Rattle.am_progress.proofs.Jobs.{its_plan}
 use Rattle.am_progress.proofs.Acts.{waits_after, next_is}
-use Rattle.am_progress.proofs.Tokens.{Served, served_acts, its_act, act_done, act_world, act_waits, act_goes, no_act, fewer, takes_packet}
+use Rattle.am_progress.proofs.Tokens.{Served, served_acts, its_act, act_done, act_world, act_waits, act_goes, no_act, acts_left_are_fewer, takes_packet}
 use Rattle.am_progress.proofs.Worlds.{IsWorld, run_world, after_runs}
 
 -- ---- what others leave
@@ -49,7 +46,7 @@ use Rattle.am_progress.proofs.Worlds.{IsWorld, run_world, after_runs}
 run_jobs : (old : State) (events : List Event) (answers : List Answer) (new : State) → Run old events answers new → (job : ℕ) (row : JobPlan) → list_any (is_act_of job) events ≡ false → job_of old.daemon.jobs job ≡ Some row → job_of new.daemon.jobs job ≡ Some row
 run_jobs old [] [] new run job row others is = ap (λ (s : State). job_of s.daemon.jobs job) run ∙ is
 run_jobs old (event ∷ events) (answer ∷ answers) new run job row others is =
-    let both = or_no (is_act_of job event) (list_any (is_act_of job) events) others in
+    let both = neither_of_or (is_act_of job event) (list_any (is_act_of job) events) others in
     run_jobs run.0 events answers new run.3 job row both.1 (jobs_stay old event answer run.1 run.0 run.2 job row both.0 is)
 run_jobs old [] (answer ∷ answers) new run job row others is = absurd run
 run_jobs old (event ∷ events) [] new run job row others is = absurd run
@@ -72,7 +69,7 @@ module _ (fs attach token : ℕ) where
   queued_still : (s mid : State) → OthersAct fs attach token s mid → Has (queues token) s.trace → Has (queues token) mid.trace
   queued_still s mid o queued =
       let more = run_adds s o.events o.answers mid o.run in
-      subst (Has (queues token)) (sym more.1) (in_part token s.trace more.0 queued)
+      subst (Has (queues token)) (sym more.1) (queued_in_part token s.trace more.0 queued)
 
   world_still : (s mid : State) → OthersAct fs attach token s mid → IsWorld s → IsWorld mid
   world_still s mid o world = run_world s o.events o.answers mid o.run o.paths world
@@ -118,7 +115,7 @@ module _ (fs attach token : ℕ) where
   Leads most s event = IsDone s event × Goes most fs attach token (next s event)
 
   seen_still : (s : State) (event : Event) → Has (queues token) s.trace → Has (queues token) (next s event).trace
-  seen_still s event queued = in_part token s.trace _ queued
+  seen_still s event queued = queued_in_part token s.trace _ queued
 
   -- the job has one act less
   goes_job : (most : ℕ) (s : State) (row : JobPlan) (h : Served s fs attach token row s.kernel.waits) (failure : Option FailNo) (a : Act) (e : next_of row.plan ≡ Some a) → acknowledges a ≡ false → waits_after a token s.kernel.waits ≡ s.kernel.waits → Has (queues token) s.trace → HasActs (suc most) row.plan → Goes most fs attach token (next s (events.Act token failure))
@@ -128,25 +125,25 @@ module _ (fs attach token : ℕ) where
       record {
         world = left.world;
         queued = seen_still s (events.Act token failure) queued;
-        left = inr (record { row = walked d.came row; is_job = left.is_job; fs_is = left.fs_is; attach_is = left.attach_is; few = fewer s fs attach token most row.plan d.came few });
+        left = inr (record { row = walked d.came row; is_job = left.is_job; fs_is = left.fs_is; attach_is = left.attach_is; few = acts_left_are_fewer s fs attach token most row.plan d.came few });
       }
 
-  goes_by : (most : ℕ) (s : State) (row : JobPlan) (h : Served s fs attach token row s.kernel.waits) (failure : Option FailNo) (a : Act) → next_of row.plan ≡ Some a → Has (queues token) s.trace → HasActs (suc most) row.plan → Goes most fs attach token (next s (events.Act token failure))
-  goes_by most s row h failure (act.Reply status) e queued few = record {
+  goes_by_cases : (most : ℕ) (s : State) (row : JobPlan) (h : Served s fs attach token row s.kernel.waits) (failure : Option FailNo) (a : Act) → next_of row.plan ≡ Some a → Has (queues token) s.trace → HasActs (suc most) row.plan → Goes most fs attach token (next s (events.Act token failure))
+  goes_by_cases most s row h failure (act.Reply status) e queued few = record {
     world = act_world s fs attach token row s.kernel.waits h failure (act.Reply status) e;
     queued = seen_still s (events.Act token failure) queued;
-    left = inl (ap (λ (w : WaitRows). token_of w.tokens token) (act_waits s fs attach token row s.kernel.waits h failure (act.Reply status) e) ∙ token_taken token s.kernel.waits.tokens token true (nat_same token));
+    left = inl (ap (λ (w : WaitRows). token_of w.tokens token) (act_waits s fs attach token row s.kernel.waits h failure (act.Reply status) e) ∙ token_taken token s.kernel.waits.tokens token true (equal_to_itself token));
   }
-  goes_by most s row h failure (act.Mkdir t) e queued few = goes_job most s row h failure (act.Mkdir t) e refl refl queued few
-  goes_by most s row h failure (act.Mount t entry) e queued few = goes_job most s row h failure (act.Mount t entry) e refl refl queued few
-  goes_by most s row h failure (act.Umount t) e queued few = goes_job most s row h failure (act.Umount t) e refl refl queued few
-  goes_by most s row h failure (act.Rmdir t) e queued few = goes_job most s row h failure (act.Rmdir t) e refl refl queued few
-  goes_by most s row h failure (act.Record t entry) e queued few = goes_job most s row h failure (act.Record t entry) e refl refl queued few
+  goes_by_cases most s row h failure (act.Mkdir t) e queued few = goes_job most s row h failure (act.Mkdir t) e refl refl queued few
+  goes_by_cases most s row h failure (act.Mount t entry) e queued few = goes_job most s row h failure (act.Mount t entry) e refl refl queued few
+  goes_by_cases most s row h failure (act.Umount t) e queued few = goes_job most s row h failure (act.Umount t) e refl refl queued few
+  goes_by_cases most s row h failure (act.Rmdir t) e queued few = goes_job most s row h failure (act.Rmdir t) e refl refl queued few
+  goes_by_cases most s row h failure (act.Record t entry) e queued few = goes_job most s row h failure (act.Record t entry) e refl refl queued few
 
   acts_on : (most : ℕ) (s : State) (row : JobPlan) → Served s fs attach token row s.kernel.waits → (failure : Option FailNo) → Has (queues token) s.trace → HasActs (suc most) row.plan → Leads most s (events.Act token failure)
   acts_on most s row h failure queued few =
       let coming = next_is row.plan (its_plan s token row (served_acts s fs attach token row s.kernel.waits h)).last in
-      (act_done s fs attach token row s.kernel.waits h failure coming.0 coming.1, goes_by most s row h failure coming.0 coming.1 queued few)
+      (act_done s fs attach token row s.kernel.waits h failure coming.0 coming.1, goes_by_cases most s row h failure coming.0 coming.1 queued few)
 
   -- its event is that act
   is_act : (failure : Option FailNo) (s : State) → queued_of s.kernel.queue token ≡ None → event_about token failure s ≡ events.Act token failure
@@ -181,7 +178,7 @@ module _ (fs attach token : ℕ) where
   first mid world served queued row is same failure =
       ⊎_elim
       (λ waits.
-      let found = some_is (queued_of mid.kernel.queue token) waits in
+      let found = value_where_some (queued_of mid.kernel.queue token) waits in
       let t = takes_packet mid world fs attach served token row is same found.0 found.1 in
       subst (Leads 5 mid) (sym (is_delivery failure mid found.0 found.1)) (
         t.done,
@@ -193,22 +190,22 @@ module _ (fs attach token : ℕ) where
       ))
       (λ work.
       let taken : job_of mid.daemon.jobs token ≡ Some work.job = ap (job_of mid.daemon.jobs) (sym (token_number mid.kernel.waits.tokens token row is)) ∙ work.is_job in
-      let own : work.job.attach ≡ attach = same_number (sym work.current ∙ ap (attach_of mid.kernel) same ∙ served.current) in
+      let own : work.job.attach ≡ attach = some_injective (sym work.current ∙ ap (attach_of mid.kernel) same ∙ served.current) in
       let plan = all_found IsOfPlan (λ (r : JobPlan). r.token == token) mid.daemon.jobs work.job world.holds.plans taken in
       job_acts 5 mid world served queued (record { row = work.job; is_job = taken; fs_is = work.fs ∙ same; attach_is = own; few = more_acts 5 work.job.plan plan.few }) failure)
       (world.consistent.agreed.tokens.open_tokens token row is)
 
-  begins_by : (mid : State) (found : Option OpenToken) → token_of mid.kernel.waits.tokens token ≡ found → IsWorld mid → IsServed mid.kernel mid.daemon fs attach → Has (queues token) mid.trace → ((row : OpenToken) → token_of mid.kernel.waits.tokens token ≡ Some row → row.trigger.fs ≡ fs) →
+  begins_by_cases : (mid : State) (found : Option OpenToken) → token_of mid.kernel.waits.tokens token ≡ found → IsWorld mid → IsServed mid.kernel mid.daemon fs attach → Has (queues token) mid.trace → ((row : OpenToken) → token_of mid.kernel.waits.tokens token ≡ Some row → row.trigger.fs ≡ fs) →
       IsClosed token mid ⊎ ((failure : Option FailNo) → IsDone mid (event_about token failure mid) × ClosesAmong 5 fs attach token (next mid (event_about token failure mid)))
-  begins_by mid None is world served queued same = inl (is_closed mid world is)
-  begins_by mid (Some row) is world served queued same =
+  begins_by_cases mid None is world served queued same = inl (is_closed mid world is)
+  begins_by_cases mid (Some row) is world served queued same =
       inr (λ failure.
       let leads = first mid world served queued row is (same row is) failure in
       (leads.0, closes_among 5 (next mid (event_about token failure mid)) leads.1))
 
   begins : (s : State) → IsWorld s → Has (queues token) s.trace → ((mid : State) → OthersAct fs attach token s mid → (row : OpenToken) → token_of mid.kernel.waits.tokens token ≡ Some row → row.trigger.fs ≡ fs) → ClosesAmong 6 fs attach token s
   begins s world queued same = λ mid o.
-      begins_by mid (token_of mid.kernel.waits.tokens token) refl (world_still s mid o world) o.served (queued_still s mid o queued) (same mid o)
+      begins_by_cases mid (token_of mid.kernel.waits.tokens token) refl (world_still s mid o world) o.served (queued_still s mid o queued) (same mid o)
 
 tokens_close_among : (s : State) → IsWorld s → TokensCloseAmong s
 tokens_close_among s world fs attach served token row is same =

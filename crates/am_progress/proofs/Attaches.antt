@@ -4,15 +4,13 @@ use Rattle.std.specs.Prelude.{◌==◌, ◌&&◌, find, if◌then◌else◌}
 use Rattle.std.specs.Option.{option_map}
 use Rattle.std.specs.List.{All}
 use Rattle.std.proofs.lemmas.List.Elements.{All-nil, All-cons, All-head, All-tail, All-push, All-map, All-weaker}
+use Rattle.am_names.proofs.Basics.{both_of_and, equal_by_test, value_where_some, found_passes}
 use Rattle.am_kernel.specs.declared.row.Attached.{Attached}
 use Rattle.am_kernel.specs.State.{KernelState}
 use Rattle.am_kernel.specs.Sites.{is_live, is_attached_by, fs_of_attach, is_current}
-use Rattle.am_kernel.specs.Attachments.{reattached_row}
-use Rattle.am_laws.proofs.Bools.{and_both}
-use Rattle.am_laws.proofs.Packets.{nat_is}
-use Rattle.am_machine.proofs.TraceRows.{some_is, found_passes}
-use Rattle.am_machine.proofs.TokenLists.{all_found, found_none}
-use Rattle.am_machine.proofs.KnownRows.{any_found}
+use Rattle.am_kernel.specs.Attachments.{attached_row}
+use Rattle.am_machine.proofs.Lists.Different.{all_found, found_none}
+use Rattle.am_machine.proofs.Attachments.Known.{any_found}
 
 -- another row with the attachment is of the same file system
 abbrev pub IsOfOne : Attached → Attached → Type 0
@@ -42,18 +40,18 @@ one_same change (row ∷ rows) attach fs h = (
   one_same change rows attach fs h.1,
 )
 
-piped_by : (fs last : ℕ) (row other : Attached) (b c : Bool) → (row.fs == fs) ≡ b → (other.fs == fs) ≡ c → row.attach ≤ last → other.attach ≤ last → IsOfOne row other →
+piped_by_cases : (fs last : ℕ) (row other : Attached) (b c : Bool) → (row.fs == fs) ≡ b → (other.fs == fs) ≡ c → row.attach ≤ last → other.attach ≤ last → IsOfOne row other →
     (if c then record other { attach = last + 1 } else other).attach ≡ (if b then record row { attach = last + 1 } else row).attach → (if c then record other { attach = last + 1 } else other).fs ≡ (if b then record row { attach = last + 1 } else row).fs
-piped_by fs last row other true true is its low lower one same = nat_is other.fs fs its ∙ sym (nat_is row.fs fs is)
-piped_by fs last row other true false is its low lower one same = omega (arith, same, lower)
-piped_by fs last row other false true is its low lower one same = omega (arith, same, low)
-piped_by fs last row other false false is its low lower one same = one same
+piped_by_cases fs last row other true true is its low lower one same = equal_by_test other.fs fs its ∙ sym (equal_by_test row.fs fs is)
+piped_by_cases fs last row other true false is its low lower one same = omega (arith, same, lower)
+piped_by_cases fs last row other false true is its low lower one same = omega (arith, same, low)
+piped_by_cases fs last row other false false is its low lower one same = one same
 
 piped_all : (fs last : ℕ) (row : Attached) (rows : List Attached) → row.attach ≤ last → All (IsGiven last) rows → All (IsOfOne row) rows → All (IsOfOne (reattached_row fs (last + 1) row)) (map (reattached_row fs (last + 1)) rows)
 piped_all fs last row [] low given h = All-nil (IsOfOne (reattached_row fs (last + 1) row))
 piped_all fs last row (other ∷ rows) low given h =
-    All-cons (IsOfOne (reattached_row fs (last + 1) row)) (reattached_row fs (last + 1) other) (map (reattached_row fs (last + 1)) rows)
-    (λ same. piped_by fs last row other (row.fs == fs) (other.fs == fs) refl refl low (All-head (IsGiven last) other rows given) (All-head (IsOfOne row) other rows h) same)
+    All-cons (IsOfOne (attached_row fs (last + 1) row)) (attached_row fs (last + 1) other) (map (attached_row fs (last + 1)) rows)
+    (λ same. piped_by_cases fs last row other (row.fs == fs) (other.fs == fs) refl refl low (All-head (IsGiven last) other rows given) (All-head (IsOfOne row) other rows h) same)
     (piped_all fs last row rows low (All-tail (IsGiven last) other rows given) (All-tail (IsOfOne row) other rows h))
 
 -- one file system has a new attachment
@@ -65,31 +63,31 @@ one_piped fs last (row ∷ rows) h given =
 
 -- ---- what it is for
 
-same_by : (test : Attached → Bool) (x row : Attached) (rows : List Attached) (b : Bool) → All (IsOfOne x) rows → (find test rows ≡ Some row → All (IsOfOne row) rows) → (if b then Some x else find test rows) ≡ Some row → All (IsOfOne row) (x ∷ rows)
-same_by test x row rows true one later e =
+same_by_cases : (test : Attached → Bool) (x row : Attached) (rows : List Attached) (b : Bool) → All (IsOfOne x) rows → (find test rows ≡ Some row → All (IsOfOne row) rows) → (if b then Some x else find test rows) ≡ Some row → All (IsOfOne row) (x ∷ rows)
+same_by_cases test x row rows true one later e =
     let same : x ≡ row = cc in
     subst (λ (r : Attached). All (IsOfOne r) (x ∷ rows)) same (All-cons (IsOfOne x) x rows (λ e. refl) one)
-same_by test x row rows false one later e =
+same_by_cases test x row rows false one later e =
     All-cons (IsOfOne row) x rows (λ same. sym (all_found (IsOfOne x) test rows row one e (sym same))) (later e)
 
 -- all rows with the attachment of one that is found are of its file system
 all_same : (test : Attached → Bool) (rows : List Attached) (row : Attached) → AreOfOne rows → find test rows ≡ Some row → All (IsOfOne row) rows
 all_same test [] row h e = absurd cc
-all_same test (x ∷ rows) row h e = same_by test x row rows (test x) h.0 (all_same test rows row h.1) e
+all_same test (x ∷ rows) row h e = same_by_cases test x row rows (test x) h.0 (all_same test rows row h.1) e
 
-fs_by : (k : KernelState) (fs attach : ℕ) (row : Attached) (o : Option Attached) → find (λ (r : Attached). is_attached_by k attach r) k.attached ≡ o → (o ≡ None → ⊥) → row.fs ≡ fs → row.attach ≡ attach → All (IsOfOne row) k.attached → option_map (λ (r : Attached). r.fs) o ≡ Some fs
-fs_by k fs attach row None is some its own h = absurd (some refl)
-fs_by k fs attach row (Some other) is some its own h =
-    let passes = and_both (other.attach == attach) (is_live k other.fs) (found_passes (λ (r : Attached). is_attached_by k attach r) k.attached other is) in
-    ap (λ (n : ℕ). Some n) (all_found (IsOfOne row) (λ (r : Attached). is_attached_by k attach r) k.attached other h is (nat_is other.attach attach passes.0 ∙ sym own) ∙ its)
+fs_by_cases : (k : KernelState) (fs attach : ℕ) (row : Attached) (o : Option Attached) → find (λ (r : Attached). is_attached_by k attach r) k.attached ≡ o → (o ≡ None → ⊥) → row.fs ≡ fs → row.attach ≡ attach → All (IsOfOne row) k.attached → option_map (λ (r : Attached). r.fs) o ≡ Some fs
+fs_by_cases k fs attach row None is some its own h = absurd (some refl)
+fs_by_cases k fs attach row (Some other) is some its own h =
+    let passes = both_of_and (other.attach == attach) (is_live k other.fs) (found_passes (λ (r : Attached). is_attached_by k attach r) k.attached other is) in
+    ap (λ (n : ℕ). Some n) (all_found (IsOfOne row) (λ (r : Attached). is_attached_by k attach r) k.attached other h is (equal_by_test other.attach attach passes.0 ∙ sym own) ∙ its)
 
 -- the current attachment of a file system is of no other
 pub fs_of_current : (k : KernelState) (fs attach : ℕ) → AreOfOne k.attached → is_current k fs attach ≡ true → fs_of_attach k attach ≡ Some fs
 fs_of_current k fs attach h e =
     let test : Attached → Bool = λ row. row.fs == fs && is_attached_by k attach row in
-    let found = some_is (find test k.attached) (any_found test k.attached e) in
-    let passes = and_both (found.0.fs == fs) (is_attached_by k attach found.0) (found_passes test k.attached found.0 found.1) in
-    let lives = and_both (found.0.attach == attach) (is_live k found.0.fs) passes.1 in
-    fs_by k fs attach found.0 (find (λ (r : Attached). is_attached_by k attach r) k.attached) refl
+    let found = value_where_some (find test k.attached) (any_found test k.attached e) in
+    let passes = both_of_and (found.0.fs == fs) (is_attached_by k attach found.0) (found_passes test k.attached found.0 found.1) in
+    let lives = both_of_and (found.0.attach == attach) (is_live k found.0.fs) passes.1 in
+    fs_by_cases k fs attach found.0 (find (λ (r : Attached). is_attached_by k attach r) k.attached) refl
     (λ none. let no : is_attached_by k attach found.0 ≡ false = found_none (λ (r : Attached). is_attached_by k attach r) test k.attached found.0 none found.1 in let yes = passes.1 in absurd cc)
-    (nat_is found.0.fs fs passes.0) (nat_is found.0.attach attach lives.0) (all_same test k.attached found.0 h found.1)
+    (equal_by_test found.0.fs fs passes.0) (equal_by_test found.0.attach attach lives.0) (all_same test k.attached found.0 h found.1)

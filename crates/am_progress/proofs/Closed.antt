@@ -5,6 +5,7 @@ use Rattle.std.specs.Option.{option_map}
 use Rattle.std.specs.List.{list_any}
 use Rattle.std.proofs.lemmas.List.{append-nil}
 use Rattle.am_names.specs.declared.row.OpenToken.{OpenToken}
+use Rattle.am_names.proofs.Basics.{none_where_mapped_none, some_injective}
 use Rattle.am_wire.specs.declared.packet.Packet.{Packet}
 use Rattle.am_state.specs.declared.obs.Obs.{Obs}
 use Rattle.am_state.specs.declared.obs.Obs.TheVariants.{Queued}
@@ -15,16 +16,17 @@ use Rattle.am_laws.specs.Lately.{WereLawful}
 use Rattle.am_laws.specs.Tests.{Has, is_open, since}
 use Rattle.am_laws.specs.TraceLaws.{Lawful}
 use Rattle.am_laws.proofs.Decided.{open_from_test}
-use Rattle.am_laws.proofs.Late.{once, open_queued}
+use Rattle.am_laws.proofs.Late.{queued_once, open_queued}
 use Rattle.am_laws.proofs.Lists.{since-append, since_no}
 use Rattle.am_laws.proofs.Places.{at_place, lawful_from_front}
+use Rattle.am_laws.proofs.Grows.{packet_early}
 use Rattle.am_machine.specs.declared.event.Event.{Event}
 use Rattle.am_machine.specs.declared.answer.Answer.{Answer}
 use Rattle.am_machine.specs.State.{State}
 use Rattle.am_machine.specs.Machine.{Run}
 use Rattle.am_machine.specs.Invariant.Traces.{Asked, asked_in, asked_by}
 use Rattle.am_machine.specs.Invariant.Consistent.{IsTraced}
-use Rattle.am_machine.proofs.SafetyLemmas.{step_lawful}
+use Rattle.am_machine.proofs.Consistent.{step_lawful}
 
 -- ---- the trace of a run
 
@@ -50,15 +52,9 @@ packet_step token (Queued k attach packet) first later h = packet_if (k == token
 packet_step token o first later (inl h) = absurd cc
 packet_step token o first later (inr h) = h
 
-has_by : (token : ℕ) (o : Obs) (old more : List Obs) (b : Bool) → queues token o ≡ b → (Has (queues token) old → packet_of token (old ++ more) ≡ packet_of token old) → (b || list_any (queues token) old) ≡ true → (queues token o ≡ true) ⊎ (packet_of token (old ++ more) ≡ packet_of token old)
-has_by token o old more true is later h = inl is
-has_by token o old more false is later h = inr (later h)
-
--- its packet is the one that was queued first
-packet_stays : (token : ℕ) (old more : List Obs) → Has (queues token) old → packet_of token (old ++ more) ≡ packet_of token old
-packet_stays token [] more h = absurd cc
-packet_stays token (o ∷ old) more h =
-    packet_step token o (packet_of token old) (packet_of token (old ++ more)) (has_by token o old more (queues token o) refl (packet_stays token old more) h)
+has_by_cases : (token : ℕ) (o : Obs) (old more : List Obs) (b : Bool) → queues token o ≡ b → (Has (queues token) old → packet_of token (old ++ more) ≡ packet_of token old) → (b || list_any (queues token) old) ≡ true → (queues token o ≡ true) ⊎ (packet_of token (old ++ more) ≡ packet_of token old)
+has_by_cases token o old more true is later h = inl is
+has_by_cases token o old more false is later h = inr (later h)
 
 were_lawful : (trace : List Obs) → Lawful trace → WereLawful trace
 were_lawful trace h before o later e = (later, at_place [] trace before later o (lawful_from_front trace h) e)
@@ -68,16 +64,16 @@ trace_stays : (token : ℕ) (old more : List Obs) → Lawful (old ++ more) → H
 trace_stays token old more lawful queued shut =
     let these = queues token in
     let those = closes token (fs_of_token token old) in
-    ap (λ (fs : Option ℕ). since these (closes token fs) false (old ++ more)) (ap dev_of (packet_stays token old more queued))
+    ap (λ (fs : Option ℕ). since these (closes token fs) false (old ++ more)) (ap dev_of (packet_early token old more queued))
     ∙ since-append these those false old more
     ∙ ap (λ (b : Bool). since these those b more) shut
-    ∙ since_no these those more (once token old more (were_lawful (old ++ more) lawful) queued)
+    ∙ since_no these those more (queued_once token old more (were_lawful (old ++ more) lawful) queued)
 
 -- ---- the rows tell the same
 
-opened_by : (token : ℕ) (trace : List Obs) (b : Bool) → is_open token trace ≡ b → (if b then option_map asked_in (packet_of token trace) else None) ≡ None → Has (queues token) trace → (packet_of token trace ≡ None → ⊥) → b ≡ false
-opened_by token trace false is none queued has = refl
-opened_by token trace true is none queued has = absurd (has (unmapped (packet_of token trace) none))
+opened_by_cases : (token : ℕ) (trace : List Obs) (b : Bool) → is_open token trace ≡ b → (if b then option_map asked_in (packet_of token trace) else None) ≡ None → Has (queues token) trace → (packet_of token trace ≡ None → ⊥) → b ≡ false
+opened_by_cases token trace false is none queued has = refl
+opened_by_cases token trace true is none queued has = absurd (has (unmapped (packet_of token trace) none))
   where
     unmapped : (o : Option Packet) → option_map asked_in o ≡ None → o ≡ None
     unmapped None e = refl
@@ -95,17 +91,13 @@ behind_none : (o p : Option Packet) → first_of o p ≡ None → p ≡ None
 behind_none None p e = e
 behind_none (Some packet) p e = absurd cc
 
-has_packet_by : (token : ℕ) (o : Obs) (trace : List Obs) (b : Bool) → queues token o ≡ b → (Has (queues token) trace → packet_of token trace ≡ None → ⊥) → (b || list_any (queues token) trace) ≡ true → first_of (packet_in token o) (packet_of token trace) ≡ None → ⊥
-has_packet_by token o trace true is later h none = queues_some token o (packet_of token trace) is none
-has_packet_by token o trace false is later h none = later h (behind_none (packet_in token o) (packet_of token trace) none)
+has_packet_by_cases : (token : ℕ) (o : Obs) (trace : List Obs) (b : Bool) → queues token o ≡ b → (Has (queues token) trace → packet_of token trace ≡ None → ⊥) → (b || list_any (queues token) trace) ≡ true → first_of (packet_in token o) (packet_of token trace) ≡ None → ⊥
+has_packet_by_cases token o trace true is later h none = queues_some token o (packet_of token trace) is none
+has_packet_by_cases token o trace false is later h none = later h (behind_none (packet_in token o) (packet_of token trace) none)
 
 has_packet : (token : ℕ) (trace : List Obs) → Has (queues token) trace → packet_of token trace ≡ None → ⊥
 has_packet token [] h none = absurd cc
-has_packet token (o ∷ trace) h none = has_packet_by token o trace (queues token o) refl (has_packet token trace) h none
-
-mapped_none : (o : Option OpenToken) → option_map asked_by o ≡ None → o ≡ None
-mapped_none None e = refl
-mapped_none (Some row) e = absurd cc
+has_packet token (o ∷ trace) h none = has_packet_by_cases token o trace (queues token o) refl (has_packet token trace) h none
 
 -- an open token was queued
 pub was_queued : (s : State) (token : ℕ) (row : OpenToken) → IsTraced s → token_of s.kernel.waits.tokens token ≡ Some row → Has (queues token) s.trace
@@ -119,23 +111,20 @@ was_queued s token row h is =
 -- and once it is closed it stays so
 pub stays_closed : (old new : State) (token : ℕ) (more : List Obs) → IsTraced old → IsTraced new → new.trace ≡ old.trace ++ more → Has (queues token) old.trace → token_of old.kernel.waits.tokens token ≡ None → token_of new.kernel.waits.tokens token ≡ None
 stays_closed old new token more was now grows queued shut =
-    let before : is_open token old.trace ≡ false = opened_by token old.trace (is_open token old.trace) refl (was.fits.opens token ∙ ap (option_map asked_by) shut) queued (has_packet token old.trace queued) in
+    let before : is_open token old.trace ≡ false = opened_by_cases token old.trace (is_open token old.trace) refl (was.fits.opens token ∙ ap (option_map asked_by) shut) queued (has_packet token old.trace queued) in
     let after : is_open token new.trace ≡ false = ap (is_open token) grows ∙ trace_stays token old.trace more (subst Lawful grows now.lawful) queued before in
-    mapped_none (token_of new.kernel.waits.tokens token) (sym (now.fits.opens token) ∙ ap (λ (b : Bool). if b then option_map asked_in (packet_of token new.trace) else None) after)
+    none_where_mapped_none asked_by (token_of new.kernel.waits.tokens token) (sym (now.fits.opens token) ∙ ap (λ (b : Bool). if b then option_map asked_in (packet_of token new.trace) else None) after)
 
 -- ---- what an open token asks for stays
 
-asks_by : (b : Bool) (o : Option Packet) (asked : Asked) → (if b then option_map asked_in o else None) ≡ Some asked → option_map asked_in o ≡ Some asked
-asks_by true o asked e = e
-asks_by false o asked e = absurd cc
+asks_by_cases : (b : Bool) (o : Option Packet) (asked : Asked) → (if b then option_map asked_in o else None) ≡ Some asked → option_map asked_in o ≡ Some asked
+asks_by_cases true o asked e = e
+asks_by_cases false o asked e = absurd cc
 
 asks : (s : State) (token : ℕ) (row : OpenToken) → IsTraced s → token_of s.kernel.waits.tokens token ≡ Some row → option_map asked_in (packet_of token s.trace) ≡ Some (asked_by row)
-asks s token row h is = asks_by (is_open token s.trace) (packet_of token s.trace) (asked_by row) (h.fits.opens token ∙ ap (option_map asked_by) is)
-
-same_asked : {a b : Asked} → Some a ≡ Some b → a ≡ b
-same_asked e = cc
+asks s token row h is = asks_by_cases (is_open token s.trace) (packet_of token s.trace) (asked_by row) (h.fits.opens token ∙ ap (option_map asked_by) is)
 
 pub same_trigger_later : (old new : State) (token : ℕ) (more : List Obs) (a b : OpenToken) → IsTraced old → IsTraced new → new.trace ≡ old.trace ++ more → token_of old.kernel.waits.tokens token ≡ Some a → token_of new.kernel.waits.tokens token ≡ Some b → b.trigger ≡ a.trigger
 same_trigger_later old new token more a b was now grows is later =
-    let packets : packet_of token new.trace ≡ packet_of token old.trace = ap (packet_of token) grows ∙ packet_stays token old.trace more (was_queued old token a was is) in
-    ap (λ (asked : Asked). asked.trigger) (same_asked (sym (asks new token b now later) ∙ ap (option_map asked_in) packets ∙ asks old token a was is))
+    let packets : packet_of token new.trace ≡ packet_of token old.trace = ap (packet_of token) grows ∙ packet_early token old.trace more (was_queued old token a was is) in
+    ap (λ (asked : Asked). asked.trigger) (some_injective (sym (asks new token b now later) ∙ ap (option_map asked_in) packets ∙ asks old token a was is))

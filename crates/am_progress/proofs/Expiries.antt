@@ -9,6 +9,7 @@ use Rattle.am_names.specs.declared.trigger.Status.{Status}
 use Rattle.am_names.specs.declared.trigger.Status.TheVariants.{Ready, Fail}
 use Rattle.am_names.specs.declared.row.OpenToken.{OpenToken}
 use Rattle.am_names.proofs.SameTriggers.{is_itself}
+use Rattle.am_names.proofs.Basics.{equal_to_itself, false_unless_true}
 use Rattle.am_state.specs.declared.daemon_row.Record.{Record}
 use Rattle.am_state.specs.declared.daemon_row.Record.TheVariants.{Mounted}
 use Rattle.am_mount.specs.Rows.{top_of}
@@ -35,25 +36,25 @@ use Rattle.am_job.specs.Plans.{next_of, rest_of, claims, at_directory, reply, bo
 use Rattle.am_daemon.specs.State.{JobPlan}
 use Rattle.am_daemon.specs.Acts.{next_in, writes, writing_of, book_after, walked}
 use Rattle.am_daemon.specs.Packets.{is_pending, mounted_in}
-use Rattle.am_laws.proofs.Packets.{nat_same}
 use Rattle.am_machine.specs.declared.event.Event.TheVariants as events
 use Rattle.am_machine.specs.State.{State}
 use Rattle.am_machine.specs.Outcome.{Outcome}
 use Rattle.am_machine.specs.Machine.{after, outcome_of}
 use Rattle.am_machine.specs.Invariant.Planned.{has_record_left}
-use Rattle.am_machine.proofs.PlanRests.{umount_left}
+use Rattle.am_machine.proofs.Planned.Rests.{umount_left}
 use Rattle.am_machine.specs.Invariant.Books.{IsServed}
-use Rattle.am_machine.proofs.BookRecords.{recorded_is}
+use Rattle.am_machine.proofs.Books.Pending.{recorded_is}
+use Rattle.am_machine.proofs.Lists.Found.{some_unless}
 use Rattle.am_progress.specs.Runs.{next}
 use Rattle.am_progress.specs.Ways.{LeadsTo}
 use Rattle.am_progress.specs.Expiries.{IsAsFound, IsTrapAgain, EndsWell, ExpiriesEndWell, ExpiriesLeaveTrapOrMount}
 use Rattle.am_progress.proofs.Plans.{umount_whole}
-use Rattle.am_progress.proofs.SiteWalks.{IsSite}
+use Rattle.am_progress.proofs.Triggers.Walks.{IsSite}
 use Rattle.am_progress.proofs.Jobs.{its_acts, its_token, on_its_token, its_site, job_number}
 use Rattle.am_progress.proofs.Acts.{Does, LeavesKernel}
 use Rattle.am_progress.proofs.Tokens.{Served, served_acts, its_act, act_done, act_world, act_served, act_waits, act_goes}
 use Rattle.am_progress.proofs.Worlds.{IsWorld, after_runs}
-use Rattle.am_progress.proofs.Traps.{notifies, other_by, false_by, made_good}
+use Rattle.am_progress.proofs.Traps.{notifies, made_good}
 
 -- ---- what an act leaves of the book and of the kernel
 
@@ -91,8 +92,8 @@ module _ (s : State) (fs attach token : ℕ) (row : JobPlan) (w : WaitRows) (h :
   record_next : next_of row.plan ≡ Some (act.Record row.trigger entry)
   record_next = ap next_of plan
 
-  wrote : (failure : Option FailNo) → Wrote s fs attach token row w entry status (next s (events.Act token failure))
-  wrote failure =
+  record_is_written : (failure : Option FailNo) → Wrote s fs attach token row w entry status (next s (events.Act token failure))
+  record_is_written failure =
       let a = act.Record row.trigger entry in
       let d = its_act s fs attach token row w h failure a record_next in
       record {
@@ -115,7 +116,7 @@ module _ (s : State) (fs attach token : ℕ) (row : JobPlan) (w : WaitRows) (h :
   ends_as : (goal : State → Type 0) → ((mid : State) (m : Wrote s fs attach token row w entry status mid) (failure : Option FailNo) → goal (next mid (events.Act token failure))) → LeadsTo 2 token goal s
   ends_as goal finish =
       inr (λ failure.
-      let m = wrote failure in (
+      let m = record_is_written failure in (
         act_done s fs attach token row w h failure (act.Record row.trigger entry) record_next,
         inr (λ again. (act_done (next s (events.Act token failure)) fs attach token m.left w m.served again (act.Reply status) (ap next_of m.plan), finish (next s (events.Act token failure)) m again)),
       ))
@@ -129,7 +130,7 @@ module _ (s : State) (fs attach token : ℕ) (row : JobPlan) (w : WaitRows) (h :
   reply_waits = act_waits s fs attach token row w h failure (act.Reply status) reply_next
 
   reply_closes : token_of (next s (events.Act token failure)).kernel.waits.tokens token ≡ None
-  reply_closes = ap (λ (v : WaitRows). token_of v.tokens token) reply_waits ∙ token_taken token w.tokens token true (nat_same token)
+  reply_closes = ap (λ (v : WaitRows). token_of v.tokens token) reply_waits ∙ token_taken token w.tokens token true (equal_to_itself token)
 
   reply_kernel : (next s (events.Act token failure)).kernel ≡ acknowledged row.token status s.kernel
   reply_kernel = act_kernel s fs attach token row w h failure (act.Reply status) reply_next ∙ (its_act s fs attach token row w h failure (act.Reply status) reply_next).leaves
@@ -147,8 +148,8 @@ module _ (s : State) (fs attach token : ℕ) (row : JobPlan) (w : WaitRows) (h :
 
 -- the world in which the job was about to unmount, and the one in which its unmount has failed
 module _ (old s : State) (fs attach token : ℕ) (row : JobPlan) (h : Served s fs attach token row old.kernel.waits) (mount : ℕ) (error : FailNo) (plan : row.plan ≡ after_failed_umount row.trigger mount error) (kernel : s.kernel ≡ old.kernel) (book : s.daemon.book ≡ old.daemon.book) (stood : mounted_on old.kernel row.trigger ≡ Some mount) where
-  as_found : LeadsTo 2 token (IsAsFound old token row.trigger mount) s
-  as_found =
+  leads_to_what_was_found : LeadsTo 2 token (IsAsFound old token row.trigger mount) s
+  leads_to_what_was_found =
       ends_as s fs attach token row old.kernel.waits h (Some (Mounted mount)) (Fail error) plan (IsAsFound old token row.trigger mount)
       (λ mid m failure.
       let new = next mid (events.Act token failure) in
@@ -170,18 +171,18 @@ module _ (old s : State) (fs attach token : ℕ) (row : JobPlan) (h : Served s f
 
 module _ (s : State) (fs attach token : ℕ) (row : JobPlan) (w : WaitRows) (h : Served s fs attach token row w) (failure : Option FailNo) (plan : row.plan ≡ reply Ready) (written : record_of s.daemon.book row.trigger ≡ None) where
   -- the job's token was the one on its trigger
-  off_by : (new : WaitRows) → new ≡ answered token Ready w → RiseBy (λ (r : OpenToken). r.token) 0 new.tokens → All (λ (r : OpenToken). same_trigger r.trigger row.trigger ≡ false) new.tokens
-  off_by new same rise =
+  off_by_cases : (new : WaitRows) → new ≡ answered token Ready w → RiseBy (λ (r : OpenToken). r.token) 0 new.tokens → All (λ (r : OpenToken). same_trigger r.trigger row.trigger ≡ false) new.tokens
+  off_by_cases new same rise =
       all_found (λ (r : OpenToken). same_trigger r.trigger row.trigger ≡ false) (λ (r : OpenToken). r.token) 0 new.tokens rise
       (λ r found.
       let acting = served_acts s fs attach token row w h in
       let its = its_token s token row acting in
-      let left = other_by (token == r.token) (token_of w.tokens r.token) r (sym (token_taken token w.tokens r.token (token == r.token) refl) ∙ sym (ap (λ (v : WaitRows). token_of v.tokens r.token) same) ∙ found) in
+      let left = some_unless (token == r.token) (token_of w.tokens r.token) r (sym (token_taken token w.tokens r.token (token == r.token) refl) ∙ sym (ap (λ (v : WaitRows). token_of v.tokens r.token) same) ∙ found) in
       let was : token_of s.kernel.waits.tokens r.token ≡ Some r = ap (λ (v : WaitRows). token_of v.tokens r.token) h.waits ∙ left.1 in
-      false_by (same_trigger r.trigger row.trigger)
+      false_unless_true (same_trigger r.trigger row.trigger)
       (λ both.
       let one : r.token ≡ row.token = h.world.consistent.agreed.tokens.once r.token row.token r its.token was its.is_open (subst (λ (g : Trigger). same_trigger r.trigger g ≡ true) (on_its_token s token row acting) both) in
-      let is : (token == r.token) ≡ true = subst (λ (n : ℕ). (token == n) ≡ true) (sym (one ∙ job_number s token row acting)) (nat_same token) in
+      let is : (token == r.token) ≡ true = subst (λ (n : ℕ). (token == n) ≡ true) (sym (one ∙ job_number s token row acting)) (equal_to_itself token) in
       let no = left.0 in
       absurd cc))
 
@@ -206,7 +207,7 @@ module _ (s : State) (fs attach token : ℕ) (row : JobPlan) (w : WaitRows) (h :
       subst (λ (k : KernelState). IsSite k.triggers row.trigger) (sym same) (its_site s token row (served_acts s fs attach token row w h)) in
       record {
         free = free;
-        notifies = notifies new world attach row.trigger current site (off_by new.kernel.waits (reply_waits s fs attach token row w h Ready plan failure) world.consistent.traced.fits.sound.tokens) free well;
+        notifies = notifies new world attach row.trigger current site (off_by_cases new.kernel.waits (reply_waits s fs attach token row w h Ready plan failure) world.consistent.traced.fits.sound.tokens) free well;
         attached = current;
         closed = reply_closes s fs attach token row w h Ready plan failure;
       }
@@ -224,11 +225,11 @@ written_trap s fs attach token row w h plan =
     subst (λ (g : Trigger). IsTrapAgain attach token g (next mid (events.Act token failure))) m.on
     (trap_again mid fs attach token m.left w m.served failure m.plan (ap (record_of mid.daemon.book) m.on ∙ m.written)))
 
-umounted_by : (name : Option (List ℕ)) (s : State) (fs attach token : ℕ) (row : JobPlan) (w : WaitRows) (h : Served s fs attach token row w) → row.trigger.name ≡ name → row.plan ≡ after_umount row.trigger → LeadsTo 3 token (IsTrapAgain attach token row.trigger) s
-umounted_by None s fs attach token row w h named plan =
+umounted_by_cases : (name : Option (List ℕ)) (s : State) (fs attach token : ℕ) (row : JobPlan) (w : WaitRows) (h : Served s fs attach token row w) → row.trigger.name ≡ name → row.plan ≡ after_umount row.trigger → LeadsTo 3 token (IsTrapAgain attach token row.trigger) s
+umounted_by_cases None s fs attach token row w h named plan =
     more_acts 2 token (IsTrapAgain attach token row.trigger) s
     (written_trap s fs attach token row w h (plan ∙ ap (λ (n : Option (List ℕ)). at_directory n (act.Rmdir row.trigger) (book_and_reply row.trigger None Ready)) named))
-umounted_by (Some name) s fs attach token row w h named plan =
+umounted_by_cases (Some name) s fs attach token row w h named plan =
     inr (λ failure.
     let here = plan ∙ ap (λ (n : Option (List ℕ)). at_directory n (act.Rmdir row.trigger) (book_and_reply row.trigger None Ready)) named in
     let e : next_of row.plan ≡ Some (act.Rmdir row.trigger) = ap next_of here in
@@ -267,12 +268,12 @@ module _ (s : State) (fs attach token mount : ℕ) (row : JobPlan) (h : Served s
       ⊎_elim
       (λ umounted. inr (
         answer_is ∙ umounted.1,
-        umounted_by row.trigger.name (next s (events.Act token failure)) fs attach token (walked its_umount.came row) s.kernel.waits then_left refl
+        umounted_by_cases row.trigger.name (next s (events.Act token failure)) fs attach token (walked its_umount.came row) s.kernel.waits then_left refl
             (ap (λ (o : outcomes.Outcome). rest_of o row.plan) umounted.0 ∙ ap (rest_of came.Done) plan),
       ))
       (λ failed. inl (
         answer_is ∙ failed.2,
-        as_found s (next s (events.Act token failure)) fs attach token (walked its_umount.came row) then_left mount failed.0
+        leads_to_what_was_found s (next s (events.Act token failure)) fs attach token (walked its_umount.came row) then_left mount failed.0
             (ap (λ (o : outcomes.Outcome). rest_of o row.plan) failed.1 ∙ ap (rest_of (came.Failed failed.0)) plan)
             (act_kernel s fs attach token row s.kernel.waits h failure (act.Umount row.trigger) umount_next ∙ leaves_kernel its_umount.came failed.0 its_umount.made failed.1 its_umount.leaves)
             (act_book s fs attach token row s.kernel.waits h failure (act.Umount row.trigger) umount_next)

@@ -2,25 +2,23 @@
 use Rattle.std.proofs.Common.{◌≡◌, ℕ, Bool, true, false, cond, List, [], ◌∷◌, map, Some, None, refl, sym, subst}
 use Rattle.std.specs.Prelude.{◌==◌, if◌then◌else◌}
 use Rattle.am_names.specs.declared.row.OpenToken.{OpenToken}
+use Rattle.am_names.proofs.Basics.{equal_by_test, found_passes}
 use Rattle.am_kernel.specs.Sites.{attach_of, is_current}
 use Rattle.am_job.specs.declared.act.Outcome as outcomes
 use Rattle.am_daemon.specs.State.{JobPlan}
 use Rattle.am_daemon.specs.Attachments.{holds}
 use Rattle.am_daemon.specs.Acts.{walked, is_ended, going, finished_in}
 use Rattle.am_daemon.specs.Deliveries.{job_of}
-use Rattle.am_laws.proofs.Packets.{nat_is}
 use Rattle.am_machine.specs.State.{State}
 use Rattle.am_machine.specs.Invariant.Traces.{has, AreDifferent}
 use Rattle.am_machine.specs.Invariant.Planned.{IsPlanned}
 use Rattle.am_machine.specs.Invariant.Tokens.{HasToken}
-use Rattle.am_machine.proofs.TraceRows.{found_passes}
-use Rattle.am_machine.proofs.TokenLists.{all_found}
-use Rattle.am_machine.proofs.GivenCurrent.{current_from_attach}
-use Rattle.am_machine.proofs.BookFound.{absent}
-use Rattle.am_machine.proofs.AgreeTokens.{token_named}
+use Rattle.am_machine.proofs.Lists.Different.{all_found}
+use Rattle.am_machine.proofs.Attachments.Current.{current_from_attach}
+use Rattle.am_machine.proofs.Lists.Found.{absent}
+use Rattle.am_machine.proofs.Agreement.Tokens.{token_named, token_at_work}
 use Rattle.am_progress.specs.Acts.{goes_on_as}
-use Rattle.am_progress.proofs.Found.{token_at_work}
-use Rattle.am_progress.proofs.SiteWalks.{IsSite}
+use Rattle.am_progress.proofs.Triggers.Walks.{IsSite}
 use Rattle.am_progress.proofs.Plans.{IsOfPlan}
 use Rattle.am_progress.proofs.Worlds.{IsWorld}
 
@@ -30,18 +28,18 @@ going_is : (job : ℕ) (outcome : outcomes.Outcome) (row : JobPlan) (jobs : List
 going_is job outcome row jobs true own none = none
 going_is job outcome row jobs false own none = rw own refl
 
-left_by : (job : ℕ) (outcome : outcomes.Outcome) (first row : JobPlan) (jobs : List JobPlan) (b : Bool) → (first.token == job) ≡ b → has first.token (map (λ (r : JobPlan). r.token) jobs) ≡ false →
+left_by_cases : (job : ℕ) (outcome : outcomes.Outcome) (first row : JobPlan) (jobs : List JobPlan) (b : Bool) → (first.token == job) ≡ b → has first.token (map (λ (r : JobPlan). r.token) jobs) ≡ false →
     (job_of jobs job ≡ Some row → job_of (finished_in job outcome jobs) job ≡ goes_on_as outcome row) → cond b (Some first) (job_of jobs job) ≡ Some row →
     job_of (if b then going (walked outcome first) jobs else first ∷ finished_in job outcome jobs) job ≡ goes_on_as outcome row
-left_by job outcome first row jobs true e apart later found =
+left_by_cases job outcome first row jobs true e apart later found =
     let same : first ≡ row = cc in
-    let none = subst (λ (n : ℕ). job_of jobs n ≡ None) (nat_is first.token job e) (absent (λ (r : JobPlan). r.token) first.token jobs apart) in
+    let none = subst (λ (n : ℕ). job_of jobs n ≡ None) (equal_by_test first.token job e) (absent (λ (r : JobPlan). r.token) first.token jobs apart) in
     subst (λ (r : JobPlan). job_of (going (walked outcome first) jobs) job ≡ goes_on_as outcome r) same (going_is job outcome first jobs (is_ended (walked outcome first)) e none)
-left_by job outcome first row jobs false e apart later found = rw e (later found)
+left_by_cases job outcome first row jobs false e apart later found = rw e (later found)
 
 pub left_is : (job : ℕ) (outcome : outcomes.Outcome) (row : JobPlan) (jobs : List JobPlan) → AreDifferent (map (λ (r : JobPlan). r.token) jobs) → job_of jobs job ≡ Some row → job_of (finished_in job outcome jobs) job ≡ goes_on_as outcome row
 left_is job outcome row [] differ e = absurd cc
-left_is job outcome row (first ∷ jobs) differ e = left_by job outcome first row jobs (first.token == job) refl differ.0 (left_is job outcome row jobs differ.1) e
+left_is job outcome row (first ∷ jobs) differ e = left_by_cases job outcome first row jobs (first.token == job) refl differ.0 (left_is job outcome row jobs differ.1) e
 
 -- ---- a job that acts
 
@@ -54,7 +52,7 @@ pub record Acting (s : State) (number : ℕ) (row : JobPlan) : Type 0 where
 
 module _ (s : State) (number : ℕ) (row : JobPlan) (w : Acting s number row) where
   pub job_number : row.token ≡ number
-  job_number = nat_is row.token number (found_passes (λ (r : JobPlan). r.token == number) s.daemon.jobs row w.is_job)
+  job_number = equal_by_test row.token number (found_passes (λ (r : JobPlan). r.token == number) s.daemon.jobs row w.is_job)
 
   pub its_plan : IsPlanned row
   its_plan = all_found IsPlanned (λ (r : JobPlan). r.token == number) s.daemon.jobs row w.world.consistent.agreed.planned w.is_job

@@ -1,10 +1,7 @@
 pub mod Attaches
 pub mod Found
-pub mod SiteWalks
-pub mod SiteRows
-pub mod SiteBegins
 pub mod Plans
-pub mod SiteEvents
+pub mod Triggers
 pub mod Worlds
 pub mod Packets
 pub mod Jobs
@@ -14,8 +11,6 @@ pub mod Tokens
 pub mod Walkers
 pub mod Traps
 pub mod Expiries
-pub mod Ends
-pub mod OtherActs
 pub mod Others
 pub mod Closed
 pub mod Among

@@ -200,19 +200,19 @@ job_of_plan attach packet d = record {
 walked_of_plan : (row : JobPlan) (outcome : Outcome) → IsOfPlan row → IsOfPlan (walked outcome row)
 walked_of_plan row outcome h = record { own = rest_own row.trigger row.plan outcome h.own; umounts = rest_umounts row.trigger row.plan outcome h.umounts; few = rest_acts 4 row.plan outcome h.few }
 
-going_by : (ended : Bool) (row : JobPlan) (jobs : List JobPlan) → IsOfPlan row → All IsOfPlan jobs → All IsOfPlan (if ended then jobs else row ∷ jobs)
-going_by true row jobs p h = h
-going_by false row jobs p h = All-cons IsOfPlan row jobs p h
+going_by_cases : (ended : Bool) (row : JobPlan) (jobs : List JobPlan) → IsOfPlan row → All IsOfPlan jobs → All IsOfPlan (if ended then jobs else row ∷ jobs)
+going_by_cases true row jobs p h = h
+going_by_cases false row jobs p h = All-cons IsOfPlan row jobs p h
 
-finished_by : (outcome : Outcome) (row : JobPlan) (jobs left : List JobPlan) (b : Bool) → IsOfPlan row → All IsOfPlan jobs → All IsOfPlan left → All IsOfPlan (if b then going (walked outcome row) jobs else row ∷ left)
-finished_by outcome row jobs left true p h later = going_by (is_ended (walked outcome row)) (walked outcome row) jobs (walked_of_plan row outcome p) h
-finished_by outcome row jobs left false p h later = All-cons IsOfPlan row left p later
+finished_by_cases : (outcome : Outcome) (row : JobPlan) (jobs left : List JobPlan) (b : Bool) → IsOfPlan row → All IsOfPlan jobs → All IsOfPlan left → All IsOfPlan (if b then going (walked outcome row) jobs else row ∷ left)
+finished_by_cases outcome row jobs left true p h later = going_by_cases (is_ended (walked outcome row)) (walked outcome row) jobs (walked_of_plan row outcome p) h
+finished_by_cases outcome row jobs left false p h later = All-cons IsOfPlan row left p later
 
 pub finished_of_plan : (job : ℕ) (outcome : Outcome) (jobs : List JobPlan) → All IsOfPlan jobs → All IsOfPlan (finished_in job outcome jobs)
 finished_of_plan job outcome [] h = All-nil IsOfPlan
 finished_of_plan job outcome (row ∷ jobs) h =
     let rest = All-tail IsOfPlan row jobs h in
-    finished_by outcome row jobs (finished_in job outcome jobs) (row.token == job) (All-head IsOfPlan row jobs h) rest (finished_of_plan job outcome jobs rest)
+    finished_by_cases outcome row jobs (finished_in job outcome jobs) (row.token == job) (All-head IsOfPlan row jobs h) rest (finished_of_plan job outcome jobs rest)
 
 pub taken_of_plan : (attach : ℕ) (packet : Packet) (d : DaemonState) → All IsOfPlan d.jobs → All IsOfPlan (d.jobs ++ job_for attach packet d ∷ [])
 taken_of_plan attach packet d h = All-push IsOfPlan d.jobs (job_for attach packet d) h (job_of_plan attach packet d)

@@ -5,6 +5,7 @@ use Rattle.am_names.specs.declared.fail_no.FailNo.{FailNo}
 use Rattle.am_names.specs.declared.trigger.Status.{Status}
 use Rattle.am_names.specs.declared.row.OpenToken.{OpenToken}
 use Rattle.am_names.specs.declared.row.WaitRow.{WaitRow}
+use Rattle.am_names.proofs.Basics.{equal_to_itself, some_injective, value_where_some}
 use Rattle.am_wait.specs.Rows.{WaitRows, token_of, wait_of}
 use Rattle.am_wait.specs.Calls.{answered, released_row}
 use Rattle.am_wait.proofs.FindLemmas.{token_taken}
@@ -19,7 +20,6 @@ use Rattle.am_job.specs.Laws.{AcknowledgesLast}
 use Rattle.am_daemon.specs.State.{JobPlan}
 use Rattle.am_daemon.specs.Acts.{walked}
 use Rattle.am_daemon.specs.Deliveries.{job_of, job_for}
-use Rattle.am_laws.proofs.Packets.{nat_same}
 use Rattle.am_machine.specs.declared.event.Event.TheVariants as events
 use Rattle.am_machine.specs.declared.answer.Answer.{Answer}
 use Rattle.am_machine.specs.State.{State}
@@ -27,17 +27,15 @@ use Rattle.am_machine.specs.Outcome.{Outcome}
 use Rattle.am_machine.specs.Machine.{after, outcome_of}
 use Rattle.am_machine.specs.Invariant.Tokens.{IsAtWork}
 use Rattle.am_machine.specs.Invariant.Books.{IsServed}
-use Rattle.am_machine.proofs.TraceRows.{some_is}
-use Rattle.am_machine.proofs.TokenLists.{all_found}
-use Rattle.am_machine.proofs.TokenClose.{token_number, dev_of}
-use Rattle.am_machine.proofs.GivenPlans.{acknowledges, goes_after}
-use Rattle.am_machine.proofs.BookFound.{find_new}
-use Rattle.am_machine.proofs.AgreeTokens.{in_pipe}
+use Rattle.am_machine.proofs.Lists.Different.{all_found}
+use Rattle.am_machine.proofs.Tokens.Catatonic.{token_number, dev_of}
+use Rattle.am_machine.proofs.Planned.Acts.{acknowledges, goes_after}
+use Rattle.am_machine.proofs.Lists.Found.{find_new}
+use Rattle.am_machine.proofs.Agreement.Tokens.{in_pipe, queued_number}
 use Rattle.am_progress.specs.Runs.{IsDone, is_refused, next}
 use Rattle.am_progress.specs.Acts.{TellsOf, HasActs, most_acts, goes_on_as}
 use Rattle.am_progress.specs.Ways.{LeadsTo, CanReach}
 use Rattle.am_progress.specs.Tokens.{HasReleased, TokensCanClose, OpenTokensCanBeClosed}
-use Rattle.am_progress.proofs.Found.{queued_number, same_number}
 use Rattle.am_progress.proofs.Plans.{IsOfPlan, packet_plan}
 use Rattle.am_progress.proofs.Packets.{taken}
 use Rattle.am_progress.proofs.Jobs.{Acting, its_plan, job_number}
@@ -109,14 +107,14 @@ module _ (s : State) (fs attach token : ℕ) (row : JobPlan) (w : WaitRows) (h :
 
 -- ---- the reply
 
-released_by : (walker token : ℕ) (status : Status) (x row : WaitRow) (rows : List WaitRow) (b : Bool) → (released_row token status x).walker ≡ x.walker → (x.walker == walker) ≡ b → row.token ≡ token →
+released_by_cases : (walker token : ℕ) (status : Status) (x row : WaitRow) (rows : List WaitRow) (b : Bool) → (released_row token status x).walker ≡ x.walker → (x.walker == walker) ≡ b → row.token ≡ token →
     (wait_of rows walker ≡ Some row → wait_of (map (released_row token status) rows) walker ≡ Some (record row { status = Some status })) →
     cond b (Some x) (wait_of rows walker) ≡ Some row → cond b (Some (released_row token status x)) (wait_of (map (released_row token status) rows) walker) ≡ Some (record row { status = Some status })
-released_by walker token status x row rows true same is on later e =
+released_by_cases walker token status x row rows true same is on later e =
     let its : x ≡ row = cc in
-    let here : (row.token == token) ≡ true = subst (λ (n : ℕ). (row.token == n) ≡ true) on (nat_same row.token) in
+    let here : (row.token == token) ≡ true = subst (λ (n : ℕ). (row.token == n) ≡ true) on (equal_to_itself row.token) in
     ap (λ (r : WaitRow). Some (released_row token status r)) its ∙ ap (λ (b : Bool). Some (if b then record row { status = Some status } else row)) here
-released_by walker token status x row rows false same is on later e = later e
+released_by_cases walker token status x row rows false same is on later e = later e
 
 released_walker : (b : Bool) (status : Status) (x : WaitRow) → (if b then record x { status = Some status } else x).walker ≡ x.walker
 released_walker true status x = refl
@@ -127,11 +125,11 @@ released_is walker token status [] row e on = absurd cc
 released_is walker token status (x ∷ rows) row e on =
     let same = released_walker (x.token == token) status x in
     ap (λ (n : ℕ). cond (n == walker) (Some (released_row token status x)) (wait_of (map (released_row token status) rows) walker)) same
-    ∙ released_by walker token status x row rows (x.walker == walker) same refl on (λ later. released_is walker token status rows row later on) e
+    ∙ released_by_cases walker token status x row rows (x.walker == walker) same refl on (λ later. released_is walker token status rows row later on) e
 
 answers_all : (old : State) (token : ℕ) (status : Status) (new : State) → new.kernel.waits ≡ answered token status old.kernel.waits → HasReleased old token new
 answers_all old token status new same = record {
-  closed = ap (λ (w : WaitRows). token_of w.tokens token) same ∙ token_taken token old.kernel.waits.tokens token true (nat_same token);
+  closed = ap (λ (w : WaitRows). token_of w.tokens token) same ∙ token_taken token old.kernel.waits.tokens token true (equal_to_itself token);
   status = status;
   released = λ walker row is on still. ap (λ (w : WaitRows). wait_of w.waits walker) same ∙ released_is walker token status old.kernel.waits.waits row is on;
 }
@@ -151,28 +149,28 @@ module _ (old : State) (fs attach token : ℕ) where
       none Ended last few = last
       none (Next a rest) last few = few
 
-  pub fewer : (most : ℕ) (plan : Plan) (outcome : outcomes.Outcome) → HasActs (suc most) plan → HasActs most (rest_of outcome plan)
-  fewer zero Ended outcome few = tt
-  fewer (suc most) Ended outcome few = tt
-  fewer most (Next a rest) outcome few = few outcome
+  pub acts_left_are_fewer : (most : ℕ) (plan : Plan) (outcome : outcomes.Outcome) → HasActs (suc most) plan → HasActs most (rest_of outcome plan)
+  acts_left_are_fewer zero Ended outcome few = tt
+  acts_left_are_fewer (suc most) Ended outcome few = tt
+  acts_left_are_fewer most (Next a rest) outcome few = few outcome
 
   by_act : (most : ℕ) (s : State) (row : JobPlan) (h : Served s fs attach token row old.kernel.waits) (failure : Option FailNo) (a : Act) → next_of row.plan ≡ Some a → HasActs (suc most) row.plan →
       ((new : State) (left : JobPlan) → Served new fs attach token left old.kernel.waits → HasActs most left.plan → LeadsTo most token (Answers old token) new) → LeadsTo most token (Answers old token) (next s (events.Act token failure))
   by_act most s row h failure (act.Mkdir t) e few later =
       let d = its_act s fs attach token row old.kernel.waits h failure (act.Mkdir t) e in
-      later _ (walked d.came row) (act_goes s fs attach token row old.kernel.waits h failure (act.Mkdir t) e refl refl) (fewer most row.plan d.came few)
+      later _ (walked d.came row) (act_goes s fs attach token row old.kernel.waits h failure (act.Mkdir t) e refl refl) (acts_left_are_fewer most row.plan d.came few)
   by_act most s row h failure (act.Mount t entry) e few later =
       let d = its_act s fs attach token row old.kernel.waits h failure (act.Mount t entry) e in
-      later _ (walked d.came row) (act_goes s fs attach token row old.kernel.waits h failure (act.Mount t entry) e refl refl) (fewer most row.plan d.came few)
+      later _ (walked d.came row) (act_goes s fs attach token row old.kernel.waits h failure (act.Mount t entry) e refl refl) (acts_left_are_fewer most row.plan d.came few)
   by_act most s row h failure (act.Umount t) e few later =
       let d = its_act s fs attach token row old.kernel.waits h failure (act.Umount t) e in
-      later _ (walked d.came row) (act_goes s fs attach token row old.kernel.waits h failure (act.Umount t) e refl refl) (fewer most row.plan d.came few)
+      later _ (walked d.came row) (act_goes s fs attach token row old.kernel.waits h failure (act.Umount t) e refl refl) (acts_left_are_fewer most row.plan d.came few)
   by_act most s row h failure (act.Rmdir t) e few later =
       let d = its_act s fs attach token row old.kernel.waits h failure (act.Rmdir t) e in
-      later _ (walked d.came row) (act_goes s fs attach token row old.kernel.waits h failure (act.Rmdir t) e refl refl) (fewer most row.plan d.came few)
+      later _ (walked d.came row) (act_goes s fs attach token row old.kernel.waits h failure (act.Rmdir t) e refl refl) (acts_left_are_fewer most row.plan d.came few)
   by_act most s row h failure (act.Record t entry) e few later =
       let d = its_act s fs attach token row old.kernel.waits h failure (act.Record t entry) e in
-      later _ (walked d.came row) (act_goes s fs attach token row old.kernel.waits h failure (act.Record t entry) e refl refl) (fewer most row.plan d.came few)
+      later _ (walked d.came row) (act_goes s fs attach token row old.kernel.waits h failure (act.Record t entry) e refl refl) (acts_left_are_fewer most row.plan d.came few)
   by_act most s row h failure (act.Reply status) e few later =
       let there = next s (events.Act token failure) in
       arrived most token (Answers old token) there (record {
@@ -203,11 +201,11 @@ takes_packet s world fs attach served token row is same queued in_queue =
     let number : queued.token ≡ token = queued_number s.kernel token queued in_queue in
     let one : pipe.token ≡ row = (let found : Some pipe.token ≡ Some row = sym pipe.is_open ∙ ap (token_of s.kernel.waits.tokens) number ∙ is in cc) in
     let dev : queued.packet.dev ≡ fs = dev_of queued.packet pipe.token pipe.asks ∙ ap (λ (r : OpenToken). r.trigger.fs) one ∙ same in
-    let own : queued.attach ≡ attach = same_number (sym pipe.current ∙ ap (λ (r : OpenToken). attach_of s.kernel r.trigger.fs) one ∙ ap (attach_of s.kernel) same ∙ served.current) in
+    let own : queued.attach ≡ attach = some_injective (sym pipe.current ∙ ap (λ (r : OpenToken). attach_of s.kernel r.trigger.fs) one ∙ ap (attach_of s.kernel) same ∙ served.current) in
     let t = taken s world fs attach served token queued in_queue dev in
     let event = events.Deliver token None in
     let job = job_for queued.attach queued.packet s.daemon in
-    let its : (job.token == token) ≡ true = subst (λ (n : ℕ). (queued.packet.token == n) ≡ true) t.numbered (nat_same queued.packet.token) in
+    let its : (job.token == token) ≡ true = subst (λ (n : ℕ). (queued.packet.token == n) ≡ true) t.numbered (equal_to_itself queued.packet.token) in
     record {
       done = ap (λ (o : Outcome). is_refused o.answer) t.alone;
       job = job;
@@ -224,22 +222,22 @@ takes_packet s world fs attach served token row is same queued in_queue =
     }
 
 -- a packet that is in the pipe is taken first
-from_pipe : (s : State) → IsWorld s → (fs attach : ℕ) → IsServed s.kernel s.daemon fs attach → (token : ℕ) (row : OpenToken) → token_of s.kernel.waits.tokens token ≡ Some row → row.trigger.fs ≡ fs →
+closes_from_the_pipe : (s : State) → IsWorld s → (fs attach : ℕ) → IsServed s.kernel s.daemon fs attach → (token : ℕ) (row : OpenToken) → token_of s.kernel.waits.tokens token ≡ Some row → row.trigger.fs ≡ fs →
     (queued : QueuedRow) → queued_of s.kernel.queue token ≡ Some queued → CanReach most_acts token (Answers s token) s
-from_pipe s world fs attach served token row is same queued in_queue =
+closes_from_the_pipe s world fs attach served token row is same queued in_queue =
     let t = takes_packet s world fs attach served token row is same queued in_queue in
     inr (t.done, closes s fs attach token most_acts (next s (events.Deliver token None)) t.job t.served t.few)
 
 -- a job that has it goes on
-from_job : (s : State) → IsWorld s → (fs attach : ℕ) → IsServed s.kernel s.daemon fs attach → (token : ℕ) (row : OpenToken) → token_of s.kernel.waits.tokens token ≡ Some row → row.trigger.fs ≡ fs →
+closes_from_the_job : (s : State) → IsWorld s → (fs attach : ℕ) → IsServed s.kernel s.daemon fs attach → (token : ℕ) (row : OpenToken) → token_of s.kernel.waits.tokens token ≡ Some row → row.trigger.fs ≡ fs →
     IsAtWork s.kernel s.daemon.jobs row → CanReach most_acts token (Answers s token) s
-from_job s world fs attach served token row is same work =
+closes_from_the_job s world fs attach served token row is same work =
     let here : Served s fs attach token work.job s.kernel.waits = record {
       world = world;
       served = served;
       is_job = ap (job_of s.daemon.jobs) (sym (token_number s.kernel.waits.tokens token row is)) ∙ work.is_job;
       fs_is = work.fs ∙ same;
-      attach_is = same_number (sym work.current ∙ ap (attach_of s.kernel) same ∙ served.current);
+      attach_is = some_injective (sym work.current ∙ ap (attach_of s.kernel) same ∙ served.current);
       waits = refl;
     } in
     inl (closes s fs attach token most_acts s work.job here (few s token work.job world here.is_job))
@@ -250,8 +248,8 @@ from_job s world fs attach served token row is same work =
 pub can_answer : (s : State) → IsWorld s → (fs attach : ℕ) → IsServed s.kernel s.daemon fs attach → (token : ℕ) (row : OpenToken) → token_of s.kernel.waits.tokens token ≡ Some row → row.trigger.fs ≡ fs → CanReach most_acts token (Answers s token) s
 can_answer s world fs attach served token row is same =
     ⊎_elim
-    (λ waits. let queued = some_is (queued_of s.kernel.queue token) waits in from_pipe s world fs attach served token row is same queued.0 queued.1)
-    (λ work. from_job s world fs attach served token row is same work)
+    (λ waits. let queued = value_where_some (queued_of s.kernel.queue token) waits in closes_from_the_pipe s world fs attach served token row is same queued.0 queued.1)
+    (λ work. closes_from_the_job s world fs attach served token row is same work)
     (world.consistent.agreed.tokens.open_tokens token row is)
 
 tokens_close : (s : State) → IsWorld s → TokensCanClose s

@@ -10,6 +10,7 @@ use Rattle.am_names.specs.declared.row.MountRow.{MountRow}
 use Rattle.am_names.specs.declared.row.OpenToken.{OpenToken}
 use Rattle.am_names.specs.declared.row.TokenKind.{TokenKind}
 use Rattle.am_names.specs.declared.row.TokenKind.TheVariants.{Missing, Expire}
+use Rattle.am_names.proofs.Basics.{equal_by_test, found_passes, false_unless_true, and_where_left_is_false}
 use Rattle.am_mount.specs.Rows.{top_of}
 use Rattle.am_trigger.specs.declared.failures.Failure.{Failure}
 use Rattle.am_trigger.specs.Failures.{FailureRows, failure_of, without_failure, error_while}
@@ -23,13 +24,12 @@ use Rattle.am_walk.specs.Meet.{at_trap, at_autofs, at_site, next_at}
 use Rattle.am_walk.specs.Scene.{Scene, autofs_at}
 use Rattle.am_kernel.specs.Sites.{is_live_row, attach_of, scene_of, is_trigger_of}
 use Rattle.am_kernel.specs.DaemonMounts.{location_in, location_of, mounted_on}
-use Rattle.am_laws.proofs.Packets.{nat_is}
 use Rattle.am_machine.specs.State.{State}
-use Rattle.am_machine.proofs.TraceRows.{found_passes}
-use Rattle.am_machine.proofs.StandKeeps.{attached_autofs}
-use Rattle.am_machine.proofs.StandMounts.{trigger_same}
+use Rattle.am_machine.proofs.Stands.Unchanged.{attached_autofs}
+use Rattle.am_machine.proofs.Stands.Mounts.{trigger_same}
+use Rattle.am_machine.proofs.Lists.Found.{some_unless}
 use Rattle.am_progress.proofs.Found.{live_of}
-use Rattle.am_progress.proofs.SiteWalks.{IsSite}
+use Rattle.am_progress.proofs.Triggers.Walks.{IsSite}
 use Rattle.am_progress.proofs.Worlds.{IsWorld}
 
 find_none : {X : Type 0} (test : X → Bool) (rows : List X) → All (λ (x : X). test x ≡ false) rows → find test rows ≡ None
@@ -37,33 +37,21 @@ find_none test [] h = refl
 find_none {X} test (x ∷ rows) h =
     ap (λ (b : Bool). cond b (Some x) (find test rows)) (All-head (λ y. test y ≡ false) x rows h) ∙ find_none test rows (All-tail (λ y. test y ≡ false) x rows h)
 
-not_both : (a b : Bool) → a ≡ false → (a && b) ≡ false
-not_both true b e = absurd cc
-not_both false b e = refl
-
-all_off : (kind : TokenKind) (g : Trigger) (tokens : List OpenToken) → All (λ (r : OpenToken). same_trigger r.trigger g ≡ false) tokens → open_on tokens kind g ≡ None
-all_off kind g tokens h =
+none_is_open_on : (kind : TokenKind) (g : Trigger) (tokens : List OpenToken) → All (λ (r : OpenToken). same_trigger r.trigger g ≡ false) tokens → open_on tokens kind g ≡ None
+none_is_open_on kind g tokens h =
     ap (option_map (λ (r : OpenToken). r.token))
     (find_none (λ (r : OpenToken). is_open_on kind g r) tokens
-    (All-weaker (λ (r : OpenToken). same_trigger r.trigger g ≡ false) (λ (r : OpenToken). is_open_on kind g r ≡ false) (λ r other. not_both (same_trigger r.trigger g) (same_kind r.kind kind) other) tokens h))
+    (All-weaker (λ (r : OpenToken). same_trigger r.trigger g ≡ false) (λ (r : OpenToken). is_open_on kind g r ≡ false) (λ r other. and_where_left_is_false (same_trigger r.trigger g) (same_kind r.kind kind) other) tokens h))
 
-pub other_by : (b : Bool) (o : Option OpenToken) (row : OpenToken) → cond b None o ≡ Some row → (b ≡ false) × (o ≡ Some row)
-other_by true o row e = absurd cc
-other_by false o row e = (refl, e)
-
-pub false_by : (b : Bool) → (b ≡ true → ⊥) → b ≡ false
-false_by true h = absurd (h refl)
-false_by false h = refl
-
-trigger_by : (a : Autofs) (g : Trigger) (name : Option (List ℕ)) (direct : Bool) → g.name ≡ name → a.direct ≡ direct → a.fs ≡ g.fs → (if direct then is_none name else is_some name) ≡ true → trigger_in a (place_named name) ≡ Some g
-trigger_by a g None true named d same h =
+trigger_by_cases : (a : Autofs) (g : Trigger) (name : Option (List ℕ)) (direct : Bool) → g.name ≡ name → a.direct ≡ direct → a.fs ≡ g.fs → (if direct then is_none name else is_some name) ≡ true → trigger_in a (place_named name) ≡ Some g
+trigger_by_cases a g None true named d same h =
     ap (λ (b : Bool). if b then Some (record { fs = a.fs; name = None }) else None) d
     ∙ ap (λ (t : Trigger). Some t) (trigger_same (record { fs = a.fs; name = None }) g same (sym (ap place_named named)))
-trigger_by a g (Some name) false named d same h =
+trigger_by_cases a g (Some name) false named d same h =
     ap (λ (b : Bool). if b then None else Some (record { fs = a.fs; name = Some name })) d
     ∙ ap (λ (t : Trigger). Some t) (trigger_same (record { fs = a.fs; name = Some name }) g same (sym (ap place_named named)))
-trigger_by a g None false named d same h = absurd cc
-trigger_by a g (Some name) true named d same h = absurd cc
+trigger_by_cases a g None false named d same h = absurd cc
+trigger_by_cases a g (Some name) true named d same h = absurd cc
 
 not_catatonic : (a : Autofs) (catatonic : Bool) → a.catatonic ≡ catatonic → is_live_row (Some a) ≡ true → catatonic ≡ false
 not_catatonic a true is live = absurd cc
@@ -84,13 +72,13 @@ notifies s world attach g current site off free well moment =
     let here : location_of k g.fs ≡ a.location = ap location_in is in
     let at : autofs_at scene a.location ≡ Some a =
     ap (λ (o : Option MountRow). option_and_then (λ fs. autofs_of k.triggers fs) (option_map (λ (r : MountRow). r.fs) o)) place.is_row ∙ ap (autofs_of k.triggers) place.fs ∙ is in
-    let same : a.fs ≡ g.fs = nat_is a.fs g.fs (found_passes (λ (r : Autofs). r.fs == g.fs) k.triggers.autofs a is) in
-    let trigger : trigger_in a (place_of g) ≡ Some g = trigger_by a g g.name a.direct refl refl same (sym (ap (λ (o : Option Autofs). is_trigger_of o g) is) ∙ site) in
+    let same : a.fs ≡ g.fs = equal_by_test a.fs g.fs (found_passes (λ (r : Autofs). r.fs == g.fs) k.triggers.autofs a is) in
+    let trigger : trigger_in a (place_of g) ≡ Some g = trigger_by_cases a g g.name a.direct refl refl same (sym (ap (λ (o : Option Autofs). is_trigger_of o g) is) ∙ site) in
     let live : is_live_row (Some a) ≡ true = sym (ap is_live_row is) ∙ live_of k g.fs attach current in
     ap (λ (n : ℕ). next_at scene n (place_of g)) here
     ∙ ap (λ (o : Option Autofs). at_site scene o a.location (place_of g)) at
     ∙ ap (λ (o : Option Trigger). at_autofs scene a o a.location (place_of g)) trigger
-    ∙ trap_is k.waits.tokens scene a g (all_off Expire g k.waits.tokens off) (all_off Missing g k.waits.tokens off)
+    ∙ trap_is k.waits.tokens scene a g (none_is_open_on Expire g k.waits.tokens off) (none_is_open_on Missing g k.waits.tokens off)
     (sym (ap (λ (n : ℕ). top_of k.table.rows n (place_of g)) here) ∙ free) (not_catatonic a a.catatonic refl live)
     (ap (λ (o : Option Failure). option_and_then (error_while moment k.negative) o) well)
 

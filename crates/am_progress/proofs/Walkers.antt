@@ -12,6 +12,7 @@ use Rattle.am_names.specs.declared.row.OpenToken.{OpenToken}
 use Rattle.am_names.specs.declared.row.WaitRow.{WaitRow}
 use Rattle.am_names.specs.declared.row.TokenKind.{TokenKind}
 use Rattle.am_names.specs.declared.row.TokenKind.TheVariants.{Missing, Expire}
+use Rattle.am_names.proofs.Basics.{equal_to_itself, equal_by_test, value_where_some, found_passes}
 use Rattle.am_trigger.specs.declared.autofs.Autofs.{Autofs}
 use Rattle.am_wait.specs.Rows.{token_of, wait_of}
 use Rattle.am_wait.specs.Calls.{failed_row}
@@ -28,22 +29,20 @@ use Rattle.am_kernel.specs.Requests.{queued_of}
 use Rattle.am_kernel.specs.Catatonic.{admin_catatonic_refusal, closing, closed, closed_if_live, closing_if_live}
 use Rattle.am_kernel.specs.Walks as walks
 use Rattle.am_kernel.specs.Resumes as resumes
-use Rattle.am_laws.proofs.Packets.{nat_is, nat_same}
 use Rattle.am_machine.specs.declared.event.Event.TheVariants as events
 use Rattle.am_machine.specs.declared.answer.Answer.TheVariants as answers
 use Rattle.am_machine.specs.State.{State}
 use Rattle.am_machine.specs.Outcome.{Outcome, unless, with_kernel}
 use Rattle.am_machine.specs.Machine.{after, outcome_of}
 use Rattle.am_machine.specs.Events.Walkers.{answer_of, goes}
-use Rattle.am_machine.proofs.TraceRows.{some_is, found_passes}
-use Rattle.am_machine.proofs.TokenLists.{all_found}
-use Rattle.am_machine.proofs.StandKeeps.{attached_autofs}
-use Rattle.am_machine.proofs.AgreeTokens.{in_pipe}
-use Rattle.am_machine.proofs.InStep.{in_step}
+use Rattle.am_machine.proofs.Lists.Different.{all_found}
+use Rattle.am_machine.proofs.Stands.Unchanged.{attached_autofs}
+use Rattle.am_machine.proofs.Agreement.Tokens.{in_pipe, queued_number}
+use Rattle.am_machine.proofs.InStep.States.{in_step}
 use Rattle.am_progress.specs.Runs.{is_refused, next}
 use Rattle.am_progress.specs.Acts.{most_acts}
 use Rattle.am_progress.specs.Walkers.{CanResume, CanBeBroughtOn, WalkersCanGoOn, WaitingWalkersCanGoOn}
-use Rattle.am_progress.proofs.Found.{live_of, queued_number}
+use Rattle.am_progress.proofs.Found.{live_of}
 use Rattle.am_progress.proofs.Ways.{reaches_on}
 use Rattle.am_progress.proofs.Tokens.{Answers, can_answer}
 use Rattle.am_progress.proofs.Worlds.{IsWorld, next_world, after_runs}
@@ -95,8 +94,8 @@ resumed_walk : (row : Option WalkRow) (status : Status) (pipe : PipeState) (k : 
 resumed_walk None status pipe k wait moment walks = told_as wait.kind status k wait moment (λ missing. let no : false ≡ true = walks missing in cc)
 resumed_walk (Some row) status pipe k wait moment walks = resumed_as wait.kind status pipe k wait row moment
 
-resumes_by : (pipe : PipeState) (k : KernelState) (walker moment : ℕ) (row : WaitRow) (status : Status) → mount_of k.uses walker ≡ None → wait_of k.waits.waits walker ≡ Some row → row.status ≡ Some status → (row.kind ≡ Missing → is_some (resumes.walk_in k.walks row.walker) ≡ true) → Goes (resumes.resume_at pipe k walker moment)
-resumes_by pipe k walker moment row status out is its walks =
+resumes_by_cases : (pipe : PipeState) (k : KernelState) (walker moment : ℕ) (row : WaitRow) (status : Status) → mount_of k.uses walker ≡ None → wait_of k.waits.waits walker ≡ Some row → row.status ≡ Some status → (row.kind ≡ Missing → is_some (resumes.walk_in k.walks row.walker) ≡ true) → Goes (resumes.resume_at pipe k walker moment)
+resumes_by_cases pipe k walker moment row status out is its walks =
     let same : resumes.resume_at pipe k walker moment ≡ resumes.resumed_walk (resumes.walk_in k.walks row.walker) status pipe k row moment =
     ap (λ (o : Option ℕ). if is_some o then kernel.Fails EINVAL else resumes.resumed_at (wait_of k.waits.waits walker) pipe k moment) out
     ∙ ap (λ (o : Option WaitRow). resumes.resumed_at o pipe k moment) is
@@ -104,7 +103,7 @@ resumes_by pipe k walker moment row status out is its walks =
     subst Goes (sym same) (resumed_walk (resumes.walk_in k.walks row.walker) status pipe k row moment walks)
 
 wait_number : (w : List WaitRow) (walker : ℕ) (row : WaitRow) → wait_of w walker ≡ Some row → row.walker ≡ walker
-wait_number w walker row is = nat_is row.walker walker (found_passes (λ (r : WaitRow). r.walker == walker) w row is)
+wait_number w walker row is = equal_by_test row.walker walker (found_passes (λ (r : WaitRow). r.walker == walker) w row is)
 
 -- its resume is answered
 pub resumes_on : (s : State) → IsWorld s → (walker : ℕ) (row : WaitRow) (status : Status) → wait_of s.kernel.waits.waits walker ≡ Some row → row.status ≡ Some status → CanResume walker s
@@ -114,7 +113,7 @@ resumes_on s world walker row status is its now pipe =
     subst (λ (n : ℕ). mount_of k.uses n ≡ None) (wait_number k.waits.waits walker row is)
     (all_found (λ (r : WaitRow). mount_of k.uses r.walker ≡ None) (λ (r : WaitRow). r.walker == walker) k.waits.waits row world.holds.kernel.outside is) in
     goes_done (resumes.resume_at pipe k walker (moment_of s.kernel now)) s (moment_of s.kernel now)
-    (resumes_by pipe k walker (moment_of s.kernel now) row status out is its ((in_step s world.consistent world.named).walks walker row is))
+    (resumes_by_cases pipe k walker (moment_of s.kernel now) row status out is its ((in_step s world.consistent world.named).walks walker row is))
 
 -- ---- a walker that waits
 
@@ -129,7 +128,7 @@ record WaitsOn (s : State) (row : WaitRow) : Type 0 where
 in_pipe_attached : (s : State) → IsWorld s → (token : ℕ) (row : OpenToken) → token_of s.kernel.waits.tokens token ≡ Some row → is_some (queued_of s.kernel.queue token) ≡ true → (attach : ℕ) × (attach_of s.kernel row.trigger.fs ≡ Some attach)
 in_pipe_attached s world token row is waits =
     let k = s.kernel in
-    let queued = some_is (queued_of k.queue token) waits in
+    let queued = value_where_some (queued_of k.queue token) waits in
     let pipe = in_pipe k s.daemon world.consistent.agreed.tokens token queued.0 queued.1 in
     let one : pipe.token ≡ row = (let found : Some pipe.token ≡ Some row = sym pipe.is_open ∙ ap (token_of k.waits.tokens) (queued_number k token queued.0 queued.1) ∙ is in cc) in
     (queued.0.attach, subst (λ (t : OpenToken). attach_of k t.trigger.fs ≡ Some queued.0.attach) one pipe.current)
@@ -166,16 +165,16 @@ catatonic_is s fs attach e =
     ap (λ (o : Option Errno). unless o s (with_kernel answers.Done (closing_if_live fs k) (closed_if_live fs k) s)) (is_autofs k fs attach e)
     ∙ ap (λ (b : Bool). with_kernel answers.Done (if b then closing fs k else []) (if b then closed fs k else k) s) live
 
-failed_by : (walker fs : ℕ) (x row : WaitRow) (rows : List WaitRow) (b : Bool) → row.trigger.fs ≡ fs → row.status ≡ None →
+failed_by_cases : (walker fs : ℕ) (x row : WaitRow) (rows : List WaitRow) (b : Bool) → row.trigger.fs ≡ fs → row.status ≡ None →
     (wait_of rows walker ≡ Some row → wait_of (map (failed_row fs) rows) walker ≡ Some (record row { status = Some (Fail ENOENT) })) →
     cond b (Some x) (wait_of rows walker) ≡ Some row → cond b (Some (failed_row fs x)) (wait_of (map (failed_row fs) rows) walker) ≡ Some (record row { status = Some (Fail ENOENT) })
-failed_by walker fs x row rows true on still later e =
+failed_by_cases walker fs x row rows true on still later e =
     let its : x ≡ row = cc in
-    let here : (row.trigger.fs == fs) ≡ true = subst (λ (n : ℕ). (row.trigger.fs == n) ≡ true) on (nat_same row.trigger.fs) in
+    let here : (row.trigger.fs == fs) ≡ true = subst (λ (n : ℕ). (row.trigger.fs == n) ≡ true) on (equal_to_itself row.trigger.fs) in
     ap (λ (r : WaitRow). Some (failed_row fs r)) its
     ∙ ap (λ (b : Bool). Some (if b && is_none row.status then record row { status = Some (Fail ENOENT) } else row)) here
     ∙ ap (λ (o : Option Status). Some (if is_none o then record row { status = Some (Fail ENOENT) } else row)) still
-failed_by walker fs x row rows false on still later e = later e
+failed_by_cases walker fs x row rows false on still later e = later e
 
 failed_walker : (b : Bool) (x : WaitRow) → (if b then record x { status = Some (Fail ENOENT) } else x).walker ≡ x.walker
 failed_walker true x = refl
@@ -185,7 +184,7 @@ failed_is : (walker fs : ℕ) (rows : List WaitRow) (row : WaitRow) → wait_of 
 failed_is walker fs [] row e on still = absurd cc
 failed_is walker fs (x ∷ rows) row e on still =
     ap (λ (n : ℕ). cond (n == walker) (Some (failed_row fs x)) (wait_of (map (failed_row fs) rows) walker)) (failed_walker (x.trigger.fs == fs && is_none x.status) x)
-    ∙ failed_by walker fs x row rows (x.walker == walker) on still (λ later. failed_is walker fs rows row later on still) e
+    ∙ failed_by_cases walker fs x row rows (x.walker == walker) on still (λ later. failed_is walker fs rows row later on still) e
 
 brought_on : (s : State) → IsWorld s → (walker : ℕ) (row : WaitRow) → wait_of s.kernel.waits.waits walker ≡ Some row → row.status ≡ None → CanBeBroughtOn s row
 brought_on s world walker row is still =
@@ -204,14 +203,14 @@ brought_on s world walker row is still =
           (subst (λ (o : Outcome). wait_of (after s o).kernel.waits.waits row.walker ≡ Some (record row { status = Some (Fail ENOENT) })) (sym does) (failed_is row.walker fs s.kernel.waits.waits row own refl still)) refl;
     }
 
-status_by : (P : Type 0) (o : Option Status) → (o ≡ None → ⊥) → ((status : Status) → o ≡ Some status → P) → P
-status_by P None some h = absurd (some refl)
-status_by P (Some status) some h = h status refl
+status_by_cases : (P : Type 0) (o : Option Status) → (o ≡ None → ⊥) → ((status : Status) → o ≡ Some status → P) → P
+status_by_cases P None some h = absurd (some refl)
+status_by_cases P (Some status) some h = h status refl
 
 walkers_go_on : (s : State) → IsWorld s → WalkersCanGoOn s
 walkers_go_on s world = record {
   waiting = brought_on s world;
-  released = λ walker row is some. status_by (CanResume walker s) row.status some (λ status its. resumes_on s world walker row status is its);
+  released = λ walker row is some. status_by_cases (CanResume walker s) row.status some (λ status its. resumes_on s world walker row status is its);
 }
 
 pub walkers_can_go_on : WaitingWalkersCanGoOn

@@ -10,10 +10,10 @@ use Rattle.am_machine.specs.Machine.{Step, Run}
 use Rattle.am_machine.specs.Paths.{HasPaths, HavePaths}
 use Rattle.am_machine.specs.Invariant.Walks.{WalksFit}
 use Rattle.am_machine.specs.Invariant.Consistent.{IsConsistent}
-use Rattle.am_machine.proofs.SafetyLemmas.{initial_consistent, outcome_consistent}
-use Rattle.am_machine.proofs.NameTheorems.{initial_named, outcome_named}
+use Rattle.am_machine.proofs.Consistent.{initial_consistent, outcome_consistent}
+use Rattle.am_machine.proofs.Walks.Runs.{initial_named, outcome_named}
 use Rattle.am_progress.specs.Runs.{AfterEachRun, next}
-use Rattle.am_progress.proofs.SiteEvents.{Holds, outcome_keeps}
+use Rattle.am_progress.proofs.Triggers.Changes.{Holds, outcome_holds}
 
 -- all that is known of a world
 pub record IsWorld (s : State) : Type 0 where
@@ -30,7 +30,7 @@ initial_world opening = record { consistent = initial_consistent opening; named 
 -- what comes of an event is a world
 pub next_world : (s : State) (event : Event) → HasPaths event → IsWorld s → IsWorld (next s event)
 next_world s event along h =
-    let held = (outcome_keeps s event).keeps h.consistent h.holds in
+    let held = outcome_holds s event h.consistent h.holds in
     record {
       consistent = outcome_consistent s event h.consistent;
       named = outcome_named s event along h.named;

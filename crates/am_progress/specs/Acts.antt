@@ -1,5 +1,6 @@
 -- The next act of a job is done, or it fails; and a job has five acts at most. Since the first is
--- said of every world, it doesn't matter what others have done since the job's last act.
+-- said of every world, it doesn't matter what others have done since the job's last act (own
+-- choice).
 use Rattle.std.specs.Prelude.{◌≡◌, ◌⊎◌, ⊤, ℕ, zero, suc, ◌==◌, Bool, false, All, Option, Some, None, if◌then◌else◌}
 use Rattle.am_names.specs.declared.fail_no.FailNo.{FailNo}
 use Rattle.am_wire.specs.declared.packet.Packet.{Packet}
@@ -60,6 +61,7 @@ JobsCanGoOn s =
     row.trigger.fs ≡ fs → row.attach ≡ attach →
     (failure : Option FailNo) → IsActed job row s.daemon (outcome_of s (events.Act job failure))
 
+-- after every run from an initial world no next act is refused
 abbrev pub NextActsAreNeverRefused : Type 0
 NextActsAreNeverRefused = AfterEachRun JobsCanGoOn
 
@@ -76,6 +78,7 @@ HasActs (suc most) (Next a rest) = (o : outcomes.Outcome) → HasActs most (rest
 abbrev pub most_acts : ℕ
 most_acts = 5
 
+-- whatever comes of them, the job has five acts at most
 abbrev pub HasFewActs : JobPlan → Type 0
 HasFewActs row = HasActs most_acts row.plan
 

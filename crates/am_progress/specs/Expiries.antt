@@ -68,5 +68,6 @@ ExpiriesEndWell s =
     row.trigger.fs ≡ fs → row.attach ≡ attach → next_of row.plan ≡ Some (act.Umount row.trigger) →
     IsExpiry s attach job row.trigger
 
+-- after every run from an initial world an expiry leaves the trap or the mount
 abbrev pub ExpiriesLeaveTrapOrMount : Type 0
 ExpiriesLeaveTrapOrMount = AfterEachRun ExpiriesEndWell

@@ -1,6 +1,6 @@
 -- What others do in between takes nothing away: a job keeps what it has left, the daemon serves the
 -- file system until it is seen to lose it, and so each open token can be closed among all that
--- others do.
+-- others do (own choice).
 use Rattle.std.specs.Prelude.{◌≡◌, ◌⊎◌, ℕ, zero, suc, ◌==◌, Bool, true, false, is_some, List, Some, None, if◌then◌else◌, Option}
 use Rattle.std.specs.List.{list_any}
 use Rattle.am_names.specs.declared.fail_no.FailNo.{FailNo}
@@ -51,6 +51,7 @@ ServesOn old =
     Step old event answer seen new →
     IsServed new.kernel new.daemon fs attach ⊎ (list_any (ends fs) seen ≡ true)
 
+-- after every run from an initial world service lasts until its end is seen
 abbrev pub ServiceLasts : Type 0
 ServiceLasts = AfterEachRun ServesOn
 
@@ -95,5 +96,6 @@ TokensCloseAmong s =
     (token : ℕ) (row : OpenToken) → token_of s.kernel.waits.tokens token ≡ Some row →
     row.trigger.fs ≡ fs → ClosesAmong 6 fs attach token s
 
+-- after every run from an initial world open tokens can be closed among others
 abbrev pub OpenTokensCloseAmongOthers : Type 0
 OpenTokensCloseAmongOthers = AfterEachRun TokensCloseAmong

@@ -24,5 +24,6 @@ PacketsCanBeTaken s =
     (token : ℕ) (row : QueuedRow) → queued_of s.kernel.queue token ≡ Some row →
     row.packet.dev ≡ fs → IsTaken s token row
 
+-- after every run from an initial world queued packets can be delivered
 abbrev pub QueuedPacketsCanBeDelivered : Type 0
 QueuedPacketsCanBeDelivered = AfterEachRun PacketsCanBeTaken

@@ -1,7 +1,7 @@
 -- Nothing is said here of what will happen, but of what can: each law is one of every world to
 -- which a run leads, and says of some events that they are done there, if they come. An event may
 -- also find no memory (the other case of a step): then nothing has changed, and the same is said of
--- it again.
+-- it again (own choice).
 use Rattle.std.specs.Prelude.{◌≡◌, Bool, true, false, List}
 use Rattle.am_machine.specs.declared.event.Event.{Event}
 use Rattle.am_machine.specs.declared.answer.Answer.{Answer}
@@ -16,6 +16,7 @@ AfterEachRun holds =
     (opening : Opening) (events : List Event) (answers : List Answer) (s : State) →
     HavePaths events → Run (opening_of opening) events answers s → holds s
 
+-- the answer is an error
 abbrev pub is_refused : Answer → Bool
 is_refused (answers.Refused e) = true
 is_refused _ = false

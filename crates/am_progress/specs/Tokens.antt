@@ -1,5 +1,5 @@
 -- Each open token can be closed by the daemon alone, by six events at most: its packet is taken
--- from the pipe, and its job has five acts.
+-- from the pipe, and its job has five acts (own choice).
 use Rattle.std.specs.Prelude.{◌≡◌, ℕ, Some, None}
 use Rattle.am_names.specs.declared.trigger.Status.{Status}
 use Rattle.am_names.specs.declared.row.OpenToken.{OpenToken}
@@ -27,5 +27,6 @@ TokensCanClose s =
     (token : ℕ) (row : OpenToken) → token_of s.kernel.waits.tokens token ≡ Some row →
     row.trigger.fs ≡ fs → CanReach most_acts token (HasReleased s token) s
 
+-- after every run from an initial world open tokens can be closed
 abbrev pub OpenTokensCanBeClosed : Type 0
 OpenTokensCanBeClosed = AfterEachRun TokensCanClose

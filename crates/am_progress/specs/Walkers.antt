@@ -23,6 +23,7 @@ pub record CanBeBroughtOn (s : State) (row : WaitRow) : Type 0 where
   pub is_catatonic : IsDone s (events.AdminCatatonic row.trigger.fs)
   pub by_administrator : CanResume row.walker (next s (events.AdminCatatonic row.trigger.fs))
 
+-- each waiting walker can be brought on
 pub record WalkersCanGoOn (s : State) : Type 0 where
   pub waiting : (walker : ℕ) (row : WaitRow) → wait_of s.kernel.waits.waits walker ≡ Some row →
       row.status ≡ None → CanBeBroughtOn s row
@@ -30,5 +31,6 @@ pub record WalkersCanGoOn (s : State) : Type 0 where
   pub released : (walker : ℕ) (row : WaitRow) → wait_of s.kernel.waits.waits walker ≡ Some row →
       (row.status ≡ None → ⊥) → CanResume walker s
 
+-- after every run from an initial world waiting walkers can go on
 abbrev pub WaitingWalkersCanGoOn : Type 0
 WaitingWalkersCanGoOn = AfterEachRun WalkersCanGoOn

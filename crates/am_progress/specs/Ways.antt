@@ -1,4 +1,4 @@
--- Where the daemon can lead by itself, whichever words stand in its events.
+-- Where the daemon can lead by itself, whichever words stand in its events (own choice).
 use Rattle.std.specs.Prelude.{◌⊎◌, ℕ, zero, suc, Bool, None, Option}
 use Rattle.am_names.specs.declared.fail_no.FailNo.{FailNo}
 use Rattle.am_machine.specs.declared.event.Event.TheVariants as events

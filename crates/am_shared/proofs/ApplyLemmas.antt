@@ -7,7 +7,7 @@ use Rattle.am_machine.specs.declared.event.Event.{Event}
 use Rattle.am_machine.specs.declared.answer.Answer.{Answer}
 use Rattle.am_machine.specs.State.{State, Opening, opening_in, opening_of}
 use Rattle.am_machine.specs.Machine.{Step, Run, IsLegal}
-use Rattle.am_machine.proofs.SafetyLemmas.{step_lawful}
+use Rattle.am_machine.proofs.Consistent.{step_lawful}
 use Rattle.am_world.specs.Table.{WorldTable, state_of}
 use Rattle.am_world.proofs.TableLemmas.{state_is}
 use Rattle.am_pipe.specs.declared.note.Note.{Note}

@@ -5,7 +5,7 @@ use Rattle.std.specs.List.{count_by}
 use Rattle.am_state.specs.declared.obs.Obs.{Obs}
 use Rattle.am_state.specs.declared.obs.Obs.TheVariants as seen
 use Rattle.am_laws.specs.OneObservation.{is_queued}
-use Rattle.am_machine.proofs.TraceRows.{count_cons}
+use Rattle.am_machine.proofs.Lists.Counts.{count_cons}
 use Rattle.am_pipe.specs.declared.note.Note.{Note}
 use Rattle.am_shared.specs.Notes.{note, note_at, before, notes_of}
 

@@ -18,8 +18,8 @@ use Rattle.am_machine.specs.Machine.{after, outcome_of, Step}
 use Rattle.am_machine.specs.Invariant.Consistent.{IsConsistent}
 use Rattle.am_machine.specs.Paths.{HasPaths}
 use Rattle.am_machine.specs.Invariant.Walks.{WalksFit}
-use Rattle.am_machine.proofs.SafetyLemmas.{outcome_consistent}
-use Rattle.am_machine.proofs.NameTheorems.{outcome_named}
+use Rattle.am_machine.proofs.Consistent.{outcome_consistent}
+use Rattle.am_machine.proofs.Walks.Runs.{outcome_named}
 use Rattle.am_machine.specs.Events.Walkers.{answer_of, goes}
 use Rattle.am_world.specs.Halves.{Goes, told}
 

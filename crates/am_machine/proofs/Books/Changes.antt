@@ -25,15 +25,15 @@ use Rattle.am_machine.specs.Invariant.Tokens.{TokensAgree}
 use Rattle.am_machine.specs.Invariant.Planned.{IsPlanned, ArePlanned}
 use Rattle.am_machine.specs.Invariant.Traces.{AreDifferent}
 use Rattle.am_machine.specs.Invariant.Books.{BookAgrees}
-use Rattle.am_machine.proofs.TokenLists.{all_found}
-use Rattle.am_machine.proofs.BookNarrows.{Narrows, narrowed, same_attachments, stays, one_after_another, narrows_latest, timeout_narrows, closed_narrows}
-use Rattle.am_machine.proofs.BookActs.{IsJob, goes_on_kept, goes_on_written}
-use Rattle.am_machine.proofs.BookDeliver.{may_take, taken_kept}
-use Rattle.am_machine.proofs.BookAttach.{attached_kept, dead_kept, reattached_kept}
+use Rattle.am_machine.proofs.Lists.Different.{all_found}
+use Rattle.am_machine.proofs.Books.Unchanged.{Narrows, narrowed, same_attachments, narrows_itself, one_after_another, narrows_latest, timeout_narrows, closed_narrows}
+use Rattle.am_machine.proofs.Books.Acts.{IsJob, goes_on_kept, goes_on_written}
+use Rattle.am_machine.proofs.Books.Deliver.{may_take, taken_kept}
+use Rattle.am_machine.proofs.Books.Attach.{attached_kept, dead_kept, reattached_kept}
 use Rattle.am_machine.proofs.Tour.Walks as tour
 use Rattle.am_machine.proofs.Tour.Walks.{AnyPath}
 use Rattle.am_machine.proofs.Tour.Events as tours
-use Rattle.am_machine.proofs.Tour.Events.{with_half, going, IsNext, any_paths}
+use Rattle.am_machine.proofs.Tour.Events.{with_half, going, IsNext, any_event, AnyJob}
 
 -- ---- what walkers do
 
@@ -47,7 +47,7 @@ freed_narrows Expire k wait moment = same_attachments k (resumes.freed_from Expi
 
 pub walks : tour.Keeps AnyPath NarrowsBy
 walks = record {
-  nothing = stays;
+  nothing = narrows_itself;
   arrived = λ k begin at passed w. same_attachments k _ (λ fs. refl) (omega arith);
   joined = λ k begin token passed w. same_attachments k _ (λ fs. refl) (omega arith);
   notified = λ k begin trigger attach passed w is. same_attachments k _ (λ fs. refl) (omega arith);
@@ -79,7 +79,7 @@ goes s shown row outcome k is none n = record {
   book = λ given planned differ h. narrowed s.kernel k (finished row.token outcome s.daemon) n (goes_on_kept s.kernel s.daemon row outcome (its_job s row is planned differ) none h);
 }
 
-book : tours.Keeps AnyPath NarrowsBy BookStays
+book : tours.Keeps AnyPath AnyJob NarrowsBy BookStays
 book = record {
   same = λ s. record { book = λ given planned differ h. h };
   attached = λ s path point at is fresh may. record { book = λ given planned differ h. attached_kept s.kernel s.daemon point.direct (line_timeout s.daemon point.entry) at path given h };
@@ -102,7 +102,7 @@ book = record {
         narrowed s.kernel made (taken_up row.attach row.packet s.daemon) (same_attachments s.kernel made (λ fs. refl) (omega arith))
         (taken_kept s.kernel s.daemon row.attach row.packet (may_take s.daemon row.attach row.packet taken.held taken.free) h);
   };
-  rested = λ s row a outcome i r. goes s _ row outcome _ i.is (ap writes i.next ∙ r.writes) (stays s.kernel);
+  rested = λ s row a outcome i r. goes s _ row outcome _ i.is (ap writes i.next ∙ r.writes) (narrows_itself s.kernel);
   directory_made = λ s row trigger i. goes s _ row _ _ i.is (ap writes i.next) (same_attachments s.kernel _ (λ fs. refl) (omega arith));
   directory_gone = λ s row trigger i. goes s _ row _ _ i.is (ap writes i.next) (same_attachments s.kernel _ (λ fs. refl) (omega arith));
   mounted_on = λ s row trigger entry i may. goes s _ row _ _ i.is (ap writes i.next) (same_attachments s.kernel _ (λ fs. refl) (omega arith));
@@ -115,7 +115,7 @@ book = record {
 
 -- an outcome leaves the book right
 pub outcome_book : (s : State) (event : Event) → AreGiven s.kernel s.daemon → TokensAgree s.kernel s.daemon.jobs → ArePlanned s.daemon.jobs → BookAgrees s.kernel s.daemon → BookAgrees (after s (outcome_of s event)).kernel (after s (outcome_of s event)).daemon
-outcome_book s event given tokens planned h = (tours.outcome AnyPath NarrowsBy BookStays book s event (any_paths s event)).well.book given planned tokens.numbers h
+outcome_book s event given tokens planned h = (tours.outcome AnyPath AnyJob NarrowsBy BookStays book s event (any_event s event)).well.book given planned tokens.numbers h
 
 -- in the initial world nothing is served, and nothing is written down
 pub initial_book : (opening : Opening) → BookAgrees (opening_of opening).kernel (opening_of opening).daemon

@@ -8,6 +8,7 @@ use Rattle.am_names.specs.declared.row.TokenKind.{TokenKind}
 use Rattle.am_names.specs.declared.row.TokenKind.TheVariants.{Missing, Expire}
 use Rattle.am_names.specs.declared.row.WaitRow.{WaitRow}
 use Rattle.am_names.specs.declared.trigger.Trigger.{Trigger}
+use Rattle.am_names.proofs.Basics.{none_where_not_some, true_where_not_false}
 use Rattle.am_state.specs.declared.obs.Obs.{Obs}
 use Rattle.am_group.specs.declared.membership.Membership.TheVariants.{Private}
 use Rattle.am_group.specs.Invariant.{AddsNoReceivers}
@@ -39,28 +40,27 @@ use Rattle.am_machine.specs.declared.event.Event.{Event}
 use Rattle.am_machine.specs.State.{State}
 use Rattle.am_machine.specs.Machine.{after, outcome_of}
 use Rattle.am_machine.specs.Invariant.Places.{PlacesAgree}
-use Rattle.am_machine.proofs.Tests.{else_none, first_none, others_none, not_false, none_of}
-use Rattle.am_machine.proofs.SiteKeeps.{Keeps, keeps_all, keeps_then, keeps_latest, marked_sites}
-use Rattle.am_machine.proofs.PlaceKeeps.{kept_places}
-use Rattle.am_machine.proofs.PlaceGrown.{mounted_places, mounted_here}
-use Rattle.am_machine.proofs.PlaceUmounts.{plain_places, dropped_places, daemons_places}
-use Rattle.am_machine.proofs.PlaceCopies.{copied_places, changed_places}
-use Rattle.am_machine.proofs.PlaceInside.{position_inside}
-use Rattle.am_machine.proofs.PlaceAttached.{attached_places}
+use Rattle.am_machine.proofs.Tests.{test_passed, first_passed, others_passed}
+use Rattle.am_machine.proofs.Places.Unchanged.{kept_places, SamePlaces, keeps_all, keeps_then, keeps_latest, marked_sites}
+use Rattle.am_machine.proofs.Places.Grown.{mounted_places, mounted_here}
+use Rattle.am_machine.proofs.Places.Umounts.{plain_places, dropped_places, daemons_places}
+use Rattle.am_machine.proofs.Places.Copies.{copied_places, changed_places}
+use Rattle.am_machine.proofs.Places.Paths.{position_inside}
+use Rattle.am_machine.proofs.Places.Attach.{attached_places}
 use Rattle.am_machine.proofs.Tour.Walks as tour
 use Rattle.am_machine.proofs.Tour.Walks.{AnyPath}
 use Rattle.am_machine.proofs.Tour.Events as tours
-use Rattle.am_machine.proofs.Tour.Events.{IsUnmounted, any_paths}
+use Rattle.am_machine.proofs.Tour.Events.{IsUnmounted, any_event, AnyJob}
 
 -- ---- what walkers do changes no mount, and of an autofs just whether it is catatonic
 
 abbrev pub KeepsBy : KernelState → List Obs → KernelState → Type 0
-KeepsBy k shown made = Keeps k made
+KeepsBy k shown made = SamePlaces k made
 
-pub closes : (k : KernelState) (fs : ℕ) → Keeps k (closed fs k)
+pub closes : (k : KernelState) (fs : ℕ) → SamePlaces k (closed fs k)
 closes k fs = record { table = refl; last_fs = refl; sites = marked_sites fs true k.triggers }
 
-freed : (kind : TokenKind) (k : KernelState) (wait : WaitRow) (moment : ℕ) → Keeps k (resumes.freed_from kind wait moment k)
+freed : (kind : TokenKind) (k : KernelState) (wait : WaitRow) (moment : ℕ) → SamePlaces k (resumes.freed_from kind wait moment k)
 freed Missing k wait moment = record { table = refl; last_fs = refl; sites = λ fs. refl }
 freed Expire k wait moment = record { table = refl; last_fs = refl; sites = λ fs. refl }
 
@@ -85,46 +85,46 @@ pub record Placed (k made : KernelState) : Type 0 where
 record StaysPlaced (s : State) (shown : List Obs) (t : State) : Type 0 where
   holds : PlacesAgree s.kernel → Placed s.kernel t.kernel
 
-placed_kept : (k made : KernelState) → Keeps k made → PlacesAgree k → Placed k made
+placed_kept : (k made : KernelState) → SamePlaces k made → PlacesAgree k → Placed k made
 placed_kept k made keeps h = record {
   places = kept_places k made keeps h;
   law = subst (λ (t : MountTable). AddsNoReceivers k.table.groups t.groups) (sym keeps.table) (λ b c there other r. r);
 }
 
 -- neither mounts nor locations change
-quietly : (s : State) (shown : List Obs) (t : State) → Keeps s.kernel t.kernel → StaysPlaced s shown t
+quietly : (s : State) (shown : List Obs) (t : State) → SamePlaces s.kernel t.kernel → StaysPlaced s shown t
 quietly s shown t keeps = record { holds = placed_kept s.kernel t.kernel keeps }
 
 -- ---- mounts come
 
 attach_at : (k : KernelState) (path : List (List ℕ)) (at : Position) (direct : Bool) (timeout : ℕ) → position_at k 0 path ≡ Ok at → attach_tests k at ≡ None → PlacesAgree k → Placed k (attached_at direct timeout k at)
 attach_at k path at direct timeout is may h = record {
-  places = attached_places k h at (position_inside k h.whole 0 path at is) (else_none (is_on_autofs k at.mount) _ (or_else (attach_refusal k) (new_fs_refusal k at.mount)) may).0 direct timeout;
+  places = attached_places k h at (position_inside k h.whole 0 path at is) (test_passed (is_on_autofs k at.mount) _ (or_else (attach_refusal k) (new_fs_refusal k at.mount)) may).0 direct timeout;
   law = mounted_law k.table h.whole at (k.last_fs + 1) Private;
 }
 
 mount_there : (t : MountTable) (m : ℕ) → added.mount_refusal m t ≡ None → is_mount t m ≡ true
-mount_there t m may = not_false (is_mount t m) (else_none (not (is_mount t m)) _ _ may).0
+mount_there t m may = true_where_not_false (is_mount t m) (test_passed (not (is_mount t m)) _ _ may).0
 
 mount_at : (k : KernelState) (at : Position) → mount_tests k at ≡ None → PlacesAgree k → Placed k (with_mount at k)
 mount_at k at may h =
-    let tests = else_none (is_on_autofs k at.mount) _ (new_fs_refusal k at.mount) may in
+    let tests = test_passed (is_on_autofs k at.mount) _ (new_fs_refusal k at.mount) may in
     record {
-      places = mounted_places k at (k.last_fs + 1) (k.last_fs + 1) Private h (mount_there k.table at.mount (others_none (fs_refusal k) _ tests.1)) tests.0 (inl refl) (omega arith) (omega arith);
+      places = mounted_places k at (k.last_fs + 1) (k.last_fs + 1) Private h (mount_there k.table at.mount (others_passed (fs_refusal k) _ tests.1)) tests.0 (inl refl) (omega arith) (omega arith);
       law = mounted_law k.table h.whole at (k.last_fs + 1) Private;
     }
 
 bind_to : (k : KernelState) (source at : Position) → bind_tests k source at ≡ None → PlacesAgree k → Placed k (bound_at k source at)
 bind_to k source at may h =
-    let sited = others_none (source_refusal k source.mount) _ (others_none (root_refusal source) _ may) in
-    let tests = else_none (is_on_autofs k at.mount) _ (added.bind_refusal source.mount at.mount k.table) sited in
-    let first = else_none (not (is_mount k.table source.mount)) _ _ tests.1 in
-    let second = else_none (added.is_unbindable (membership_of k.table source.mount)) _ _ first.1 in
-    let third = else_none (not (is_mount k.table at.mount)) _ _ second.1 in
-    let row = some_of (mount_row k.table.rows source.mount) (not_false (is_mount k.table source.mount) first.0) in
+    let sited = others_passed (source_refusal k source.mount) _ (others_passed (root_refusal source) _ may) in
+    let tests = test_passed (is_on_autofs k at.mount) _ (added.bind_refusal source.mount at.mount k.table) sited in
+    let first = test_passed (not (is_mount k.table source.mount)) _ _ tests.1 in
+    let second = test_passed (added.is_unbindable (membership_of k.table source.mount)) _ _ first.1 in
+    let third = test_passed (not (is_mount k.table at.mount)) _ _ second.1 in
+    let row = some_of (mount_row k.table.rows source.mount) (true_where_not_false (is_mount k.table source.mount) first.0) in
     let fs : row.0.fs ≡ fs_in (mount_row k.table.rows source.mount) = sym (ap fs_in row.1) in
     record {
-      places = mounted_places k at (fs_in (mount_row k.table.rows source.mount)) k.last_fs (membership_of k.table source.mount) h (not_false (is_mount k.table at.mount) third.0) tests.0
+      places = mounted_places k at (fs_in (mount_row k.table.rows source.mount)) k.last_fs (membership_of k.table source.mount) h (true_where_not_false (is_mount k.table at.mount) third.0) tests.0
           (inr (source.mount, row.0, row.1, fs, refl)) (subst (λ (n : ℕ). n ≤ k.last_fs) fs (h.given_fs source.mount row.0 row.1)) (omega arith);
       law = mounted_law k.table h.whole at (fs_in (mount_row k.table.rows source.mount)) (membership_of k.table source.mount);
     }
@@ -136,32 +136,32 @@ later_false true b c h = absurd cc
 later_false false true c h = absurd cc
 later_false false false c h = (refl, h)
 
-some_at : (o : Option Position) → is_none o ≡ false → (at : Position) × (o ≡ Some at)
-some_at None h = absurd cc
-some_at (Some at) h = (at, refl)
+pub value_unless_none : (o : Option Position) → is_none o ≡ false → (at : Position) × (o ≡ Some at)
+value_unless_none None h = absurd cc
+value_unless_none (Some at) h = (at, refl)
 
 -- it is a mount on which nothing is mounted
 umount_bare : (uses : ℕ → Bool) (m : ℕ) (t : MountTable) → umount_refusal uses m t ≡ None → is_bare t m ≡ true
 umount_bare uses m t may =
-    let first = else_none (not (is_mount t m)) _ _ may in
-    let second = else_none (not (is_some (mountpoint_of t m))) _ _ first.1 in
-    not_false (is_bare t m) (else_none (not (is_bare t m)) _ _ second.1).0
+    let first = test_passed (not (is_mount t m)) _ _ may in
+    let second = test_passed (not (is_some (mountpoint_of t m))) _ _ first.1 in
+    true_where_not_false (is_bare t m) (test_passed (not (is_bare t m)) _ _ second.1).0
 
 umount_at : (k : KernelState) (at : Position) → umount_tests k at ≡ None → PlacesAgree k → Placed k (without_mounts (gone_at k (Ok at)) k)
 umount_at k at may h =
     let m = at.mount in
-    let sited = others_none (root_refusal at) _ may in
-    let bare = umount_bare (is_used k.uses) m k.table (others_none (site_refusal k m) _ sited) in
-    let tests = else_none (is_none (mountpoint_of k.table m)) _ _ (first_none (site_refusal k m) _ sited) in
-    let mounted = some_at (mountpoint_of k.table m) tests.0 in
-    let daemons = later_false (is_on_autofs k m) (is_parent_on_autofs k (mountpoint_of k.table m)) (is_any_on_autofs k (unmounted k.table m)) (else_none (is_daemons k m) _ None tests.1).0 in
+    let sited = others_passed (root_refusal at) _ may in
+    let bare = umount_bare (is_used k.uses) m k.table (others_passed (site_refusal k m) _ sited) in
+    let tests = test_passed (is_none (mountpoint_of k.table m)) _ _ (first_passed (site_refusal k m) _ sited) in
+    let mounted = value_unless_none (mountpoint_of k.table m) tests.0 in
+    let daemons = later_false (is_on_autofs k m) (is_parent_on_autofs k (mountpoint_of k.table m)) (is_any_on_autofs k (unmounted k.table m)) (test_passed (is_daemons k m) _ None tests.1).0 in
     record {
       places = plain_places k h m mounted.0 mounted.1 bare (ap (is_parent_on_autofs k) (sym mounted.1) ∙ daemons.0) daemons.1;
       law = removed_law k.table h.whole (gone_at k (Ok at));
     }
 
-other_ns : (ns : ℕ) → (ns == 0) ≡ false → ns ≢ 0
-other_ns ns h same = let no : true ≡ false = sym (eq-eqb ns 0 same) ∙ h in cc
+pub not_namespace_0 : (ns : ℕ) → (ns == 0) ≡ false → ns ≢ 0
+not_namespace_0 ns h same = let no : true ≡ false = sym (eq-eqb ns 0 same) ∙ h in cc
 
 -- ---- a mount on a trigger
 
@@ -181,16 +181,16 @@ current_in k fs attach (row ∷ rows) h = ⊎_elim
     (or_cases (row.fs == fs && is_attached_by k attach row) (list_any (λ r. r.fs == fs && is_attached_by k attach r) rows) h)
 
 current_autofs : (k : KernelState) (fs attach : ℕ) → not (is_current k fs attach) ≡ false → (b : Autofs) × (autofs_of k.triggers fs ≡ Some b)
-current_autofs k fs attach h = current_in k fs attach k.attached (not_false (is_current k fs attach) h)
+current_autofs k fs attach h = current_in k fs attach k.attached (true_where_not_false (is_current k fs attach) h)
 
 mount_on : (k : KernelState) (attach : ℕ) (trigger : Trigger) → mount_on_refusal k attach trigger ≡ None → PlacesAgree k → Placed k (with_mount_on trigger k)
 mount_on k attach trigger may h =
-    let first = else_none (not (is_current k trigger.fs attach)) _ _ may in
-    let second = else_none (not (is_there k trigger)) _ _ first.1 in
-    let third = else_none (is_some (mounted_on k trigger)) _ (new_fs_refusal k (location_of k trigger.fs)) second.1 in
+    let first = test_passed (not (is_current k trigger.fs attach)) _ _ may in
+    let second = test_passed (not (is_there k trigger)) _ _ first.1 in
+    let third = test_passed (is_some (mounted_on k trigger)) _ (new_fs_refusal k (location_of k trigger.fs)) second.1 in
     let autofs = current_autofs k trigger.fs attach first.0 in
     let location = location_of k trigger.fs in
-    let free : IsFree k.table.rows location (place_of trigger) = subst (λ (o : Option ℕ). IfNone o (IsFree k.table.rows location (place_of trigger))) (none_of (mounted_on k trigger) third.0) (none_free k.table.rows location (place_of trigger) (mounted_on k trigger) (top_is k.table.rows h.whole.rising location (place_of trigger))) in
+    let free : IsFree k.table.rows location (place_of trigger) = subst (λ (o : Option ℕ). IfNone o (IsFree k.table.rows location (place_of trigger))) (none_where_not_some (mounted_on k trigger) third.0) (none_free k.table.rows location (place_of trigger) (mounted_on k trigger) (top_is k.table.rows h.whole.rising location (place_of trigger))) in
     record {
       places = mounted_here k (trigger_position k trigger) (k.last_fs + 1) (k.last_fs + 1) Private h trigger.fs autofs.0 autofs.1 (ap location_in autofs.1) free (inl refl) (omega arith) (omega arith);
       law = mounted_law k.table h.whole (trigger_position k trigger) (k.last_fs + 1) Private;
@@ -215,7 +215,7 @@ unmounts_from s row trigger m u h =
 
 -- ---- events
 
-places : tours.Keeps AnyPath KeepsBy StaysPlaced
+places : tours.Keeps AnyPath AnyJob KeepsBy StaysPlaced
 places = record {
   same = λ s. quietly s _ s (keeps_all s.kernel);
   attached = λ s path point at is fresh may. record { holds = attach_at s.kernel path at point.direct (line_timeout s.daemon point.entry) is may };
@@ -224,7 +224,7 @@ places = record {
   unmounted = λ s at may. record { holds = umount_at s.kernel at may };
   changed = λ s change at may. record { holds = λ h. record { places = changed_places s.kernel h change at.mount; law = (changed_keeps change at.mount s.kernel.table.groups h.whole.sound).law } };
   copied = λ s ns form may. record { holds = λ h. record { places = copied_places s.kernel h ns form; law = with_copy_law s.kernel.table h.whole ns form } };
-  dropped = λ s ns may. record { holds = λ h. record { places = dropped_places s.kernel h ns (other_ns ns (else_none (ns == 0) _ _ may).0); law = removed_law s.kernel.table h.whole (mounts_in s.kernel.table ns) } };
+  dropped = λ s ns may. record { holds = λ h. record { places = dropped_places s.kernel h ns (not_namespace_0 ns (test_passed (ns == 0) _ _ may).0); law = removed_law s.kernel.table h.whole (mounts_in s.kernel.table ns) } };
   walks = walks;
   walked = λ s shown k moment keeps. record { holds = placed_kept s.kernel (with_latest moment k) (keeps_latest s.kernel k moment keeps) };
   left = λ s walker mount is. quietly s _ _ (record { table = refl; last_fs = refl; sites = λ fs. refl });
@@ -243,7 +243,7 @@ places = record {
 }
 
 outcome_placed : (s : State) (event : Event) → PlacesAgree s.kernel → Placed s.kernel (after s (outcome_of s event)).kernel
-outcome_placed s event h = (tours.outcome AnyPath KeepsBy StaysPlaced places s event (any_paths s event)).well.holds h
+outcome_placed s event h = (tours.outcome AnyPath AnyJob KeepsBy StaysPlaced places s event (any_event s event)).well.holds h
 
 -- an outcome leaves the agreement on places
 pub outcome_places : (s : State) (event : Event) → PlacesAgree s.kernel → PlacesAgree (after s (outcome_of s event)).kernel

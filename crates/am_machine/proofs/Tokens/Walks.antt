@@ -1,8 +1,8 @@
--- What walkers do keeps what kernel and daemon agree on.
+-- What walkers do keeps what kernel and jobs agree on of tokens.
 use Rattle.std.proofs.Common.{◌≡◌, ℕ, ◌+◌, Bool, true, false, not, ◌&&◌, ◌==◌, List, [], ◌∷◌, Option, Some, None, refl, ap, subst, ◌∙◌, inl, arith, sym}
-use Rattle.std.specs.Prelude.{is_some, find}
+use Rattle.std.specs.Prelude.{is_some}
 use Rattle.std.specs.Option.{option_map}
-use Rattle.std.proofs.lemmas.List.Elements.{filter_passes}
+use Rattle.std.proofs.lemmas.List.Elements.{filter_passes, All-weaker}
 use Rattle.am_names.specs.Trigger.{same_trigger}
 use Rattle.am_names.specs.declared.trigger.Trigger.{Trigger}
 use Rattle.am_names.specs.declared.row.OpenToken.{OpenToken}
@@ -13,35 +13,37 @@ use Rattle.am_wait.specs.Rows.{WaitRows, token_of, is_open_on, same_kind, open_o
 use Rattle.am_wait.specs.Calls.{joined_on}
 use Rattle.am_wait.proofs.CallLemmas.{is_none_of}
 use Rattle.am_wait.proofs.FindLemmas.{joined_if, token_joined}
-use Rattle.am_expire.specs.Pick.{Expiry, is_due, is_open, may_go, mount_on, is_eligible, candidates, is_first, pick_of}
+use Rattle.am_expire.specs.Pick.{Expiry, is_due, is_open, may_go, mount_on, is_eligible, candidates, pick_of}
 use Rattle.am_walk.specs.Laws.{IsIdle}
 use Rattle.am_kernel.specs.declared.begun.Begin.{Begin}
 use Rattle.am_kernel.specs.State.{KernelState}
+use Rattle.am_daemon.specs.State.{DaemonState}
 use Rattle.am_kernel.specs.Walks as walks
 use Rattle.am_kernel.specs.Walks.{packet_for}
 use Rattle.am_kernel.specs.Expires as expires
-use Rattle.am_laws.proofs.Bools.{and_both, or_no}
-use Rattle.am_laws.proofs.Packets.{nat_is}
-use Rattle.am_machine.proofs.GivenRows.{given_more}
-use Rattle.am_machine.proofs.TokenLists.{all_found, found_none}
-use Rattle.am_machine.proofs.TokenStays.{bare, stays_agree}
-use Rattle.am_machine.proofs.TokenNotify.{notices_agree, AreNumbered}
-use Rattle.am_machine.proofs.RecordTokens.{later_records, stays_later, opened_later}
+use Rattle.am_machine.specs.Invariant.Attachments.{AreGiven}
+use Rattle.am_machine.specs.Invariant.Tokens.{TokensAgree}
+use Rattle.am_machine.proofs.Attachments.Changes.{given_freed}
+use Rattle.am_machine.proofs.Lists.Different.{all_found, found_none}
+use Rattle.am_machine.proofs.Tokens.Catatonic.{closed_agree}
+use Rattle.am_machine.proofs.Tokens.Unchanged.{bare, stays_agree, jobs_given, same_agree}
+use Rattle.am_machine.proofs.Tokens.Notify.{notices_agree, AreNumbered}
 use Rattle.am_names.specs.declared.row.WaitRow.{WaitRow}
 use Rattle.am_kernel.specs.Resumes as resumes
 use Rattle.am_names.specs.declared.row.WaitRow.{WaitRow}
+use Rattle.am_names.proofs.Basics.{neither_of_or, both_of_and, equal_by_test, none_where_mapped_none, false_where_not}
 use Rattle.am_kernel.specs.Sites.{attach_of}
 use Rattle.am_state.specs.declared.obs.Obs.{Obs}
 use Rattle.am_machine.proofs.Traces.Walks.{packet_asks}
-use Rattle.am_machine.proofs.Tokens.Agreed.{Holds, IsQuiet, quiet_itself, quiet_holds, old_jobs, closes}
+use Rattle.am_machine.proofs.Tour.Picked.{picked_candidate}
 use Rattle.am_machine.proofs.Tour.Walks as tour
 use Rattle.am_machine.proofs.Tour.Walks.{AnyPath}
 
--- ---- no token is open on an idle trigger
+-- where the attachments of jobs were given, and tokens are numbered as the trace has it
+abbrev pub AgreesBy : KernelState → List Obs → KernelState → Type 0
+AgreesBy k shown made = (d : DaemonState) → AreNumbered k.waits.tokens k.waits.last_token d.jobs → AreGiven k d → TokensAgree k d.jobs → TokensAgree made d.jobs
 
-mapped_none : (o : Option OpenToken) → option_map (λ (row : OpenToken). row.token) o ≡ None → o ≡ None
-mapped_none None e = refl
-mapped_none (Some row) e = absurd cc
+-- ---- no token is open on an idle trigger
 
 first_false : (a b : Bool) → b ≡ true → (a && b) ≡ false → a ≡ false
 first_false true b h e = absurd cc
@@ -54,7 +56,7 @@ kind_itself Expire = refl
 other_trigger : (tokens : List OpenToken) (trigger : Trigger) (t : ℕ) (row : OpenToken) → open_on tokens row.kind trigger ≡ None → token_of tokens t ≡ Some row → same_trigger row.trigger trigger ≡ false
 other_trigger tokens trigger t row none e =
     first_false (same_trigger row.trigger trigger) (same_kind row.kind row.kind) (kind_itself row.kind)
-    (found_none (λ (r : OpenToken). is_open_on row.kind trigger r) (λ (r : OpenToken). r.token == t) tokens row (mapped_none _ none) e)
+    (found_none (λ (r : OpenToken). is_open_on row.kind trigger r) (λ (r : OpenToken). r.token == t) tokens row (none_where_mapped_none (λ (row : OpenToken). row.token) _ none) e)
 
 either_kind : (tokens : List OpenToken) (trigger : Trigger) (kind : TokenKind) → IsIdle tokens trigger → open_on tokens kind trigger ≡ None
 either_kind tokens trigger Missing idle = idle.1
@@ -70,25 +72,19 @@ bare_joined true walker None = refl
 bare_joined true walker (Some row) = refl
 bare_joined false walker o = refl
 
-tokens_joined : (o : Option OpenToken) (token walker t : ℕ) (w : WaitRows) → option_map bare (token_of (joined_on o token walker w).tokens t) ≡ option_map bare (token_of w.tokens t)
+pub tokens_joined : (o : Option OpenToken) (token walker t : ℕ) (w : WaitRows) → option_map bare (token_of (joined_on o token walker w).tokens t) ≡ option_map bare (token_of w.tokens t)
 tokens_joined None token walker t w = refl
 tokens_joined (Some row) token walker t w = ap (option_map bare) (token_joined token walker t w.tokens (token == t) refl) ∙ bare_joined (token == t) walker (token_of w.tokens t)
 
-last_joined : (o : Option OpenToken) (token walker : ℕ) (w : WaitRows) → (joined_on o token walker w).last_token ≡ w.last_token
+pub last_joined : (o : Option OpenToken) (token walker : ℕ) (w : WaitRows) → (joined_on o token walker w).last_token ≡ w.last_token
 last_joined None token walker w = refl
 last_joined (Some row) token walker w = refl
 
-joined_holds : (k : KernelState) (begin : Begin) (token : ℕ) (passed : List Trigger) → Holds k (walks.with_joined begin token passed k)
-joined_holds k begin token passed = record {
-  holds = λ d n h.
-      let made = walks.with_joined begin token passed k in
-      record {
-        given = given_more k made d refl refl refl (omega arith) h.given;
-        tokens = stays_agree k made d.jobs (record { tokens = λ t. tokens_joined (token_of k.waits.tokens token) token begin.walker t k.waits; queue = refl; grows = λ fs. inl refl }) (old_jobs k d h.given) h.tokens;
-        planned = h.planned;
-        records = later_records k.waits made.waits d.book (stays_later k.waits made.waits (λ t. tokens_joined (token_of k.waits.tokens token) token begin.walker t k.waits) (last_joined (token_of k.waits.tokens token) token begin.walker k.waits)) h.records;
-      };
-}
+joined_agrees : (k : KernelState) (begin : Begin) (token : ℕ) (passed : List Trigger) (d : DaemonState) → AreGiven k d → TokensAgree k d.jobs → TokensAgree (walks.with_joined begin token passed k) d.jobs
+joined_agrees k begin token passed d given h =
+    stays_agree k (walks.with_joined begin token passed k) d.jobs
+    (record { tokens = λ t. tokens_joined (token_of k.waits.tokens token) token begin.walker t k.waits; queue = refl; grows = λ fs. inl refl })
+    (jobs_given k d given) h
 
 -- ---- the daemon is notified
 
@@ -98,57 +94,39 @@ notice_token k walker trigger kind = record { token = k.waits.last_token + 1; tr
 abbrev pub notice_packet : KernelState → ℕ → ℕ → Trigger → TokenKind → QueuedRow
 notice_packet k walker attach trigger kind = record { token = k.waits.last_token + 1; attach = attach; packet = packet_for kind (k.waits.last_token + 1) walker trigger }
 
-notified_holds : (k : KernelState) (begin : Begin) (trigger : Trigger) (attach : ℕ) (passed : List Trigger) → attach_of k trigger.fs ≡ Some attach → IsIdle k.waits.tokens trigger → Holds k (walks.with_notified begin trigger attach passed k)
-notified_holds k begin trigger attach passed is idle = record {
-  holds = λ d n h.
-      let made = walks.with_notified begin trigger attach passed k in
-      record {
-        given = given_more k made d refl refl refl (omega arith) h.given;
-        tokens = notices_agree k made d.jobs (notice_token k begin.walker trigger Missing) (notice_packet k begin.walker attach trigger Missing)
-            (record {
-              tokens = refl;
-              queue = refl;
-              attach = λ fs. refl;
-              token = refl;
-              its = refl;
-              its_number = refl;
-              asks = packet_asks Missing (k.waits.last_token + 1) begin.walker trigger.fs trigger.name;
-              current = is;
-              idle = λ t row e. idle_differs k.waits.tokens trigger t row idle e;
-            }) n h.tokens;
-        planned = h.planned;
-        records = later_records k.waits made.waits d.book (opened_later k.waits made.waits (notice_token k begin.walker trigger Missing) refl refl refl) h.records;
-      };
-}
+notified_agrees : (k : KernelState) (begin : Begin) (trigger : Trigger) (attach : ℕ) (passed : List Trigger) → attach_of k trigger.fs ≡ Some attach → IsIdle k.waits.tokens trigger →
+    (d : DaemonState) → AreNumbered k.waits.tokens k.waits.last_token d.jobs → TokensAgree k d.jobs → TokensAgree (walks.with_notified begin trigger attach passed k) d.jobs
+notified_agrees k begin trigger attach passed is idle d n h =
+    notices_agree k (walks.with_notified begin trigger attach passed k) d.jobs (notice_token k begin.walker trigger Missing) (notice_packet k begin.walker attach trigger Missing)
+    (record {
+      tokens = refl;
+      queue = refl;
+      attach = λ fs. refl;
+      token = refl;
+      its = refl;
+      its_number = refl;
+      asks = packet_asks Missing (k.waits.last_token + 1) begin.walker trigger.fs trigger.name;
+      current = is;
+      idle = λ t row e. idle_differs k.waits.tokens trigger t row idle e;
+    }) n h
 
-expiring_holds : (k : KernelState) (walker : ℕ) (trigger : Trigger) (attach : ℕ) → attach_of k trigger.fs ≡ Some attach → IsIdle k.waits.tokens trigger → Holds k (expires.with_expiring walker trigger attach k)
-expiring_holds k walker trigger attach is idle = record {
-  holds = λ d n h.
-      let made = expires.with_expiring walker trigger attach k in
-      record {
-        given = given_more k made d refl refl refl (omega arith) h.given;
-        tokens = notices_agree k made d.jobs (notice_token k walker trigger Expire) (notice_packet k walker attach trigger Expire)
-            (record {
-              tokens = refl;
-              queue = refl;
-              attach = λ fs. refl;
-              token = refl;
-              its = refl;
-              its_number = refl;
-              asks = packet_asks Expire (k.waits.last_token + 1) walker trigger.fs trigger.name;
-              current = is;
-              idle = λ t row e. idle_differs k.waits.tokens trigger t row idle e;
-            }) n h.tokens;
-        planned = h.planned;
-        records = later_records k.waits made.waits d.book (opened_later k.waits made.waits (notice_token k walker trigger Expire) refl refl refl) h.records;
-      };
-}
+expiring_agrees : (k : KernelState) (walker : ℕ) (trigger : Trigger) (attach : ℕ) → attach_of k trigger.fs ≡ Some attach → IsIdle k.waits.tokens trigger →
+    (d : DaemonState) → AreNumbered k.waits.tokens k.waits.last_token d.jobs → TokensAgree k d.jobs → TokensAgree (expires.with_expiring walker trigger attach k) d.jobs
+expiring_agrees k walker trigger attach is idle d n h =
+    notices_agree k (expires.with_expiring walker trigger attach k) d.jobs (notice_token k walker trigger Expire) (notice_packet k walker attach trigger Expire)
+    (record {
+      tokens = refl;
+      queue = refl;
+      attach = λ fs. refl;
+      token = refl;
+      its = refl;
+      its_number = refl;
+      asks = packet_asks Expire (k.waits.last_token + 1) walker trigger.fs trigger.name;
+      current = is;
+      idle = λ t row e. idle_differs k.waits.tokens trigger t row idle e;
+    }) n h
 
 -- ---- an expiry
-
-not_false : (b : Bool) → not b ≡ true → b ≡ false
-not_false true e = absurd cc
-not_false false e = refl
 
 -- what is picked is a trigger of the file system on which no token is open
 abbrev IsPicked : Expiry → Trigger → Type 0
@@ -159,50 +137,37 @@ eligible e row h =
     let one = row.0.fs == e.fs in
     let due = is_due e.timeout e.moment e.immediate row.1 in
     let shut = not (is_open e.waits row.0) in
-    let first = and_both (one && due && shut) (may_go e.table e.uses (mount_on e row.0)) h in
-    let second = and_both (one && due) shut first.0 in
-    let third = and_both one due second.0 in
-    let closed = or_no (is_some (open_on e.waits.tokens Missing row.0)) (is_some (open_on e.waits.tokens Expire row.0)) (not_false (is_open e.waits row.0) second.1) in
-    (nat_is row.0.fs e.fs third.0, (is_none_of (open_on e.waits.tokens Expire row.0) closed.1, is_none_of (open_on e.waits.tokens Missing row.0) closed.0))
-
-picked_by : (e : Expiry) (trigger : Trigger) (o : Option (Trigger × ℕ)) → find (is_first (candidates e)) (candidates e) ≡ o → option_map (λ (row : Trigger × ℕ). row.0) o ≡ Some trigger → IsPicked e trigger
-picked_by e trigger None is h = absurd cc
-picked_by e trigger (Some row) is h =
-    let may = all_found (λ (r : Trigger × ℕ). is_eligible e r ≡ true) (is_first (candidates e)) (candidates e) row (filter_passes (is_eligible e) e.triggers.uses) is in
-    let same : row.0 ≡ trigger = cc in
-    subst (IsPicked e) same (eligible e row may)
+    let first = both_of_and (one && due && shut) (may_go e.table e.uses (mount_on e row.0)) h in
+    let second = both_of_and (one && due) shut first.0 in
+    let third = both_of_and one due second.0 in
+    let closed = neither_of_or (is_some (open_on e.waits.tokens Missing row.0)) (is_some (open_on e.waits.tokens Expire row.0)) (false_where_not (is_open e.waits row.0) second.1) in
+    (equal_by_test row.0.fs e.fs third.0, (is_none_of (open_on e.waits.tokens Expire row.0) closed.1, is_none_of (open_on e.waits.tokens Missing row.0) closed.0))
 
 picked : (e : Expiry) (trigger : Trigger) → pick_of e ≡ Some trigger → IsPicked e trigger
-picked e trigger h = picked_by e trigger (find (is_first (candidates e)) (candidates e)) refl h
+picked e trigger h =
+    picked_candidate (IsPicked e) e trigger h
+    (All-weaker (λ (row : Trigger × ℕ). is_eligible e row ≡ true) (λ (row : Trigger × ℕ). IsPicked e row.0) (eligible e) (candidates e) (filter_passes (is_eligible e) e.triggers.uses))
 
 -- ---- a wait is collected
 
-freed : (kind : TokenKind) (k : KernelState) (wait : WaitRow) (moment : ℕ) → IsQuiet k (resumes.freed_from kind wait moment k)
-freed Missing k wait moment = record { tokens = refl; last_token = refl; queue = refl; attached = refl; autofs = refl; last_attach = refl; more_fs = omega arith }
-freed Expire k wait moment = record { tokens = refl; last_token = refl; queue = refl; attached = refl; autofs = refl; last_attach = refl; more_fs = omega arith }
-
-after : (k base made : KernelState) → IsQuiet k base → Holds base made → Holds k made
-after k base made q h = record {
-  holds = λ d n agreed.
-      let rise = subst (λ (last : ℕ). AreNumbered base.waits.tokens last d.jobs) (sym q.last_token) (subst (λ (tokens : List OpenToken). AreNumbered tokens k.waits.last_token d.jobs) (sym q.tokens) n) in
-      h.holds d rise ((quiet_holds k base q).holds d n agreed);
-}
+-- what keeps the tokens once the wait is collected keeps them
+after_freed : (kind : TokenKind) (k : KernelState) (wait : WaitRow) (moment : ℕ) (shown : List Obs) (made : KernelState) → AgreesBy (resumes.freed_from kind wait moment k) shown made → AgreesBy k shown made
+after_freed Missing k wait moment shown made later d n given h =
+    later d n (given_freed Missing k wait moment d given) (same_agree k (resumes.freed_from Missing wait moment k) d (record { tokens = refl; queue = refl; attached = refl; autofs = refl }) given h)
+after_freed Expire k wait moment shown made later d n given h =
+    later d n (given_freed Expire k wait moment d given) (same_agree k (resumes.freed_from Expire wait moment k) d (record { tokens = refl; queue = refl; attached = refl; autofs = refl }) given h)
 
 -- ---- all that walkers do
 
-abbrev pub HoldsBy : KernelState → List Obs → KernelState → Type 0
-HoldsBy k shown made = Holds k made
-
-pub holds : tour.Keeps AnyPath HoldsBy
-holds = record {
-  nothing = λ k. quiet_holds k k (quiet_itself k);
-  arrived = λ k begin at passed w.
-      quiet_holds k (walks.arrived begin at.mount passed k) (record { tokens = refl; last_token = refl; queue = refl; attached = refl; autofs = refl; last_attach = refl; more_fs = omega arith });
-  joined = λ k begin token passed w. joined_holds k begin token passed;
-  notified = λ k begin trigger attach passed w is. notified_holds k begin trigger attach passed is w.stops;
-  expiring = λ k walker fs moment immediate trigger attach x.
+pub walkers : tour.Keeps AnyPath AgreesBy
+walkers = record {
+  nothing = λ k d n given h. h;
+  arrived = λ k begin at passed w d n given h. same_agree k (walks.arrived begin at.mount passed k) d (record { tokens = refl; queue = refl; attached = refl; autofs = refl }) given h;
+  joined = λ k begin token passed w d n given h. joined_agrees k begin token passed d given h;
+  notified = λ k begin trigger attach passed w is d n given h. notified_agrees k begin trigger attach passed is w.stops d n h;
+  expiring = λ k walker fs moment immediate trigger attach x d n given h.
       let pick = picked (expires.expiry_of k fs moment immediate) trigger x.next in
-      expiring_holds k walker trigger attach (ap (attach_of k) pick.0 ∙ x.current) pick.1;
-  closed = closes;
-  collected = λ k kind wait status moment shown made g later. after k (resumes.freed_from kind wait moment k) made (freed kind k wait moment) later;
+      expiring_agrees k walker trigger attach (ap (attach_of k) pick.0 ∙ x.current) pick.1 d n h;
+  closed = λ k fs d n given h. closed_agree k d.jobs fs n.rise h;
+  collected = λ k kind wait status moment shown made g later. after_freed kind k wait moment shown made later;
 }

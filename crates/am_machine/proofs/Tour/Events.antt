@@ -10,6 +10,7 @@ use Rattle.am_names.specs.declared.row.Position.{Position}
 use Rattle.am_names.specs.declared.row.OpenToken.{OpenToken}
 use Rattle.am_names.specs.declared.trigger.Trigger.{Trigger}
 use Rattle.am_names.specs.declared.trigger.Status.{Status}
+use Rattle.am_names.proofs.Basics.{both_of_and, equal_by_test, true_where_not_false, value_where_some, found_passes}
 use Rattle.am_map.specs.EntryText.{EntryText}
 use Rattle.am_state.specs.declared.daemon_row.Record.{Record}
 use Rattle.am_state.specs.declared.kernel_row.QueuedRow.{QueuedRow}
@@ -52,8 +53,6 @@ use Rattle.am_daemon.specs.Attachments.{is_attached, with_attachment, knows, hol
 use Rattle.am_daemon.specs.Deliveries.{job_of, is_busy}
 use Rattle.am_daemon.specs.declared.fault.DaemonFault.TheVariants.{UnknownFs, OldAttach, Busy}
 use Rattle.am_daemon.specs.Acts.{writes, finished}
-use Rattle.am_laws.proofs.Bools.{and_both}
-use Rattle.am_laws.proofs.Packets.{nat_is}
 use Rattle.am_machine.specs.declared.event.Event.{Event}
 use Rattle.am_machine.specs.declared.event.Event.TheVariants as events
 use Rattle.am_machine.specs.declared.answer.Answer.{Answer}
@@ -66,16 +65,16 @@ use Rattle.am_machine.specs.Events.Walkers.{goes}
 use Rattle.am_machine.specs.Events.Requests as requests
 use Rattle.am_machine.specs.Events.Deliveries as deliveries
 use Rattle.am_machine.specs.Events.Acts as acts
-use Rattle.am_machine.proofs.TraceRows.{some_is, found_passes}
-use Rattle.am_machine.proofs.GivenPlans.{acknowledges}
-use Rattle.am_machine.proofs.StandJobs.{MovesNothing}
-use Rattle.am_machine.proofs.Tests.{else_none, first_none, not_false}
+use Rattle.am_machine.proofs.Planned.Acts.{acknowledges}
+use Rattle.am_machine.proofs.Stands.Jobs.{MovesNothing}
+use Rattle.am_machine.proofs.Tests.{test_passed, first_passed}
 use Rattle.am_machine.proofs.Tour.Walks as walks
 
 -- ---- what is known where a change comes
 
--- the job of its number, whose next act is this one
-pub record IsNext (s : State) (row : JobPlan) (a : Act) : Type 0 where
+-- the job of its number, whose next act is this one; Acts is what is known of that number
+pub record IsNext (Acts : ℕ → Type 0) (s : State) (row : JobPlan) (a : Act) : Type 0 where
+  pub acts : Acts row.token
   pub is : job_of s.daemon.jobs row.token ≡ Some row
   pub next : next_of row.plan ≡ Some a
 
@@ -115,8 +114,8 @@ attached point path at s = record s {
 -- ---- a relation that keeps the changes
 
 -- From the first state to the second, with what is seen between. Fits is what is known of the paths of
--- walks, P the same of what the kernel makes of them.
-pub record Keeps (Fits : List (List ℕ) → Type 0) (P : KernelState → List Obs → KernelState → Type 0) (R : State → List Obs → State → Type 0) : Type 0 where
+-- walks, Acts of the number of the job that acts, and P the same as R of what the kernel makes of walks.
+pub record Keeps (Fits : List (List ℕ) → Type 0) (Acts : ℕ → Type 0) (P : KernelState → List Obs → KernelState → Type 0) (R : State → List Obs → State → Type 0) : Type 0 where
   pub same : (s : State) → R s [] s
   -- the administrator
   pub attached : (s : State) (path : List (List ℕ)) (point : Point) (at : Position) → position_at s.kernel 0 path ≡ Ok at → is_attached s.daemon path ≡ false → attach_tests s.kernel at ≡ None →
@@ -140,27 +139,28 @@ pub record Keeps (Fits : List (List ℕ) → Type 0) (P : KernelState → List O
   pub reattached : (s : State) (fs : ℕ) (row : Autofs) → autofs_of s.kernel.triggers fs ≡ Some row → is_live s.kernel fs ≡ false → R s (requests.reattaches s fs).seen (requests.reattaches s fs).state
   -- jobs
   pub delivered : (s : State) (token : ℕ) (row : QueuedRow) → IsTaken s token row → R s (deliveries.takes s row).seen (deliveries.takes s row).state
-  pub rested : (s : State) (row : JobPlan) (a : Act) (outcome : job.Outcome) → IsNext s row a → Rests a outcome → R s [] (going row outcome s.kernel s)
-  pub directory_made : (s : State) (row : JobPlan) (trigger : Trigger) → IsNext s row (act.Mkdir trigger) → R s [] (going row came.Done (with_directory trigger s.kernel) s)
-  pub directory_gone : (s : State) (row : JobPlan) (trigger : Trigger) → IsNext s row (act.Rmdir trigger) → R s [] (going row came.Done (without_directory trigger s.kernel) s)
-  pub mounted_on : (s : State) (row : JobPlan) (trigger : Trigger) (entry : EntryText) → IsNext s row (act.Mount trigger entry) → mount_on_refusal s.kernel row.attach trigger ≡ None →
+  pub rested : (s : State) (row : JobPlan) (a : Act) (outcome : job.Outcome) → IsNext Acts s row a → Rests a outcome → R s [] (going row outcome s.kernel s)
+  pub directory_made : (s : State) (row : JobPlan) (trigger : Trigger) → IsNext Acts s row (act.Mkdir trigger) → R s [] (going row came.Done (with_directory trigger s.kernel) s)
+  pub directory_gone : (s : State) (row : JobPlan) (trigger : Trigger) → IsNext Acts s row (act.Rmdir trigger) → R s [] (going row came.Done (without_directory trigger s.kernel) s)
+  pub mounted_on : (s : State) (row : JobPlan) (trigger : Trigger) (entry : EntryText) → IsNext Acts s row (act.Mount trigger entry) → mount_on_refusal s.kernel row.attach trigger ≡ None →
       R s (seen.Mounted (coming s.kernel (location_of s.kernel trigger.fs)) ∷ []) (going row (came.Made (s.kernel.table.last_mount + 1)) (with_mount_on trigger s.kernel) s)
-  pub unmounted_on : (s : State) (row : JobPlan) (trigger : Trigger) (mount : ℕ) → IsNext s row (act.Umount trigger) → IsUnmounted s row trigger mount →
+  pub unmounted_on : (s : State) (row : JobPlan) (trigger : Trigger) (mount : ℕ) → IsNext Acts s row (act.Umount trigger) → IsUnmounted s row trigger mount →
       R s (seen.Unmounted (gone_with s.kernel (Some mount)) ∷ []) (going row came.Done (without_mounts (gone_with s.kernel (Some mount)) s.kernel) s)
-  pub recorded : (s : State) (row : JobPlan) (trigger : Trigger) (entry : Option Record) → IsNext s row (act.Record trigger entry) → holds s.daemon row.trigger.fs row.attach ≡ true →
+  pub recorded : (s : State) (row : JobPlan) (trigger : Trigger) (entry : Option Record) → IsNext Acts s row (act.Record trigger entry) → holds s.daemon row.trigger.fs row.attach ≡ true →
       R s (seen.Recorded trigger entry ∷ []) (going row came.Done s.kernel s)
-  pub replied : (s : State) (row : JobPlan) (status : Status) (its : OpenToken) → IsNext s row (act.Reply status) → token_of s.kernel.waits.tokens row.token ≡ Some its →
+  pub replied : (s : State) (row : JobPlan) (status : Status) (its : OpenToken) → IsNext Acts s row (act.Reply status) → token_of s.kernel.waits.tokens row.token ≡ Some its →
       R s (answering row.token status s.kernel) (going row came.Done (acknowledged row.token status s.kernel) s)
 
 -- the outcome goes by the relation
 pub record Leaves (R : State → List Obs → State → Type 0) (s : State) (o : Outcome) : Type 0 where
   pub well : R s o.seen o.state
 
--- what is known of the event's path, or of those of the walks that wait
-abbrev pub FitPaths : (List (List ℕ) → Type 0) → State → Event → Type 0
-FitPaths Fits s (events.Walk walker ns path now pipe) = Fits path
-FitPaths Fits s (events.Resume walker now pipe) = (other : ℕ) (row : WalkRow) → walk_in s.kernel.walks other ≡ Some row → Fits row.path
-FitPaths Fits s _ = Unit {0}
+-- what is known of the event's path, of those of the walks that wait, or of the job that is to act
+abbrev pub IsKnown : (List (List ℕ) → Type 0) → (ℕ → Type 0) → State → Event → Type 0
+IsKnown Fits Acts s (events.Walk walker ns path now pipe) = Fits path
+IsKnown Fits Acts s (events.Resume walker now pipe) = (other : ℕ) (row : WalkRow) → walk_in s.kernel.walks other ≡ Some row → Fits row.path
+IsKnown Fits Acts s (events.Act job failure) = Acts job
+IsKnown Fits Acts s _ = Unit {0}
 
 -- ---- tests that passed
 
@@ -179,16 +179,16 @@ answered_row : (fs : Option ℕ) (k : KernelState) (token : ℕ) → answer_test
 answered_row None k token h = absurd cc
 answered_row (Some fs) k token h = its_row (token_of k.waits.tokens token) fs h
 
-module _ (Fits : List (List ℕ) → Type 0) (P : KernelState → List Obs → KernelState → Type 0) (R : State → List Obs → State → Type 0) (keeps : Keeps Fits P R) where
+module _ (Fits : List (List ℕ) → Type 0) (Acts : ℕ → Type 0) (P : KernelState → List Obs → KernelState → Type 0) (R : State → List Obs → State → Type 0) (keeps : Keeps Fits Acts P R) where
   same : (s : State) (answer : Answer) → Leaves R s (record { answer = answer; seen = []; state = s })
   same s answer = record { well = keeps.same s }
 
   refuses : (s : State) (e : Errno) → Leaves R s (refused s e)
   refuses s e = same s _
 
-  either : (s : State) (b : Bool) (first second : Outcome) → Leaves R s first → Leaves R s second → Leaves R s (if b then first else second)
-  either s true first second h g = h
-  either s false first second h g = g
+  in_either_case : (s : State) (b : Bool) (first second : Outcome) → Leaves R s first → Leaves R s second → Leaves R s (if b then first else second)
+  in_either_case s true first second h g = h
+  in_either_case s false first second h g = g
 
   -- the first, where the test passes
   where_true : (s : State) (b : Bool) (first second : Outcome) → (b ≡ true → Leaves R s first) → Leaves R s second → Leaves R s (if b then first else second)
@@ -218,7 +218,7 @@ module _ (Fits : List (List ℕ) → Type 0) (P : KernelState → List Obs → K
   attached_as None s path = refuses s _
   attached_as (Some point) s path =
       unless_refused (administration.attach_refusal s path) s _
-      (λ may. let tests = else_none (is_attached s.daemon path) _ _ may in record { well = attaches_at (position_at s.kernel 0 path) s path point refl tests.0 tests.1 })
+      (λ may. let tests = test_passed (is_attached s.daemon path) _ _ may in record { well = attaches_at (position_at s.kernel 0 path) s path point refl tests.0 tests.1 })
 
   mounts_at : (at : Result Position Errno) (s : State) (ns : ℕ) (path : List (List ℕ)) → position_at s.kernel ns path ≡ at → tested at (mount_tests s.kernel) ≡ None →
       R s (mounting_at s.kernel at) (with_half (from_position at s.kernel (λ at. with_mount at s.kernel)) s)
@@ -258,7 +258,7 @@ module _ (Fits : List (List ℕ) → Type 0) (P : KernelState → List Obs → K
 
   repeats : (s : State) (attach token : ℕ) → Leaves R s (requests.repeat_outcome s attach token)
   repeats s attach token =
-      either s (not (is_some (fs_of_attach s.kernel attach))) _ _ (refuses s _) (either s (is_some (token_of s.kernel.waits.tokens token)) _ _ (refuses s _) (refuses s _))
+      in_either_case s (not (is_some (fs_of_attach s.kernel attach))) _ _ (refuses s _) (in_either_case s (is_some (token_of s.kernel.waits.tokens token)) _ _ (refuses s _) (refuses s _))
 
   closes : (s : State) (fs : ℕ) → Leaves R s (with_kernel answers.Done (closing fs s.kernel) (closed fs s.kernel) s)
   closes s fs = record { well = keeps.closed s fs }
@@ -269,19 +269,19 @@ module _ (Fits : List (List ℕ) → Type 0) (P : KernelState → List Obs → K
 
   reattaches : (s : State) (fs : ℕ) → pipe_refusal s.kernel fs ≡ None → Leaves R s (requests.reattaches s fs)
   reattaches s fs may =
-      let first = else_none (not (is_some (autofs_of s.kernel.triggers fs))) _ _ may in
-      let row = some_is (autofs_of s.kernel.triggers fs) (not_false _ first.0) in
-      record { well = keeps.reattached s fs row.0 row.1 (else_none (is_live s.kernel fs) _ (attach_refusal s.kernel) first.1).0 }
+      let first = test_passed (not (is_some (autofs_of s.kernel.triggers fs))) _ _ may in
+      let row = value_where_some (autofs_of s.kernel.triggers fs) (true_where_not_false _ first.0) in
+      record { well = keeps.reattached s fs row.0 row.1 (test_passed (is_live s.kernel fs) _ (attach_refusal s.kernel) first.1).0 }
 
   reattach : (s : State) (fs : ℕ) → Leaves R s (requests.reattach_outcome s fs)
   reattach s fs =
-      unless_refused (requests.reattach_refused s fs) s (requests.reattaches s fs) (λ may. reattaches s fs (first_none (pipe_refusal s.kernel fs) (reattach_refusal fs s.daemon) may))
+      unless_refused (requests.reattach_refused s fs) s (requests.reattaches s fs) (λ may. reattaches s fs (first_passed (pipe_refusal s.kernel fs) (reattach_refusal fs s.daemon) may))
 
   -- ---- jobs
 
   takes : (s : State) (row : QueuedRow) (token : ℕ) (bytes : Option (List ℕ)) → queued_of s.kernel.queue token ≡ Some row → deliveries.may_take s row bytes ≡ true → Leaves R s (deliveries.takes s row)
   takes s row token bytes is may =
-      let fine = (and_both (deliveries.has_bytes bytes row) _ may).1 in
+      let fine = (both_of_and (deliveries.has_bytes bytes row) _ may).1 in
       let tests = no_fault (knows s.daemon row.packet.dev) (holds s.daemon row.packet.dev row.attach) (is_busy s.daemon row.packet) fine in
       record { well = keeps.delivered s token row (record { queued = is; held = tests.0; free = tests.1 }) }
 
@@ -290,86 +290,86 @@ module _ (Fits : List (List ℕ) → Type 0) (P : KernelState → List Obs → K
   delivered_at (Some row) s token bytes is = where_true s (deliveries.may_take s row bytes) _ _ (takes s row token bytes is) (refuses s _)
 
   -- nothing but the job goes on
-  rests : (s : State) (row : JobPlan) (a : Act) (outcome : job.Outcome) (answer : Answer) → IsNext s row a → Rests a outcome → Leaves R s (acts.goes_on s row outcome answer [] s.kernel)
+  rests : (s : State) (row : JobPlan) (a : Act) (outcome : job.Outcome) (answer : Answer) → IsNext Acts s row a → Rests a outcome → Leaves R s (acts.goes_on s row outcome answer [] s.kernel)
   rests s row a outcome answer i r = record { well = keeps.rested s row a outcome i r }
 
-  mkdir : (e : Option Errno) (s : State) (row : JobPlan) (trigger : Trigger) → IsNext s row (act.Mkdir trigger) → Leaves R s (acts.mkdir_by e s row trigger)
+  mkdir : (e : Option Errno) (s : State) (row : JobPlan) (trigger : Trigger) → IsNext Acts s row (act.Mkdir trigger) → Leaves R s (acts.mkdir_by e s row trigger)
   mkdir None s row trigger i = record { well = keeps.directory_made s row trigger i }
   mkdir (Some errnos.EEXIST) s row trigger i = rests s row (act.Mkdir trigger) came.Done _ i (record { moves = tt; writes = refl; acknowledges = refl })
   mkdir (Some _) s row trigger i = refuses s _
 
-  mount_fails : (s : State) (row : JobPlan) (trigger : Trigger) (entry : EntryText) (error : FailNo) → IsNext s row (act.Mount trigger entry) → Leaves R s (acts.mount_fails s row error)
+  mount_fails : (s : State) (row : JobPlan) (trigger : Trigger) (entry : EntryText) (error : FailNo) → IsNext Acts s row (act.Mount trigger entry) → Leaves R s (acts.mount_fails s row error)
   mount_fails s row trigger entry error i = rests s row (act.Mount trigger entry) (came.Failed error) _ i (record { moves = (error, refl); writes = refl; acknowledges = refl })
 
-  mount_by : (e : Option Errno) (s : State) (row : JobPlan) (trigger : Trigger) (entry : EntryText) → IsNext s row (act.Mount trigger entry) → mount_on_refusal s.kernel row.attach trigger ≡ e → Leaves R s (acts.mount_by e s row trigger)
+  mount_by : (e : Option Errno) (s : State) (row : JobPlan) (trigger : Trigger) (entry : EntryText) → IsNext Acts s row (act.Mount trigger entry) → mount_on_refusal s.kernel row.attach trigger ≡ e → Leaves R s (acts.mount_by e s row trigger)
   mount_by None s row trigger entry i may = record { well = keeps.mounted_on s row trigger entry i may }
   mount_by (Some e) s row trigger entry i may = mount_fails s row trigger entry ENOENT i
 
-  mount_tried : (failure : Option FailNo) (s : State) (row : JobPlan) (trigger : Trigger) (entry : EntryText) → IsNext s row (act.Mount trigger entry) → Leaves R s (acts.mount_tried failure s row trigger)
+  mount_tried : (failure : Option FailNo) (s : State) (row : JobPlan) (trigger : Trigger) (entry : EntryText) → IsNext Acts s row (act.Mount trigger entry) → Leaves R s (acts.mount_tried failure s row trigger)
   mount_tried (Some error) s row trigger entry i = mount_fails s row trigger entry error i
   mount_tried None s row trigger entry i = mount_by (mount_on_refusal s.kernel row.attach trigger) s row trigger entry i refl
 
-  mount_act : (s : State) (row : JobPlan) (trigger : Trigger) (entry : EntryText) (failure : Option FailNo) → IsNext s row (act.Mount trigger entry) → Leaves R s (acts.mount_act s row trigger failure)
+  mount_act : (s : State) (row : JobPlan) (trigger : Trigger) (entry : EntryText) (failure : Option FailNo) → IsNext Acts s row (act.Mount trigger entry) → Leaves R s (acts.mount_act s row trigger failure)
   mount_act s row trigger entry failure i =
-      either s (not (is_current s.kernel trigger.fs row.attach)) _ _ (refuses s _) (mount_tried failure s row trigger entry i)
+      in_either_case s (not (is_current s.kernel trigger.fs row.attach)) _ _ (refuses s _) (mount_tried failure s row trigger entry i)
 
-  umounts_from : (mounted : Option ℕ) (s : State) (row : JobPlan) (trigger : Trigger) → IsNext s row (act.Umount trigger) → is_current s.kernel trigger.fs row.attach ≡ true → mounted_on s.kernel trigger ≡ mounted → mounts.umount_from_tests mounted s.kernel ≡ None →
+  umounts_from : (mounted : Option ℕ) (s : State) (row : JobPlan) (trigger : Trigger) → IsNext Acts s row (act.Umount trigger) → is_current s.kernel trigger.fs row.attach ≡ true → mounted_on s.kernel trigger ≡ mounted → mounts.umount_tests mounted s.kernel ≡ None →
       R s (seen.Unmounted (gone_with s.kernel mounted) ∷ []) (going row came.Done (without_mounts (gone_with s.kernel mounted) s.kernel) s)
   umounts_from None s row trigger i current is may = absurd cc
   umounts_from (Some mount) s row trigger i current is may = keeps.unmounted_on s row trigger mount i (record { current = current; mounted = is; tests = may })
 
-  umount_fails : (s : State) (row : JobPlan) (trigger : Trigger) (error : FailNo) → IsNext s row (act.Umount trigger) → Leaves R s (acts.umount_fails s row error)
+  umount_fails : (s : State) (row : JobPlan) (trigger : Trigger) (error : FailNo) → IsNext Acts s row (act.Umount trigger) → Leaves R s (acts.umount_fails s row error)
   umount_fails s row trigger error i = rests s row (act.Umount trigger) (came.Failed error) _ i (record { moves = (error, refl); writes = refl; acknowledges = refl })
 
-  umount_by : (e : Option Errno) (s : State) (row : JobPlan) (trigger : Trigger) → IsNext s row (act.Umount trigger) → umount_from_refusal s.kernel row.attach trigger ≡ e → Leaves R s (acts.umount_by e s row trigger)
+  umount_by : (e : Option Errno) (s : State) (row : JobPlan) (trigger : Trigger) → IsNext Acts s row (act.Umount trigger) → umount_from_refusal s.kernel row.attach trigger ≡ e → Leaves R s (acts.umount_by e s row trigger)
   umount_by None s row trigger i may =
-      let tests = else_none (not (is_current s.kernel trigger.fs row.attach)) _ (mounts.umount_from_tests (mounted_on s.kernel trigger) s.kernel) may in
-      record { well = umounts_from (mounted_on s.kernel trigger) s row trigger i (not_false _ tests.0) refl tests.1 }
+      let tests = test_passed (not (is_current s.kernel trigger.fs row.attach)) _ (mounts.umount_tests (mounted_on s.kernel trigger) s.kernel) may in
+      record { well = umounts_from (mounted_on s.kernel trigger) s row trigger i (true_where_not_false _ tests.0) refl tests.1 }
   umount_by (Some e) s row trigger i may = umount_fails s row trigger ENOENT i
 
-  umount_tried : (failure : Option FailNo) (s : State) (row : JobPlan) (trigger : Trigger) → IsNext s row (act.Umount trigger) → Leaves R s (acts.umount_tried failure s row trigger)
+  umount_tried : (failure : Option FailNo) (s : State) (row : JobPlan) (trigger : Trigger) → IsNext Acts s row (act.Umount trigger) → Leaves R s (acts.umount_tried failure s row trigger)
   umount_tried (Some error) s row trigger i = umount_fails s row trigger error i
   umount_tried None s row trigger i = umount_by (umount_from_refusal s.kernel row.attach trigger) s row trigger i refl
 
-  umount_act : (s : State) (row : JobPlan) (trigger : Trigger) (failure : Option FailNo) → IsNext s row (act.Umount trigger) → Leaves R s (acts.umount_act s row trigger failure)
+  umount_act : (s : State) (row : JobPlan) (trigger : Trigger) (failure : Option FailNo) → IsNext Acts s row (act.Umount trigger) → Leaves R s (acts.umount_act s row trigger failure)
   umount_act s row trigger failure i =
-      either s (not (is_current s.kernel trigger.fs row.attach)) _ _ (refuses s _) (umount_tried failure s row trigger i)
+      in_either_case s (not (is_current s.kernel trigger.fs row.attach)) _ _ (refuses s _) (umount_tried failure s row trigger i)
 
-  rmdir : (e : Option Errno) (s : State) (row : JobPlan) (trigger : Trigger) → IsNext s row (act.Rmdir trigger) → Leaves R s (acts.rmdir_by e s row trigger)
+  rmdir : (e : Option Errno) (s : State) (row : JobPlan) (trigger : Trigger) → IsNext Acts s row (act.Rmdir trigger) → Leaves R s (acts.rmdir_by e s row trigger)
   rmdir None s row trigger i = record { well = keeps.directory_gone s row trigger i }
   rmdir (Some errnos.ENOENT) s row trigger i = rests s row (act.Rmdir trigger) came.Done _ i (record { moves = tt; writes = refl; acknowledges = refl })
   rmdir (Some errnos.EBUSY) s row trigger i = rests s row (act.Rmdir trigger) came.Done _ i (record { moves = tt; writes = refl; acknowledges = refl })
   rmdir (Some _) s row trigger i = refuses s _
 
-  record_act : (s : State) (row : JobPlan) (trigger : Trigger) (entry : Option Record) → IsNext s row (act.Record trigger entry) → Leaves R s (acts.record_act s row trigger entry)
+  record_act : (s : State) (row : JobPlan) (trigger : Trigger) (entry : Option Record) → IsNext Acts s row (act.Record trigger entry) → Leaves R s (acts.record_act s row trigger entry)
   record_act s row trigger entry i =
-      where_false s (not (holds s.daemon row.trigger.fs row.attach)) _ _ (refuses s _) (λ held. record { well = keeps.recorded s row trigger entry i (not_false _ held) })
+      where_false s (not (holds s.daemon row.trigger.fs row.attach)) _ _ (refuses s _) (λ held. record { well = keeps.recorded s row trigger entry i (true_where_not_false _ held) })
 
-  reply : (e : Option Errno) (s : State) (row : JobPlan) (status : Status) → IsNext s row (act.Reply status) → answer_refusal s.kernel row.attach row.token ≡ e → Leaves R s (acts.reply_by e s row status)
+  reply : (e : Option Errno) (s : State) (row : JobPlan) (status : Status) → IsNext Acts s row (act.Reply status) → answer_refusal s.kernel row.attach row.token ≡ e → Leaves R s (acts.reply_by e s row status)
   reply (Some e) s row status i may = refuses s e
   reply None s row status i may =
       let its = answered_row (fs_of_attach s.kernel row.attach) s.kernel row.token may in
       record { well = keeps.replied s row status its.0 i its.1 }
 
-  acted : (next : Option Act) (s : State) (row : JobPlan) (failure : Option FailNo) → next_of row.plan ≡ next → job_of s.daemon.jobs row.token ≡ Some row → Leaves R s (acts.acted next s row failure)
-  acted None s row failure e is = refuses s _
-  acted (Some (act.Mkdir trigger)) s row failure e is = mkdir (mkdir_refusal s.kernel row.attach trigger) s row trigger (record { is = is; next = e })
-  acted (Some (act.Mount trigger entry)) s row failure e is = mount_act s row trigger entry failure (record { is = is; next = e })
-  acted (Some (act.Umount trigger)) s row failure e is = umount_act s row trigger failure (record { is = is; next = e })
-  acted (Some (act.Rmdir trigger)) s row failure e is = rmdir (rmdir_refusal s.kernel row.attach trigger) s row trigger (record { is = is; next = e })
-  acted (Some (act.Record trigger entry)) s row failure e is = record_act s row trigger entry (record { is = is; next = e })
-  acted (Some (act.Reply status)) s row failure e is = reply (answer_refusal s.kernel row.attach row.token) s row status (record { is = is; next = e }) refl
+  acted : (next : Option Act) (s : State) (row : JobPlan) (failure : Option FailNo) → Acts row.token → next_of row.plan ≡ next → job_of s.daemon.jobs row.token ≡ Some row → Leaves R s (acts.acted next s row failure)
+  acted None s row failure fit e is = refuses s _
+  acted (Some (act.Mkdir trigger)) s row failure fit e is = mkdir (mkdir_refusal s.kernel row.attach trigger) s row trigger (record { acts = fit; is = is; next = e })
+  acted (Some (act.Mount trigger entry)) s row failure fit e is = mount_act s row trigger entry failure (record { acts = fit; is = is; next = e })
+  acted (Some (act.Umount trigger)) s row failure fit e is = umount_act s row trigger failure (record { acts = fit; is = is; next = e })
+  acted (Some (act.Rmdir trigger)) s row failure fit e is = rmdir (rmdir_refusal s.kernel row.attach trigger) s row trigger (record { acts = fit; is = is; next = e })
+  acted (Some (act.Record trigger entry)) s row failure fit e is = record_act s row trigger entry (record { acts = fit; is = is; next = e })
+  acted (Some (act.Reply status)) s row failure fit e is = reply (answer_refusal s.kernel row.attach row.token) s row status (record { acts = fit; is = is; next = e }) refl
 
   -- the job that is found has the number
-  acted_at : (row : Option JobPlan) (s : State) (number : ℕ) (failure : Option FailNo) → job_of s.daemon.jobs number ≡ row → Leaves R s (acts.acted_at row s failure)
-  acted_at None s number failure e = refuses s _
-  acted_at (Some row) s number failure e =
-      let same : row.token ≡ number = nat_is row.token number (found_passes (λ (r : JobPlan). r.token == number) s.daemon.jobs row e) in
-      acted (next_of row.plan) s row failure refl (subst (λ (n : ℕ). job_of s.daemon.jobs n ≡ Some row) (sym same) e)
+  acted_at : (row : Option JobPlan) (s : State) (number : ℕ) (failure : Option FailNo) → Acts number → job_of s.daemon.jobs number ≡ row → Leaves R s (acts.acted_at row s failure)
+  acted_at None s number failure fit e = refuses s _
+  acted_at (Some row) s number failure fit e =
+      let same : row.token ≡ number = equal_by_test row.token number (found_passes (λ (r : JobPlan). r.token == number) s.daemon.jobs row e) in
+      acted (next_of row.plan) s row failure (subst Acts (sym same) fit) refl (subst (λ (n : ℕ). job_of s.daemon.jobs n ≡ Some row) (sym same) e)
 
   -- ---- every event
 
-  pub outcome : (s : State) (event : Event) → FitPaths Fits s event → Leaves R s (outcome_of s event)
+  pub outcome : (s : State) (event : Event) → IsKnown Fits Acts s event → Leaves R s (outcome_of s event)
   outcome s (events.Attach path) fit = attached_as (point_of s.daemon path) s path
   outcome s (events.Mount ns path) fit = unless_refused (mount_refusal s.kernel ns path) s _ (λ may. record { well = mounts_at (position_at s.kernel ns path) s ns path refl may })
   outcome s (events.Bind ns source target) fit = unless_refused (bind_refusal s.kernel ns source target) s _ (λ may. record { well = binds_at (position_at s.kernel ns source) (position_at s.kernel ns target) s may })
@@ -389,17 +389,22 @@ module _ (Fits : List (List ℕ) → Type 0) (P : KernelState → List Obs → K
       let moment = moment_of s.kernel now in
       goes_on _ s moment (walks.expire Fits P keeps.walks pipe s.kernel walker fs moment immediate)
   outcome s (events.Deliver token bytes) fit = delivered_at (queued_of s.kernel.queue token) s token bytes refl
-  outcome s (events.Act job failure) fit = acted_at (job_of s.daemon.jobs job) s job failure refl
+  outcome s (events.Act job failure) fit = acted_at (job_of s.daemon.jobs job) s job failure fit refl
   outcome s (events.Repeat attach token status) fit = repeats s attach token
   outcome s (events.Catatonic attach fs) fit = unless_refused (catatonic_refusal s.kernel attach fs) s _ (λ may. closes s fs)
   outcome s (events.AdminCatatonic fs) fit = unless_refused (admin_catatonic_refusal s.kernel fs) s _ (λ may. closes_if (is_live s.kernel fs) s fs)
   outcome s (events.Timeout attach fs timeout) fit = unless_refused (timeout_refusal s.kernel attach fs) s _ (λ may. record { well = keeps.timed s fs timeout })
   outcome s events.Die fit = record { well = keeps.died s }
   outcome s (events.Reattach fs) fit = reattach s fs
-  outcome s (events.Record trigger) fit = either s (not (is_trigger s.kernel trigger)) _ _ (refuses s _) (same s _)
+  outcome s (events.Record trigger) fit = in_either_case s (not (is_trigger s.kernel trigger)) _ _ (refuses s _) (same s _)
 
--- where nothing is asked of paths
-pub any_paths : (s : State) (event : Event) → FitPaths walks.AnyPath s event
-any_paths s (events.Walk walker ns path now pipe) = tt
-any_paths s (events.Resume walker now pipe) = λ other row e. tt
-any_paths s _ = tt
+-- where nothing is asked of jobs
+abbrev pub AnyJob : ℕ → Type 0
+AnyJob number = Unit {0}
+
+-- where nothing is asked of paths either
+pub any_event : (s : State) (event : Event) → IsKnown walks.AnyPath AnyJob s event
+any_event s (events.Walk walker ns path now pipe) = tt
+any_event s (events.Resume walker now pipe) = λ other row e. tt
+any_event s (events.Act job failure) = tt
+any_event s _ = tt

@@ -14,6 +14,7 @@ use Rattle.am_names.specs.declared.row.Position.{Position}
 use Rattle.am_names.specs.declared.row.WaitRow.{WaitRow}
 use Rattle.am_names.specs.declared.row.TokenKind.{TokenKind}
 use Rattle.am_names.specs.declared.row.TokenKind.TheVariants.{Missing, Expire}
+use Rattle.am_names.proofs.Basics.{neither_of_or, equal_by_test, found_passes}
 use Rattle.am_state.specs.declared.obs.Obs.{Obs}
 use Rattle.am_state.specs.declared.obs.Obs.TheVariants as seen
 use Rattle.am_wait.specs.Rows.{wait_of}
@@ -40,9 +41,6 @@ use Rattle.am_kernel.specs.Catatonic.{closing, closed}
 use Rattle.am_kernel.specs.Observations.{passes}
 use Rattle.am_kernel.specs.Resumes as resumes
 use Rattle.am_kernel.specs.Expires as expires
-use Rattle.am_laws.proofs.Bools.{or_no}
-use Rattle.am_laws.proofs.Packets.{nat_is}
-use Rattle.am_machine.proofs.TraceRows.{found_passes}
 
 -- ---- what is known where a change comes
 
@@ -51,11 +49,13 @@ pub record IsFree (k : KernelState) (walker : ℕ) : Type 0 where
   pub waits : wait_of k.waits.waits walker ≡ None
   pub uses : mount_of k.uses walker ≡ None
 
--- a walker that is free walks along its path, passes idle triggers, and stops so
+-- a walker that is free walks along its path, in a scene with the kernel's autofs, passes idle
+-- triggers, and stops so
 pub record Walking (Fits : List (List ℕ) → Type 0) (k : KernelState) (begin : Begin) (stop : Stop) (passed : List Trigger) : Type 0 where
   pub free : IsFree k begin.walker
   pub path : Fits begin.path
   pub scene : Scene
+  pub autofs : scene.triggers.autofs ≡ k.triggers.autofs
   pub stop_is : (walk_of scene begin.ns begin.path).stop ≡ stop
   pub passed_is : (walk_of scene begin.ns begin.path).passed ≡ passed
   pub passes : All (IsIdle k.waits.tokens) passed
@@ -108,7 +108,7 @@ pub record Leaves (P : KernelState → List Obs → KernelState → Type 0) (k :
 
 not_busy : (k : KernelState) (walker : ℕ) → is_busy k walker ≡ false → IsFree k walker
 not_busy k walker h =
-    let both = or_no (is_some (wait_of k.waits.waits walker)) (is_some (mount_of k.uses walker)) h in
+    let both = neither_of_or (is_some (wait_of k.waits.waits walker)) (is_some (mount_of k.uses walker)) h in
     record { waits = is_none_of (wait_of k.waits.waits walker) both.0; uses = is_none_of (mount_of k.uses walker) both.1 }
 
 -- the walker is free once its wait is collected
@@ -123,6 +123,10 @@ orderly_in : (kind : TokenKind) (k : KernelState) (wait : WaitRow) (row : WalkRo
 orderly_in Missing k wait row moment = orderly k.waits.tokens (scene_of k moment) refl row.ns row.path
 orderly_in Expire k wait row moment = orderly k.waits.tokens (scene_of k moment) refl row.ns row.path
 
+autofs_in : (kind : TokenKind) (k : KernelState) (wait : WaitRow) (moment : ℕ) → (scene_of k moment).triggers.autofs ≡ (resumes.freed_from kind wait moment k).triggers.autofs
+autofs_in Missing k wait moment = refl
+autofs_in Expire k wait moment = refl
+
 module _ (Fits : List (List ℕ) → Type 0) (P : KernelState → List Obs → KernelState → Type 0) (keeps : Keeps Fits P) where
   fails : (k : KernelState) (e : Errno) → Leaves P k (Fails e)
   fails k e = record { well = tt }
@@ -133,9 +137,9 @@ module _ (Fits : List (List ℕ) → Type 0) (P : KernelState → List Obs → K
   closes : (k : KernelState) (begun : Begun) (fs : ℕ) → Leaves P k (Goes begun (closing fs k) (closed fs k))
   closes k begun fs = record { well = keeps.closed k fs }
 
-  either : (k : KernelState) (b : Bool) (first second : Outcome) → Leaves P k first → Leaves P k second → Leaves P k (if b then first else second)
-  either k true first second h g = h
-  either k false first second h g = g
+  in_either_case : (k : KernelState) (b : Bool) (first second : Outcome) → Leaves P k first → Leaves P k second → Leaves P k (if b then first else second)
+  in_either_case k true first second h g = h
+  in_either_case k false first second h g = g
 
   -- the second, where the test fails
   where_false : (k : KernelState) (b : Bool) (first second : Outcome) → Leaves P k first → (b ≡ false → Leaves P k second) → Leaves P k (if b then first else second)
@@ -154,25 +158,25 @@ module _ (Fits : List (List ℕ) → Type 0) (P : KernelState → List Obs → K
       Leaves P k (walks.notifies attach pipe k begin trigger passed)
   notifies None pipe k begin trigger passed w is = fails k _
   notifies (Some attach) pipe k begin trigger passed w is =
-      either k (is_exhausted k.waits) _ _ (fails k _) (either k (is_full k.waits) _ _ (fails k _) (notifies_by pipe k begin trigger attach passed w is))
+      in_either_case k (is_exhausted k.waits) _ _ (fails k _) (in_either_case k (is_full k.waits) _ _ (fails k _) (notifies_by pipe k begin trigger attach passed w is))
 
   begun_by : (stop : Stop) (pipe : PipeState) (k : KernelState) (begin : Begin) (passed : List Trigger) → Walking Fits k begin stop passed → Leaves P k (walks.begun_by stop pipe k begin passed)
   begun_by (stops.Arrive at) pipe k begin passed w = record { well = keeps.arrived k begin at passed w }
-  begun_by (stops.Block token) pipe k begin passed w = either k (is_full k.waits) _ _ (fails k _) (record { well = keeps.joined k begin token passed w })
+  begun_by (stops.Block token) pipe k begin passed w = in_either_case k (is_full k.waits) _ _ (fails k _) (record { well = keeps.joined k begin token passed w })
   begun_by (stops.Missing trigger) pipe k begin passed w = notifies (attach_of k trigger.fs) pipe k begin trigger passed w refl
   begun_by (stops.Refuse e) pipe k begin passed w = fails k e
 
   -- in a scene whose tokens are the kernel's
-  begun_with : (scene : Scene) (pipe : PipeState) (k : KernelState) (begin : Begin) → IsFree k begin.walker → Fits begin.path → IsOrderly k.waits.tokens (walk_of scene begin.ns begin.path) →
+  begun_with : (scene : Scene) (pipe : PipeState) (k : KernelState) (begin : Begin) → scene.triggers.autofs ≡ k.triggers.autofs → IsFree k begin.walker → Fits begin.path → IsOrderly k.waits.tokens (walk_of scene begin.ns begin.path) →
       Leaves P k (walks.begun_with (walk_of scene begin.ns begin.path) pipe k begin)
-  begun_with scene pipe k begin free path well =
+  begun_with scene pipe k begin same free path well =
       let walked = walk_of scene begin.ns begin.path in
-      begun_by walked.stop pipe k begin walked.passed (record { free = free; path = path; scene = scene; stop_is = refl; passed_is = refl; passes = well.passes; stops = well.stops })
+      begun_by walked.stop pipe k begin walked.passed (record { free = free; path = path; scene = scene; autofs = same; stop_is = refl; passed_is = refl; passes = well.passes; stops = well.stops })
 
   pub walk : (pipe : PipeState) (k : KernelState) (begin : Begin) → Fits begin.path → Leaves P k (walks.walk_at pipe k begin)
   walk pipe k begin path =
       where_false k (is_busy k begin.walker) _ _ (fails k _)
-      (λ idle. begun_with (scene_of k begin.moment) pipe k begin (not_busy k begin.walker idle) path (orderly k.waits.tokens (scene_of k begin.moment) refl begin.ns begin.path))
+      (λ idle. begun_with (scene_of k begin.moment) pipe k begin refl (not_busy k begin.walker idle) path (orderly k.waits.tokens (scene_of k begin.moment) refl begin.ns begin.path))
 
   -- ---- an expiry is asked for
 
@@ -185,8 +189,8 @@ module _ (Fits : List (List ℕ) → Type 0) (P : KernelState → List Obs → K
       Leaves P k (expires.expires_next next pipe k walker attach)
   expires_next None pipe k walker fs moment immediate attach free is e = fails k _
   expires_next (Some trigger) pipe k walker fs moment immediate attach free is e =
-      either k (is_exhausted k.waits) _ _ (fails k _)
-      (either k (is_full k.waits) _ _ (fails k _) (expires_by pipe k walker fs moment immediate trigger attach (record { free = free; current = is; next = e })))
+      in_either_case k (is_exhausted k.waits) _ _ (fails k _)
+      (in_either_case k (is_full k.waits) _ _ (fails k _) (expires_by pipe k walker fs moment immediate trigger attach (record { free = free; current = is; next = e })))
 
   expires_under : (attach : Option ℕ) (pipe : PipeState) (k : KernelState) (walker fs moment : ℕ) (immediate : Bool) → IsFree k walker → attach_of k fs ≡ attach →
       Leaves P k (expires.expires_under attach pipe k walker (expires.next_of k fs moment immediate))
@@ -195,7 +199,7 @@ module _ (Fits : List (List ℕ) → Type 0) (P : KernelState → List Obs → K
 
   pub expire : (pipe : PipeState) (k : KernelState) (walker fs moment : ℕ) (immediate : Bool) → Leaves P k (expires.expire_at pipe k walker fs moment immediate)
   expire pipe k walker fs moment immediate =
-      either k (is_none (autofs_of k.triggers fs)) _ _ (fails k _)
+      in_either_case k (is_none (autofs_of k.triggers fs)) _ _ (fails k _)
       (where_false k (is_busy k walker) _ _ (fails k _) (λ idle. expires_under (attach_of k fs) pipe k walker fs moment immediate (not_busy k walker idle) refl))
 
   -- ---- a walker goes on
@@ -204,23 +208,23 @@ module _ (Fits : List (List ℕ) → Type 0) (P : KernelState → List Obs → K
   or_failed (Goes begun shown made) k h = h
   or_failed (Fails e) k h = nothing k _
 
-  after : (o : Outcome) (k : KernelState) (kind : TokenKind) (wait : WaitRow) (status : Status) (moment : ℕ) → IsGiven k wait status → Leaves P (resumes.freed_from kind wait moment k) o → Leaves P k o
-  after (Goes begun shown made) k kind wait status moment g h = record { well = keeps.collected k kind wait status moment shown made g h.well }
-  after (Fails e) k kind wait status moment g h = fails k e
+  after_collecting : (o : Outcome) (k : KernelState) (kind : TokenKind) (wait : WaitRow) (status : Status) (moment : ℕ) → IsGiven k wait status → Leaves P (resumes.freed_from kind wait moment k) o → Leaves P k o
+  after_collecting (Goes begun shown made) k kind wait status moment g h = record { well = keeps.collected k kind wait status moment shown made g h.well }
+  after_collecting (Fails e) k kind wait status moment g h = fails k e
 
   again : (kind : TokenKind) (pipe : PipeState) (k : KernelState) (wait : WaitRow) (status : Status) (row : WalkRow) (moment : ℕ) → IsGiven k wait status → row.walker ≡ wait.walker → Fits row.path →
       Leaves P k (resumes.again pipe k (resumes.freed_from kind wait moment k) row moment)
   again kind pipe k wait status row moment g same path =
       let base = resumes.freed_from kind wait moment k in
       let begin = resumes.next_begin row moment in
-      after (resumes.again pipe k base row moment) k kind wait status moment g
-      (either base (nat_le resumes.most_begins row.begins) _ _ (nothing base _)
+      after_collecting (resumes.again pipe k base row moment) k kind wait status moment g
+      (in_either_case base (nat_le resumes.most_begins row.begins) _ _ (nothing base _)
       (or_failed (walks.begun_with (walk_of (scene_of k moment) row.ns row.path) pipe base begin) base
-      (begun_with (scene_of k moment) pipe base begin (freed_free kind k wait status moment row.walker g same) path (orderly_in kind k wait row moment))))
+      (begun_with (scene_of k moment) pipe base begin (autofs_in kind k wait moment) (freed_free kind k wait status moment row.walker g same) path (orderly_in kind k wait row moment))))
 
   resumed_as : (kind : TokenKind) (status : Status) (pipe : PipeState) (k : KernelState) (wait : WaitRow) (row : WalkRow) (moment : ℕ) → IsGiven k wait status → row.walker ≡ wait.walker → Fits row.path →
       Leaves P k (resumes.resumed_as kind status pipe k wait row moment)
-  resumed_as Missing (Fail error) pipe k wait row moment g same path = after (resumes.failed (errno_of error) (resumes.freed_from Missing wait moment k)) k Missing wait (Fail error) moment g (nothing _ _)
+  resumed_as Missing (Fail error) pipe k wait row moment g same path = after_collecting (resumes.failed (errno_of error) (resumes.freed_from Missing wait moment k)) k Missing wait (Fail error) moment g (nothing _ _)
   resumed_as Missing Ready pipe k wait row moment g same path = again Missing pipe k wait Ready row moment g same path
   resumed_as Expire status pipe k wait row moment g same path = again Expire pipe k wait status row moment g same path
 
@@ -232,7 +236,7 @@ module _ (Fits : List (List ℕ) → Type 0) (P : KernelState → List Obs → K
   told_as Missing status k wait moment g = fails k _
   told_as Expire status k wait moment g =
       let base = resumes.freed_from Expire wait moment k in
-      after (resumes.expired_as status base) k Expire wait status moment g (expired_as status base)
+      after_collecting (resumes.expired_as status base) k Expire wait status moment g (expired_as status base)
 
   -- what is known of the paths of the walks that wait
   abbrev FitWalks : KernelState → Type 0
@@ -242,7 +246,7 @@ module _ (Fits : List (List ℕ) → Type 0) (P : KernelState → List Obs → K
       Leaves P k (resumes.resumed_walk row status pipe k wait moment)
   resumed_walk None status pipe k wait moment paths g e = told_as wait.kind status k wait moment g
   resumed_walk (Some row) status pipe k wait moment paths g e =
-      resumed_as wait.kind status pipe k wait row moment g (nat_is row.walker wait.walker (found_passes (λ (r : WalkRow). r.walker == wait.walker) k.walks row e)) (paths wait.walker row e)
+      resumed_as wait.kind status pipe k wait row moment g (equal_by_test row.walker wait.walker (found_passes (λ (r : WalkRow). r.walker == wait.walker) k.walks row e)) (paths wait.walker row e)
 
   resumed_by : (status : Option Status) (pipe : PipeState) (k : KernelState) (wait : WaitRow) (moment : ℕ) → FitWalks k → wait.status ≡ status → wait_of k.waits.waits wait.walker ≡ Some wait → mount_of k.uses wait.walker ≡ None →
       Leaves P k (resumes.resumed_by status pipe k wait moment)
@@ -253,7 +257,7 @@ module _ (Fits : List (List ℕ) → Type 0) (P : KernelState → List Obs → K
   resumed_at : (wait : Option WaitRow) (pipe : PipeState) (k : KernelState) (walker moment : ℕ) → FitWalks k → wait_of k.waits.waits walker ≡ wait → mount_of k.uses walker ≡ None → Leaves P k (resumes.resumed_at wait pipe k moment)
   resumed_at None pipe k walker moment paths e outside = fails k _
   resumed_at (Some wait) pipe k walker moment paths e outside =
-      let same = sym (nat_is wait.walker walker (found_passes (λ (r : WaitRow). r.walker == walker) k.waits.waits wait e)) in
+      let same = sym (equal_by_test wait.walker walker (found_passes (λ (r : WaitRow). r.walker == walker) k.waits.waits wait e)) in
       resumed_by wait.status pipe k wait moment paths refl (subst (λ (w : ℕ). wait_of k.waits.waits w ≡ Some wait) same e) (subst (λ (w : ℕ). mount_of k.uses w ≡ None) same outside)
 
   pub resume : (pipe : PipeState) (k : KernelState) (walker moment : ℕ) → FitWalks k → Leaves P k (resumes.resume_at pipe k walker moment)
@@ -279,3 +283,18 @@ both Fits P Q p q = record {
 -- where nothing is asked of paths
 abbrev pub AnyPath : List (List ℕ) → Type 0
 AnyPath path = Unit {0}
+
+-- where nothing is asked of what walkers do
+abbrev pub AnyMove : KernelState → List Obs → KernelState → Type 0
+AnyMove k shown made = Unit {0}
+
+pub any_move : (Fits : List (List ℕ) → Type 0) → Keeps Fits AnyMove
+any_move Fits = record {
+  nothing = λ k. tt;
+  arrived = λ k begin at passed w. tt;
+  joined = λ k begin token passed w. tt;
+  notified = λ k begin trigger attach passed w is. tt;
+  expiring = λ k walker fs moment immediate trigger attach x. tt;
+  closed = λ k fs. tt;
+  collected = λ k kind wait status moment shown made g later. tt;
+}

@@ -15,9 +15,9 @@ use Rattle.am_daemon.specs.State.{JobPlan}
 use Rattle.am_laws.specs.OneObservation.{is_queued}
 use Rattle.am_machine.specs.State.{Opening, State, limits_in, opening_in}
 use Rattle.am_machine.specs.Invariant.Traces.{Rows, rows_of, rows_in, FitsTrace}
-use Rattle.am_machine.proofs.TraceQuiet.{quiet_fits}
-use Rattle.am_machine.proofs.TraceLawful.{unmount_lawful, delivery_lawful, answer_lawful}
-use Rattle.am_machine.proofs.TraceAdds.{Adds, IsPlain, adds_plain, at_most_one, adds_both, once_answered}
+use Rattle.am_machine.proofs.Traces.Unchanged.{quiet_fits}
+use Rattle.am_machine.proofs.Traces.Lawful.{unmount_lawful, delivery_lawful, answer_lawful}
+use Rattle.am_machine.proofs.Traces.Adds.{Adds, IsPlain, adds_plain, at_most_one, adds_both, once_answered}
 use Rattle.am_names.specs.declared.errno.Errno.TheVariants.{EINVAL, EBUSY, ENOENT}
 use Rattle.am_names.specs.declared.trigger.Trigger.{Trigger}
 use Rattle.am_propagate.specs.MountTable.{MountTable, is_mount, mountpoint_of}
@@ -26,8 +26,8 @@ use Rattle.am_wait.specs.Rows.{token_of, waiters_in, waiters_of}
 use Rattle.am_kernel.specs.Administration.{site_refusal, umount_tests, gone_at}
 use Rattle.am_kernel.specs.DaemonMounts.{without_mounts}
 use Rattle.am_kernel.specs.Requests.{answering, acknowledged}
-use Rattle.am_kernel.specs.Observations.{releases}
-use Rattle.am_machine.proofs.TraceInside.{leave_fits}
+use Rattle.am_kernel.specs.Walks.{releases}
+use Rattle.am_machine.proofs.Traces.Enter.{leave_fits}
 use Rattle.am_names.specs.declared.trigger.Status.{Status}
 use Rattle.am_names.specs.declared.row.OpenToken.{OpenToken}
 use Rattle.am_state.specs.declared.kernel_row.QueuedRow.{QueuedRow}
@@ -40,15 +40,15 @@ use Rattle.am_daemon.specs.Packets.{plan_of_packet}
 use Rattle.am_daemon.specs.Deliveries.{job_of, job_for}
 use Rattle.am_daemon.specs.Acts.{finished_in}
 use Rattle.am_machine.specs.Events.Deliveries as deliveries
-use Rattle.am_machine.proofs.TraceDeliver.{found_fits, deliver_fits, finish_fits}
+use Rattle.am_machine.proofs.Traces.Deliver.{found_fits, deliver_fits, finish_fits}
 use Rattle.am_machine.specs.declared.event.Event.{Event}
 use Rattle.am_machine.specs.Machine.{outcome_of}
-use Rattle.am_machine.proofs.TraceAnswer.{answer, answer_fits}
-use Rattle.am_machine.proofs.Tests.{others_none}
+use Rattle.am_machine.proofs.Traces.Answer.{answer, answer_fits}
+use Rattle.am_machine.proofs.Tests.{others_passed}
 use Rattle.am_machine.proofs.Traces.Walks.{Moves, moves, closes}
 use Rattle.am_machine.proofs.Tour.Walks.{AnyPath}
 use Rattle.am_machine.proofs.Tour.Events as tours
-use Rattle.am_machine.proofs.Tour.Events.{with_half, going, IsNext, IsTaken, IsUnmounted, any_paths}
+use Rattle.am_machine.proofs.Tour.Events.{with_half, going, IsNext, IsTaken, IsUnmounted, any_event, AnyJob}
 
 -- what is seen of it may be seen next; one packet at most is queued, and the opening stays
 pub record Follows (s : State) (shown : List Obs) (t : State) : Type 0 where
@@ -119,7 +119,7 @@ umount_free uses m t h =
     (then_none (not (is_bare t m)) EBUSY _ (then_none (not (is_some (mountpoint_of t m))) EBUSY _ (then_none (not (is_mount t m)) EINVAL _ h)))
 
 plain_free : (k : KernelState) (at : Position) → umount_tests k at ≡ None → list_any (is_used k.uses) (gone_at k (Ok at)) ≡ false
-plain_free k at h = umount_free (is_used k.uses) at.mount k.table (others_none (site_refusal k at.mount) _ (others_none (root_refusal at) _ h))
+plain_free k at h = umount_free (is_used k.uses) at.mount k.table (others_passed (site_refusal k at.mount) _ (others_passed (root_refusal at) _ h))
 
 drop_free : (uses : ℕ → Bool) (ns : ℕ) (t : MountTable) → drop_refusal uses ns t ≡ None → list_any uses (mounts_in t ns) ≡ false
 drop_free uses ns t h =
@@ -180,7 +180,7 @@ replies s row status its is there =
 
 -- ---- events
 
-lawful : tours.Keeps AnyPath Moves Follows
+lawful : tours.Keeps AnyPath AnyJob Moves Follows
 lawful = record {
   same = λ s. plainly s _ s nothing_plain refl refl;
   attached = λ s path point at is fresh may. plainly s _ _ (mounted_plain _) refl refl;
@@ -212,4 +212,4 @@ lawful = record {
 }
 
 pub outcome_follows : (s : State) (event : Event) → Follows s (outcome_of s event).seen (outcome_of s event).state
-outcome_follows s event = (tours.outcome AnyPath Moves Follows lawful s event (any_paths s event)).well
+outcome_follows s event = (tours.outcome AnyPath AnyJob Moves Follows lawful s event (any_event s event)).well

@@ -24,16 +24,16 @@ use Rattle.am_daemon.specs.State.{JobPlan}
 use Rattle.am_laws.specs.OneObservation.{is_queued}
 use Rattle.am_machine.specs.State.{limits_in}
 use Rattle.am_machine.specs.Invariant.Traces.{Rows, rows_of, asked_in, FitsTrace}
-use Rattle.am_machine.proofs.TraceInside.{enter_fits}
-use Rattle.am_machine.proofs.TraceJoin.{join_fits}
-use Rattle.am_machine.proofs.TraceNotify.{notify_fits}
-use Rattle.am_machine.proofs.TraceLawful.{wait_lawful, notice_lawful}
-use Rattle.am_machine.proofs.TraceAdds.{Adds, adds_both, adds_passes, at_most_one, once_passed, adds_closing, once_closing, adds_nothing}
+use Rattle.am_machine.proofs.Traces.Enter.{enter_fits}
+use Rattle.am_machine.proofs.Traces.Join.{join_fits}
+use Rattle.am_machine.proofs.Traces.Notify.{notify_fits}
+use Rattle.am_machine.proofs.Traces.Lawful.{wait_lawful, notice_lawful}
+use Rattle.am_machine.proofs.Traces.Adds.{Adds, adds_both, adds_passes, at_most_one, once_passed, adds_closing, once_closing, adds_nothing}
 use Rattle.am_names.specs.declared.trigger.Status.{Status}
 use Rattle.am_names.specs.declared.row.WaitRow.{WaitRow}
+use Rattle.am_names.proofs.Basics.{value_where_some}
 use Rattle.am_wait.proofs.AgreeLemmas.{collected_sound}
 use Rattle.am_kernel.specs.Resumes as resumes
-use Rattle.am_machine.proofs.TraceRows.{some_is}
 use Rattle.am_machine.proofs.Tour.Walks as tour
 use Rattle.am_machine.proofs.Tour.Walks.{IsFree, IsGiven, AnyPath, noticed}
 
@@ -78,7 +78,7 @@ joins_row k begin token row passed is free idle = record {
 joins : (k : KernelState) (begin : Begin) (token : ℕ) (passed : List Trigger) → is_some (token_of k.waits.tokens token) ≡ true → IsFree k begin.walker → All (IsIdle k.waits.tokens) passed →
     Moves k (passes begin.walker passed ++ seen.Waits begin.walker token ∷ []) (walks.with_joined begin token passed k)
 joins k begin token passed there free idle =
-    let row = some_is (token_of k.waits.tokens token) there in
+    let row = value_where_some (token_of k.waits.tokens token) there in
     joins_row k begin token row.0 passed row.1 free idle
 
 -- ---- the daemon is notified

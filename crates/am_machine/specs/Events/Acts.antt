@@ -47,6 +47,7 @@ mkdir_by (Some e) s row trigger = refused s e
 abbrev pub mount_fails : State → JobPlan → FailNo → Outcome
 mount_fails s row error = goes_on s row (came.Failed error) answers.FailedMount [] s.kernel
 
+-- the mount is made on the trigger, with its copies
 abbrev pub mounts : State → JobPlan → Trigger → Outcome
 mounts s row trigger =
     let mount = s.kernel.table.last_mount + 1 in
@@ -75,6 +76,7 @@ mount_act s row trigger failure =
 abbrev pub umount_fails : State → JobPlan → FailNo → Outcome
 umount_fails s row error = goes_on s row (came.Failed error) answers.FailedUmount [] s.kernel
 
+-- what is mounted on the trigger goes, with its copies
 abbrev pub umounts : State → JobPlan → Trigger → Outcome
 umounts s row trigger =
     let gone = gone_from s.kernel trigger in
@@ -86,11 +88,13 @@ abbrev pub umount_by : Option Errno → State → JobPlan → Trigger → Outcom
 umount_by None s row trigger = umounts s row trigger
 umount_by (Some e) s row trigger = umount_fails s row error.ENOENT
 
+-- the unmount fails, or the kernel is asked for it
 abbrev pub umount_tried : Option FailNo → State → JobPlan → Trigger → Outcome
 umount_tried (Some error) s row trigger = umount_fails s row error
 umount_tried None s row trigger =
     umount_by (umount_from_refusal s.kernel row.attach trigger) s row trigger
 
+-- an unmount of an old attachment is refused before it can fail
 abbrev pub umount_act : State → JobPlan → Trigger → Option FailNo → Outcome
 umount_act s row trigger failure =
     if not (is_current s.kernel trigger.fs row.attach) then refused s EPERM
@@ -116,6 +120,7 @@ reply_by None s row status =
     goes_on s row came.Done answers.DidReply (answering row.token status s.kernel)
     (acknowledged row.token status s.kernel)
 
+-- the next act of a job, one line an act; a job that has ended has none
 abbrev pub acted : Option Act → State → JobPlan → Option FailNo → Outcome
 acted None s row failure = refused s EINVAL
 acted (Some (act.Mkdir trigger)) s row failure = mkdir_by (mkdir_refusal s.kernel row.attach trigger) s row trigger
@@ -125,6 +130,7 @@ acted (Some (act.Rmdir trigger)) s row failure = rmdir_by (rmdir_refusal s.kerne
 acted (Some (act.Record trigger entry)) s row failure = record_act s row trigger entry
 acted (Some (act.Reply status)) s row failure = reply_by (answer_refusal s.kernel row.attach row.token) s row status
 
+-- there is a job of that number
 abbrev pub acted_at : Option JobPlan → State → Option FailNo → Outcome
 acted_at None s failure = refused s EINVAL
 acted_at (Some row) s failure = acted (next_of row.plan) s row failure

@@ -20,6 +20,7 @@ use Rattle.am_machine.specs.Outcome.{Outcome, refused}
 abbrev pub packet_bytes : QueuedRow → List ℕ
 packet_bytes row = canonical (said row.packet)
 
+-- the bytes that were read, where they are given, are those of the packet
 abbrev pub has_bytes : Option (List ℕ) → QueuedRow → Bool
 has_bytes None row = true
 has_bytes (Some bytes) row = bytes_eq bytes (packet_bytes row)
@@ -47,9 +48,11 @@ takes s row = record {
   };
 }
 
+-- there is a packet of that token in the pipe
 abbrev pub delivered_at : Option QueuedRow → State → Option (List ℕ) → Outcome
 delivered_at None s bytes = refused s Stranger
 delivered_at (Some row) s bytes = if may_take s row bytes then takes s row else refused s Stranger
 
+-- the daemon takes the packet of the token
 abbrev pub deliver_outcome : State → ℕ → Option (List ℕ) → Outcome
 deliver_outcome s token bytes = delivered_at (queued_of s.kernel.queue token) s bytes

@@ -26,6 +26,7 @@ repeat_outcome s attach token =
     else if is_some (token_of s.kernel.waits.tokens token) then refused s Stranger
     else refused s EINVAL
 
+-- the daemon has its file system made catatonic
 abbrev pub catatonic_outcome : State → ℕ → ℕ → Outcome
 catatonic_outcome s attach fs =
     unless (catatonic_refusal s.kernel attach fs) s
@@ -37,6 +38,7 @@ admin_catatonic_outcome s fs =
     unless (admin_catatonic_refusal s.kernel fs) s
     (with_kernel answers.Done (closing_if_live fs s.kernel) (closed_if_live fs s.kernel) s)
 
+-- the daemon sets the timeout of its file system
 abbrev pub timeout_outcome : State → ℕ → ℕ → ℕ → Outcome
 timeout_outcome s attach fs timeout =
     unless (timeout_refusal s.kernel attach fs) s
@@ -63,6 +65,7 @@ reattaches s fs =
       };
     }
 
+-- a daemon attaches again to an autofs that lost its own
 abbrev pub reattach_outcome : State → ℕ → Outcome
 reattach_outcome s fs = unless (reattach_refused s fs) s (reattaches s fs)
 

@@ -1,4 +1,5 @@
--- What walkers do: they walk, wait and go on, leave, and ask for expiries.
+-- What walkers do: they walk, wait and go on, leave, and ask for expiries (autofs.rst, "Mount
+-- Traps" and "Mountpoint expiry").
 use Rattle.std.specs.Prelude.{ℕ, Bool, List}
 use Rattle.am_names.specs.declared.trigger.PipeState.{PipeState}
 use Rattle.am_expire.specs.Uses.{leave_refusal}
@@ -14,6 +15,7 @@ use Rattle.am_machine.specs.declared.answer.Answer.TheVariants as answers
 use Rattle.am_machine.specs.State.{State}
 use Rattle.am_machine.specs.Outcome.{Outcome, refused, unless, with_kernel}
 
+-- what the walker is told, one line for each way that it goes on
 abbrev pub answer_of : Begun → Answer
 answer_of (begun.Arrived at) = answers.At at
 answer_of (begun.Waits token) = answers.Wait token
@@ -25,17 +27,21 @@ abbrev pub goes : kernel.Outcome → State → Outcome
 goes (kernel.Goes begun shown made) s = with_kernel (answer_of begun) shown made s
 goes (kernel.Fails e) s = refused s e
 
+-- a walker walks along a path
 abbrev pub walk_outcome : State → ℕ → ℕ → List (List ℕ) → ℕ → PipeState → Outcome
 walk_outcome s walker ns path now pipe =
     goes (walks.walk_outcome pipe s.kernel walker ns path now) s
 
+-- a walker goes on once its token is acknowledged
 abbrev pub resume_outcome : State → ℕ → ℕ → PipeState → Outcome
 resume_outcome s walker now pipe = goes (resumes.resume_outcome pipe s.kernel walker now) s
 
+-- a walker asks for the expiry of a trigger of a file system
 abbrev pub expire_outcome : State → ℕ → ℕ → ℕ → Bool → PipeState → Outcome
 expire_outcome s walker fs now immediate pipe =
     goes (expires.expire_outcome pipe s.kernel walker fs now immediate) s
 
+-- a walker leaves the mount that it is inside of
 abbrev pub leave_outcome : State → ℕ → Outcome
 leave_outcome s walker =
     unless (leave_refusal walker s.kernel.uses) s

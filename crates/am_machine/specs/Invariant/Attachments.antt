@@ -1,5 +1,5 @@
 -- The numbers of attachments, of file systems and of jobs: what makes a new one new, and which of them
--- the daemon knows.
+-- the daemon knows (own choice).
 use Rattle.std.specs.Prelude.{◌≡◌, ◌≤◌, ℕ, ◌+◌, ◌==◌, Bool, true, List, [], ◌∷◌}
 use Rattle.std.specs.List.{list_any, All}
 use Rattle.am_state.specs.declared.daemon_row.HeldRow.{HeldRow}
@@ -29,6 +29,7 @@ pub record AreKnown (autofs : List Autofs) (attached : List Attached) (known : L
   pub autofs_attached : All (λ (row : Autofs). was_attached attached row.fs ≡ true) autofs
   pub held_known : All (λ (row : HeldRow). is_known known row.fs ≡ true) held
 
+-- all numbers of file systems and attachments were given, and the daemon knows what it serves
 pub record AreGiven (k : KernelState) (d : DaemonState) : Type 0 where
   -- each autofs has one attachment, the latest
   pub rise : RiseTo k.last_fs 0 k.attached

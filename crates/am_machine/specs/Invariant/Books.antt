@@ -1,4 +1,4 @@
--- What the daemon's book says while a job is at work.
+-- What the daemon's book says while a job is at work (own choice).
 use Rattle.std.specs.Prelude.{◌≡◌, ◌≤◌, ℕ, ◌==◌, Bool, false, ◌&&◌, map, Option, Some, None}
 use Rattle.std.specs.List.{All}
 use Rattle.am_names.specs.Trigger.{same_trigger}
@@ -40,6 +40,7 @@ abbrev pub ArePending : KernelState → DaemonState → Type 0
 ArePending k d = (fs attach : ℕ) → IsServed k d fs attach → (g : Trigger) → g.fs ≡ fs → (token : ℕ) →
     is_pending_for token (record_of d.book g) ≡ is_to_record attach g (job_of d.jobs token)
 
+-- the book agrees with the jobs, and each attachment held is of another file system
 pub record BookAgrees (k : KernelState) (d : DaemonState) : Type 0 where
   pub pending : ArePending k d
   -- the daemon holds one attachment at most of each file system, of those that were given

@@ -1,4 +1,4 @@
--- What every world keeps.
+-- What every world keeps (own choice).
 use Rattle.am_laws.specs.TraceLaws.{Lawful}
 use Rattle.am_machine.specs.State.{State}
 use Rattle.am_machine.specs.Invariant.Traces.{FitsTrace, rows_in}
@@ -25,6 +25,7 @@ pub record HalvesAgree (s : State) : Type 0 where
   pub records : AreOfTheirTokens s.kernel.waits s.daemon.book
   pub stands : StandsAgree s.kernel s.daemon
 
+-- the trace is lawful, and the halves agree
 pub record IsConsistent (s : State) : Type 0 where
   pub traced : IsTraced s
   pub agreed : HalvesAgree s

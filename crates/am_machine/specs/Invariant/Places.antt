@@ -1,4 +1,5 @@
--- Where mounts stand: the daemon's mount of each autofs, what is mounted on it, and the copies.
+-- Where mounts stand: the daemon's mount of each autofs, what is mounted on it, and the copies
+-- (sharedsubtree.rst, 5a and 5b).
 use Rattle.std.specs.Prelude.{◌≡◌, ◌<◌, ◌≤◌, ℕ, List, Some, None}
 use Rattle.am_names.specs.declared.row.MountRow.{MountRow}
 use Rattle.am_group.specs.Propagation.{Receives}
@@ -40,6 +41,8 @@ IsCopied t x = (m y : ℕ) (row : MountRow) (place : List (List ℕ)) →
     mount_row t.rows m ≡ Some row → row.mountpoint ≡ Some (record { mount = x; place = place }) →
     Receives t.groups x y → y < m → HasCopy t.rows y place m
 
+-- the mounts are whole, and each autofs has its daemon's mount, with copies of what is mounted
+-- on it
 pub record PlacesAgree (k : KernelState) : Type 0 where
   pub whole : IsWhole k.table
   -- new numbers of file systems are new

@@ -1,4 +1,4 @@
--- What a job has left to do.
+-- What a job has left to do (own choice).
 use Rattle.std.specs.Prelude.{◌≡◌, ⊤, Bool, true, false, List}
 use Rattle.std.specs.List.{All}
 use Rattle.am_names.specs.declared.trigger.Trigger.{Trigger}
@@ -43,5 +43,6 @@ pub record IsPlanned (row : JobPlan) : Type 0 where
   pub claims_right : ClaimsRight row.plan
   pub rest : IsRest row.trigger row.plan
 
+-- each job is the rest of a plan
 abbrev pub ArePlanned : List JobPlan → Type 0
 ArePlanned jobs = All IsPlanned jobs

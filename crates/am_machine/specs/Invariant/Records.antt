@@ -1,4 +1,4 @@
--- What a pending record is about: an open token of its kind.
+-- What a pending record is about: an open token of its kind (own choice).
 use Rattle.std.specs.Prelude.{◌≡◌, ◌≤◌, ℕ, Bool, true, false, List, Some}
 use Rattle.std.specs.List.{All}
 use Rattle.am_names.specs.declared.row.OpenToken.{OpenToken}
@@ -25,5 +25,6 @@ pub record IsOfItsToken (w : WaitRows) (entry : Record) : Type 0 where
   pub kind : (token : ℕ) (row : OpenToken) → token_of w.tokens token ≡ Some row →
       is_pending_for token (Some entry) ≡ true → is_of_kind row.kind entry ≡ true
 
+-- each record of the book is one of its token
 abbrev pub AreOfTheirTokens : WaitRows → List RecordRow → Type 0
 AreOfTheirTokens w book = All (λ (row : RecordRow). IsOfItsToken w row.entry) book

@@ -1,4 +1,5 @@
--- What is mounted on the triggers, at the daemon's mounts, and what the daemon knows of it.
+-- What is mounted on the triggers, at the daemon's mounts, and what the daemon knows of it (own
+-- choice).
 use Rattle.std.specs.Prelude.{◌≡◌, ℕ, true, false, is_some, List, Some}
 use Rattle.am_names.specs.declared.trigger.Trigger.{Trigger}
 use Rattle.am_names.specs.declared.row.MountRow.{MountRow}
@@ -36,6 +37,8 @@ pub record OnTriggers (k : KernelState) : Type 0 where
       mount_row k.table.rows m ≡ Some row → IsAt a.location place row →
       is_some (trigger_in a place) ≡ true
 
+-- on the triggers that the daemon serves is mounted what its jobs claim, and else what the book
+-- says
 pub record StandsAgree (k : KernelState) (d : DaemonState) : Type 0 where
   pub at_work : AreClaimed k d
   pub settled : AreWritten k d

@@ -1,4 +1,5 @@
--- Who has an open token: its packet is in the pipe, or a job of the daemon has taken it up.
+-- Who has an open token: its packet is in the pipe, or a job of the daemon has taken it up
+-- (own choice).
 use Rattle.std.specs.Prelude.{◌≡◌, ◌⊎◌, ℕ, true, is_some, List, map, Some, None}
 use Rattle.std.specs.List.{All}
 use Rattle.am_names.specs.Trigger.{same_trigger}
@@ -38,6 +39,7 @@ pub record HasToken (k : KernelState) (job : JobPlan) : Type 0 where
   pub fs : job.trigger.fs ≡ token.trigger.fs
   pub trigger : is_named token.trigger ≡ true → job.trigger ≡ token.trigger
 
+-- each open token has its packet or its job, and no packet or job is of another
 pub record TokensAgree (k : KernelState) (jobs : List JobPlan) : Type 0 where
   -- a trigger has one open token at most
   pub once : (a b : ℕ) (x y : OpenToken) →

@@ -1,5 +1,5 @@
 -- What ties a trace to the rows of kernel and daemon. Each clause is said of just the rows that it
--- reads.
+-- reads (own choice).
 use Rattle.std.specs.Prelude.{◌≡◌, ℕ, ◌+◌, ◌<◌, ◌==◌, Bool, true, false, is_some, List, [], ◌∷◌, Option, None, Some, if◌then◌else◌}
 use Rattle.std.specs.List.{list_any, count_by, All}
 use Rattle.std.specs.Option.{option_map}
@@ -33,9 +33,11 @@ pub record Rows : Type 0 where
   pub queue : List QueuedRow
   pub jobs : List JobPlan
 
+-- the rows of the kernel, and these jobs
 abbrev pub rows_of : KernelState → List JobPlan → Rows
 rows_of k jobs = record { waits = k.waits; uses = k.uses; queue = k.queue; jobs = jobs }
 
+-- the rows of a state
 abbrev pub rows_in : State → Rows
 rows_in s = rows_of s.kernel s.daemon.jobs
 
@@ -58,9 +60,11 @@ pub record Asked : Type 0 where
   pub trigger : Trigger
   pub kind : TokenKind
 
+-- what a packet asks for
 abbrev pub asked_in : Packet → Asked
 asked_in packet = record { trigger = trigger_of packet; kind = token_kind packet.kind }
 
+-- what an open token asks for
 abbrev pub asked_by : OpenToken → Asked
 asked_by row = record { trigger = row.trigger; kind = row.kind }
 
@@ -89,6 +93,7 @@ pub record WaitersFit (trace : List Obs) (token : ℕ) (walkers : List ℕ) : Ty
   pub unreleased : (walker : ℕ) → list_any (releases walker token) trace ≡ false
   pub different : AreDifferent walkers
 
+-- the waiters of each open token are those of the trace
 abbrev pub AgreeOnWaiters : List OpenToken → List Obs → Type 0
 AgreeOnWaiters tokens trace =
     (token : ℕ) (row : OpenToken) → token_of tokens token ≡ Some row → WaitersFit trace token row.waiters
@@ -109,6 +114,7 @@ pub record PacketFits (trace : List Obs) (row : QueuedRow) : Type 0 where
   pub packet : packet_of row.token trace ≡ Some row.packet
   pub undelivered : list_any (delivers row.token) trace ≡ false
 
+-- each packet of the queue is in the queue by the trace
 abbrev pub AgreeOnQueue : List QueuedRow → List Obs → Type 0
 AgreeOnQueue queue trace = All (PacketFits trace) queue
 
@@ -118,6 +124,7 @@ AgreeOnJobs jobs trace = (job : ℕ) → is_some (job_of jobs job) ≡ true → 
 
 -- ---- all of them
 
+-- the rows are what the trace tells of them
 pub record FitsTrace (r : Rows) (trace : List Obs) : Type 0 where
   -- tokens and waits agree, and each walker is inside one mount at most
   pub sound : IsSound r.waits

@@ -1,5 +1,6 @@
 -- What walkers leave in the kernel. Since paths are names, each trigger that the daemon is asked for
--- has a name, and so its packet can be read; and who waits on a mount has the walk that led there.
+-- has a name, and so its packet can be read; and who waits on a mount has the walk that led there
+-- (own choice).
 use Rattle.std.specs.Prelude.{◌≡◌, ℕ, ◌==◌, Bool, true, List, Option, None, Some}
 use Rattle.std.specs.List.{list_any, All}
 use Rattle.am_names.specs.Name.{is_name}
@@ -11,6 +12,7 @@ use Rattle.am_kernel.specs.declared.row.WalkRow.{WalkRow}
 use Rattle.am_kernel.specs.State.{KernelState}
 use Rattle.am_machine.specs.Paths.{IsPath}
 
+-- there is no name, or it is one
 abbrev pub is_name_if_any : Option (List ℕ) → Bool
 is_name_if_any None = true
 is_name_if_any (Some name) = is_name name

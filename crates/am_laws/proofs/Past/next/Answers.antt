@@ -3,13 +3,13 @@ use Rattle.std.proofs.lemmas.List.{take_rest}
 use Rattle.am_laws.specs.Tests.{is_lawful_at}
 use Rattle.am_laws.specs.Lately.{Remembers}
 use Rattle.am_laws.proofs.Decided.{at_from_test}
-use Rattle.am_laws.proofs.Grows.{judged, remembers_grows}
+use Rattle.am_laws.proofs.Grows.{judged_lately, remembers_grows}
 use Rattle.am_laws.proofs.Past.next.Goals as goal
 
 pub returns-then-not-is_lawful_lately : goal.returns-then-not-is_lawful_lately
 returns-then-not-is_lawful_lately c =
     let all = take_rest c.args.before.now c.settled_at-settled.result in
-    let same = judged c.settled_at-settled.result c.args.self.settled c.args.self.greatest c.args.before.now c.args.o.now c.args.rest.now c.requires c.settled_at-settled.ensures in
+    let same = judged_lately c.settled_at-settled.result c.args.self.settled c.args.self.greatest c.args.before.now c.args.o.now c.args.rest.now c.requires c.settled_at-settled.ensures in
     let told = c.is_lawful_lately.ensures in
     let not_so = c.if-not-is_lawful_lately.true in
     cc
@@ -17,7 +17,7 @@ returns-then-not-is_lawful_lately c =
 pub returns : goal.returns
 returns c =
     let all = take_rest c.args.before.now c.settled_at-settled.result in
-    let same = judged c.settled_at-settled.result c.args.self.settled c.args.self.greatest c.args.before.now c.args.o.now c.args.rest.now c.requires c.settled_at-settled.ensures in
+    let same = judged_lately c.settled_at-settled.result c.args.self.settled c.args.self.greatest c.args.before.now c.args.o.now c.args.rest.now c.requires c.settled_at-settled.ensures in
     let told = c.is_lawful_lately.ensures in
     let is_so = c.if-not-is_lawful_lately.false in
     let is : is_lawful_at c.args.before.now c.args.o.now c.args.rest.now ≡ true = cc in

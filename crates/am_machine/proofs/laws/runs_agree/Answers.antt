@@ -1,4 +1,4 @@
-use Rattle.am_machine.proofs.AgreeRuns.{runs_agree}
+use Rattle.am_machine.proofs.Agreement.Runs.{runs_agree}
 use Rattle.am_machine.proofs.laws.runs_agree.Goals as goal
 
 pub returns : goal.returns

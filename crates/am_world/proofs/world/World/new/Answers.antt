@@ -1,7 +1,7 @@
 use Rattle.std.proofs.Common.{refl, ◌∙◌}
 use Rattle.am_machine.specs.State.{Opening}
-use Rattle.am_machine.proofs.NameTheorems.{initial_named}
-use Rattle.am_machine.proofs.SafetyLemmas.{initial_consistent}
+use Rattle.am_machine.proofs.Walks.Runs.{initial_named}
+use Rattle.am_machine.proofs.Consistent.{initial_consistent}
 use Rattle.am_world.proofs.TableLemmas.{state_is}
 use Rattle.am_world.proofs.world.World.new.Goals as goal
 

@@ -1,2 +1,0 @@
--- All names stay names.
-pub mod Changes

@@ -1,0 +1,3 @@
+-- A pending record stays one of its token.
+pub mod Tokens
+pub mod Changes
