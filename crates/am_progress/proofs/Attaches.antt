@@ -8,7 +8,7 @@ use Rattle.am_names.proofs.Basics.{both_of_and, equal_by_test, value_where_some,
 use Rattle.am_kernel.specs.declared.row.Attached.{Attached}
 use Rattle.am_kernel.specs.State.{KernelState}
 use Rattle.am_kernel.specs.Sites.{is_live, is_attached_by, fs_of_attach, is_current}
-use Rattle.am_kernel.specs.Attachments.{attached_row}
+use Rattle.am_kernel.specs.Attachments.{reattached_row}
 use Rattle.am_machine.proofs.Lists.Different.{all_found, found_none}
 use Rattle.am_machine.proofs.Attachments.Known.{any_found}
 
@@ -50,7 +50,7 @@ piped_by_cases fs last row other false false is its low lower one same = one sam
 piped_all : (fs last : ℕ) (row : Attached) (rows : List Attached) → row.attach ≤ last → All (IsGiven last) rows → All (IsOfOne row) rows → All (IsOfOne (reattached_row fs (last + 1) row)) (map (reattached_row fs (last + 1)) rows)
 piped_all fs last row [] low given h = All-nil (IsOfOne (reattached_row fs (last + 1) row))
 piped_all fs last row (other ∷ rows) low given h =
-    All-cons (IsOfOne (attached_row fs (last + 1) row)) (attached_row fs (last + 1) other) (map (attached_row fs (last + 1)) rows)
+    All-cons (IsOfOne (reattached_row fs (last + 1) row)) (reattached_row fs (last + 1) other) (map (reattached_row fs (last + 1)) rows)
     (λ same. piped_by_cases fs last row other (row.fs == fs) (other.fs == fs) refl refl low (All-head (IsGiven last) other rows given) (All-head (IsOfOne row) other rows h) same)
     (piped_all fs last row rows low (All-tail (IsGiven last) other rows given) (All-tail (IsOfOne row) other rows h))
 

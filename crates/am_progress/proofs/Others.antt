@@ -17,7 +17,7 @@ use Rattle.am_kernel.specs.DaemonMounts.{attached_at}
 use Rattle.am_kernel.specs.Attachments.{with_pipe}
 use Rattle.am_kernel.specs.Requests.{with_timeout}
 use Rattle.am_kernel.specs.Resumes.{freed_from}
-use Rattle.am_kernel.specs.Walks.{closed, closing}
+use Rattle.am_kernel.specs.Catatonic.{closed, closing}
 use Rattle.am_job.specs.declared.act.Outcome.{Outcome}
 use Rattle.am_daemon.specs.Points.{line_timeout}
 use Rattle.am_daemon.specs.Deliveries.{job_of, job_for}

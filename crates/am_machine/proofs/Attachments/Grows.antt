@@ -100,7 +100,7 @@ piped_by_cases : (b : Bool) (n : ℕ) (row : Attached) → (if b then record row
 piped_by_cases true n row = refl
 piped_by_cases false n row = refl
 
-pub piped_fs : (fs n : ℕ) (row : Attached) → (piped.attached_row fs n row).fs ≡ row.fs
+pub piped_fs : (fs n : ℕ) (row : Attached) → (piped.reattached_row fs n row).fs ≡ row.fs
 piped_fs fs n row = piped_by_cases (row.fs == fs) n row
 
 other_attach : (fs other n : ℕ) (rows : List Attached) (o : Option Attached) → find (λ (r : Attached). r.fs == other) rows ≡ o → (other == fs) ≡ false → option_map (λ (r : Attached). r.attach) (option_map (piped.reattached_row fs n) o) ≡ option_map (λ (r : Attached). r.attach) o

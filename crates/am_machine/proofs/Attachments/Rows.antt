@@ -118,7 +118,7 @@ given_pipe k d fs h =
       more_attach = omega arith;
     })
     (known_marked k.triggers.autofs made.attached d.known d.held
-    (known_changed k.triggers.autofs k.attached d.known d.held h.familiar (piped.attached_row fs (k.last_attach + 1)) (piped_fs fs (k.last_attach + 1)))
+    (known_changed k.triggers.autofs k.attached d.known d.held h.familiar (piped.reattached_row fs (k.last_attach + 1)) (piped_fs fs (k.last_attach + 1)))
     (catatonic_row fs false) (λ row. catatonic_by_cases false (row.fs == fs) row)) h
 
 pub given_attached : (direct : Bool) (timeout : ℕ) (k : KernelState) (at : Position) (path : List (List ℕ)) (d : DaemonState) → AreGiven k d → AreGiven (attached_at direct timeout k at) (with_attachment (k.last_fs + 1) (k.last_attach + 1) path d)

@@ -12,7 +12,7 @@ use Rattle.am_state.specs.declared.obs.Obs.{Obs}
 use Rattle.am_kernel.specs.State.{KernelState}
 use Rattle.am_kernel.specs.DaemonMounts.{standing}
 use Rattle.am_kernel.specs.Walks as walks
-use Rattle.am_kernel.specs.Walks.{closed}
+use Rattle.am_kernel.specs.Catatonic.{closed}
 use Rattle.am_kernel.specs.Expires.{with_expiring}
 use Rattle.am_kernel.specs.Resumes.{freed_from}
 use Rattle.am_kernel.specs.Requests.{acknowledged}

@@ -313,7 +313,7 @@ module _ (Fits : List (List ℕ) → Type 0) (Acts : ℕ → Type 0) (P : Kernel
   mount_act s row trigger entry failure i =
       in_either_case s (not (is_current s.kernel trigger.fs row.attach)) _ _ (refuses s _) (mount_tried failure s row trigger entry i)
 
-  umounts_from : (mounted : Option ℕ) (s : State) (row : JobPlan) (trigger : Trigger) → IsNext Acts s row (act.Umount trigger) → is_current s.kernel trigger.fs row.attach ≡ true → mounted_on s.kernel trigger ≡ mounted → mounts.umount_tests mounted s.kernel ≡ None →
+  umounts_from : (mounted : Option ℕ) (s : State) (row : JobPlan) (trigger : Trigger) → IsNext Acts s row (act.Umount trigger) → is_current s.kernel trigger.fs row.attach ≡ true → mounted_on s.kernel trigger ≡ mounted → mounts.umount_from_tests mounted s.kernel ≡ None →
       R s (seen.Unmounted (gone_with s.kernel mounted) ∷ []) (going row came.Done (without_mounts (gone_with s.kernel mounted) s.kernel) s)
   umounts_from None s row trigger i current is may = absurd cc
   umounts_from (Some mount) s row trigger i current is may = keeps.unmounted_on s row trigger mount i (record { current = current; mounted = is; tests = may })
@@ -323,7 +323,7 @@ module _ (Fits : List (List ℕ) → Type 0) (Acts : ℕ → Type 0) (P : Kernel
 
   umount_by : (e : Option Errno) (s : State) (row : JobPlan) (trigger : Trigger) → IsNext Acts s row (act.Umount trigger) → umount_from_refusal s.kernel row.attach trigger ≡ e → Leaves R s (acts.umount_by e s row trigger)
   umount_by None s row trigger i may =
-      let tests = test_passed (not (is_current s.kernel trigger.fs row.attach)) _ (mounts.umount_tests (mounted_on s.kernel trigger) s.kernel) may in
+      let tests = test_passed (not (is_current s.kernel trigger.fs row.attach)) _ (mounts.umount_from_tests (mounted_on s.kernel trigger) s.kernel) may in
       record { well = umounts_from (mounted_on s.kernel trigger) s row trigger i (true_where_not_false _ tests.0) refl tests.1 }
   umount_by (Some e) s row trigger i may = umount_fails s row trigger ENOENT i
 

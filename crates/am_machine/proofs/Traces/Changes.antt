@@ -26,7 +26,7 @@ use Rattle.am_wait.specs.Rows.{token_of, waiters_in, waiters_of}
 use Rattle.am_kernel.specs.Administration.{site_refusal, umount_tests, gone_at}
 use Rattle.am_kernel.specs.DaemonMounts.{without_mounts}
 use Rattle.am_kernel.specs.Requests.{answering, acknowledged}
-use Rattle.am_kernel.specs.Walks.{releases}
+use Rattle.am_kernel.specs.Observations.{releases}
 use Rattle.am_machine.proofs.Traces.Enter.{leave_fits}
 use Rattle.am_names.specs.declared.trigger.Status.{Status}
 use Rattle.am_names.specs.declared.row.OpenToken.{OpenToken}

@@ -15,7 +15,7 @@ use Rattle.am_wait.specs.Rows.{token_of, tokens_of, waiters_in, waiters_of}
 use Rattle.am_wait.specs.Invariant.{RiseBy}
 use Rattle.am_wait.proofs.FindLemmas.{absent}
 use Rattle.am_kernel.specs.State.{KernelState}
-use Rattle.am_kernel.specs.Walks.{failures}
+use Rattle.am_kernel.specs.Catatonic.{failures}
 use Rattle.am_machine.specs.Invariant.Traces.{has, AreDifferent, AgreeOnWaiters}
 use Rattle.am_machine.proofs.Traces.Releases.{Waiter, is_waiter, AreNew, row_of, row_of-append, on_token, on_token_has, releases_row, all_new, other_number}
 use Rattle.am_machine.proofs.Traces.Counts.{or_neither_and}

@@ -17,7 +17,7 @@ use Rattle.am_walk.specs.Walks.{walk_of}
 use Rattle.am_kernel.specs.declared.begun.Begin.{Begin}
 use Rattle.am_kernel.specs.declared.row.Attached.{Attached}
 use Rattle.am_kernel.specs.State.{KernelState}
-use Rattle.am_kernel.specs.Previews.{is_trigger_of}
+use Rattle.am_kernel.specs.Sites.{is_trigger_of}
 use Rattle.am_kernel.specs.Outcome.{with_latest}
 use Rattle.am_kernel.specs.Directories.{with_directory, without_directory}
 use Rattle.am_kernel.specs.DaemonMounts.{attached_at, with_mount_on, gone_with, without_mounts}
@@ -25,7 +25,7 @@ use Rattle.am_kernel.specs.Requests.{with_timeout, timeout_row, without_packet}
 use Rattle.am_kernel.specs.Attachments.{with_pipe}
 use Rattle.am_kernel.specs.Expires.{expiry_of}
 use Rattle.am_kernel.specs.Resumes.{freed_from}
-use Rattle.am_kernel.specs.Walks.{closed}
+use Rattle.am_kernel.specs.Catatonic.{closed}
 use Rattle.am_job.specs.declared.act.Outcome.{Outcome}
 use Rattle.am_daemon.specs.Points.{line_timeout}
 use Rattle.am_daemon.specs.State.{JobPlan}

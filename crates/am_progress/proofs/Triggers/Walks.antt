@@ -23,7 +23,7 @@ use Rattle.am_walk.specs.declared.stop.Stop.TheVariants as stops
 use Rattle.am_walk.specs.Scene.{Scene, autofs_at, has_names}
 use Rattle.am_walk.specs.Meet.{if_open, if_mounted, if_failing, if_entered, at_directory, at_trap, at_trigger, at_plain, at_autofs, at_site, next_at}
 use Rattle.am_walk.specs.Walks.{Visit, Stands, Stops, followed, settled_within, settled, onward, after, visit_from, visit_of, Walked, ended, walk_of}
-use Rattle.am_kernel.specs.Previews.{is_trigger_of}
+use Rattle.am_kernel.specs.Sites.{is_trigger_of}
 
 -- the trigger is one of an autofs that is there
 abbrev pub IsSite : TriggerRows → Trigger → Type 0

@@ -3,7 +3,7 @@ use Rattle.am_machine.specs.Agreement.{Agree}
 use Rattle.am_machine.specs.InStep.{AreInStep}
 use Rattle.am_machine.proofs.Agreement.Runs.{agrees}
 use Rattle.am_machine.proofs.InStep.States.{in_step}
-use Rattle.am_world.specs.Halves.{table_of, state_of}
+use Rattle.am_world.specs.Halves.{table_of, whole_state}
 use Rattle.am_world.specs.Table as table
 use Rattle.am_world.specs.Table.{WorldTable}
 use Rattle.am_world.proofs.TableLemmas.{state_is}
