@@ -85,15 +85,15 @@ counts_left walker mount rows old new single there agree down m =
     less_the_same (counted old m) (use_count rows m) (counted new m) (use_count (left walker rows) m)
     (cond (mount == m) 1 0) (agree m) (down m) (leaves_count rows walker mount single there m)
 
-above : (n k l : ℕ) → n ≡ k + l → l ≡ 1 → 0 < n
-above n k l e f = omega (arith, e, f)
+positive_where_one_more : (n k l : ℕ) → n ≡ k + l → l ≡ 1 → 0 < n
+positive_where_one_more n k l e f = omega (arith, e, f)
 
 -- where a walker is inside the mount, it has a count
 pub counted_there :
     (walker mount : ℕ) (rows : List Use) (counts : List (ℕ × ℕ)) → IsSingle rows →
     mount_of rows walker ≡ Some mount → AreCounts counts rows → 0 < counted counts mount
 counted_there walker mount rows counts single there agree =
-    above (counted counts mount) (use_count (left walker rows) mount) (cond (mount == mount) 1 0)
+    positive_where_one_more (counted counts mount) (use_count (left walker rows) mount) (cond (mount == mount) 1 0)
     (agree mount ∙ leaves_count rows walker mount single there mount)
     (ap (λ (b : Bool). cond b 1 0) ((Decides-eqb mount mount).1 refl))
 

@@ -4,5 +4,6 @@ pub mod OrderLemmas
 pub mod TouchLemmas
 pub mod PickLemmas
 pub mod ShiftLemmas
+pub mod PlaceLemmas
 pub mod MayLemmas
 pub mod UpLemmas

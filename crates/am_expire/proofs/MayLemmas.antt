@@ -4,10 +4,11 @@ use Rattle.std.specs.Prelude.{Contains, not, nat_le}
 use Rattle.std.proofs.lemmas.Bool.Decides.{nat_tests}
 use Rattle.std.proofs.lemmas.List.Elements.{All-weaker, All-get_or, Contains-append_right, filter_passes}
 use Rattle.am_names.specs.declared.trigger.Trigger.{Trigger}
+use Rattle.am_names.proofs.Basics.{left_of_and, true_where_not_false}
 use Rattle.am_expire.specs.Order.{is_of, IsOrder}
 use Rattle.am_expire.specs.Pick.{Expiry, is_due, is_open, may_go, mount_on, is_eligible, comes_before, candidates}
 use Rattle.am_expire.proofs.OrderLemmas.{far, filter_none}
-use Rattle.am_expire.proofs.PickLemmas.{comes_is, first_true}
+use Rattle.am_expire.proofs.PickLemmas.{comes_is}
 use Rattle.am_expire.proofs.TouchLemmas.{none_in_same}
 
 -- ---- what the tests tell
@@ -20,7 +21,7 @@ eligible_of : (e : Expiry) (row : Trigger × ℕ) → is_eligible e row ≡ true
 eligible_of e row may =
     let one = is_of e.fs row in
     let shut = not (is_open e.waits row.0) in
-    first_true one (due e row.1) (first_true (one && due e row.1) shut (first_true (one && due e row.1 && shut) (may_go e.table e.uses (mount_on e row.0)) may))
+    left_of_and one (due e row.1) (left_of_and (one && due e row.1) shut (left_of_and (one && due e row.1 && shut) (may_go e.table e.uses (mount_on e row.0)) may))
 
 -- a row that isn't due may not expire
 pub not_due : (e : Expiry) (row : Trigger × ℕ) → due e row.1 ≡ false → is_eligible e row ≡ false
@@ -32,13 +33,13 @@ not_due e row late =
     by_both true false shut may e = refl
     by_both false two shut may e = refl
 
-pub passed_by : (a b : Bool) → (not a || b) ≡ false → b ≡ false
-passed_by true b e = e
-passed_by false b e = absurd cc
+pub not_eligible_where_passed : (a b : Bool) → (not a || b) ≡ false → b ≡ false
+not_eligible_where_passed true b e = e
+not_eligible_where_passed false b e = absurd cc
 
-pub ends_by : (a b : Bool) → (not a || b) ≡ true → a ≡ true → b ≡ true
-ends_by true b e f = e
-ends_by false b e f = absurd cc
+pub eligible_where_ended : (a b : Bool) → (not a || b) ≡ true → a ≡ true → b ≡ true
+eligible_where_ended true b e f = e
+eligible_where_ended false b e f = absurd cc
 
 -- one that was used later isn't due either
 pub later_not_due : (timeout moment : ℕ) (now : Bool) (last later : ℕ) → last ≤ later → is_due timeout moment now last ≡ false → is_due timeout moment now later ≡ false
@@ -97,10 +98,6 @@ none_may e rows order none =
     candidates_within e
     ∙ filter_none (is_eligible e) (filter (is_of e.fs) e.triggers.uses) (none_in_same rows (filter (is_of e.fs) e.triggers.uses) (is_eligible e) order.same none)
 
-not_not : (b : Bool) → not b ≡ false → b ≡ true
-not_not true e = refl
-not_not false e = absurd cc
-
 not_of_true : (b : Bool) → b ≡ true → not b ≡ false
 not_of_true true e = refl
 not_of_true false e = absurd cc
@@ -113,7 +110,7 @@ all_of e rows order =
     let ours = filter (is_of e.fs) e.triggers.uses in
     let of_ours : All (λ (x : Trigger × ℕ). not (is_of e.fs x) ≡ false) ours =
     All-weaker (λ (x : Trigger × ℕ). is_of e.fs x ≡ true) (λ (x : Trigger × ℕ). not (is_of e.fs x) ≡ false) (λ x h. not_of_true (is_of e.fs x) h) ours (filter_passes (is_of e.fs) e.triggers.uses) in
-    All-weaker (λ (x : Trigger × ℕ). not (is_of e.fs x) ≡ false) (λ (x : Trigger × ℕ). is_of e.fs x ≡ true) (λ x h. not_not (is_of e.fs x) h) rows
+    All-weaker (λ (x : Trigger × ℕ). not (is_of e.fs x) ≡ false) (λ (x : Trigger × ℕ). is_of e.fs x ≡ true) (λ x h. true_where_not_false (is_of e.fs x) h) rows
     (none_in_same ours rows (λ x. not (is_of e.fs x)) (λ test. sym (order.same test)) of_ours)
 
 same_fs : (a b fs : ℕ) → (a == fs) ≡ true → (b == fs) ≡ true → a ≡ b

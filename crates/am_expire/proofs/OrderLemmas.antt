@@ -161,14 +161,14 @@ sorted_remove rows at within up k d low high =
 
 -- ---- where a row stands
 
-tied_by : (a b : Trigger × ℕ) (r : Ordering) → use_cmp a b ≡ r → is_lt r ≡ false → is_before b a ≡ false → r ≡ Equal
-tied_by a b Less e p q = absurd cc
-tied_by a b Equal e p q = refl
-tied_by a b Greater e p q = absurd (let h : is_before b a ≡ true = ap is_lt (use_total.antisymm b a ∙ ap ordering_reverse e) in cc)
+tied_where_neither_before : (a b : Trigger × ℕ) (r : Ordering) → use_cmp a b ≡ r → is_lt r ≡ false → is_before b a ≡ false → r ≡ Equal
+tied_where_neither_before a b Less e p q = absurd cc
+tied_where_neither_before a b Equal e p q = refl
+tied_where_neither_before a b Greater e p q = absurd (let h : is_before b a ≡ true = ap is_lt (use_total.antisymm b a ∙ ap ordering_reverse e) in cc)
 
 -- of two rows that don't come before one another both are the same
 pub same_use : (a b : Trigger × ℕ) → is_before a b ≡ false → is_before b a ≡ false → a ≡ b
-same_use a b p q = let e = tied_by a b (use_cmp a b) refl p q in use_exact a b e
+same_use a b p q = let e = tied_where_neither_before a b (use_cmp a b) refl p q in use_exact a b e
 
 pub not_before_itself : (row : Trigger × ℕ) → is_before row row ≡ false
 not_before_itself row = ap is_lt (tied_itself use_total row)

@@ -12,6 +12,7 @@ use Rattle.std.proofs.lemmas.Cmp.{nat_cmp_total}
 use Rattle.std.proofs.lemmas.List.Sums.{AllPass-from_list_all, list_all-from_AllPass}
 use Rattle.std.proofs.lemmas.List.Elements.{All-contains, All-weaker, All-head, All-tail, Contains-get_or, filter_passes}
 use Rattle.am_names.specs.declared.trigger.Trigger.{Trigger}
+use Rattle.am_names.proofs.Basics.{equal_by_test, not_where_false, false_where_not, left_of_and}
 use Rattle.am_expire.specs.Pick.{Expiry, is_due, is_open, may_go, mount_on, is_eligible, comes_before, candidates, IsLeast, IsPick, is_first, pick_of}
 use Rattle.am_expire.specs.Scan.{IsBest}
 use Rattle.am_expire.proofs.OrderLemmas.{is_before, same_use}
@@ -37,22 +38,14 @@ same_row a b fs e f = same_use a b (comes_is a b fs ∙ e) (comes_is b a (sym fs
 
 -- ---- the least
 
-not_true : (b : Bool) → b ≡ false → not b ≡ true
-not_true true e = absurd cc
-not_true false e = refl
-
-not_false : (b : Bool) → not b ≡ true → b ≡ false
-not_false true e = absurd cc
-not_false false e = refl
-
 first_of_least : (rows : List (Trigger × ℕ)) (row : Trigger × ℕ) → All (λ other. comes_before other row ≡ false) rows → is_first rows row ≡ true
 first_of_least rows row least =
     list_all-from_AllPass (λ (other : Trigger × ℕ). not (comes_before other row)) rows
-    (All-weaker (λ (other : Trigger × ℕ). comes_before other row ≡ false) (λ (other : Trigger × ℕ). not (comes_before other row) ≡ true) (λ other h. not_true (comes_before other row) h) rows least)
+    (All-weaker (λ (other : Trigger × ℕ). comes_before other row ≡ false) (λ (other : Trigger × ℕ). not (comes_before other row) ≡ true) (λ other h. not_where_false (comes_before other row) h) rows least)
 
 least_of_first : (rows : List (Trigger × ℕ)) (row : Trigger × ℕ) → is_first rows row ≡ true → All (λ other. comes_before other row ≡ false) rows
 least_of_first rows row first =
-    All-weaker (λ (other : Trigger × ℕ). not (comes_before other row) ≡ true) (λ (other : Trigger × ℕ). comes_before other row ≡ false) (λ other h. not_false (comes_before other row) h) rows
+    All-weaker (λ (other : Trigger × ℕ). not (comes_before other row) ≡ true) (λ (other : Trigger × ℕ). comes_before other row ≡ false) (λ other h. false_where_not (comes_before other row) h) rows
     (AllPass-from_list_all (λ (other : Trigger × ℕ). not (comes_before other row)) rows first)
 
 -- the one row that passes the test is found
@@ -69,13 +62,6 @@ find_only {X} test (row ∷ rows) x there passes only =
     by_test true e rest = ap Some (All-head (λ (y : X). test y ≡ true → y ≡ x) row rows only e)
     by_test false e rest = rest (later there.0 there.1 there.2 e)
 
-same_number : (a b : ℕ) → (a == b) ≡ true → a ≡ b
-same_number a b e = grind (arith, nat_tests)
-
-pub first_true : (a b : Bool) → (a && b) ≡ true → a ≡ true
-first_true true b e = refl
-first_true false b e = absurd cc
-
 -- all candidates are of the file system
 of_fs : (e : Expiry) (row : Trigger × ℕ) → Contains (candidates e) row → row.0.fs ≡ e.fs
 of_fs e row there =
@@ -84,7 +70,7 @@ of_fs e row there =
     let shut = not (is_open e.waits row.0) in
     let may = may_go e.table e.uses (mount_on e row.0) in
     let all : is_eligible e row ≡ true = All-contains (λ (r : Trigger × ℕ). is_eligible e r ≡ true) (candidates e) row (filter_passes (is_eligible e) e.triggers.uses) there in
-    same_number row.0.fs e.fs (first_true one due (first_true (one && due) shut (first_true (one && due && shut) may all)))
+    equal_by_test row.0.fs e.fs (left_of_and one due (left_of_and (one && due) shut (left_of_and (one && due && shut) may all)))
 
 least_found : (e : Expiry) (best : Trigger × ℕ) → IsLeast (candidates e) best → find (is_first (candidates e)) (candidates e) ≡ Some best
 least_found e best least =

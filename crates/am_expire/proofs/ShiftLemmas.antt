@@ -1,68 +1,14 @@
--- A row that goes, and another that stands further up in its place.
-use Rattle.std.proofs.Common.{◌≡◌, ◌<◌, ◌≤◌, ◌+◌, ◌-◌, ℕ, Bool, true, false, cond, ◌==◌, nat_lt, List, length, get_or, set, refl, sym, ap, ◌∙◌, arith}
+-- A row that goes, and another that stands further up or further down in its place.
+use Rattle.std.proofs.Common.{◌≡◌, ◌<◌, ◌≤◌, ◌+◌, ◌-◌, ℕ, Bool, true, false, cond, nat_lt, List, length, get_or, refl, ap, arith}
 use Rattle.std.specs.Prelude.{Contains}
-use Rattle.std.specs.List.{insert, remove, CopiedTo, SameBelow, SameFrom}
+use Rattle.std.specs.List.{count_by, insert, remove}
 use Rattle.std.specs.List.Sorted.{IsSorted}
 use Rattle.std.proofs.lemmas.Bool.Decides.{nat_tests}
-use Rattle.std.proofs.lemmas.List.{ext_get_or, length-set, get_or-set_other, get_or-set_same}
-use Rattle.std.proofs.lemmas.List.Edits.{length-insert, length-remove, get_or-insert_at, get_or-insert_below, get_or-insert_above, get_or-remove_below, get_or-remove_above}
+use Rattle.std.proofs.lemmas.List.Edits.{length-remove, get_or-remove_below, get_or-remove_above}
 use Rattle.std.proofs.lemmas.List.Sums.{sum_by-insert, sum_by-remove}
 use Rattle.am_names.specs.declared.trigger.Trigger.{Trigger}
-use Rattle.am_expire.specs.Order.{use_cmp, HasInstead}
+use Rattle.am_expire.specs.Order.{use_cmp}
 use Rattle.am_expire.proofs.OrderLemmas.{IsRank, is_before, stands, sorted_insert, sorted_remove}
-
--- the items behind the first place move one down, up to the second, where there is another now
-pub shifted :
-    {X : Type 0} (xs moved : List X) (from to : ℕ) (x : X) → from < to → to ≤ length xs →
-    length moved ≡ length xs → CopiedTo xs moved (from + 1) from (to - (from + 1)) →
-    SameBelow xs moved from → SameFrom xs moved (from + (to - (from + 1))) →
-    set moved (to - 1) x ≡ insert (remove xs from) (to - 1) x
-shifted {X} xs moved from to x up within len copied below above =
-    ext_get_or x (set moved (to - 1) x) (insert (remove xs from) (to - 1) x) same_length (λ k lt.
-    by_place k (nat_lt k from) (nat_lt k (to - 1)) (k == (to - 1)) refl refl refl)
-  where
-    less : length (remove xs from) + 1 ≡ length xs
-    less = length-remove xs from (omega arith)
-
-    same_length : length (set moved (to - 1) x) ≡ length (insert (remove xs from) (to - 1) x)
-    same_length =
-        let a = length-set moved (to - 1) x in
-        let b = length-insert (remove xs from) (to - 1) x (omega (arith, less)) in
-        omega (arith, a, b, less, len)
-
-    by_place :
-        (k : ℕ) (a b c : Bool) → nat_lt k from ≡ a → nat_lt k (to - 1) ≡ b → (k == (to - 1)) ≡ c →
-        get_or (set moved (to - 1) x) k x ≡ get_or (insert (remove xs from) (to - 1) x) k x
-    by_place k true b c p q r =
-        let lt : k < from = grind (arith, nat_tests) in
-        get_or-set_other moved (to - 1) k x x (λ e. absurd (omega arith))
-        ∙ below k x lt
-        ∙ sym (get_or-insert_below (remove xs from) (to - 1) x x k (omega arith) (omega (arith, less))
-        ∙ get_or-remove_below xs from x k lt (omega arith))
-    by_place k false true c p q r =
-        let ge : from ≤ k = grind (arith, nat_tests) in
-        let lt : k < to - 1 = grind (arith, nat_tests) in
-        let is : from + 1 + (k - from) ≡ k + 1 = omega arith in
-        get_or-set_other moved (to - 1) k x x (λ e. absurd (omega arith))
-        ∙ copied k x ge (omega arith)
-        ∙ ap (λ (n : ℕ). get_or xs n x) is
-        ∙ sym (get_or-insert_below (remove xs from) (to - 1) x x k lt (omega (arith, less))
-        ∙ get_or-remove_above xs from x k ge (omega arith))
-    by_place k false false true p q r =
-        let is : k ≡ to - 1 = grind (arith, nat_tests) in
-        ap (λ (n : ℕ). get_or (set moved (to - 1) x) n x) is
-        ∙ get_or-set_same moved (to - 1) x x (omega (arith, len))
-        ∙ sym (ap (λ (n : ℕ). get_or (insert (remove xs from) (to - 1) x) n x) is
-        ∙ get_or-insert_at (remove xs from) (to - 1) x x (omega (arith, less)))
-    by_place k false false false p q r =
-        let gt : to - 1 < k = grind (arith, nat_tests) in
-        let is : k ≡ k - 1 + 1 = omega arith in
-        get_or-set_other moved (to - 1) k x x (λ e. absurd (omega arith))
-        ∙ above k x (omega arith)
-        ∙ ap (λ (n : ℕ). get_or xs n x) is
-        ∙ sym (ap (λ (n : ℕ). get_or (insert (remove xs from) (to - 1) x) n x) is
-        ∙ get_or-insert_above (remove xs from) (to - 1) x x (k - 1) (omega arith) (omega (arith, less))
-        ∙ get_or-remove_above xs from x (k - 1) (omega arith) (omega arith))
 
 -- where a row behind the one that goes is to stand, once that is gone
 rank_less :
@@ -86,23 +32,52 @@ rank_less rows other from to up within parts = (
         let ge : from ≤ k = grind (arith, nat_tests) in
         rw (get_or-remove_above rows from d k ge (omega arith)) (parts.0 (k + 1) d (omega arith) (omega arith))
 
-pub shift_rises :
-    (rows : List (Trigger × ℕ)) (other : Trigger × ℕ) (from to : ℕ) → IsSorted use_cmp rows →
-    from < to → to ≤ length rows → IsRank rows other to →
-    IsSorted use_cmp (insert (remove rows from) (to - 1) other)
-shift_rises rows other from to rising up within rank =
-    let e = length-remove rows from (omega arith) in
-    sorted_insert (remove rows from) (to - 1) other (sorted_remove rows from (omega arith) rising) (omega arith) (rank_less rows other from to up within rank)
+-- a row before the one that goes is to stand where it would
+rank_same :
+    (rows : List (Trigger × ℕ)) (other : Trigger × ℕ) (from to : ℕ) → to ≤ from → from < length rows →
+    IsRank rows other to → IsRank (remove rows from) other to
+rank_same rows other from to down within parts = (
+  λ k d low high. rw (get_or-remove_below rows from d k (omega arith) within) (parts.0 k d (omega arith) (omega arith)),
+  λ k d low high. behind k d low high (nat_lt k from) refl,
+)
+  where
+    behind :
+        (k : ℕ) (d : Trigger × ℕ) → to ≤ k → k < length (remove rows from) → (b : Bool) → nat_lt k from ≡ b →
+        is_before (get_or (remove rows from) k d) other ≡ false
+    behind k d low high true p =
+        let lt : k < from = grind (arith, nat_tests) in
+        rw (get_or-remove_below rows from d k lt within) (parts.1 k d low (omega arith))
+    behind k d low high false p =
+        let ge : from ≤ k = grind (arith, nat_tests) in
+        let e = length-remove rows from within in
+        rw (get_or-remove_above rows from d k ge within) (parts.1 (k + 1) d (omega arith) (omega arith))
 
-pub shift_exchanges :
-    (rows : List (Trigger × ℕ)) (row other : Trigger × ℕ) (from to : ℕ) → IsSorted use_cmp rows →
-    IsRank rows row from → Contains rows row → from < to → to ≤ length rows →
-    HasInstead row other rows (insert (remove rows from) (to - 1) other)
-shift_exchanges rows row other from to rising rank there up within test =
-    let here = stands rows row from rising rank there in
-    let e = length-remove rows from here.0 in
+-- the rows rise after the one has gone and the other has come
+pub exchange_rises :
+    (rows : List (Trigger × ℕ)) (other : Trigger × ℕ) (from to : ℕ) → IsSorted use_cmp rows →
+    from < length rows → to ≤ length rows → IsRank rows other to →
+    IsSorted use_cmp (insert (remove rows from) (cond (nat_lt from to) (to - 1) to) other)
+exchange_rises rows other from to rising here within rank = by_test (nat_lt from to) refl
+  where
+    left : length (remove rows from) + 1 ≡ length rows
+    left = length-remove rows from here
+
+    by_test : (b : Bool) → nat_lt from to ≡ b → IsSorted use_cmp (insert (remove rows from) (cond b (to - 1) to) other)
+    by_test true p =
+        let up : from < to = grind (arith, nat_tests) in
+        sorted_insert (remove rows from) (to - 1) other (sorted_remove rows from here rising) (omega (arith, left)) (rank_less rows other from to up within rank)
+    by_test false p =
+        let down : to ≤ from = grind (arith, nat_tests) in
+        sorted_insert (remove rows from) to other (sorted_remove rows from here rising) (omega (arith, left)) (rank_same rows other from to down here rank)
+
+-- the other row is there in the place of the one
+pub exchange_counts :
+    (rows : List (Trigger × ℕ)) (row other : Trigger × ℕ) (from at : ℕ) →
+    from < length rows → get_or rows from row ≡ row → (test : Trigger × ℕ → Bool) →
+    count_by test (insert (remove rows from) at other) + cond (test row) 1 0 ≡ count_by test rows + cond (test other) 1 0
+exchange_counts rows row other from at here stands_there test =
     let f : Trigger × ℕ → ℕ = λ (x : Trigger × ℕ). cond (test x) 1 0 in
-    let gone = sum_by-remove f rows from row here.0 in
-    let is : f (get_or rows from row) ≡ f row = ap f here.1 in
-    let put = sum_by-insert f (remove rows from) (to - 1) other in
+    let gone = sum_by-remove f rows from row here in
+    let is : f (get_or rows from row) ≡ f row = ap f stands_there in
+    let put = sum_by-insert f (remove rows from) at other in
     omega (arith, gone, is, put)

@@ -64,27 +64,6 @@ in_same rows others row same there =
 
 -- ---- the last use of a trigger
 
-pub last_is_there : (uses : List (Trigger × ℕ)) (trigger : Trigger) (last : ℕ) → last_use_in uses trigger ≡ Some last → Contains uses (trigger, last)
-last_is_there [] trigger last e = absurd cc
-last_is_there (row ∷ uses) trigger last e = by_test (same_trigger row.0 trigger) refl (last_is_there uses trigger last) e
-  where
-    by_test :
-        (b : Bool) → same_trigger row.0 trigger ≡ b → (last_use_in uses trigger ≡ Some last → Contains uses (trigger, last)) →
-        option_map {T = Trigger × ℕ} (λ r. r.1) (cond b (Some row) (find (λ r. same_trigger r.0 trigger) uses)) ≡ Some last →
-        Contains (row ∷ uses) (trigger, last)
-    by_test true same later e =
-        let moment : row.1 ≡ last = cc in
-        let here : row ≡ (trigger, last) = ap (λ (g : Trigger). (g, row.1)) (is_one row.0 trigger same) ∙ ap (λ (n : ℕ). (trigger, n)) moment in
-        (0, omega arith, here)
-    by_test false differs later e = Contains-append_right (row ∷ []) uses (trigger, last) (later e)
-
-pub last_in_order :
-    (uses rows : List (Trigger × ℕ)) (trigger : Trigger) (last : Option ℕ) → AreSame rows uses →
-    last_use_in uses trigger ≡ last → IfSome last (λ n. Contains rows (trigger, n))
-last_in_order uses rows trigger None same e = tt
-last_in_order uses rows trigger (Some n) same e =
-    in_same rows uses (trigger, n) same (last_is_there uses trigger n e)
-
 -- after a use the trigger has this last use, and no longer the one before
 pub used_count :
     (test : Trigger × ℕ → Bool) (trigger : Trigger) (moment : ℕ) (uses : List (Trigger × ℕ)) →

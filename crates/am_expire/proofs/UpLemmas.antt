@@ -4,18 +4,17 @@ use Rattle.std.specs.Prelude.{Contains, not, nat_le, slice_get}
 use Rattle.std.specs.List.{position_or_len}
 use Rattle.std.specs.Option.{option_map}
 use Rattle.std.proofs.lemmas.Bool.Decides.{nat_tests}
-use Rattle.std.proofs.lemmas.List.{get_or_default}
 use Rattle.std.proofs.lemmas.List.Elements.{All-filter, All-from_get_or, filter_passes}
 use Rattle.std.proofs.lemmas.List.Sums.{fails_before_first, passes_at_first, position_or_len_is}
 use Rattle.std.proofs.lemmas.Option.{slice_get_within, get_or_from_slice_get, slice_get_cases}
 use Rattle.am_names.specs.declared.trigger.Trigger.{Trigger}
-use Rattle.am_expire.specs.Order.{is_of, is_off, is_end, IsOrder}
+use Rattle.am_expire.specs.Order.{is_of, is_off, is_end, no_use, IsOrder}
 use Rattle.am_expire.specs.Pick.{Expiry, is_due, is_eligible, is_lesser_name, comes_before, candidates, IsLeast, IsPick, pick_of}
 use Rattle.am_expire.specs.Scan.{IsBest, due_in, due_at}
 use Rattle.am_expire.proofs.OrderLemmas.{filter_none}
 use Rattle.am_expire.proofs.PickLemmas.{pick_is, pick_exact}
 use Rattle.am_expire.proofs.TouchLemmas.{in_same, none_in_same}
-use Rattle.am_expire.proofs.MayLemmas.{due, not_due, passed_by, ends_by, later_not_due, not_later, candidates_within, contains_filtered, none_may, not_before}
+use Rattle.am_expire.proofs.MayLemmas.{due, not_due, not_eligible_where_passed, eligible_where_ended, later_not_due, not_later, candidates_within, contains_filtered, none_may, not_before}
 
 -- ---- the row at which a pick ends
 
@@ -26,7 +25,7 @@ passed_may_not :
     (e : Expiry) (rows : List (Trigger × ℕ)) (k : ℕ) (d : Trigger × ℕ) → k < first_end e rows →
     is_eligible e (get_or rows k d) ≡ false
 passed_may_not e rows k d lt =
-    passed_by (due e (get_or rows k d).1) (is_eligible e (get_or rows k d)) (fails_before_first (is_end e) rows k d lt)
+    not_eligible_where_passed (due e (get_or rows k d).1) (is_eligible e (get_or rows k d)) (fails_before_first (is_end e) rows k d lt)
 
 -- it may expire: it is the least that may
 least_at :
@@ -114,7 +113,7 @@ found e rows order = by_row (slice_get rows (first_end e rows)) refl
         let ends : is_end e row ≡ true = ap (is_end e) (sym here) ∙ passes_at_first (is_end e) rows row within in
         record {
           best = Some row;
-          least = least_at e rows row order within here (ends_by (due e row.1) (is_eligible e row) ends is);
+          least = least_at e rows row order within here (eligible_where_ended (due e row.1) (is_eligible e row) ends is);
           is = sym (ap (due_in e) at ∙ ap (λ (b : Bool). cond b (Some row.0) None) is);
         }
     by_due row at false is =
@@ -168,31 +167,28 @@ exact_off e off = pick_exact e None (none_off e off)
 -- ---- the way up
 
 pub ends_here :
-    (e : Expiry) (rows : List (Trigger × ℕ)) (index : ℕ) (row : Trigger × ℕ) → index < length rows →
-    ((k : ℕ) (d : Trigger × ℕ) → k < index → is_end e (get_or rows k d) ≡ false) →
-    get_or rows index row ≡ row → is_end e row ≡ true → index ≡ position_or_len (is_end e) rows
-ends_here e rows index row within passed at ends =
-    sym (position_or_len_is (is_end e) rows index row (omega arith) (λ k lt. passed k row lt) (λ lt. ap (is_end e) at ∙ ends))
+    (e : Expiry) (rows : List (Trigger × ℕ)) (index : ℕ) → index < length rows →
+    ((k : ℕ) → k < index → is_end e (get_or rows k no_use) ≡ false) →
+    is_end e (get_or rows index no_use) ≡ true → index ≡ position_or_len (is_end e) rows
+ends_here e rows index within passed ends =
+    sym (position_or_len_is (is_end e) rows index no_use (omega arith) passed (λ lt. ends))
 
 pub passed_more :
-    (e : Expiry) (rows : List (Trigger × ℕ)) (index : ℕ) (row : Trigger × ℕ) → index < length rows →
-    ((k : ℕ) (d : Trigger × ℕ) → k < index → is_end e (get_or rows k d) ≡ false) →
-    get_or rows index row ≡ row → is_end e row ≡ false →
-    (k : ℕ) (d : Trigger × ℕ) → k < index + 1 → is_end e (get_or rows k d) ≡ false
-passed_more e rows index row within passed at on k d lt = by_test (nat_lt k index) refl
+    (e : Expiry) (rows : List (Trigger × ℕ)) (index : ℕ) →
+    ((k : ℕ) → k < index → is_end e (get_or rows k no_use) ≡ false) →
+    is_end e (get_or rows index no_use) ≡ false →
+    (k : ℕ) → k < index + 1 → is_end e (get_or rows k no_use) ≡ false
+passed_more e rows index passed on k lt = by_test (nat_lt k index) refl
   where
-    by_test : (b : Bool) → nat_lt k index ≡ b → is_end e (get_or rows k d) ≡ false
-    by_test true less = passed k d (grind (arith, nat_tests))
+    by_test : (b : Bool) → nat_lt k index ≡ b → is_end e (get_or rows k no_use) ≡ false
+    by_test true less = passed k (grind (arith, nat_tests))
     by_test false same =
         let is : k ≡ index = grind (arith, nat_tests) in
-        ap (λ (n : ℕ). is_end e (get_or rows n d)) is ∙ ap (is_end e) (get_or_default rows index d row within ∙ at) ∙ on
+        ap (λ (n : ℕ). is_end e (get_or rows n no_use)) is ∙ on
 
 pub passed_all :
-    (e : Expiry) (rows : List (Trigger × ℕ)) (index : ℕ) → index ≤ length rows → length rows ≤ index →
-    ((k : ℕ) (d : Trigger × ℕ) → k < index → is_end e (get_or rows k d) ≡ false) →
-    length rows ≡ position_or_len (is_end e) rows
-passed_all e rows index within le passed =
-    sym (position_or_len_is (is_end e) rows (length rows) none (omega arith) (λ k lt. passed k none (omega arith)) (λ lt. absurd (omega arith)))
-  where
-    none : Trigger × ℕ
-    none = (record { fs = 0; name = None }, 0)
+    (e : Expiry) (rows : List (Trigger × ℕ)) (len index : ℕ) → len ≡ length rows → len ≤ index →
+    ((k : ℕ) → k < index → is_end e (get_or rows k no_use) ≡ false) →
+    len ≡ position_or_len (is_end e) rows
+passed_all e rows len index long le passed =
+    sym (position_or_len_is (is_end e) rows len no_use (omega (arith, long)) (λ k lt. passed k (omega arith)) (λ lt. absurd (omega (arith, long, lt))))

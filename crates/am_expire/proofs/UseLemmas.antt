@@ -4,6 +4,7 @@ use Rattle.std.specs.Prelude.{find, is_some}
 use Rattle.std.specs.Option.{option_map}
 use Rattle.std.proofs.lemmas.List.Sums.{sum_by-append}
 use Rattle.std.proofs.lemmas.Bool.Decides.{nat_tests, Decides-eqb}
+use Rattle.am_names.proofs.Basics.{equal_by_test, some_injective}
 use Rattle.am_expire.specs.declared.uses.Use.{Use}
 use Rattle.am_expire.specs.Uses.{mount_of, use_count, left, IsInToo, IsInNoMore, HasOneMore}
 use Rattle.am_expire.specs.Inside.{IsSingle}
@@ -40,25 +41,22 @@ or_none : (o : Option ℕ) → or_else o None ≡ o
 or_none (Some m) = refl
 or_none None = refl
 
-same_number : (a b : ℕ) → (a == b) ≡ true → a ≡ b
-same_number a b e = (Decides-eqb a b).0 e
-
-entered_by : (rows : List Use) (row : Use) (w : ℕ) (b : Bool) → (row.walker == w) ≡ b → mount_of rows row.walker ≡ None → or_else (mount_of rows w) (unless_at b row None) ≡ unless_at b row (mount_of rows w)
-entered_by rows row w true e none = rw (ap (mount_of rows) (sym (same_number row.walker w e)) ∙ none) refl
-entered_by rows row w false e none = or_none (mount_of rows w)
+entered_at : (rows : List Use) (row : Use) (w : ℕ) (b : Bool) → (row.walker == w) ≡ b → mount_of rows row.walker ≡ None → or_else (mount_of rows w) (unless_at b row None) ≡ unless_at b row (mount_of rows w)
+entered_at rows row w true e none = rw (ap (mount_of rows) (sym (equal_by_test row.walker w e)) ∙ none) refl
+entered_at rows row w false e none = or_none (mount_of rows w)
 
 pub enters : (rows : List Use) (row : Use) → mount_of rows row.walker ≡ None → IsInToo row.walker row.mount rows (rows ++ row ∷ [])
-enters rows row none w = mount_last rows row w ∙ entered_by rows row w (row.walker == w) refl none
+enters rows row none w = mount_last rows row w ∙ entered_at rows row w (row.walker == w) refl none
 
 pub enters_count : (rows : List Use) (row : Use) → HasOneMore row.mount rows (rows ++ row ∷ [])
 enters_count rows row m =
     sum_by-append (λ (r : Use). cond (r.mount == m) 1 0) rows (row ∷ [])
     ∙ ap (λ (n : ℕ). use_count rows m + n) (zero_plus (cond (row.mount == m) 1 0))
 
-single_by : (r row : Use) (rows : List Use) (b : Bool) → (row.walker == r.walker) ≡ b → mount_of rows r.walker ≡ None → mount_of (r ∷ rows) row.walker ≡ None → mount_of (rows ++ row ∷ []) r.walker ≡ None
-single_by r row rows true e free none =
-    absurd (cc (sym (first_of r rows row.walker) ∙ none, (Decides-eqb r.walker row.walker).1 (sym (same_number row.walker r.walker e))))
-single_by r row rows false e free none = rw (mount_last rows row r.walker, free, e) refl
+single_at : (r row : Use) (rows : List Use) (b : Bool) → (row.walker == r.walker) ≡ b → mount_of rows r.walker ≡ None → mount_of (r ∷ rows) row.walker ≡ None → mount_of (rows ++ row ∷ []) r.walker ≡ None
+single_at r row rows true e free none =
+    absurd (cc (sym (first_of r rows row.walker) ∙ none, (Decides-eqb r.walker row.walker).1 (sym (equal_by_test row.walker r.walker e))))
+single_at r row rows false e free none = rw (mount_last rows row r.walker, free, e) refl
 
 rest_free : (r row : Use) (rows : List Use) (b : Bool) → (r.walker == row.walker) ≡ b → unless_at b r (mount_of rows row.walker) ≡ None → mount_of rows row.walker ≡ None
 rest_free r row rows true e none = absurd cc
@@ -67,7 +65,7 @@ rest_free r row rows false e none = none
 pub enters_single : (rows : List Use) (row : Use) → IsSingle rows → mount_of rows row.walker ≡ None → IsSingle (rows ++ row ∷ [])
 enters_single [] row single none = (refl, tt)
 enters_single (r ∷ rows) row single none = (
-  single_by r row rows (row.walker == r.walker) refl single.0 none,
+  single_at r row rows (row.walker == r.walker) refl single.0 none,
   enters_single rows row single.1 (rest_free r row rows (r.walker == row.walker) refl (sym (first_of r rows row.walker) ∙ none)),
 )
 
@@ -77,7 +75,7 @@ left_first : (r : Use) (rows : List Use) (walker w : ℕ) (b c : Bool) → (r.wa
     mount_of (left walker rows) w ≡ cond (walker == w) None (mount_of rows w) →
     mount_of (left walker (r ∷ rows)) w ≡ cond (walker == w) None (mount_of (r ∷ rows) w)
 left_first r rows walker w true true e f later =
-    let same : (walker == w) ≡ true = (Decides-eqb walker w).1 (sym (same_number r.walker walker e) ∙ same_number r.walker w f) in
+    let same : (walker == w) ≡ true = (Decides-eqb walker w).1 (sym (equal_by_test r.walker walker e) ∙ equal_by_test r.walker w f) in
     rw (e, same) (rw same at later)
 left_first r rows walker w true false e f later = rw (e, f) later
 left_first r rows walker w false true e f later =
@@ -101,21 +99,14 @@ stays_all (r ∷ rows) walker none = by_test (r.walker == walker) refl (sym (fir
 one_less : (c n k : ℕ) → n ≡ k + c → (d : ℕ) → d + n ≡ (d + k) + c
 one_less c n k e d = omega (arith, e)
 
-abbrev or_zero : Option ℕ → ℕ
-or_zero (Some m) = m
-or_zero None = 0
-
-some_is : (x y : ℕ) → Some x ≡ Some y → x ≡ y
-some_is x y h = ap or_zero h
-
 pub leaves_count : (rows : List Use) (walker mount : ℕ) → IsSingle rows → mount_of rows walker ≡ Some mount → HasOneMore mount (left walker rows) rows
 leaves_count [] walker mount single there m = absurd cc
 leaves_count (r ∷ rows) walker mount single there m = by_test (r.walker == walker) refl (sym (first_of r rows walker) ∙ there) (λ h. leaves_count rows walker mount single.1 h m)
   where
     by_test : (b : Bool) → (r.walker == walker) ≡ b → unless_at b r (mount_of rows walker) ≡ Some mount → (mount_of rows walker ≡ Some mount → use_count rows m ≡ use_count (left walker rows) m + cond (mount == m) 1 0) → use_count (r ∷ rows) m ≡ use_count (left walker (r ∷ rows)) m + cond (mount == m) 1 0
     by_test true e there later =
-        let free : mount_of rows walker ≡ None = ap (mount_of rows) (sym (same_number r.walker walker e)) ∙ single.0 in
-        let is : r.mount ≡ mount = some_is r.mount mount there in
+        let free : mount_of rows walker ≡ None = ap (mount_of rows) (sym (equal_by_test r.walker walker e)) ∙ single.0 in
+        let is : r.mount ≡ mount = some_injective there in
         rw (count_first r rows m, e, stays_all rows walker free, is) (omega arith)
     by_test false e there later =
         rw (count_first r rows m, e, count_first r (left walker rows) m) (one_less (cond (mount == m) 1 0) (use_count rows m) (use_count (left walker rows) m) (later there) (cond (r.mount == m) 1 0))
@@ -132,7 +123,3 @@ leaves_single (r ∷ rows) walker single = by_test (r.walker == walker) (leaves_
     by_test false later = (still_free rows walker r.walker single.0, later)
 
 -- ---- who is inside a mount
-
-pub nowhere : (o : Option ℕ) → is_some o ≡ false → o ≡ None
-nowhere None e = refl
-nowhere (Some mount) e = absurd cc

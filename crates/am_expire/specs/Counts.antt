@@ -1,4 +1,5 @@
--- How many walkers are inside each mount, as the index of mounts has it.
+-- How many walkers are inside each mount, as the index of mounts has it: own choice
+-- (docs/DECISIONS.md, "`Uses` keeps which walker is inside which mount").
 use Rattle.std.specs.Prelude.{◌≡◌, ℕ, ◌+◌, ◌==◌, nat_eq, List, if◌then◌else◌}
 use Rattle.std.specs.Map.{lookup}
 use Rattle.std.specs.Option.{unwrap_or}

@@ -3,4 +3,5 @@ pub mod Counts
 pub mod Inside
 pub mod Pick
 pub mod Order
+pub mod Part
 pub mod Scan

@@ -1,5 +1,7 @@
--- In which order the triggers come to expire, and how far a pick goes up that order.
-use Rattle.std.specs.Prelude.{◌≡◌, ℕ, ◌+◌, ◌==◌, ◌||◌, ◌&&◌, Bool, not, List, length, filter, Option, Some, None, cond, if◌then◌else◌}
+-- In which order the triggers come to expire, and how far a pick goes up that order: own choice
+-- (docs/DECISIONS.md, "The order of last uses is held with the triggers" and "Of several triggers that
+-- were last used at one moment the one with the least name expires first").
+use Rattle.std.specs.Prelude.{◌≡◌, ℕ, ◌+◌, ◌==◌, ◌||◌, ◌&&◌, Bool, false, not, List, length, map, get_or, filter, Option, Some, None, cond, if◌then◌else◌}
 use Rattle.std.specs.Cmp.Lexicographic.{slice_cmp}
 use Rattle.std.specs.declared.cmp.Ordering.{Ordering}
 use Rattle.std.specs.List.{count_by, position}
@@ -7,6 +9,7 @@ use Rattle.std.specs.List.Sorted.{IsSorted}
 use Rattle.std.specs.Option.{option_cmp, option_map, unwrap_or}
 use Rattle.std.specs.Ordering.{nat_cmp, ordering_then}
 use Rattle.am_names.specs.declared.trigger.Trigger.{Trigger}
+use Rattle.am_ordered.specs.Order.{IsOrderOf}
 use Rattle.am_expire.specs.Pick.{Expiry, is_due, is_eligible}
 
 -- by file system, then by last use, then by the bytes of the name, of which none is the least
@@ -25,28 +28,38 @@ pub record IsOrder (uses rows : List (Trigger × ℕ)) : Type 0 where
   pub rising : IsSorted use_cmp rows
   pub same : AreSame rows uses
 
+-- what stands where there is no last use
+abbrev pub no_use : Trigger × ℕ
+no_use = (record { fs = 0; name = None }, 0)
+
+-- the last use at this place
+abbrev pub row_at : List (Trigger × ℕ) → ℕ → Trigger × ℕ
+row_at uses place = get_or uses place no_use
+
+-- the last uses at these places
+abbrev pub rows_at : List (Trigger × ℕ) → List ℕ → List (Trigger × ℕ)
+rows_at uses places = map (row_at uses) places
+
+-- these are the places of all last uses, each once, in the order in which they expire
+pub record IsListed (uses : List (Trigger × ℕ)) (places : List ℕ) : Type 0 where
+  pub order : IsOrder uses (rows_at uses places)
+  pub once : IsOrderOf (length uses) places
+
+-- there is a last use, and it passes the test
+abbrev pub passes : (Trigger × ℕ → Bool) → Option (Trigger × ℕ) → Bool
+passes test None = false
+passes test (Some row) = test row
+
 -- it is the last use of a trigger of the file system
 abbrev pub is_of : ℕ → Trigger × ℕ → Bool
 is_of fs row = row.0.fs == fs
 
 -- ---- a change of the order
 
--- the second has this row once more
-abbrev pub HasRowMore : Trigger × ℕ → List (Trigger × ℕ) → List (Trigger × ℕ) → Type 0
-HasRowMore row less more =
-    (test : Trigger × ℕ → Bool) → count_by test more ≡ count_by test less + cond (test row) 1 0
-
 -- a trigger that was used before has a row
 abbrev pub has_last : Trigger → (Trigger × ℕ → Bool) → Option ℕ → ℕ
 has_last trigger test None = 0
 has_last trigger test (Some last) = cond (test (trigger, last)) 1 0
-
--- the second has the other row in the place of this one
-abbrev pub HasInstead :
-    Trigger × ℕ → Trigger × ℕ → List (Trigger × ℕ) → List (Trigger × ℕ) → Type 0
-HasInstead row other old new =
-    (test : Trigger × ℕ → Bool) →
-    count_by test new + cond (test row) 1 0 ≡ count_by test old + cond (test other) 1 0
 
 -- the second has the trigger's use at this moment, and no longer its last use, if there was one
 abbrev pub IsTouched :
@@ -69,6 +82,7 @@ looks_up e rows = unwrap_or (option_map (λ k. k + 1) (position (is_end e) rows)
 abbrev pub is_off : Expiry → Bool
 is_off e = not e.immediate && e.timeout == 0
 
+-- how many of these rows a pick looks at; none, where none is due for want of a timeout
 abbrev pub looks_in : Expiry → List (Trigger × ℕ) → ℕ
 looks_in e rows = if is_off e then 0 else looks_up e rows
 

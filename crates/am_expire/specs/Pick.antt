@@ -17,6 +17,7 @@ use Rattle.am_wait.specs.Rows.{WaitRows, open_on}
 use Rattle.am_expire.specs.declared.uses.Use.{Use}
 use Rattle.am_expire.specs.Uses.{is_used}
 
+-- what decides which trigger expires next
 pub record Expiry : Type 0 where
   pub table : MountTable
   pub triggers : TriggerRows
@@ -43,6 +44,7 @@ abbrev pub may_go : MountTable → List Use → Option ℕ → Bool
 may_go table uses None = false
 may_go table uses (Some mount) = is_none (umount_refusal (is_used uses) mount table)
 
+-- what is mounted on the trigger at the daemon's mount of this autofs
 abbrev pub mount_at : MountTable → Option Autofs → Trigger → Option ℕ
 mount_at table None trigger = None
 mount_at table (Some row) trigger = top_of table.rows row.location (place_of trigger)

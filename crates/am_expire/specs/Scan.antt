@@ -1,9 +1,10 @@
--- What a pick looks at.
+-- What a pick looks at, as the code has it: own choice.
 use Rattle.std.specs.Prelude.{◌≡◌, ℕ, List, [], slice_get, Option, Some, None, if◌then◌else◌}
 use Rattle.am_names.specs.declared.trigger.Trigger.{Trigger}
 use Rattle.am_expire.specs.declared.expiry.View.{View}
 use Rattle.am_expire.specs.Pick.{Expiry, is_due, IsLeast}
 
+-- what the references stand for
 abbrev pub expiry_in : View → Expiry
 expiry_in v = record {
   table = v.subtree.now;
@@ -21,6 +22,7 @@ abbrev pub IsBest : List (Trigger × ℕ) → Option (Trigger × ℕ) → Type 0
 IsBest rows None = rows ≡ []
 IsBest rows (Some best) = IsLeast rows best
 
+-- the trigger of this row, if there is one and it is due
 abbrev pub due_in : Expiry → Option (Trigger × ℕ) → Option Trigger
 due_in e None = None
 due_in e (Some row) =

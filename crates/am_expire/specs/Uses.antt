@@ -1,5 +1,6 @@
--- Which walkers are inside which mounts: each is one use of its mount (Linux: the references that
--- `may_umount_tree` and `propagate_mount_busy` count).
+-- Which walkers are inside which mounts: each is one use of its mount: own choice (docs/DECISIONS.md,
+-- "`Uses` keeps which walker is inside which mount"; Linux: the references that `may_umount_tree` and
+-- `propagate_mount_busy` count).
 use Rattle.std.specs.Prelude.{◌≡◌, ℕ, ◌+◌, ◌==◌, Bool, not, is_some, List, [], ◌∷◌, ◌++◌, filter, find, Option, Some, None, if◌then◌else◌}
 use Rattle.std.specs.List.{count_by, list_any}
 use Rattle.std.specs.Option.{option_map}

@@ -1,12 +1,14 @@
 //! Which trigger of an autofs expires next (autofs.rst, "Mountpoint expiry").
 
-ghost use Rattle.std.specs.Prelude.{◌≡◌, ◌+◌, nat_lt, filter, None, IfOk, if◌then◌else◌};
+ghost use Rattle.std.specs.Prelude.{◌≡◌, ◌+◌, ◌<◌, nat_lt, length, get_or, filter, None, IfOk, if◌then◌else◌};
 ghost use Rattle.std.specs.List.{position_or_len};
 ghost use Rattle.am_names.specs.Errno.{RefusedAs};
 ghost use Rattle.am_expire.specs.Pick.{Expiry, is_due, may_go, mount_on, is_open, is_eligible, IsPick, pick_of};
-ghost use Rattle.am_expire.specs.Order.{is_of, IsOrder, is_off, is_end, looks_in, IsLooks};
+ghost use Rattle.am_expire.specs.Order.{is_of, no_use, IsOrder, is_off, is_end, looks_in, IsLooks};
+ghost use Rattle.am_expire.specs.Part.{rows_in, IsPart};
 ghost use Rattle.am_expire.specs.Scan.{expiry_in, due_at};
 
+use crate::order::Part;
 use crate::ordered::OrderedTriggers;
 use crate::uses::Uses;
 use am_names::{Errno, FsId, MountId, Seconds, TokenKind, Trigger};
@@ -82,7 +84,8 @@ impl View<'_> {
 
     fn may_go(&self, alloc: Global, mount: Option<MountId>) -> Result<bool, Errno>
         ensures refusal { RefusedAs None result }
-        ensures ok { IfOk result (λ may. may ≡ may_go self.now.subtree.now self.now.uses.now mount) }
+        ensures ok { IfOk result (λ may. may ≡
+            may_go self.now.subtree.now self.now.uses.now mount) }
     {
         let Some(mount) = mount else {
             return Ok(false);
@@ -91,82 +94,100 @@ impl View<'_> {
         Ok(refusal.is_none())
     }
 
-    fn is_eligible(&self, alloc: Global, row: &(Trigger, Seconds)) -> Result<bool, Errno>
+    fn is_eligible(&self, alloc: Global, trigger: &Trigger, last: Seconds) -> Result<bool, Errno>
         ensures refusal { RefusedAs None result }
-        ensures ok { IfOk result (λ eligible. eligible ≡ is_eligible (expiry_in self.now) row.now) }
+        ensures ok { IfOk result (λ eligible. eligible ≡
+            is_eligible (expiry_in self.now) (trigger.now, last)) }
     {
-        if row.0.fs != self.fs {
+        if trigger.fs != self.fs {
             return Ok(false);
         }
-        if !self.is_due(row.1) {
+        if !self.is_due(last) {
             return Ok(false);
         }
-        if self.is_open(&row.0) {
+        if self.is_open(trigger) {
             return Ok(false);
         }
-        let mount = self.mount_on(alloc, &row.0)?;
+        let mount = self.mount_on(alloc, trigger)?;
         self.may_go(alloc, mount)
     }
 
-    /// Whether a pick goes no further up the order than to this row.
-    fn is_end(&self, alloc: Global, row: &(Trigger, Seconds)) -> Result<bool, Errno>
+    /// Whether a pick goes no further up the order than to this last use.
+    fn is_end(&self, alloc: Global, trigger: &Trigger, last: Seconds) -> Result<bool, Errno>
         ensures refusal { RefusedAs None result }
-        ensures ok { IfOk result (λ end. end ≡ is_end (expiry_in self.now) row.now) }
+        ensures ok { IfOk result (λ end. end ≡ is_end (expiry_in self.now) (trigger.now, last)) }
     {
-        if !self.is_due(row.1) {
+        if !self.is_due(last) {
             return Ok(true);
         }
-        self.is_eligible(alloc, row)
+        self.is_eligible(alloc, trigger, last)
     }
 
-    /// How many rows a pick passes before it ends.
-    fn passed(&self, alloc: Global, rows: &[(Trigger, Seconds)]) -> Result<usize, Errno>
+    /// Whether a pick goes no further than to the last use at this index.
+    fn ends_at(&self, alloc: Global, part: &Part, index: usize) -> Result<bool, Errno>
+        requires part { IsPart part.now }
+        requires within { index < length (rows_in part.now) }
         ensures refusal { RefusedAs None result }
-        ensures ok { IfOk result (λ passed. passed ≡ position_or_len (is_end (expiry_in self.now)) rows.now) }
+        ensures ok { IfOk result (λ end. end ≡
+            is_end (expiry_in self.now) (get_or (rows_in part.now) index no_use)) }
     {
-        for (index, row) in rows.iter().enumerate() {
-            if self.is_end(alloc, row)? {
+        let (trigger, last) = part.row(index);
+        self.is_end(alloc, trigger, last)
+    }
+
+    /// How many last uses a pick passes before it ends.
+    fn passed(&self, alloc: Global, part: &Part) -> Result<usize, Errno>
+        requires { IsPart part.now }
+        ensures refusal { RefusedAs None result }
+        ensures ok { IfOk result (λ passed. passed ≡
+            position_or_len (is_end (expiry_in self.now)) (rows_in part.now)) }
+    {
+        let len = part.len();
+        for index in 0..len {
+            if self.ends_at(alloc, part, index)? {
                 return Ok(index);
             }
         }
-        Ok(rows.len())
+        Ok(len)
     }
 
-    /// The trigger of the row at which a pick ends, if it is due.
-    fn due_at(&self, rows: &[(Trigger, Seconds)], index: usize) -> Option<Trigger>
-        ensures { result ≡ due_at (expiry_in self.now) rows.now index }
+    /// The trigger of the last use at which a pick ends, if it is due.
+    fn due_at(&self, part: &Part, index: usize) -> Option<Trigger>
+        requires { IsPart part.now }
+        ensures { result ≡ due_at (expiry_in self.now) (rows_in part.now) index }
     {
-        let row = rows.get(index)?;
-        if self.is_due(row.1) {
-            Some(row.0)
+        if part.len() <= index {
+            return None;
+        }
+        let (trigger, last) = part.row(index);
+        if self.is_due(last) {
+            Some(*trigger)
         } else {
             None
         }
     }
 
-    /// The pick out of the rows of its file system, and how many of them it looks at.
-    fn pick_in(
-        &self,
-        alloc: Global,
-        rows: &[(Trigger, Seconds)],
-    ) -> Result<(Option<Trigger>, usize), Errno>
-        requires { IsOrder (filter (is_of self.now.fs) self.now.triggers.now.rows.uses) rows.now }
+    /// The pick out of the last uses of its file system, and how many of them it looks at.
+    fn pick_in(&self, alloc: Global, part: &Part) -> Result<(Option<Trigger>, usize), Errno>
+        requires part { IsPart part.now }
+        requires order { IsOrder (filter (is_of self.now.fs) self.now.triggers.now.rows.uses)
+            (rows_in part.now) }
         ensures refusal { RefusedAs None result }
         ensures pick { IfOk result (λ r. IsPick (expiry_in self.now) r.0) }
         ensures exact { IfOk result (λ r. r.0 ≡ pick_of (expiry_in self.now)) }
-        ensures looks { IfOk result (λ r. r.1 ≡ looks_in (expiry_in self.now) rows.now) }
+        ensures looks { IfOk result (λ r. r.1 ≡ looks_in (expiry_in self.now) (rows_in part.now)) }
     {
         if self.is_off() {
             return Ok((None, 0));
         }
-        let passed = self.passed(alloc, rows)?;
-        let looks = looks_of(passed, rows.len());
-        Ok((self.due_at(rows, passed), looks))
+        let passed = self.passed(alloc, part)?;
+        let looks = looks_of(passed, part.len());
+        Ok((self.due_at(part, passed), looks))
     }
 }
 
-/// What `pick` finds, and how many last uses of the file system it looked at. It goes up their order,
-/// and ends at the one that it picks, or at the first that isn't due.
+/// What `pick` finds, and how many last uses of the file system it looked at. It goes up their
+/// order, and ends at the one that it picks, or at the first that isn't due.
 pub fn pick_counted(
     alloc: Global,
     subtree: &Subtree,
@@ -179,9 +200,36 @@ pub fn pick_counted(
     immediate: bool,
 ) -> Result<(Option<Trigger>, usize), Errno>
     ensures refusal { RefusedAs None result }
-    ensures ok { IfOk result (λ r. IsPick (record { table = subtree.now; triggers = triggers.now.rows; waits = waits.now; uses = uses.now; fs = fs; timeout = timeout; moment = moment; immediate = immediate }) r.0) }
-    ensures exact { IfOk result (λ r. r.0 ≡ pick_of (record { table = subtree.now; triggers = triggers.now.rows; waits = waits.now; uses = uses.now; fs = fs; timeout = timeout; moment = moment; immediate = immediate })) }
-    ensures looks { IfOk result (λ r. IsLooks (record { table = subtree.now; triggers = triggers.now.rows; waits = waits.now; uses = uses.now; fs = fs; timeout = timeout; moment = moment; immediate = immediate }) r.1) }
+    ensures ok { IfOk result (λ r. IsPick (record {
+      table = subtree.now;
+      triggers = triggers.now.rows;
+      waits = waits.now;
+      uses = uses.now;
+      fs = fs;
+      timeout = timeout;
+      moment = moment;
+      immediate = immediate;
+    }) r.0) }
+    ensures exact { IfOk result (λ r. r.0 ≡ pick_of (record {
+      table = subtree.now;
+      triggers = triggers.now.rows;
+      waits = waits.now;
+      uses = uses.now;
+      fs = fs;
+      timeout = timeout;
+      moment = moment;
+      immediate = immediate;
+    })) }
+    ensures looks { IfOk result (λ r. IsLooks (record {
+      table = subtree.now;
+      triggers = triggers.now.rows;
+      waits = waits.now;
+      uses = uses.now;
+      fs = fs;
+      timeout = timeout;
+      moment = moment;
+      immediate = immediate;
+    }) r.1) }
 {
     let view = View {
         subtree,
@@ -193,7 +241,7 @@ pub fn pick_counted(
         moment,
         immediate,
     };
-    view.pick_in(alloc, triggers.order_of(fs))
+    view.pick_in(alloc, &triggers.order_of(fs))
 }
 
 /// The trigger of the file system that expires next: of those that may expire the one that was
@@ -211,8 +259,26 @@ pub fn pick(
     immediate: bool,
 ) -> Result<Option<Trigger>, Errno>
     ensures refusal { RefusedAs None result }
-    ensures ok { IfOk result (λ found. IsPick (record { table = subtree.now; triggers = triggers.now.rows; waits = waits.now; uses = uses.now; fs = fs; timeout = timeout; moment = moment; immediate = immediate }) found) }
-    ensures exact { IfOk result (λ found. found ≡ pick_of (record { table = subtree.now; triggers = triggers.now.rows; waits = waits.now; uses = uses.now; fs = fs; timeout = timeout; moment = moment; immediate = immediate })) }
+    ensures ok { IfOk result (λ found. IsPick (record {
+      table = subtree.now;
+      triggers = triggers.now.rows;
+      waits = waits.now;
+      uses = uses.now;
+      fs = fs;
+      timeout = timeout;
+      moment = moment;
+      immediate = immediate;
+    }) found) }
+    ensures exact { IfOk result (λ found. found ≡ pick_of (record {
+      table = subtree.now;
+      triggers = triggers.now.rows;
+      waits = waits.now;
+      uses = uses.now;
+      fs = fs;
+      timeout = timeout;
+      moment = moment;
+      immediate = immediate;
+    })) }
 {
     let (found, _looks) = pick_counted(
         alloc, subtree, triggers, waits, uses, fs, timeout, moment, immediate,

@@ -1,22 +1,37 @@
 //! The order in which triggers come to expire.
 
-ghost use Rattle.std.specs.Prelude.{◌≡◌, ◌+◌, ◌≤◌, ◌<◌, [], length, Contains, ◌-◌, false, true, filter, vec_len, vec_capacity, Some, IfSome, OnOk};
+ghost use Rattle.std.specs.Prelude.{◌≡◌, ◌+◌, ◌-◌, ◌≤◌, ◌<◌, [], true, false, nat_lt, nat_le, length, filter, get_or, Some, None, OnOk, if◌then◌else◌};
 ghost use Rattle.std.specs.Cmp.Lexicographic.{slice_cmp};
-ghost use Rattle.std.specs.List.{insert, remove};
-ghost use Rattle.std.specs.List.Sorted.{IsSorted, IsPartitionPoint};
+ghost use Rattle.std.specs.List.Sorted.{IsPartitionPoint};
 ghost use Rattle.std.specs.Option.{option_cmp};
 ghost use Rattle.std.specs.Ordering.{nat_cmp, is_lt};
-ghost use Rattle.am_expire.specs.Order.{use_cmp, is_of, HasRowMore, HasInstead, IsTouched};
+ghost use Rattle.std.specs.VecDeque.{deque_len, deque_capacity};
+ghost use Rattle.std.specs.List.{slice_get};
+ghost use Rattle.am_trigger.specs.Rows.{IsUseIndex, AreOnce, used_in};
+ghost use Rattle.am_expire.specs.Order.{use_cmp, is_of, passes, no_use, rows_at, IsListed};
+ghost use Rattle.am_expire.specs.Part.{rows_in, IsPart};
 
 use am_names::{FsId, Name, Seconds, Trigger};
+use am_trigger::Triggers;
 use std::alloc::{AllocError, Global};
 use std::cmp::Ordering;
+use std::collections::VecDeque;
 
-/// The last uses of all triggers: those of one file system stand side by side, the one that was
+/// The order of the last uses: those of one file system stand side by side, the one that was
 /// longest ago first, and of those at one moment the one with the least name.
 #[derive(Drop)]
 pub struct Order {
-    rows: Vec<(Trigger, Seconds)>,
+    // The index of each among the triggers' last uses, of which none goes.
+    places: VecDeque<usize>,
+}
+
+/// A part of the order, with the triggers whose last uses it lists.
+#[derive(Clone, Copy)]
+pub struct Part<'a> {
+    triggers: &'a Triggers,
+    places: &'a VecDeque<usize>,
+    start: usize,
+    end: usize,
 }
 
 fn compare_names(name: &Option<Name>, other: &Option<Name>) -> Ordering
@@ -30,149 +45,195 @@ fn compare_names(name: &Option<Name>, other: &Option<Name>) -> Ordering
     }
 }
 
-fn compare(row: &(Trigger, Seconds), other: &(Trigger, Seconds)) -> Ordering
-    ensures { result ≡ use_cmp row.now other.now }
+fn compare(trigger: &Trigger, last: Seconds, other: &Trigger, moment: Seconds) -> Ordering
+    ensures { result ≡ use_cmp (trigger.now, last) (other.now, moment) }
 {
-    let by_fs = row.0.fs.0.cmp(&other.0.fs.0);
-    let by_use = row.1.0.cmp(&other.1.0);
+    let by_fs = trigger.fs.0.cmp(&other.fs.0);
+    let by_use = last.0.cmp(&moment.0);
     by_fs
         .then(by_use)
-        .then(compare_names(&row.0.name, &other.0.name))
+        .then(compare_names(&trigger.name, &other.name))
 }
 
-/// How many rows come before this one.
-fn rank(rows: &[(Trigger, Seconds)], row: &(Trigger, Seconds)) -> usize
-    requires { IsSorted use_cmp rows.now }
-    ensures bound { result ≤ length rows.now }
-    ensures rank { IsPartitionPoint (λ x. is_lt (use_cmp x row.now) ≡ true) (λ x. is_lt (use_cmp x row.now) ≡ false) rows.now result }
+/// Whether the last use at this place comes before that of a trigger at a moment.
+fn is_before(triggers: &Triggers, place: usize, other: &Trigger, moment: Seconds) -> bool
+    ensures { result ≡ passes (λ x. is_lt (use_cmp x (other.now, moment)))
+        (slice_get triggers.now.rows.uses place) }
 {
-    rows.partition_point(|other| compare(other, row).is_lt())
+    match triggers.use_ref(place) {
+        Some((trigger, last)) => compare(trigger, *last, other, moment).is_lt(),
+        None => false,
+    }
 }
 
-/// How many rows are of file systems before this one.
-fn start(rows: &[(Trigger, Seconds)], fs: FsId) -> usize
-    requires { IsSorted use_cmp rows.now }
-    ensures bound { result ≤ length rows.now }
-    ensures start { IsPartitionPoint (λ x. x.0.fs < fs) (λ x. fs ≤ x.0.fs) rows.now result }
+/// Whether the last use at this place is of a file system before this one.
+fn is_below(triggers: &Triggers, place: usize, fs: FsId) -> bool
+    ensures { result ≡ passes (λ x. nat_lt x.0.fs fs) (slice_get triggers.now.rows.uses place) }
 {
-    rows.partition_point(|row| row.0.fs.0 < fs.0)
+    match triggers.use_ref(place) {
+        Some((trigger, _)) => trigger.fs.0 < fs.0,
+        None => false,
+    }
 }
 
-/// How many rows are of file systems up to this one.
-fn end(rows: &[(Trigger, Seconds)], fs: FsId) -> usize
-    requires { IsSorted use_cmp rows.now }
-    ensures bound { result ≤ length rows.now }
-    ensures end { IsPartitionPoint (λ x. x.0.fs ≤ fs) (λ x. fs < x.0.fs) rows.now result }
+/// Whether the last use at this place is of this file system or one before it.
+fn is_up_to(triggers: &Triggers, place: usize, fs: FsId) -> bool
+    ensures { result ≡ passes (λ x. nat_le x.0.fs fs) (slice_get triggers.now.rows.uses place) }
 {
-    rows.partition_point(|row| row.0.fs.0 <= fs.0)
+    match triggers.use_ref(place) {
+        Some((trigger, _)) => trigger.fs.0 <= fs.0,
+        None => false,
+    }
+}
+
+/// The index to which one moves that stood at the first index, and is to stand before the one at
+/// the second.
+fn moved(from: usize, to: usize) -> usize
+    ensures { result ≡ (if nat_lt from to then to - 1 else to) }
+{
+    if from < to { to - 1 } else { to }
+}
+
+impl Part<'_> {
+    /// How many last uses they are.
+    pub(crate) fn len(&self) -> usize
+        requires { IsPart self.now }
+        ensures { result ≡ length (rows_in self.now) }
+    {
+        self.end - self.start
+    }
+
+    /// The last use at this index of the part.
+    pub(crate) fn row(&self, index: usize) -> (&Trigger, Seconds)
+        requires part { IsPart self.now }
+        requires within { index < length (rows_in self.now) }
+        ensures { (result.0.now, result.1) ≡ get_or (rows_in self.now) index no_use }
+    {
+        let place = self.places[self.start + index];
+        let (trigger, last) = self.triggers.use_ref(place).unwrap();
+        (trigger, *last)
+    }
 }
 
 impl Order {
     pub(crate) fn new(alloc: Global) -> Order
-        ensures { result.rows.items ≡ [] }
+        ensures { result.places.items ≡ [] }
     {
         Order {
-            rows: Vec::new(alloc),
+            places: VecDeque::new(alloc),
         }
     }
 
-    /// The rows of the file system.
-    pub(crate) fn of_fs(&self, fs: FsId) -> &[(Trigger, Seconds)]
-        requires { IsSorted use_cmp self.now.rows.items }
-        ensures { result.now ≡ filter (is_of fs) self.now.rows.items }
+    /// How many last uses come before that of a trigger at a moment.
+    fn rank(&self, triggers: &Triggers, trigger: &Trigger, moment: Seconds) -> usize
+        requires { IsListed triggers.now.rows.uses self.now.places.items }
+        ensures bound { result ≤ deque_len self.now.places }
+        ensures rank { IsPartitionPoint
+            (λ x. is_lt (use_cmp x (trigger.now, moment)) ≡ true)
+            (λ x. is_lt (use_cmp x (trigger.now, moment)) ≡ false)
+            (rows_at triggers.now.rows.uses self.now.places.items) result }
     {
-        let rows = self.rows.as_slice();
-        &rows[start(rows, fs)..end(rows, fs)]
+        self.places
+            .partition_point(|place| is_before(triggers, *place, trigger, moment))
     }
 
-    /// Makes room for so many more rows.
+    /// How many last uses are of file systems before this one.
+    fn start(&self, triggers: &Triggers, fs: FsId) -> usize
+        requires { IsListed triggers.now.rows.uses self.now.places.items }
+        ensures bound { result ≤ deque_len self.now.places }
+        ensures start { IsPartitionPoint (λ x. x.0.fs < fs) (λ x. fs ≤ x.0.fs)
+            (rows_at triggers.now.rows.uses self.now.places.items) result }
+    {
+        self.places
+            .partition_point(|place| is_below(triggers, *place, fs))
+    }
+
+    /// How many last uses are of file systems up to this one.
+    fn end(&self, triggers: &Triggers, fs: FsId) -> usize
+        requires { IsListed triggers.now.rows.uses self.now.places.items }
+        ensures bound { result ≤ deque_len self.now.places }
+        ensures end { IsPartitionPoint (λ x. x.0.fs ≤ fs) (λ x. fs < x.0.fs)
+            (rows_at triggers.now.rows.uses self.now.places.items) result }
+    {
+        self.places
+            .partition_point(|place| is_up_to(triggers, *place, fs))
+    }
+
+    /// The last uses of the file system.
+    pub(crate) fn of_fs<'a>(&'a self, triggers: &'a Triggers, fs: FsId) -> Part<'a>
+        requires { IsListed triggers.now.rows.uses self.now.places.items }
+        ensures part { IsPart result }
+        ensures rows { rows_in result ≡
+            filter (is_of fs) (rows_at triggers.now.rows.uses self.now.places.items) }
+    {
+        Part {
+            triggers,
+            places: &self.places,
+            start: self.start(triggers, fs),
+            end: self.end(triggers, fs),
+        }
+    }
+
+    /// Makes room for so many more last uses.
     pub(crate) fn reserve(&mut self, count: usize) -> Result<(), AllocError>
-        ensures rows { self.new.rows.items ≡ self.old.rows.items }
-        ensures len { vec_len self.new.rows ≡ vec_len self.old.rows }
-        ensures room { vec_capacity self.old.rows ≤ vec_capacity self.new.rows }
-        ensures ok { OnOk result (vec_len self.new.rows + count ≤ vec_capacity self.new.rows) }
+        ensures places { self.new.places.items ≡ self.old.places.items }
+        ensures len { deque_len self.new.places ≡ deque_len self.old.places }
+        ensures room { deque_capacity self.old.places ≤ deque_capacity self.new.places }
+        ensures ok { OnOk result (deque_len self.new.places + count ≤ deque_capacity
+            self.new.places) }
     {
-        self.rows.reserve(count)
+        self.places.reserve(count)
     }
 
-    /// One row less.
-    fn take_out(&mut self, row: &(Trigger, Seconds))
-        requires rising { IsSorted use_cmp self.old.rows.items }
-        requires there { Contains self.old.rows.items row.now }
-        ensures rising { IsSorted use_cmp self.new.rows.items }
-        ensures rows { HasRowMore row.now self.new.rows.items self.old.rows.items }
-        ensures len { vec_len self.new.rows + 1 ≡ vec_len self.old.rows }
-        ensures capacity { vec_capacity self.new.rows ≡ vec_capacity self.old.rows }
+    /// The trigger was used for the first time, at this moment, and there is room for that.
+    fn append(&mut self, triggers: &Triggers, trigger: &Trigger, moment: Seconds)
+        requires listed { IsListed triggers.now.rows.uses self.old.places.items }
+        requires fresh { IsUseIndex triggers.now.rows.uses trigger.now None }
+        requires room { deque_len self.old.places < deque_capacity self.old.places }
+        ensures listed { IsListed (used_in trigger.now moment triggers.now.rows.uses)
+            self.new.places.items }
+        ensures len { deque_len self.new.places ≤ deque_len self.old.places + 1 }
+        ensures capacity { deque_capacity self.old.places ≤ deque_capacity self.new.places }
     {
-        let at = rank(self.rows.as_slice(), row);
-        let _taken = self.rows.remove(at);
-    }
-
-    /// One row more, for which there is room.
-    pub(crate) fn put_in(&mut self, row: (Trigger, Seconds))
-        requires rising { IsSorted use_cmp self.old.rows.items }
-        requires room { vec_len self.old.rows < vec_capacity self.old.rows }
-        ensures rising { IsSorted use_cmp self.new.rows.items }
-        ensures rows { HasRowMore row self.old.rows.items self.new.rows.items }
-        ensures len { vec_len self.new.rows ≡ vec_len self.old.rows + 1 }
-        ensures capacity { vec_capacity self.new.rows ≡ vec_capacity self.old.rows }
-    {
-        let at = rank(self.rows.as_slice(), &row);
+        let at = self.rank(triggers, trigger, moment);
         // There is room for it.
-        let _put = self.rows.insert(at, row);
-    }
-    /// The row at the first place goes, and the rows behind it, up to the second, move one down, so
-    /// that the other stands behind them.
-    fn shift(&mut self, from: usize, to: usize, other: (Trigger, Seconds))
-        requires up { from < to }
-        requires within { to ≤ vec_len self.old.rows }
-        requires known { to ≤ length self.old.rows.items }
-        ensures rows { self.new.rows.items ≡ insert (remove self.old.rows.items from) (to - 1) other }
-        ensures len { vec_len self.new.rows ≡ vec_len self.old.rows }
-        ensures capacity { vec_capacity self.new.rows ≡ vec_capacity self.old.rows }
-    {
-        self.rows.copy_within(from + 1..to, from);
-        self.rows[to - 1] = other;
+        let _put = self.places.insert(at, triggers.use_count());
     }
 
-    /// The first row gives way to the other; nothing moves where they are the same.
-    fn exchange(&mut self, row: &(Trigger, Seconds), other: (Trigger, Seconds))
-        requires rising { IsSorted use_cmp self.old.rows.items }
-        requires there { Contains self.old.rows.items row.now }
-        requires same { row.now.0 ≡ other.0 }
-        requires room { vec_len self.old.rows < vec_capacity self.old.rows }
-        ensures rising { IsSorted use_cmp self.new.rows.items }
-        ensures rows { HasInstead row.now other self.old.rows.items self.new.rows.items }
-        ensures len { vec_len self.new.rows ≡ vec_len self.old.rows }
-        ensures capacity { vec_capacity self.new.rows ≡ vec_capacity self.old.rows }
+    /// The trigger, whose last use is at this place, was used at this moment.
+    fn renew(&mut self, triggers: &Triggers, place: usize, trigger: &Trigger, moment: Seconds)
+        requires listed { IsListed triggers.now.rows.uses self.old.places.items }
+        requires there { IsUseIndex triggers.now.rows.uses trigger.now (Some place) }
+        requires once { AreOnce triggers.now.rows.uses }
+        ensures listed { IsListed (used_in trigger.now moment triggers.now.rows.uses)
+            self.new.places.items }
+        ensures len { deque_len self.new.places ≤ deque_len self.old.places + 1 }
+        ensures capacity { deque_capacity self.old.places ≤ deque_capacity self.new.places }
     {
-        if row.1.0 == other.1.0 {
+        // There is a last use at that place.
+        let last = triggers.last_use_at(place).unwrap_or(moment);
+        if last.0 == moment.0 {
             return;
         }
-        let from = rank(self.rows.as_slice(), row);
-        let to = rank(self.rows.as_slice(), &other);
-        if from < to {
-            self.shift(from, to, other);
-        } else {
-            self.take_out(row);
-            self.put_in(other);
-        }
+        let from = self.rank(triggers, trigger, last);
+        let to = self.rank(triggers, trigger, moment);
+        let _gone = self.places.remove(from);
+        // There is room for it, since one has gone.
+        let _put = self.places.insert(moved(from, to), place);
     }
 
-    /// The trigger was used at this moment, and there is room for that; `last` is when it was used
-    /// before.
-    pub(crate) fn touch(&mut self, trigger: &Trigger, last: Option<Seconds>, moment: Seconds)
-        requires rising { IsSorted use_cmp self.old.rows.items }
-        requires there { IfSome last (λ last. Contains self.old.rows.items (trigger.now, last)) }
-        requires room { vec_len self.old.rows < vec_capacity self.old.rows }
-        ensures rising { IsSorted use_cmp self.new.rows.items }
-        ensures rows { IsTouched trigger.now last moment self.old.rows.items self.new.rows.items }
-        ensures len { vec_len self.new.rows ≤ vec_len self.old.rows + 1 }
-        ensures capacity { vec_capacity self.new.rows ≡ vec_capacity self.old.rows }
+    /// The trigger was used at this moment, and there is room for that.
+    pub(crate) fn touch(&mut self, triggers: &Triggers, trigger: &Trigger, moment: Seconds)
+        requires listed { IsListed triggers.now.rows.uses self.old.places.items }
+        requires room { deque_len self.old.places < deque_capacity self.old.places }
+        ensures listed { IsListed (used_in trigger.now moment triggers.now.rows.uses)
+            self.new.places.items }
+        ensures len { deque_len self.new.places ≤ deque_len self.old.places + 1 }
+        ensures capacity { deque_capacity self.old.places ≤ deque_capacity self.new.places }
     {
-        match last {
-            Some(last) => self.exchange(&(*trigger, last), (*trigger, moment)),
-            None => self.put_in((*trigger, moment)),
+        match triggers.use_index(trigger) {
+            Some(place) => self.renew(triggers, place, trigger, moment),
+            None => self.append(triggers, trigger, moment),
         }
     }
 }

@@ -5,8 +5,9 @@ ghost use Rattle.am_names.specs.Errno.{RefusedAs, RefusedOnlyAs};
 ghost use Rattle.am_trigger.specs.Rows.{no_triggers, add_refusal, with_autofs, catatonic_refusal, with_catatonic, mkdir_refusal, with_directory, rmdir_refusal, without_directory, used, all_used};
 ghost use Rattle.am_trigger.specs.Table.{KeepsRoom};
 ghost use Rattle.am_expire.specs.Order.{is_of, IsOrder};
+ghost use Rattle.am_expire.specs.Part.{rows_in, IsPart};
 
-use crate::order::Order;
+use crate::order::{Order, Part};
 use am_names::{Errno, FsId, MountId, Name, Seconds, Trigger};
 use am_trigger::Triggers;
 use std::alloc::{AllocError, Global};
@@ -51,10 +52,11 @@ impl OrderedTriggers {
     }
 
     /// The last uses of the file system, in the order in which they expire.
-    pub(crate) fn order_of(&self, fs: FsId) -> &[(Trigger, Seconds)]
-        ensures { IsOrder (filter (is_of fs) self.now.rows.uses) result.now }
+    pub(crate) fn order_of(&self, fs: FsId) -> Part<'_>
+        ensures part { IsPart result }
+        ensures order { IsOrder (filter (is_of fs) self.now.rows.uses) (rows_in result) }
     {
-        self.order.of_fs(fs)
+        self.order.of_fs(&self.triggers, fs)
     }
 
     /// A new autofs, with the daemon's mount of it. It is not catatonic.
@@ -147,8 +149,7 @@ impl OrderedTriggers {
         ensures room { self.old.use_room ≤ self.new.use_room + 1 }
         ensures kept { self.new.autofs_room ≡ self.old.autofs_room }
     {
-        let last = self.triggers.last_use(trigger);
-        self.order.touch(trigger, last, moment);
+        self.order.touch(&self.triggers, trigger, moment);
         self.triggers.touch_reserved(trigger, moment);
     }
 

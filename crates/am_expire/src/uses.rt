@@ -128,7 +128,7 @@ impl Uses {
         }
         self.mounts.reserve(1)?;
         self.counts.reserve(1)?;
-        // A count is no greater than the number of walkers.
+        // For the checker: a count is no greater than the number of walkers.
         let _walkers = self.mounts.len();
         self.mounts.insert_reserved(walker.0, mount);
         count_up(&mut self.counts, mount);

@@ -54,8 +54,8 @@ last_of trigger g failure (row ∷ rows) = by (same_trigger row.0 g) refl (last_
     by true e later = rw e refl
     by false e later = rw e later
 
-pub put : (trigger g : Trigger) (failure : Failure) (rows : FailureRows) → failure_of (with_failure trigger failure rows) g ≡ (if same_trigger trigger g then Some failure else failure_of rows g)
-put trigger g failure rows =
+pub failure_after_put : (trigger g : Trigger) (failure : Failure) (rows : FailureRows) → failure_of (with_failure trigger failure rows) g ≡ (if same_trigger trigger g then Some failure else failure_of rows g)
+failure_after_put trigger g failure rows =
     last_of trigger g failure (without_failure trigger rows)
     ∙ ap (λ (o : Option Failure). if is_some o then o else (if same_trigger trigger g then Some failure else None)) (removed trigger g rows)
     ∙ either (same_trigger trigger g) (failure_of rows g)

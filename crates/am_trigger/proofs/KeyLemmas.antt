@@ -1,14 +1,17 @@
 -- Triggers as keys of an index.
-use Rattle.std.proofs.Common.{◌≡◌, ℕ, Bool, true, false, cond, not, ◌||◌, List, [], ◌∷◌, ◌++◌, Some, refl, sym, ap, subst, ◌∙◌, true≢false, is_some}
-use Rattle.std.specs.Prelude.{find, filter}
+use Rattle.std.proofs.Common.{◌≡◌, ◌<◌, ℕ, zero, suc, Bool, true, false, cond, not, ◌||◌, List, [], ◌∷◌, ◌++◌, length, get_or, Option, Some, None, refl, sym, ap, subst, ◌∙◌, true≢false, is_some, arith}
+use Rattle.std.specs.Prelude.{find, filter, position, slice_get}
+use Rattle.std.proofs.lemmas.List.{get_or-map, length-map}
+use Rattle.std.proofs.lemmas.List.Quantifiers.{position-Some}
+use Rattle.std.proofs.lemmas.Option.{none-some, same_Some, slice_get-get_or}
 use Rattle.std.specs.List.{list_any, AllByRecursion, IsDistinct}
 use Rattle.std.specs.Map.{lookup, keys_of}
 use Rattle.std.specs.Option.{option_map}
 use Rattle.am_names.specs.declared.trigger.Trigger.{Trigger}
 use Rattle.am_names.specs.Trigger.{same_trigger}
 use Rattle.am_ordered.specs.Lookup.{insert_entry, shift_remove_entry}
-use Rattle.am_names.proofs.SameTriggers.{is_one}
-use Rattle.am_trigger.specs.Rows.{used_in, last_use_in}
+use Rattle.am_names.proofs.SameTriggers.{is_one, is_itself}
+use Rattle.am_trigger.specs.Rows.{used_in, last_use_in, AreOnce, IsUseIndex}
 
 module _ (eq : Trigger → Trigger → Bool) (says : (a b : Trigger) → eq a b ≡ same_trigger b a) where
   -- the index says when a trigger was last used
@@ -25,6 +28,47 @@ module _ (eq : Trigger → Trigger → Bool) (says : (a b : Trigger) → eq a b 
   insert_is trigger moment [] = refl
   insert_is trigger moment (row ∷ rows) =
       rw (says trigger row.0) (ap (λ (others : List (Trigger × ℕ)). cond (same_trigger row.0 trigger) ((row.0, moment) ∷ rows) (row ∷ others)) (insert_is trigger moment rows))
+
+  -- ---- where a trigger stands in the index
+
+  -- at the index of its key stands the trigger with its last use
+  use_found : (trigger : Trigger) (rows : List (Trigger × ℕ)) (index : ℕ) → position (eq trigger) (keys_of rows) ≡ Some index → (last : ℕ) × (slice_get rows index ≡ Some (trigger, last))
+  use_found trigger rows index e =
+      let found = position-Some (eq trigger) (keys_of rows) index trigger e in
+      let long : length (keys_of rows) ≡ length rows = length-map rows (λ (r : Trigger × ℕ). r.0) in
+      let within : index < length rows = omega (arith, found.0, long) in
+      let row : Trigger × ℕ = get_or rows index (trigger, 0) in
+      let key : get_or (keys_of rows) index trigger ≡ row.0 = get_or-map (λ (r : Trigger × ℕ). r.0) rows index (trigger, 0) trigger within in
+      let is : row.0 ≡ trigger = is_one row.0 trigger (sym (says trigger row.0) ∙ ap (eq trigger) (sym key) ∙ found.1) in
+      (row.1, slice_get-get_or rows index (trigger, 0) within ∙ ap (λ (g : Trigger). Some (g, row.1)) is)
+
+  -- the index says where a trigger stands among the last uses
+  pub use_index_is : (trigger : Trigger) (rows : List (Trigger × ℕ)) (index : Option ℕ) → index ≡ position (eq trigger) (keys_of rows) → is_some index ≡ is_some (lookup (eq trigger) rows) → IsUseIndex rows trigger index
+  use_index_is trigger rows None is found = none_by (lookup (eq trigger) rows) refl found
+    where
+      none_by : (o : Option ℕ) → lookup (eq trigger) rows ≡ o → false ≡ is_some o → last_use_in rows trigger ≡ None
+      none_by None e h = sym (lookup_is trigger rows) ∙ e
+      none_by (Some last) e h = absurd (true≢false (sym h))
+  use_index_is trigger rows (Some index) is found = use_found trigger rows index (sym is)
+
+  equal_keys : (a b : Trigger) → a ≡ b → eq a b ≡ true
+  equal_keys a b e = ap (λ (x : Trigger). eq x b) e ∙ says b b ∙ is_itself b
+
+  none_further : (key : Trigger) (rows : List (Trigger × ℕ)) → AllByRecursion (λ k. eq key k ≡ false) (keys_of rows) → (j : ℕ) (other : Trigger × ℕ) → slice_get rows j ≡ Some other → eq key other.0 ≡ false
+  none_further key [] all j other q = absurd (none-some other q)
+  none_further key (row ∷ rows) all zero other q = ap (λ (x : Trigger × ℕ). eq key x.0) (sym (same_Some row other q)) ∙ all.0
+  none_further key (row ∷ rows) all (suc j) other q = none_further key rows all.1 j other q
+
+  -- an index has no key twice
+  pub keys_are_once : (rows : List (Trigger × ℕ)) → IsDistinct eq (keys_of rows) → AreOnce rows
+  unfolding IsDistinct
+  keys_are_once [] distinct i j row other p q is = absurd (none-some row p)
+  keys_are_once (r ∷ rows) distinct zero zero row other p q is = refl
+  keys_are_once (r ∷ rows) distinct zero (suc j) row other p q is =
+      absurd (true≢false (sym (equal_keys r.0 other.0 (ap (λ (x : Trigger × ℕ). x.0) (same_Some r row p) ∙ is)) ∙ none_further r.0 rows distinct.0 j other q))
+  keys_are_once (r ∷ rows) distinct (suc i) zero row other p q is =
+      absurd (true≢false (sym (equal_keys r.0 row.0 (ap (λ (x : Trigger × ℕ). x.0) (same_Some r other q) ∙ sym is)) ∙ none_further r.0 rows distinct.0 i row p))
+  keys_are_once (r ∷ rows) distinct (suc i) (suc j) row other p q is = ap suc (keys_are_once rows distinct.1 i j row other p q is)
 
   -- ---- the directories, as the keys of an index
 

@@ -6,21 +6,14 @@ use Rattle.std.specs.Option.{option_map}
 use Rattle.am_names.specs.Trigger.{same_trigger}
 use Rattle.am_names.specs.declared.trigger.Trigger.{Trigger}
 use Rattle.am_names.proofs.SameTriggers.{is_one, either_way}
+use Rattle.am_names.proofs.Basics.{or_false, or_assoc}
 use Rattle.am_trigger.specs.Rows.{used_in, last_use_in}
 
 -- ---- directories
 
-or_none : (b : Bool) → (b || false) ≡ b
-or_none true = refl
-or_none false = refl
-
-or_more : (a b c : Bool) → (a || (b || c)) ≡ ((a || b) || c)
-or_more true b c = refl
-or_more false b c = refl
-
 pub any_last : {X : Type 0} (test : X → Bool) (xs : List X) (x : X) → list_any test (xs ++ x ∷ []) ≡ (list_any test xs || test x)
-any_last test [] x = or_none (test x)
-any_last test (y ∷ xs) x = ap (λ (b : Bool). test y || b) (any_last test xs x) ∙ or_more (test y) (list_any test xs) (test x)
+any_last test [] x = or_false (test x)
+any_last test (y ∷ xs) x = ap (λ (b : Bool). test y || b) (any_last test xs x) ∙ or_assoc (test y) (list_any test xs) (test x)
 
 absorbed : (l that : Bool) → (l && not that) ≡ ((that || l) && not that)
 absorbed true true = refl

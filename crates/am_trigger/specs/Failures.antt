@@ -1,5 +1,5 @@
--- What failed last at each trigger, and how long that lasts: own (docs/DECISIONS.md, "A failure has a
--- number, and may last").
+-- What failed last at each trigger, and how long that lasts: own choice (docs/DECISIONS.md, "A failure
+-- has a number, and may last").
 use Rattle.std.specs.Prelude.{◌≡◌, ℕ, ◌==◌, ◌+◌, ◌++◌, nat_lt, Bool, not, List, [], ◌∷◌, filter, find, Option, Some, None, if◌then◌else◌}
 use Rattle.std.specs.Option.{option_map, option_and_then}
 use Rattle.am_names.specs.Trigger.{same_trigger}
@@ -33,6 +33,7 @@ without_failures fs rows = filter (λ row. not (row.0.fs == fs)) rows
 abbrev pub lasts : ℕ → ℕ → Failure → Bool
 lasts moment negative failure = nat_lt moment (failure.at + negative)
 
+-- the error of a failure, while that lasts
 abbrev pub error_while : ℕ → ℕ → Failure → Option FailNo
 error_while moment negative failure =
     if lasts moment negative failure then Some failure.no else None

@@ -1,6 +1,6 @@
 -- All autofs file systems, the directories that the daemon made in them, and when each trigger
 -- was last used (autofs.rst, "Content" and "Mountpoint expiry").
-use Rattle.std.specs.Prelude.{◌≡◌, ℕ, ◌==◌, ◌||◌, ◌&&◌, Bool, false, not, is_some, List, [], ◌∷◌, ◌++◌, map, filter, find, Option, Some, None, if◌then◌else◌}
+use Rattle.std.specs.Prelude.{◌≡◌, ℕ, ◌==◌, ◌||◌, ◌&&◌, Bool, false, not, is_some, List, [], ◌∷◌, ◌++◌, map, filter, find, slice_get, Option, Some, None, if◌then◌else◌}
 use Rattle.std.specs.List.{list_any}
 use Rattle.std.specs.Option.{option_map}
 use Rattle.am_names.specs.Trigger.{same_trigger}
@@ -9,6 +9,7 @@ use Rattle.am_names.specs.declared.errno.Errno.TheVariants.{EEXIST, EINVAL, ENOE
 use Rattle.am_names.specs.declared.trigger.Trigger.{Trigger}
 use Rattle.am_trigger.specs.declared.autofs.Autofs.{Autofs}
 
+-- all autofs file systems and their triggers
 pub record TriggerRows : Type 0 where
   -- in order of adding
   pub autofs : List Autofs
@@ -41,6 +42,7 @@ with_autofs fs direct location t =
 abbrev pub catatonic_refusal : ℕ → TriggerRows → Option Errno
 catatonic_refusal fs t = if is_some (autofs_of t fs) then None else Some EINVAL
 
+-- a row of this file system is catatonic, or is so no longer
 abbrev pub catatonic_row : ℕ → Bool → Autofs → Autofs
 catatonic_row fs catatonic row = if row.fs == fs then record row { catatonic = catatonic } else row
 
@@ -77,8 +79,20 @@ without_directory trigger t =
 abbrev pub last_use_in : List (Trigger × ℕ) → Trigger → Option ℕ
 last_use_in uses trigger = option_map (λ row. row.1) (find (λ row. same_trigger row.0 trigger) uses)
 
+-- when the trigger was last used, among all rows
 abbrev pub last_use_of : TriggerRows → Trigger → Option ℕ
 last_use_of t trigger = last_use_in t.uses trigger
+
+-- where the trigger stands among the last uses; none, where it was never used
+abbrev pub IsUseIndex : List (Trigger × ℕ) → Trigger → Option ℕ → Type 0
+IsUseIndex uses trigger None = last_use_in uses trigger ≡ None
+IsUseIndex uses trigger (Some index) = (last : ℕ) × (slice_get uses index ≡ Some (trigger, last))
+
+-- no trigger has two last uses
+abbrev pub AreOnce : List (Trigger × ℕ) → Type 0
+AreOnce uses =
+    (i j : ℕ) (row other : Trigger × ℕ) →
+    slice_get uses i ≡ Some row → slice_get uses j ≡ Some other → row.0 ≡ other.0 → i ≡ j
 
 -- the trigger was used at this moment: it keeps its place, or is the last
 abbrev pub used_in : Trigger → ℕ → List (Trigger × ℕ) → List (Trigger × ℕ)
@@ -86,6 +100,7 @@ used_in trigger moment [] = (trigger, moment) ∷ []
 used_in trigger moment (row ∷ rows) =
     if same_trigger row.0 trigger then (row.0, moment) ∷ rows else row ∷ used_in trigger moment rows
 
+-- the rows after the trigger was used at this moment
 abbrev pub used : Trigger → ℕ → TriggerRows → TriggerRows
 used trigger moment t = record t { uses = used_in trigger moment t.uses }
 
@@ -95,6 +110,7 @@ all_used_in [] moment uses = uses
 all_used_in (trigger ∷ triggers) moment uses =
     all_used_in triggers moment (used_in trigger moment uses)
 
+-- the rows after these triggers were used at this moment, one after another
 abbrev pub all_used : List Trigger → ℕ → TriggerRows → TriggerRows
 all_used triggers moment t = record t { uses = all_used_in triggers moment t.uses }
 

@@ -10,6 +10,7 @@ trigger_in row (name ∷ []) =
     if row.direct then None else Some (record { fs = row.fs; name = Some name })
 trigger_in row (name ∷ below ∷ names) = None
 
+-- the root, or the directory of this name in it
 abbrev pub place_named : Option (List ℕ) → List (List ℕ)
 place_named None = []
 place_named (Some name) = name ∷ []

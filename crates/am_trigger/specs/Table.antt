@@ -1,7 +1,8 @@
--- The rows of the triggers, and the room that is made for more of them.
+-- The rows of the triggers, and the room that is made for more of them: own choice.
 use Rattle.std.specs.Prelude.{ℕ, ◌≤◌}
 use Rattle.am_trigger.specs.Rows.{TriggerRows}
 
+-- the rows, with the room for more
 pub record TriggerTable : Type 0 where
   pub rows : TriggerRows
   -- how many more autofs, and how many more last uses, take no memory

@@ -53,7 +53,8 @@ pub struct Lasting<'a> {
 impl Lasting<'_> {
     /// The error of what failed last at the trigger, if that lasts.
     pub fn error(&self, trigger: &Trigger) -> Option<FailNo>
-        ensures { result ≡ failing self.now.moment self.now.negative self.now.failures.now.rows trigger.now }
+        ensures { result ≡ failing self.now.moment self.now.negative self.now.failures.now.rows
+            trigger.now }
     {
         self.failures.failing(trigger, self.moment, self.negative)
     }
@@ -61,7 +62,8 @@ impl Lasting<'_> {
 
 /// The row at this index goes if it is of the file system.
 fn mend_index(rows: &mut OrderedMap<Trigger, Failure>, index: usize, fs: FsId)
-    ensures entries { IfSome (slice_get rows.old.entries index) (λ row. rows.new.entries ≡ (if row.0.fs == fs then remove rows.old.entries index else rows.old.entries)) }
+    ensures entries { IfSome (slice_get rows.old.entries index) (λ row. rows.new.entries ≡
+        (if row.0.fs == fs then remove rows.old.entries index else rows.old.entries)) }
     ensures room { rows.old.room ≤ rows.new.room }
 {
     if let Some((trigger, _)) = rows.get_index(index) {
@@ -100,8 +102,8 @@ impl Failures {
         self.rows.get(trigger).copied()
     }
 
-    /// The error of what failed last at the trigger, if that lasts at this moment, where failures last
-    /// so many seconds.
+    /// The error of what failed last at the trigger, if that lasts at this moment, where failures
+    /// last so many seconds.
     pub fn failing(&self, trigger: &Trigger, moment: Seconds, negative: Seconds) -> Option<FailNo>
         ensures { result ≡ failing moment negative self.now.rows trigger.now }
     {
@@ -131,6 +133,7 @@ impl Failures {
         ensures map { IsFailed trigger.now (Some failure) self.old.rows self.new.rows }
         ensures room { self.old.room ≤ self.new.room + 1 }
     {
+        // The checker wants the type of its name said too.
         let _name: Option<Name> = trigger.name;
         let _before = self.rows.remove(trigger);
         self.rows.insert_reserved(*trigger, failure);

@@ -57,6 +57,7 @@ fn use_reserved(uses: &mut IndexMap<Trigger, Seconds>, trigger: &Trigger, moment
     ensures entries { uses.new.entries ≡ used_in trigger.now moment uses.old.entries }
     ensures room { spare uses.old ≤ spare uses.new + 1 }
 {
+    // The checker wants the type of its name said too.
     let _name: Option<Name> = trigger.name;
     // There is room for it.
     let _used = uses.insert(*trigger, moment);
@@ -164,6 +165,7 @@ impl Triggers {
         if self.made(&trigger) {
             return Err(Errno::EEXIST);
         }
+        // The checker wants the type of its name said too.
         let _name: Option<Name> = trigger.name;
         self.made.insert(trigger, ())?;
         Ok(())
@@ -198,6 +200,7 @@ impl Triggers {
         ensures map { OnOk result (IsUsedAt trigger moment self.old.rows self.new.rows) }
         ensures err { OnErr result (self.new.rows ≡ self.old.rows) }
     {
+        // The checker wants the type of its name said too.
         let _name: Option<Name> = trigger.name;
         self.uses.insert(trigger, moment)?;
         Ok(())

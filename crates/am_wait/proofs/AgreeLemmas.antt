@@ -8,6 +8,7 @@ use Rattle.am_names.specs.declared.trigger.Status.{Status}
 use Rattle.am_names.specs.declared.row.OpenToken.{OpenToken}
 use Rattle.am_names.specs.declared.row.WaitRow.{WaitRow}
 use Rattle.am_names.specs.declared.row.TokenKind.{TokenKind}
+use Rattle.am_names.proofs.Basics.{some_injective, none_is_not_some, equal_by_test, equal_to_itself, both_of_and}
 use Rattle.am_wait.specs.Rows.{WaitRows, token_of, wait_of, waiters_of, waiters_in, with_wait, without_wait, with_waiter, without_token, joined_row}
 use Rattle.am_wait.specs.Calls.{waiting_on, opened, released_row, answered, failed_row, fs_released, collected, still_waits, reopened}
 use Rattle.am_wait.specs.Invariant.{RiseBy, AreGiven, is_among, is_waiting_on, IsOnOpen, IsSound}
@@ -17,25 +18,9 @@ use Rattle.am_wait.proofs.FindLemmas.{or_first, or_none, find_map, wait_put, wai
 
 -- ---- small facts
 
-abbrev or_this : {X : Type 0} → X → Option X → X
-or_this x (Some y) = y
-or_this x None = x
-
-some_is : {X : Type 0} (x y : X) → Some x ≡ Some y → x ≡ y
-some_is x y h = ap (or_this x) h
-
-none_some : {X : Type 0} (x : X) → None ≡ Some x → ⊥
-none_some x h = absurd cc
-
 answered_none : (o : Option Status) → o ≡ None → is_none o ≡ false → ⊥
 answered_none None h e = absurd cc
 answered_none (Some status) h e = absurd cc
-
-same_number : (a b : ℕ) → (a == b) ≡ true → a ≡ b
-same_number a b e = (Decides-eqb a b).0 e
-
-itself : (a : ℕ) → (a == a) ≡ true
-itself a = (Decides-eqb a a).1 refl
 
 last_among : (walkers : List ℕ) (walker k : ℕ) → is_among (walkers ++ walker ∷ []) k ≡ (is_among walkers k || (walker == k))
 last_among [] walker k = elim (walker == k) as (λ b. (b || false) ≡ (false || b)) [ true ↦ refl | false ↦ refl ]
@@ -83,18 +68,18 @@ unopened last k (row ∷ tokens) h more =
 
 -- ---- open
 
-opened_by : (w : WaitRows) (sound : IsSound w) (trigger : Trigger) (kind : TokenKind) (walker token k : ℕ) (b c : Bool) → wait_of w.waits walker ≡ None → (w.last_token + 1 == token) ≡ b → (walker == k) ≡ c →
+opened_agrees_at : (w : WaitRows) (sound : IsSound w) (trigger : Trigger) (kind : TokenKind) (walker token k : ℕ) (b c : Bool) → wait_of w.waits walker ≡ None → (w.last_token + 1 == token) ≡ b → (walker == k) ≡ c →
     is_among (waiters_of (opened trigger kind walker w).tokens token) k ≡ is_waiting_on token (wait_of (opened trigger kind walker w).waits k)
-opened_by w sound trigger kind walker token k true true idle e f =
+opened_agrees_at w sound trigger kind walker token k true true idle e f =
     let free : token_of w.tokens token ≡ None = unopened w.last_token token w.tokens sound.given (grind (arith, nat_tests, e)) in
     rw (token_last w.tokens (record { token = w.last_token + 1; trigger = trigger; kind = kind; waiters = walker ∷ [] }) token, wait_put (waiting_on (w.last_token + 1) trigger kind walker) w.waits k true f, free, e, f) refl
-opened_by w sound trigger kind walker token k true false idle e f =
+opened_agrees_at w sound trigger kind walker token k true false idle e f =
     let free : token_of w.tokens token ≡ None = unopened w.last_token token w.tokens sound.given (grind (arith, nat_tests, e)) in
     rw (token_last w.tokens (record { token = w.last_token + 1; trigger = trigger; kind = kind; waiters = walker ∷ [] }) token, wait_put (waiting_on (w.last_token + 1) trigger kind walker) w.waits k false f, free, e, f) (rw free at (sound.agree token k))
-opened_by w sound trigger kind walker token k false true idle e f =
-    let none : wait_of w.waits k ≡ None = ap (wait_of w.waits) (sym (same_number walker k f)) ∙ idle in
+opened_agrees_at w sound trigger kind walker token k false true idle e f =
+    let none : wait_of w.waits k ≡ None = ap (wait_of w.waits) (sym (equal_by_test walker k f)) ∙ idle in
     rw (token_last w.tokens (record { token = w.last_token + 1; trigger = trigger; kind = kind; waiters = walker ∷ [] }) token, wait_put (waiting_on (w.last_token + 1) trigger kind walker) w.waits k true f, e, or_none (token_of w.tokens token)) (rw none at (sound.agree token k))
-opened_by w sound trigger kind walker token k false false idle e f =
+opened_agrees_at w sound trigger kind walker token k false false idle e f =
     rw (token_last w.tokens (record { token = w.last_token + 1; trigger = trigger; kind = kind; waiters = walker ∷ [] }) token, wait_put (waiting_on (w.last_token + 1) trigger kind walker) w.waits k false f, e, or_none (token_of w.tokens token)) (sound.agree token k)
 
 still_open : (tokens : List OpenToken) (more : OpenToken) (row : WaitRow) → IsOnOpen tokens row → IsOnOpen (tokens ++ more ∷ []) row
@@ -105,9 +90,9 @@ still_open tokens more row h status =
 opened_same : (w : WaitRows) (sound : IsSound w) (trigger : Trigger) (kind : TokenKind) (walker k : ℕ) (row : WaitRow) (c : Bool) → (walker == k) ≡ c → wait_of (opened trigger kind walker w).waits k ≡ Some row → IsOnOpen (opened trigger kind walker w).tokens row
 opened_same w sound trigger kind walker k row true f h =
     let new : OpenToken = record { token = w.last_token + 1; trigger = trigger; kind = kind; waiters = walker ∷ [] } in
-    let is : waiting_on (w.last_token + 1) trigger kind walker ≡ row = some_is _ _ (sym (wait_put (waiting_on (w.last_token + 1) trigger kind walker) w.waits k true f) ∙ h) in
+    let is : waiting_on (w.last_token + 1) trigger kind walker ≡ row = some_injective (sym (wait_put (waiting_on (w.last_token + 1) trigger kind walker) w.waits k true f) ∙ h) in
     let free : token_of w.tokens (w.last_token + 1) ≡ None = unopened w.last_token (w.last_token + 1) w.tokens sound.given (omega arith) in
-    subst (λ (r : WaitRow). IsOnOpen (w.tokens ++ new ∷ []) r) is (λ status. (new, token_last w.tokens new (w.last_token + 1) ∙ (rw (free, itself (w.last_token + 1)) refl), refl, refl))
+    subst (λ (r : WaitRow). IsOnOpen (w.tokens ++ new ∷ []) r) is (λ status. (new, token_last w.tokens new (w.last_token + 1) ∙ (rw (free, equal_to_itself (w.last_token + 1)) refl), refl, refl))
 opened_same w sound trigger kind walker k row false f h =
     still_open w.tokens _ row (sound.same k row (sym (wait_put (waiting_on (w.last_token + 1) trigger kind walker) w.waits k false f) ∙ h))
 
@@ -118,7 +103,7 @@ opened_sound w trigger kind walker sound idle =
       waits = rises_put (λ (r : WaitRow). r.walker) 0 (waiting_on (w.last_token + 1) trigger kind walker) w.waits sound.waits (omega arith);
       tokens = rises_last 0 w.last_token w.tokens new sound.tokens sound.given (omega arith) (omega arith);
       given = given_last w.last_token w.tokens new sound.given refl;
-      agree = λ token k. opened_by w sound trigger kind walker token k (w.last_token + 1 == token) (walker == k) idle refl refl;
+      agree = λ token k. opened_agrees_at w sound trigger kind walker token k (w.last_token + 1 == token) (walker == k) idle refl refl;
       same = λ k row h. opened_same w sound trigger kind walker k row (walker == k) refl h;
     }
 
@@ -127,13 +112,13 @@ opened_sound w trigger kind walker sound idle =
 joined_agree : (w : WaitRows) (sound : IsSound w) (t walker token k : ℕ) (its : OpenToken) (b c : Bool) → wait_of w.waits walker ≡ None → token_of w.tokens t ≡ Some its → (t == token) ≡ b → (walker == k) ≡ c →
     is_among (waiters_of (with_waiter t walker w.tokens) token) k ≡ is_waiting_on token (wait_of (with_wait (waiting_on t its.trigger its.kind walker) w.waits) k)
 joined_agree w sound t walker token k its true true idle there e f =
-    let found : token_of w.tokens token ≡ Some its = ap (token_of w.tokens) (sym (same_number t token e)) ∙ there in
+    let found : token_of w.tokens token ≡ Some its = ap (token_of w.tokens) (sym (equal_by_test t token e)) ∙ there in
     rw (token_joined t walker token w.tokens true e, wait_put (waiting_on t its.trigger its.kind walker) w.waits k true f, found, e, last_among its.waiters walker k, f) (elim (is_among its.waiters k) as (λ b. (b || true) ≡ true) [ true ↦ refl | false ↦ refl ])
 joined_agree w sound t walker token k its true false idle there e f =
-    let found : token_of w.tokens token ≡ Some its = ap (token_of w.tokens) (sym (same_number t token e)) ∙ there in
+    let found : token_of w.tokens token ≡ Some its = ap (token_of w.tokens) (sym (equal_by_test t token e)) ∙ there in
     rw (token_joined t walker token w.tokens true e, wait_put (waiting_on t its.trigger its.kind walker) w.waits k false f, found, last_among its.waiters walker k, f) ((elim (is_among its.waiters k) as (λ b. (b || false) ≡ b) [ true ↦ refl | false ↦ refl ]) ∙ (rw found at (sound.agree token k)))
 joined_agree w sound t walker token k its false true idle there e f =
-    let none : wait_of w.waits k ≡ None = ap (wait_of w.waits) (sym (same_number walker k f)) ∙ idle in
+    let none : wait_of w.waits k ≡ None = ap (wait_of w.waits) (sym (equal_by_test walker k f)) ∙ idle in
     rw (token_joined t walker token w.tokens false e, wait_put (waiting_on t its.trigger its.kind walker) w.waits k true f, e) (rw none at (sound.agree token k))
 joined_agree w sound t walker token k its false false idle there e f =
     rw (token_joined t walker token w.tokens false e, wait_put (waiting_on t its.trigger its.kind walker) w.waits k false f) (sound.agree token k)
@@ -148,8 +133,8 @@ joined_open t walker tokens row false e h status =
 
 joined_same : (w : WaitRows) (sound : IsSound w) (t walker k : ℕ) (its : OpenToken) (row : WaitRow) (c : Bool) → token_of w.tokens t ≡ Some its → (walker == k) ≡ c → wait_of (with_wait (waiting_on t its.trigger its.kind walker) w.waits) k ≡ Some row → IsOnOpen (with_waiter t walker w.tokens) row
 joined_same w sound t walker k its row true there f h =
-    let is : waiting_on t its.trigger its.kind walker ≡ row = some_is _ _ (sym (wait_put (waiting_on t its.trigger its.kind walker) w.waits k true f) ∙ h) in
-    subst (λ (r : WaitRow). IsOnOpen (with_waiter t walker w.tokens) r) is (λ status. (joined_row its walker, token_joined t walker t w.tokens true (itself t) ∙ ap (λ o. joined_if true walker o) there, refl, refl))
+    let is : waiting_on t its.trigger its.kind walker ≡ row = some_injective (sym (wait_put (waiting_on t its.trigger its.kind walker) w.waits k true f) ∙ h) in
+    subst (λ (r : WaitRow). IsOnOpen (with_waiter t walker w.tokens) r) is (λ status. (joined_row its walker, token_joined t walker t w.tokens true (equal_to_itself t) ∙ ap (λ o. joined_if true walker o) there, refl, refl))
 joined_same w sound t walker k its row false there f h =
     joined_open t walker w.tokens row (t == row.token) refl (sound.same k row (sym (wait_put (waiting_on t its.trigger its.kind walker) w.waits k false f) ∙ h))
 
@@ -195,7 +180,7 @@ answered_row w t status old false e h =
 
 answered_from : (w : WaitRows) (t : ℕ) (status : Status) (o : Option WaitRow) (row : WaitRow) → ((old : WaitRow) → o ≡ Some old → IsOnOpen w.tokens old) → option_map (released_row t status) o ≡ Some row → IsOnOpen (without_token t w.tokens) row
 answered_from w t status None row same h = absurd cc
-answered_from w t status (Some old) row same h = subst (λ (r : WaitRow). IsOnOpen (without_token t w.tokens) r) (some_is _ _ h) (answered_row w t status old (old.token == t) refl (same old refl))
+answered_from w t status (Some old) row same h = subst (λ (r : WaitRow). IsOnOpen (without_token t w.tokens) r) (some_injective h) (answered_row w t status old (old.token == t) refl (same old refl))
 
 pub answered_sound : (w : WaitRows) (t : ℕ) (status : Status) → IsSound w → IsSound (answered t status w)
 answered_sound w t status sound = record {
@@ -211,13 +196,13 @@ answered_sound w t status sound = record {
 collected_agree : (w : WaitRows) (sound : IsSound w) (walker token k : ℕ) (row : WaitRow) (status : Status) (b : Bool) → wait_of w.waits walker ≡ Some row → row.status ≡ Some status → (walker == k) ≡ b →
     is_among (waiters_of w.tokens token) k ≡ is_waiting_on token (wait_of (without_wait walker w.waits) k)
 collected_agree w sound walker token k row status true there s e =
-    let found : wait_of w.waits k ≡ Some row = ap (wait_of w.waits) (sym (same_number walker k e)) ∙ there in
+    let found : wait_of w.waits k ≡ Some row = ap (wait_of w.waits) (sym (equal_by_test walker k e)) ∙ there in
     let done : is_waiting_on token (Some row) ≡ false = ap (λ (o : Option Status). (row.token == token) && is_none o) s ∙ (elim (row.token == token) as (λ b. (b && false) ≡ false) [ true ↦ refl | false ↦ refl ]) in
     rw (wait_taken walker w.waits k true e) ((rw found at (sound.agree token k)) ∙ done)
 collected_agree w sound walker token k row status false there s e = rw (wait_taken walker w.waits k false e) (sound.agree token k)
 
 collected_same : (w : WaitRows) (sound : IsSound w) (walker k : ℕ) (row : WaitRow) (b : Bool) → (walker == k) ≡ b → wait_of (without_wait walker w.waits) k ≡ Some row → IsOnOpen w.tokens row
-collected_same w sound walker k row true e h = absurd (none_some row (sym (wait_taken walker w.waits k true e) ∙ h))
+collected_same w sound walker k row true e h = absurd (none_is_not_some row (sym (wait_taken walker w.waits k true e) ∙ h))
 collected_same w sound walker k row false e h = sound.same k row (sym (wait_taken walker w.waits k false e) ∙ h)
 
 pub collected_sound : (w : WaitRows) (walker : ℕ) (row : WaitRow) (status : Status) → IsSound w → wait_of w.waits walker ≡ Some row → row.status ≡ Some status → IsSound (collected walker w)
@@ -235,12 +220,12 @@ freed_row : (w : WaitRows) (walker : ℕ) (row : WaitRow) (o : Option Status) �
 freed_row w walker row None sound there e h = absurd cc
 freed_row w walker row (Some status) sound there e h = collected_sound w walker row status sound there e
 
-freed_by : (w : WaitRows) (walker : ℕ) (o : Option WaitRow) → IsSound w → wait_of w.waits walker ≡ o → still_waits o ≡ false → IsSound (collected walker w)
-freed_by w walker None sound there h = subst (λ (x : WaitRows). IsSound x) (sym (idle_collected walker w there)) sound
-freed_by w walker (Some row) sound there h = freed_row w walker row row.status sound there refl h
+collected_sound_once_released : (w : WaitRows) (walker : ℕ) (o : Option WaitRow) → IsSound w → wait_of w.waits walker ≡ o → still_waits o ≡ false → IsSound (collected walker w)
+collected_sound_once_released w walker None sound there h = subst (λ (x : WaitRows). IsSound x) (sym (idle_collected walker w there)) sound
+collected_sound_once_released w walker (Some row) sound there h = freed_row w walker row row.status sound there refl h
 
 freed_sound : (w : WaitRows) (walker : ℕ) → IsSound w → still_waits (wait_of w.waits walker) ≡ false → IsSound (collected walker w)
-freed_sound w walker sound h = freed_by w walker (wait_of w.waits walker) sound refl h
+freed_sound w walker sound h = collected_sound_once_released w walker (wait_of w.waits walker) sound refl h
 
 pub reopened_sound : (w : WaitRows) (trigger : Trigger) (kind : TokenKind) (walker : ℕ) → IsSound w → still_waits (wait_of w.waits walker) ≡ false → IsSound (reopened trigger kind walker w)
 reopened_sound w trigger kind walker sound free = opened_sound (collected walker w) trigger kind walker (freed_sound w walker sound free) (no_wait_left walker w.waits)
@@ -277,25 +262,20 @@ is_unanswered : (o : Option Status) → is_none o ≡ true → o ≡ None
 is_unanswered None h = refl
 is_unanswered (Some status) h = absurd cc
 
-two_of : (a b : Bool) → (a && b) ≡ true → (a ≡ true) × (b ≡ true)
-two_of true true h = (refl, refl)
-two_of true false h = absurd cc
-two_of false b h = absurd cc
-
-off_by : (w : WaitRows) (fs token k : ℕ) (row : WaitRow) (b : Bool) → is_waiting_on token (Some row) ≡ b → is_among (waiters_of w.tokens token) k ≡ is_waiting_on token (Some row) → IsOnOpen w.tokens row →
+failed_agrees_at : (w : WaitRows) (fs token k : ℕ) (row : WaitRow) (b : Bool) → is_waiting_on token (Some row) ≡ b → is_among (waiters_of w.tokens token) k ≡ is_waiting_on token (Some row) → IsOnOpen w.tokens row →
     is_among (waiters_in (unless_of fs (token_of w.tokens token))) k ≡ is_waiting_on token (Some (failed_row fs row))
-off_by w fs token k row true e agree same =
-    let two = two_of (row.token == token) (is_none row.status) e in
+failed_agrees_at w fs token k row true e agree same =
+    let two = both_of_and (row.token == token) (is_none row.status) e in
     let its = same (is_unanswered row.status two.1) in
-    let found : token_of w.tokens token ≡ Some its.0 = ap (token_of w.tokens) (sym (same_number row.token token two.0)) ∙ its.1 in
+    let found : token_of w.tokens token ≡ Some its.0 = ap (token_of w.tokens) (sym (equal_by_test row.token token two.0)) ∙ its.1 in
     rw found (failed_here fs token k row its.0 (row.trigger.fs == fs) its.2 refl two.0 two.1 (rw found at (agree ∙ e)))
-off_by w fs token k row false e agree same =
+failed_agrees_at w fs token k row false e agree same =
     less_among fs k (token_of w.tokens token) (agree ∙ e) ∙ sym (failed_elsewhere fs token row ((row.trigger.fs == fs) && is_none row.status) refl e)
 
 off_agree : (w : WaitRows) (fs token k : ℕ) (o : Option WaitRow) → is_among (waiters_of w.tokens token) k ≡ is_waiting_on token o → ((row : WaitRow) → o ≡ Some row → IsOnOpen w.tokens row) →
     is_among (waiters_in (unless_of fs (token_of w.tokens token))) k ≡ is_waiting_on token (option_map (failed_row fs) o)
 off_agree w fs token k None agree same = less_among fs k (token_of w.tokens token) agree
-off_agree w fs token k (Some row) agree same = off_by w fs token k row (is_waiting_on token (Some row)) refl agree (same row refl)
+off_agree w fs token k (Some row) agree same = failed_agrees_at w fs token k row (is_waiting_on token (Some row)) refl agree (same row refl)
 
 kept_open : (tokens : List OpenToken) (fs : ℕ) (row : WaitRow) → RiseBy (λ r. r.token) 0 tokens → (row.trigger.fs == fs) ≡ false → IsOnOpen tokens row → IsOnOpen (filter (λ r. not (r.trigger.fs == fs)) tokens) row
 kept_open tokens fs row rises e h none =
@@ -310,7 +290,7 @@ failed_on tokens fs old false c rises e s h = rw e (kept_open tokens fs old rise
 
 failed_from : (w : WaitRows) (fs : ℕ) (o : Option WaitRow) (row : WaitRow) → RiseBy (λ r. r.token) 0 w.tokens → ((old : WaitRow) → o ≡ Some old → IsOnOpen w.tokens old) → option_map (failed_row fs) o ≡ Some row → IsOnOpen (filter (λ r. not (r.trigger.fs == fs)) w.tokens) row
 failed_from w fs None row rises same h = absurd cc
-failed_from w fs (Some old) row rises same h = subst (λ (r : WaitRow). IsOnOpen (filter (λ r. not (r.trigger.fs == fs)) w.tokens) r) (some_is _ _ h) (failed_on w.tokens fs old (old.trigger.fs == fs) (is_none old.status) rises refl refl (same old refl))
+failed_from w fs (Some old) row rises same h = subst (λ (r : WaitRow). IsOnOpen (filter (λ r. not (r.trigger.fs == fs)) w.tokens) r) (some_injective h) (failed_on w.tokens fs old (old.trigger.fs == fs) (is_none old.status) rises refl refl (same old refl))
 
 pub released_sound : (w : WaitRows) (fs : ℕ) → IsSound w → IsSound (fs_released fs w)
 released_sound w fs sound = record {
@@ -327,7 +307,7 @@ released_sound w fs sound = record {
 -- ---- the beginning
 
 pub new_sound : (waiters tokens : ℕ) → IsSound (record { tokens = []; waits = []; last_token = 0; most_waits = waiters; most_tokens = tokens })
-new_sound waiters tokens = record { waits = tt; tokens = tt; given = tt; agree = λ token walker. refl; same = λ walker row h. absurd (none_some row h) }
+new_sound waiters tokens = record { waits = tt; tokens = tt; given = tt; agree = λ token walker. refl; same = λ walker row h. absurd (none_is_not_some row h) }
 
 -- ---- rows that are the same
 

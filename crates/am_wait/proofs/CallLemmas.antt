@@ -8,6 +8,7 @@ use Rattle.am_names.specs.declared.fail_no.FailNo.TheVariants.{ENOENT}
 use Rattle.am_names.specs.declared.trigger.Status.{Status}
 use Rattle.am_names.specs.declared.trigger.Status.TheVariants.{Fail}
 use Rattle.am_names.specs.declared.row.WaitRow.{WaitRow}
+pub use Rattle.am_names.proofs.Basics.{none_where_not_some as is_none_of}
 use Rattle.am_wait.specs.Rows.{WaitRows, wait_of}
 use Rattle.am_wait.specs.Calls.{open_refusal, join_refusal, released_row, failed_row, collected, still_waits, reopen_refusal, rejoin_refusal}
 
@@ -19,10 +20,6 @@ none_there test (x ∷ xs) h = by_test (test x) h (none_there test xs)
     by_test : (b : Bool) → cond b (Some x) (find test xs) ≡ None → (find test xs ≡ None → list_any test xs ≡ false) → (b || list_any test xs) ≡ false
     by_test true h later = absurd cc
     by_test false h later = later h
-
-pub is_none_of : {X : Type 0} (o : Option X) → is_some o ≡ false → o ≡ None
-is_none_of None h = refl
-is_none_of (Some x) h = absurd cc
 
 first_passed : (b : Bool) (rest : Option Errno) → cond b (Some EINVAL) rest ≡ None → b ≡ false
 first_passed true rest h = absurd cc

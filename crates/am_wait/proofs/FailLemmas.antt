@@ -9,6 +9,7 @@ use Rattle.am_names.specs.declared.row.WaitRow.{WaitRow}
 use Rattle.am_names.specs.declared.fail_no.FailNo.TheVariants.{ENOENT}
 use Rattle.am_names.specs.declared.trigger.Status.TheVariants.{Fail}
 use Rattle.am_names.specs.declared.row.OpenToken.{OpenToken}
+use Rattle.am_names.proofs.Basics.{differ_the_other_way, or_true}
 use Rattle.am_wait.specs.declared.seats.Seat.{Seat}
 use Rattle.am_wait.specs.declared.held.HeldToken.{HeldToken}
 use Rattle.am_wait.specs.declared.waits.Waits.TheInside.{Inside}
@@ -28,47 +29,40 @@ sits_last [] seat k = elim (seat.key == k) as (λ b. (b || false) ≡ (false || 
 sits_last (s ∷ seats) seat k =
     ap (λ (b : Bool). (s.key == k) || b) (sits_last seats seat k) ∙ elim (s.key == k) as (λ b. (b || (sits_at seats k || (seat.key == k))) ≡ ((b || sits_at seats k) || (seat.key == k))) [ true ↦ refl | false ↦ refl ]
 
-or_true : (a : Bool) → (a || true) ≡ true
-or_true true = refl
-or_true false = refl
-
-sits : (seats : List Seat) (n : ℕ) (d : Seat) → n < length seats → sits_at seats (get_or seats n d).key ≡ true
-sits [] n d less = absurd (omega arith)
-sits (s ∷ seats) zero d less = rw ((Decides-eqb s.key s.key).1 refl) refl
-sits (s ∷ seats) (suc n) d less = ap (λ (b : Bool). (s.key == (get_or seats n d).key) || b) (sits seats n d (omega arith)) ∙ or_true (s.key == (get_or seats n d).key)
+each_sits_at_its_key : (seats : List Seat) (n : ℕ) (d : Seat) → n < length seats → sits_at seats (get_or seats n d).key ≡ true
+each_sits_at_its_key [] n d less = absurd (omega arith)
+each_sits_at_its_key (s ∷ seats) zero d less = rw ((Decides-eqb s.key s.key).1 refl) refl
+each_sits_at_its_key (s ∷ seats) (suc n) d less = ap (λ (b : Bool). (s.key == (get_or seats n d).key) || b) (each_sits_at_its_key seats n d (omega arith)) ∙ or_true (s.key == (get_or seats n d).key)
 
 -- the waits at the keys of these seats have failed
 abbrev pub FailsAll : Slab WaitRow → Slab WaitRow → ℕ → List Seat → Type 0
 FailsAll old new fs seats = (key : ℕ) → get new key ≡ cond (sits_at seats key) (option_map (failed_row fs) (get old key)) (get old key)
 
-either : (b : Bool) (row : WaitRow) → cond b row row ≡ row
-either true row = refl
-either false row = refl
+same_either_way : (b : Bool) (row : WaitRow) → cond b row row ≡ row
+same_either_way true row = refl
+same_either_way false row = refl
 
-failed_by : (fs : ℕ) (row : WaitRow) (b : Bool) → (row.trigger.fs == fs && is_none row.status) ≡ b → failed_row fs (failed_row fs row) ≡ failed_row fs row
-failed_by fs row true e = rw e (either (row.trigger.fs == fs && false) (record row { status = Some (Fail ENOENT) }))
-failed_by fs row false e = rw e (rw e refl)
+failed_row_twice : (fs : ℕ) (row : WaitRow) (b : Bool) → (row.trigger.fs == fs && is_none row.status) ≡ b → failed_row fs (failed_row fs row) ≡ failed_row fs row
+failed_row_twice fs row true e = rw e (same_either_way (row.trigger.fs == fs && false) (record row { status = Some (Fail ENOENT) }))
+failed_row_twice fs row false e = rw e (rw e refl)
 
-twice : (fs : ℕ) (o : Option WaitRow) → option_map (failed_row fs) (option_map (failed_row fs) o) ≡ option_map (failed_row fs) o
-twice fs None = refl
-twice fs (Some row) = ap (λ r. Some r) (failed_by fs row (row.trigger.fs == fs && is_none row.status) refl)
+failed_wait_twice : (fs : ℕ) (o : Option WaitRow) → option_map (failed_row fs) (option_map (failed_row fs) o) ≡ option_map (failed_row fs) o
+failed_wait_twice fs None = refl
+failed_wait_twice fs (Some row) = ap (λ r. Some r) (failed_row_twice fs row (row.trigger.fs == fs && is_none row.status) refl)
 
-more_by : (fs : ℕ) (was now next : Option WaitRow) (b e : Bool) → now ≡ cond b (option_map (failed_row fs) was) was → (e ≡ true → next ≡ option_map (failed_row fs) now) → (e ≡ false → next ≡ now) →
+failed_one_more : (fs : ℕ) (was now next : Option WaitRow) (b e : Bool) → now ≡ cond b (option_map (failed_row fs) was) was → (e ≡ true → next ≡ option_map (failed_row fs) now) → (e ≡ false → next ≡ now) →
     next ≡ cond (b || e) (option_map (failed_row fs) was) was
-more_by fs was now next true true h this other = this refl ∙ ap (option_map (failed_row fs)) h ∙ twice fs was
-more_by fs was now next true false h this other = other refl ∙ h
-more_by fs was now next false true h this other = this refl ∙ ap (option_map (failed_row fs)) h
-more_by fs was now next false false h this other = other refl ∙ h
-
-flipped : (a b : ℕ) → (a == b) ≡ false → (b == a) ≡ false
-flipped a b e = grind (arith, nat_tests, e)
+failed_one_more fs was now next true true h this other = this refl ∙ ap (option_map (failed_row fs)) h ∙ failed_wait_twice fs was
+failed_one_more fs was now next true false h this other = other refl ∙ h
+failed_one_more fs was now next false true h this other = this refl ∙ ap (option_map (failed_row fs)) h
+failed_one_more fs was now next false false h this other = other refl ∙ h
 
 pub fails_more : (old mid new : Slab WaitRow) (fs : ℕ) (seats : List Seat) (seat : Seat) → FailsAll old mid fs seats → get new seat.key ≡ option_map (failed_row fs) (get mid seat.key) → ((other : ℕ) → (other == seat.key) ≡ false → get new other ≡ get mid other) →
     FailsAll old new fs (seats ++ seat ∷ [])
 fails_more old mid new fs seats seat h this others k =
-    rw (sits_last seats seat k) (more_by fs (get old k) (get mid k) (get new k) (sits_at seats k) (seat.key == k) (h k)
+    rw (sits_last seats seat k) (failed_one_more fs (get old k) (get mid k) (get new k) (sits_at seats k) (seat.key == k) (h k)
     (λ e. let same : seat.key ≡ k = (Decides-eqb seat.key k).0 e in subst (λ (i : ℕ). get new i ≡ option_map (failed_row fs) (get mid i)) same this)
-    (λ e. others k (flipped seat.key k e)))
+    (λ e. others k (differ_the_other_way seat.key k e)))
 
 walker_kept : (fs : ℕ) (b : Bool) (o : Option WaitRow) → (row_in (cond b (option_map (failed_row fs) o) o)).walker ≡ (row_in o).walker
 walker_kept fs true None = refl
@@ -95,9 +89,9 @@ module _ (i j : Inside) (fs : ℕ) (kept : IsKept i) (h : Fails i j fs) where
   same_keys : (row : HeldToken) → HasKeys i.slab i.seats.items row → HasKeys j.slab i.seats.items row
   same_keys row has = All-weaker (λ key. key_of i.seats.items (row_at i.slab key).walker ≡ Some key) (λ key. key_of i.seats.items (row_at j.slab key).walker ≡ Some key) (λ key e. ap (key_of i.seats.items) (same_walker key) ∙ e) row.keys has
 
-  seat_by : (seat : Seat) (b : Bool) → sits_at i.seats.items seat.key ≡ b → IsSeat i.slab seat → IsSeat j.slab seat
-  seat_by seat true e is = (failed_row fs is.0, h.slab seat.key ∙ (rw (e, is.1) refl), failed_walker fs is.0 ∙ is.2)
-  seat_by seat false e is = (is.0, h.slab seat.key ∙ (rw (e, is.1) refl), is.2)
+  seat_after_failing : (seat : Seat) (b : Bool) → sits_at i.seats.items seat.key ≡ b → IsSeat i.slab seat → IsSeat j.slab seat
+  seat_after_failing seat true e is = (failed_row fs is.0, h.slab seat.key ∙ (rw (e, is.1) refl), failed_walker fs is.0 ∙ is.2)
+  seat_after_failing seat false e is = (is.0, h.slab seat.key ∙ (rw (e, is.1) refl), is.2)
 
   row_failed : (seat : Seat) → sits_at i.seats.items seat.key ≡ true → IsSeat i.slab seat → row_at j.slab seat.key ≡ failed_row fs (row_at i.slab seat.key)
   row_failed seat e is = ap row_in (h.slab seat.key) ∙ (rw (e, is.1) refl)
@@ -105,7 +99,7 @@ module _ (i j : Inside) (fs : ℕ) (kept : IsKept i) (h : Fails i j fs) where
   failed_waits : waits_in j.slab i.seats.items ≡ map (failed_row fs) (waits_in i.slab i.seats.items)
   failed_waits =
       map_same (λ (s : Seat). row_at j.slab s.key) (λ (s : Seat). failed_row fs (row_at i.slab s.key)) i.seats.items
-      (λ n d less. row_failed (get_or i.seats.items n d) (sits i.seats.items n d less) (kept.linked.seated n d less))
+      (λ n d less. row_failed (get_or i.seats.items n d) (each_sits_at_its_key i.seats.items n d less) (kept.linked.seated n d less))
       ∙ sym (map_twice (λ (s : Seat). row_at i.slab s.key) (failed_row fs) i.seats.items)
 
   pub failed_is : rows_of j ≡ fs_released fs (rows_of i)
@@ -124,7 +118,7 @@ module _ (i j : Inside) (fs : ℕ) (kept : IsKept i) (h : Fails i j fs) where
         settled = subst (λ (w : WaitRows). All (IsSettled w) w.waits) is (failed_settled (rows_of i) fs kept.sound kept.settled);
         linked = record {
           rising = subst (λ (seats : List Seat). RiseBy (λ s. s.walker) 0 seats) (sym h.seats) kept.linked.rising;
-          seated = subst (λ (seats : List Seat). All (IsSeat j.slab) seats) (sym h.seats) (All-weaker (IsSeat i.slab) (IsSeat j.slab) (λ seat is. seat_by seat (sits_at i.seats.items seat.key) refl is) i.seats.items kept.linked.seated);
+          seated = subst (λ (seats : List Seat). All (IsSeat j.slab) seats) (sym h.seats) (All-weaker (IsSeat i.slab) (IsSeat j.slab) (λ seat is. seat_after_failing seat (sits_at i.seats.items seat.key) refl is) i.seats.items kept.linked.seated);
           held = subst (λ (seats : List Seat). All (HasKeys j.slab seats) j.tokens.items) (sym h.seats) (subst (λ (tokens : List HeldToken). All (HasKeys j.slab i.seats.items) tokens) (sym h.tokens)
               (All-filter (λ (r : HeldToken). not (r.trigger.fs == fs)) (HasKeys j.slab i.seats.items) i.tokens.items (All-weaker (HasKeys i.slab i.seats.items) (HasKeys j.slab i.seats.items) same_keys i.tokens.items kept.linked.held)));
         };

@@ -74,14 +74,14 @@ not_higher n k a less e = grind (arith, nat_tests, e)
 
 module _ {X : Type 0} (key : X → ℕ) where
   -- the row that is put is found, and each other one as before
-  pub row_put : (row : X) (rows : List X) (k : ℕ) (b : Bool) → (key row == k) ≡ b →
+  pub found_where_put : (row : X) (rows : List X) (k : ℕ) (b : Bool) → (key row == k) ≡ b →
       find (λ r. key r == k) (filter (λ other. nat_lt (key other) (key row)) rows ++ row ∷ filter (λ other. nat_lt (key row) (key other)) rows) ≡ cond b (Some row) (find (λ r. key r == k) rows)
-  row_put row rows k true e =
+  found_where_put row rows k true e =
       let same : key row ≡ k = (Decides-eqb (key row) k).0 e in
       find_append (λ (r : X). key r == k) _ _
       ∙ ap (λ (o : Option X). or_first o (find (λ (r : X). key r == k) (row ∷ filter (λ other. nat_lt (key row) (key other)) rows))) (find_gone (λ (r : X). key r == k) (λ other. nat_lt (key other) (key row)) (λ r t. not_lower (key row) k (key r) (omega arith) t) rows)
       ∙ (rw e refl)
-  row_put row rows k false e =
+  found_where_put row rows k false e =
       let differs : key row ≢ k = λ same. cc (sym e ∙ (Decides-eqb (key row) k).1 same) in
       let parts = find_append (λ (r : X). key r == k) (filter (λ other. nat_lt (key other) (key row)) rows) (row ∷ filter (λ other. nat_lt (key row) (key other)) rows) in
       elim (cases_lt k (key row)) [
@@ -93,7 +93,7 @@ module _ {X : Type 0} (key : X → ℕ) where
 
 -- the wait that is put is found, and each other one as before
 pub wait_put : (row : WaitRow) (waits : List WaitRow) (k : ℕ) (b : Bool) → (row.walker == k) ≡ b → wait_of (with_wait row waits) k ≡ cond b (Some row) (wait_of waits k)
-wait_put row waits k b e = row_put (λ (r : WaitRow). r.walker) row waits k b e
+wait_put row waits k b e = found_where_put (λ (r : WaitRow). r.walker) row waits k b e
 
 both_ways : (a n k : ℕ) → (a == k) ≡ true → (n == k) ≡ false → not (a == n) ≡ true
 both_ways a n k e d = grind (arith, nat_tests, e, d)
@@ -151,16 +151,16 @@ abbrev pub unless_of : ℕ → Option OpenToken → Option OpenToken
 unless_of fs None = None
 unless_of fs (Some row) = cond (row.trigger.fs == fs) None (Some row)
 
-off_head : (fs k low : ℕ) (row : OpenToken) (tokens : List OpenToken) (b c : Bool) → (row.token == k) ≡ b → (row.trigger.fs == fs) ≡ c → RiseBy (λ r. r.token) low (row ∷ tokens) →
+tokens_off_head : (fs k low : ℕ) (row : OpenToken) (tokens : List OpenToken) (b c : Bool) → (row.token == k) ≡ b → (row.trigger.fs == fs) ≡ c → RiseBy (λ r. r.token) low (row ∷ tokens) →
     token_of (filter (λ r. not (r.trigger.fs == fs)) tokens) k ≡ unless_of fs (token_of tokens k) → token_of (filter (λ r. not (r.trigger.fs == fs)) (row ∷ tokens)) k ≡ unless_of fs (token_of (row ∷ tokens) k)
-off_head fs k low row tokens true true e f h later =
+tokens_off_head fs k low row tokens true true e f h later =
     let above : k < row.token + 1 = grind (arith, nat_tests, e) in
     rw (f, e) (absent (λ (r : OpenToken). r.token) k (row.token + 1) (filter (λ r. not (r.trigger.fs == fs)) tokens) (rises_filter (λ (r : OpenToken). r.token) (λ r. not (r.trigger.fs == fs)) (row.token + 1) tokens h.1) above ∙ (rw f refl))
-off_head fs k low row tokens true false e f h later = rw (f, e) (rw f refl)
-off_head fs k low row tokens false true e f h later = rw (f, e) later
-off_head fs k low row tokens false false e f h later = rw (f, e) later
+tokens_off_head fs k low row tokens true false e f h later = rw (f, e) (rw f refl)
+tokens_off_head fs k low row tokens false true e f h later = rw (f, e) later
+tokens_off_head fs k low row tokens false false e f h later = rw (f, e) later
 
 -- the tokens of a file system are gone, and each other one is there as before
 pub tokens_off : (fs k low : ℕ) (tokens : List OpenToken) → RiseBy (λ r. r.token) low tokens → token_of (filter (λ r. not (r.trigger.fs == fs)) tokens) k ≡ unless_of fs (token_of tokens k)
 tokens_off fs k low [] h = refl
-tokens_off fs k low (row ∷ tokens) h = off_head fs k low row tokens (row.token == k) (row.trigger.fs == fs) refl refl h (tokens_off fs k (row.token + 1) tokens h.1)
+tokens_off fs k low (row ∷ tokens) h = tokens_off_head fs k low row tokens (row.token == k) (row.trigger.fs == fs) refl refl h (tokens_off fs k (row.token + 1) tokens h.1)

@@ -8,6 +8,7 @@ use Rattle.slab.specs.Slab.{Slab, get}
 use Rattle.am_names.specs.declared.row.WaitRow.{WaitRow}
 use Rattle.am_names.specs.declared.row.OpenToken.{OpenToken}
 use Rattle.am_names.specs.declared.trigger.Status.{Status}
+use Rattle.am_names.proofs.Basics.{some_injective, none_is_not_some, or_true}
 use Rattle.am_wait.specs.declared.seats.Seat.{Seat}
 use Rattle.am_wait.specs.declared.held.HeldToken.{HeldToken}
 use Rattle.am_wait.specs.declared.waits.Waits.TheInside.{Inside}
@@ -49,12 +50,10 @@ pub map_twice : {X Y Z : Type 0} (f : X → Y) (g : Y → Z) (xs : List X) → m
 map_twice f g [] = refl
 map_twice f g (x ∷ xs) = ap (λ others. g (f x) ∷ others) (map_twice f g xs)
 
+-- what is found, or this where nothing is
 abbrev or_this : {X : Type 0} → X → Option X → X
 or_this x (Some y) = y
 or_this x None = x
-
-pub some_is : {X : Type 0} (x y : X) → Some x ≡ Some y → x ≡ y
-some_is x y h = ap (or_this x) h
 
 -- what holds of each row holds of the one that is found
 pub all_find : {X : Type 0} (P : X → Type 0) (p : X → Bool) (xs : List X) (x : X) → All P xs → find p xs ≡ Some x → P x
@@ -62,7 +61,7 @@ all_find P p [] x h e = absurd cc
 all_find {X = X} P p (y ∷ xs) x h e = by_test (p y) e (λ f. all_find P p xs x (All-tail P y xs h) f)
   where
     by_test : (b : Bool) → cond b (Some y) (find p xs) ≡ Some x → (find p xs ≡ Some x → P x) → P x
-    by_test true f later = subst P (some_is y x f) (All-head P y xs h)
+    by_test true f later = subst P (some_injective f) (All-head P y xs h)
     by_test false f later = later f
 
 -- of rows that rise, each is the one that is found by its number
@@ -78,10 +77,6 @@ all_found {X = X} P key low (row ∷ rows) h f =
     in_tail r e false t = e
 
 -- ---- keys and walkers
-
-or_true : (a : Bool) → (a || true) ≡ true
-or_true true = refl
-or_true false = refl
 
 pub among_mapped : (f : ℕ → ℕ) (keys : List ℕ) (key : ℕ) → among_keys keys key ≡ true → is_among (map f keys) (f key) ≡ true
 among_mapped f [] key h = absurd cc
@@ -120,15 +115,12 @@ wait_found slab seats k h =
 pub token_found : (slab : Slab WaitRow) (tokens : List HeldToken) (t : ℕ) → token_of (tokens_in slab tokens) t ≡ option_map (token_in slab) (held_of tokens t)
 token_found slab tokens t = find_mapped (token_in slab) (λ (r : HeldToken). r.token == t) (λ (r : OpenToken). r.token == t) tokens (λ k d less. refl)
 
-pub none_is_some : {X : Type 0} (x : X) → None ≡ Some x → ⊥
-none_is_some x h = absurd cc
-
 -- the wait that a key leads to
 pub wait_at : (slab : Slab WaitRow) (seats : List Seat) (k key : ℕ) → All (IsSeat slab) seats → key_of seats k ≡ Some key → get slab key ≡ wait_of (waits_in slab seats) k
 wait_at slab seats k key h e = by_seat (seat_of seats k) refl e ∙ sym (wait_found slab seats k h)
   where
     by_seat : (o : Option Seat) → seat_of seats k ≡ o → option_map (λ (s : Seat). s.key) o ≡ Some key → get slab key ≡ option_map (λ (s : Seat). row_at slab s.key) o
-    by_seat None f g = absurd (none_is_some key g)
+    by_seat None f g = absurd (none_is_not_some key g)
     by_seat (Some seat) f g =
         let is = all_find (IsSeat slab) (λ (s : Seat). s.walker == k) seats seat h f in
         let same : seat.key ≡ key = ap (λ o. or_this key o) g in
@@ -178,7 +170,7 @@ module _ (i : Inside) (kept : IsKept i) (t : ℕ) (its : HeldToken) (there : hel
   decides seat e false true (Some status) f g s =
       let closed = (settled_at seat e).closed (ap (λ (o : Option Status). is_some o) s) in
       let same : (row_at i.slab seat.key).token ≡ t = (Decides-eqb (row_at i.slab seat.key).token t).0 g in
-      absurd (none_is_some (token_in i.slab its) (sym closed ∙ ap (token_of (rows_of i).tokens) same ∙ open_now))
+      absurd (none_is_not_some (token_in i.slab its) (sym closed ∙ ap (token_of (rows_of i).tokens) same ∙ open_now))
 
   pub by_keys : (seat : Seat) → seat_of i.seats.items seat.walker ≡ Some seat → among_keys its.keys seat.key ≡ ((row_at i.slab seat.key).token == t)
   by_keys seat e = decides seat e (among_keys its.keys seat.key) ((row_at i.slab seat.key).token == t) (row_at i.slab seat.key).status refl refl refl
@@ -202,12 +194,12 @@ module _ (old new : Slab WaitRow) (status : Status) (keys : List ℕ) (sets : Se
   pub same_keys : (seats : List Seat) (row : HeldToken) → HasKeys old seats row → HasKeys new seats row
   same_keys seats row h = All-weaker (λ key. key_of seats (row_at old key).walker ≡ Some key) (λ key. key_of seats (row_at new key).walker ≡ Some key) (λ key e. ap (key_of seats) (same_walker key) ∙ e) row.keys h
 
-  seat_by : (seat : Seat) (row : WaitRow) (b : Bool) → get old seat.key ≡ Some row → row.walker ≡ seat.walker → among_keys keys seat.key ≡ b → IsSeat new seat
-  seat_by seat row true e w f = (with_status status row, sets seat.key ∙ (rw (f, e) refl), w)
-  seat_by seat row false e w f = (row, sets seat.key ∙ (rw (f, e) refl), w)
+  seat_after_status : (seat : Seat) (row : WaitRow) (b : Bool) → get old seat.key ≡ Some row → row.walker ≡ seat.walker → among_keys keys seat.key ≡ b → IsSeat new seat
+  seat_after_status seat row true e w f = (with_status status row, sets seat.key ∙ (rw (f, e) refl), w)
+  seat_after_status seat row false e w f = (row, sets seat.key ∙ (rw (f, e) refl), w)
 
   pub same_seat : (seat : Seat) → IsSeat old seat → IsSeat new seat
-  same_seat seat h = seat_by seat h.0 (among_keys keys seat.key) h.1 h.2 refl
+  same_seat seat h = seat_after_status seat h.0 (among_keys keys seat.key) h.1 h.2 refl
 
   pub row_set : (t : ℕ) (seat : Seat) → IsSeat old seat → among_keys keys seat.key ≡ ((row_at old seat.key).token == t) → row_at new seat.key ≡ released_row t status (row_at old seat.key)
   row_set t seat h e =

@@ -6,14 +6,14 @@ use Rattle.std.proofs.lemmas.Bool.Decides.{Decides-eqb}
 use Rattle.std.proofs.lemmas.List.Elements.{All-head, All-tail, All-nil, All-cons, All-append, All-filter, All-weaker}
 use Rattle.slab.specs.Slab.{Slab, get}
 use Rattle.am_names.specs.declared.row.WaitRow.{WaitRow}
+use Rattle.am_names.proofs.Basics.{some_injective, none_is_not_some, found_passes}
 use Rattle.am_wait.specs.declared.seats.Seat.{Seat}
 use Rattle.am_wait.specs.declared.held.HeldToken.{HeldToken}
 use Rattle.am_wait.specs.Rows.{with_wait, with_waiter, joined_row}
 use Rattle.am_wait.specs.Seats.{seat_of, key_of, row_at, row_in, walkers_at, waits_in, with_seat, seat_at, IsSeat}
 use Rattle.am_wait.specs.Held.{token_in, tokens_in, joined_key, with_key, HasKeys}
-use Rattle.am_wait.proofs.FindLemmas.{row_put}
-use Rattle.am_wait.proofs.KeptLemmas.{filter_mapped, map_same, none_is_some, some_is, all_find}
-use Rattle.am_wait.proofs.FreedLemmas.{found_passes}
+use Rattle.am_wait.proofs.FindLemmas.{found_where_put}
+use Rattle.am_wait.proofs.KeptLemmas.{filter_mapped, map_same, all_find}
 
 pub map_around : {X Y : Type 0} (f : X → Y) (xs : List X) (y : X) (ys : List X) → map f (xs ++ y ∷ ys) ≡ map f xs ++ f y ∷ map f ys
 map_around f [] y ys = refl
@@ -24,21 +24,21 @@ pub has_wait : (slab : Slab WaitRow) (seats : List Seat) (k n : ℕ) → All (Is
 has_wait slab seats k n h e = by_seat (seat_of seats k) refl e
   where
     by_seat : (o : Option Seat) → seat_of seats k ≡ o → option_map (λ (s : Seat). s.key) o ≡ Some n → (row : WaitRow) × (get slab n ≡ Some row) × (row.walker ≡ k)
-    by_seat None f g = absurd (none_is_some n g)
+    by_seat None f g = absurd (none_is_not_some n g)
     by_seat (Some seat) f g =
         let is = all_find (IsSeat slab) (λ (s : Seat). s.walker == k) seats seat h f in
-        let same : seat.key ≡ n = some_is seat.key n g in
+        let same : seat.key ≡ n = some_injective g in
         let its : seat.walker ≡ k = (Decides-eqb seat.walker k).0 (found_passes (λ (s : Seat). s.walker == k) seats seat f) in
         (is.0, ap (get slab) (sym same) ∙ is.1, is.2 ∙ its)
 
 module _ (old new : Slab WaitRow) (key : ℕ) (wait : WaitRow) (vacant : get old key ≡ None) (put : (n : ℕ) → get new n ≡ cond (key == n) (Some wait) (get old n)) where
-  used_by : (n : ℕ) (row : WaitRow) (b : Bool) → get old n ≡ Some row → (key == n) ≡ b → b ≡ false
-  used_by n row false e f = refl
-  used_by n row true e f = absurd (none_is_some row (sym vacant ∙ ap (get old) ((Decides-eqb key n).0 f) ∙ e))
+  vacant_key_is_unused : (n : ℕ) (row : WaitRow) (b : Bool) → get old n ≡ Some row → (key == n) ≡ b → b ≡ false
+  vacant_key_is_unused n row false e f = refl
+  vacant_key_is_unused n row true e f = absurd (none_is_not_some row (sym vacant ∙ ap (get old) ((Decides-eqb key n).0 f) ∙ e))
 
   -- a key that has a wait still has it
   used : (n : ℕ) (row : WaitRow) → get old n ≡ Some row → get new n ≡ Some row
-  used n row e = put n ∙ ap (λ b. cond b (Some wait) (get old n)) (used_by n row (key == n) e refl) ∙ e
+  used n row e = put n ∙ ap (λ b. cond b (Some wait) (get old n)) (vacant_key_is_unused n row (key == n) e refl) ∙ e
 
   there : get new key ≡ Some wait
   there = put key ∙ ap (λ b. cond b (Some wait) (get old key)) ((Decides-eqb key key).1 refl)
@@ -112,10 +112,10 @@ module _ (old new : Slab WaitRow) (key : ℕ) (wait : WaitRow) (vacant : get old
     module _ (idle : key_of seats wait.walker ≡ None) where
       apart : (w n : ℕ) (b : Bool) → key_of seats w ≡ Some n → (wait.walker == w) ≡ b → b ≡ false
       apart w n false e f = refl
-      apart w n true e f = absurd (none_is_some n (sym idle ∙ ap (key_of seats) ((Decides-eqb wait.walker w).0 f) ∙ e))
+      apart w n true e f = absurd (none_is_not_some n (sym idle ∙ ap (key_of seats) ((Decides-eqb wait.walker w).0 f) ∙ e))
 
       key_put : (w : ℕ) (b : Bool) → (wait.walker == w) ≡ b → key_of (with_seat (seat_at wait.walker key) seats) w ≡ option_map (λ (s : Seat). s.key) (cond b (Some (seat_at wait.walker key)) (seat_of seats w))
-      key_put w b e = ap (option_map (λ (s : Seat). s.key)) (row_put (λ (s : Seat). s.walker) (seat_at wait.walker key) seats w b e)
+      key_put w b e = ap (option_map (λ (s : Seat). s.key)) (found_where_put (λ (s : Seat). s.walker) (seat_at wait.walker key) seats w b e)
 
       pub new_key : key_of (with_seat (seat_at wait.walker key) seats) (row_at new key).walker ≡ Some key
       new_key = ap (λ (r : WaitRow). key_of (with_seat (seat_at wait.walker key) seats) r.walker) row_there ∙ key_put wait.walker true ((Decides-eqb wait.walker wait.walker).1 refl)

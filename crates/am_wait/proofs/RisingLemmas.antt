@@ -34,42 +34,42 @@ module _ {X : Type 0} (key : X → ℕ) where
   point_is k i (row ∷ rows) le h =
       sym (position_or_len_is (λ r. nat_le k (key r)) (row ∷ rows) i row le (λ j less. grind (arith, nat_tests, h.0 j row (omega arith) less)) (λ less. grind (arith, nat_tests, h.1 i row (omega arith) less)))
 
-  here_by : (k low p : ℕ) (row : X) (rows : List X) (b : Bool) → nat_le k (key row) ≡ b → RiseBy key (key row + 1) rows → find (λ r. key r == k) rows ≡ if_has key k (slice_get rows p) →
+  find_here_at : (k low p : ℕ) (row : X) (rows : List X) (b : Bool) → nat_le k (key row) ≡ b → RiseBy key (key row + 1) rows → find (λ r. key r == k) rows ≡ if_has key k (slice_get rows p) →
       find (λ r. key r == k) (row ∷ rows) ≡ if_has key k (slice_get (row ∷ rows) (cond (not b) (1 + p) 0))
-  here_by k low p row rows true e h later =
+  find_here_at k low p row rows true e h later =
       let none = absent key k (key row + 1) rows h (grind (arith, nat_tests, e)) in
       rw none refl
-  here_by k low p row rows false e h later =
+  find_here_at k low p row rows false e h later =
       let differs : (key row == k) ≡ false = grind (arith, nat_tests, e) in
       let further : 1 + p ≡ suc p = omega arith in
       rw (differs, further) later
 
   -- a search by halves finds what going through the rows finds
-  pub find_here : (k low : ℕ) (rows : List X) → RiseBy key low rows → find (λ row. key row == k) rows ≡ if_has key k (slice_get rows (position_or_len (λ row. nat_le k (key row)) rows))
-  find_here k low [] h = refl
-  find_here k low (row ∷ rows) h = rw (here_by k low (position_or_len (λ r. nat_le k (key r)) rows) row rows (nat_le k (key row)) refl h.1 (find_here k (key row + 1) rows h.1)) refl
+  pub found_at_its_point : (k low : ℕ) (rows : List X) → RiseBy key low rows → find (λ row. key row == k) rows ≡ if_has key k (slice_get rows (position_or_len (λ row. nat_le k (key row)) rows))
+  found_at_its_point k low [] h = refl
+  found_at_its_point k low (row ∷ rows) h = rw (find_here_at k low (position_or_len (λ r. nat_le k (key r)) rows) row rows (nat_le k (key row)) refl h.1 (found_at_its_point k (key row + 1) rows h.1)) refl
 
   -- what stands at the place of a number decides
-  pub found_at : (k low at : ℕ) (rows : List X) (o : Option X) → RiseBy key low rows → at ≡ position_or_len (λ row. nat_le k (key row)) rows → slice_get rows at ≡ o → find (λ row. key row == k) rows ≡ if_has key k o
-  found_at k low at rows o h e f = find_here k low rows h ∙ ap (λ i. if_has key k (slice_get rows i)) (sym e) ∙ ap (if_has key k) f
+  pub found_in_slice : (k low at : ℕ) (rows : List X) (o : Option X) → RiseBy key low rows → at ≡ position_or_len (λ row. nat_le k (key row)) rows → slice_get rows at ≡ o → find (λ row. key row == k) rows ≡ if_has key k o
+  found_in_slice k low at rows o h e f = found_at_its_point k low rows h ∙ ap (λ i. if_has key k (slice_get rows i)) (sym e) ∙ ap (if_has key k) f
 
-  taken_by : (k p : ℕ) (row : X) (rows : List X) (b : Bool) → nat_le k (key row) ≡ b → RiseBy key (key row + 1) rows → find (λ r. key r == k) rows ≡ if_has key k (slice_get rows p) → (find (λ r. key r == k) rows ≡ None → filter (λ r. not (key r == k)) rows ≡ rows) →
+  taken_here_at : (k p : ℕ) (row : X) (rows : List X) (b : Bool) → nat_le k (key row) ≡ b → RiseBy key (key row + 1) rows → find (λ r. key r == k) rows ≡ if_has key k (slice_get rows p) → (find (λ r. key r == k) rows ≡ None → filter (λ r. not (key r == k)) rows ≡ rows) →
       (find (λ r. key r == k) rows ≢ None → remove rows p ≡ filter (λ r. not (key r == k)) rows) → find (λ r. key r == k) (row ∷ rows) ≢ None →
       remove (row ∷ rows) (cond (not b) (1 + p) 0) ≡ filter (λ r. not (key r == k)) (row ∷ rows)
-  taken_by k p row rows true e h there rest later some =
+  taken_here_at k p row rows true e h there rest later some =
       let none = absent key k (key row + 1) rows h (grind (arith, nat_tests, e)) in
       let same : (key row == k) ≡ true = grind (arith, nat_tests, none, some) in
       rw same (sym (rest none))
-  taken_by k p row rows false e h there rest later some =
+  taken_here_at k p row rows false e h there rest later some =
       let differs : (key row == k) ≡ false = grind (arith, nat_tests, e) in
       let further : 1 + p ≡ suc p = omega arith in
       rw (differs, further) (ap (λ others. row ∷ others) (later (rw differs at some)))
 
   -- the row at the place of its number is taken out, where there is one
-  pub taken_here : (k low : ℕ) (rows : List X) → RiseBy key low rows → find (λ row. key row == k) rows ≢ None → remove rows (position_or_len (λ row. nat_le k (key row)) rows) ≡ filter (λ row. not (key row == k)) rows
-  taken_here k low [] h some = absurd (some refl)
-  taken_here k low (row ∷ rows) h some =
-      taken_by k (position_or_len (λ r. nat_le k (key r)) rows) row rows (nat_le k (key row)) refl h.1 (find_here k (key row + 1) rows h.1) (λ none. all_kept (λ r. key r == k) rows none) (λ there. taken_here k (key row + 1) rows h.1 there) some
+  pub taken_at_its_point : (k low : ℕ) (rows : List X) → RiseBy key low rows → find (λ row. key row == k) rows ≢ None → remove rows (position_or_len (λ row. nat_le k (key row)) rows) ≡ filter (λ row. not (key row == k)) rows
+  taken_at_its_point k low [] h some = absurd (some refl)
+  taken_at_its_point k low (row ∷ rows) h some =
+      taken_here_at k (position_or_len (λ r. nat_le k (key r)) rows) row rows (nat_le k (key row)) refl h.1 (found_at_its_point k (key row + 1) rows h.1) (λ none. all_kept (λ r. key r == k) rows none) (λ there. taken_at_its_point k (key row + 1) rows h.1 there) some
 
 pub slice_none : {X : Type 0} (rows : List X) (at : ℕ) → length rows ≤ at → slice_get rows at ≡ None
 slice_none [] at le = refl
@@ -83,13 +83,13 @@ slice_some (r ∷ rows) (suc at) row less e = slice_some rows at row (omega arit
 
 module _ {X : Type 0} (key : X → ℕ) where
   pub found_none : (k low at : ℕ) (rows : List X) → RiseBy key low rows → at ≡ position_or_len (λ row. nat_le k (key row)) rows → length rows ≤ at → find (λ row. key row == k) rows ≡ None
-  found_none k low at rows h e le = found_at key k low at rows None h e (slice_none rows at le)
+  found_none k low at rows h e le = found_in_slice key k low at rows None h e (slice_none rows at le)
 
   pub found_other : (k low at : ℕ) (rows : List X) (row : X) → RiseBy key low rows → at ≡ position_or_len (λ row. nat_le k (key row)) rows → at < length rows → row ≡ get_or rows at row → (key row == k) ≡ false → find (λ row. key row == k) rows ≡ None
-  found_other k low at rows row h e less f differs = found_at key k low at rows (Some row) h e (slice_some rows at row less f) ∙ ap (λ b. cond b (Some row) None) differs
+  found_other k low at rows row h e less f differs = found_in_slice key k low at rows (Some row) h e (slice_some rows at row less f) ∙ ap (λ b. cond b (Some row) None) differs
 
   pub found_row : (k low at : ℕ) (rows : List X) (row : X) → RiseBy key low rows → at ≡ position_or_len (λ row. nat_le k (key row)) rows → at < length rows → row ≡ get_or rows at row → (key row == k) ≡ true → find (λ row. key row == k) rows ≡ Some row
-  found_row k low at rows row h e less f same = found_at key k low at rows (Some row) h e (slice_some rows at row less f) ∙ ap (λ b. cond b (Some row) None) same
+  found_row k low at rows row h e less f same = found_in_slice key k low at rows (Some row) h e (slice_some rows at row less f) ∙ ap (λ b. cond b (Some row) None) same
 
 no_row : {X : Type 0} (test : X → Bool) (rows : List X) → find test rows ≡ None → position_or_len test rows ≡ length rows
 no_row test [] h = refl
@@ -104,13 +104,13 @@ pub no_place : {X : Type 0} (test : X → Bool) (rows : List X) → find test ro
 no_place test rows h = rw (le-ltb (position_or_len test rows) (length rows) (omega (arith, no_row test rows h))) refl
 
 module _ {X : Type 0} (key : X → ℕ) where
-  place_by : (k : ℕ) (row : X) (rows : List X) (p q : ℕ) (b : Bool) → nat_le k (key row) ≡ b → RiseBy key (key row + 1) rows → (find (λ r. key r == k) rows ≢ None → (p ≡ q) × (p < length rows)) → find (λ r. key r == k) (row ∷ rows) ≢ None →
+  place_here_at : (k : ℕ) (row : X) (rows : List X) (p q : ℕ) (b : Bool) → nat_le k (key row) ≡ b → RiseBy key (key row + 1) rows → (find (λ r. key r == k) rows ≢ None → (p ≡ q) × (p < length rows)) → find (λ r. key r == k) (row ∷ rows) ≢ None →
       (cond (not (key row == k)) (1 + p) 0 ≡ cond (not b) (1 + q) 0) × (cond (not (key row == k)) (1 + p) 0 < suc (length rows))
-  place_by k row rows p q true e h later some =
+  place_here_at k row rows p q true e h later some =
       let none = absent key k (key row + 1) rows h (grind (arith, nat_tests, e)) in
       let same : (key row == k) ≡ true = grind (arith, nat_tests, none, some) in
       rw same (refl, omega arith)
-  place_by k row rows p q false e h later some =
+  place_here_at k row rows p q false e h later some =
       let differs : (key row == k) ≡ false = grind (arith, nat_tests, e) in
       let there = later (rw differs at some) in
       rw differs (ap (λ (n : ℕ). 1 + n) there.0, omega (arith, there.1))
@@ -118,11 +118,11 @@ module _ {X : Type 0} (key : X → ℕ) where
   same_place : (k low : ℕ) (rows : List X) → RiseBy key low rows → find (λ row. key row == k) rows ≢ None →
       (position_or_len (λ row. key row == k) rows ≡ position_or_len (λ row. nat_le k (key row)) rows) × (position_or_len (λ row. key row == k) rows < length rows)
   same_place k low [] h some = absurd (some refl)
-  same_place k low (row ∷ rows) h some = place_by k row rows _ _ (nat_le k (key row)) refl h.1 (λ there. same_place k (key row + 1) rows h.1 there) some
+  same_place k low (row ∷ rows) h some = place_here_at k row rows _ _ (nat_le k (key row)) refl h.1 (λ there. same_place k (key row + 1) rows h.1 there) some
 
   -- a row that is there stands where a search by halves looks for it
-  pub place_here : (k low : ℕ) (rows : List X) → RiseBy key low rows → find (λ row. key row == k) rows ≢ None → position (λ row. key row == k) rows ≡ Some (position_or_len (λ row. nat_le k (key row)) rows)
-  place_here k low rows h some =
+  pub position_is_its_point : (k low : ℕ) (rows : List X) → RiseBy key low rows → find (λ row. key row == k) rows ≢ None → position (λ row. key row == k) rows ≡ Some (position_or_len (λ row. nat_le k (key row)) rows)
+  position_is_its_point k low rows h some =
       let at = same_place k low rows h some in
       let less : ltb (position_or_len (λ row. key row == k) rows) (length rows) ≡ true = lt-ltb _ _ at.1 in
       rw less (ap (λ (n : ℕ). Some n) at.0)

@@ -6,6 +6,7 @@ use Rattle.std.proofs.lemmas.List.Elements.{All-weaker}
 use Rattle.slab.specs.Slab.{Slab, get}
 use Rattle.am_names.specs.declared.row.WaitRow.{WaitRow}
 use Rattle.am_names.specs.declared.trigger.Status.{Status}
+use Rattle.am_names.proofs.Basics.{none_where_mapped_none}
 use Rattle.am_wait.specs.declared.seats.Seat.{Seat}
 use Rattle.am_wait.specs.declared.held.HeldToken.{HeldToken}
 use Rattle.am_wait.specs.declared.waits.Waits.TheInside.{Inside}
@@ -51,15 +52,15 @@ pub record Same (i j : Inside) : Type 0 where
   pub waiters : j.most_waits ≡ i.most_waits
   pub numbers : j.most_tokens ≡ i.most_tokens
 
-pub same_is : (i j : Inside) → Same i j → rows_of j ≡ rows_of i
-same_is i j h =
+pub same_rows : (i j : Inside) → Same i j → rows_of j ≡ rows_of i
+same_rows i j h =
     let tokens : tokens_in j.slab j.tokens.items ≡ tokens_in i.slab i.tokens.items = ap (tokens_in j.slab) h.tokens ∙ tokens_same i.slab j.slab h.slab i.tokens.items in
     let waits : waits_in j.slab j.seats.items ≡ waits_in i.slab i.seats.items = ap (waits_in j.slab) h.seats ∙ waits_same i.slab j.slab h.slab i.seats.items in
     rw (tokens, waits, h.last, h.waiters, h.numbers) refl
 
 pub same_kept : (i j : Inside) → IsKept i → Same i j → IsKept j
 same_kept i j kept h =
-    let is : rows_of i ≡ rows_of j = sym (same_is i j h) in
+    let is : rows_of i ≡ rows_of j = sym (same_rows i j h) in
     record {
       sound = subst (λ (w : WaitRows). IsSound w) is kept.sound;
       settled = subst (λ (w : WaitRows). All (IsSettled w) w.waits) is kept.settled;
@@ -81,13 +82,9 @@ pub record Freed (i j : Inside) (walker : ℕ) : Type 0 where
   pub waiters : j.most_waits ≡ i.most_waits
   pub numbers : j.most_tokens ≡ i.most_tokens
 
-no_mapped : {X Y : Type 0} (f : X → Y) (o : Option X) → option_map f o ≡ None → o ≡ None
-no_mapped f None h = refl
-no_mapped f (Some x) h = absurd cc
-
 -- a walker that has no wait has no seat
 pub no_seat : (i : Inside) (walker : ℕ) → IsKept i → wait_of (rows_of i).waits walker ≡ None → seat_of i.seats.items walker ≡ None
-no_seat i walker kept h = no_mapped (λ (s : Seat). row_at i.slab s.key) (seat_of i.seats.items walker) (sym (wait_found i.slab i.seats.items walker kept.linked.seated) ∙ h)
+no_seat i walker kept h = none_where_mapped_none (λ (s : Seat). row_at i.slab s.key) (seat_of i.seats.items walker) (sym (wait_found i.slab i.seats.items walker kept.linked.seated) ∙ h)
 
 module _ (i j : Inside) (walker : ℕ) (kept : IsKept i) (h : Freed i j walker) where
   freed_row : (row : WaitRow) (o : Option Status) → wait_of (rows_of i).waits walker ≡ Some row → row.status ≡ o → is_none o ≡ false → (rows_of j ≡ collected walker (rows_of i)) × IsKept j
@@ -96,8 +93,8 @@ module _ (i j : Inside) (walker : ℕ) (kept : IsKept i) (h : Freed i j walker) 
       let is : Frees i j walker row status = record { there = there; released = e; seats = h.seats; freed = h.freed; tokens = h.tokens; last = h.last; waiters = h.waiters; numbers = h.numbers } in
       (collected_is i j walker row status kept is, collected_kept i j walker row status kept is)
 
-  freed_by : (o : Option WaitRow) → wait_of (rows_of i).waits walker ≡ o → still_waits o ≡ false → (rows_of j ≡ collected walker (rows_of i)) × IsKept j
-  freed_by None there free =
+  collected_or_same : (o : Option WaitRow) → wait_of (rows_of i).waits walker ≡ o → still_waits o ≡ false → (rows_of j ≡ collected walker (rows_of i)) × IsKept j
+  collected_or_same None there free =
       let none = no_seat i walker kept there in
       let is : Same i j = record {
         tokens = h.tokens;
@@ -107,8 +104,8 @@ module _ (i j : Inside) (walker : ℕ) (kept : IsKept i) (h : Freed i j walker) 
         waiters = h.waiters;
         numbers = h.numbers;
       } in
-      (same_is i j is ∙ sym (idle_collected walker (rows_of i) there), same_kept i j kept is)
-  freed_by (Some row) there free = freed_row row row.status there refl free
+      (same_rows i j is ∙ sym (idle_collected walker (rows_of i) there), same_kept i j kept is)
+  collected_or_same (Some row) there free = freed_row row row.status there refl free
 
   pub freed_all : still_waits (wait_of (rows_of i).waits walker) ≡ false → (rows_of j ≡ collected walker (rows_of i)) × IsKept j
-  freed_all free = freed_by (wait_of (rows_of i).waits walker) refl free
+  freed_all free = collected_or_same (wait_of (rows_of i).waits walker) refl free

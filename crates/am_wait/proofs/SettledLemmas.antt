@@ -8,12 +8,13 @@ use Rattle.am_names.specs.declared.trigger.Status.{Status}
 use Rattle.am_names.specs.declared.row.OpenToken.{OpenToken}
 use Rattle.am_names.specs.declared.row.WaitRow.{WaitRow}
 use Rattle.am_names.specs.declared.row.TokenKind.{TokenKind}
+use Rattle.am_names.proofs.Basics.{none_is_not_some}
 use Rattle.am_wait.specs.Rows.{WaitRows, token_of, with_wait, with_waiter}
 use Rattle.am_wait.specs.Calls.{waiting_on, opened, failed_row, fs_released}
 use Rattle.am_wait.specs.Invariant.{AreGiven, IsOnOpen, IsSound}
 use Rattle.am_wait.specs.Inside.{IsSettled}
 use Rattle.am_wait.proofs.FindLemmas.{or_first, or_none, token_last, joined_if, token_joined, unless_of, tokens_off}
-use Rattle.am_wait.proofs.KeptLemmas.{none_is_some, all_found}
+use Rattle.am_wait.proofs.KeptLemmas.{all_found}
 
 -- all of the old ones, and the new one at its place
 all_put : (P : WaitRow → Type 0) (row : WaitRow) (waits : List WaitRow) → P row → All P waits → All P (with_wait row waits)
@@ -40,7 +41,7 @@ opened_settled w trigger kind walker h =
 
 -- an open token was given
 given_open : (last t : ℕ) (tokens : List OpenToken) (its : OpenToken) → AreGiven last tokens → token_of tokens t ≡ Some its → t ≤ last
-given_open last t [] its h e = absurd (none_is_some its e)
+given_open last t [] its h e = absurd (none_is_not_some its e)
 given_open last t (row ∷ tokens) its h e = by_test (row.token == t) refl e (given_open last t tokens its h.1)
   where
     by_test : (b : Bool) → (row.token == t) ≡ b → cond b (Some row) (token_of tokens t) ≡ Some its → (token_of tokens t ≡ Some its → t ≤ last) → t ≤ last
@@ -69,23 +70,23 @@ joined_settled w t walker its sound there h =
 
 -- ---- release_fs
 
-closed_by : (w : WaitRows) (fs : ℕ) (row : WaitRow) (o : Option Status) → row.status ≡ o → IsSettled w row → IsOnOpen w.tokens row → (row.trigger.fs == fs) ≡ true → unless_of fs (token_of w.tokens row.token) ≡ None
-closed_by w fs row (Some status) e h on f = ap (unless_of fs) (h.closed (ap (λ o. is_some o) e))
-closed_by w fs row None e h on f =
+failed_is_closed : (w : WaitRows) (fs : ℕ) (row : WaitRow) (o : Option Status) → row.status ≡ o → IsSettled w row → IsOnOpen w.tokens row → (row.trigger.fs == fs) ≡ true → unless_of fs (token_of w.tokens row.token) ≡ None
+failed_is_closed w fs row (Some status) e h on f = ap (unless_of fs) (h.closed (ap (λ o. is_some o) e))
+failed_is_closed w fs row None e h on f =
     let its = on e in
     let its_fs : (its.0.trigger.fs == fs) ≡ true = ap (λ (g : Trigger). g.fs == fs) its.2 ∙ f in
     ap (unless_of fs) its.1 ∙ ap (λ b. cond b None (Some its.0)) its_fs
 
-failed_by : (w : WaitRows) (fs : ℕ) (row : WaitRow) (a b : Bool) → (row.trigger.fs == fs) ≡ a → is_none row.status ≡ b → IsSound w → IsSettled w row → IsOnOpen w.tokens row → IsSettled (fs_released fs w) (failed_row fs row)
-failed_by w fs row true true e f sound h on =
-    rw (e, f) (record { given = h.given; closed = λ some. tokens_off fs row.token 0 w.tokens sound.tokens ∙ closed_by w fs row row.status refl h on e })
-failed_by w fs row false b e f sound h on =
+failed_settled_at : (w : WaitRows) (fs : ℕ) (row : WaitRow) (a b : Bool) → (row.trigger.fs == fs) ≡ a → is_none row.status ≡ b → IsSound w → IsSettled w row → IsOnOpen w.tokens row → IsSettled (fs_released fs w) (failed_row fs row)
+failed_settled_at w fs row true true e f sound h on =
+    rw (e, f) (record { given = h.given; closed = λ some. tokens_off fs row.token 0 w.tokens sound.tokens ∙ failed_is_closed w fs row row.status refl h on e })
+failed_settled_at w fs row false b e f sound h on =
     rw e (record { given = h.given; closed = λ some. tokens_off fs row.token 0 w.tokens sound.tokens ∙ ap (unless_of fs) (h.closed some) })
-failed_by w fs row true false e f sound h on =
+failed_settled_at w fs row true false e f sound h on =
     rw (e, f) (record { given = h.given; closed = λ some. tokens_off fs row.token 0 w.tokens sound.tokens ∙ ap (unless_of fs) (h.closed some) })
 
 pub failed_settled : (w : WaitRows) (fs : ℕ) → IsSound w → All (IsSettled w) w.waits → All (IsSettled (fs_released fs w)) (fs_released fs w).waits
 failed_settled w fs sound h =
     let on : All (IsOnOpen w.tokens) w.waits = all_found (IsOnOpen w.tokens) (λ (r : WaitRow). r.walker) 0 w.waits sound.waits (λ row e. sound.same row.walker row e) in
     All-map (IsSettled (fs_released fs w)) (failed_row fs) w.waits
-    (λ n d less. failed_by w fs (get_or w.waits n d) ((get_or w.waits n d).trigger.fs == fs) (is_none (get_or w.waits n d).status) refl refl sound (h n d less) (on n d less))
+    (λ n d less. failed_settled_at w fs (get_or w.waits n d) ((get_or w.waits n d).trigger.fs == fs) (is_none (get_or w.waits n d).status) refl refl sound (h n d less) (on n d less))

@@ -8,6 +8,7 @@ use Rattle.std.proofs.lemmas.Option.{cond_some}
 use Rattle.am_wait.specs.declared.held.HeldToken.{HeldToken}
 use Rattle.am_names.specs.declared.row.TokenKind.TheVariants.{Missing}
 use Rattle.am_names.proofs.Cuts.{passes_on}
+use Rattle.am_names.proofs.Basics.{equal_by_test}
 use Rattle.am_wait.specs.Held.{joined_key, with_key, held_of}
 
 -- the row of a token, and where it stands
@@ -16,14 +17,11 @@ pub record StandsAt (tokens : List HeldToken) (token at : ℕ) (row : HeldToken)
   pub number : row.token ≡ token
   pub joined : (key : ℕ) → set tokens at (joined_key row key) ≡ with_key token key tokens
 
-same_number : (a b : ℕ) → (a == b) ≡ true → a ≡ b
-same_number a b e = grind (arith, nat_tests, e)
-
 at_row : (row : HeldToken) (tokens : List HeldToken) (token : ℕ) (d : HeldToken) (b : Bool) → (row.token == token) ≡ b →
     (position_or_len (λ other. other.token == token) tokens < length tokens → StandsAt tokens token (position_or_len (λ other. other.token == token) tokens) (get_or tokens (position_or_len (λ other. other.token == token) tokens) d)) →
     position_or_len (λ other. other.token == token) (row ∷ tokens) < length (row ∷ tokens) →
     StandsAt (row ∷ tokens) token (position_or_len (λ other. other.token == token) (row ∷ tokens)) (get_or (row ∷ tokens) (position_or_len (λ other. other.token == token) (row ∷ tokens)) d)
-at_row row tokens token d true e later h = record { found = rw e refl; number = rw e (same_number row.token token e); joined = λ key. rw e refl }
+at_row row tokens token d true e later h = record { found = rw e refl; number = rw e (equal_by_test row.token token e); joined = λ key. rw e refl }
 at_row row tokens token d false e later h =
     let further : 1 + position_or_len (λ other. other.token == token) tokens ≡ suc (position_or_len (λ other. other.token == token) tokens) = omega arith in
     let there = later (omega (arith, rw e at h)) in

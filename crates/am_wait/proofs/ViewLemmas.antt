@@ -35,14 +35,14 @@ others_counted slab seats walker h =
     ∙ ap length (filter_mapped (λ (s : Seat). row_at slab s.key) (λ (s : Seat). not (s.walker == walker)) (λ (r : WaitRow). not (r.walker == walker)) seats
     (All-weaker (IsSeat slab) (λ (s : Seat). not ((row_at slab s.key).walker == walker) ≡ not (s.walker == walker)) (λ s e. ap (λ (n : ℕ). not (n == walker)) (ap (λ (o : Option WaitRow). (row_in o).walker) e.1 ∙ e.2)) seats h))
 
-named_twice : (slab : Slab WaitRow) (o : Option HeldToken) → option_map (λ (r : OpenToken). r.token) (option_map (token_in slab) o) ≡ option_map (λ (r : HeldToken). r.token) o
-named_twice slab None = refl
-named_twice slab (Some row) = refl
+token_mapped_twice : (slab : Slab WaitRow) (o : Option HeldToken) → option_map (λ (r : OpenToken). r.token) (option_map (token_in slab) o) ≡ option_map (λ (r : HeldToken). r.token) o
+token_mapped_twice slab None = refl
+token_mapped_twice slab (Some row) = refl
 
-pub open_found : (slab : Slab WaitRow) (tokens : List HeldToken) (kind : TokenKind) (trigger : Trigger) → held_open_on tokens kind trigger ≡ open_on (tokens_in slab tokens) kind trigger
-open_found slab tokens kind trigger =
+pub held_open_on_is : (slab : Slab WaitRow) (tokens : List HeldToken) (kind : TokenKind) (trigger : Trigger) → held_open_on tokens kind trigger ≡ open_on (tokens_in slab tokens) kind trigger
+held_open_on_is slab tokens kind trigger =
     sym (ap (option_map (λ (r : OpenToken). r.token)) (find_mapped (token_in slab) (λ (r : HeldToken). is_held_on kind trigger r) (λ (r : OpenToken). is_open_on kind trigger r) tokens (λ k d less. refl))
-    ∙ named_twice slab (find (λ (r : HeldToken). is_held_on kind trigger r) tokens))
+    ∙ token_mapped_twice slab (find (λ (r : HeldToken). is_held_on kind trigger r) tokens))
 
 pub tokens_named : (slab : Slab WaitRow) (tokens : List HeldToken) (fs : ℕ) → held_tokens_of tokens fs ≡ tokens_of (tokens_in slab tokens) fs
 tokens_named slab tokens fs =
@@ -57,5 +57,5 @@ its_waits i kept t its there =
     its.keys (its_keys i kept t its there)
 
 -- what is found of a token
-pub found_open : (i : Inside) (t : ℕ) (o : Option HeldToken) → held_of i.tokens.items t ≡ o → token_of (rows_of i).tokens t ≡ option_map (token_in i.slab) o
-found_open i t o e = token_found i.slab i.tokens.items t ∙ ap (option_map (token_in i.slab)) e
+pub held_of_is : (i : Inside) (t : ℕ) (o : Option HeldToken) → held_of i.tokens.items t ≡ o → token_of (rows_of i).tokens t ≡ option_map (token_in i.slab) o
+held_of_is i t o e = token_found i.slab i.tokens.items t ∙ ap (option_map (token_in i.slab)) e

@@ -52,6 +52,7 @@ join_refusal token walker w =
     else if is_full w then Some ENOSPC
     else None
 
+-- the walker is the last that waits on this token, which is open
 abbrev pub joined_on : Option OpenToken → ℕ → ℕ → WaitRows → WaitRows
 joined_on None token walker w = w
 joined_on (Some row) token walker w = record w {
@@ -67,6 +68,7 @@ joined token walker w = joined_on (token_of w.tokens token) token walker w
 abbrev pub answer_refusal : ℕ → WaitRows → Option Errno
 answer_refusal token w = if is_some (token_of w.tokens token) then None else Some EINVAL
 
+-- a wait on this token has the status
 abbrev pub released_row : ℕ → Status → WaitRow → WaitRow
 released_row token status row =
     if row.token == token then record row { status = Some status } else row
@@ -78,6 +80,7 @@ answered token status w = record w {
   waits = map (released_row token status) w.waits;
 }
 
+-- a wait on a token of the file system that has no status yet has FAIL, with ENOENT
 abbrev pub failed_row : ℕ → WaitRow → WaitRow
 failed_row fs row =
     if row.trigger.fs == fs && is_none row.status then record row { status = Some (Fail ENOENT) } else row
@@ -90,10 +93,12 @@ fs_released fs w = record w {
   waits = map (failed_row fs) w.waits;
 }
 
+-- a wait without a status was not released
 abbrev pub status_refusal : Option Status → Option Errno
 status_refusal None = Some NotReleased
 status_refusal (Some status) = None
 
+-- there is a wait, and it was released
 abbrev pub wait_refusal : Option WaitRow → Option Errno
 wait_refusal None = Some EINVAL
 wait_refusal (Some row) = status_refusal row.status
@@ -102,6 +107,7 @@ wait_refusal (Some row) = status_refusal row.status
 abbrev pub collect_refusal : ℕ → WaitRows → Option Errno
 collect_refusal walker w = wait_refusal (wait_of w.waits walker)
 
+-- the status of a wait, if it was released
 abbrev pub status_in : Option WaitRow → Option Status
 status_in None = None
 status_in (Some row) = row.status

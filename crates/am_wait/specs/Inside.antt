@@ -10,6 +10,7 @@ use Rattle.am_wait.specs.declared.seats.Seat.{Seat}
 use Rattle.am_wait.specs.declared.held.HeldToken.{HeldToken}
 use Rattle.am_wait.specs.declared.waits.Waits.TheInside.{Inside}
 
+-- the fields as rows: each key is the wait that it leads to
 abbrev pub rows_of : Inside → WaitRows
 rows_of w = record {
   tokens = tokens_in w.slab w.tokens.items;
@@ -30,6 +31,7 @@ pub record IsLinked (slab : Slab WaitRow) (seats : List Seat) (tokens : List Hel
   pub seated : All (IsSeat slab) seats
   pub held : All (HasKeys slab seats) tokens
 
+-- tokens and waits agree, and so do seats, keys and the slab
 pub record IsKept (w : Inside) : Type 0 where
   pub sound : IsSound (rows_of w)
   pub settled : All (IsSettled (rows_of w)) (rows_of w).waits

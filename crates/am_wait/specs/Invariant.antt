@@ -1,4 +1,4 @@
--- What tokens and waits keep.
+-- What tokens and waits keep (autofs.rst, "Communicating with autofs: the event pipe").
 use Rattle.std.specs.Prelude.{◌≡◌, ◌≤◌, ◌==◌, ◌&&◌, ℕ, Bool, false, is_none, List, [], ◌∷◌, Option, Some, None}
 pub use Rattle.am_names.specs.Numbers.{is_among, RiseBy}
 use Rattle.am_names.specs.declared.row.OpenToken.{OpenToken}
@@ -23,6 +23,7 @@ IsOnOpen tokens row =
     (its : OpenToken) ×
     (token_of tokens row.token ≡ Some its) × (its.trigger ≡ row.trigger) × (its.kind ≡ row.kind)
 
+-- tokens and waits agree
 pub record IsSound (w : WaitRows) : Type 0 where
   -- each walker has one wait at most
   pub waits : RiseBy (λ row. row.walker) 0 w.waits

@@ -1,4 +1,5 @@
--- Open tokens and waits as rows (Linux: the wait queues of fs/autofs/waitq.c).
+-- Open tokens and waits as rows (autofs.rst, "Communicating with autofs: the event pipe"; Linux: the
+-- wait queues of fs/autofs/waitq.c).
 use Rattle.std.specs.Prelude.{ℕ, ◌==◌, nat_lt, Bool, true, false, not, ◌&&◌, List, [], ◌∷◌, ◌++◌, map, filter, find, Option, Some, None, if◌then◌else◌}
 use Rattle.std.specs.Option.{option_map}
 use Rattle.am_names.specs.Trigger.{same_trigger}
@@ -8,6 +9,7 @@ use Rattle.am_names.specs.declared.row.WaitRow.{WaitRow}
 use Rattle.am_names.specs.declared.row.TokenKind.{TokenKind}
 use Rattle.am_names.specs.declared.row.TokenKind.TheVariants.{Missing, Expire}
 
+-- the open tokens, the waits, and how many there may be of each
 pub record WaitRows : Type 0 where
   -- the open tokens, in rising order, each with its waiters in the order in which they joined
   pub tokens : List OpenToken
@@ -25,12 +27,14 @@ abbrev pub no_waits : ℕ → ℕ → WaitRows
 no_waits waiters tokens =
     record { tokens = []; waits = []; last_token = 0; most_waits = waiters; most_tokens = tokens }
 
+-- both ask for a mount, or both for an expiry
 abbrev pub same_kind : TokenKind → TokenKind → Bool
 same_kind Missing Missing = true
 same_kind Expire Expire = true
 same_kind Missing Expire = false
 same_kind Expire Missing = false
 
+-- it is a token of this kind for the trigger
 abbrev pub is_open_on : TokenKind → Trigger → OpenToken → Bool
 is_open_on kind trigger row = same_trigger row.trigger trigger && same_kind row.kind kind
 
@@ -47,6 +51,7 @@ token_of tokens token = find (λ row. row.token == token) tokens
 abbrev pub wait_of : List WaitRow → ℕ → Option WaitRow
 wait_of waits walker = find (λ row. row.walker == walker) waits
 
+-- the waiters in a row, if there is one
 abbrev pub waiters_in : Option OpenToken → List ℕ
 waiters_in None = []
 waiters_in (Some row) = row.waiters
@@ -69,6 +74,7 @@ with_wait row waits =
 abbrev pub without_wait : ℕ → List WaitRow → List WaitRow
 without_wait walker waits = filter (λ row. not (row.walker == walker)) waits
 
+-- the walker is the last in the row
 abbrev pub joined_row : OpenToken → ℕ → OpenToken
 joined_row row walker = record row { waiters = row.waiters ++ walker ∷ [] }
 

@@ -102,7 +102,8 @@ fn held_place(tokens: &[HeldToken], token: Token) -> Option<usize>
 /// The key is the last of those of the token at this place.
 fn join_at(tokens: &mut Vec<HeldToken>, at: usize, key: usize) -> Result<(), AllocError>
     requires { at < vec_len tokens.old }
-    ensures ok { OnOk result ((d : Held) → tokens.new.items ≡ set tokens.old.items at (joined_key (get_or tokens.old.items at d) key)) }
+    ensures ok { OnOk result ((d : Held) → tokens.new.items ≡
+        set tokens.old.items at (joined_key (get_or tokens.old.items at d) key)) }
     ensures err { OnErr result (tokens.new.items ≡ tokens.old.items) }
 {
     let row = &mut tokens[at];
@@ -130,7 +131,8 @@ pub fn open_token(
     wait: &WaitRow,
     key: usize,
 ) -> Result<(), AllocError>
-    ensures ok { OnOk result (tokens.new.items ≡ tokens.old.items ++ held_row wait.now.token wait.now.trigger wait.now.kind key ∷ []) }
+    ensures ok { OnOk result (tokens.new.items ≡ tokens.old.items
+        ++ held_row wait.now.token wait.now.trigger wait.now.kind key ∷ []) }
     ensures err { OnErr result (tokens.new.items ≡ tokens.old.items) }
 {
     tokens.push(HeldToken {

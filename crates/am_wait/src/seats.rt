@@ -101,7 +101,8 @@ pub fn make_room(seats: &mut Vec<Seat>, slab: &mut Slab<WaitRow>) -> Result<(), 
 /// The wait at a key has the status.
 fn set_status(slab: &mut Slab<WaitRow>, key: usize, status: Status)
     ensures this { get slab.new key ≡ option_map (with_status status) (get slab.old key) }
-    ensures others { (other : ℕ) → (other == key) ≡ false → get slab.new other ≡ get slab.old other }
+    ensures others { (other : ℕ) → (other == key) ≡ false → get slab.new other ≡
+        get slab.old other }
 {
     if let Some(row) = slab.get_mut(key) {
         row.status = Some(status);
@@ -110,7 +111,8 @@ fn set_status(slab: &mut Slab<WaitRow>, key: usize, status: Status)
 
 /// The wait at each of these keys has the status.
 pub fn set_statuses(slab: &mut Slab<WaitRow>, keys: &[usize], status: Status)
-    ensures { (key : ℕ) → get slab.new key ≡ (if among_keys keys.now key then option_map (with_status status) (get slab.old key) else get slab.old key) }
+    ensures { (key : ℕ) → get slab.new key ≡ (if among_keys keys.now key
+        then option_map (with_status status) (get slab.old key) else get slab.old key) }
 {
     for key in keys.iter() {
         set_status(slab, *key, status);
@@ -133,7 +135,8 @@ fn failed_row(row: WaitRow, fs: FsId) -> WaitRow
 /// The wait at a key fails, if it is on a token of the file system and was not released.
 fn fail_wait(slab: &mut Slab<WaitRow>, key: usize, fs: FsId)
     ensures this { get slab.new key ≡ option_map (failed_row fs) (get slab.old key) }
-    ensures others { (other : ℕ) → (other == key) ≡ false → get slab.new other ≡ get slab.old other }
+    ensures others { (other : ℕ) → (other == key) ≡ false → get slab.new other ≡
+        get slab.old other }
 {
     if let Some(row) = slab.get_mut(key) {
         *row = failed_row(*row, fs);
@@ -142,7 +145,8 @@ fn fail_wait(slab: &mut Slab<WaitRow>, key: usize, fs: FsId)
 
 /// Each wait on a token of a file system that was not released has the status FAIL.
 pub fn fail_waits_of(slab: &mut Slab<WaitRow>, seats: &[Seat], fs: FsId)
-    ensures { (key : ℕ) → get slab.new key ≡ (if sits_at seats.now key then option_map (failed_row fs) (get slab.old key) else get slab.old key) }
+    ensures { (key : ℕ) → get slab.new key ≡ (if sits_at seats.now key
+        then option_map (failed_row fs) (get slab.old key) else get slab.old key) }
 {
     for seat in seats.iter() {
         fail_wait(slab, seat.key, fs);
@@ -186,7 +190,8 @@ pub fn take_wait(seats: &mut Vec<Seat>, slab: &mut Slab<WaitRow>, walker: Walker
     ensures capacity { vec_capacity seats.new ≡ vec_capacity seats.old }
     ensures room { HasRoomFor slab.old 1 → HasRoomFor slab.new 1 }
     ensures next { slab.new.vacant_key ≡ next_key seats.old.items slab.old walker }
-    ensures freed { (key : ℕ) → get slab.new key ≡ (if frees (key_of seats.old.items walker) key then None else get slab.old key) }
+    ensures freed { (key : ℕ) → get slab.new key ≡ (if frees (key_of seats.old.items walker) key
+        then None else get slab.old key) }
 {
     let Some(key) = key_of(seats, walker) else {
         return;
@@ -201,9 +206,11 @@ pub fn put_wait(seats: &mut Vec<Seat>, slab: &mut Slab<WaitRow>, wait: WaitRow)
     requires slab_room { HasRoomFor slab.old 1 }
     requires rising { RiseBy (λ seat. seat.walker) 0 seats.old.items }
     requires none { key_of seats.old.items wait.walker ≡ None }
-    ensures seats { seats.new.items ≡ with_seat (seat_at wait.walker slab.old.vacant_key) seats.old.items }
+    ensures seats { seats.new.items ≡ with_seat (seat_at wait.walker slab.old.vacant_key)
+        seats.old.items }
     ensures vacant { get slab.old slab.old.vacant_key ≡ None }
-    ensures put { (key : ℕ) → get slab.new key ≡ (if slab.old.vacant_key == key then Some wait else get slab.old key) }
+    ensures put { (key : ℕ) → get slab.new key ≡ (if slab.old.vacant_key == key then Some wait
+        else get slab.old key) }
 {
     let walker = wait.walker;
     // The checker wants the types in a wait said.

@@ -88,7 +88,8 @@ impl Waits {
 
     /// What a token is open for, with its trigger; none if it isn't open.
     pub fn purpose_of(&self, token: Token) -> Option<(TokenKind, Trigger)>
-        ensures { result ≡ option_map (λ row. (row.kind, row.trigger)) (token_of self.now.tokens token) }
+        ensures { result ≡ option_map (λ row. (row.kind, row.trigger))
+            (token_of self.now.tokens token) }
     {
         match held_of(&self.tokens, token) {
             Some(row) => Some((row.kind, row.trigger)),
@@ -109,6 +110,7 @@ impl Waits {
         ensures wait { result ≡ wait_of self.now.waits walker }
         ensures sound { IsSound self.now }
     {
+        // The checker wants the tokens named, which `sound` speaks of.
         let _tokens = &self.tokens;
         let Some(key) = key_of(&self.seats, walker) else {
             return None;

@@ -25,9 +25,9 @@ use Rattle.am_walk.specs.Walks.{Visit, Stands, Stops, followed, settled_within, 
 use Rattle.am_walk.specs.Laws.{IsIdle, StopsWell, IsOrderly}
 
 -- a token that is open on a trigger is open
-found_open : (tokens : List OpenToken) (kind : TokenKind) (trigger : Trigger) (token : ℕ) → open_on tokens kind trigger ≡ Some token → is_some (token_of tokens token) ≡ true
-found_open [] kind trigger token h = absurd cc
-found_open (row ∷ tokens) kind trigger token h = by_test (is_open_on kind trigger row) h (found_open tokens kind trigger token)
+open_where_found : (tokens : List OpenToken) (kind : TokenKind) (trigger : Trigger) (token : ℕ) → open_on tokens kind trigger ≡ Some token → is_some (token_of tokens token) ≡ true
+open_where_found [] kind trigger token h = absurd cc
+open_where_found (row ∷ tokens) kind trigger token h = by_test (is_open_on kind trigger row) h (open_where_found tokens kind trigger token)
   where
     number : (b : Bool) → (row.token == token) ≡ b → is_some (token_of tokens token) ≡ true → is_some (cond b (Some row) (token_of tokens token)) ≡ true
     number true e later = refl
@@ -47,7 +47,7 @@ MeetsWell tokens (nexts.Enters below) = Unit {0}
 MeetsWell tokens (nexts.Passes below trigger) = IsIdle tokens trigger
 
 open_well : (tokens : List OpenToken) (kind : TokenKind) (trigger : Trigger) (o : Option ℕ) (others : Next) → open_on tokens kind trigger ≡ o → (o ≡ None → MeetsWell tokens others) → MeetsWell tokens (if_open o others)
-open_well tokens kind trigger (Some token) others e h = found_open tokens kind trigger token e
+open_well tokens kind trigger (Some token) others e h = open_where_found tokens kind trigger token e
 open_well tokens kind trigger None others e h = h refl
 
 mounted_well : (tokens : List OpenToken) (trigger : Trigger) (o : Option ℕ) (others : Next) → IsIdle tokens trigger → MeetsWell tokens others → MeetsWell tokens (if_mounted o trigger others)

@@ -17,6 +17,7 @@ abbrev pub failing_in : Option Lasting → Trigger → Option FailNo
 failing_in None = λ trigger. None
 failing_in (Some l) = failing l.moment l.negative l.failures.now.rows
 
+-- what the references stand for
 abbrev pub scene_in : View → Scene
 scene_in v = record {
   mounts = v.tree.now;
@@ -25,6 +26,7 @@ scene_in v = record {
   failing = failing_in v.lasting;
 }
 
+-- how a walk ended, and what it passed
 abbrev pub walked_of : Walk → Walked
 walked_of walk = record { stop = walk.stop; passed = walk.passed.items }
 

@@ -16,10 +16,12 @@ use Rattle.am_walk.specs.declared.stop.Next.TheVariants as nexts
 use Rattle.am_walk.specs.declared.stop.Stop.TheVariants as stops
 use Rattle.am_walk.specs.Scene.{Scene, autofs_at}
 
+-- where this token is open the walk waits on it
 abbrev pub if_open : Option ℕ → Next → Next
 if_open (Some token) others = nexts.Halts (stops.Block token)
 if_open None others = others
 
+-- what is mounted on the trigger is entered, and the trigger passed
 abbrev pub if_mounted : Option ℕ → Trigger → Next → Next
 if_mounted (Some mount) trigger others = nexts.Passes mount trigger
 if_mounted None trigger others = others
@@ -69,10 +71,12 @@ at_trigger None scene row trigger mount place =
 abbrev pub at_plain : Scene → ℕ → List (List ℕ) → Next
 at_plain scene mount place = if_entered (top_of scene.mounts mount place) nexts.Rests
 
+-- at a place of an autofs: a trigger, or any other place
 abbrev pub at_autofs : Scene → Autofs → Option Trigger → ℕ → List (List ℕ) → Next
 at_autofs scene row None mount place = at_plain scene mount place
 at_autofs scene row (Some trigger) mount place = at_trigger scene.tokens scene row trigger mount place
 
+-- at a place of a mount of an autofs, or of a plain file system
 abbrev pub at_site : Scene → Option Autofs → ℕ → List (List ℕ) → Next
 at_site scene None mount place = at_plain scene mount place
 at_site scene (Some row) mount place = at_autofs scene row (trigger_in row place) mount place

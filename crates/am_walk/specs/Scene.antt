@@ -1,4 +1,4 @@
--- What a walk looks at.
+-- What a walk looks at (autofs.rst, "Mount Traps").
 use Rattle.std.specs.Prelude.{ℕ, Bool, true, false, not, List, [], ◌∷◌, Option, Some, None}
 use Rattle.std.specs.Option.{option_map, option_and_then}
 use Rattle.am_names.specs.declared.fail_no.FailNo.{FailNo}
@@ -11,6 +11,7 @@ use Rattle.am_trigger.specs.declared.autofs.Autofs.{Autofs}
 use Rattle.am_trigger.specs.Rows.{TriggerRows, autofs_of}
 use Rattle.am_wait.specs.Rows.{WaitRows}
 
+-- the mounts, the mount traps, and the errors that last
 pub record Scene : Type 0 where
   pub mounts : List MountRow
   pub triggers : TriggerRows

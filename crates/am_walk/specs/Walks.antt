@@ -18,6 +18,7 @@ pub data Visit : Type 0 where
   Stands : ℕ → List (List ℕ) → List Trigger → Visit
   Stops : Stop → List Trigger → Visit
 
+-- what comes of what the walk met: it rests, stops, or enters what is mounted there
 abbrev pub followed : Next → ℕ → List (List ℕ) → List Trigger → (ℕ → List Trigger → Visit) → Visit
 followed nexts.Rests mount place passed enter = Stands mount place passed
 followed (nexts.Halts stop) mount place passed enter = Stops stop passed
@@ -32,6 +33,7 @@ settled_within zero scene mount place passed = Stands mount place passed
 settled_within (suc steps) scene mount place passed =
     followed (next_at scene mount place) mount place passed (λ m gs. settled_within steps scene m [] gs)
 
+-- where the walk comes to rest at a place, or stops; the steps are always enough
 abbrev pub settled : Scene → ℕ → List (List ℕ) → List Trigger → Visit
 settled scene mount place passed = settled_within (length scene.mounts + 1) scene mount place passed
 
@@ -48,6 +50,7 @@ abbrev pub after : Scene → ℕ → List (List ℕ) → Visit
 after scene root [] = settled scene root [] []
 after scene root (name ∷ earlier) = onward scene name (after scene root earlier)
 
+-- the walk from the root of a namespace, if that is there
 abbrev pub visit_from : Scene → List (List ℕ) → Option ℕ → Visit
 visit_from scene names None = Stops (stops.Refuse ENOENT) []
 visit_from scene names (Some root) = after scene root (reverse names)

@@ -65,7 +65,8 @@ impl Walking {
 impl View<'_> {
     /// Follows a walk to where it comes to rest at its place, or stops.
     fn settle(&self, alloc: Global, at: &mut Walking) -> Result<Option<Stop>, AllocError>
-        ensures { IfOk result (λ stop. left_of stop at.new ≡ settled_at (scene_in self.now) at.old) }
+        ensures { IfOk result (λ stop. left_of stop at.new ≡
+            settled_at (scene_in self.now) at.old) }
     {
         for _step in 0..self.tree.rows().len() + 1 {
             match self.next_at(at.mount, &at.place) {
@@ -84,7 +85,8 @@ impl View<'_> {
 
     /// Follows a walk one name further.
     fn step(&self, alloc: Global, at: &mut Walking, name: &Name) -> Result<Option<Stop>, AllocError>
-        ensures { IfOk result (λ stop. left_of stop at.new ≡ onward (scene_in self.now) name.now (left_of None at.old)) }
+        ensures { IfOk result (λ stop. left_of stop at.new ≡
+            onward (scene_in self.now) name.now (left_of None at.old)) }
     {
         if !has_names(self.autofs_at(at.mount), &at.place) {
             return Ok(Some(Stop::Refuse(Errno::ENOENT)));
@@ -119,8 +121,8 @@ impl View<'_> {
 }
 
 /// The walk of a walker from the root of a namespace along a path, and the triggers that it
-/// passes. It changes nothing: to wait, to notify the daemon and to enter is the caller's. The moment
-/// and how long failures last are in seconds.
+/// passes. It changes nothing: to wait, to notify the daemon and to enter is the caller's. The
+/// moment and how long failures last are in seconds.
 pub fn resolve<'a>(
     alloc: Global,
     subtree: &'a Subtree,
@@ -132,9 +134,12 @@ pub fn resolve<'a>(
     moment: Seconds,
     negative: Seconds,
 ) -> Result<Walk, AllocError>
-    ensures walk { IfOk result (λ walk. walked_of walk ≡ walk_of (with_traps subtree.now triggers.now.rows waits.now (failing moment negative failures.now.rows)) ns path.now) }
+    ensures walk { IfOk result (λ walk. walked_of walk ≡
+        walk_of (with_traps subtree.now triggers.now.rows waits.now
+        (failing moment negative failures.now.rows)) ns path.now) }
     ensures orderly { IfOk result (λ walk. IsOrderly waits.now.tokens (walked_of walk)) }
-    ensures rests { IfOk result (λ walk. RestsAt (with_traps subtree.now triggers.now.rows waits.now (failing moment negative failures.now.rows)) walk.stop) }
+    ensures rests { IfOk result (λ walk. RestsAt (with_traps subtree.now triggers.now.rows
+        waits.now (failing moment negative failures.now.rows)) walk.stop) }
 {
     let view = View {
         tree: subtree.tree(),
@@ -157,8 +162,10 @@ pub fn position<'a>(
     ns: NsId,
     path: &AbsPath<'_>,
 ) -> Result<Position, Errno>
-    ensures refusal { RefusedAs (fault_of (position_of (without_traps subtree.now triggers.now.rows) ns path.now)) result }
-    ensures ok { IfOk result (λ at. position_of (without_traps subtree.now triggers.now.rows) ns path.now ≡ Ok at) }
+    ensures refusal { RefusedAs (fault_of (position_of
+        (without_traps subtree.now triggers.now.rows) ns path.now)) result }
+    ensures ok { IfOk result (λ at. position_of (without_traps subtree.now triggers.now.rows) ns
+        path.now ≡ Ok at) }
 {
     let view = View {
         tree: subtree.tree(),

@@ -40,7 +40,8 @@ impl View<'_> {
         place: &Place,
     ) -> Next
         requires { trigger_in row.now place.now ≡ Some trigger }
-        ensures { result ≡ at_trap waits.now.tokens (scene_in self.now) row.now trigger mount place.now }
+        ensures { result ≡ at_trap waits.now.tokens (scene_in self.now) row.now trigger mount
+            place.now }
     {
         if let Some(token) = waits.open_on(TokenKind::Expire, &trigger) {
             return Next::Halts(Stop::Block(token));
@@ -67,7 +68,8 @@ impl View<'_> {
     /// What a walk meets at a trigger, with the traps on or off.
     fn at_trigger(&self, row: &Autofs, trigger: Trigger, mount: MountId, place: &Place) -> Next
         requires { trigger_in row.now place.now ≡ Some trigger }
-        ensures { result ≡ at_trigger (scene_in self.now).tokens (scene_in self.now) row.now trigger mount place.now }
+        ensures { result ≡ at_trigger (scene_in self.now).tokens
+            (scene_in self.now) row.now trigger mount place.now }
     {
         if let Some(waits) = self.waits {
             return self.at_trap(waits, row, trigger, mount, place);

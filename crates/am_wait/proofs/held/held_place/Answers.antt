@@ -1,7 +1,7 @@
 use Rattle.std.proofs.Common.{◌≡◌, ◌==◌, ◌≤◌, true, false, length, Some, sym, ap, ◌∙◌, arith}
 use Rattle.std.proofs.lemmas.Bool.Decides.{nat_tests}
 use Rattle.am_wait.specs.declared.held.HeldToken.{HeldToken}
-use Rattle.am_wait.proofs.RisingLemmas.{found_none, found_other, found_row, no_place, place_here}
+use Rattle.am_wait.proofs.RisingLemmas.{found_none, found_other, found_row, no_place, position_is_its_point}
 use Rattle.am_wait.proofs.held.held_place.Goals as goal
 
 pub returns-in_default : goal.returns-in_default
@@ -24,4 +24,4 @@ returns c =
     let there = rw c.in-Some.is at c.get.ensures.lookup.3 in
     let is = rw c.in-Some.is at c.get.ensures.lookup.1 in
     let found = found_row (λ (r : HeldToken). r.token) c.args.token 0 c.tokens_below-at.result c.args.tokens.now row c.requires.rising c.tokens_below-at.ensures there.0 is same in
-    ap (λ x. Some x) c.tokens_below-at.ensures ∙ sym (place_here (λ (r : HeldToken). r.token) c.args.token 0 c.args.tokens.now c.requires.rising (λ none. absurd (cc (sym found ∙ none))))
+    ap (λ x. Some x) c.tokens_below-at.ensures ∙ sym (position_is_its_point (λ (r : HeldToken). r.token) c.args.token 0 c.args.tokens.now c.requires.rising (λ none. absurd (cc (sym found ∙ none))))

@@ -4,7 +4,7 @@ use Rattle.std.specs.List.{position_or_len}
 use Rattle.std.proofs.lemmas.Bool.Decides.{nat_tests}
 use Rattle.am_wait.specs.declared.held.HeldToken.{HeldToken}
 use Rattle.am_wait.proofs.CallLemmas.{all_kept}
-use Rattle.am_wait.proofs.RisingLemmas.{found_none, found_other, found_row, taken_here}
+use Rattle.am_wait.proofs.RisingLemmas.{found_none, found_other, found_row, taken_at_its_point}
 use Rattle.am_wait.proofs.held.take_token.Goals as goal
 
 pub returns-in_default : goal.returns-in_default
@@ -33,4 +33,4 @@ returns c =
     let there : c.tokens_below-at.result < length tokens = rw c.deref-2.ensures.value at (rw c.in-Some.is at c.get.ensures.lookup.3).0 in
     let is : row ≡ get_or tokens c.tokens_below-at.result row = rw c.deref-2.ensures.value at (rw c.in-Some.is at c.get.ensures.lookup.1) in
     let found = found_row (λ (s : HeldToken). s.token) c.args.token 0 c.tokens_below-at.result tokens row c.requires.rising at there is same in
-    c.remove-row.ensures.items ∙ ap (λ (i : ℕ). remove tokens i) at ∙ taken_here (λ (s : HeldToken). s.token) c.args.token 0 tokens c.requires.rising (λ none. absurd (cc (sym found ∙ none)))
+    c.remove-row.ensures.items ∙ ap (λ (i : ℕ). remove tokens i) at ∙ taken_at_its_point (λ (s : HeldToken). s.token) c.args.token 0 tokens c.requires.rising (λ none. absurd (cc (sym found ∙ none)))

@@ -4,7 +4,7 @@ use Rattle.std.specs.List.{position_or_len}
 use Rattle.std.proofs.lemmas.Bool.Decides.{nat_tests}
 use Rattle.am_wait.specs.declared.seats.Seat.{Seat}
 use Rattle.am_wait.proofs.CallLemmas.{all_kept}
-use Rattle.am_wait.proofs.RisingLemmas.{found_none, found_other, found_row, taken_here}
+use Rattle.am_wait.proofs.RisingLemmas.{found_none, found_other, found_row, taken_at_its_point}
 use Rattle.am_wait.proofs.seats.take_seat.Goals as goal
 
 pub returns-in_default-clause-seats : goal.returns-in_default-clause-seats
@@ -33,4 +33,4 @@ returns-clause-seats c =
     let there : c.seats_below-at.result < length seats = rw c.deref-2.ensures.value at (rw c.in-Some.is at c.get.ensures.lookup.3).0 in
     let is : seat ≡ get_or seats c.seats_below-at.result seat = rw c.deref-2.ensures.value at (rw c.in-Some.is at c.get.ensures.lookup.1) in
     let found = found_row (λ (s : Seat). s.walker) c.args.walker 0 c.seats_below-at.result seats seat c.requires.rising at there is same in
-    c.remove-seat.ensures.items ∙ ap (λ (i : ℕ). remove seats i) at ∙ taken_here (λ (s : Seat). s.walker) c.args.walker 0 seats c.requires.rising (λ none. absurd (cc (sym found ∙ none)))
+    c.remove-seat.ensures.items ∙ ap (λ (i : ℕ). remove seats i) at ∙ taken_at_its_point (λ (s : Seat). s.walker) c.args.walker 0 seats c.requires.rising (λ none. absurd (cc (sym found ∙ none)))

@@ -1,9 +1,9 @@
 use Rattle.std.proofs.Common.{◌≡◌, ◌<◌, ℕ, false, get_or}
-use Rattle.am_names.specs.declared.trigger.Trigger.{Trigger}
-use Rattle.am_expire.specs.Order.{is_end}
+use Rattle.am_expire.specs.Order.{is_end, no_use}
+use Rattle.am_expire.specs.Part.{rows_in}
 use Rattle.am_expire.specs.Scan.{expiry_in}
 use Rattle.am_expire.proofs.expiry.View.passed.Given as goal
 
 abbrev pub invariant-loop-index : goal.invariant-loop-index
 invariant-loop-index l =
-    (k : ℕ) (d : Trigger × ℕ) → k < l.index → is_end (expiry_in l.fn.self) (get_or l.rows k d) ≡ false
+    (k : ℕ) → k < l.index → is_end (expiry_in l.fn.self) (get_or (rows_in l.part) k no_use) ≡ false

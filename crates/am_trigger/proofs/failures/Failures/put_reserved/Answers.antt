@@ -4,7 +4,7 @@ use Rattle.am_names.proofs.SameTriggers.{key_is}
 use Rattle.am_ordered.specs.Lookup.{insert_entry}
 use Rattle.am_trigger.specs.FailureTable.{FailureTable}
 use Rattle.am_trigger.specs.Failures.{FailureRows, failure_of, with_failure}
-use Rattle.am_trigger.proofs.FailureLemmas.{remove_is, insert_is, put}
+use Rattle.am_trigger.proofs.FailureLemmas.{remove_is, insert_is, failure_after_put}
 use Rattle.am_trigger.proofs.failures.Failures.put_reserved.Goals as goal
 
 pub returns-clause-rows : goal.returns-clause-rows
@@ -18,4 +18,4 @@ returns-clause-rows c =
 pub returns-clause-map : goal.returns-clause-map
 returns-clause-map c g =
     let new = returns-clause-rows c in
-    ap (λ (rows : FailureRows). failure_of rows g) new ∙ put c.args.trigger.now g c.args.failure c.args.self.now.rows
+    ap (λ (rows : FailureRows). failure_of rows g) new ∙ failure_after_put c.args.trigger.now g c.args.failure c.args.self.now.rows

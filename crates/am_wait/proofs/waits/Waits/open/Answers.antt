@@ -2,17 +2,18 @@ use Rattle.std.proofs.Common.{◌≡◌, Option, None, sym, ap, subst, ◌∙◌
 use Rattle.std.specs.Prelude.{is_some, OnOk}
 use Rattle.am_names.specs.Errno.{RefusedAs}
 use Rattle.am_names.specs.declared.errno.Errno.{Errno}
+use Rattle.am_names.proofs.Basics.{none_where_not_some}
 use Rattle.am_wait.specs.Rows.{WaitRows, wait_of}
 use Rattle.am_wait.specs.Calls.{opened}
-use Rattle.am_wait.proofs.CallLemmas.{is_none_of, idle_opens, idle_collected}
+use Rattle.am_wait.proofs.CallLemmas.{idle_opens, idle_collected}
 use Rattle.am_wait.proofs.waits.Waits.open.Goals as goal
 
 pub returns-clause-refusal : goal.returns-clause-refusal
 returns-clause-refusal c =
-    let idle : wait_of c.args.self.now.waits c.args.walker ≡ None = is_none_of _ (ap (λ o. is_some o) (sym c.wait_of.ensures.wait) ∙ sym c.is_some.ensures ∙ c.if-is_some.false) in
+    let idle : wait_of c.args.self.now.waits c.args.walker ≡ None = none_where_not_some _ (ap (λ o. is_some o) (sym c.wait_of.ensures.wait) ∙ sym c.is_some.ensures ∙ c.if-is_some.false) in
     subst (λ (first : Option Errno). RefusedAs first c.reopen.result) (idle_opens c.args.walker c.args.self.now idle) c.reopen.ensures.refusal
 
 pub returns-clause-ok : goal.returns-clause-ok
 returns-clause-ok c =
-    let idle : wait_of c.args.self.now.waits c.args.walker ≡ None = is_none_of _ (ap (λ o. is_some o) (sym c.wait_of.ensures.wait) ∙ sym c.is_some.ensures ∙ c.if-is_some.false) in
+    let idle : wait_of c.args.self.now.waits c.args.walker ≡ None = none_where_not_some _ (ap (λ o. is_some o) (sym c.wait_of.ensures.wait) ∙ sym c.is_some.ensures ∙ c.if-is_some.false) in
     subst (λ (w : WaitRows). OnOk c.reopen.result (c.reopen.new.self ≡ opened c.args.trigger c.args.kind c.args.walker w)) (idle_collected c.args.walker c.args.self.now idle) c.reopen.ensures.ok

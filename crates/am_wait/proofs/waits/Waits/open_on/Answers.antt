@@ -2,12 +2,12 @@ use Rattle.std.proofs.Common.{List, ap, ◌∙◌}
 use Rattle.am_wait.specs.declared.held.HeldToken.{HeldToken}
 use Rattle.am_wait.specs.Rows.{WaitRows, open_on}
 use Rattle.am_wait.specs.Held.{held_open_on}
-use Rattle.am_wait.proofs.ViewLemmas.{open_found}
+use Rattle.am_wait.proofs.ViewLemmas.{held_open_on_is}
 use Rattle.am_wait.proofs.waits.Waits.open_on.Goals as goal
 
 pub returns : goal.returns
 returns c =
     let i = c.self.inside in
     c.open_on.ensures ∙ ap (λ (tokens : List HeldToken). held_open_on tokens c.args.kind c.args.trigger.now) c.deref.ensures.value
-    ∙ open_found i.slab i.tokens.items c.args.kind c.args.trigger.now
+    ∙ held_open_on_is i.slab i.tokens.items c.args.kind c.args.trigger.now
     ∙ ap (λ (w : WaitRows). open_on w.tokens c.args.kind c.args.trigger.now) c.self.view_is

@@ -12,7 +12,7 @@ use Rattle.am_wait.specs.Held.{held_of, token_in}
 use Rattle.am_wait.specs.Inside.{rows_of}
 use Rattle.am_wait.proofs.SameLemmas.{same_slots, same_kept}
 use Rattle.am_wait.proofs.RenewLemmas.{Renews, no_seat_left, rejoins}
-use Rattle.am_wait.proofs.ViewLemmas.{tokens_rise, found_open}
+use Rattle.am_wait.proofs.ViewLemmas.{tokens_rise, held_of_is}
 use Rattle.am_wait.proofs.waits.Waits.rejoin.Goals as goal
 
 pub held_of-requires : goal.held_of-requires
@@ -25,7 +25,7 @@ pub returns-in_default-clause-refusal : goal.returns-in_default-clause-refusal
 returns-in_default-clause-refusal c =
     let i = c.self.inside in
     let none : held_of i.tokens.items c.args.token ≡ None = ap (λ (tokens : List HeldToken). held_of tokens c.args.token) (sym c.deref.ensures.value) ∙ sym c.held_of.ensures ∙ ap (λ o. option_copied o) c.in_default.is in
-    let closed : token_of c.args.self.now.tokens c.args.token ≡ None = ap (λ (x : WaitRows). token_of x.tokens c.args.token) (sym c.self.view_is) ∙ found_open i c.args.token None none in
+    let closed : token_of c.args.self.now.tokens c.args.token ≡ None = ap (λ (x : WaitRows). token_of x.tokens c.args.token) (sym c.self.view_is) ∙ held_of_is i c.args.token None none in
     let free : still_waits (wait_of c.args.self.now.waits c.args.walker) ≡ false = sym c.still_waits.ensures ∙ c.if-still_waits.false in
     rw (free, closed) refl
 
@@ -34,7 +34,7 @@ returns-then-is_full_for-clause-refusal c =
     let i = c.self.inside in
     let its = c.in-Some.row.now in
     let there : held_of i.tokens.items c.args.token ≡ Some its = ap (λ (tokens : List HeldToken). held_of tokens c.args.token) (sym c.deref.ensures.value) ∙ sym c.held_of.ensures ∙ ap (λ o. option_copied o) c.in-Some.is in
-    let is_open : token_of c.args.self.now.tokens c.args.token ≡ Some (token_in i.slab its) = ap (λ (x : WaitRows). token_of x.tokens c.args.token) (sym c.self.view_is) ∙ found_open i c.args.token (Some its) there in
+    let is_open : token_of c.args.self.now.tokens c.args.token ≡ Some (token_in i.slab its) = ap (λ (x : WaitRows). token_of x.tokens c.args.token) (sym c.self.view_is) ∙ held_of_is i c.args.token (Some its) there in
     let free : still_waits (wait_of c.args.self.now.waits c.args.walker) ≡ false = sym c.still_waits.ensures ∙ c.if-still_waits.false in
     let full : is_full (collected c.args.walker c.args.self.now) ≡ true = sym c.is_full_for.ensures ∙ c.if-is_full_for.true in
     rw (free, is_open, full) refl
@@ -44,7 +44,7 @@ returns-clause-refusal c =
     let i = c.self.inside in
     let its = c.in-Some.row.now in
     let there : held_of i.tokens.items c.args.token ≡ Some its = ap (λ (tokens : List HeldToken). held_of tokens c.args.token) (sym c.deref.ensures.value) ∙ sym c.held_of.ensures ∙ ap (λ o. option_copied o) c.in-Some.is in
-    let is_open : token_of c.args.self.now.tokens c.args.token ≡ Some (token_in i.slab its) = ap (λ (x : WaitRows). token_of x.tokens c.args.token) (sym c.self.view_is) ∙ found_open i c.args.token (Some its) there in
+    let is_open : token_of c.args.self.now.tokens c.args.token ≡ Some (token_in i.slab its) = ap (λ (x : WaitRows). token_of x.tokens c.args.token) (sym c.self.view_is) ∙ held_of_is i c.args.token (Some its) there in
     let free : still_waits (wait_of c.args.self.now.waits c.args.walker) ≡ false = sym c.still_waits.ensures ∙ c.if-still_waits.false in
     let room : is_full (collected c.args.walker c.args.self.now) ≡ false = sym c.is_full_for.ensures ∙ c.if-is_full_for.false in
     rw (free, is_open, room) refl

@@ -5,7 +5,7 @@ use Rattle.am_wait.specs.declared.held.HeldToken.{HeldToken}
 use Rattle.am_wait.specs.Rows.{WaitRows, waiters_of, waiters_in}
 use Rattle.am_wait.specs.Seats.{walkers_at}
 use Rattle.am_wait.specs.Held.{held_of}
-use Rattle.am_wait.proofs.ViewLemmas.{tokens_rise, its_waits, found_open}
+use Rattle.am_wait.proofs.ViewLemmas.{tokens_rise, its_waits, held_of_is}
 use Rattle.am_wait.proofs.waits.Waits.waiters_of.Goals as goal
 
 pub held_of-requires : goal.held_of-requires
@@ -24,12 +24,12 @@ returns-in-Some c =
     let its = c.in-Some.row.now in
     let there : held_of i.tokens.items c.args.token ≡ Some its = ap (λ (tokens : List HeldToken). held_of tokens c.args.token) (sym c.deref.ensures.value) ∙ sym c.held_of.ensures ∙ ap (λ o. option_copied o) c.in-Some.is in
     let same : walkers_at i.slab c.as_slice.result.now ≡ waiters_of c.args.self.now.tokens c.args.token =
-    ap (walkers_at i.slab) c.as_slice.ensures ∙ sym (ap waiters_in (found_open i c.args.token (Some its) there)) ∙ ap (λ (x : WaitRows). waiters_of x.tokens c.args.token) c.self.view_is in
+    ap (walkers_at i.slab) c.as_slice.ensures ∙ sym (ap waiters_in (held_of_is i c.args.token (Some its) there)) ∙ ap (λ (x : WaitRows). waiters_of x.tokens c.args.token) c.self.view_is in
     subst (λ (walkers : List ℕ). IfOk c.walkers_at.result (λ v. v.items ≡ walkers)) same c.walkers_at.ensures
 
 pub returns-in-None : goal.returns-in-None
 returns-in-None c =
     let i = c.self.inside in
     let none : held_of i.tokens.items c.args.token ≡ None = ap (λ (tokens : List HeldToken). held_of tokens c.args.token) (sym c.deref.ensures.value) ∙ sym c.held_of.ensures ∙ ap (λ o. option_copied o) c.in-None.is in
-    let same : waiters_of c.args.self.now.tokens c.args.token ≡ [] = ap (λ (x : WaitRows). waiters_of x.tokens c.args.token) (sym c.self.view_is) ∙ ap waiters_in (found_open i c.args.token None none) in
+    let same : waiters_of c.args.self.now.tokens c.args.token ≡ [] = ap (λ (x : WaitRows). waiters_of x.tokens c.args.token) (sym c.self.view_is) ∙ ap waiters_in (held_of_is i c.args.token None none) in
     c.new.ensures.items ∙ sym same
