@@ -1,10 +1,8 @@
 -- What comes of a packet, by what came of the call.
 use Rattle.std.proofs.Common.{◌≡◌, ℕ}
 use Rattle.std.specs.Prelude.{Result, Ok, Err, IfOk, OnOk, OnErr}
-use Rattle.am_wire.specs.declared.packet.Packet.{Packet}
-use Rattle.am_daemon.specs.declared.fault.DaemonFault.{DaemonFault}
-use Rattle.am_daemon.specs.State.{DaemonState}
-use Rattle.am_daemon.specs.Deliveries.{taken_up, IsTakenUp}
+use Rattle.am_wire.specs.{Packet}
+use Rattle.am_daemon.specs.{DaemonFault, DaemonState, taken_up, IsTakenUp}
 
 pub left_as : (attach : ℕ) (packet : Packet) (old new : DaemonState) (outcome : Result ℕ DaemonFault) →
     IfOk outcome (λ job. job ≡ packet.token) → OnOk outcome (new ≡ taken_up attach packet old) → OnErr outcome (new ≡ old) →

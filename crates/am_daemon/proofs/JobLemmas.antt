@@ -9,12 +9,8 @@ use Rattle.std.proofs.lemmas.Option.{cond_some}
 use Rattle.am_names.proofs.Basics.{equal_by_test, differ_the_other_way}
 use Rattle.am_names.proofs.Cuts.{passes_on}
 use Rattle.am_names.specs.declared.trigger.Trigger.{Trigger}
-use Rattle.am_job.specs.declared.act.Outcome.{Outcome}
-use Rattle.am_job.specs.Job.{JobState, plan_of}
-use Rattle.am_job.specs.Plans.{Plan, Ended, rest_of}
-use Rattle.am_daemon.specs.State.{JobPlan, job_plan}
-use Rattle.am_daemon.specs.Deliveries.{job_of}
-use Rattle.am_daemon.specs.Acts.{walked, is_ended, finished_in, OthersStay}
+use Rattle.am_job.specs.{Outcome, JobState, plan_of, Plan, Ended, rest_of}
+use Rattle.am_daemon.specs.{JobPlan, job_plan, job_of, walked, is_ended, finished_in, OthersStay}
 
 -- a test finds in a list what it finds in what the list is made from
 pub find_mapped : {A B : Type 0} (f : A → B) (test : B → Bool) (xs : List A) → option_map f (find (λ x. test (f x)) xs) ≡ find test (map f xs)

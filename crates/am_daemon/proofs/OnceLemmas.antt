@@ -1,9 +1,8 @@
 -- No file system comes to be there twice.
 use Rattle.std.proofs.Common.{◌≡◌, ℕ, ◌==◌, Bool, true, false, cond, not, List, [], ◌∷◌, ◌++◌, map, filter, refl, sym, subst}
 use Rattle.std.specs.List.{AllByRecursion, IsDistinct}
-use Rattle.am_state.specs.declared.daemon_row.HeldRow.{HeldRow}
-use Rattle.am_state.specs.declared.daemon_row.KnownRow.{KnownRow}
-use Rattle.am_daemon.specs.Attachments.{AreOnce, known_at, held_as}
+use Rattle.am_state.specs.{HeldRow, KnownRow}
+use Rattle.am_daemon.specs.{AreOnce, known_at, held_as}
 
 pub none_once : AreOnce []
 unfolding IsDistinct

@@ -2,12 +2,9 @@
 use Rattle.std.specs.Prelude.{◌≡◌, ℕ, ◌==◌, Bool, false, not, is_some, List, [], ◌∷◌, Option, Some, None, if◌then◌else◌}
 use Rattle.am_names.specs.declared.errno.Errno.{Errno}
 use Rattle.am_names.specs.declared.errno.Errno.TheVariants.{EPERM, EINVAL}
-use Rattle.am_state.specs.declared.daemon_row.RecordRow.{RecordRow}
-use Rattle.am_job.specs.declared.act.Act.{Act}
+use Rattle.am_state.specs.{RecordRow}
+use Rattle.am_job.specs.{Act, Outcome, recorded, next_of, rest_of}
 use Rattle.am_job.specs.declared.act.Act.TheVariants as act
-use Rattle.am_job.specs.declared.act.Outcome.{Outcome}
-use Rattle.am_job.specs.Book.{recorded}
-use Rattle.am_job.specs.Plans.{next_of, rest_of}
 use Rattle.am_daemon.specs.declared.acts.Writing.{Writing}
 use Rattle.am_daemon.specs.Attachments.{holds}
 use Rattle.am_daemon.specs.Deliveries.{job_of}

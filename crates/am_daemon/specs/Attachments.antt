@@ -2,15 +2,13 @@
 use Rattle.std.specs.Prelude.{ℕ, ◌==◌, Bool, ◌&&◌, not, is_some, List, [], ◌∷◌, ◌++◌, filter, find, Option, Some, None, if◌then◌else◌}
 use Rattle.std.specs.List.{list_any, IsDistinct}
 use Rattle.std.specs.Option.{option_map}
-use Rattle.am_names.specs.Path.{same_names}
+use Rattle.am_names.specs.{same_names}
 use Rattle.am_names.specs.declared.errno.Errno.{Errno}
 use Rattle.am_names.specs.declared.errno.Errno.TheVariants.{ENOENT, EEXIST}
 use Rattle.am_names.specs.declared.trigger.Trigger.{Trigger}
-use Rattle.am_state.specs.declared.daemon_row.HeldRow.{HeldRow}
-use Rattle.am_state.specs.declared.daemon_row.KnownRow.{KnownRow}
+use Rattle.am_state.specs.{HeldRow, KnownRow, RecordRow}
 use Rattle.am_state.specs.declared.daemon_row.Record.TheVariants.{Mounted}
-use Rattle.am_state.specs.declared.daemon_row.RecordRow.{RecordRow}
-use Rattle.am_job.specs.Book.{with_record, without_fs}
+use Rattle.am_job.specs.{with_record, without_fs}
 use Rattle.am_daemon.specs.Points.{line_for}
 use Rattle.am_daemon.specs.State.{DaemonState}
 

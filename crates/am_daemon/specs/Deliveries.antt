@@ -2,14 +2,9 @@
 -- pipe").
 use Rattle.std.specs.Prelude.{◌≡◌, ℕ, ◌==◌, Bool, ◌||◌, not, is_some, List, [], ◌∷◌, ◌++◌, Option, Some, None, Result, Ok, Err, find, if◌then◌else◌}
 use Rattle.am_names.specs.declared.trigger.Trigger.{Trigger}
-use Rattle.am_wire.specs.declared.fault.WireFault.{WireFault}
-use Rattle.am_wire.specs.declared.packet.Packet.{Packet}
-use Rattle.am_wire.specs.Format.{IsPacket, FailsFirst}
-use Rattle.am_wire.specs.Said.{said}
-use Rattle.am_state.specs.declared.daemon_row.Record.{Record}
-use Rattle.am_state.specs.declared.daemon_row.RecordRow.{RecordRow}
-use Rattle.am_job.specs.Book.{record_of, recorded}
-use Rattle.am_job.specs.Plans.{Plan, is_reply}
+use Rattle.am_wire.specs.{WireFault, Packet, IsPacket, FailsFirst, fields_of}
+use Rattle.am_state.specs.{Record, RecordRow}
+use Rattle.am_job.specs.{record_of, recorded, Plan, is_reply}
 use Rattle.am_daemon.specs.declared.fault.DaemonFault.{DaemonFault}
 use Rattle.am_daemon.specs.declared.fault.DaemonFault.TheVariants.{Wire, UnknownFs, OldAttach, Busy}
 use Rattle.am_daemon.specs.Attachments.{knows, holds}
@@ -60,7 +55,7 @@ taken_up attach packet d =
 
 -- what bytes are read as: a packet, or the first test that they fail
 abbrev pub IsReadAs : Result Packet WireFault → List ℕ → Type 0
-IsReadAs (Ok packet) bytes = IsPacket (said packet) bytes
+IsReadAs (Ok packet) bytes = IsPacket (fields_of packet) bytes
 IsReadAs (Err fault) bytes = FailsFirst fault bytes
 
 -- the bytes are tested first, and then the packet

@@ -2,7 +2,7 @@
 use Rattle.std.specs.Prelude.{ℕ, List, Option}
 use Rattle.std.specs.Borrow.{Bor}
 use Rattle.std.specs.Option.{option_map}
-use Rattle.am_map.specs.EntryText.{Row}
+use Rattle.am_map.specs.{Row}
 use Rattle.am_master.specs.MasterRow.{MasterRow}
 use Rattle.am_daemon.specs.Points.{Line}
 

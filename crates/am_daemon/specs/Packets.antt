@@ -2,16 +2,13 @@
 use Rattle.std.specs.Prelude.{ℕ, Bool, true, false, List, Option, Some, None}
 use Rattle.std.specs.Option.{option_map}
 use Rattle.std.specs.Result.{result_ok}
-use Rattle.am_names.specs.Name.{name_read}
+use Rattle.am_names.specs.{name_read, TokenKind}
 use Rattle.am_names.specs.declared.trigger.Trigger.{Trigger}
-use Rattle.am_names.specs.declared.row.TokenKind.{TokenKind}
 use Rattle.am_names.specs.declared.row.TokenKind.TheVariants.{Missing, Expire}
-use Rattle.am_wire.specs.declared.packet.Packet.{Packet}
-use Rattle.am_wire.specs.Kind.{is_indirect, token_kind}
-use Rattle.am_state.specs.declared.daemon_row.Record.{Record}
+use Rattle.am_wire.specs.{Packet, is_indirect, token_kind}
+use Rattle.am_state.specs.{Record}
 use Rattle.am_state.specs.declared.daemon_row.Record.TheVariants.{Mounting, Mounted, Unmounting}
-use Rattle.am_job.specs.Book.{record_of}
-use Rattle.am_job.specs.Plans.{Plan, plan_for}
+use Rattle.am_job.specs.{record_of, Plan, plan_for}
 use Rattle.am_daemon.specs.Points.{entry_of}
 use Rattle.am_daemon.specs.State.{DaemonState}
 

@@ -3,15 +3,14 @@
 use Rattle.std.specs.Prelude.{ℕ, ◌==◌, Bool, true, false, is_some, List, [], Option, Some, None, find, slice_get, zip}
 use Rattle.std.specs.List.{enumerate_from}
 use Rattle.std.specs.Option.{option_map, option_map_or, option_or}
-use Rattle.am_names.specs.Path.{same_names}
+use Rattle.am_names.specs.{same_names}
 use Rattle.am_names.specs.declared.trigger.Trigger.{Trigger}
-use Rattle.am_map.specs.EntryText.{EntryText, Row}
-use Rattle.am_map.specs.LookUp.{row_for, entry_for}
-use Rattle.am_map.specs.Words.{key_text}
+use Rattle.am_map.specs.EntryText.{EntryText}
+use Rattle.am_map.specs.{Row, row_for, entry_for, key_text}
 use Rattle.am_master.specs.declared.point.Point.{Point as LinePoint}
 use Rattle.am_master.specs.declared.point.Point.TheVariants.{Direct, Indirect}
 use Rattle.am_master.specs.MasterRow.{MasterRow}
-use Rattle.am_state.specs.declared.daemon_row.KnownRow.{KnownRow}
+use Rattle.am_state.specs.{KnownRow}
 use Rattle.am_daemon.specs.declared.served.Point.{Point}
 use Rattle.am_daemon.specs.State.{DaemonState}
 

@@ -1,8 +1,8 @@
 -- What the daemon writes down as it takes up a packet (autofs.rst, "Communicating with autofs: the
 -- event pipe"; docs/DECISIONS.md, "The daemon records before it replies").
 use Rattle.std.specs.Prelude.{Option, Some, None, if◌then◌else◌}
-use Rattle.am_wire.specs.declared.packet.Packet.{Packet}
-use Rattle.am_job.specs.Plans.{is_reply}
+use Rattle.am_wire.specs.{Packet}
+use Rattle.am_job.specs.{is_reply}
 use Rattle.am_daemon.specs.declared.acts.Writing.{Writing}
 use Rattle.am_daemon.specs.Packets.{trigger_of, plan_of_packet, pending_of}
 use Rattle.am_daemon.specs.State.{DaemonState}

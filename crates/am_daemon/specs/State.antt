@@ -2,13 +2,10 @@
 -- an own choice, docs/DECISIONS.md, "The daemon records before it replies").
 use Rattle.std.specs.Prelude.{ℕ, List, [], map}
 use Rattle.am_names.specs.declared.trigger.Trigger.{Trigger}
-use Rattle.am_map.specs.EntryText.{Row}
+use Rattle.am_map.specs.{Row}
 use Rattle.am_master.specs.MasterRow.{MasterRow}
-use Rattle.am_state.specs.declared.daemon_row.KnownRow.{KnownRow}
-use Rattle.am_state.specs.declared.daemon_row.HeldRow.{HeldRow}
-use Rattle.am_state.specs.declared.daemon_row.RecordRow.{RecordRow}
-use Rattle.am_job.specs.Job.{JobState, plan_of}
-use Rattle.am_job.specs.Plans.{Plan}
+use Rattle.am_state.specs.{KnownRow, HeldRow, RecordRow}
+use Rattle.am_job.specs.{JobState, plan_of, Plan}
 
 -- a job by the acts that it has left
 pub record JobPlan : Type 0 where

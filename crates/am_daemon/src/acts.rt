@@ -2,8 +2,8 @@
 
 ghost use Rattle.std.specs.Prelude.{◌≡◌, ◌==◌, ◌<◌, false, map, set, get_or, find, position, length, IsOk, IfSome, OnOk, OnErr, None, Some};
 ghost use Rattle.std.specs.Option.{option_map, option_copied};
-ghost use Rattle.am_names.specs.Errno.{RefusedAs, RefusedOnlyAs};
-ghost use Rattle.am_job.specs.Book.{IsRecorded};
+ghost use Rattle.am_names.specs.{RefusedAs, RefusedOnlyAs};
+ghost use Rattle.am_job.specs.{IsRecorded};
 ghost use Rattle.am_daemon.specs.State.{JobPlan, job_plan, rows_of};
 ghost use Rattle.am_daemon.specs.Deliveries.{job_of};
 ghost use Rattle.am_daemon.specs.Acts.{next_act_of, writes, writing_of, takes_memory, finish_refusal, book_after, walked, is_ended, finished_in, finished, OthersStay};

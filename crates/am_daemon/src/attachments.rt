@@ -1,7 +1,7 @@
 //! What the daemon is attached to.
 
 ghost use Rattle.std.specs.Prelude.{◌≡◌, ◌<◌, ◌≤◌, ◌+◌, ◌==◌, not, map, filter, length, vec_len, vec_capacity, None, OnOk, OnErr};
-ghost use Rattle.am_names.specs.Errno.{RefusedAs};
+ghost use Rattle.am_names.specs.{RefusedAs};
 ghost use Rattle.am_daemon.specs.State.{rows_of};
 ghost use Rattle.am_daemon.specs.Attachments.{is_attached, knows, attach_held, holds, attach_refusal, AreOnce, known_at, held_as, with_attachment, dead, reattach_refusal, reattached, all_mounted};
 

@@ -1,7 +1,7 @@
 //! The daemon as a value.
 
 ghost use Rattle.std.specs.Prelude.{◌≡◌};
-ghost use Rattle.am_job.specs.Book.{record_of};
+ghost use Rattle.am_job.specs.{record_of};
 ghost use Rattle.am_daemon.specs.State.{initial, rows_of};
 
 use am_job::{Book, Job};
@@ -30,7 +30,7 @@ impl Model for Daemon {
 
     ghost Value = { DaemonTable };
 
-    ghost use Rattle.am_daemon.specs.Inside.{table_of, IsDaemon};
+    ghost use Rattle.am_daemon.specs.View.{table_of, IsDaemon};
 
     ghost view = { table_of };
 

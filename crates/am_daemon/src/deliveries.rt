@@ -1,11 +1,8 @@
 //! The daemon takes packets from the pipe.
 
 ghost use Rattle.std.specs.Prelude.{◌≡◌, ◌≤◌, ◌⊎◌, ◌∷◌, ◌++◌, [], false, IsTrue, None, IfOk, OnOk, OnErr};
-ghost use Rattle.am_names.specs.Errno.{RefusedAs};
-ghost use Rattle.am_job.specs.Book.{IsRecorded};
-ghost use Rattle.am_job.specs.Job.{plan_of};
-ghost use Rattle.am_job.specs.Laws.{AcknowledgesLast, RecordsFirst};
-ghost use Rattle.am_job.specs.Plans.{is_reply};
+ghost use Rattle.am_names.specs.{RefusedAs};
+ghost use Rattle.am_job.specs.{IsRecorded, plan_of, AcknowledgesLast, RecordsFirst, is_reply};
 ghost use Rattle.am_daemon.specs.State.{job_plan, rows_of};
 ghost use Rattle.am_daemon.specs.Faults.{FaultsAs};
 ghost use Rattle.am_daemon.specs.Packets.{trigger_of, mounted_for, plan_of_packet, pending_of, is_pending};

@@ -2,8 +2,8 @@
 
 ghost use Rattle.std.specs.Prelude.{◌≡◌, ◌==◌, [], Some, IfOk, IfSome, find};
 ghost use Rattle.std.specs.Option.{option_map, option_map_or, option_copied};
-ghost use Rattle.am_names.specs.Path.{IsCanonical, names_of};
-ghost use Rattle.am_map.specs.LookUp.{entry_for};
+ghost use Rattle.am_names.specs.{IsCanonical, names_of};
+ghost use Rattle.am_map.specs.{entry_for};
 ghost use Rattle.am_daemon.specs.Points.{is_direct, has_point, has_key, lines_of, line_for, point_of, line_timeout, rows_at, path_of, key_of, entry_at, entry_of};
 ghost use Rattle.am_daemon.specs.State.{rows_of};
 ghost use Rattle.am_daemon.specs.Lent.{line_in};

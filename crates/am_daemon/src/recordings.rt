@@ -1,7 +1,7 @@
 //! What the daemon writes down as it takes up a packet.
 
 ghost use Rattle.std.specs.Prelude.{◌≡◌};
-ghost use Rattle.am_job.specs.Plans.{is_reply};
+ghost use Rattle.am_job.specs.{is_reply};
 ghost use Rattle.am_daemon.specs.Packets.{plan_of_packet};
 ghost use Rattle.am_daemon.specs.Recordings.{recording_of};
 ghost use Rattle.am_daemon.specs.State.{rows_of};

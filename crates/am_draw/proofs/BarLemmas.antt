@@ -1,9 +1,8 @@
 -- One observation more changes what lasts.
 use Rattle.std.proofs.Common.{◌≡◌, ◌<◌, ◌+◌, ℕ, List, [], ◌∷◌, ◌++◌, length, take, get_or, refl, sym, ap, ◌∙◌}
 use Rattle.std.proofs.lemmas.List.{take_more}
-use Rattle.am_state.specs.declared.obs.Obs.{Obs}
-use Rattle.am_draw.specs.declared.bars.Lasting.{Lasting}
-use Rattle.am_draw.specs.Bars.{changed, seen_behind}
+use Rattle.am_state.specs.{Obs}
+use Rattle.am_draw.specs.{Lasting, changed, seen_behind}
 
 pub behind_push : (lasting : Lasting) (seen : List Obs) (obs : Obs) → seen_behind lasting (seen ++ obs ∷ []) ≡ changed (seen_behind lasting seen) obs
 behind_push lasting [] obs = refl

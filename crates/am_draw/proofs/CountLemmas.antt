@@ -1,13 +1,9 @@
 -- The events of a script are counted.
 use Rattle.std.proofs.Common.{◌≡◌, ◌≢◌, ◌⊎◌, ℕ, ◌+◌, List, [], ◌∷◌, ◌++◌, length, Option, Some, Result, Ok, Err, IfOk, IfErr, refl, sym, ap, ◌∙◌, inl, inr, append_assoc, append-nil}
 use Rattle.std.proofs.lemmas.List.{length-append}
-use Rattle.am_script.specs.declared.fault.ScriptFault.{ScriptFault}
-use Rattle.am_script.specs.declared.fault.ScriptFaultKind.{ScriptFaultKind}
+use Rattle.am_script.specs.{ScriptFault, ScriptFaultKind, NoNext, Numbered, Told, told_by, only_fault, behind}
 use Rattle.am_script.specs.declared.fault.ScriptFaultKind.TheVariants as kinds
-use Rattle.am_script.specs.Opened.{NoNext}
-use Rattle.am_script.specs.Script.{Numbered, Told, told_by, only_fault}
-use Rattle.am_script.specs.Playing.{behind}
-use Rattle.am_draw.specs.Drawn.{IsAtEvent, NotCounted, counted_to}
+use Rattle.am_draw.specs.{IsAtEvent, NotCounted, counted_to}
 
 -- of all events these are left, and those before are counted
 pub record Counting (all left : Told) (events : ℕ) : Type 0 where

@@ -2,18 +2,14 @@
 use Rattle.std.proofs.Common.{◌≡◌, ℕ, List, length, Option, Some, None, Result, Ok, Err, OnOk, IfOk, IfErr, IfNone, IfSome, refl, sym, ◌∙◌, subst, inl, inr}
 use Rattle.std.proofs.KnownBytes.{Appends-nil}
 use Rattle.std.specs.Io.KnownBytes.{Consumes, IsAtEnd}
-use Rattle.am_machine.specs.State.{State, Opening, opening_in, opening_of}
-use Rattle.am_script.specs.declared.fault.ScriptFault.{ScriptFault}
-use Rattle.am_script.specs.declared.fault.ScriptFaultKind.{ScriptFaultKind}
-use Rattle.am_script.specs.declared.play.Summary.{Summary}
+use Rattle.am_machine.specs.State.{State}
+use Rattle.am_machine.specs.{Setup, setup_of, initial_state_of}
+use Rattle.am_script.specs.{ScriptFault, ScriptFaultKind, Summary, lines_of, OpenedAs, NotOpened, IsReadFault, broken, played, Told, script_of}
 use Rattle.am_script.specs.declared.visit.Opened.{Opened}
-use Rattle.am_script.specs.Lines.{lines_of}
-use Rattle.am_script.specs.Opened.{OpenedAs, NotOpened}
-use Rattle.am_script.specs.Read.{IsReadFault, broken, played}
-use Rattle.am_script.specs.Script.{Script, Told, script_of}
+use Rattle.am_script.specs.Script.{Script}
 use Rattle.am_views.proofs.TraceInputs.{was_read, head_stops, told_in}
-use Rattle.am_draw.specs.Drawn.{AllDrawn, DrawStops, DrawnFrom, DrawsInput, StopsDrawing}
-use Rattle.am_world.specs.Table.{state_of}
+use Rattle.am_draw.specs.{AllDrawn, DrawStops, DrawnFrom, DrawsInput, StopsDrawing}
+use Rattle.am_world.specs.Capacity.{state_of}
 
 -- ---- what was read
 
@@ -38,9 +34,9 @@ draws_head first last ro rn wo text broke fault read end kind h = record {
 
 -- ---- a head with its events
 
-all_from : (first last : ℕ) → (opening : Option Opening) (told : Told) (opened : Opened) (wo wn : Option (List ℕ)) (summary : Summary) → opening ≡ Some (opening_in (state_of opened.world)) → state_of opened.world ≡ opening_of (opening_in (state_of opened.world)) → told ≡ told_in opened → AllDrawn first last (state_of opened.world) (told_in opened) wo wn summary → DrawnFrom first last opening told wo wn summary
+all_from : (first last : ℕ) → (opening : Option Setup) (told : Told) (opened : Opened) (wo wn : Option (List ℕ)) (summary : Summary) → opening ≡ Some (setup_of (state_of opened.world)) → state_of opened.world ≡ initial_state_of (setup_of (state_of opened.world)) → told ≡ told_in opened → AllDrawn first last (state_of opened.world) (told_in opened) wo wn summary → DrawnFrom first last opening told wo wn summary
 all_from first last opening told opened wo wn summary e world f all =
-    subst (λ (o : Option Opening). DrawnFrom first last o told wo wn summary) (sym e)
+    subst (λ (o : Option Setup). DrawnFrom first last o told wo wn summary) (sym e)
     (subst (λ (s : State). AllDrawn first last s told wo wn summary) world
     (subst (λ (t : Told). AllDrawn first last (state_of opened.world) t wo wn summary) (sym f) all))
 
@@ -56,7 +52,7 @@ stops_opened first last ro rn wo wn text broke opened (Err fault) read end kind 
   broke = broke;
   read = was_read ro rn text broke read end kind;
   stopped = inr (record {
-    opening = opening_in (state_of opened.world);
+    opening = setup_of (state_of opened.world);
     begins = h.opening;
     stops =
         subst (λ (s : State). DrawStops first last s (script_of broke text).told wo wn fault) h.world

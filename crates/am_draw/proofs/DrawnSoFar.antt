@@ -3,25 +3,14 @@ use Rattle.std.proofs.Common.{◌≡◌, ◌⊎◌, ◌+◌, ℕ, Bool, cond, Li
 use Rattle.std.specs.Io.KnownBytes.{Appends}
 use Rattle.std.proofs.lemmas.List.{map_push, append-nil, length-append}
 use Rattle.am_machine.specs.State.{State}
-use Rattle.am_script.specs.declared.fault.ScriptFault.{ScriptFault}
+use Rattle.am_script.specs.{ScriptFault, Output, Summary, is_refused, fault_at, NoRoomFor, NoNext, Owed, owed_by, bytes_of, IsLost, Stands, Numbered, Told, told_by, only_fault, IsWhole, IsShort, behind}
 use Rattle.am_script.specs.declared.fault.ScriptFaultKind.TheVariants.{NoMemory, WriteFailed}
-use Rattle.am_script.specs.declared.output.Output.{Output}
-use Rattle.am_script.specs.declared.play.Summary.{Summary}
-use Rattle.am_script.specs.Answers.{is_refused}
-use Rattle.am_script.specs.Fault.{fault_at}
-use Rattle.am_script.specs.Opened.{NoRoomFor, NoNext}
-use Rattle.am_script.specs.Outputs.{Owed, owed_by, bytes_of, IsLost, Stands}
-use Rattle.am_script.specs.Script.{Numbered, Told, told_by, only_fault}
-use Rattle.am_script.specs.Turns.{IsWhole, IsShort}
-use Rattle.am_script.specs.Playing.{behind}
 use Rattle.am_script.proofs.Answering.{count_more}
 use Rattle.am_script.proofs.Closing.{lost_by}
 use Rattle.am_script.proofs.OwedLemmas.{stands_new}
-use Rattle.am_views.specs.Traced.{one_more}
-use Rattle.am_draw.specs.declared.bars.Lasting.{Lasting}
-use Rattle.am_draw.specs.declared.part.Part.{Part}
-use Rattle.am_draw.specs.Bars.{nothing_lasts, behind as lasts_behind}
-use Rattle.am_draw.specs.Drawn.{Viewed, asked_in, answers_in, Views, ViewedRun, event_piece, event_pieces, tail_pieces, pieces_of, picture, part_in, tail_behind, AllDrawn, DrawnToLoss, DrawStops, DrawEnds, IsDrawn, Finishes}
+use Rattle.am_views.specs.{one_more}
+use Rattle.am_draw.specs.{Lasting, Part, nothing_lasts, Viewed, asked_in, answers_in, Views, ViewedRun, event_piece, event_pieces, tail_pieces, pieces_of, picture, part_in, tail_behind, AllDrawn, DrawnToLoss, DrawStops, DrawEnds, IsDrawn, Finishes}
+use Rattle.am_draw.specs.Bars.{behind as lasts_behind}
 use Rattle.am_draw.proofs.LostPieces.{owed_for, owed_more, owed_one, bytes_for, within_some}
 use Rattle.am_draw.proofs.PieceLemmas.{lasting_behind, lasting_push, pieces_push, EndsAt, ends_push, tail_owed}
 

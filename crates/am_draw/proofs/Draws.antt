@@ -1,26 +1,13 @@
 -- What a step adds to the trace is what is drawn of its event.
 use Rattle.std.proofs.Common.{◌≡◌, ℕ, Bool, true, false, List, [], ◌++◌, length, drop, Option, Result, refl, ap, ◌∙◌, subst, if◌then◌else◌}
 use Rattle.std.specs.Bool.{OnTrue}
-use Rattle.am_names.specs.declared.row.MountRow.{MountRow}
-use Rattle.am_machine.specs.declared.event.Event.{Event}
-use Rattle.am_machine.specs.declared.answer.Answer.{Answer}
+use Rattle.am_names.specs.{MountRow}
+use Rattle.am_machine.specs.{Event, Answer, Step}
 use Rattle.am_machine.specs.State.{State}
-use Rattle.am_machine.specs.Machine.{Step}
-use Rattle.am_script.specs.declared.fault.ScriptFault.{ScriptFault}
-use Rattle.am_script.specs.declared.output.Output.{Output}
-use Rattle.am_script.specs.declared.play.Summary.{Summary}
-use Rattle.am_script.specs.Answers.{is_refused}
-use Rattle.am_script.specs.Outputs.{owed_by, Stands, Settles, Puts}
-use Rattle.am_script.specs.Turns.{Closes}
-use Rattle.am_state.specs.declared.obs.Obs.{Obs}
+use Rattle.am_script.specs.{ScriptFault, Output, Summary, is_refused, owed_by, Stands, Settles, Puts, Closes}
+use Rattle.am_state.specs.{Obs}
 use Rattle.am_views.proofs.Shows.{seen_is}
-use Rattle.am_draw.specs.declared.bars.Lasting.{Lasting}
-use Rattle.am_draw.specs.declared.part.Part.{Part}
-use Rattle.am_draw.specs.Bars.{behind}
-use Rattle.am_draw.specs.Drawn.{head_in, drawn_for, tail_behind, IsDrawn, Finishes}
-use Rattle.am_draw.specs.Parts.{is_drawn, row_y}
-use Rattle.am_draw.specs.Rows.{row_text, sides_of}
-use Rattle.am_draw.specs.Trees.{rows_before}
+use Rattle.am_draw.specs.{Lasting, Part, behind, head_in, drawn_for, tail_behind, IsDrawn, Finishes, is_drawn, row_y, row_text, sides_of, rows_before}
 
 -- of an event that isn't drawn the mounts before it don't matter
 row_same : (b : Bool) (rows kept after : List MountRow) (y : ℕ) (lasting : Lasting) (event : Event) (seen : List Obs) (sides : List ℕ) → OnTrue b (rows ≡ kept) → (if b then row_text rows after y lasting event seen sides else []) ≡ (if b then row_text kept after y lasting event seen sides else [])

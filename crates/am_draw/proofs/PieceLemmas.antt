@@ -2,12 +2,8 @@
 use Rattle.std.proofs.Common.{◌≡◌, ℕ, suc, ◌+◌, List, [], ◌∷◌, ◌++◌, length, refl, sym, ap, ◌∙◌, add-zero, arith}
 use Rattle.std.specs.Prelude.{⊤}
 use Rattle.std.proofs.lemmas.Bool.{lt-ltb}
-use Rattle.am_script.specs.Outputs.{owed_by}
-use Rattle.am_draw.specs.declared.bars.Lasting.{Lasting}
-use Rattle.am_draw.specs.declared.part.Part.{Part}
-use Rattle.am_draw.specs.Bars.{behind}
-use Rattle.am_draw.specs.Head.{tail_text}
-use Rattle.am_draw.specs.Drawn.{Viewed, Piece, event_piece, event_pieces, tail_pieces, tail_behind}
+use Rattle.am_script.specs.{owed_by}
+use Rattle.am_draw.specs.{Lasting, Part, behind, tail_text, Viewed, Piece, event_piece, event_pieces, tail_pieces, tail_behind}
 use Rattle.am_draw.proofs.LostPieces.{owed_for, owed_one}
 
 -- what lasts behind these events

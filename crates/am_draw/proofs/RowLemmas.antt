@@ -1,14 +1,9 @@
 -- One lane more, and one observation more, is drawn.
 use Rattle.std.proofs.Common.{◌≡◌, ◌<◌, ℕ, ◌+◌, List, [], ◌∷◌, ◌++◌, length, take, get_or, Option, sym, ap, ◌∙◌, append_assoc, append-nil, length-take-le, arith}
 use Rattle.std.proofs.lemmas.List.{take_more}
-use Rattle.am_names.specs.declared.row.MountRow.{MountRow}
-use Rattle.am_state.specs.declared.obs.Obs.{Obs}
-use Rattle.am_draw.specs.declared.bars.Holder.{Holder}
-use Rattle.am_draw.specs.declared.bars.Lasting.{Lasting}
-use Rattle.am_draw.specs.declared.marks.Lanes.{Lanes}
-use Rattle.am_draw.specs.Bars.{changed, seen_behind}
-use Rattle.am_draw.specs.Marks.{lane_x}
-use Rattle.am_draw.specs.Rows.{lane_half, lanes_half, obs_marks, seen_marks}
+use Rattle.am_names.specs.{MountRow}
+use Rattle.am_state.specs.{Obs}
+use Rattle.am_draw.specs.{Holder, Lasting, Lanes, changed, seen_behind, lane_x, lane_half, lanes_half, obs_marks, seen_marks}
 
 lanes_push : (lanes : Lanes) (y number : ℕ) (before : List (Option Holder)) (lane : Option Holder) → lanes_half lanes y number (before ++ lane ∷ []) ≡ lanes_half lanes y number before ++ lane_half lane (lane_x lanes (number + length before)) y
 lanes_push lanes y number [] lane =

@@ -2,10 +2,10 @@
 -- choice (docs/DECISIONS.md, "A picture has a fixed width").
 use Rattle.std.specs.Prelude.{ℕ, ◌-◌, Bool, true, false, ◌==◌, List, [], ◌∷◌, length, set, map, replicate, Option, None, Some, if◌then◌else◌}
 use Rattle.std.specs.List.{position, list_any}
-use Rattle.am_wire.specs.declared.kind.Kind.{Kind}
-use Rattle.am_wire.specs.declared.kind.Kind.TheVariants.{MissingIndirect, ExpireIndirect, MissingDirect, ExpireDirect}
-use Rattle.am_state.specs.declared.obs.Obs.{Obs}
-use Rattle.am_machine.specs.declared.event.Event.{Event}
+use Rattle.am_wire.specs.declared.packet_type.PacketType.{PacketType}
+use Rattle.am_wire.specs.declared.packet_type.PacketType.TheVariants.{MissingIndirect, ExpireIndirect, MissingDirect, ExpireDirect}
+use Rattle.am_state.specs.{Obs}
+use Rattle.am_machine.specs.{Event}
 use Rattle.am_machine.specs.declared.event.Event.TheVariants as events
 use Rattle.am_state.specs.declared.obs.Obs.TheVariants as seen
 use Rattle.am_draw.specs.declared.bars.Look.{Look}
@@ -90,7 +90,7 @@ catatonic_lane fs (Some holder) = Some (record holder { look = look_in fs holder
 -- ---- what an observation changes
 
 -- how an open token looks
-abbrev pub token_look : Kind → ℕ → Look
+abbrev pub token_look : PacketType → ℕ → Look
 token_look MissingIndirect fs = Missing fs
 token_look ExpireIndirect fs = Expire fs
 token_look MissingDirect fs = Missing fs

@@ -3,26 +3,14 @@
 use Rattle.std.specs.Prelude.{◌≡◌, ◌⊎◌, ◌<◌, ℕ, ◌+◌, ◌==◌, Bool, nat_lt, List, [], ◌∷◌, ◌++◌, map, length, take, count_by, Option, None, Some, Result, Ok, Err, if◌then◌else◌}
 use Rattle.std.specs.List.{flat_map}
 use Rattle.std.specs.Io.KnownBytes.{Appends, Consumes, IsAtEnd}
-use Rattle.am_names.specs.declared.row.MountRow.{MountRow}
-use Rattle.am_machine.specs.State.{State, Opening, opening_of}
-use Rattle.am_machine.specs.declared.answer.Answer.{Answer}
-use Rattle.am_machine.specs.declared.event.Event.{Event}
-use Rattle.am_machine.specs.Machine.{Step}
-use Rattle.am_state.specs.declared.obs.Obs.{Obs}
-use Rattle.am_script.specs.declared.fault.ScriptFault.{ScriptFault}
-use Rattle.am_script.specs.declared.fault.ScriptFaultKind.{ScriptFaultKind}
+use Rattle.am_names.specs.{MountRow}
+use Rattle.am_machine.specs.State.{State}
+use Rattle.am_machine.specs.{Setup, initial_state_of, Answer, Event, Step}
+use Rattle.am_state.specs.{Obs}
+use Rattle.am_script.specs.{ScriptFault, ScriptFaultKind, Output, Summary, is_refused, lines_of, Owed, owed_by, Stands, PutsOut, NothingPlayed, WasRead, played, Numbered, Told, script_of, fault_at, IsWhole, IsShort}
 use Rattle.am_script.specs.declared.fault.ScriptFaultKind.TheVariants.{NoMemory, WriteFailed}
-use Rattle.am_script.specs.declared.output.Output.{Output}
-use Rattle.am_script.specs.declared.play.Summary.{Summary}
-use Rattle.am_script.specs.Answers.{is_refused}
-use Rattle.am_script.specs.Lines.{lines_of}
-use Rattle.am_script.specs.Outputs.{Owed, owed_by, Stands, PutsOut}
-use Rattle.am_script.specs.Played.{NothingPlayed}
-use Rattle.am_script.specs.Read.{WasRead, played}
-use Rattle.am_script.specs.Script.{Numbered, Told, Script, script_of}
-use Rattle.am_script.specs.Fault.{fault_at}
-use Rattle.am_script.specs.Turns.{IsWhole, IsShort}
-use Rattle.am_views.specs.Traced.{HeadStops}
+use Rattle.am_script.specs.Script.{Script}
+use Rattle.am_views.specs.{HeadStops}
 use Rattle.am_draw.specs.declared.bars.Lasting.{Lasting}
 use Rattle.am_draw.specs.declared.part.Part.{Part}
 use Rattle.am_draw.specs.Bars.{behind, nothing_lasts}
@@ -205,16 +193,16 @@ DrawEnds first last start told old new (Err fault) = DrawStops first last start 
 -- ---- any script
 
 -- all events are drawn where there is a world; where there is none, nothing is written
-abbrev pub DrawnFrom : ℕ → ℕ → Option Opening → Told → Option (List ℕ) → Option (List ℕ) → Summary → Type 0
+abbrev pub DrawnFrom : ℕ → ℕ → Option Setup → Told → Option (List ℕ) → Option (List ℕ) → Summary → Type 0
 DrawnFrom first last None told old new summary = NothingPlayed told old new summary
 DrawnFrom first last (Some opening) told old new summary =
-    AllDrawn first last (opening_of opening) told old new summary
+    AllDrawn first last (initial_state_of opening) told old new summary
 
 -- the script has a world, and its picture stops
 pub record EventsStop (first last : ℕ) (script : Script) (old new : Option (List ℕ)) (fault : ScriptFault) : Type 0 where
-  pub opening : Opening
+  pub opening : Setup
   pub begins : script.opening ≡ Some opening
-  pub stops : DrawStops first last (opening_of opening) script.told old new fault
+  pub stops : DrawStops first last (initial_state_of opening) script.told old new fault
 
 -- ---- with a reader
 

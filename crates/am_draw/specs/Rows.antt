@@ -1,18 +1,16 @@
 -- The row of an event: own choice (docs/FORMATS.md, "Pictures").
 use Rattle.std.specs.Prelude.{ℕ, ◌+◌, ◌-◌, Bool, List, [], ◌∷◌, ◌++◌, codes, decimal, Option, None, Some, if◌then◌else◌}
-use Rattle.am_names.specs.declared.row.MountRow.{MountRow}
-use Rattle.am_names.specs.declared.trigger.Status.{Status}
+use Rattle.am_names.specs.{MountRow, Status}
 use Rattle.am_names.specs.declared.trigger.Status.TheVariants.{Ready, Fail}
-use Rattle.am_wire.specs.declared.kind.Kind.{Kind}
-use Rattle.am_wire.specs.declared.kind.Kind.TheVariants.{MissingIndirect, ExpireIndirect, MissingDirect, ExpireDirect}
-use Rattle.am_wire.specs.declared.packet.Packet.{Packet}
-use Rattle.am_state.specs.declared.obs.Obs.{Obs}
+use Rattle.am_wire.specs.declared.packet_type.PacketType.{PacketType}
+use Rattle.am_wire.specs.declared.packet_type.PacketType.TheVariants.{MissingIndirect, ExpireIndirect, MissingDirect, ExpireDirect}
+use Rattle.am_wire.specs.{Packet}
+use Rattle.am_state.specs.{Obs}
 use Rattle.am_state.specs.declared.obs.Obs.TheVariants as seen
-use Rattle.am_machine.specs.declared.answer.Answer.{Answer}
-use Rattle.am_machine.specs.declared.event.Event.{Event}
+use Rattle.am_machine.specs.{Answer, Event}
 use Rattle.am_machine.specs.declared.event.Event.TheVariants as events
-use Rattle.am_script.specs.Answers.{answer_text, entry_text, is_refused}
-use Rattle.am_views.specs.EventText.{event_text}
+use Rattle.am_script.specs.{answer_text, entry_text, is_refused}
+use Rattle.am_views.specs.{event_text}
 use Rattle.am_draw.specs.declared.bars.Look.{Look}
 use Rattle.am_draw.specs.declared.bars.Look.TheVariants.{Missing, Expire, Ended, Waits, Inside, Idle}
 use Rattle.am_draw.specs.declared.bars.Holder.{Holder}
@@ -116,7 +114,7 @@ actor_marks lasting event = administrator_mark
 -- ---- what is seen
 
 -- an expiry is told by the word too
-abbrev pub kind_words : Kind → List ℕ
+abbrev pub kind_words : PacketType → List ℕ
 kind_words MissingIndirect = []
 kind_words ExpireIndirect = codes "expire "
 kind_words MissingDirect = []

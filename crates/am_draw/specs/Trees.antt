@@ -2,16 +2,15 @@
 -- a tree, and has a lane. Own choice (docs/FORMATS.md, "Pictures").
 use Rattle.std.specs.Prelude.{ℕ, ◌+◌, ◌*◌, Bool, true, false, min, nat_lt, List, [], ◌∷◌, ◌++◌, length, take, slice_get, codes, decimal, Option, None, Some, if◌then◌else◌}
 use Rattle.std.specs.List.{flat_map}
-use Rattle.am_names.specs.declared.row.MountRow.{MountRow}
-use Rattle.am_names.specs.declared.row.Position.{Position}
-use Rattle.am_daemon.specs.Acts.{next_act_of}
-use Rattle.am_job.specs.declared.act.Act.{Act}
+use Rattle.am_names.specs.{MountRow, Position}
+use Rattle.am_daemon.specs.{next_act_of}
+use Rattle.am_job.specs.{Act}
 use Rattle.am_job.specs.declared.act.Act.TheVariants as acts
-use Rattle.am_machine.specs.declared.event.Event.{Event}
+use Rattle.am_machine.specs.{Event}
 use Rattle.am_machine.specs.declared.event.Event.TheVariants as events
 use Rattle.am_machine.specs.State.{State}
-use Rattle.am_mount.specs.Rows.{mount_row}
-use Rattle.am_script.specs.Answers.{place_text}
+use Rattle.am_mount.specs.{mount_row}
+use Rattle.am_script.specs.{place_text}
 use Rattle.am_draw.specs.Marks.{stamp, label}
 use Rattle.am_draw.specs.Words.{words}
 

@@ -5,7 +5,7 @@ ghost use Rattle.std.specs.List.{position, list_any};
 ghost use Rattle.am_draw.specs.Bars.{is_of, is_over, is_free, or_last, lane_of, free_lane, lane_for, own_or_free, placed, sighted, answered_lane, look_behind, look_in, catatonic_lane, token_look, with_walker, changed, seen_behind, with_sighted, acted, behind, nothing_lasts};
 
 use am_names::{FsId, Token, WalkerId};
-use am_wire::Kind;
+use am_wire::PacketType;
 use am_world::{Event, Obs};
 
 /// How the bar of a token or a walker looks.
@@ -197,14 +197,14 @@ fn end_tokens_of(lanes: &mut [Option<Holder>], fs: FsId)
     }
 }
 
-fn token_look(kind: Kind, fs: FsId) -> Look
+fn token_look(kind: PacketType, fs: FsId) -> Look
     ensures { result ≡ token_look kind fs }
 {
     match kind {
-        Kind::MissingIndirect => Look::Missing { fs },
-        Kind::ExpireIndirect => Look::Expire { fs },
-        Kind::MissingDirect => Look::Missing { fs },
-        Kind::ExpireDirect => Look::Expire { fs },
+        PacketType::MissingIndirect => Look::Missing { fs },
+        PacketType::ExpireIndirect => Look::Expire { fs },
+        PacketType::MissingDirect => Look::Missing { fs },
+        PacketType::ExpireDirect => Look::Expire { fs },
     }
 }
 

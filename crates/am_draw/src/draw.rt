@@ -1,10 +1,8 @@
 //! The picture of a script is written.
 
 ghost use Rattle.std.specs.Prelude.{◌≡◌, ◌+◌, ◌-◌, ◌<◌, ◌≤◌, ◌^◌, ℕ, length, drop, option_copied, None, IfOk, IfErr, OnOk, OnErr};
-ghost use Rattle.am_script.specs.Lines.{lines_in, size_in};
-ghost use Rattle.am_script.specs.Outputs.{Puts};
-ghost use Rattle.am_script.specs.Script.{events_from};
-ghost use Rattle.am_world.specs.Table.{state_of};
+ghost use Rattle.am_script.specs.{lines_in, size_in, Puts, events_from};
+ghost use Rattle.am_world.specs.Capacity.{state_of};
 ghost use Rattle.am_draw.specs.Drawn.{part_in, head_in, row_in, drawn_for, tail_behind, counted_to, AllDrawn, DrawStops, DrawEnds, DrawsInput, StopsDrawing, NotCounted, IsDrawn, IsUndrawn, Finishes};
 ghost use Rattle.am_draw.specs.Parts.{most_rows};
 ghost use Rattle.am_draw.specs.Sides.{sides_said};

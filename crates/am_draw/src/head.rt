@@ -1,7 +1,7 @@
 //! What stands before the rows of a picture.
 
 ghost use Rattle.std.specs.Prelude.{◌≡◌, ◌≤◌, codes};
-ghost use Rattle.am_script.specs.Outputs.{Puts};
+ghost use Rattle.am_script.specs.{Puts};
 ghost use Rattle.am_draw.specs.Head.{height, size_text, ground, count_words, head_text};
 ghost use Rattle.am_draw.specs.Look.{look_text};
 ghost use Rattle.am_draw.specs.Marks.{label};

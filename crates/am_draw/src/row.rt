@@ -1,8 +1,7 @@
 //! The marks in the row of an event.
 
 ghost use Rattle.std.specs.Prelude.{◌≡◌, ◌≤◌, ◌++◌, codes};
-ghost use Rattle.am_script.specs.Answers.{entry_text};
-ghost use Rattle.am_script.specs.Outputs.{Puts};
+ghost use Rattle.am_script.specs.{entry_text, Puts};
 ghost use Rattle.am_draw.specs.Marks.{stamp, label};
 ghost use Rattle.am_draw.specs.Rows.{token_x, walker_x, walker_mark, administrator_mark, daemon_mark, actor_marks, kind_words, packet_words, queued_marks, answered_symbol, released_class, catatonic_words, obs_marks, seen_marks, marks};
 ghost use Rattle.am_draw.specs.Words.{words};
@@ -16,7 +15,7 @@ use crate::words::put_words;
 use am_names::{FsId, Status, Token, WalkerId};
 use am_script::answer_line::{put_entry, put_number, put_word};
 use am_script::output::Output;
-use am_wire::{Kind, Packet};
+use am_wire::{Packet, PacketType};
 use am_world::{Event, Obs, Record};
 use std::io::Write;
 
@@ -239,15 +238,15 @@ fn put_obs<W: Write>(
 }
 
 #[tactic(auto, using(am_script::proofs::Pieces::puts_none))]
-fn put_kind<W: Write>(output: &mut Output, kind: Kind, writer: &mut W)
+fn put_kind<W: Write>(output: &mut Output, kind: PacketType, writer: &mut W)
     ensures { Puts output.old output.new (kind_words kind) (W.contents writer.old)
         (W.contents writer.new) }
 {
     match kind {
-        Kind::MissingIndirect => (),
-        Kind::ExpireIndirect => put_word(output, b"expire ", writer),
-        Kind::MissingDirect => (),
-        Kind::ExpireDirect => put_word(output, b"expire ", writer),
+        PacketType::MissingIndirect => (),
+        PacketType::ExpireIndirect => put_word(output, b"expire ", writer),
+        PacketType::MissingDirect => (),
+        PacketType::ExpireDirect => put_word(output, b"expire ", writer),
     }
 }
 

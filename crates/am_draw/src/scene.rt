@@ -1,9 +1,8 @@
 //! What stands behind the marks of a row: bars, and what is said at the sides.
 
 ghost use Rattle.std.specs.Prelude.{◌≡◌, ◌≤◌, length, IfOk};
-ghost use Rattle.am_script.specs.Answers.{answer_text, is_refused};
-ghost use Rattle.am_script.specs.Outputs.{Puts};
-ghost use Rattle.am_views.specs.EventText.{event_text};
+ghost use Rattle.am_script.specs.{answer_text, is_refused, Puts};
+ghost use Rattle.am_views.specs.{event_text};
 ghost use Rattle.am_draw.specs.Rows.{look_half, lane_half, lanes_half, half, bars, answer_class, row_opening, scene, sides_of};
 ghost use Rattle.am_draw.specs.Sides.{sides_said};
 

@@ -2,16 +2,15 @@
 
 ghost use Rattle.std.specs.Prelude.{◌≡◌, ◌++◌, take, slice_get, option_copied, codes, IfOk};
 ghost use Rattle.std.specs.Bool.{OnTrue};
-ghost use Rattle.am_mount.specs.Rows.{mount_row};
-ghost use Rattle.am_script.specs.Answers.{place_text};
-ghost use Rattle.am_script.specs.Outputs.{Puts};
-ghost use Rattle.am_world.specs.Table.{state_of};
+ghost use Rattle.am_mount.specs.{mount_row};
+ghost use Rattle.am_script.specs.{place_text, Puts};
+ghost use Rattle.am_world.specs.Capacity.{state_of};
 ghost use Rattle.am_draw.specs.Trees.{is_umount, takes_mounts, rows_before, tree_x, tree_mark, tree_marks, point_words, row_words, tree_words, more_dots, tree_label, tree_label_in, tree_labels, mounts_marks};
 ghost use Rattle.am_draw.specs.Words.{words};
 
 use crate::marks::{put_closing, put_opening, put_stamp};
 use crate::words::put_words;
-use am_names::{MountId, MountRow, Mounts, NsId, Place, Position};
+use am_names::{MountId, MountIds, MountRow, NsId, Place, Position};
 use am_script::answer_line::{put_number, put_word};
 use am_script::output::Output;
 use am_world::{Act, Event, World};
@@ -281,7 +280,7 @@ pub(crate) fn put_mounts<W: Write>(
     symbol: &[u8],
     joint: &[u8],
     rows: &[MountRow],
-    mounts: &Mounts,
+    mounts: &MountIds,
     writer: &mut W,
 )
     ensures { Puts output.old output.new (mounts_marks symbol.now joint.now rows.now mounts.now)

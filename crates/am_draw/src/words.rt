@@ -2,7 +2,7 @@
 
 ghost use Rattle.std.specs.Prelude.{◌≡◌, ◌∷◌, [], ◌++◌, codes};
 ghost use Rattle.hex.specs.Hex.{encode_lower};
-ghost use Rattle.am_script.specs.Outputs.{Puts};
+ghost use Rattle.am_script.specs.{Puts};
 ghost use Rattle.am_draw.specs.Words.{is_plain, plain, xml_byte, xml, words};
 
 use am_script::answer_line::put_word;

@@ -5,8 +5,7 @@ use Rattle.std.proofs.lemmas.Bool.Decides.{nat_tests}
 use Rattle.std.proofs.lemmas.List.Elements.{All-weaker, All-get_or, Contains-append_right, filter_passes}
 use Rattle.am_names.specs.declared.trigger.Trigger.{Trigger}
 use Rattle.am_names.proofs.Basics.{left_of_and, true_where_not_false}
-use Rattle.am_expire.specs.Order.{is_of, IsOrder}
-use Rattle.am_expire.specs.Pick.{Expiry, is_due, is_open, may_go, mount_on, is_eligible, comes_before, candidates}
+use Rattle.am_expire.specs.{is_of, IsOrder, Expiry, is_due, is_open, may_go, mount_on, is_eligible, comes_before, candidates}
 use Rattle.am_expire.proofs.OrderLemmas.{far, filter_none}
 use Rattle.am_expire.proofs.PickLemmas.{comes_is}
 use Rattle.am_expire.proofs.TouchLemmas.{none_in_same}

@@ -17,7 +17,7 @@ use Rattle.std.proofs.lemmas.List.{take-append-drop, get_or-take, get_or-drop, l
 use Rattle.std.proofs.lemmas.List.Sorted.{sorted_far, ranks_by}
 use Rattle.std.proofs.lemmas.Map.Lookups.{exact_bytes}
 use Rattle.am_names.specs.declared.trigger.Trigger.{Trigger}
-use Rattle.am_expire.specs.Order.{use_cmp, is_of}
+use Rattle.am_expire.specs.{use_cmp, is_of}
 
 -- ---- the order of two rows
 

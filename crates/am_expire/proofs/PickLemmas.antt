@@ -13,8 +13,7 @@ use Rattle.std.proofs.lemmas.List.Sums.{AllPass-from_list_all, list_all-from_All
 use Rattle.std.proofs.lemmas.List.Elements.{All-contains, All-weaker, All-head, All-tail, Contains-get_or, filter_passes}
 use Rattle.am_names.specs.declared.trigger.Trigger.{Trigger}
 use Rattle.am_names.proofs.Basics.{equal_by_test, not_where_false, false_where_not, left_of_and}
-use Rattle.am_expire.specs.Pick.{Expiry, is_due, is_open, may_go, mount_on, is_eligible, comes_before, candidates, IsLeast, IsPick, is_first, pick_of}
-use Rattle.am_expire.specs.Scan.{IsBest}
+use Rattle.am_expire.specs.{Expiry, is_due, is_open, may_go, mount_on, is_eligible, comes_before, candidates, IsLeast, IsPick, is_first, pick_of, IsBest}
 use Rattle.am_expire.proofs.OrderLemmas.{is_before, same_use}
 
 -- ---- rows of one file system

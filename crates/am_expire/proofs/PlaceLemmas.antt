@@ -9,15 +9,14 @@ use Rattle.std.proofs.lemmas.Bool.Decides.{nat_tests}
 use Rattle.std.proofs.lemmas.List.{get_or-map, length-map, length-set, length-append, get_or-set_same, get_or-set_other, get_or_append_left, get_or_push, get_or-take, get_or-drop, length-take-le, length-drop}
 use Rattle.std.proofs.lemmas.List.Sums.{sum_by-insert}
 use Rattle.std.proofs.lemmas.Option.{none-some, same_Some, slice_get-get_or, slice_get_within, get_or_from_slice_get}
-use Rattle.am_names.specs.Trigger.{same_trigger}
+use Rattle.am_names.specs.{same_trigger}
 use Rattle.am_names.specs.declared.trigger.Trigger.{Trigger}
-use Rattle.am_names.proofs.SameTriggers.{is_one, is_itself}
-use Rattle.am_ordered.specs.Order.{times, IsOrderOf}
+use Rattle.am_names.proofs.SameTriggers.{equal_by_same_trigger, same_trigger_itself}
+use Rattle.am_ordered.specs.{times, IsOrderOf}
 use Rattle.am_ordered.proofs.OrderLemmas.{there_first, there_later, there_at, below_count, times_removed, gone}
-use Rattle.am_trigger.specs.Rows.{last_use_in, used_in, AreOnce}
-use Rattle.am_expire.specs.Order.{use_cmp, no_use, row_at, rows_at, passes, IsListed, IsOrder, IsTouched}
+use Rattle.am_trigger.specs.{last_use_in, used_in, AreOnce}
+use Rattle.am_expire.specs.{use_cmp, no_use, row_at, rows_at, passes, IsListed, IsOrder, IsTouched, rows_in, IsPart}
 use Rattle.am_expire.specs.declared.order.Part.{Part}
-use Rattle.am_expire.specs.Part.{rows_in, IsPart}
 use Rattle.am_expire.proofs.OrderLemmas.{IsRank, stands, sorted_insert}
 use Rattle.am_expire.proofs.ShiftLemmas.{exchange_rises, exchange_counts}
 use Rattle.am_expire.proofs.TouchLemmas.{in_same, order_of_used}
@@ -155,11 +154,11 @@ module _ (trigger : Trigger) (last moment : ℕ) where
       (row : Trigger × ℕ) (uses : List (Trigger × ℕ)) (place : ℕ) → AreOnce (row ∷ uses) →
       slice_get uses place ≡ Some (trigger, last) → (b : Bool) → same_trigger row.0 trigger ≡ b → b ≡ false
   first_by row uses place once e true same =
-      absurd (let none = once 0 (suc place) row (trigger, last) refl e (is_one row.0 trigger same) in omega (arith, none))
+      absurd (let none = once 0 (suc place) row (trigger, last) refl e (equal_by_same_trigger row.0 trigger same) in omega (arith, none))
   first_by row uses place once e false same = refl
 
   same_first : (row : Trigger × ℕ) → Some row ≡ Some (trigger, last) → same_trigger row.0 trigger ≡ true
-  same_first row e = ap (λ (x : Trigger × ℕ). same_trigger x.0 trigger) (same_Some row (trigger, last) e) ∙ is_itself trigger
+  same_first row e = ap (λ (x : Trigger × ℕ). same_trigger x.0 trigger) (same_Some row (trigger, last) e) ∙ same_trigger_itself trigger
 
   -- the row at its place gets the moment
   used_there : (uses : List (Trigger × ℕ)) (place : ℕ) → AreOnce uses → slice_get uses place ≡ Some (trigger, last) → used_in trigger moment uses ≡ set uses place (trigger, moment)

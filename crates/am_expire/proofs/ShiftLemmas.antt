@@ -7,7 +7,7 @@ use Rattle.std.proofs.lemmas.Bool.Decides.{nat_tests}
 use Rattle.std.proofs.lemmas.List.Edits.{length-remove, get_or-remove_below, get_or-remove_above}
 use Rattle.std.proofs.lemmas.List.Sums.{sum_by-insert, sum_by-remove}
 use Rattle.am_names.specs.declared.trigger.Trigger.{Trigger}
-use Rattle.am_expire.specs.Order.{use_cmp}
+use Rattle.am_expire.specs.{use_cmp}
 use Rattle.am_expire.proofs.OrderLemmas.{IsRank, is_before, stands, sorted_insert, sorted_remove}
 
 -- where a row behind the one that goes is to stand, once that is gone

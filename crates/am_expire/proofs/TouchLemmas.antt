@@ -12,11 +12,11 @@ use Rattle.std.proofs.lemmas.List.Elements.{All-nil, All-cons, All-head, All-tai
 use Rattle.std.proofs.lemmas.List.Kept.{IsSortedBy-filter}
 use Rattle.std.proofs.lemmas.List.Sorted.{ranks_by}
 use Rattle.std.proofs.lemmas.List.Sums.{sum_by-cons, get_or-le-sum_by}
-use Rattle.am_names.specs.Trigger.{same_trigger}
+use Rattle.am_names.specs.{same_trigger}
 use Rattle.am_names.specs.declared.trigger.Trigger.{Trigger}
-use Rattle.am_names.proofs.SameTriggers.{is_one}
-use Rattle.am_trigger.specs.Rows.{last_use_in, used_in}
-use Rattle.am_expire.specs.Order.{use_cmp, is_of, has_last, AreSame, IsOrder, IsTouched}
+use Rattle.am_names.proofs.SameTriggers.{equal_by_same_trigger}
+use Rattle.am_trigger.specs.{last_use_in, used_in}
+use Rattle.am_expire.specs.{use_cmp, is_of, has_last, AreSame, IsOrder, IsTouched}
 use Rattle.am_expire.proofs.OrderLemmas.{use_total, use_exact, is_before}
 
 -- ---- rows that are the same, each as often
@@ -79,7 +79,7 @@ used_count test trigger moment (row ∷ uses) =
         + has_last trigger test (option_map {T = Trigger × ℕ} (λ r. r.1) (cond b (Some row) (find (λ r. same_trigger r.0 trigger) uses)))
         ≡ count_by test (row ∷ uses) + cond (test (trigger, moment)) 1 0
     by_test true same later =
-        let is : row.0 ≡ trigger = is_one row.0 trigger same in
+        let is : row.0 ≡ trigger = equal_by_same_trigger row.0 trigger same in
         let now : once (test (row.0, moment)) ≡ once (test (trigger, moment)) = ap (λ (g : Trigger). once (test (g, moment))) is in
         let before : once (test row) ≡ once (test (trigger, row.1)) = ap (λ (g : Trigger). once (test (g, row.1))) is in
         omega (arith, count_cons test (row.0, moment) uses, count_cons test row uses, now, before)

@@ -8,9 +8,7 @@ use Rattle.std.proofs.lemmas.List.Elements.{All-filter, All-from_get_or, filter_
 use Rattle.std.proofs.lemmas.List.Sums.{fails_before_first, passes_at_first, position_or_len_is}
 use Rattle.std.proofs.lemmas.Option.{slice_get_within, get_or_from_slice_get, slice_get_cases}
 use Rattle.am_names.specs.declared.trigger.Trigger.{Trigger}
-use Rattle.am_expire.specs.Order.{is_of, is_off, is_end, no_use, IsOrder}
-use Rattle.am_expire.specs.Pick.{Expiry, is_due, is_eligible, is_lesser_name, comes_before, candidates, IsLeast, IsPick, pick_of}
-use Rattle.am_expire.specs.Scan.{IsBest, due_in, due_at}
+use Rattle.am_expire.specs.{is_of, is_off, is_end, no_use, IsOrder, Expiry, is_due, is_eligible, is_lesser_name, comes_before, candidates, IsLeast, IsPick, pick_of, IsBest, due_in, due_at}
 use Rattle.am_expire.proofs.OrderLemmas.{filter_none}
 use Rattle.am_expire.proofs.PickLemmas.{pick_is, pick_exact}
 use Rattle.am_expire.proofs.TouchLemmas.{in_same, none_in_same}

@@ -5,9 +5,8 @@ use Rattle.std.specs.Option.{option_map}
 use Rattle.std.proofs.lemmas.List.Sums.{sum_by-append}
 use Rattle.std.proofs.lemmas.Bool.Decides.{nat_tests, Decides-eqb}
 use Rattle.am_names.proofs.Basics.{equal_by_test, some_injective}
-use Rattle.am_expire.specs.declared.uses.Use.{Use}
-use Rattle.am_expire.specs.Uses.{mount_of, use_count, left, IsInToo, IsInNoMore, HasOneMore}
-use Rattle.am_expire.specs.Inside.{IsSingle}
+use Rattle.am_expire.specs.{Use, mount_of_walker, use_count, left, IsInToo, IsInNoMore, HasOneMore}
+use Rattle.am_expire.specs.View.{IsSingle}
 
 abbrev or_else : Option ℕ → Option ℕ → Option ℕ
 or_else (Some m) other = Some m
@@ -16,8 +15,8 @@ or_else None other = other
 abbrev pub unless_at : Bool → Use → Option ℕ → Option ℕ
 unless_at b row other = cond b (Some row.mount) other
 
-pub first_of : (row : Use) (rows : List Use) (w : ℕ) → mount_of (row ∷ rows) w ≡ unless_at (row.walker == w) row (mount_of rows w)
-first_of row rows w = elim (row.walker == w) as (λ b. option_map (λ (r : Use). r.mount) (cond b (Some row) (find (λ (r : Use). r.walker == w) rows)) ≡ unless_at b row (mount_of rows w)) [ true ↦ refl | false ↦ refl ]
+pub first_of : (row : Use) (rows : List Use) (w : ℕ) → mount_of_walker (row ∷ rows) w ≡ unless_at (row.walker == w) row (mount_of_walker rows w)
+first_of row rows w = elim (row.walker == w) as (λ b. option_map (λ (r : Use). r.mount) (cond b (Some row) (find (λ (r : Use). r.walker == w) rows)) ≡ unless_at b row (mount_of_walker rows w)) [ true ↦ refl | false ↦ refl ]
 
 zero_plus : (n : ℕ) → 0 + n ≡ n
 zero_plus n = omega arith
@@ -29,23 +28,23 @@ count_first row rows m =
 
 -- ---- enter
 
-mount_last : (rows : List Use) (row : Use) (w : ℕ) → mount_of (rows ++ row ∷ []) w ≡ or_else (mount_of rows w) (unless_at (row.walker == w) row None)
+mount_last : (rows : List Use) (row : Use) (w : ℕ) → mount_of_walker (rows ++ row ∷ []) w ≡ or_else (mount_of_walker rows w) (unless_at (row.walker == w) row None)
 mount_last [] row w = first_of row [] w
 mount_last (r ∷ rows) row w =
     first_of r (rows ++ row ∷ []) w
     ∙ ap (unless_at (r.walker == w) r) (mount_last rows row w)
-    ∙ (elim (r.walker == w) as (λ b. unless_at b r (or_else (mount_of rows w) (unless_at (row.walker == w) row None)) ≡ or_else (unless_at b r (mount_of rows w)) (unless_at (row.walker == w) row None)) [ true ↦ refl | false ↦ refl ])
+    ∙ (elim (r.walker == w) as (λ b. unless_at b r (or_else (mount_of_walker rows w) (unless_at (row.walker == w) row None)) ≡ or_else (unless_at b r (mount_of_walker rows w)) (unless_at (row.walker == w) row None)) [ true ↦ refl | false ↦ refl ])
     ∙ ap (λ o. or_else o (unless_at (row.walker == w) row None)) (sym (first_of r rows w))
 
 or_none : (o : Option ℕ) → or_else o None ≡ o
 or_none (Some m) = refl
 or_none None = refl
 
-entered_at : (rows : List Use) (row : Use) (w : ℕ) (b : Bool) → (row.walker == w) ≡ b → mount_of rows row.walker ≡ None → or_else (mount_of rows w) (unless_at b row None) ≡ unless_at b row (mount_of rows w)
-entered_at rows row w true e none = rw (ap (mount_of rows) (sym (equal_by_test row.walker w e)) ∙ none) refl
-entered_at rows row w false e none = or_none (mount_of rows w)
+entered_at : (rows : List Use) (row : Use) (w : ℕ) (b : Bool) → (row.walker == w) ≡ b → mount_of_walker rows row.walker ≡ None → or_else (mount_of_walker rows w) (unless_at b row None) ≡ unless_at b row (mount_of_walker rows w)
+entered_at rows row w true e none = rw (ap (mount_of_walker rows) (sym (equal_by_test row.walker w e)) ∙ none) refl
+entered_at rows row w false e none = or_none (mount_of_walker rows w)
 
-pub enters : (rows : List Use) (row : Use) → mount_of rows row.walker ≡ None → IsInToo row.walker row.mount rows (rows ++ row ∷ [])
+pub enters : (rows : List Use) (row : Use) → mount_of_walker rows row.walker ≡ None → IsInToo row.walker row.mount rows (rows ++ row ∷ [])
 enters rows row none w = mount_last rows row w ∙ entered_at rows row w (row.walker == w) refl none
 
 pub enters_count : (rows : List Use) (row : Use) → HasOneMore row.mount rows (rows ++ row ∷ [])
@@ -53,16 +52,16 @@ enters_count rows row m =
     sum_by-append (λ (r : Use). cond (r.mount == m) 1 0) rows (row ∷ [])
     ∙ ap (λ (n : ℕ). use_count rows m + n) (zero_plus (cond (row.mount == m) 1 0))
 
-single_at : (r row : Use) (rows : List Use) (b : Bool) → (row.walker == r.walker) ≡ b → mount_of rows r.walker ≡ None → mount_of (r ∷ rows) row.walker ≡ None → mount_of (rows ++ row ∷ []) r.walker ≡ None
+single_at : (r row : Use) (rows : List Use) (b : Bool) → (row.walker == r.walker) ≡ b → mount_of_walker rows r.walker ≡ None → mount_of_walker (r ∷ rows) row.walker ≡ None → mount_of_walker (rows ++ row ∷ []) r.walker ≡ None
 single_at r row rows true e free none =
     absurd (cc (sym (first_of r rows row.walker) ∙ none, (Decides-eqb r.walker row.walker).1 (sym (equal_by_test row.walker r.walker e))))
 single_at r row rows false e free none = rw (mount_last rows row r.walker, free, e) refl
 
-rest_free : (r row : Use) (rows : List Use) (b : Bool) → (r.walker == row.walker) ≡ b → unless_at b r (mount_of rows row.walker) ≡ None → mount_of rows row.walker ≡ None
+rest_free : (r row : Use) (rows : List Use) (b : Bool) → (r.walker == row.walker) ≡ b → unless_at b r (mount_of_walker rows row.walker) ≡ None → mount_of_walker rows row.walker ≡ None
 rest_free r row rows true e none = absurd cc
 rest_free r row rows false e none = none
 
-pub enters_single : (rows : List Use) (row : Use) → IsSingle rows → mount_of rows row.walker ≡ None → IsSingle (rows ++ row ∷ [])
+pub enters_single : (rows : List Use) (row : Use) → IsSingle rows → mount_of_walker rows row.walker ≡ None → IsSingle (rows ++ row ∷ [])
 enters_single [] row single none = (refl, tt)
 enters_single (r ∷ rows) row single none = (
   single_at r row rows (row.walker == r.walker) refl single.0 none,
@@ -72,8 +71,8 @@ enters_single (r ∷ rows) row single none = (
 -- ---- leave
 
 left_first : (r : Use) (rows : List Use) (walker w : ℕ) (b c : Bool) → (r.walker == walker) ≡ b → (r.walker == w) ≡ c →
-    mount_of (left walker rows) w ≡ cond (walker == w) None (mount_of rows w) →
-    mount_of (left walker (r ∷ rows)) w ≡ cond (walker == w) None (mount_of (r ∷ rows) w)
+    mount_of_walker (left walker rows) w ≡ cond (walker == w) None (mount_of_walker rows w) →
+    mount_of_walker (left walker (r ∷ rows)) w ≡ cond (walker == w) None (mount_of_walker (r ∷ rows) w)
 left_first r rows walker w true true e f later =
     let same : (walker == w) ≡ true = (Decides-eqb walker w).1 (sym (equal_by_test r.walker walker e) ∙ equal_by_test r.walker w f) in
     rw (e, same) (rw same at later)
@@ -88,30 +87,30 @@ leaves [] walker w = elim (walker == w) as (λ b. ◌≡◌ {A = Option ℕ} Non
 leaves (r ∷ rows) walker w = left_first r rows walker w (r.walker == walker) (r.walker == w) refl refl (leaves rows walker w)
 
 -- nobody of these leaves
-pub stays_all : (rows : List Use) (walker : ℕ) → mount_of rows walker ≡ None → left walker rows ≡ rows
+pub stays_all : (rows : List Use) (walker : ℕ) → mount_of_walker rows walker ≡ None → left walker rows ≡ rows
 stays_all [] walker none = refl
 stays_all (r ∷ rows) walker none = by_test (r.walker == walker) refl (sym (first_of r rows walker) ∙ none) (stays_all rows walker)
   where
-    by_test : (b : Bool) → (r.walker == walker) ≡ b → unless_at b r (mount_of rows walker) ≡ None → (mount_of rows walker ≡ None → left walker rows ≡ rows) → left walker (r ∷ rows) ≡ r ∷ rows
+    by_test : (b : Bool) → (r.walker == walker) ≡ b → unless_at b r (mount_of_walker rows walker) ≡ None → (mount_of_walker rows walker ≡ None → left walker rows ≡ rows) → left walker (r ∷ rows) ≡ r ∷ rows
     by_test true e none later = absurd cc
     by_test false e none later = rw e (ap (λ (rest : List Use). r ∷ rest) (later none))
 
 one_less : (c n k : ℕ) → n ≡ k + c → (d : ℕ) → d + n ≡ (d + k) + c
 one_less c n k e d = omega (arith, e)
 
-pub leaves_count : (rows : List Use) (walker mount : ℕ) → IsSingle rows → mount_of rows walker ≡ Some mount → HasOneMore mount (left walker rows) rows
+pub leaves_count : (rows : List Use) (walker mount : ℕ) → IsSingle rows → mount_of_walker rows walker ≡ Some mount → HasOneMore mount (left walker rows) rows
 leaves_count [] walker mount single there m = absurd cc
 leaves_count (r ∷ rows) walker mount single there m = by_test (r.walker == walker) refl (sym (first_of r rows walker) ∙ there) (λ h. leaves_count rows walker mount single.1 h m)
   where
-    by_test : (b : Bool) → (r.walker == walker) ≡ b → unless_at b r (mount_of rows walker) ≡ Some mount → (mount_of rows walker ≡ Some mount → use_count rows m ≡ use_count (left walker rows) m + cond (mount == m) 1 0) → use_count (r ∷ rows) m ≡ use_count (left walker (r ∷ rows)) m + cond (mount == m) 1 0
+    by_test : (b : Bool) → (r.walker == walker) ≡ b → unless_at b r (mount_of_walker rows walker) ≡ Some mount → (mount_of_walker rows walker ≡ Some mount → use_count rows m ≡ use_count (left walker rows) m + cond (mount == m) 1 0) → use_count (r ∷ rows) m ≡ use_count (left walker (r ∷ rows)) m + cond (mount == m) 1 0
     by_test true e there later =
-        let free : mount_of rows walker ≡ None = ap (mount_of rows) (sym (equal_by_test r.walker walker e)) ∙ single.0 in
+        let free : mount_of_walker rows walker ≡ None = ap (mount_of_walker rows) (sym (equal_by_test r.walker walker e)) ∙ single.0 in
         let is : r.mount ≡ mount = some_injective there in
         rw (count_first r rows m, e, stays_all rows walker free, is) (omega arith)
     by_test false e there later =
         rw (count_first r rows m, e, count_first r (left walker rows) m) (one_less (cond (mount == m) 1 0) (use_count rows m) (use_count (left walker rows) m) (later there) (cond (r.mount == m) 1 0))
 
-still_free : (rows : List Use) (walker w : ℕ) → mount_of rows w ≡ None → mount_of (left walker rows) w ≡ None
+still_free : (rows : List Use) (walker w : ℕ) → mount_of_walker rows w ≡ None → mount_of_walker (left walker rows) w ≡ None
 still_free rows walker w free = leaves rows walker w ∙ (rw free (elim (walker == w) as (λ b. cond {A = Option ℕ} b None None ≡ None) [ true ↦ refl | false ↦ refl ]))
 
 pub leaves_single : (rows : List Use) (walker : ℕ) → IsSingle rows → IsSingle (left walker rows)

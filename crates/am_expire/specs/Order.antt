@@ -9,7 +9,7 @@ use Rattle.std.specs.List.Sorted.{IsSorted}
 use Rattle.std.specs.Option.{option_cmp, option_map, unwrap_or}
 use Rattle.std.specs.Ordering.{nat_cmp, ordering_then}
 use Rattle.am_names.specs.declared.trigger.Trigger.{Trigger}
-use Rattle.am_ordered.specs.Order.{IsOrderOf}
+use Rattle.am_ordered.specs.{IsOrderOf}
 use Rattle.am_expire.specs.Pick.{Expiry, is_due, is_eligible}
 
 -- by file system, then by last use, then by the bytes of the name, of which none is the least

@@ -7,13 +7,11 @@ use Rattle.std.specs.Option.{option_cmp, option_map}
 use Rattle.std.specs.Ordering.{is_lt, nat_cmp}
 use Rattle.am_names.specs.declared.trigger.Trigger.{Trigger}
 use Rattle.am_names.specs.declared.row.TokenKind.TheVariants.{Missing, Expire}
-use Rattle.am_mount.specs.Rows.{top_of}
+use Rattle.am_mount.specs.{top_of}
 use Rattle.am_propagate.specs.MountTable.{MountTable}
-use Rattle.am_propagate.specs.Removed.{umount_refusal}
-use Rattle.am_trigger.specs.declared.autofs.Autofs.{Autofs}
-use Rattle.am_trigger.specs.Rows.{TriggerRows, autofs_of}
-use Rattle.am_trigger.specs.Sites.{place_of}
-use Rattle.am_wait.specs.Rows.{WaitRows, open_on}
+use Rattle.am_propagate.specs.{umount_refusal}
+use Rattle.am_trigger.specs.{Autofs, TriggerRows, autofs_of, place_of}
+use Rattle.am_wait.specs.{WaitRows, open_on}
 use Rattle.am_expire.specs.declared.uses.Use.{Use}
 use Rattle.am_expire.specs.Uses.{is_used}
 

@@ -13,8 +13,8 @@ abbrev pub no_uses : List Use
 no_uses = []
 
 -- the mount that a walker is inside of
-abbrev pub mount_of : List Use → ℕ → Option ℕ
-mount_of uses walker = option_map (λ row. row.mount) (find (λ row. row.walker == walker) uses)
+abbrev pub mount_of_walker : List Use → ℕ → Option ℕ
+mount_of_walker uses walker = option_map (λ row. row.mount) (find (λ row. row.walker == walker) uses)
 
 -- how many walkers are inside the mount
 abbrev pub use_count : List Use → ℕ → ℕ
@@ -26,7 +26,7 @@ is_used uses mount = list_any (λ row. row.mount == mount) uses
 
 -- the test of `enter`: the walker isn't inside a mount
 abbrev pub enter_refusal : ℕ → List Use → Option Errno
-enter_refusal walker uses = if is_some (mount_of uses walker) then Some EINVAL else None
+enter_refusal walker uses = if is_some (mount_of_walker uses walker) then Some EINVAL else None
 
 -- the walker is inside the mount, the last who came
 abbrev pub entered : ℕ → ℕ → List Use → List Use
@@ -34,7 +34,7 @@ entered walker mount uses = uses ++ (record { walker = walker; mount = mount }) 
 
 -- the test of `leave`: the walker is inside a mount
 abbrev pub leave_refusal : ℕ → List Use → Option Errno
-leave_refusal walker uses = if is_some (mount_of uses walker) then None else Some EINVAL
+leave_refusal walker uses = if is_some (mount_of_walker uses walker) then None else Some EINVAL
 
 -- the walker isn't inside a mount
 abbrev pub left : ℕ → List Use → List Use
@@ -45,12 +45,12 @@ left walker uses = filter (λ row. not (row.walker == walker)) uses
 -- this walker is inside the mount now, and each other one where it was
 abbrev pub IsInToo : ℕ → ℕ → List Use → List Use → Type 0
 IsInToo walker mount old new =
-    (w : ℕ) → mount_of new w ≡ (if walker == w then Some mount else mount_of old w)
+    (w : ℕ) → mount_of_walker new w ≡ (if walker == w then Some mount else mount_of_walker old w)
 
 -- this walker is inside no mount now, and each other one where it was
 abbrev pub IsInNoMore : ℕ → List Use → List Use → Type 0
 IsInNoMore walker old new =
-    (w : ℕ) → mount_of new w ≡ (if walker == w then None else mount_of old w)
+    (w : ℕ) → mount_of_walker new w ≡ (if walker == w then None else mount_of_walker old w)
 
 -- the mount has one use more, and each other one as many as before
 abbrev pub HasOneMore : ℕ → List Use → List Use → Type 0

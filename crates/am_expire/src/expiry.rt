@@ -2,7 +2,7 @@
 
 ghost use Rattle.std.specs.Prelude.{◌≡◌, ◌+◌, ◌<◌, nat_lt, length, get_or, filter, None, IfOk, if◌then◌else◌};
 ghost use Rattle.std.specs.List.{position_or_len};
-ghost use Rattle.am_names.specs.Errno.{RefusedAs};
+ghost use Rattle.am_names.specs.{RefusedAs};
 ghost use Rattle.am_expire.specs.Pick.{Expiry, is_due, may_go, mount_on, is_open, is_eligible, IsPick, pick_of};
 ghost use Rattle.am_expire.specs.Order.{is_of, no_use, IsOrder, is_off, is_end, looks_in, IsLooks};
 ghost use Rattle.am_expire.specs.Part.{rows_in, IsPart};

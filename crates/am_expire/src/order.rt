@@ -7,7 +7,7 @@ ghost use Rattle.std.specs.Option.{option_cmp};
 ghost use Rattle.std.specs.Ordering.{nat_cmp, is_lt};
 ghost use Rattle.std.specs.VecDeque.{deque_len, deque_capacity};
 ghost use Rattle.std.specs.List.{slice_get};
-ghost use Rattle.am_trigger.specs.Rows.{IsUseIndex, AreOnce, used_in};
+ghost use Rattle.am_trigger.specs.{IsUseIndex, AreOnce, used_in};
 ghost use Rattle.am_expire.specs.Order.{use_cmp, is_of, passes, no_use, rows_at, IsListed};
 ghost use Rattle.am_expire.specs.Part.{rows_in, IsPart};
 

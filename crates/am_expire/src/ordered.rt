@@ -1,9 +1,8 @@
 //! The triggers, and the order in which they come to expire.
 
 ghost use Rattle.std.specs.Prelude.{◌≡◌, ◌≤◌, ◌+◌, length, filter, None, OnOk, OnErr};
-ghost use Rattle.am_names.specs.Errno.{RefusedAs, RefusedOnlyAs};
-ghost use Rattle.am_trigger.specs.Rows.{no_triggers, add_refusal, with_autofs, catatonic_refusal, with_catatonic, mkdir_refusal, with_directory, rmdir_refusal, without_directory, used, all_used};
-ghost use Rattle.am_trigger.specs.Table.{KeepsRoom};
+ghost use Rattle.am_names.specs.{RefusedAs, RefusedOnlyAs};
+ghost use Rattle.am_trigger.specs.{no_triggers, add_refusal, with_autofs, catatonic_refusal, with_catatonic, mkdir_refusal, with_directory, rmdir_refusal, without_directory, used, all_used, KeepsRoom};
 ghost use Rattle.am_expire.specs.Order.{is_of, IsOrder};
 ghost use Rattle.am_expire.specs.Part.{rows_in, IsPart};
 
@@ -22,11 +21,11 @@ pub struct OrderedTriggers {
 }
 
 impl Model for OrderedTriggers {
-    ghost use Rattle.am_trigger.specs.Table.{TriggerTable};
+    ghost use Rattle.am_trigger.specs.{TriggerTable};
 
     ghost Value = { TriggerTable };
 
-    ghost use Rattle.am_expire.specs.Inside.{ordered_of, IsOrdered};
+    ghost use Rattle.am_expire.specs.View.{ordered_of, IsOrdered};
 
     ghost view = { ordered_of };
 

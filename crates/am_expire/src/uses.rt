@@ -1,8 +1,8 @@
 //! Which walkers are inside which mounts.
 
 ghost use Rattle.std.specs.Prelude.{◌≡◌, ◌<◌, ◌^◌, length, slice_get, Some, IfOk, OnOk, OnErr};
-ghost use Rattle.am_names.specs.Errno.{RefusedAs, RefusedOnlyAs};
-ghost use Rattle.am_expire.specs.Uses.{no_uses, mount_of, use_count, is_used, enter_refusal, entered, IsInToo, HasOneMore, leave_refusal, left, IsInNoMore};
+ghost use Rattle.am_names.specs.{RefusedAs, RefusedOnlyAs};
+ghost use Rattle.am_expire.specs.Uses.{no_uses, mount_of_walker, use_count, is_used, enter_refusal, entered, IsInToo, HasOneMore, leave_refusal, left, IsInNoMore};
 ghost use Rattle.am_expire.specs.Counts.{counted, CountsOneMore};
 ghost use Rattle.indexmap.specs.IndexMap.{spare};
 
@@ -35,7 +35,7 @@ impl Model for Uses {
 
     ghost Value = { List Row };
 
-    ghost use Rattle.am_expire.specs.Inside.{rows_of, IsKept};
+    ghost use Rattle.am_expire.specs.View.{rows_of, IsKept};
 
     ghost view = { rows_of };
 
@@ -84,8 +84,8 @@ impl Uses {
     }
 
     /// The mount that the walker is inside of.
-    pub fn mount_of(&self, walker: WalkerId) -> Option<MountId>
-        ensures { result ≡ mount_of self.now walker }
+    pub fn mount_of_walker(&self, walker: WalkerId) -> Option<MountId>
+        ensures { result ≡ mount_of_walker self.now walker }
     {
         self.mounts.get(&walker.0).copied()
     }
@@ -123,7 +123,7 @@ impl Uses {
         ensures count { OnOk result (HasOneMore mount self.old self.new) }
         ensures err { OnErr result (self.new ≡ self.old) }
     {
-        if self.mount_of(walker).is_some() {
+        if self.mount_of_walker(walker).is_some() {
             return Err(Errno::EINVAL);
         }
         self.mounts.reserve(1)?;
@@ -138,13 +138,13 @@ impl Uses {
     /// The walker leaves the mount that it is inside of, which is told.
     pub fn leave(&mut self, walker: WalkerId) -> Result<MountId, Errno>
         ensures refusal { RefusedOnlyAs (leave_refusal walker self.old) result }
-        ensures mount { IfOk result (λ mount. mount_of self.old walker ≡ Some mount) }
+        ensures mount { IfOk result (λ mount. mount_of_walker self.old walker ≡ Some mount) }
         ensures ok { OnOk result (self.new ≡ left walker self.old) }
         ensures map { OnOk result (IsInNoMore walker self.old self.new) }
         ensures count { IfOk result (λ mount. HasOneMore mount self.new self.old) }
         ensures err { OnErr result (self.new ≡ self.old) }
     {
-        let Some(mount) = self.mount_of(walker) else {
+        let Some(mount) = self.mount_of_walker(walker) else {
             return Err(Errno::EINVAL);
         };
         let _left = self.mounts.remove(&walker.0);

@@ -3,12 +3,9 @@ use Rattle.std.proofs.Common.{◌≡◌, ℕ, List}
 use Rattle.std.specs.Prelude.{◌==◌}
 use Rattle.std.specs.Option.{option_or}
 use Rattle.std.proofs.lemmas.List.Folds.{find-append}
-use Rattle.am_names.specs.declared.row.MemberRow.{MemberRow}
-use Rattle.am_names.specs.declared.row.GroupRow.{GroupRow}
+use Rattle.am_names.specs.{MemberRow, GroupRow}
 use Rattle.am_names.specs.PeerGroups.{PeerGroups}
-use Rattle.am_group.specs.Propagation.{member_row, group_row}
-use Rattle.am_group.specs.Copies.{added}
-use Rattle.am_group.specs.Invariant.{IsGroup, HasMembers, IsSound, AddsNoReceivers}
+use Rattle.am_group.specs.{member_row, group_row, added, IsGroup, HasMembers, IsSound, AddsNoReceivers}
 use Rattle.am_group.proofs.ChangeLemmas.{KeepsLaw}
 use Rattle.am_group.proofs.GrowLemmas.{grown_law, grown_keeps}
 use Rattle.am_group.proofs.GrowLemmas as grow

@@ -1,11 +1,9 @@
 -- Peer groups that stay by one test stay by another that is the same.
 use Rattle.std.proofs.Common.{◌≡◌, ℕ, Bool, true, false, cond, List, [], ◌∷◌, Option, Some, refl, ap, ◌∙◌}
 use Rattle.std.specs.Prelude.{find, map, filter, not}
-use Rattle.am_names.specs.declared.row.MemberRow.{MemberRow}
-use Rattle.am_names.specs.declared.row.GroupRow.{GroupRow}
+use Rattle.am_names.specs.{MemberRow, GroupRow, is_among}
 use Rattle.am_names.specs.PeerGroups.{PeerGroups}
-use Rattle.am_group.specs.Changes.{up, lifted_member, lifted_group, is_among, is_kept, left}
-use Rattle.am_group.specs.Tables.{AreLive, is_left}
+use Rattle.am_group.specs.{up, lifted_member, lifted_group, is_kept, left, AreLive, is_left}
 
 module _ (p q : ℕ → Bool) (same : (g : ℕ) → p g ≡ q g) where
   found_same : (gs : List ℕ) → find p gs ≡ find q gs

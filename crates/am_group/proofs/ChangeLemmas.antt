@@ -2,12 +2,9 @@
 use Rattle.std.proofs.Common.{◌≡◌, ◌⊎◌, ℕ, Bool, true, false, cond, ◌||◌, List, Option, Some, None, refl, sym, ap, subst, inl, inr, ◌∙◌}
 use Rattle.std.specs.Prelude.{map, option_map, is_some, not, ◌==◌}
 use Rattle.am_names.proofs.Basics.{or_left}
-use Rattle.am_names.specs.declared.row.MemberRow.{MemberRow}
-use Rattle.am_names.specs.declared.row.GroupRow.{GroupRow}
+use Rattle.am_names.specs.{MemberRow, GroupRow, RiseBy}
 use Rattle.am_names.specs.PeerGroups.{PeerGroups}
-use Rattle.am_group.specs.Propagation.{member_row, group_row, group_in, slave_in, master_in, group_of, master_of_group}
-use Rattle.am_group.specs.Changes.{has_members, is_kept, settled, left, slave_from, slave_row, at_row, private_row, unbindable_row, with_row, made_slave, made_private, made_unbindable, with_only, without}
-use Rattle.am_group.specs.Invariant.{RiseFrom, RiseBy, IsGroup, IsMaster, IsOrderly, IsPeopled, IsSound, AddsNoReceivers}
+use Rattle.am_group.specs.{member_row, group_row, group_in, slave_in, master_in, group_of, master_of_group, has_members, is_kept, settled, left, slave_from, slave_row, at_row, private_row, unbindable_row, with_row, made_slave, made_private, made_unbindable, with_only, without, RiseFrom, IsGroup, IsMaster, IsOrderly, IsPeopled, IsSound, AddsNoReceivers}
 use Rattle.am_group.proofs.ReceiveLemmas.{home_where, home_of}
 use Rattle.am_group.proofs.LookupLemmas.{find_map_same, find_filter, RiseFrom-map, RiseFrom-filter, members_from_test}
 use Rattle.am_group.proofs.SettleLemmas.{leads_same, group_of-settled, master-settled-stays, settled_orderly, has_lifted}

@@ -2,12 +2,9 @@
 use Rattle.std.proofs.Common.{◌≡◌, ℕ, Bool, true, false, cond, ◌||◌, List, [], ◌∷◌, Option, Some, None, refl, sym, ap, inl, inr, ◌∙◌}
 use Rattle.std.specs.Prelude.{is_some, ◌==◌}
 use Rattle.am_names.proofs.Basics.{or_left, or_right}
-use Rattle.am_names.specs.declared.row.MemberRow.{MemberRow}
-use Rattle.am_names.specs.declared.row.GroupRow.{GroupRow}
+use Rattle.am_names.specs.{MemberRow, GroupRow}
 use Rattle.am_names.specs.PeerGroups.{PeerGroups}
-use Rattle.am_group.specs.Propagation.{member_row, group_row, group_in, master_in, master_of_group}
-use Rattle.am_group.specs.Changes.{is_just, has_members, cleared}
-use Rattle.am_group.specs.Invariant.{IsGroup, IsMaster, IsOrderly, IsPeopled}
+use Rattle.am_group.specs.{member_row, group_row, group_in, master_in, master_of_group, is_just, has_members, cleared, IsGroup, IsMaster, IsOrderly, IsPeopled}
 use Rattle.am_group.proofs.LookupLemmas.{find_filter, RiseBy-filter}
 use Rattle.am_group.proofs.SettleLemmas.{leads_same}
 use Rattle.am_group.proofs.LawLemmas.{BringsNoneUnder}

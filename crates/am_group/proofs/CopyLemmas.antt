@@ -5,13 +5,9 @@ use Rattle.std.specs.Option.{option_or}
 use Rattle.std.proofs.lemmas.List.Folds.{list_any-append}
 use Rattle.std.proofs.lemmas.Bool.{eqb-true, eq-eqb, ne_eqb, cases_eq, and_parts, and_from, or_cases, ltb-true, ltb-false}
 use Rattle.am_names.proofs.Basics.{or_left, or_right, some_injective}
-use Rattle.am_names.specs.declared.row.MemberRow.{MemberRow}
-use Rattle.am_names.specs.declared.row.GroupRow.{GroupRow}
+use Rattle.am_names.specs.{MemberRow, GroupRow, RiseBy}
 use Rattle.am_names.specs.PeerGroups.{PeerGroups}
-use Rattle.am_group.specs.Propagation.{member_row, group_row, slave_in, group_of, master_of_group, Receives}
-use Rattle.am_group.specs.Changes.{is_just, has_members}
-use Rattle.am_group.specs.Copies.{added, has_receiver, receiving_groups, rank, stand_in, copy_row, copies_from, group_copies, copied}
-use Rattle.am_group.specs.Invariant.{RiseFrom, RiseBy, IsGroup, IsMaster, HasMembers, IsSound}
+use Rattle.am_group.specs.{member_row, group_row, slave_in, group_of, master_of_group, Receives, is_just, has_members, added, has_receiver, receiving_groups, rank, stand_in, copy_row, copies_from, group_copies, copied, RiseFrom, IsGroup, IsMaster, HasMembers, IsSound}
 use Rattle.am_group.proofs.ReceiveLemmas.{LeadsUp, IsUnder, under_from_way, reached_from_under}
 use Rattle.am_group.proofs.LookupLemmas.{found_passes, members_from_test, RiseBy-filter, groups_follow}
 use Rattle.am_group.proofs.ChangeLemmas.{KeepsLaw}

@@ -4,9 +4,7 @@ use Rattle.std.specs.Prelude.{filter, not, ◌==◌}
 use Rattle.std.specs.List.{Contains}
 use Rattle.am_names.proofs.Basics.{and_false}
 use Rattle.am_names.specs.PeerGroups.{PeerGroups}
-use Rattle.am_group.specs.Propagation.{group_of, Receives}
-use Rattle.am_group.specs.Scan.{numbers}
-use Rattle.am_group.specs.Receivers.{receives, receivers_of}
+use Rattle.am_group.specs.{group_of, Receives, numbers, receives, receivers_of}
 use Rattle.am_group.proofs.ReceiveLemmas.{under_from_way}
 
 -- without a group nothing is received from the mount

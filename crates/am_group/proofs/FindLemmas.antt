@@ -6,7 +6,7 @@ use Rattle.std.specs.Ordering.{nat_cmp, ordering_index}
 use Rattle.std.proofs.lemmas.Cmp.{ranked}
 use Rattle.std.proofs.lemmas.Bool.{eq-eqb, ne_eqb}
 use Rattle.std.proofs.lemmas.Bool.Decides.{nat_tests}
-use Rattle.am_group.specs.Invariant.{RiseBy}
+use Rattle.am_names.specs.{RiseBy}
 
 module _ {R : Type 0} (number : R → ℕ) where
   -- the number of the row at this index

@@ -2,11 +2,9 @@
 use Rattle.std.proofs.Common.{◌≡◌, ◌≤◌, ◌<◌, ◌⊎◌, ℕ, true, List, [], ◌∷◌, Option, Some, None, refl, sym, ap, inl, inr, ⊎_elim, ◌∙◌, arith}
 use Rattle.std.specs.Prelude.{is_some}
 use Rattle.std.specs.Option.{option_or}
-use Rattle.am_names.specs.declared.row.MemberRow.{MemberRow}
-use Rattle.am_names.specs.declared.row.GroupRow.{GroupRow}
+use Rattle.am_names.specs.{MemberRow, GroupRow, RiseBy}
 use Rattle.am_names.specs.PeerGroups.{PeerGroups}
-use Rattle.am_group.specs.Propagation.{member_row, group_row, group_in, slave_in, master_in, group_of, master_of_group}
-use Rattle.am_group.specs.Invariant.{RiseFrom, RiseBy, IsGroup, IsMaster, HasMembers, IsOrderly, IsPeopled, IsSound, AddsNoReceivers}
+use Rattle.am_group.specs.{member_row, group_row, group_in, slave_in, master_in, group_of, master_of_group, RiseFrom, IsGroup, IsMaster, HasMembers, IsOrderly, IsPeopled, IsSound, AddsNoReceivers}
 use Rattle.am_group.proofs.ReceiveLemmas.{LeadsUp, home_where, home_of}
 use Rattle.am_group.proofs.LawLemmas.{BringsNoneUnder, law_from_under}
 use Rattle.am_group.proofs.ChangeLemmas.{KeepsLaw}

@@ -5,14 +5,9 @@ use Rattle.std.proofs.lemmas.List.{append-nil}
 use Rattle.std.proofs.lemmas.Bool.{eqb-true}
 use Rattle.std.specs.Option.{option_or}
 use Rattle.am_names.proofs.Basics.{some_injective}
-use Rattle.am_names.specs.declared.row.MemberRow.{MemberRow}
-use Rattle.am_names.specs.declared.row.GroupRow.{GroupRow}
+use Rattle.am_names.specs.{MemberRow, GroupRow}
 use Rattle.am_names.specs.PeerGroups.{PeerGroups}
-use Rattle.am_group.specs.Propagation.{member_row, group_row, slave_in, master_in, group_of, master_where, PropagatesTo, PropagatesBy}
-use Rattle.am_group.specs.Changes.{has_members, with_group}
-use Rattle.am_group.specs.Members.{may_be_master, has_peopled_master}
-use Rattle.am_group.specs.Copies.{added}
-use Rattle.am_group.specs.Invariant.{RiseFrom, IsGroup, IsMaster, HasMembers, IsOrderly, IsPeopled, IsSound, AddsNoReceivers}
+use Rattle.am_group.specs.{member_row, group_row, slave_in, master_in, group_of, master_where, PropagatesTo, PropagatesBy, has_members, with_group, may_be_master, has_peopled_master, added, RiseFrom, IsGroup, IsMaster, HasMembers, IsOrderly, IsPeopled, IsSound, AddsNoReceivers}
 use Rattle.am_group.proofs.ChangeLemmas.{KeepsLaw}
 use Rattle.am_group.proofs.LookupLemmas.{members_from_test, groups_follow}
 use Rattle.am_group.proofs.CopyLemmas.{members_follow}

@@ -1,11 +1,8 @@
 -- The changes that give up a peer group, by name.
 use Rattle.std.proofs.Common.{◌≡◌, ℕ, true, false}
 use Rattle.am_names.specs.PeerGroups.{PeerGroups}
-use Rattle.am_group.specs.declared.kind.Change.{Change}
-use Rattle.am_group.specs.declared.kind.Change.TheVariants.{MakeShared, MakeSlave, MakePrivate, MakeUnbindable}
-use Rattle.am_group.specs.Changes.{left, with_row}
-use Rattle.am_group.specs.Invariant.{IsOrderly, IsPeopled, AddsNoReceivers}
-use Rattle.am_group.specs.Tables.{row_of, gives_up}
+use Rattle.am_group.specs.{Change, left, with_row, IsOrderly, IsPeopled, AddsNoReceivers, row_of, gives_up}
+use Rattle.am_group.specs.declared.mount_state.Change.TheVariants.{MakeShared, MakeSlave, MakePrivate, MakeUnbindable}
 use Rattle.am_group.proofs.ChangeLemmas.{Thins, RowThins, slave_row_thins, bare_thins, row_thins, thin_orderly, thin_law, thin_peopled}
 
 change_thins : (change : Change) (fresh : ℕ) → gives_up change ≡ true → RowThins (row_of change fresh)

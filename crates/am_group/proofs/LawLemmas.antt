@@ -2,9 +2,7 @@
 use Rattle.std.proofs.Common.{◌≡◌, ◌≢◌, ℕ, Bool, true, Some, sym, ◌∙◌}
 use Rattle.std.specs.Prelude.{is_some}
 use Rattle.am_names.specs.PeerGroups.{PeerGroups}
-use Rattle.am_group.specs.Propagation.{member_row, group_of}
-use Rattle.am_group.specs.Changes.{settled}
-use Rattle.am_group.specs.Invariant.{IsPeopled, AddsNoReceivers}
+use Rattle.am_group.specs.{member_row, group_of, settled, IsPeopled, AddsNoReceivers}
 use Rattle.am_group.proofs.ReceiveLemmas.{IsUnder, under_from_way, reached_from_under}
 use Rattle.am_group.proofs.SettleLemmas.{group_of-settled, under-settled}
 

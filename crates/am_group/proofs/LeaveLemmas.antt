@@ -3,8 +3,8 @@ use Rattle.std.proofs.Common.{◌≡◌, ◌<◌, ◌++◌, ℕ, suc, List, leng
 use Rattle.std.specs.List.Sorted.{IsBinarySearchResult}
 use Rattle.std.specs.Ordering.{nat_cmp}
 use Rattle.am_names.proofs.LeaveLemmas.{others, others_at, others_none}
-use Rattle.am_names.specs.declared.row.MemberRow.{MemberRow}
-use Rattle.am_group.specs.Invariant.{RiseFrom}
+use Rattle.am_names.specs.{MemberRow}
+use Rattle.am_group.specs.{RiseFrom}
 use Rattle.am_group.proofs.FindLemmas.{rows_rise, index_found, all_differ}
 
 module _ (rows : List MemberRow) (rises : RiseFrom 0 rows) (m : ℕ) where

@@ -1,12 +1,9 @@
 -- The lift, a step at a time.
 use Rattle.std.proofs.Common.{◌≡◌, ◌<◌, ℕ, zero, suc, Bool, true, false, List, [], ◌∷◌, Option, Some, None, refl, sym, ap, ◌∙◌, arith}
 use Rattle.std.specs.Prelude.{find}
-use Rattle.am_names.specs.declared.row.MemberRow.{MemberRow}
-use Rattle.am_names.specs.declared.row.GroupRow.{GroupRow}
+use Rattle.am_names.specs.{MemberRow, GroupRow}
 use Rattle.am_names.specs.PeerGroups.{PeerGroups}
-use Rattle.am_group.specs.Propagation.{master_of_group}
-use Rattle.am_group.specs.Changes.{up_within, up, lifted}
-use Rattle.am_group.specs.Invariant.{IsOrderly}
+use Rattle.am_group.specs.{master_of_group, up_within, up, lifted, IsOrderly}
 
 abbrev pub height : Option ℕ → ℕ
 height None = 0

@@ -3,12 +3,9 @@ use Rattle.std.proofs.Common.{◌≡◌, ◌≤◌, ◌<◌, ◌+◌, ℕ, Bool,
 use Rattle.std.specs.Prelude.{find, filter, map, option_map, is_some, ◌==◌}
 use Rattle.std.proofs.lemmas.Bool.{eqb-true, eq-eqb}
 use Rattle.am_group.proofs.ScanLemmas.{just_same}
-use Rattle.am_names.specs.declared.row.MemberRow.{MemberRow}
-use Rattle.am_names.specs.declared.row.GroupRow.{GroupRow}
+use Rattle.am_names.specs.{MemberRow, GroupRow, RiseBy}
 use Rattle.am_names.specs.PeerGroups.{PeerGroups}
-use Rattle.am_group.specs.Propagation.{member_row, group_row, group_in}
-use Rattle.am_group.specs.Changes.{is_just, has_members}
-use Rattle.am_group.specs.Invariant.{RiseFrom, RiseBy, HasMembers}
+use Rattle.am_group.specs.{member_row, group_row, group_in, is_just, has_members, RiseFrom, HasMembers}
 
 -- rows mapped by what keeps their number
 pub find_map_same : {R : Type 0} (key : R → ℕ) (k : ℕ) (f : R → R) → ((r : R) → key (f r) ≡ key r) → (rows : List R) → find (λ r. key r == k) (map f rows) ≡ option_map f (find (λ r. key r == k) rows)

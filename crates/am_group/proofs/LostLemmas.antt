@@ -4,15 +4,9 @@ use Rattle.std.specs.Prelude.{map, filter, not, ◌==◌}
 use Rattle.std.proofs.lemmas.Bool.{eqb-true, eq-eqb, ne_eqb, and_from}
 use Rattle.std.specs.List.{list_all}
 use Rattle.am_names.proofs.Basics.{false_where_not, left_of_and, right_of_and, or_assoc}
-use Rattle.am_names.specs.declared.row.MemberRow.{MemberRow}
-use Rattle.am_names.specs.declared.row.GroupRow.{GroupRow}
+use Rattle.am_names.specs.{MemberRow, GroupRow, is_among}
 use Rattle.am_names.specs.PeerGroups.{PeerGroups}
-use Rattle.am_group.specs.Changes.{is_just, has_members, is_among, is_kept, lifted, lifted_member, lifted_group, settled, cleared, with_only, left, without}
-use Rattle.am_group.specs.Copies.{has_receiver, AreOfReceivers}
-use Rattle.am_group.specs.Invariant.{RiseFrom}
-use Rattle.am_group.specs.Propagation.{member_row, group_in, group_of}
-use Rattle.am_group.specs.Scan.{is_one_of}
-use Rattle.am_group.specs.Tables.{AreLive, AreLiveAmong, AreOthers, AreLost, is_free_group, is_free_member, is_free_of, without_groups}
+use Rattle.am_group.specs.{is_just, has_members, is_kept, lifted, lifted_member, lifted_group, settled, cleared, with_only, left, without, has_receiver, AreOfReceivers, RiseFrom, member_row, group_in, group_of, is_one_of, AreLive, AreLiveAmong, AreOthers, AreLost, is_free_group, is_free_member, is_free_of, without_groups}
 use Rattle.am_group.proofs.LiftLemmas.{lifted_here, same_state}
 
 or_swap : (a b c : Bool) → (a || (b || c)) ≡ (b || (a || c))

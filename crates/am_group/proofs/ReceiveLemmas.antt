@@ -2,8 +2,7 @@
 use Rattle.std.proofs.Common.{◌≡◌, ◌⊎◌, ℕ, List, [], ◌∷◌, ◌++◌, Option, Some, None, refl, sym, ap, inl, inr, ◌∙◌}
 use Rattle.am_names.proofs.Basics.{some_injective}
 use Rattle.am_names.specs.PeerGroups.{PeerGroups}
-use Rattle.am_group.specs.Propagation.{member_row, group_of, slave_in, master_of_group, master_of, PropagatesTo, PropagatesBy}
-use Rattle.am_group.specs.Invariant.{IsPeopled, HasMembers}
+use Rattle.am_group.specs.{member_row, group_of, slave_in, master_of_group, master_of, PropagatesTo, PropagatesBy, IsPeopled, HasMembers}
 
 -- these masters lead from h up to g
 abbrev pub LeadsUp : PeerGroups → List ℕ → ℕ → ℕ → Type 0

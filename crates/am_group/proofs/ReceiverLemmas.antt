@@ -9,10 +9,8 @@ use Rattle.std.proofs.lemmas.Cmp.{nat_eq_equiv}
 use Rattle.std.proofs.lemmas.List.Sums.{take_while-cons}
 use Rattle.am_names.proofs.Basics.{or_left, or_right}
 use Rattle.am_names.specs.PeerGroups.{PeerGroups}
-use Rattle.am_group.specs.Propagation.{member_row, slave_in, group_of, master_of_group, PropagatesBy, Receives}
-use Rattle.am_group.specs.Changes.{has_members, up_within, is_among}
-use Rattle.am_group.specs.Invariant.{HasMembers, IsOrderly}
-use Rattle.am_group.specs.Receivers.{home_group, peopled_up, is_under, receives}
+use Rattle.am_group.specs.{member_row, slave_in, group_of, master_of_group, PropagatesBy, Receives, has_members, up_within, HasMembers, IsOrderly, home_group, peopled_up, is_under, receives}
+use Rattle.am_names.specs.{is_among}
 use Rattle.am_group.proofs.ClearLemmas.{test_from_member}
 use Rattle.am_group.proofs.LookupLemmas.{members_from_test}
 use Rattle.am_group.proofs.ReceiveLemmas.{LeadsUp, ArePeopled, home_where, home_of, IsReached, reached_by_way, way_from_reached}

@@ -6,11 +6,8 @@ use Rattle.std.specs.List.Sorted.{IsStrictlyIncreasing}
 use Rattle.std.proofs.lemmas.Bool.{eqb-true, eq-eqb, or_cases}
 use Rattle.std.proofs.lemmas.Map.Views.{any-filter_same}
 use Rattle.am_names.proofs.Basics.{or_left, or_right}
-use Rattle.am_names.specs.declared.row.MemberRow.{MemberRow}
-use Rattle.am_group.specs.Propagation.{member_row}
-use Rattle.am_group.specs.Changes.{is_just}
-use Rattle.am_group.specs.Invariant.{RiseBy}
-use Rattle.am_group.specs.Scan.{numbers}
+use Rattle.am_names.specs.{MemberRow, RiseBy}
+use Rattle.am_group.specs.{member_row, is_just, numbers}
 
 abbrev pub has : ℕ → List ℕ → Bool
 has c xs = list_any (λ x. eqb c x) xs

@@ -1,12 +1,9 @@
 -- Lifting masters that do not stay: what a settled state keeps, and that nothing new comes under a group.
 use Rattle.std.proofs.Common.{◌≡◌, ◌≤◌, ◌<◌, ℕ, zero, suc, Bool, true, false, cond, ◌||◌, List, [], ◌∷◌, ◌++◌, Option, Some, None, refl, sym, ap, subst, inl, inr, ◌∙◌, arith}
 use Rattle.std.specs.Prelude.{find, map, option_map, is_some}
-use Rattle.am_names.specs.declared.row.MemberRow.{MemberRow}
-use Rattle.am_names.specs.declared.row.GroupRow.{GroupRow}
+use Rattle.am_names.specs.{MemberRow, GroupRow}
 use Rattle.am_names.specs.PeerGroups.{PeerGroups}
-use Rattle.am_group.specs.Propagation.{member_row, group_row, group_in, slave_in, master_in, group_of, master_of_group}
-use Rattle.am_group.specs.Changes.{is_just, has_members, up_within, up, lifted, lifted_member, lifted_group, settled}
-use Rattle.am_group.specs.Invariant.{IsMaster, IsOrderly}
+use Rattle.am_group.specs.{member_row, group_row, group_in, slave_in, master_in, group_of, master_of_group, is_just, has_members, up_within, up, lifted, lifted_member, lifted_group, settled, IsMaster, IsOrderly}
 use Rattle.am_group.proofs.ReceiveLemmas.{LeadsUp, home_where, IsUnder}
 use Rattle.am_group.proofs.LookupLemmas.{find_map_same, found_passes, RiseFrom-map, RiseBy-map}
 

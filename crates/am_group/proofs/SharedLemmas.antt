@@ -4,12 +4,9 @@ use Rattle.std.specs.Prelude.{option_map, is_some, ◌==◌}
 use Rattle.std.specs.Option.{option_or}
 use Rattle.std.proofs.lemmas.List.Folds.{find-append}
 use Rattle.std.proofs.lemmas.Bool.{eqb-true, eq-eqb, ne_eqb, cases_eq}
-use Rattle.am_names.specs.declared.row.MemberRow.{MemberRow}
-use Rattle.am_names.specs.declared.row.GroupRow.{GroupRow}
+use Rattle.am_names.specs.{MemberRow, GroupRow}
 use Rattle.am_names.specs.PeerGroups.{PeerGroups}
-use Rattle.am_group.specs.Propagation.{member_row, group_row, group_in, slave_in, master_in, group_of, master_of_group}
-use Rattle.am_group.specs.Changes.{at_row, with_row, with_group, shared_from, shared_row, shared_where, made_shared}
-use Rattle.am_group.specs.Invariant.{IsGroup, IsMaster, HasMembers, IsOrderly, IsPeopled, IsSound}
+use Rattle.am_group.specs.{member_row, group_row, group_in, slave_in, master_in, group_of, master_of_group, at_row, with_row, with_group, shared_from, shared_row, shared_where, made_shared, IsGroup, IsMaster, HasMembers, IsOrderly, IsPeopled, IsSound}
 use Rattle.am_group.proofs.ReceiveLemmas.{LeadsUp, home_where, home_of, IsUnder}
 use Rattle.am_group.proofs.LookupLemmas.{found_passes, RiseFrom-map, groups_follow}
 use Rattle.am_group.proofs.LawLemmas.{BringsNoneUnder, law_from_under}

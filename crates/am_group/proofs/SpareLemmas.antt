@@ -7,13 +7,9 @@ use Rattle.std.specs.Ordering.{nat_cmp}
 use Rattle.std.proofs.lemmas.Bool.{eqb-true, eq-eqb, ne_eqb, or_cases, and_parts, and_from}
 use Rattle.am_names.proofs.Basics.{or_left, or_right, false_where_not}
 use Rattle.am_names.proofs.LeaveLemmas.{Rise, none_out}
-use Rattle.am_names.specs.declared.row.MemberRow.{MemberRow}
-use Rattle.am_names.specs.declared.row.GroupRow.{GroupRow}
+use Rattle.am_names.specs.{MemberRow, GroupRow}
 use Rattle.am_names.specs.PeerGroups.{PeerGroups}
-use Rattle.am_group.specs.Propagation.{member_row}
-use Rattle.am_group.specs.Changes.{is_just, has_members, at_row, with_row, left, shared_row}
-use Rattle.am_group.specs.Invariant.{RiseFrom, IsOrderly}
-use Rattle.am_group.specs.Tables.{AreLost, is_other_in, not_alone_in, is_not_alone}
+use Rattle.am_group.specs.{member_row, is_just, has_members, at_row, with_row, left, shared_row, RiseFrom, IsOrderly, AreLost, is_other_in, not_alone_in, is_not_alone}
 use Rattle.am_group.proofs.FindLemmas.{rows_rise, index_found, all_differ}
 use Rattle.am_group.proofs.LiftLemmas.{same_state}
 use Rattle.am_group.proofs.LostLemmas.{free_left, free_of_none}

@@ -3,17 +3,11 @@ use Rattle.std.proofs.Common.{◌≡◌, ◌<◌, ◌+◌, ℕ, Bool, true, fals
 use Rattle.std.specs.Prelude.{map, not, option_map, ◌==◌, Result, Ok, Err, OnOk}
 use Rattle.std.proofs.lemmas.Bool.{eqb-true, eq-eqb, ne_eqb}
 use Rattle.am_names.proofs.Basics.{or_left, or_right}
-use Rattle.am_names.specs.declared.row.MemberRow.{MemberRow}
-use Rattle.am_names.specs.declared.row.GroupRow.{GroupRow}
+use Rattle.am_names.specs.{MemberRow, GroupRow}
 use Rattle.am_names.specs.PeerGroups.{PeerGroups}
-use Rattle.am_group.specs.declared.kind.Kind.{Kind}
-use Rattle.am_group.specs.declared.kind.Kind.TheVariants.{Shared, Slave, SharedSlave, Private, Unbindable}
-use Rattle.am_group.specs.declared.kind.Change.{Change}
-use Rattle.am_group.specs.declared.kind.Change.TheVariants.{MakeShared, MakeSlave, MakePrivate, MakeUnbindable}
-use Rattle.am_group.specs.Propagation.{member_row, group_in, master_in, group_of, master_of_group}
-use Rattle.am_group.specs.Changes.{is_just, has_members, is_kept, lifted, lifted_member, settled, cleared, left, slave_from, slave_row, private_row, unbindable_row, shared_row, shared_where, at_row, with_row, made_shared, changed}
-use Rattle.am_group.specs.Kinds.{shared_kind, lone_kind, kind_where, kind_of_row, kind_of, has_others, alone_in, is_alone, kind_after}
-use Rattle.am_group.specs.Invariant.{IsOrderly}
+use Rattle.am_group.specs.{MountState, Change, member_row, group_in, master_in, group_of, master_of_group, is_just, has_members, is_kept, lifted, lifted_member, settled, cleared, left, slave_from, slave_row, private_row, unbindable_row, shared_row, shared_where, at_row, with_row, made_shared, changed, shared_kind, lone_kind, kind_where, kind_of_row, kind_of, has_others, alone_in, is_alone, kind_after, IsOrderly}
+use Rattle.am_group.specs.declared.mount_state.MountState.TheVariants.{Shared, Slave, SharedSlave, Private, Unbindable}
+use Rattle.am_group.specs.declared.mount_state.Change.TheVariants.{MakeShared, MakeSlave, MakePrivate, MakeUnbindable}
 use Rattle.am_group.proofs.LookupLemmas.{found_passes, members_from_test}
 use Rattle.am_group.proofs.ClearLemmas.{test_from_member, kept_row}
 use Rattle.am_group.proofs.SettleLemmas.{member_row-settled, has_lifted}
@@ -174,14 +168,14 @@ module _ (s : PeerGroups) (orderly : IsOrderly s) (m : ℕ) (row : MemberRow) (i
   slave_table = kind_left s (with_row slave_row m s) m ∙ kind_settled slave_stays slave_row slave_row_thins.same_mount ∙ ap Some (slave_row_kind row.group refl ∙ ap (λ (o : Option ℕ). kind_after MakeSlave (alone_in s m o) (kind_of_row s row)) (sym (group_is row.group refl)))
 
   -- private and unbindable, whatever it was
-  becomes_private : (alone : Bool) (k : Kind) → Private ≡ kind_after MakePrivate alone k
+  becomes_private : (alone : Bool) (k : MountState) → Private ≡ kind_after MakePrivate alone k
   becomes_private alone Shared = refl
   becomes_private alone Slave = refl
   becomes_private alone SharedSlave = refl
   becomes_private alone Private = refl
   becomes_private alone Unbindable = refl
 
-  becomes_unbindable : (alone : Bool) (k : Kind) → Unbindable ≡ kind_after MakeUnbindable alone k
+  becomes_unbindable : (alone : Bool) (k : MountState) → Unbindable ≡ kind_after MakeUnbindable alone k
   becomes_unbindable alone Shared = refl
   becomes_unbindable alone Slave = refl
   becomes_unbindable alone SharedSlave = refl

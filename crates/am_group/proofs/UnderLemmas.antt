@@ -8,16 +8,9 @@ use Rattle.std.proofs.lemmas.Bool.{eqb-true, eq-eqb, ne_eqb, and_parts}
 use Rattle.std.proofs.lemmas.List.{take_more}
 use Rattle.std.proofs.lemmas.List.Kept.{IsStrictlyIncreasing-filter}
 use Rattle.am_names.proofs.Basics.{or_left}
-use Rattle.am_names.specs.declared.row.MemberRow.{MemberRow}
-use Rattle.am_names.specs.declared.row.GroupRow.{GroupRow}
+use Rattle.am_names.specs.{MemberRow, GroupRow, is_among, RiseBy}
 use Rattle.am_names.specs.PeerGroups.{PeerGroups}
-use Rattle.am_group.specs.Propagation.{member_row, group_row, group_in, slave_in, master_in, group_of, master_of_group, Receives}
-use Rattle.am_group.specs.Changes.{has_members, up_within, up, is_among}
-use Rattle.am_group.specs.Copies.{has_receiver, receiving_groups}
-use Rattle.am_group.specs.Invariant.{RiseBy, IsGroup, IsOrderly}
-use Rattle.am_group.specs.Scan.{numbers, is_one_of}
-use Rattle.am_group.specs.Tables.{AreLiveAmong}
-use Rattle.am_group.specs.Receivers.{home_group, peopled_up, is_under, receives, receivers_of, home_in, is_below, is_at_or_under, group_numbers, groups_below, groups_under, under_these}
+use Rattle.am_group.specs.{member_row, group_row, group_in, slave_in, master_in, group_of, master_of_group, Receives, has_members, up_within, up, has_receiver, receiving_groups, IsGroup, IsOrderly, numbers, is_one_of, AreLiveAmong, home_group, peopled_up, is_under, receives, receivers_of, home_in, is_below, is_at_or_under, group_numbers, groups_below, groups_under, under_these}
 use Rattle.am_group.proofs.LookupLemmas.{RiseBy-filter}
 use Rattle.am_group.proofs.FindLemmas.{found_at}
 use Rattle.am_group.proofs.LiftLemmas.{up_master}

@@ -2,12 +2,10 @@
 -- group leaves.
 use Rattle.std.specs.Prelude.{◌==◌, ◌||◌, ◌+◌, ℕ, zero, suc, Bool, true, false, not, List, [], ◌∷◌, ◌++◌, map, filter, find, Option, Some, None, if◌then◌else◌}
 use Rattle.std.specs.List.{list_any}
-pub use Rattle.am_names.specs.Numbers.{is_among}
-use Rattle.am_names.specs.declared.row.MemberRow.{MemberRow}
-use Rattle.am_names.specs.declared.row.GroupRow.{GroupRow}
+use Rattle.am_names.specs.{MemberRow, GroupRow}
 use Rattle.am_names.specs.PeerGroups.{PeerGroups}
-use Rattle.am_group.specs.declared.kind.Change.{Change}
-use Rattle.am_group.specs.declared.kind.Change.TheVariants.{MakeShared, MakeSlave, MakePrivate, MakeUnbindable}
+use Rattle.am_group.specs.declared.mount_state.Change.{Change}
+use Rattle.am_group.specs.declared.mount_state.Change.TheVariants.{MakeShared, MakeSlave, MakePrivate, MakeUnbindable}
 use Rattle.am_group.specs.Propagation.{member_row, group_of, master_of_group}
 
 -- there is a peer group, and it is this one
@@ -102,14 +100,14 @@ shared_where (Some row) (Some group) m s = s
 shared_where (Some row) None m s =
     with_row (shared_row (s.last_group + 1)) m (with_group row.master s)
 
--- own (docs/DECISIONS.md, "A group without members is gone"):
--- a peer group stays where it has members, or where it had none before
+-- own choice (docs/DECISIONS.md, "A group without members is gone"): a peer group stays where it
+-- has members, or where it had none before
 abbrev pub is_kept : List MemberRow → List MemberRow → ℕ → Bool
 is_kept old new g = has_members new g || not (has_members old g)
 
--- own (docs/DECISIONS.md, "A group without members is gone"):
--- the rows of a state that comes after the old one: the peer groups that lost their last member go,
--- and in place of each as a master the first group up its chain of masters that stays, else none
+-- own choice (docs/DECISIONS.md, "A group without members is gone"): the rows of a state that comes
+-- after the old one: the peer groups that lost their last member go, and in place of each as a
+-- master the first group up its chain of masters that stays, else none
 abbrev pub left : PeerGroups → PeerGroups → PeerGroups
 left old raw =
     let stays = is_kept old.members raw.members in

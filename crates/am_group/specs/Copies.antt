@@ -1,12 +1,11 @@
 -- What a mount on a shared mount adds: a copy on each receiver (sharedsubtree.rst, 5b and 5e).
--- Their peer groups: own (docs/DECISIONS.md, "Copies in groups").
+-- Their peer groups: own choice (docs/DECISIONS.md, "Copies in groups").
 use Rattle.std.specs.Prelude.{◌≡◌, ◌==◌, ◌&&◌, ◌+◌, ℕ, Bool, false, not, nat_lt, List, [], ◌∷◌, ◌++◌, map, filter, length, Option, Some, None, option_map, if◌then◌else◌}
 use Rattle.std.specs.List.{list_any}
-use Rattle.am_names.specs.declared.row.MemberRow.{MemberRow}
-use Rattle.am_names.specs.declared.row.GroupRow.{GroupRow}
+use Rattle.am_names.specs.{MemberRow, GroupRow, is_among}
 use Rattle.am_names.specs.PeerGroups.{PeerGroups}
 use Rattle.am_group.specs.Propagation.{member_row, slave_in, group_of, master_of_group}
-use Rattle.am_group.specs.Changes.{is_just, is_among}
+use Rattle.am_group.specs.Changes.{is_just}
 
 -- these rows and groups are added, and nothing else changes
 abbrev pub added : List MemberRow → List GroupRow → ℕ → PeerGroups → PeerGroups

@@ -1,8 +1,6 @@
 -- What the peer groups keep (sharedsubtree.rst, 5a). That numbers rise is own choice.
 use Rattle.std.specs.Prelude.{◌≡◌, ◌≤◌, ◌<◌, ◌⊎◌, ℕ, true, List, Some, is_some}
-use Rattle.am_names.specs.declared.row.MemberRow.{MemberRow}
-use Rattle.am_names.specs.declared.row.GroupRow.{GroupRow}
-pub use Rattle.am_names.specs.Numbers.{RiseBy}
+use Rattle.am_names.specs.{MemberRow, GroupRow, RiseBy}
 use Rattle.am_names.specs.PeerGroups.{PeerGroups}
 use Rattle.am_group.specs.Propagation.{member_row, group_row, group_of, master_of_group, slave_in, Receives}
 

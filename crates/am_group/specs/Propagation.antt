@@ -1,8 +1,7 @@
 -- Which mounts receive propagation from another (sharedsubtree.rst, 5a).
 use Rattle.std.specs.Prelude.{◌≡◌, ◌≢◌, ◌⊎◌, ◌==◌, ℕ, List, [], ◌∷◌, Option, Some, None, find}
 use Rattle.am_names.specs.PeerGroups.{PeerGroups}
-use Rattle.am_names.specs.declared.row.MemberRow.{MemberRow}
-use Rattle.am_names.specs.declared.row.GroupRow.{GroupRow}
+use Rattle.am_names.specs.{MemberRow, GroupRow}
 
 -- the row of the mount
 abbrev pub member_row : List MemberRow → ℕ → Option MemberRow

@@ -3,11 +3,10 @@
 -- `Groups::receivers` shows that both are the same.
 use Rattle.std.specs.Prelude.{◌==◌, ◌&&◌, ℕ, Bool, false, not, List, map, filter, take_while, Option, Some, None}
 use Rattle.std.specs.Option.{option_or}
-use Rattle.am_names.specs.declared.row.MemberRow.{MemberRow}
-use Rattle.am_names.specs.declared.row.GroupRow.{GroupRow}
+use Rattle.am_names.specs.{MemberRow, GroupRow, is_among}
 use Rattle.am_names.specs.PeerGroups.{PeerGroups}
 use Rattle.am_group.specs.Propagation.{member_row, slave_in, group_of}
-use Rattle.am_group.specs.Changes.{has_members, up, is_among}
+use Rattle.am_group.specs.Changes.{has_members, up}
 use Rattle.am_group.specs.Scan.{numbers, is_one_of}
 
 -- the mount's peer group, else the one of which it is a slave

@@ -1,8 +1,7 @@
 -- The numbers of mounts, and whether a peer group is one of some: own choice, as numbers stand for
 -- mounts and groups.
 use Rattle.std.specs.Prelude.{ℕ, Bool, false, List, map, Option, Some, None}
-use Rattle.am_names.specs.declared.row.MemberRow.{MemberRow}
-use Rattle.am_group.specs.Changes.{is_among}
+use Rattle.am_names.specs.{MemberRow, is_among}
 
 -- the numbers of these mounts
 abbrev pub numbers : List MemberRow → List ℕ

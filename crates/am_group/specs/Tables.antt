@@ -2,16 +2,15 @@
 -- members is gone").
 use Rattle.std.specs.Prelude.{◌≡◌, ◌||◌, ◌&&◌, ◌==◌, ℕ, Bool, true, false, not, List, filter, Option, Some, None}
 use Rattle.std.specs.List.{list_all, list_any}
-use Rattle.am_names.specs.declared.row.MemberRow.{MemberRow}
-use Rattle.am_names.specs.declared.row.GroupRow.{GroupRow}
+use Rattle.am_names.specs.{MemberRow, GroupRow, is_among}
 use Rattle.am_names.specs.PeerGroups.{PeerGroups}
 use Rattle.am_group.specs.declared.tables.Tables.{Tables}
-use Rattle.am_group.specs.declared.kind.Kind.{Kind}
-use Rattle.am_group.specs.declared.kind.Kind.TheVariants.{Shared, Slave, SharedSlave, Private, Unbindable}
-use Rattle.am_group.specs.declared.kind.Change.{Change}
-use Rattle.am_group.specs.declared.kind.Change.TheVariants.{MakeShared, MakeSlave, MakePrivate, MakeUnbindable}
+use Rattle.am_group.specs.declared.mount_state.MountState.{MountState}
+use Rattle.am_group.specs.declared.mount_state.MountState.TheVariants.{Shared, Slave, SharedSlave, Private, Unbindable}
+use Rattle.am_group.specs.declared.mount_state.Change.{Change}
+use Rattle.am_group.specs.declared.mount_state.Change.TheVariants.{MakeShared, MakeSlave, MakePrivate, MakeUnbindable}
 use Rattle.am_group.specs.Scan.{is_one_of}
-use Rattle.am_group.specs.Changes.{is_just, has_members, is_among, shared_row, slave_row, private_row, unbindable_row}
+use Rattle.am_group.specs.Changes.{is_just, has_members, shared_row, slave_row, private_row, unbindable_row}
 
 -- the rows, seen as peer groups
 abbrev pub state_of : Tables → PeerGroups
@@ -80,7 +79,7 @@ row_of MakePrivate fresh = private_row
 row_of MakeUnbindable fresh = unbindable_row
 
 -- the row of a mount that comes to this state
-abbrev pub row_as : Kind → ℕ → MemberRow → MemberRow
+abbrev pub row_as : MountState → ℕ → MemberRow → MemberRow
 row_as Shared fresh = shared_row fresh
 row_as SharedSlave fresh = shared_row fresh
 row_as Slave fresh = slave_row

@@ -1,16 +1,16 @@
 //! The peer groups of all mounts.
 
 ghost use Rattle.std.specs.Prelude.{◌≡◌, ◌+◌, ◌^◌, ◌<◌, ◌≤◌, length, IfOk, IfSome, OnOk, OnErr};
-ghost use Rattle.am_names.specs.Errno.{RefusedAs};
+ghost use Rattle.am_names.specs.{RefusedAs};
 ghost use Rattle.am_group.specs.Propagation.{member_row, group_of, master_of_group};
 ghost use Rattle.am_group.specs.Changes.{with_group};
 ghost use Rattle.am_group.specs.Copies.{all_added};
 ghost use Rattle.am_group.specs.Invariant.{AddsNoReceivers, IsOrderly, IsPeopled, IsSound};
-ghost use Rattle.am_group.specs.Kinds.{kind_of_row, kind_of};
+ghost use Rattle.am_group.specs.MountStates.{kind_of_row, kind_of};
 ghost use Rattle.am_group.specs.Members.{no_mounts, below, row_with, with_member, is_exhausted, is_group, may_be_master, may_have, KeepsPeopled, fresh_refusal, add_refusal};
 
-use crate::kind::Kind;
 use crate::membership::Membership;
+use crate::mount_state::MountState;
 use crate::tables::{group_row, member_row};
 use am_names::{Errno, GroupId, GroupRow, MemberRow, MountId};
 use std::alloc::{AllocError, Global};
@@ -34,7 +34,7 @@ impl Model for Groups {
     ghost Value = { PeerGroups };
 
     ghost use Rattle.am_group.specs.Invariant.{IsOrderly};
-    ghost use Rattle.am_group.specs.Inside.{view_of};
+    ghost use Rattle.am_group.specs.View.{view_of};
 
     ghost view = { view_of };
 
@@ -103,24 +103,24 @@ impl Groups {
         }
     }
 
-    fn kind_of_row(&self, row: &MemberRow) -> Kind
+    fn kind_of_row(&self, row: &MemberRow) -> MountState
         ensures { result ≡ kind_of_row self.now row.now }
     {
         match row.group {
             Some(group) => match self.master_of_group(group) {
-                Some(_) => Kind::SharedSlave,
-                None => Kind::Shared,
+                Some(_) => MountState::SharedSlave,
+                None => MountState::Shared,
             },
             None => match row.master {
-                Some(_) => Kind::Slave,
-                None if row.unbindable => Kind::Unbindable,
-                None => Kind::Private,
+                Some(_) => MountState::Slave,
+                None if row.unbindable => MountState::Unbindable,
+                None => MountState::Private,
             },
         }
     }
 
     /// The state of the mount; none where there is no such mount.
-    pub fn kind(&self, mount: MountId) -> Option<Kind>
+    pub fn kind(&self, mount: MountId) -> Option<MountState>
         ensures { result ≡ kind_of self.now mount }
     {
         match self.member(mount) {

@@ -3,10 +3,10 @@
 #![tactic(auto)]
 
 pub mod groups;
-pub mod kind;
 pub mod membership;
+pub mod mount_state;
 mod tables;
 
 pub use groups::Groups;
-pub use kind::{Change, Kind};
 pub use membership::Membership;
+pub use mount_state::{Change, MountState};

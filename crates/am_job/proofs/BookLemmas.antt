@@ -4,14 +4,13 @@ use Rattle.std.specs.Prelude.{find, if◌then◌else◌}
 use Rattle.std.specs.List.{list_any, AllByRecursion, IsDistinct}
 use Rattle.std.specs.Map.{lookup, keys_of}
 use Rattle.std.specs.Option.{option_map}
-use Rattle.am_ordered.specs.Lookup.{insert_entry, shift_remove_entry}
-use Rattle.am_names.specs.Trigger.{same_trigger}
+use Rattle.am_ordered.specs.{insert_entry, shift_remove_entry}
+use Rattle.am_names.specs.{same_trigger}
 use Rattle.am_names.specs.declared.trigger.Trigger.{Trigger}
-use Rattle.am_state.specs.declared.daemon_row.Record.{Record}
-use Rattle.am_state.specs.declared.daemon_row.RecordRow.{RecordRow}
-use Rattle.am_job.specs.Book.{record_of, record_row, with_record, without_record, without_fs}
-use Rattle.am_job.specs.Inside.{row_of, rows_of}
-use Rattle.am_names.proofs.SameTriggers.{is_one, either_way}
+use Rattle.am_state.specs.{Record, RecordRow}
+use Rattle.am_job.specs.{record_of, record_row, with_record, without_record, without_fs}
+use Rattle.am_job.specs.View.{row_of, rows_of}
+use Rattle.am_names.proofs.SameTriggers.{equal_by_same_trigger, same_trigger_either_way}
 
 -- rows are left out as pairs are
 pub rows_left : (keep : RecordRow → Bool) (pairs : List (Trigger × Record)) → rows_of (filter (λ pair. keep (row_of pair)) pairs) ≡ filter keep (rows_of pairs)
@@ -46,11 +45,11 @@ record_left keep g gone says (row ∷ rows) = by (record_left keep g gone says r
 
 pub removed : (trigger g : Trigger) (rows : List RecordRow) → record_of (without_record trigger rows) g ≡ (if same_trigger trigger g then None else record_of rows g)
 removed trigger g rows =
-    record_left (λ row. not (same_trigger row.trigger trigger)) g (same_trigger trigger g) (λ row same. ap (λ (x : Trigger). not (same_trigger x trigger)) (is_one row.trigger g same) ∙ ap not (either_way g trigger)) rows
+    record_left (λ row. not (same_trigger row.trigger trigger)) g (same_trigger trigger g) (λ row same. ap (λ (x : Trigger). not (same_trigger x trigger)) (equal_by_same_trigger row.trigger g same) ∙ ap not (same_trigger_either_way g trigger)) rows
 
 pub forgotten : (fs : ℕ) (g : Trigger) (rows : List RecordRow) → record_of (without_fs fs rows) g ≡ (if g.fs == fs then None else record_of rows g)
 forgotten fs g rows =
-    record_left (λ row. not (row.trigger.fs == fs)) g (g.fs == fs) (λ row same. ap (λ (x : Trigger). not (x.fs == fs)) (is_one row.trigger g same)) rows
+    record_left (λ row. not (row.trigger.fs == fs)) g (g.fs == fs) (λ row same. ap (λ (x : Trigger). not (x.fs == fs)) (equal_by_same_trigger row.trigger g same)) rows
 
 module _ (eq : Trigger → Trigger → Bool) (says : (a b : Trigger) → eq a b ≡ same_trigger b a) where
   -- the index says what the rows say
@@ -81,7 +80,7 @@ module _ (eq : Trigger → Trigger → Bool) (says : (a b : Trigger) → eq a b 
           rows_of (insert_entry eq (pair ∷ pairs) trigger entry) ≡ with_record trigger entry (rows_of (pair ∷ pairs))
       by later true h =
           let same : same_trigger pair.0 trigger ≡ true = sym (says trigger pair.0) ∙ h in
-          let apart : AllByRecursion (λ key. eq trigger key ≡ false) (keys_of pairs) = subst (λ (x : Trigger). AllByRecursion (λ key. eq x key ≡ false) (keys_of pairs)) (is_one pair.0 trigger same) distinct.0 in
+          let apart : AllByRecursion (λ key. eq trigger key ≡ false) (keys_of pairs) = subst (λ (x : Trigger). AllByRecursion (λ key. eq x key ≡ false) (keys_of pairs)) (equal_by_same_trigger pair.0 trigger same) distinct.0 in
           rw (h, same) (ap (λ (rows : List RecordRow). row_of (pair.0, entry) ∷ rows) (sym (others_stay trigger entry pairs apart)))
       by later false h =
           let differs : same_trigger pair.0 trigger ≡ false = sym (says trigger pair.0) ∙ h in
@@ -102,7 +101,7 @@ module _ (eq : Trigger → Trigger → Bool) (says : (a b : Trigger) → eq a b 
           rows_of (shift_remove_entry (eq trigger) (pair ∷ pairs)) ≡ without_record trigger (rows_of (pair ∷ pairs))
       by later true h =
           let same : same_trigger pair.0 trigger ≡ true = sym (says trigger pair.0) ∙ h in
-          let apart : AllByRecursion (λ key. eq trigger key ≡ false) (keys_of pairs) = subst (λ (x : Trigger). AllByRecursion (λ key. eq x key ≡ false) (keys_of pairs)) (is_one pair.0 trigger same) distinct.0 in
+          let apart : AllByRecursion (λ key. eq trigger key ≡ false) (keys_of pairs) = subst (λ (x : Trigger). AllByRecursion (λ key. eq x key ≡ false) (keys_of pairs)) (equal_by_same_trigger pair.0 trigger same) distinct.0 in
           rw (h, same) (sym (none_go trigger pairs apart))
       by later false h =
           let differs : same_trigger pair.0 trigger ≡ false = sym (says trigger pair.0) ∙ h in
@@ -112,5 +111,5 @@ module _ (eq : Trigger → Trigger → Bool) (says : (a b : Trigger) → eq a b 
   pub recorded_is : (trigger g : Trigger) (entry : Option Record) (old new : List (Trigger × Record)) → lookup (eq g) new ≡ cond (eq trigger g) entry (lookup (eq g) old) → record_of (rows_of new) g ≡ (if same_trigger trigger g then entry else record_of (rows_of old) g)
   recorded_is trigger g entry old new h =
       sym (lookup_is g new) ∙ h
-      ∙ ap (λ (b : Bool). cond b entry (lookup (eq g) old)) (says trigger g ∙ either_way g trigger)
+      ∙ ap (λ (b : Bool). cond b entry (lookup (eq g) old)) (says trigger g ∙ same_trigger_either_way g trigger)
       ∙ ap (λ (r : Option Record). cond (same_trigger trigger g) entry r) (lookup_is g old)

@@ -4,19 +4,15 @@ use Rattle.std.specs.Prelude.{IsTrue, IfSome}
 use Rattle.am_names.specs.declared.fail_no.FailNo.{FailNo}
 use Rattle.am_names.specs.declared.fail_no.FailNo.TheVariants.{ENOENT}
 use Rattle.am_names.specs.declared.trigger.Trigger.{Trigger}
-use Rattle.am_names.specs.declared.trigger.Status.{Status}
+use Rattle.am_names.specs.{Status, TokenKind}
 use Rattle.am_names.specs.declared.trigger.Status.TheVariants.{Ready, Fail}
-use Rattle.am_names.specs.declared.row.TokenKind.{TokenKind}
 use Rattle.am_names.specs.declared.row.TokenKind.TheVariants.{Missing, Expire}
 use Rattle.am_map.specs.EntryText.{EntryText}
-use Rattle.am_state.specs.declared.daemon_row.Record.{Record}
+use Rattle.am_state.specs.{Record}
 use Rattle.am_state.specs.declared.daemon_row.Record.TheVariants.{Mounted}
-use Rattle.am_job.specs.declared.act.Act.{Act}
+use Rattle.am_job.specs.{Act, Outcome, Plan, Ended, Next, plan_for, is_reply, claims, at_directory, rest_of, next_of, without_mount, after_failed_mount, rest_of_mount, after_umount, rest_of_umount, mount_entry, unmounting, book_and_reply, reply, IsEnded, AcknowledgesLast, RecordsFirst, ClaimsRight, ClaimsFollow, IsLawful, claimed_first}
 use Rattle.am_job.specs.declared.act.Act.TheVariants as act
-use Rattle.am_job.specs.declared.act.Outcome.{Outcome}
 use Rattle.am_job.specs.declared.act.Outcome.TheVariants.{Done, Made, Failed}
-use Rattle.am_job.specs.Plans.{Plan, Ended, Next, plan_for, is_reply, claims, at_directory, rest_of, next_of, without_mount, after_failed_mount, rest_of_mount, after_umount, rest_of_umount, mount_entry, unmounting, book_and_reply, reply}
-use Rattle.am_job.specs.Laws.{IsEnded, AcknowledgesLast, RecordsFirst, ClaimsRight, ClaimsFollow, IsLawful, claimed_first}
 
 -- ---- the notification is acknowledged, once and last
 

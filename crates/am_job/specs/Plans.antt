@@ -4,12 +4,11 @@ use Rattle.std.specs.Prelude.{ℕ, Bool, true, false, List, Option, Some, None}
 use Rattle.am_names.specs.declared.fail_no.FailNo.{FailNo}
 use Rattle.am_names.specs.declared.fail_no.FailNo.TheVariants.{ENOENT}
 use Rattle.am_names.specs.declared.trigger.Trigger.{Trigger}
-use Rattle.am_names.specs.declared.trigger.Status.{Status}
+use Rattle.am_names.specs.{Status, TokenKind}
 use Rattle.am_names.specs.declared.trigger.Status.TheVariants.{Ready, Fail}
-use Rattle.am_names.specs.declared.row.TokenKind.{TokenKind}
 use Rattle.am_names.specs.declared.row.TokenKind.TheVariants.{Missing, Expire}
 use Rattle.am_map.specs.EntryText.{EntryText}
-use Rattle.am_state.specs.declared.daemon_row.Record.{Record}
+use Rattle.am_state.specs.{Record}
 use Rattle.am_state.specs.declared.daemon_row.Record.TheVariants.{Mounting, Mounted, Unmounting}
 use Rattle.am_job.specs.declared.act.Act.{Act}
 use Rattle.am_job.specs.declared.act.Act.TheVariants as act

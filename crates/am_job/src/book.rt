@@ -1,7 +1,7 @@
 //! The daemon's book: what is mounted on each trigger.
 
 ghost use Rattle.std.specs.Prelude.{◌≡◌, ◌≤◌, ◌+◌, ◌==◌, not, length, filter, remove, slice_get, if◌then◌else◌, [], Some, None, IfSome, OnOk, OnErr};
-ghost use Rattle.am_names.specs.Errno.{RefusedAs};
+ghost use Rattle.am_names.specs.{RefusedAs};
 ghost use Rattle.am_job.specs.Book.{record_of, with_record, without_record, without_fs, IsRecorded, IsForgotten};
 
 use am_names::{Errno, FsId, Name, Trigger};
@@ -17,11 +17,11 @@ pub struct Book {
 }
 
 impl Model for Book {
-    ghost use Rattle.am_job.specs.Table.{BookTable};
+    ghost use Rattle.am_job.specs.Capacity.{BookTable};
 
     ghost Value = { BookTable };
 
-    ghost use Rattle.am_job.specs.Inside.{table_of};
+    ghost use Rattle.am_job.specs.View.{table_of};
 
     ghost view = { table_of };
 }

@@ -27,7 +27,7 @@ impl Model for Job {
 
     ghost Value = { JobState };
 
-    ghost use Rattle.am_job.specs.JobInside.{job_of, IsJob};
+    ghost use Rattle.am_job.specs.JobView.{job_of, IsJob};
 
     ghost view = { job_of };
 

@@ -3,18 +3,13 @@ use Rattle.std.proofs.Common.{◌≡◌, ℕ, List, [], ◌∷◌, Option, Some,
 use Rattle.std.specs.Prelude.{is_some}
 use Rattle.am_names.specs.declared.errno.Errno.{Errno}
 use Rattle.am_names.specs.declared.trigger.Trigger.{Trigger}
-use Rattle.am_names.specs.declared.trigger.PipeState.{PipeState}
-use Rattle.am_names.specs.declared.row.WaitRow.{WaitRow}
+use Rattle.am_names.specs.{PipeState, WaitRow}
 use Rattle.am_names.specs.declared.row.TokenKind.TheVariants.{Expire}
-use Rattle.am_wire.specs.declared.packet.Packet.{Packet}
-use Rattle.am_state.specs.declared.obs.Obs.{Obs}
+use Rattle.am_wire.specs.{Packet}
+use Rattle.am_state.specs.{Obs}
 use Rattle.am_state.specs.declared.obs.Obs.TheVariants as seen
-use Rattle.am_wait.specs.Rows.{wait_of}
-use Rattle.am_wait.specs.Calls.{is_exhausted, is_full, open_refusal}
-use Rattle.am_kernel.specs.State.{KernelState}
-use Rattle.am_kernel.specs.Outcome.{Meets}
-use Rattle.am_kernel.specs.Walks.{packet_for}
-use Rattle.am_kernel.specs.Expires.{expires_by, expires_next}
+use Rattle.am_wait.specs.{wait_of, is_exhausted, is_full, open_refusal}
+use Rattle.am_kernel.specs.{KernelState, Yields, packet_for, expires_by, expires_next}
 use Rattle.am_kernel.proofs.NotifyLemmas.{limits_refuse, limits_after_wait, limits_are_left}
 
 -- ---- what is seen, with this token and packet
@@ -28,7 +23,7 @@ expiry_packet walker trigger token = packet_for Expire token walker trigger
 -- ---- tokens and waits are left, or they aren't
 
 pub expiry_refused : (k : KernelState) (walker : ℕ) (trigger : Trigger) (attach : ℕ) (pipe : PipeState) (e : Errno) (before : List Obs) → wait_of k.waits.waits walker ≡ None → open_refusal walker k.waits ≡ Some e →
-    Meets (expires_next (Some trigger) pipe k walker attach) (Err e) k k before before
+    Yields (expires_next (Some trigger) pipe k walker attach) (Err e) k k before before
 expiry_refused k walker trigger attach pipe e before idle why_not =
     limits_refuse (is_exhausted k.waits) (is_full k.waits) (expires_by pipe k walker trigger attach) k before e
     (limits_after_wait (is_some (wait_of k.waits.waits walker)) (is_exhausted k.waits) (is_full k.waits) (Some e) (ap (λ (o : Option WaitRow). is_some o) idle) why_not)

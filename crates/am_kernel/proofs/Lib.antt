@@ -1,4 +1,4 @@
-pub mod AgainLemmas
+pub mod RetryLemmas
 pub mod ExpireLemmas
 pub mod FreeLemmas
 pub mod MomentLemmas

@@ -6,11 +6,10 @@ use Rattle.std.proofs.lemmas.List.{take_more, flat_map_more}
 use Rattle.std.proofs.lemmas.Bool.Decides.{Decides-eqb}
 use Rattle.std.proofs.lemmas.List.Elements.{All-push, All-weaker, All-head, All-tail}
 use Rattle.am_names.specs.declared.errno.Errno.TheVariants.{EEXIST}
-use Rattle.am_state.specs.declared.kernel_row.QueuedRow.{QueuedRow}
+use Rattle.am_state.specs.{QueuedRow}
 use Rattle.am_propagate.specs.MountTable.{MountTable}
-use Rattle.am_trigger.specs.declared.autofs.Autofs.{Autofs}
-use Rattle.am_trigger.specs.Rows.{TriggerRows, add_refusal}
-use Rattle.am_kernel.specs.State.{KernelState}
+use Rattle.am_trigger.specs.{Autofs, TriggerRows, add_refusal}
+use Rattle.am_kernel.specs.{KernelState}
 
 -- ---- fields that are changed
 

@@ -2,13 +2,12 @@
 use Rattle.std.proofs.Common.{◌≡◌, ◌≤◌, ◌+◌, ◌==◌, ℕ, Bool, true, false, cond, not, List, [], ◌∷◌, length, Option, Some, None, refl, arith}
 use Rattle.std.specs.Prelude.{filter, is_some}
 use Rattle.std.specs.Option.{option_map}
-use Rattle.am_names.specs.declared.row.OpenToken.{OpenToken}
-use Rattle.am_trigger.specs.Rows.{TriggerRows}
-use Rattle.am_wait.specs.Rows.{WaitRows, token_of, joined_row, with_waiter, without_token}
-use Rattle.am_wait.specs.Calls.{fs_released, collected, joined_on, rejoined}
+use Rattle.am_names.specs.{OpenToken}
+use Rattle.am_trigger.specs.{TriggerRows}
+use Rattle.am_wait.specs.{WaitRows, token_of, joined_row, with_waiter, without_token, fs_released, collected, joined_on, rejoined}
 use Rattle.am_kernel.specs.declared.waited.Waited.{Waited}
 use Rattle.am_kernel.specs.declared.waited.Waited.TheVariants.{Idle, OnMount, OnExpiry}
-use Rattle.am_kernel.specs.Waited.{expired_uses}
+use Rattle.am_kernel.specs.{expired_uses}
 
 -- what is left out makes no list longer
 pub filtered_no_longer : {X : Type 0} (keep : X → Bool) (xs : List X) → length (filter keep xs) ≤ length xs

@@ -5,11 +5,8 @@ use Rattle.std.specs.List.{list_any, position_or_len}
 use Rattle.std.proofs.lemmas.Bool.Decides.{nat_tests, Decides-eqb}
 use Rattle.std.proofs.lemmas.List.{drop-drop}
 use Rattle.am_names.proofs.Basics.{equal_by_test, none_where_not_some}
-use Rattle.am_kernel.specs.declared.row.WalkRow.{WalkRow}
-use Rattle.am_kernel.specs.Walks.{without_walk}
-use Rattle.am_kernel.specs.Resumes.{walk_in}
-use Rattle.am_names.specs.Numbers.{is_among}
-use Rattle.am_kernel.specs.WalkTable.{IsSingle}
+use Rattle.am_kernel.specs.{WalkRow, without_walk, walk_in, IsSingle}
+use Rattle.am_names.specs.{is_among}
 
 -- ---- a walker that has no walk
 

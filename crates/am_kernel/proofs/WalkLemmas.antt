@@ -3,8 +3,7 @@ use Rattle.std.proofs.Common.{◌≡◌, ◌≤◌, ℕ, Bool, true, false, cond
 use Rattle.std.specs.Prelude.{find}
 use Rattle.std.specs.List.{All}
 use Rattle.std.proofs.lemmas.List.Elements.{All-map}
-use Rattle.am_trigger.specs.declared.autofs.Autofs.{Autofs}
-use Rattle.am_trigger.specs.Rows.{TriggerRows, autofs_of, catatonic_row, with_catatonic}
+use Rattle.am_trigger.specs.{Autofs, TriggerRows, autofs_of, catatonic_row, with_catatonic}
 
 -- ---- catatonic
 

@@ -1,24 +1,19 @@
--- What an administrator mounts, binds, unmounts and changes (sharedsubtree.rst, 5).
--- own (docs/DECISIONS.md, "An administrator's path is followed with the traps off")
+-- What an administrator mounts, binds, unmounts and changes (sharedsubtree.rst, 5). own choice
+-- (docs/DECISIONS.md, "An administrator's path is followed with the traps off")
 use Rattle.std.specs.Prelude.{ℕ, Bool, true, false, ◌||◌, is_none, List, [], ◌∷◌, Option, Some, None, Result, Ok, Err, if◌then◌else◌}
 use Rattle.std.specs.List.{list_any}
 use Rattle.am_names.specs.declared.errno.Errno.{Errno}
 use Rattle.am_names.specs.declared.errno.Errno.TheVariants.{EPERM, EBUSY, EINVAL}
-use Rattle.am_names.specs.declared.row.Position.{Position}
-use Rattle.am_state.specs.declared.obs.Obs.{Obs}
+use Rattle.am_names.specs.{Position}
+use Rattle.am_state.specs.{Obs}
 use Rattle.am_state.specs.declared.obs.Obs.TheVariants as seen
-use Rattle.am_group.specs.declared.kind.Change.{Change}
-use Rattle.am_group.specs.declared.kind.Kind.{Kind}
-use Rattle.am_group.specs.declared.kind.Kind.TheVariants.{Shared, Slave, SharedSlave, Private, Unbindable}
-use Rattle.am_group.specs.Kinds.{kind_of}
-use Rattle.am_group.specs.Members.{change_refusal}
-use Rattle.am_propagate.specs.MountTable.{mountpoint_of}
+use Rattle.am_group.specs.{Change, MountState, kind_of, change_refusal}
+use Rattle.am_group.specs.declared.mount_state.MountState.TheVariants.{Shared, Slave, SharedSlave, Private, Unbindable}
+use Rattle.am_propagate.specs.{mountpoint_of, with_change, umount_refusal, unmounted}
 use Rattle.am_propagate.specs.Added as added
-use Rattle.am_propagate.specs.Changed.{with_change}
-use Rattle.am_propagate.specs.Removed.{umount_refusal, unmounted}
-use Rattle.am_expire.specs.Uses.{is_used}
+use Rattle.am_expire.specs.{is_used}
 use Rattle.am_kernel.specs.State.{KernelState}
-use Rattle.am_kernel.specs.Sites.{is_on_autofs, position_at, tested, or_else, from_position, root_refusal}
+use Rattle.am_kernel.specs.Lookups.{is_on_autofs, position_at, tested, or_else, from_position, root_refusal}
 use Rattle.am_kernel.specs.DaemonMounts.{new_fs_refusal, coming, with_mount, without_mounts}
 
 -- ---- a mount of a new plain file system
@@ -47,7 +42,7 @@ mounting k ns names = mounting_at k (position_at k ns names)
 -- ---- a bind
 
 -- the mount is unbindable
-abbrev pub is_unbindable : Option Kind → Bool
+abbrev pub is_unbindable : Option MountState → Bool
 is_unbindable (Some Unbindable) = true
 is_unbindable (Some Shared) = false
 is_unbindable (Some Slave) = false
@@ -164,10 +159,10 @@ abbrev pub kind_refusal : KernelState → ℕ → List (List ℕ) → Option Err
 kind_refusal k ns names = tested (position_at k ns names) (kind_tests k)
 
 -- the state of the mount at the position
-abbrev pub kind_in : KernelState → Result Position Errno → Option Kind
+abbrev pub kind_in : KernelState → Result Position Errno → Option MountState
 kind_in k (Err e) = None
 kind_in k (Ok at) = kind_of k.table.groups at.mount
 
 -- the state of the mount to which the path leads
-abbrev pub kind_at : KernelState → ℕ → List (List ℕ) → Option Kind
+abbrev pub kind_at : KernelState → ℕ → List (List ℕ) → Option MountState
 kind_at k ns names = kind_in k (position_at k ns names)

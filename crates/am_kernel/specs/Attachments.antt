@@ -3,11 +3,10 @@
 use Rattle.std.specs.Prelude.{ℕ, ◌+◌, ◌==◌, false, not, is_some, map, Option, Some, if◌then◌else◌}
 use Rattle.am_names.specs.declared.errno.Errno.{Errno}
 use Rattle.am_names.specs.declared.errno.Errno.TheVariants.{EBUSY, EINVAL}
-use Rattle.am_trigger.specs.Rows.{autofs_of, with_catatonic}
-use Rattle.am_trigger.specs.Failures.{without_failures}
+use Rattle.am_trigger.specs.{autofs_of, with_catatonic, without_failures}
 use Rattle.am_kernel.specs.declared.row.Attached.{Attached}
 use Rattle.am_kernel.specs.State.{KernelState}
-use Rattle.am_kernel.specs.Sites.{is_live, attach_refusal}
+use Rattle.am_kernel.specs.Lookups.{is_live, attach_refusal}
 
 -- the tests of a new pipe: it is an autofs, it is catatonic, and a number of an attachment is left
 abbrev pub pipe_refusal : KernelState → ℕ → Option Errno

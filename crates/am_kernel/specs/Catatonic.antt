@@ -6,15 +6,12 @@ use Rattle.am_names.specs.declared.errno.Errno.{Errno}
 use Rattle.am_names.specs.declared.errno.Errno.TheVariants.{EPERM, EINVAL}
 use Rattle.am_names.specs.declared.fail_no.FailNo.TheVariants as error
 use Rattle.am_names.specs.declared.trigger.Status.TheVariants.{Fail}
-use Rattle.am_state.specs.declared.obs.Obs.{Obs}
+use Rattle.am_state.specs.{Obs, QueuedRow}
 use Rattle.am_state.specs.declared.obs.Obs.TheVariants as seen
-use Rattle.am_state.specs.declared.kernel_row.QueuedRow.{QueuedRow}
-use Rattle.am_trigger.specs.Rows.{autofs_of, with_catatonic}
-use Rattle.am_trigger.specs.Failures.{without_failures}
-use Rattle.am_wait.specs.Rows.{waiters_of, tokens_of}
-use Rattle.am_wait.specs.Calls.{fs_released}
+use Rattle.am_trigger.specs.{autofs_of, with_catatonic, without_failures}
+use Rattle.am_wait.specs.{waiters_of, tokens_of, fs_released}
 use Rattle.am_kernel.specs.State.{KernelState}
-use Rattle.am_kernel.specs.Sites.{is_live, is_current}
+use Rattle.am_kernel.specs.Lookups.{is_live, is_current}
 use Rattle.am_kernel.specs.Observations.{releases}
 
 -- ---- a file system becomes catatonic
@@ -24,8 +21,8 @@ abbrev pub failures : KernelState → ℕ → List Obs
 failures k token = releases token (Fail error.ENOENT) (waiters_of k.waits.tokens token)
 
 -- the file system becomes catatonic: all that wait on it are released, by rising token
-abbrev pub closing : ℕ → KernelState → List Obs
-closing fs k = seen.Catatonic fs ∷ flat_map (failures k) (tokens_of k.waits.tokens fs)
+abbrev pub catatonic_observations : ℕ → KernelState → List Obs
+catatonic_observations fs k = seen.Catatonic fs ∷ flat_map (failures k) (tokens_of k.waits.tokens fs)
 
 -- the packet is one of the file system
 abbrev pub is_packet_of : ℕ → QueuedRow → Bool
@@ -33,8 +30,8 @@ is_packet_of fs row = row.packet.dev == fs
 
 -- the file system is catatonic: its tokens close, its waiters fail, its packets go
 -- (autofs.rst, "Catatonic mode"), and nothing that failed in it lasts
-abbrev pub closed : ℕ → KernelState → KernelState
-closed fs k = record k {
+abbrev pub made_catatonic : ℕ → KernelState → KernelState
+made_catatonic fs k = record k {
   triggers = with_catatonic fs true k.triggers;
   failures = without_failures fs k.failures;
   waits = fs_released fs k.waits;
@@ -52,9 +49,9 @@ abbrev pub admin_catatonic_refusal : KernelState → ℕ → Option Errno
 admin_catatonic_refusal k fs = if is_some (autofs_of k.triggers fs) then None else Some EINVAL
 
 -- one that is catatonic already stays as it is
-abbrev pub closed_if_live : ℕ → KernelState → KernelState
-closed_if_live fs k = if is_live k fs then closed fs k else k
+abbrev pub made_catatonic_if_live : ℕ → KernelState → KernelState
+made_catatonic_if_live fs k = if is_live k fs then made_catatonic fs k else k
 
 -- and nothing is seen of it then
-abbrev pub closing_if_live : ℕ → KernelState → List Obs
-closing_if_live fs k = if is_live k fs then closing fs k else []
+abbrev pub catatonic_observations_if_live : ℕ → KernelState → List Obs
+catatonic_observations_if_live fs k = if is_live k fs then catatonic_observations fs k else []

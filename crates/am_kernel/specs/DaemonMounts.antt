@@ -5,23 +5,20 @@ use Rattle.std.specs.List.{flat_map}
 use Rattle.am_names.specs.declared.errno.Errno.{Errno}
 use Rattle.am_names.specs.declared.errno.Errno.TheVariants.{ENOENT, EPERM, EBUSY}
 use Rattle.am_names.specs.declared.trigger.Trigger.{Trigger}
-use Rattle.am_names.specs.declared.row.MountRow.{MountRow}
-use Rattle.am_names.specs.declared.row.Position.{Position}
-use Rattle.am_state.specs.declared.obs.Obs.{Obs}
+use Rattle.am_names.specs.{MountRow, Position}
+use Rattle.am_state.specs.{Obs}
 use Rattle.am_state.specs.declared.obs.Obs.TheVariants as seen
 use Rattle.am_group.specs.declared.membership.Membership.TheVariants.{Private}
-use Rattle.am_group.specs.Changes.{is_just}
-use Rattle.am_mount.specs.Rows.{top_of}
+use Rattle.am_group.specs.{is_just}
+use Rattle.am_mount.specs.{top_of}
 use Rattle.am_propagate.specs.MountTable.{MountTable}
 use Rattle.am_propagate.specs.Added as added
-use Rattle.am_propagate.specs.Removed.{umount_refusal, unmounted, removed}
-use Rattle.am_trigger.specs.declared.autofs.Autofs.{Autofs}
-use Rattle.am_trigger.specs.Rows.{autofs_of, is_made, with_autofs}
-use Rattle.am_trigger.specs.Sites.{trigger_in, place_of}
-use Rattle.am_expire.specs.Uses.{is_used}
+use Rattle.am_propagate.specs.{umount_refusal, unmounted, removed}
+use Rattle.am_trigger.specs.{Autofs, autofs_of, is_made, with_autofs, trigger_in, place_of}
+use Rattle.am_expire.specs.{is_used}
 use Rattle.am_kernel.specs.declared.row.Attached.{Attached}
 use Rattle.am_kernel.specs.State.{KernelState}
-use Rattle.am_kernel.specs.Sites.{is_current, is_on_autofs, position_at, tested, or_else, from_position, fs_refusal, attach_refusal}
+use Rattle.am_kernel.specs.Lookups.{is_current, is_on_autofs, position_at, tested, or_else, from_position, fs_refusal, attach_refusal}
 
 -- ---- a new file system
 

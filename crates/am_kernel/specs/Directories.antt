@@ -5,13 +5,12 @@ use Rattle.std.specs.List.{list_any}
 use Rattle.am_names.specs.declared.errno.Errno.{Errno}
 use Rattle.am_names.specs.declared.errno.Errno.TheVariants.{EPERM, EINVAL, EBUSY}
 use Rattle.am_names.specs.declared.trigger.Trigger.{Trigger}
-use Rattle.am_names.specs.declared.row.MountRow.{MountRow}
-use Rattle.am_mount.specs.Rows.{top_of}
-use Rattle.am_trigger.specs.declared.autofs.Autofs.{Autofs}
+use Rattle.am_names.specs.{MountRow}
+use Rattle.am_mount.specs.{top_of}
+use Rattle.am_trigger.specs.{Autofs, place_of}
 use Rattle.am_trigger.specs.Rows as triggers
-use Rattle.am_trigger.specs.Sites.{place_of}
 use Rattle.am_kernel.specs.State.{KernelState}
-use Rattle.am_kernel.specs.Sites.{is_current, or_else}
+use Rattle.am_kernel.specs.Lookups.{is_current, or_else}
 
 -- the autofs is there and indirect, and the trigger has a name
 abbrev pub names_directory : Option Autofs → Trigger → Bool
@@ -47,8 +46,8 @@ is_mounted_on k trigger row =
 abbrev pub is_mountpoint : KernelState → Trigger → Bool
 is_mountpoint k trigger = list_any (is_mounted_on k trigger) k.table.rows
 
--- and the directory is made, and nothing is mounted on it: own (docs/DECISIONS.md, "A directory
--- stays while something is mounted on it")
+-- and the directory is made, and nothing is mounted on it: own choice (docs/DECISIONS.md, "A
+-- directory stays while something is mounted on it")
 abbrev pub rmdir_refusal : KernelState → ℕ → Trigger → Option Errno
 rmdir_refusal k attach trigger =
     or_else (directory_refusal k attach trigger)

@@ -1,19 +1,19 @@
 -- What a request comes to: what the call comes to that it names, and what is seen of it
 -- (autofs.rst, "Communicating with autofs: root directory ioctls").
 use Rattle.std.specs.Prelude.{◌≡◌, ◌+◌, List, [], Result, Ok, Err}
-use Rattle.am_names.specs.Errno.{RefusedAs, RefusedOnlyAs}
+use Rattle.am_names.specs.{RefusedAs, RefusedOnlyAs}
 use Rattle.am_names.specs.declared.errno.Errno.{Errno}
 use Rattle.am_names.specs.declared.trigger.Status.TheVariants as status
-use Rattle.am_state.specs.declared.obs.Obs.{Obs}
-use Rattle.am_wire.specs.declared.request.Request.{Request}
+use Rattle.am_state.specs.{Obs}
+use Rattle.am_wire.specs.{Request}
 use Rattle.am_wire.specs.declared.request.Request.TheVariants as requests
 use Rattle.am_kernel.specs.declared.request.Granted.{Granted}
-use Rattle.am_kernel.specs.declared.request.Granted.TheVariants.{Done, Begun, Attached}
+use Rattle.am_kernel.specs.declared.request.Granted.TheVariants.{Done, Progress, Attached}
 use Rattle.am_kernel.specs.State.{KernelState}
-use Rattle.am_kernel.specs.Outcome.{Outcome, IsAsBefore, HasCome, Meets}
+use Rattle.am_kernel.specs.CallOutcome.{CallOutcome, IsAsBefore, HasCome, Yields}
 use Rattle.am_kernel.specs.Requests.{answer_refusal, acknowledged, answering, timeout_refusal, with_timeout}
 use Rattle.am_kernel.specs.Attachments.{pipe_refusal, with_pipe}
-use Rattle.am_kernel.specs.Catatonic.{catatonic_refusal, closing, closed}
+use Rattle.am_kernel.specs.Catatonic.{catatonic_refusal, catatonic_observations, made_catatonic}
 use Rattle.am_kernel.specs.Expires.{expire_outcome}
 
 -- this is granted, seen and left; a refusal leaves all as before
@@ -24,12 +24,12 @@ Gives granted shown made (Ok given) old new before after =
 Gives granted shown made (Err e) old new before after = IsAsBefore old new before after
 
 -- the same of an expiry, which tells how it goes on
-abbrev pub Goes : Outcome → Result Granted Errno → KernelState → KernelState → List Obs → List Obs
+abbrev pub Goes : CallOutcome → Result Granted Errno → KernelState → KernelState → List Obs → List Obs
     → Type 0
 Goes outcome (Ok Done) old new before after = ⊥
-Goes outcome (Ok (Begun begun)) old new before after = Meets outcome (Ok begun) old new before after
+Goes outcome (Ok (Progress progress)) old new before after = Yields outcome (Ok progress) old new before after
 Goes outcome (Ok (Attached attach)) old new before after = ⊥
-Goes outcome (Err e) old new before after = Meets outcome (Err e) old new before after
+Goes outcome (Err e) old new before after = Yields outcome (Err e) old new before after
 
 -- by the request: the tests that may refuse it, what it gives, what is seen of it, and what it
 -- leaves
@@ -45,7 +45,7 @@ IsGranted (requests.Fail attach token error) result old new before after =
     (acknowledged token (status.Fail error) old) result old new before after
 IsGranted (requests.Catatonic attach fs) result old new before after =
     RefusedAs (catatonic_refusal old attach fs) result ×
-    Gives Done (closing fs old) (closed fs old) result old new before after
+    Gives Done (catatonic_observations fs old) (made_catatonic fs old) result old new before after
 IsGranted (requests.SetTimeout attach fs timeout) result old new before after =
     RefusedOnlyAs (timeout_refusal old attach fs) result ×
     Gives Done [] (with_timeout fs timeout old) result old new before after

@@ -1,9 +1,7 @@
 -- Copies and drops of namespaces (sharedsubtree.rst, 5g). What walkers, daemons and tokens do
 -- belongs to file systems, and isn't copied.
 use Rattle.std.specs.Prelude.{ℕ}
-use Rattle.am_propagate.specs.declared.subtree.namespace.CopyForm.{CopyForm}
-use Rattle.am_propagate.specs.Namespaces.{with_copy}
-use Rattle.am_propagate.specs.Removed.{mounts_in}
+use Rattle.am_propagate.specs.{CopyForm, with_copy, mounts_in}
 use Rattle.am_kernel.specs.State.{KernelState}
 use Rattle.am_kernel.specs.DaemonMounts.{without_mounts}
 

@@ -2,8 +2,8 @@
 -- "Catatonic mode").
 use Rattle.std.specs.Prelude.{ℕ, List, map}
 use Rattle.am_names.specs.declared.trigger.Trigger.{Trigger}
-use Rattle.am_names.specs.declared.trigger.Status.{Status}
-use Rattle.am_state.specs.declared.obs.Obs.{Obs}
+use Rattle.am_names.specs.{Status}
+use Rattle.am_state.specs.{Obs}
 use Rattle.am_state.specs.declared.obs.Obs.TheVariants as seen
 
 -- the walker passed these triggers, in this order

@@ -1,14 +1,13 @@
--- What calls would answer, for whoever keeps a copy of the answer and has to make it first:
--- own (docs/DECISIONS.md, "Answers are made twice").
+-- What calls would answer, for whoever keeps a copy of the answer and has to make it first: own
+-- choice (docs/DECISIONS.md, "Answers are made twice").
 use Rattle.std.specs.Prelude.{ℕ, List, Option, Some, None}
-use Rattle.am_names.specs.declared.row.Position.{Position}
-use Rattle.am_walk.specs.declared.stop.Stop.{Stop}
+use Rattle.am_names.specs.{Position}
+use Rattle.am_walk.specs.{Stop, walk_of}
 use Rattle.am_walk.specs.declared.stop.Stop.TheVariants as stops
-use Rattle.am_walk.specs.Walks.{walk_of}
 use Rattle.am_kernel.specs.declared.row.WalkRow.{WalkRow}
 use Rattle.am_kernel.specs.State.{KernelState}
-use Rattle.am_kernel.specs.Outcome.{moment_of}
-use Rattle.am_kernel.specs.Sites.{scene_of}
+use Rattle.am_kernel.specs.CallOutcome.{moment_of}
+use Rattle.am_kernel.specs.Lookups.{scene_of}
 use Rattle.am_kernel.specs.Resumes.{walk_in}
 
 -- the position at which a walk has arrived that stops so

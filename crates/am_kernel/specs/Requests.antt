@@ -5,21 +5,17 @@ use Rattle.std.specs.Option.{option_map}
 use Rattle.am_names.specs.declared.errno.Errno.{Errno}
 use Rattle.am_names.specs.declared.errno.Errno.TheVariants.{EPERM, EINVAL}
 use Rattle.am_names.specs.declared.trigger.Trigger.{Trigger}
-use Rattle.am_names.specs.declared.trigger.Status.{Status}
+use Rattle.am_names.specs.{Status, OpenToken, TokenKind}
 use Rattle.am_names.specs.declared.trigger.Status.TheVariants.{Ready, Fail}
-use Rattle.am_names.specs.declared.row.OpenToken.{OpenToken}
-use Rattle.am_names.specs.declared.row.TokenKind.{TokenKind}
 use Rattle.am_names.specs.declared.row.TokenKind.TheVariants.{Missing, Expire}
-use Rattle.am_trigger.specs.Failures.{FailureRows, with_failure, without_failure}
-use Rattle.am_state.specs.declared.obs.Obs.{Obs}
+use Rattle.am_trigger.specs.{FailureRows, with_failure, without_failure}
+use Rattle.am_state.specs.{Obs, QueuedRow}
 use Rattle.am_state.specs.declared.obs.Obs.TheVariants as seen
-use Rattle.am_state.specs.declared.kernel_row.QueuedRow.{QueuedRow}
-use Rattle.am_wait.specs.Rows.{token_of, waiters_of}
-use Rattle.am_wait.specs.Calls.{answered}
-use Rattle.am_expire.specs.Uses.{mount_of, left}
+use Rattle.am_wait.specs.{token_of, waiters_of, answered}
+use Rattle.am_expire.specs.{mount_of_walker, left}
 use Rattle.am_kernel.specs.declared.row.Attached.{Attached}
 use Rattle.am_kernel.specs.State.{KernelState}
-use Rattle.am_kernel.specs.Sites.{fs_of_attach, is_current}
+use Rattle.am_kernel.specs.Lookups.{fs_of_attach, is_current}
 use Rattle.am_kernel.specs.Observations.{releases}
 
 -- ---- acknowledging a notification
@@ -43,7 +39,7 @@ abbrev pub answer_refusal : KernelState → ℕ → ℕ → Option Errno
 answer_refusal k attach token = answer_tests (fs_of_attach k attach) k token
 
 -- A mount that failed lasts from this moment on, and READY makes it good; an expiry that failed
--- leaves nothing: own (docs/DECISIONS.md, "A failure has a number, and may last").
+-- leaves nothing: own choice (docs/DECISIONS.md, "A failure has a number, and may last").
 abbrev pub settled : TokenKind → Trigger → Status → ℕ → FailureRows → FailureRows
 settled kind trigger Ready moment rows = without_failure trigger rows
 settled Missing trigger (Fail error) moment rows =
@@ -101,7 +97,7 @@ leaving (Some mount) walker = seen.Left walker mount ∷ []
 
 -- this is seen of a walker that leaves
 abbrev pub leave_seen : KernelState → ℕ → List Obs
-leave_seen k walker = leaving (mount_of k.uses walker) walker
+leave_seen k walker = leaving (mount_of_walker k.uses walker) walker
 
 -- the walker is inside no mount
 abbrev pub without_use : ℕ → KernelState → KernelState

@@ -1,14 +1,13 @@
--- The kernel as a value: own (docs/DECISIONS.md, "Attachments and queued packets are rows of
+-- The kernel as a value: own choice (docs/DECISIONS.md, "Attachments and queued packets are rows of
 -- `Kernel`").
 use Rattle.std.specs.Prelude.{ℕ, List, []}
 use Rattle.am_names.specs.declared.limits.Limits.{Limits}
-use Rattle.am_state.specs.declared.kernel_row.QueuedRow.{QueuedRow}
-use Rattle.am_propagate.specs.MountTable.{MountTable, opening}
-use Rattle.am_trigger.specs.Rows.{TriggerRows, no_triggers}
-use Rattle.am_trigger.specs.Failures.{FailureRows}
-use Rattle.am_wait.specs.Rows.{WaitRows, no_waits}
-use Rattle.am_expire.specs.declared.uses.Use.{Use}
-use Rattle.am_expire.specs.Uses.{no_uses}
+use Rattle.am_state.specs.{QueuedRow}
+use Rattle.am_propagate.specs.MountTable.{MountTable}
+use Rattle.am_propagate.specs.{opening}
+use Rattle.am_trigger.specs.{TriggerRows, no_triggers, FailureRows}
+use Rattle.am_wait.specs.{WaitRows, no_waits}
+use Rattle.am_expire.specs.{Use, no_uses}
 use Rattle.am_kernel.specs.declared.row.Attached.{Attached}
 use Rattle.am_kernel.specs.declared.row.WalkRow.{WalkRow}
 

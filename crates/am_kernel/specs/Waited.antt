@@ -2,12 +2,10 @@
 -- (autofs.rst, "Mount Traps" and "Mountpoint expiry").
 use Rattle.std.specs.Prelude.{◌≡◌, ℕ, List, None}
 use Rattle.am_names.specs.declared.trigger.Trigger.{Trigger}
-use Rattle.am_names.specs.declared.row.WaitRow.{WaitRow}
-use Rattle.am_names.specs.declared.row.TokenKind.{TokenKind}
+use Rattle.am_names.specs.{WaitRow, TokenKind}
 use Rattle.am_names.specs.declared.row.TokenKind.TheVariants.{Missing, Expire}
-use Rattle.am_trigger.specs.Rows.{TriggerRows, used}
-use Rattle.am_wait.specs.Rows.{WaitRows, wait_of}
-use Rattle.am_wait.specs.Calls.{collected, collect_refusal}
+use Rattle.am_trigger.specs.{TriggerRows, used}
+use Rattle.am_wait.specs.{WaitRows, wait_of, collected, collect_refusal}
 use Rattle.am_kernel.specs.declared.row.WalkRow.{WalkRow}
 use Rattle.am_kernel.specs.declared.waited.Waited.{Waited}
 use Rattle.am_kernel.specs.declared.waited.Waited.TheVariants.{Idle, OnMount, OnExpiry}
@@ -21,30 +19,30 @@ expired_uses OnMount moment t = t
 expired_uses (OnExpiry trigger) moment t = used trigger moment t
 
 -- the walker's wait is collected, if it had one
-abbrev pub forgotten_waits : Waited → ℕ → WaitRows → WaitRows
-forgotten_waits Idle walker w = w
-forgotten_waits OnMount walker w = collected walker w
-forgotten_waits (OnExpiry trigger) walker w = collected walker w
+abbrev pub waits_collected : Waited → ℕ → WaitRows → WaitRows
+waits_collected Idle walker w = w
+waits_collected OnMount walker w = collected walker w
+waits_collected (OnExpiry trigger) walker w = collected walker w
 
 -- the walk that waited is over, if there was one
-abbrev pub forgotten_walks : Waited → ℕ → List WalkRow → List WalkRow
-forgotten_walks Idle walker walks = walks
-forgotten_walks OnMount walker walks = without_walk walker walks
-forgotten_walks (OnExpiry trigger) walker walks = without_walk walker walks
+abbrev pub walks_ended : Waited → ℕ → List WalkRow → List WalkRow
+walks_ended Idle walker walks = walks
+walks_ended OnMount walker walks = without_walk walker walks
+walks_ended (OnExpiry trigger) walker walks = without_walk walker walks
 
 -- what the walker waited on is collected, in all parts of the kernel
-abbrev pub freed_as : Waited → ℕ → ℕ → KernelState → KernelState
-freed_as waited walker moment k = record k {
+abbrev pub wait_collected_as : Waited → ℕ → ℕ → KernelState → KernelState
+wait_collected_as waited walker moment k = record k {
   triggers = expired_uses waited moment k.triggers;
-  waits = forgotten_waits waited walker k.waits;
-  walks = forgotten_walks waited walker k.walks;
+  waits = waits_collected waited walker k.waits;
+  walks = walks_ended waited walker k.walks;
 }
 
 -- an idle walker has no wait, and another one a wait that was released
-abbrev pub IsFree : Waited → ℕ → WaitRows → Type 0
-IsFree Idle walker w = wait_of w.waits walker ≡ None
-IsFree OnMount walker w = collect_refusal walker w ≡ None
-IsFree (OnExpiry trigger) walker w = collect_refusal walker w ≡ None
+abbrev pub HasNoOpenWait : Waited → ℕ → WaitRows → Type 0
+HasNoOpenWait Idle walker w = wait_of w.waits walker ≡ None
+HasNoOpenWait OnMount walker w = collect_refusal walker w ≡ None
+HasNoOpenWait (OnExpiry trigger) walker w = collect_refusal walker w ≡ None
 
 -- by what the token was opened for
 abbrev pub waited_for : TokenKind → Trigger → Waited

@@ -2,7 +2,7 @@
 -- walk.
 use Rattle.std.specs.Prelude.{◌≡◌, ◌≤◌, ℕ, ◌-◌, List, [], ◌∷◌, drop, None, is_some, vec_len, vec_capacity}
 use Rattle.indexmap.specs.IndexSet.{spare}
-use Rattle.am_names.specs.Numbers.{is_among}
+use Rattle.am_names.specs.{is_among}
 use Rattle.am_kernel.specs.declared.row.WalkRow.{WalkRow}
 use Rattle.am_kernel.specs.Resumes.{walk_in}
 use Rattle.am_kernel.specs.declared.walks.Walks.TheInside.{Inside}

@@ -1,17 +1,16 @@
 //! What an administrator mounts, binds, unmounts and changes.
 
 ghost use Rattle.std.specs.Prelude.{◌≡◌, ◌+◌, ◌∷◌, ◌++◌, [], Some, None, IfOk, OnOk, OnErr};
-ghost use Rattle.am_names.specs.Errno.{RefusedAs};
-ghost use Rattle.am_group.specs.Kinds.{kind_of};
-ghost use Rattle.am_propagate.specs.MountTable.{mountpoint_of};
-ghost use Rattle.am_propagate.specs.Removed.{unmounted};
+ghost use Rattle.am_names.specs.{RefusedAs};
+ghost use Rattle.am_group.specs.{kind_of};
+ghost use Rattle.am_propagate.specs.{mountpoint_of, unmounted};
 ghost use Rattle.am_state.specs.declared.obs.Obs.TheVariants.{Unmounted};
 ghost use Rattle.am_kernel.specs.Administration.{mount_refusal, mounting, with_plain, bind_refusal, with_bind, is_unbindable, is_parent_on_autofs, is_any_on_autofs, is_daemons, site_refusal, plain_umount_refusal, plain_gone, without_plain, plain_change_refusal, with_changed, kind_refusal, kind_at};
 
 use crate::kernel::Kernel;
 use crate::lookups::is_root;
-use am_group::{Change, Kind};
-use am_names::{AbsPath, Errno, MountId, Mounts, NsId, Position};
+use am_group::{Change, MountState};
+use am_names::{AbsPath, Errno, MountId, MountIds, NsId, Position};
 use am_state::Obs;
 use std::alloc::Global;
 
@@ -44,8 +43,14 @@ impl Kernel {
         ensures { result ≡ is_unbindable (kind_of self.now.table.groups mount) }
     {
         match self.subtree.groups().kind(mount) {
-            Some(Kind::Unbindable) => true,
-            Some(Kind::Shared | Kind::Slave | Kind::SharedSlave | Kind::Private) | None => false,
+            Some(MountState::Unbindable) => true,
+            Some(
+                MountState::Shared
+                | MountState::Slave
+                | MountState::SharedSlave
+                | MountState::Private,
+            )
+            | None => false,
         }
     }
 
@@ -81,7 +86,7 @@ impl Kernel {
         let mounts = self.subtree.bind(alloc, source.mount, &target)?;
         let mount = mounts[0];
         seen.push_reserved(Obs::Mounted {
-            mounts: Mounts::of(mounts),
+            mounts: MountIds::of(mounts),
         });
         Ok(mount)
     }
@@ -180,7 +185,7 @@ impl Kernel {
     }
 
     /// The state of the mount to which the path leads.
-    pub fn kind(&self, alloc: Global, ns: NsId, path: &AbsPath<'_>) -> Result<Kind, Errno>
+    pub fn kind(&self, alloc: Global, ns: NsId, path: &AbsPath<'_>) -> Result<MountState, Errno>
         ensures refusal { RefusedAs (kind_refusal self.now ns path.now) result }
         ensures ok { IfOk result (λ kind. kind_at self.now ns path.now ≡ Some kind) }
     {

@@ -1,13 +1,13 @@
 //! A daemon that attaches again to an autofs.
 
 ghost use Rattle.std.specs.Prelude.{◌≡◌, ◌+◌, false, map, IfOk, OnOk, OnErr};
-ghost use Rattle.am_names.specs.Errno.{RefusedOnlyAs};
-ghost use Rattle.am_trigger.specs.Rows.{with_catatonic};
+ghost use Rattle.am_names.specs.{RefusedOnlyAs};
+ghost use Rattle.am_trigger.specs.{with_catatonic};
 ghost use Rattle.am_kernel.specs.Attachments.{pipe_refusal, reattached_row, with_pipe};
 
 use crate::kernel::Kernel;
 use crate::row::Attached;
-use crate::table::{refuse, table, tell};
+use crate::table::{finish_expiry, refuse, table};
 use am_expire::OrderedTriggers;
 use am_names::{Attach, Errno, FsId};
 
@@ -45,7 +45,7 @@ impl Kernel {
     pub fn pipe_refusal(&self, fs: FsId) -> Option<Errno>
         ensures { result ≡ pipe_refusal self.now fs }
     {
-        table!(tell; set_pipe(self, fs));
+        table!(finish_expiry; set_pipe(self, fs));
         None
     }
 

@@ -2,9 +2,9 @@
 //! "Catatonic mode").
 
 ghost use Rattle.std.specs.Prelude.{◌≡◌, ◌∷◌, ◌++◌, true, IfOk, OnOk, OnErr};
-ghost use Rattle.am_names.specs.Errno.{RefusedOnlyAs};
-ghost use Rattle.am_trigger.specs.Rows.{with_catatonic};
-ghost use Rattle.am_kernel.specs.Catatonic.{closing, closed, catatonic_refusal, admin_catatonic_refusal, closed_if_live, closing_if_live};
+ghost use Rattle.am_names.specs.{RefusedOnlyAs};
+ghost use Rattle.am_trigger.specs.{with_catatonic};
+ghost use Rattle.am_kernel.specs.Catatonic.{catatonic_observations, made_catatonic, catatonic_refusal, admin_catatonic_refusal, made_catatonic_if_live, catatonic_observations_if_live};
 
 use crate::kernel::Kernel;
 use crate::observations::tell_releases;
@@ -25,8 +25,12 @@ fn make_catatonic(triggers: &mut OrderedTriggers, fs: FsId)
 
 impl Kernel {
     /// What is seen of a file system that becomes catatonic.
-    pub(crate) fn closing(&self, alloc: Global, fs: FsId) -> Result<Vec<Obs>, AllocError>
-        ensures { IfOk result (λ v. v.items ≡ closing fs self.now) }
+    pub(crate) fn catatonic_observations(
+        &self,
+        alloc: Global,
+        fs: FsId,
+    ) -> Result<Vec<Obs>, AllocError>
+        ensures { IfOk result (λ v. v.items ≡ catatonic_observations fs self.now) }
     {
         let mut shown = Vec::new(alloc);
         shown.push(Obs::Catatonic { fs })?;
@@ -44,8 +48,8 @@ impl Kernel {
     }
 
     /// The file system becomes catatonic (autofs.rst, "Catatonic mode").
-    pub(crate) fn close(&mut self, fs: FsId)
-        ensures { self.new ≡ closed fs self.old }
+    pub(crate) fn enter_catatonic(&mut self, fs: FsId)
+        ensures { self.new ≡ made_catatonic fs self.old }
     {
         make_catatonic(&mut self.triggers, fs);
         self.failures.remove_fs(fs);
@@ -56,10 +60,10 @@ impl Kernel {
     /// What will be seen of `admin_catatonic`, and of `catatonic` where it isn't refused: they take
     /// no memory for that.
     pub fn closing_seen(&self, alloc: Global, fs: FsId) -> Result<Vec<Obs>, AllocError>
-        ensures { IfOk result (λ v. v.items ≡ closing_if_live fs self.now) }
+        ensures { IfOk result (λ v. v.items ≡ catatonic_observations_if_live fs self.now) }
     {
         if self.is_live(fs) {
-            self.closing(alloc, fs)
+            self.catatonic_observations(alloc, fs)
         } else {
             Ok(Vec::new(alloc))
         }
@@ -69,23 +73,23 @@ impl Kernel {
     /// mode").
     pub fn catatonic(&mut self, attach: Attach, fs: FsId) -> Result<(), Errno>
         ensures refusal { RefusedOnlyAs (catatonic_refusal self.old attach fs) result }
-        ensures ok { OnOk result (self.new ≡ closed fs self.old) }
+        ensures ok { OnOk result (self.new ≡ made_catatonic fs self.old) }
         ensures err { OnErr result (self.new ≡ self.old) }
     {
         table!(refuse; catatonic(self, attach, fs));
-        self.close(fs);
+        self.enter_catatonic(fs);
         Ok(())
     }
 
     /// The administrator ends it. An autofs that is catatonic stays as it is.
     pub fn admin_catatonic(&mut self, fs: FsId) -> Result<(), Errno>
         ensures refusal { RefusedOnlyAs (admin_catatonic_refusal self.old fs) result }
-        ensures ok { OnOk result (self.new ≡ closed_if_live fs self.old) }
+        ensures ok { OnOk result (self.new ≡ made_catatonic_if_live fs self.old) }
         ensures err { OnErr result (self.new ≡ self.old) }
     {
         table!(refuse; admin_catatonic(self, fs));
         if self.is_live(fs) {
-            self.close(fs);
+            self.enter_catatonic(fs);
         }
         Ok(())
     }

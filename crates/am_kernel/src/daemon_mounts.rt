@@ -1,16 +1,16 @@
 //! What the daemons mount on the triggers of their autofs file systems.
 
 ghost use Rattle.std.specs.Prelude.{◌≡◌, ◌+◌, ◌∷◌, ◌++◌, [], IfOk, OnOk, OnErr};
-ghost use Rattle.am_names.specs.Errno.{RefusedAs};
+ghost use Rattle.am_names.specs.{RefusedAs};
 ghost use Rattle.am_state.specs.declared.obs.Obs.TheVariants.{Mounted, Unmounted};
-ghost use Rattle.am_propagate.specs.Removed.{umount_refusal, unmounted, removed};
-ghost use Rattle.am_expire.specs.Uses.{is_used};
+ghost use Rattle.am_propagate.specs.{umount_refusal, unmounted, removed};
+ghost use Rattle.am_expire.specs.{is_used};
 ghost use Rattle.am_kernel.specs.DaemonMounts.{coming, is_there, location_of, mounted_on, mount_on_refusal, with_mount_on, umount_from_refusal, gone_from, without_mounts, is_top_at, trigger_under, standing_of, standing};
 
 use crate::kernel::Kernel;
 use crate::table::{refuse, table};
 use am_expire::Uses;
-use am_names::{Attach, Errno, FsId, MountId, MountRow, Mounts, Name, Position, Trigger};
+use am_names::{Attach, Errno, FsId, MountId, MountIds, MountRow, Name, Position, Trigger};
 use am_propagate::Subtree;
 use am_state::Obs;
 use am_trigger::{Autofs, place_of};
@@ -33,7 +33,7 @@ fn umount_of(
     ensures unseen { OnErr result (seen.new.items ≡ seen.old.items) }
 {
     seen.reserve(1)?;
-    let mounts = Mounts::of(subtree.umount_takes(alloc, mount)?);
+    let mounts = MountIds::of(subtree.umount_takes(alloc, mount)?);
     let gone = subtree.umount(alloc, mount, uses)?;
     seen.push_reserved(Obs::Unmounted { mounts });
     Ok(gone)

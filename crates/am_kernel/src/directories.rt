@@ -1,9 +1,8 @@
 //! The directories of indirect autofs file systems.
 
 ghost use Rattle.std.specs.Prelude.{◌≡◌, OnOk, OnErr};
-ghost use Rattle.am_names.specs.Errno.{RefusedAs, RefusedOnlyAs};
-ghost use Rattle.am_names.specs.Path.{IsCanonical, names_of};
-ghost use Rattle.am_trigger.specs.Sites.{place_of};
+ghost use Rattle.am_names.specs.{RefusedAs, RefusedOnlyAs, IsCanonical, names_of};
+ghost use Rattle.am_trigger.specs.{place_of};
 ghost use Rattle.am_kernel.specs.Directories.{is_indirect, mkdir_refusal, with_directory, is_mountpoint, rmdir_refusal, without_directory};
 
 use crate::kernel::Kernel;

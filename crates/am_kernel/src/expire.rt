@@ -1,20 +1,19 @@
 //! A walker asks for the expiry of what was not used for long (autofs.rst, "Mountpoint expiry").
 
 ghost use Rattle.std.specs.Prelude.{◌≡◌, None, IfOk};
-ghost use Rattle.am_names.specs.Errno.{RefusedAs};
+ghost use Rattle.am_names.specs.{RefusedAs};
 ghost use Rattle.am_names.specs.declared.errno.Errno.TheVariants.{ENOENT};
-ghost use Rattle.am_wait.specs.Rows.{wait_of};
-ghost use Rattle.am_wait.specs.Calls.{open_refusal};
-ghost use Rattle.am_kernel.specs.declared.begun.Begun.TheVariants.{Failed};
-ghost use Rattle.am_kernel.specs.Outcome.{Meets, Goes};
-ghost use Rattle.am_kernel.specs.Catatonic.{closing, closed};
+ghost use Rattle.am_wait.specs.{wait_of, open_refusal};
+ghost use Rattle.am_kernel.specs.declared.progress.Progress.TheVariants.{Failed};
+ghost use Rattle.am_kernel.specs.CallOutcome.{Yields, Proceeds};
+ghost use Rattle.am_kernel.specs.Catatonic.{catatonic_observations, made_catatonic};
 ghost use Rattle.am_kernel.specs.Expires.{attached_of, timeout_of, next_of, expires, expires_next, expire_at, expire_outcome};
 
-use crate::begin::reserve_failure;
-use crate::begun::Begun;
+use crate::attempt::reserve_failure;
 use crate::kernel::Kernel;
 use crate::observations::tell_queued;
 use crate::packet::packet_for;
+use crate::progress::Progress;
 use crate::row::Attached;
 use crate::table::{refuse, table};
 use am_expire::pick;
@@ -75,9 +74,9 @@ impl Kernel {
         trigger: &Trigger,
         attach: Attach,
         seen: &mut Vec<Obs>,
-    ) -> Result<Begun, Errno>
+    ) -> Result<Progress, Errno>
         requires { open_refusal walker self.old.waits ≡ None }
-        ensures { Meets (expires self.old walker trigger.now attach)
+        ensures { Yields (expires self.old walker trigger.now attach)
             result self.old self.new seen.old.items seen.new.items }
     {
         seen.reserve(2)?;
@@ -94,7 +93,7 @@ impl Kernel {
         };
         tell_queued(seen, walker, Vec::new(alloc), token, attach, packet);
         self.queue.push_reserved(queued);
-        Ok(Begun::Waits(token))
+        Ok(Progress::Waits(token))
     }
 
     /// Nobody reads the pipe any more.
@@ -103,14 +102,16 @@ impl Kernel {
         alloc: Global,
         fs: FsId,
         seen: &mut Vec<Obs>,
-    ) -> Result<Begun, Errno>
-        ensures { Meets (Goes (Failed ENOENT) (closing fs self.old) (closed fs self.old))
+    ) -> Result<Progress, Errno>
+        ensures { Yields
+            (Proceeds (Failed ENOENT) (catatonic_observations fs self.old)
+            (made_catatonic fs self.old))
             result self.old self.new seen.old.items seen.new.items }
     {
-        let mut shown = self.closing(alloc, fs)?;
+        let mut shown = self.catatonic_observations(alloc, fs)?;
         seen.append(&mut shown)?;
-        self.close(fs);
-        Ok(Begun::Failed(Errno::ENOENT))
+        self.enter_catatonic(fs);
+        Ok(Progress::Failed(Errno::ENOENT))
     }
 
     /// The daemon is to be notified: tokens are left, then waits, and then there is the pipe.
@@ -122,9 +123,9 @@ impl Kernel {
         attach: Attach,
         pipe: PipeState,
         seen: &mut Vec<Obs>,
-    ) -> Result<Begun, Errno>
+    ) -> Result<Progress, Errno>
         requires { wait_of self.old.waits.waits walker ≡ None }
-        ensures { Meets (expires_next (Some trigger) pipe self.old walker attach)
+        ensures { Yields (expires_next (Some trigger) pipe self.old walker attach)
             result self.old self.new seen.old.items seen.new.items }
     {
         if let Some(errno) = self.waits.open_refusal(walker) {
@@ -147,8 +148,8 @@ impl Kernel {
         immediate: bool,
         pipe: PipeState,
         seen: &mut Vec<Obs>,
-    ) -> Result<Begun, Errno>
-        ensures { Meets (expire_at pipe self.old walker fs moment immediate)
+    ) -> Result<Progress, Errno>
+        ensures { Yields (expire_at pipe self.old walker fs moment immediate)
             result self.old self.new seen.old.items seen.new.items }
     {
         table!(refuse; expire(self, walker, fs));
@@ -175,13 +176,13 @@ impl Kernel {
         immediate: bool,
         pipe: PipeState,
         seen: &mut Vec<Obs>,
-    ) -> Result<Begun, Errno>
-        ensures { Meets (expire_outcome pipe self.old walker fs now immediate)
+    ) -> Result<Progress, Errno>
+        ensures { Yields (expire_outcome pipe self.old walker fs now immediate)
             result self.old self.new seen.old.items seen.new.items }
     {
         let moment = self.moment(now);
-        let begun = self.expire_at(alloc, walker, fs, moment, immediate, pipe, seen)?;
+        let progress = self.expire_at(alloc, walker, fs, moment, immediate, pipe, seen)?;
         self.latest = moment;
-        Ok(begun)
+        Ok(progress)
     }
 }

@@ -1,9 +1,9 @@
 //! The kernel's half of an automounter.
 
 ghost use Rattle.std.specs.Prelude.{◌≡◌, max, None, IfOk};
-ghost use Rattle.am_names.specs.Errno.{RefusedAs};
+ghost use Rattle.am_names.specs.{RefusedAs};
 ghost use Rattle.am_kernel.specs.State.{initial};
-ghost use Rattle.am_kernel.specs.Outcome.{moment_of};
+ghost use Rattle.am_kernel.specs.CallOutcome.{moment_of};
 
 use crate::row::{Attached, WalkRow};
 use crate::walks::Walks;
@@ -39,7 +39,7 @@ impl Model for Kernel {
 
     ghost Value = { KernelState };
 
-    ghost use Rattle.am_kernel.specs.Inside.{kernel_of, IsKept};
+    ghost use Rattle.am_kernel.specs.View.{kernel_of, IsKept};
 
     ghost view = { kernel_of };
 

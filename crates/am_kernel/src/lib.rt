@@ -4,8 +4,7 @@
 
 mod administration;
 mod attachments;
-mod begin;
-pub mod begun;
+mod attempt;
 mod catatonic;
 mod daemon_mounts;
 mod directories;
@@ -17,6 +16,7 @@ mod new_fs;
 mod observations;
 mod packet;
 mod previews;
+pub mod progress;
 pub mod request;
 mod requests;
 pub mod row;
@@ -25,8 +25,8 @@ mod waited;
 mod walker;
 mod walks;
 
-pub use begun::{Begin, Begun};
 pub use kernel::Kernel;
 pub use new_fs::NewAutofs;
+pub use progress::{Attempt, Progress};
 pub use request::Granted;
 pub use row::{Attached, WalkRow};

@@ -1,10 +1,10 @@
 //! What the kernel's tables tell: attachments, walkers, and what paths and triggers lead to.
 
 ghost use Rattle.std.specs.Prelude.{◌≡◌, is_some, IfOk, Ok};
-ghost use Rattle.am_names.specs.Errno.{RefusedAs};
-ghost use Rattle.am_trigger.specs.Rows.{autofs_of};
-ghost use Rattle.am_walk.specs.Walks.{fault_of};
-ghost use Rattle.am_kernel.specs.Sites.{is_live, latest_attach, attach_of, fs_of_attach, is_current, is_busy, position_at, is_on_autofs, is_root, is_trigger};
+ghost use Rattle.am_names.specs.{RefusedAs};
+ghost use Rattle.am_trigger.specs.{autofs_of};
+ghost use Rattle.am_walk.specs.{fault_of};
+ghost use Rattle.am_kernel.specs.Lookups.{is_live, latest_attach, attach_of, fs_of_attach, is_current, is_busy, position_at, is_on_autofs, is_root, is_trigger};
 
 use crate::kernel::Kernel;
 use am_names::{
@@ -73,7 +73,7 @@ impl Kernel {
     pub fn is_busy(&self, walker: WalkerId) -> bool
         ensures { result ≡ is_busy self.now walker }
     {
-        self.waits.wait_of(walker).is_some() || self.uses.mount_of(walker).is_some()
+        self.waits.wait_of(walker).is_some() || self.uses.mount_of_walker(walker).is_some()
     }
 
     /// Where an administrator's path leads.

@@ -1,16 +1,14 @@
 //! Copies and drops of namespaces.
 
 ghost use Rattle.std.specs.Prelude.{◌≡◌, ◌+◌, ◌∷◌, ◌++◌, [], length, IfOk, OnOk, OnErr};
-ghost use Rattle.am_names.specs.Errno.{RefusedAs};
+ghost use Rattle.am_names.specs.{RefusedAs};
 ghost use Rattle.am_state.specs.declared.obs.Obs.TheVariants.{Mounted, Unmounted};
-ghost use Rattle.am_propagate.specs.Added.{new_mounts};
-ghost use Rattle.am_propagate.specs.Namespaces.{copy_refusal};
-ghost use Rattle.am_propagate.specs.Removed.{drop_refusal, mounts_in};
-ghost use Rattle.am_expire.specs.Uses.{is_used};
+ghost use Rattle.am_propagate.specs.{new_mounts, copy_refusal, drop_refusal, mounts_in};
+ghost use Rattle.am_expire.specs.{is_used};
 ghost use Rattle.am_kernel.specs.Namespaces.{with_namespace, without_namespace};
 
 use crate::kernel::Kernel;
-use am_names::{Errno, MountId, Mounts, NsId};
+use am_names::{Errno, MountId, MountIds, NsId};
 use am_propagate::CopyForm;
 use am_state::Obs;
 use std::alloc::Global;
@@ -35,7 +33,7 @@ impl Kernel {
     {
         seen.reserve(1)?;
         let made = self.subtree.copy_namespace(alloc, ns, form)?;
-        let mounts = Mounts::of(made.mounts);
+        let mounts = MountIds::of(made.mounts);
         seen.push_reserved(Obs::Mounted { mounts });
         Ok(made.ns)
     }
@@ -57,7 +55,7 @@ impl Kernel {
         ensures unseen { OnErr result (seen.new.items ≡ seen.old.items) }
     {
         seen.reserve(1)?;
-        let mounts = Mounts::of(self.subtree.tree().mounts_of(alloc, ns)?);
+        let mounts = MountIds::of(self.subtree.tree().mounts_of(alloc, ns)?);
         let gone = self.subtree.drop_namespace(alloc, ns, &self.uses)?;
         seen.push_reserved(Obs::Unmounted { mounts });
         Ok(gone)

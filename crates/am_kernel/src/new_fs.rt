@@ -1,17 +1,17 @@
 //! New file systems: the mounts of them, and autofs that are attached.
 
 ghost use Rattle.std.specs.Prelude.{◌≡◌, ◌<◌, ◌+◌, ◌∷◌, ◌++◌, [], IfOk, OnOk, OnErr};
-ghost use Rattle.am_names.specs.Errno.{RefusedAs};
+ghost use Rattle.am_names.specs.{RefusedAs};
 ghost use Rattle.am_state.specs.declared.obs.Obs.TheVariants.{Mounted};
 ghost use Rattle.am_group.specs.declared.membership.Membership.TheVariants.{Private};
-ghost use Rattle.am_propagate.specs.Added.{mount_refusal, mounted};
+ghost use Rattle.am_propagate.specs.{mount_refusal, mounted};
 ghost use Rattle.am_kernel.specs.State.{greatest_u32};
-ghost use Rattle.am_kernel.specs.Sites.{fs_refusal};
+ghost use Rattle.am_kernel.specs.Lookups.{fs_refusal};
 ghost use Rattle.am_kernel.specs.DaemonMounts.{new_fs_refusal, coming_in, coming, with_mount, attach_tests, attached_at, autofs_refusal, attaching, with_attached};
 
 use crate::kernel::Kernel;
 use crate::row::Attached;
-use am_names::{AbsPath, Attach, Errno, FsId, MountId, Mounts, NsId, Position};
+use am_names::{AbsPath, Attach, Errno, FsId, MountId, MountIds, NsId, Position};
 use am_propagate::Subtree;
 use am_state::Obs;
 use std::alloc::Global;
@@ -45,7 +45,7 @@ fn mount_fs(
     let mounts = subtree.mount(alloc, at, fs)?;
     let mount = mounts[0];
     seen.push_reserved(Obs::Mounted {
-        mounts: Mounts::of(mounts),
+        mounts: MountIds::of(mounts),
     });
     Ok(mount)
 }

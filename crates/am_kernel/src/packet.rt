@@ -4,7 +4,7 @@ ghost use Rattle.std.specs.Prelude.{◌≡◌};
 ghost use Rattle.am_kernel.specs.Walks.{packet_name, packet_for};
 
 use am_names::{Name, Token, TokenKind, Trigger, WalkerId};
-use am_wire::{Kind, Packet, PacketName};
+use am_wire::{Packet, PacketName, PacketType};
 
 /// The name in the packet for a trigger.
 fn packet_name(name: &Option<Name>) -> PacketName
@@ -21,7 +21,7 @@ pub fn packet_for(kind: TokenKind, token: Token, walker: WalkerId, trigger: &Tri
     ensures { result ≡ packet_for kind token walker trigger.now }
 {
     Packet {
-        kind: Kind::of(kind, trigger.name.is_none()),
+        kind: PacketType::of(kind, trigger.name.is_none()),
         token,
         dev: trigger.fs,
         ino: 1,

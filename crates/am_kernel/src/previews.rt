@@ -1,10 +1,10 @@
 //! What calls would answer: for whoever keeps a copy of the answer, and has to make it first.
 
 ghost use Rattle.std.specs.Prelude.{◌≡◌, None, IfOk};
-ghost use Rattle.am_names.specs.Errno.{RefusedAs};
-ghost use Rattle.am_propagate.specs.Removed.{mounts_in};
-ghost use Rattle.am_walk.specs.Walks.{fault_of};
-ghost use Rattle.am_kernel.specs.Sites.{position_at};
+ghost use Rattle.am_names.specs.{RefusedAs};
+ghost use Rattle.am_propagate.specs.{mounts_in};
+ghost use Rattle.am_walk.specs.{fault_of};
+ghost use Rattle.am_kernel.specs.Lookups.{position_at};
 ghost use Rattle.am_kernel.specs.Administration.{plain_gone};
 ghost use Rattle.am_kernel.specs.Previews.{arrived_at, arrival_of, arrival_again_of};
 

@@ -1,13 +1,13 @@
 //! Requests of a daemon, and of whoever asks for an expiry, as one call.
 
-ghost use Rattle.am_names.specs.Errno.{RefusedAs};
+ghost use Rattle.am_names.specs.{RefusedAs};
 ghost use Rattle.am_kernel.specs.Requests.{answer_refusal, acknowledged, answering};
-ghost use Rattle.am_kernel.specs.Catatonic.{catatonic_refusal, closing, closed};
+ghost use Rattle.am_kernel.specs.Catatonic.{catatonic_refusal, catatonic_observations, made_catatonic};
 ghost use Rattle.am_kernel.specs.declared.request.Granted.TheVariants.{Done};
 ghost use Rattle.am_kernel.specs.Granted.{Gives, IsGranted};
 
-use crate::begun::Begun;
 use crate::kernel::Kernel;
+use crate::progress::Progress;
 use am_names::{Attach, Errno, FsId, Status, Token};
 use am_state::Obs;
 use am_wire::Request;
@@ -18,7 +18,7 @@ use std::alloc::Global;
 pub enum Granted {
     Done,
     /// How an expiry goes on.
-    Begun(Begun),
+    Progress(Progress),
     /// The new attachment.
     Attached(Attach),
 }
@@ -55,10 +55,10 @@ impl Kernel {
         seen: &mut Vec<Obs>,
     ) -> Result<Granted, Errno>
         ensures refusal { RefusedAs (catatonic_refusal self.old attach fs) result }
-        ensures gives { Gives Done (closing fs self.old) (closed fs self.old)
+        ensures gives { Gives Done (catatonic_observations fs self.old) (made_catatonic fs self.old)
             result self.old self.new seen.old.items seen.new.items }
     {
-        let mut shown = self.closing(alloc, fs)?;
+        let mut shown = self.catatonic_observations(alloc, fs)?;
         seen.reserve(shown.len())?;
         self.catatonic(attach, fs)?;
         seen.append(&mut shown)?;
@@ -98,7 +98,7 @@ impl Kernel {
                 now,
                 immediate,
                 pipe,
-            } => Ok(Granted::Begun(self.expire(alloc, walker, fs, now, immediate, pipe, seen)?)),
+            } => Ok(Granted::Progress(self.expire(alloc, walker, fs, now, immediate, pipe, seen)?)),
         }
     }
 }

@@ -1,8 +1,8 @@
 //! What the daemon asks of an attached file system, packets that are read, and walkers that leave.
 
 ghost use Rattle.std.specs.Prelude.{◌≡◌, ◌≤◌, ◌+◌, ◌++◌, Some, map, IfOk, OnOk, OnErr};
-ghost use Rattle.am_names.specs.Errno.{RefusedAs, RefusedOnlyAs};
-ghost use Rattle.am_expire.specs.Uses.{leave_refusal, mount_of};
+ghost use Rattle.am_names.specs.{RefusedAs, RefusedOnlyAs};
+ghost use Rattle.am_expire.specs.{leave_refusal, mount_of_walker};
 ghost use Rattle.am_kernel.specs.Requests.{token_fs, answer_refusal, settled, acknowledged, answering, timeout_refusal, timeout_row, with_timeout, queued_of, without_packet, leave_seen, without_use};
 
 use crate::kernel::Kernel;
@@ -129,7 +129,7 @@ impl Kernel {
     /// The walker leaves the mount that it is inside of.
     pub fn leave(&mut self, walker: WalkerId, seen: &mut Vec<Obs>) -> Result<MountId, Errno>
         ensures refusal { RefusedAs (leave_refusal walker self.old.uses) result }
-        ensures mount { IfOk result (λ mount. mount_of self.old.uses walker ≡ Some mount) }
+        ensures mount { IfOk result (λ mount. mount_of_walker self.old.uses walker ≡ Some mount) }
         ensures ok { OnOk result (self.new ≡ without_use walker self.old) }
         ensures shown { OnOk result
             (seen.new.items ≡ seen.old.items ++ leave_seen self.old walker) }

@@ -19,5 +19,5 @@ pub struct WalkRow {
     pub ns: NsId,
     pub path: Place,
     /// How many walks the walker began on this path, the one that waits among them.
-    pub begins: u32,
+    pub attempts: u32,
 }

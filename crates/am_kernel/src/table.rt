@@ -13,7 +13,7 @@ macro_rules! refuse {
 }
 
 /// The error of the first test that fails is told.
-macro_rules! tell {
+macro_rules! finish_expiry {
     ($($holds:expr, $errno:ident;)*) => {
         $(if !$holds {
             return Some(Errno::$errno);
@@ -76,6 +76,6 @@ macro_rules! table {
     };
 }
 
+pub(crate) use finish_expiry;
 pub(crate) use refuse;
 pub(crate) use table;
-pub(crate) use tell;

@@ -1,7 +1,7 @@
 //! What a walker waited on that walks once more, and how that wait is collected.
 
 ghost use Rattle.std.specs.Prelude.{◌≡◌, ◌≤◌, ◌+◌, length};
-ghost use Rattle.am_kernel.specs.Waited.{expired_uses, forgotten_waits, forgotten_walks, waited_on, IsFree};
+ghost use Rattle.am_kernel.specs.Waited.{expired_uses, waits_collected, walks_ended, waited_on, HasNoOpenWait};
 
 use crate::walks::Walks;
 use am_expire::OrderedTriggers;
@@ -43,9 +43,9 @@ pub fn touch_expired(triggers: &mut OrderedTriggers, waited: &Waited, moment: Se
 }
 
 /// What the walker waited on is collected.
-pub fn forget(waits: &mut Waits, waited: &Waited, walker: WalkerId)
-    requires { IsFree waited.now walker waits.old }
-    ensures waits { waits.new ≡ forgotten_waits waited.now walker waits.old }
+pub fn collect_wait(waits: &mut Waits, waited: &Waited, walker: WalkerId)
+    requires { HasNoOpenWait waited.now walker waits.old }
+    ensures waits { waits.new ≡ waits_collected waited.now walker waits.old }
     ensures tokens { length waits.new.tokens ≡ length waits.old.tokens }
 {
     match waited {
@@ -57,8 +57,8 @@ pub fn forget(waits: &mut Waits, waited: &Waited, walker: WalkerId)
 }
 
 /// The walk of a walker that waited is over.
-pub fn forget_walk(walks: &mut Walks, waited: &Waited, walker: WalkerId)
-    ensures { walks.new.rows ≡ forgotten_walks waited.now walker walks.old.rows }
+pub fn end_walk(walks: &mut Walks, waited: &Waited, walker: WalkerId)
+    ensures { walks.new.rows ≡ walks_ended waited.now walker walks.old.rows }
 {
     match waited {
         Waited::Idle => {}

@@ -2,22 +2,22 @@
 
 ghost use Rattle.std.specs.Prelude.{◌≡◌, ◌+◌, ◌<◌, [], IfOk, Some};
 ghost use Rattle.std.specs.Option.{option_copied};
-ghost use Rattle.am_kernel.specs.Outcome.{Meets, Goes};
-ghost use Rattle.am_kernel.specs.Walks.{first_begin, walk_at, walk_outcome};
-ghost use Rattle.am_kernel.specs.Resumes.{failed, next_begin, told_as, walk_in, resume_at, resume_outcome, fallen, again_for};
-ghost use Rattle.am_kernel.specs.Waited.{freed_as, waited_on, IsFree};
-ghost use Rattle.am_expire.specs.Uses.{mount_of};
+ghost use Rattle.am_kernel.specs.CallOutcome.{Yields, Proceeds};
+ghost use Rattle.am_kernel.specs.Walks.{first_attempt, walk_at, walk_outcome};
+ghost use Rattle.am_kernel.specs.Resumes.{failed, next_attempt, expiry_finished_as, walk_in, resume_at, resume_outcome, retry_failed, retry_for};
+ghost use Rattle.am_kernel.specs.Waited.{wait_collected_as, waited_on, HasNoOpenWait};
+ghost use Rattle.am_expire.specs.{mount_of_walker};
 
-use crate::begun::{Begin, Begun};
 use crate::kernel::Kernel;
+use crate::progress::{Attempt, Progress};
 use crate::row::WalkRow;
-use crate::waited::{Waited, forget, forget_walk, touch_expired, waited_on};
+use crate::waited::{Waited, collect_wait, end_walk, touch_expired, waited_on};
 use am_names::{AbsPath, Errno, NsId, PipeState, Seconds, Status, TokenKind, WaitRow, WalkerId};
 use am_state::Obs;
 use std::alloc::{AllocError, Global};
 
 /// The most walks that one call of `walk` leads to (Linux: MAXSYMLINKS).
-const MOST_BEGINS: u32 = 40;
+const MAX_ATTEMPTS: u32 = 40;
 
 impl WalkRow {
     /// The same row once more.
@@ -28,20 +28,20 @@ impl WalkRow {
             walker: self.walker,
             ns: self.ns,
             path: self.path.copy(alloc)?,
-            begins: self.begins,
+            attempts: self.attempts,
         })
     }
 
     /// The walk begins once more.
-    fn next(&self, moment: Seconds) -> Begin<'_>
-        requires { self.now.begins < 4294967295 }
-        ensures { result ≡ next_begin self.now moment }
+    fn next(&self, moment: Seconds) -> Attempt<'_>
+        requires { self.now.attempts < 4294967295 }
+        ensures { result ≡ next_attempt self.now moment }
     {
-        Begin {
+        Attempt {
             walker: self.walker,
             ns: self.ns,
             path: self.path.path(),
-            begins: self.begins + 1,
+            attempts: self.attempts + 1,
             moment,
         }
     }
@@ -58,21 +58,21 @@ impl Kernel {
         moment: Seconds,
         pipe: PipeState,
         seen: &mut Vec<Obs>,
-    ) -> Result<Begun, Errno>
-        ensures { Meets (walk_at pipe self.old (first_begin walker ns path.now moment))
+    ) -> Result<Progress, Errno>
+        ensures { Yields (walk_at pipe self.old (first_attempt walker ns path.now moment))
             result self.old self.new seen.old.items seen.new.items }
     {
         if self.is_busy(walker) {
             return Err(Errno::EINVAL);
         }
-        let begin = Begin {
+        let attempt = Attempt {
             walker,
             ns,
             path: path.copy(),
-            begins: 1,
+            attempts: 1,
             moment,
         };
-        self.begin(alloc, &begin, &Waited::Idle, pipe, seen)
+        self.attempt(alloc, &attempt, &Waited::Idle, pipe, seen)
     }
 
     /// An idle walker walks from the root of a namespace along a path. The time is in seconds: the
@@ -87,14 +87,14 @@ impl Kernel {
         now: Seconds,
         pipe: PipeState,
         seen: &mut Vec<Obs>,
-    ) -> Result<Begun, Errno>
-        ensures { Meets (walk_outcome pipe self.old walker ns path.now now)
+    ) -> Result<Progress, Errno>
+        ensures { Yields (walk_outcome pipe self.old walker ns path.now now)
             result self.old self.new seen.old.items seen.new.items }
     {
         let moment = self.moment(now);
-        let begun = self.walk_at(alloc, walker, ns, path, moment, pipe, seen)?;
+        let progress = self.walk_at(alloc, walker, ns, path, moment, pipe, seen)?;
         self.latest = moment;
-        Ok(begun)
+        Ok(progress)
     }
 
     /// The walk that a walker began that waits.
@@ -110,17 +110,17 @@ impl Kernel {
         waited: &Waited,
         walker: WalkerId,
         moment: Seconds,
-        told: Begun,
+        told: Progress,
         seen: &mut Vec<Obs>,
-    ) -> Result<Begun, Errno>
-        requires { IsFree waited.now walker self.old.waits }
-        ensures { Meets (Goes told [] (freed_as waited.now walker moment self.old))
+    ) -> Result<Progress, Errno>
+        requires { HasNoOpenWait waited.now walker self.old.waits }
+        ensures { Yields (Proceeds told [] (wait_collected_as waited.now walker moment self.old))
             result self.old self.new seen.old.items seen.new.items }
     {
         self.triggers.reserve_uses(1)?;
         touch_expired(&mut self.triggers, waited, moment);
-        forget(&mut self.waits, waited, walker);
-        forget_walk(&mut self.walks, waited, walker);
+        collect_wait(&mut self.waits, waited, walker);
+        end_walk(&mut self.walks, waited, walker);
         // The checker wants each argument used that a clause names.
         let _seen = seen;
         Ok(told)
@@ -134,24 +134,24 @@ impl Kernel {
         moment: Seconds,
         errno: Errno,
         seen: &mut Vec<Obs>,
-    ) -> Result<Begun, Errno>
-        requires { IsFree waited.now walker self.old.waits }
-        ensures { Meets (failed errno (freed_as waited.now walker moment self.old))
+    ) -> Result<Progress, Errno>
+        requires { HasNoOpenWait waited.now walker self.old.waits }
+        ensures { Yields (failed errno (wait_collected_as waited.now walker moment self.old))
             result self.old self.new seen.old.items seen.new.items }
     {
-        self.end(waited, walker, moment, Begun::Failed(errno), seen)
+        self.end(waited, walker, moment, Progress::Failed(errno), seen)
     }
 
     /// A walker that has no walk asked for an expiry, and is told how it went.
-    fn tell(
+    fn finish_expiry(
         &mut self,
         wait: &WaitRow,
         status: Status,
         moment: Seconds,
         seen: &mut Vec<Obs>,
-    ) -> Result<Begun, Errno>
-        requires { IsFree (waited_on wait.now) wait.now.walker self.old.waits }
-        ensures { Meets (told_as wait.now.kind status self.old wait.now moment)
+    ) -> Result<Progress, Errno>
+        requires { HasNoOpenWait (waited_on wait.now) wait.now.walker self.old.waits }
+        ensures { Yields (expiry_finished_as wait.now.kind status self.old wait.now moment)
             result self.old self.new seen.old.items seen.new.items }
     {
         let walker = wait.walker;
@@ -159,7 +159,7 @@ impl Kernel {
         match (wait.kind, status) {
             (TokenKind::Missing, _) => Err(Errno::EINVAL),
             (TokenKind::Expire, Status::Ready) => {
-                self.end(&expiry, walker, moment, Begun::Expired, seen)
+                self.end(&expiry, walker, moment, Progress::Expired, seen)
             }
             (TokenKind::Expire, Status::Fail(no)) => {
                 self.fail(&expiry, walker, moment, no.errno(), seen)
@@ -168,16 +168,16 @@ impl Kernel {
     }
 
     /// A walk that can't begin again fails; where memory ran out, nothing has come of it.
-    fn fall(
+    fn fail_retry(
         &mut self,
         waited: &Waited,
         walker: WalkerId,
         moment: Seconds,
         errno: Errno,
         seen: &mut Vec<Obs>,
-    ) -> Result<Begun, Errno>
-        requires { IsFree waited.now walker self.old.waits }
-        ensures { Meets (fallen errno (freed_as waited.now walker moment self.old))
+    ) -> Result<Progress, Errno>
+        requires { HasNoOpenWait waited.now walker self.old.waits }
+        ensures { Yields (retry_failed errno (wait_collected_as waited.now walker moment self.old))
             result self.old self.new seen.old.items seen.new.items }
     {
         match errno {
@@ -187,18 +187,18 @@ impl Kernel {
     }
 
     /// A walk begins again, but not the 41st time, and fails where it can't.
-    fn again(
+    fn retry(
         &mut self,
         alloc: Global,
         wait: &WaitRow,
         moment: Seconds,
         pipe: PipeState,
         seen: &mut Vec<Obs>,
-    ) -> Result<Begun, Errno>
-        requires outside { mount_of self.old.uses wait.now.walker ≡ None }
-        requires free { IsFree (waited_on wait.now) wait.now.walker self.old.waits }
-        ensures { Meets
-            (again_for (walk_in self.old.walks wait.now.walker) pipe self.old wait.now moment)
+    ) -> Result<Progress, Errno>
+        requires outside { mount_of_walker self.old.uses wait.now.walker ≡ None }
+        requires free { HasNoOpenWait (waited_on wait.now) wait.now.walker self.old.waits }
+        ensures { Yields
+            (retry_for (walk_in self.old.walks wait.now.walker) pipe self.old wait.now moment)
             result self.old self.new seen.old.items seen.new.items }
     {
         let walker = wait.walker;
@@ -206,14 +206,14 @@ impl Kernel {
         let Some(row) = self.walk_row(walker) else {
             return Err(Errno::EINVAL);
         };
-        if MOST_BEGINS <= row.begins {
+        if MAX_ATTEMPTS <= row.attempts {
             return self.fail(&waited, walker, moment, Errno::ELOOP, seen);
         }
         let row = row.copy(alloc)?;
-        let begin = row.next(moment);
-        match self.begin(alloc, &begin, &waited, pipe, seen) {
-            Ok(begun) => Ok(begun),
-            Err(errno) => self.fall(&waited, walker, moment, errno, seen),
+        let attempt = row.next(moment);
+        match self.attempt(alloc, &attempt, &waited, pipe, seen) {
+            Ok(progress) => Ok(progress),
+            Err(errno) => self.fail_retry(&waited, walker, moment, errno, seen),
         }
     }
 
@@ -225,11 +225,11 @@ impl Kernel {
         moment: Seconds,
         pipe: PipeState,
         seen: &mut Vec<Obs>,
-    ) -> Result<Begun, Errno>
-        ensures { Meets (resume_at pipe self.old walker moment)
+    ) -> Result<Progress, Errno>
+        ensures { Yields (resume_at pipe self.old walker moment)
             result self.old self.new seen.old.items seen.new.items }
     {
-        if self.uses.mount_of(walker).is_some() {
+        if self.uses.mount_of_walker(walker).is_some() {
             return Err(Errno::EINVAL);
         }
         let Some(wait) = self.waits.wait_of(walker) else {
@@ -239,14 +239,14 @@ impl Kernel {
             return Err(Errno::NotReleased);
         };
         if self.walk_row(walker).is_none() {
-            return self.tell(&wait, status, moment, seen);
+            return self.finish_expiry(&wait, status, moment, seen);
         }
         match (wait.kind, status) {
             (TokenKind::Missing, Status::Fail(no)) => {
                 self.fail(&Waited::OnMount, walker, moment, no.errno(), seen)
             }
-            (TokenKind::Missing, Status::Ready) => self.again(alloc, &wait, moment, pipe, seen),
-            (TokenKind::Expire, _) => self.again(alloc, &wait, moment, pipe, seen),
+            (TokenKind::Missing, Status::Ready) => self.retry(alloc, &wait, moment, pipe, seen),
+            (TokenKind::Expire, _) => self.retry(alloc, &wait, moment, pipe, seen),
         }
     }
 
@@ -260,13 +260,13 @@ impl Kernel {
         now: Seconds,
         pipe: PipeState,
         seen: &mut Vec<Obs>,
-    ) -> Result<Begun, Errno>
-        ensures { Meets (resume_outcome pipe self.old walker now)
+    ) -> Result<Progress, Errno>
+        ensures { Yields (resume_outcome pipe self.old walker now)
             result self.old self.new seen.old.items seen.new.items }
     {
         let moment = self.moment(now);
-        let begun = self.resume_at(alloc, walker, moment, pipe, seen)?;
+        let progress = self.resume_at(alloc, walker, moment, pipe, seen)?;
         self.latest = moment;
-        Ok(begun)
+        Ok(progress)
     }
 }

@@ -3,7 +3,7 @@
 ghost use Rattle.std.specs.Prelude.{◌≡◌, ◌≤◌, ◌<◌, ◌+◌, ◌==◌, ◌∷◌, ◌++◌, [], ℕ, true, false, cond, drop, length, position, OnOk, vec_len, vec_capacity};
 ghost use Rattle.std.specs.Option.{option_copied};
 ghost use Rattle.indexmap.specs.IndexSet.{spare};
-ghost use Rattle.am_names.specs.Numbers.{is_among};
+ghost use Rattle.am_names.specs.{is_among};
 ghost use Rattle.am_kernel.specs.Walks.{without_walk};
 ghost use Rattle.am_kernel.specs.Resumes.{walk_in};
 ghost use Rattle.am_kernel.specs.WalkTable.{IsSingle};

@@ -2,12 +2,9 @@
 use Rattle.std.proofs.Common.{◌≡◌, ℕ, Bool, false, List, [], ◌∷◌, ◌++◌, refl, sym, ap, subst, ◌∙◌, append_assoc}
 use Rattle.std.specs.Prelude.{◌↔◌, ◌&&◌, ◌||◌}
 use Rattle.std.proofs.lemmas.List.{append-nil}
-use Rattle.am_state.specs.declared.obs.Obs.{Obs}
+use Rattle.am_state.specs.{Obs}
 use Rattle.am_state.specs.declared.obs.Obs.TheVariants.{Answered, Catatonic}
-use Rattle.am_laws.specs.OneObservation.{is_released, releases}
-use Rattle.am_laws.specs.Tests.{is_in_row}
-use Rattle.am_laws.specs.TraceLaws.{AllReleased, Lawful}
-use Rattle.am_laws.specs.Fold.{IsLawfulAt, AreLawful, begins_with_released}
+use Rattle.am_laws.specs.{is_released, releases, is_in_row, AllReleased, Lawful, IsLawfulAt, AreLawful, begins_with_released}
 use Rattle.am_laws.proofs.Words.{in_row_true, in_row_from_test}
 use Rattle.am_laws.proofs.Places.{lawful_from_front, front_from_lawful}
 

@@ -5,17 +5,13 @@ use Rattle.std.specs.List.{list_any, list_all, count_by}
 use Rattle.std.proofs.lemmas.Bool.Decides.{nat_tests}
 use Rattle.std.proofs.lemmas.List.{append-nil}
 use Rattle.std.proofs.lemmas.List.Elements.{All-nil, All-cons, All-head, All-tail}
-use Rattle.am_state.specs.declared.obs.Obs.{Obs}
+use Rattle.am_state.specs.{Obs}
 use Rattle.am_state.specs.declared.obs.Obs.TheVariants.{Queued, Waits, Answered, Catatonic, Released, Passed, Unmounted, Delivered}
-use Rattle.am_names.specs.declared.trigger.Status.{Status}
-use Rattle.am_wire.specs.declared.packet.Packet.{Packet}
+use Rattle.am_names.specs.{Status}
+use Rattle.am_wire.specs.{Packet}
 use Rattle.am_names.specs.declared.trigger.Trigger.{Trigger}
 use Rattle.am_names.proofs.Basics.{neither_of_or, or_right, or_left, both_of_and, and_of_both, false_where_not, not_where_false, false_unless_true}
-use Rattle.am_laws.specs.OneObservation.{queues, waits, delivers, releases, is_released, closes, closes_as, enters, leaves, is_fs}
-use Rattle.am_laws.specs.Counts.{packet_of, fs_of_token, IsOpen, IsExpiring, uses}
-use Rattle.am_laws.specs.TraceLaws.{EndsInRow, MayBeReleased, AllReleased, Lawful}
-use Rattle.am_laws.specs.Fold.{IsLawfulAt, AreLawful}
-use Rattle.am_laws.specs.Tests.{HasNo, HasSince, since, is_open, is_in_queue, is_unused, asks, is_expiry, is_cause, ends_in_row, may_be_released, is_let_go, all_released, is_closed, is_lawful_at, are_lawful, is_in_row}
+use Rattle.am_laws.specs.{queues, waits, delivers, releases, is_released, closes, closes_as, enters, leaves, is_fs, packet_of, fs_of_token, IsOpen, IsExpiring, uses, EndsInRow, MayBeReleased, AllReleased, Lawful, IsLawfulAt, AreLawful, HasNo, HasSince, since, is_open, is_in_queue, is_unused, asks, is_expiry, is_cause, ends_in_row, may_be_released, is_let_go, all_released, is_closed, is_lawful_at, are_lawful, is_in_row}
 use Rattle.am_laws.proofs.Words.{is_fs_true, fs_from_test, waits_true, waits_from_test, never_queued_test, never_queued_from_test, never_delivered_test, never_delivered_from_test, delivered_test, delivered_from_test, once_test, once_from_test, since_from_open, open_from_since, since_from_queued, queued_from_since, closes_true, closes_from_test, in_row_true, in_row_from_test, uses_zero, zero_uses}
 use Rattle.am_laws.proofs.Packets.{expires_true, expires_from_test}
 use Rattle.am_laws.proofs.Places.{lawful_from_front, front_from_lawful}

@@ -8,14 +8,10 @@ use Rattle.std.proofs.Math.ListN.{drop_of_length-le}
 use Rattle.std.proofs.Math.Seq.{take-add}
 use Rattle.std.proofs.lemmas.List.Folds.{list_any-append, list_all-append}
 use Rattle.am_names.proofs.Basics.{both_of_and, false_unless_true}
-use Rattle.am_state.specs.declared.obs.Obs.{Obs}
+use Rattle.am_state.specs.{Obs}
 use Rattle.am_state.specs.declared.obs.Obs.TheVariants.{Queued, Released}
-use Rattle.am_wire.specs.declared.packet.Packet.{Packet}
-use Rattle.am_laws.specs.OneObservation.{queues, closes, packet_in, is_released}
-use Rattle.am_laws.specs.Counts.{first_of, packet_of, dev_of, fs_of_token}
-use Rattle.am_laws.specs.Fold.{IsLawfulAt}
-use Rattle.am_laws.specs.Tests.{Has, since, is_open, is_lawful_at}
-use Rattle.am_laws.specs.Lately.{WereLawful, AreSettled, WereSettled, AreUpTo, Remembers, Settles, can_close, is_pending, greatest_with, is_lawful_lately}
+use Rattle.am_wire.specs.{Packet}
+use Rattle.am_laws.specs.{queues, closes, packet_in, is_released, first_of, packet_of, dev_of, fs_of_token, IsLawfulAt, Has, since, is_open, is_lawful_at, WereLawful, AreSettled, WereSettled, AreUpTo, Remembers, Settles, can_close, is_pending, greatest_with, is_lawful_lately}
 use Rattle.am_laws.proofs.Lists.{AtEnd, at_end, since-append, if_no}
 use Rattle.am_laws.proofs.Words.{never_queued_test}
 use Rattle.am_laws.proofs.Late.{queued_in_part, open_same}

@@ -5,14 +5,10 @@ use Rattle.std.specs.List.{list_any, list_all}
 use Rattle.std.proofs.lemmas.Bool.Decides.{nat_tests}
 use Rattle.std.proofs.lemmas.List.Folds.{list_any-append, list_all-append}
 use Rattle.am_names.proofs.Basics.{neither_of_or, or_left, false_unless_true, equal_to_itself}
-use Rattle.am_state.specs.declared.obs.Obs.{Obs}
+use Rattle.am_state.specs.{Obs}
 use Rattle.am_state.specs.declared.obs.Obs.TheVariants.{Queued, Waits, Released, Delivered}
-use Rattle.am_wire.specs.declared.packet.Packet.{Packet}
-use Rattle.am_laws.specs.OneObservation.{queues, queues_as, waits, delivers, releases, closes, unqueues, packet_in}
-use Rattle.am_laws.specs.Counts.{first_of, packet_of, dev_of, fs_of_token, IsOpen}
-use Rattle.am_laws.specs.Fold.{IsLawfulAt}
-use Rattle.am_laws.specs.Tests.{Has, HasNo, since, is_open, is_in_queue, is_let_go, all_released, is_in_row}
-use Rattle.am_laws.specs.Lately.{WereLawful, AreSettled}
+use Rattle.am_wire.specs.{Packet}
+use Rattle.am_laws.specs.{queues, queues_as, waits, delivers, releases, closes, unqueues, packet_in, first_of, packet_of, dev_of, fs_of_token, IsOpen, IsLawfulAt, Has, HasNo, since, is_open, is_in_queue, is_let_go, all_released, is_in_row, WereLawful, AreSettled}
 use Rattle.am_laws.proofs.Lists.{all_split, none_split, since-append, since_no, if_of, any_at}
 use Rattle.am_laws.proofs.Words.{queues_is, queues_as_is, never_queued_test}
 

@@ -6,8 +6,8 @@ use Rattle.std.specs.List.{list_any, list_all, Contains}
 use Rattle.std.proofs.lemmas.List.Elements.{Contains-push, Contains-append_left, Contains-append_right}
 use Rattle.std.proofs.lemmas.List.Folds.{list_any_at}
 use Rattle.am_names.proofs.Basics.{or_left, or_right, or_neither, neither_of_or, and_of_both, both_of_and, false_unless_true}
-use Rattle.am_state.specs.declared.obs.Obs.{Obs}
-use Rattle.am_laws.specs.Tests.{HasNo, since}
+use Rattle.am_state.specs.{Obs}
+use Rattle.am_laws.specs.{HasNo, since}
 
 pub if_of : (c x : Bool) → (c ≡ true → x ≡ true) → (if c then x else true) ≡ true
 if_of true x h = h refl

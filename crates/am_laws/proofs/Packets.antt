@@ -4,18 +4,15 @@ use Rattle.std.specs.Prelude.{◌==◌, ◌&&◌}
 use Rattle.std.specs.Str.{bytes_eq}
 use Rattle.std.proofs.lemmas.Slice.Eq.{bytes_eq-Decides}
 use Rattle.std.proofs.lemmas.Bool.Decides.{nat_tests}
-use Rattle.am_names.specs.Trigger.{same_trigger}
+use Rattle.am_names.specs.{same_trigger, TokenKind}
 use Rattle.am_names.specs.declared.trigger.Trigger.{Trigger}
-use Rattle.am_names.specs.declared.row.TokenKind.{TokenKind}
 use Rattle.am_names.specs.declared.row.TokenKind.TheVariants.{Missing, Expire}
-use Rattle.am_names.proofs.SameTriggers.{is_one, is_itself}
+use Rattle.am_names.proofs.SameTriggers.{equal_by_same_trigger, same_trigger_itself}
 use Rattle.am_names.proofs.Basics.{both_of_and, and_of_both, equal_to_itself, equal_by_test}
-use Rattle.am_wire.specs.Kind.{kind_number, token_kind}
-use Rattle.am_wire.specs.declared.kind.Kind.{Kind}
-use Rattle.am_wire.specs.declared.packet.Packet.{Packet}
-use Rattle.am_wire.proofs.KindLemmas.{kind_number_one}
-use Rattle.am_laws.specs.OneObservation.{trigger_of, is_expire, expires, is_same_packet}
-use Rattle.am_laws.specs.Counts.{AsksToExpire}
+use Rattle.am_wire.specs.{kind_number, token_kind, Packet}
+use Rattle.am_wire.specs.declared.packet_type.PacketType.{PacketType}
+use Rattle.am_wire.proofs.PacketTypeLemmas.{kind_number_one}
+use Rattle.am_laws.specs.{trigger_of, is_expire, expires, is_same_packet, AsksToExpire}
 
 -- ---- what a packet asks for
 
@@ -25,16 +22,16 @@ expire_is Expire h = refl
 
 pub expires_true : (trigger : Trigger) (packet : Packet) → AsksToExpire packet trigger → expires trigger packet ≡ true
 expires_true trigger packet h =
-    and_of_both _ _ (ap is_expire h.asks) (subst (λ (t : Trigger). same_trigger (trigger_of packet) t ≡ true) h.is_its (is_itself (trigger_of packet)))
+    and_of_both _ _ (ap is_expire h.asks) (subst (λ (t : Trigger). same_trigger (trigger_of packet) t ≡ true) h.is_its (same_trigger_itself (trigger_of packet)))
 
 pub expires_from_test : (trigger : Trigger) (packet : Packet) → expires trigger packet ≡ true → AsksToExpire packet trigger
 expires_from_test trigger packet h =
     let both = both_of_and (is_expire (token_kind packet.kind)) (same_trigger (trigger_of packet) trigger) h in
-    record { asks = expire_is (token_kind packet.kind) both.0; is_its = is_one (trigger_of packet) trigger both.1 }
+    record { asks = expire_is (token_kind packet.kind) both.0; is_its = equal_by_same_trigger (trigger_of packet) trigger both.1 }
 
 -- ---- packets
 
-abbrev made : Kind → ℕ → ℕ → ℕ → ℕ → ℕ → ℕ → ℕ → List ℕ → Packet
+abbrev made : PacketType → ℕ → ℕ → ℕ → ℕ → ℕ → ℕ → ℕ → List ℕ → Packet
 made kind token dev ino uid gid pid tgid name =
     record { kind = kind; token = token; dev = dev; ino = ino; uid = uid; gid = gid; pid = pid; tgid = tgid; name = name }
 
@@ -57,7 +54,7 @@ packet_is p q h =
     let by_dev = both_of_and (k && t) d by_ino.0 in
     let by_token = both_of_and k t by_dev.0 in
     let kind : p.kind ≡ q.kind = kind_number_one p.kind q.kind (equal_by_test (kind_number p.kind) (kind_number q.kind) by_token.0) in
-    ap (λ (x : Kind). made x p.token p.dev p.ino p.uid p.gid p.pid p.tgid p.name) kind
+    ap (λ (x : PacketType). made x p.token p.dev p.ino p.uid p.gid p.pid p.tgid p.name) kind
     ∙ ap (λ (x : ℕ). made q.kind x p.dev p.ino p.uid p.gid p.pid p.tgid p.name) (equal_by_test p.token q.token by_token.1)
     ∙ ap (λ (x : ℕ). made q.kind q.token x p.ino p.uid p.gid p.pid p.tgid p.name) (equal_by_test p.dev q.dev by_dev.1)
     ∙ ap (λ (x : ℕ). made q.kind q.token q.dev x p.uid p.gid p.pid p.tgid p.name) (equal_by_test p.ino q.ino by_ino.1)

@@ -2,10 +2,9 @@
 use Rattle.std.proofs.Common.{◌≡◌, List, [], ◌∷◌, ◌++◌, refl, sym, ap, subst, append_assoc}
 use Rattle.std.specs.Prelude.{◌↔◌}
 use Rattle.std.proofs.lemmas.List.{append-nil}
-use Rattle.am_state.specs.declared.obs.Obs.{Obs}
+use Rattle.am_state.specs.{Obs}
 use Rattle.am_state.specs.declared.obs.Obs.TheVariants.{Queued, Waits, Answered, Catatonic, Released, Passed, Unmounted, Delivered}
-use Rattle.am_laws.specs.TraceLaws.{Lawful}
-use Rattle.am_laws.specs.Fold.{IsLawfulAt, AreLawful}
+use Rattle.am_laws.specs.{Lawful, IsLawfulAt, AreLawful}
 
 -- lawful from the front on, so lawful at a place
 pub at_place : (before trace front rest : List Obs) (o : Obs) → AreLawful before trace → trace ≡ front ++ o ∷ rest → IsLawfulAt (before ++ front) o rest

@@ -4,13 +4,11 @@ use Rattle.std.specs.Prelude.{◌&&◌, ◌||◌}
 use Rattle.std.specs.List.{list_all}
 use Rattle.std.proofs.lemmas.List.{append-nil}
 use Rattle.std.proofs.lemmas.List.Folds.{list_all-append}
-use Rattle.am_state.specs.declared.obs.Obs.{Obs}
+use Rattle.am_state.specs.{Obs}
 use Rattle.am_state.specs.declared.obs.Obs.TheVariants.{Released}
-use Rattle.am_names.specs.declared.trigger.Status.{Status}
+use Rattle.am_names.specs.{Status}
 use Rattle.am_names.proofs.Basics.{or_false}
-use Rattle.am_laws.specs.OneObservation.{closes_as, is_released}
-use Rattle.am_laws.specs.Counts.{fs_of_token}
-use Rattle.am_laws.specs.Tests.{is_open, is_cause, ends_in_row}
+use Rattle.am_laws.specs.{closes_as, is_released, fs_of_token, is_open, is_cause, ends_in_row}
 
 closes_not : (token : ℕ) (fs : Option ℕ) (status : Status) (o : Obs) → is_released o ≡ true → closes_as token fs status o ≡ false
 closes_not token fs status (Released w k s) h = refl

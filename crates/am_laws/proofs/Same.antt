@@ -5,17 +5,13 @@ use Rattle.std.specs.List.{list_any, list_all, Contains}
 use Rattle.std.proofs.lemmas.Bool.Decides.{nat_tests}
 use Rattle.std.proofs.lemmas.List.{append-nil}
 use Rattle.std.proofs.lemmas.List.Folds.{list_any-append, list_all-append}
-use Rattle.am_state.specs.declared.obs.Obs.{Obs}
+use Rattle.am_state.specs.{Obs}
 use Rattle.am_state.specs.declared.obs.Obs.TheVariants.{Queued, Waits, Answered, Catatonic, Released, Passed, Delivered}
-use Rattle.am_names.specs.declared.trigger.Status.{Status}
+use Rattle.am_names.specs.{Status}
 use Rattle.am_names.specs.declared.trigger.Trigger.{Trigger}
 use Rattle.am_names.proofs.Basics.{neither_of_or, false_unless_true, equal_to_itself, and_where_left_is_false}
-use Rattle.am_wire.specs.declared.packet.Packet.{Packet}
-use Rattle.am_laws.specs.OneObservation.{queues, queues_as, waits, delivers, releases, closes, closes_as, unqueues, is_fs, is_released}
-use Rattle.am_laws.specs.Counts.{first_of, packet_of, dev_of, fs_of_token, IsOpen, IsQueued}
-use Rattle.am_laws.specs.TraceLaws.{Closes}
-use Rattle.am_laws.specs.Tests.{HasNo, is_open, is_in_queue, all_released, asks, is_expiry, is_cause, ends_in_row, may_be_released, is_closed, is_lawful_at}
-use Rattle.am_laws.specs.Lately.{WereLawful, AreSettled, WereSettled, can_close, is_lawful_lately}
+use Rattle.am_wire.specs.{Packet}
+use Rattle.am_laws.specs.{queues, queues_as, waits, delivers, releases, closes, closes_as, unqueues, is_fs, is_released, first_of, packet_of, dev_of, fs_of_token, IsOpen, IsQueued, Closes, HasNo, is_open, is_in_queue, all_released, asks, is_expiry, is_cause, ends_in_row, may_be_released, is_closed, is_lawful_at, WereLawful, AreSettled, WereSettled, can_close, is_lawful_lately}
 use Rattle.am_laws.proofs.Lists.{all_split, none_split, all_same, any_same, since_no, any_at, none_in}
 use Rattle.am_laws.proofs.Words.{never_queued_test, never_delivered_test, delivered_test, queued_from_since}
 use Rattle.am_laws.proofs.Decided.{is_open_true, row_split, has_since}

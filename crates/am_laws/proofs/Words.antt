@@ -5,20 +5,16 @@ use Rattle.std.specs.List.{list_any, list_all, Contains}
 use Rattle.std.proofs.lemmas.Bool.Decides.{nat_tests}
 use Rattle.std.proofs.lemmas.Int.{ints}
 use Rattle.std.proofs.lemmas.List.Elements.{Contains-push, Contains-append_right}
-use Rattle.am_state.specs.declared.obs.Obs.{Obs}
+use Rattle.am_state.specs.{Obs}
 use Rattle.am_state.specs.declared.obs.Obs.TheVariants.{Queued, Waits, Answered, Catatonic, Released, Delivered}
-use Rattle.am_wire.specs.declared.packet.Packet.{Packet}
-use Rattle.am_names.specs.FailNo.{fail_number}
+use Rattle.am_wire.specs.{Packet}
+use Rattle.am_names.specs.{fail_number, Status}
 use Rattle.am_names.specs.declared.fail_no.FailNo.{FailNo}
 use Rattle.am_names.specs.declared.fail_no.FailNo.TheVariants.{ENOENT}
 use Rattle.am_names.proofs.FailNumbers.{fail_is}
-use Rattle.am_names.specs.declared.trigger.Status.{Status}
 use Rattle.am_names.specs.declared.trigger.Status.TheVariants.{Ready, Fail}
 use Rattle.am_names.proofs.Basics.{both_of_and, and_of_both, equal_to_itself}
-use Rattle.am_laws.specs.OneObservation.{queues, queues_as, closes, closes_as, unqueues, waits, delivers, releases, is_released, is_same_packet, is_same_status, is_no_entry_fail, is_fs}
-use Rattle.am_laws.specs.Counts.{fs_of_token, IsOpen, IsQueued, IsInRow}
-use Rattle.am_laws.specs.TraceLaws.{Closes}
-use Rattle.am_laws.specs.Tests.{HasSince, is_in_row}
+use Rattle.am_laws.specs.{queues, queues_as, closes, closes_as, unqueues, waits, delivers, releases, is_released, is_same_packet, is_same_status, is_no_entry_fail, is_fs, fs_of_token, IsOpen, IsQueued, IsInRow, Closes, HasSince, is_in_row}
 use Rattle.am_laws.proofs.Packets.{packet_is, packet_same}
 use Rattle.am_laws.proofs.Lists.{any_some, any_in, any_none, none_in}
 

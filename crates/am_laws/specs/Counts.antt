@@ -3,11 +3,10 @@
 use Rattle.std.specs.Prelude.{◌≡◌, ℕ, true, List, [], ◌∷◌, ◌++◌, Option, None, Some, ℤ, pos, ◌-ℤ◌}
 use Rattle.std.specs.List.{list_all, count_by, Contains}
 use Rattle.am_names.specs.declared.trigger.Trigger.{Trigger}
-use Rattle.am_names.specs.declared.trigger.Status.{Status}
+use Rattle.am_names.specs.{Status}
 use Rattle.am_names.specs.declared.row.TokenKind.TheVariants.{Expire}
-use Rattle.am_wire.specs.declared.packet.Packet.{Packet}
-use Rattle.am_wire.specs.Kind.{token_kind}
-use Rattle.am_state.specs.declared.obs.Obs.{Obs}
+use Rattle.am_wire.specs.{Packet, token_kind}
+use Rattle.am_state.specs.{Obs}
 use Rattle.am_state.specs.declared.obs.Obs.TheVariants.{Queued, Answered, Catatonic, Released, Delivered}
 use Rattle.am_laws.specs.OneObservation.{trigger_of, is_released, packet_in, enters, leaves}
 

@@ -2,7 +2,7 @@
 -- given what was seen before it and what follows (own choice).
 use Rattle.std.specs.Prelude.{◌≡◌, ℕ, Bool, false, List, [], ◌∷◌, ◌++◌, Some, pos}
 use Rattle.std.specs.List.{All}
-use Rattle.am_state.specs.declared.obs.Obs.{Obs}
+use Rattle.am_state.specs.{Obs}
 use Rattle.am_state.specs.declared.obs.Obs.TheVariants.{Queued, Waits, Answered, Catatonic, Released, Passed, Entered, Left, Mounted, Unmounted, Delivered, Recorded, Reattached, Died}
 use Rattle.am_laws.specs.OneObservation.{is_released}
 use Rattle.am_laws.specs.Counts.{fs_of_token, IsOpen, IsExpiring, IsQueued, NeverQueued, WasDelivered, NeverDelivered, uses}

@@ -2,7 +2,7 @@
 -- the next place is judged by what was seen lately (own choice).
 use Rattle.std.specs.Prelude.{◌≡◌, ◌≤◌, ℕ, Bool, true, false, not, nat_lt, List, ◌∷◌, ◌++◌, length, take, if◌then◌else◌}
 use Rattle.std.specs.List.{list_any, list_all}
-use Rattle.am_state.specs.declared.obs.Obs.{Obs}
+use Rattle.am_state.specs.{Obs}
 use Rattle.am_state.specs.declared.obs.Obs.TheVariants.{Queued, Answered, Catatonic, Unmounted}
 use Rattle.am_laws.specs.OneObservation.{queues, is_released}
 use Rattle.am_laws.specs.Fold.{IsLawfulAt}

@@ -2,17 +2,13 @@
 -- observations are own choice).
 use Rattle.std.specs.Prelude.{ℕ, ◌==◌, Bool, true, false, ◌&&◌, List, Option, None, Some, if◌then◌else◌}
 use Rattle.std.specs.Str.{bytes_eq}
-use Rattle.am_names.specs.FailNo.{fail_number}
-use Rattle.am_names.specs.Trigger.{same_trigger}
+use Rattle.am_names.specs.{fail_number, same_trigger, Status, TokenKind}
 use Rattle.am_names.specs.declared.fail_no.FailNo.TheVariants.{ENOENT}
-use Rattle.am_names.specs.declared.trigger.Status.{Status}
 use Rattle.am_names.specs.declared.trigger.Status.TheVariants.{Ready, Fail}
 use Rattle.am_names.specs.declared.trigger.Trigger.{Trigger}
-use Rattle.am_names.specs.declared.row.TokenKind.{TokenKind}
 use Rattle.am_names.specs.declared.row.TokenKind.TheVariants.{Missing, Expire}
-use Rattle.am_wire.specs.Kind.{kind_number, is_indirect, token_kind}
-use Rattle.am_wire.specs.declared.packet.Packet.{Packet}
-use Rattle.am_state.specs.declared.obs.Obs.{Obs}
+use Rattle.am_wire.specs.{kind_number, is_indirect, token_kind, Packet}
+use Rattle.am_state.specs.{Obs}
 use Rattle.am_state.specs.declared.obs.Obs.TheVariants.{Queued, Waits, Answered, Catatonic, Released, Entered, Left, Delivered}
 
 -- ---- what a packet is about

@@ -1,10 +1,10 @@
 -- The tests that decide the laws (own choice).
 use Rattle.std.specs.Prelude.{◌≡◌, ℕ, ◌==◌, Bool, true, false, ◌&&◌, ◌||◌, not, List, [], ◌∷◌, ◌++◌, Option, None, Some, if◌then◌else◌}
 use Rattle.std.specs.List.{list_any, list_all, count_by}
-use Rattle.am_state.specs.declared.obs.Obs.{Obs}
+use Rattle.am_state.specs.{Obs}
 use Rattle.am_state.specs.declared.obs.Obs.TheVariants.{Queued, Waits, Answered, Catatonic, Released, Passed, Entered, Left, Mounted, Unmounted, Delivered, Recorded, Reattached, Died}
-use Rattle.am_names.specs.declared.trigger.Status.{Status}
-use Rattle.am_wire.specs.declared.packet.Packet.{Packet}
+use Rattle.am_names.specs.{Status}
+use Rattle.am_wire.specs.{Packet}
 use Rattle.am_names.specs.declared.trigger.Trigger.{Trigger}
 use Rattle.am_laws.specs.OneObservation.{queues, queues_as, waits, delivers, releases, is_released, closes, closes_as, unqueues, enters, leaves, expires, is_fs}
 use Rattle.am_laws.specs.Counts.{packet_of, fs_of_token}

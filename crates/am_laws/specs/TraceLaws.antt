@@ -4,11 +4,11 @@
 use Rattle.std.specs.Prelude.{◌≡◌, ◌⊎◌, ℕ, true, List, ◌∷◌, ◌++◌, Some, pos}
 use Rattle.std.specs.List.{list_all, All, Contains}
 use Rattle.am_names.specs.declared.fail_no.FailNo.TheVariants.{ENOENT}
-use Rattle.am_names.specs.declared.trigger.Status.{Status}
+use Rattle.am_names.specs.{Status}
 use Rattle.am_names.specs.declared.trigger.Status.TheVariants.{Fail}
 use Rattle.am_names.specs.declared.trigger.Trigger.{Trigger}
-use Rattle.am_wire.specs.declared.packet.Packet.{Packet}
-use Rattle.am_state.specs.declared.obs.Obs.{Obs}
+use Rattle.am_wire.specs.{Packet}
+use Rattle.am_state.specs.{Obs}
 use Rattle.am_state.specs.declared.obs.Obs.TheVariants.{Queued, Waits, Answered, Catatonic, Released, Passed, Unmounted, Delivered}
 use Rattle.am_laws.specs.OneObservation.{is_released}
 use Rattle.am_laws.specs.Counts.{fs_of_token, IsOpen, IsExpiring, IsQueued, NeverQueued, WasDelivered, NeverDelivered, uses, IsInRow}

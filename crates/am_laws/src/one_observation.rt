@@ -1,8 +1,8 @@
 //! Tests of one observation, and of what it holds.
 
 ghost use Rattle.std.specs.Prelude.{◌≡◌};
-ghost use Rattle.am_names.specs.Trigger.{same_trigger, same_name};
-ghost use Rattle.am_wire.specs.Kind.{kind_number};
+ghost use Rattle.am_names.specs.{same_trigger, same_name};
+ghost use Rattle.am_wire.specs.{kind_number};
 ghost use Rattle.am_laws.specs.OneObservation.{trigger_name, trigger_of, is_expire, expires, is_same_packet, is_no_entry_fail, is_same_status, is_fs, is_released, queues, queues_as, waits, delivers, releases, closes, closes_as, unqueues, enters, leaves};
 
 use am_names::{Attach, FailNo, FsId, MountId, Name, Status, Token, TokenKind, Trigger, WalkerId};

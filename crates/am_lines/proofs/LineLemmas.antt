@@ -2,7 +2,7 @@
 use Rattle.std.proofs.Common.{◌≡◌, ℕ, ◌+◌, true, false, cond, List, [], ◌∷◌, ◌++◌, length, refl, ap, subst, arith}
 use Rattle.std.specs.List.{slice_split}
 use Rattle.std.proofs.lemmas.List.Splits.{length-slice_split}
-use Rattle.am_lines.specs.Lines.{Line, is_line_feed, is_joined, before_backslash, put_before, joined, lines_from}
+use Rattle.am_lines.specs.{Line, is_line_feed, is_joined, before_backslash, put_before, joined, lines_from}
 
 put_before_twice : (n : ℕ) (front : List ℕ) (lines : List Line) → put_before n [] (put_before n front lines) ≡ put_before n front lines
 put_before_twice n front [] = refl

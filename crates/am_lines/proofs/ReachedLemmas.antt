@@ -3,9 +3,7 @@ use Rattle.std.proofs.Common.{◌≡◌, ℕ, List, [], ◌∷◌, ◌++◌, ref
 use Rattle.std.specs.List.{flat_map}
 use Rattle.std.proofs.lemmas.List.{append-nil, append_assoc}
 use Rattle.std.proofs.lemmas.Grind.{flat_map-append}
-use Rattle.am_lines.specs.Lines.{Line, lines_from}
-use Rattle.am_lines.specs.Words.{Statement, words_of, statement_of, statement_of_words}
-use Rattle.am_lines.specs.Reached.{IsReached}
+use Rattle.am_lines.specs.{Line, lines_from, Statement, words_of, statement_of, statement_of_words, IsReached}
 use Rattle.am_lines.proofs.LineLemmas.{lines_begin}
 
 -- the lines from this number on are left, and the statements above them are good

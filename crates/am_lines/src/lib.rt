@@ -7,5 +7,5 @@ pub mod lines;
 pub mod words;
 
 pub use digits::are_digits;
-pub use lines::{Behind, cut_at_line_feed, line_feed_place, next_line};
+pub use lines::{Remainder, cut_at_line_feed, line_feed_place, next_line};
 pub use words::{begins_with, cut_at_colon, first_word, next_word};

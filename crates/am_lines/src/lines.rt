@@ -4,13 +4,13 @@ ghost use Rattle.std.specs.Prelude.{◌≡◌, ◌+◌, ◌≤◌, ℕ, ◌∷�
 ghost use Rattle.std.specs.Option.{option_copied};
 ghost use Rattle.std.specs.List.{slice_split};
 ghost use Rattle.am_lines.specs.Lines.{Line, lines_from, raw_lines_in, is_line_feed, is_joined, before_backslash};
-ghost use Rattle.am_lines.specs.Behind.{lines_behind, raw_lines_behind};
+ghost use Rattle.am_lines.specs.Remainder.{lines_behind, raw_lines_behind};
 
 use std::alloc::AllocError;
 
 /// What stands behind a line.
 #[derive(Clone, Copy)]
-pub struct Behind<'a> {
+pub struct Remainder<'a> {
     /// How many raw lines the line was made of, at least 1.
     pub raw_lines: usize,
     /// The text behind it; none at the end.
@@ -19,7 +19,7 @@ pub struct Behind<'a> {
 
 /// Puts the first line of a text into the buffer, joined with the raw lines on which it goes on.
 /// What the buffer held goes; out of memory it holds a part of the line.
-pub fn next_line<'a>(text: &'a [u8], line: &mut Vec<u8>) -> Result<Behind<'a>, AllocError>
+pub fn next_line<'a>(text: &'a [u8], line: &mut Vec<u8>) -> Result<Remainder<'a>, AllocError>
     ensures ok { IfOk result (λ behind. (n : ℕ) → lines_from n text.now
         ≡ record { number = n; bytes = line.new.items } ∷ lines_behind n behind) }
     ensures counted { IfOk result (λ behind. 1 ≤ behind.raw_lines) }
@@ -36,14 +36,14 @@ pub fn next_line<'a>(text: &'a [u8], line: &mut Vec<u8>) -> Result<Behind<'a>, A
         raw_lines += 1;
         let Some(front) = before_backslash(raw) else {
             line.extend_from_slice(raw)?;
-            return Ok(Behind {
+            return Ok(Remainder {
                 raw_lines,
                 rest: others,
             });
         };
         line.extend_from_slice(front)?;
         let Some(next) = others else {
-            return Ok(Behind {
+            return Ok(Remainder {
                 raw_lines,
                 rest: None,
             });

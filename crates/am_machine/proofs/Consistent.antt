@@ -2,18 +2,12 @@
 use Rattle.std.proofs.Common.{List, [], ◌∷◌, refl, sym, subst, inl, inr, arith}
 use Rattle.std.proofs.lemmas.List.{append-nil}
 use Rattle.std.proofs.lemmas.List.Elements.{All-nil}
-use Rattle.am_state.specs.declared.obs.Obs.{Obs}
+use Rattle.am_state.specs.{Obs}
 use Rattle.am_wait.proofs.AgreeLemmas.{new_sound}
 use Rattle.am_laws.proofs.Append.{lawful_append}
 use Rattle.am_laws.proofs.Decided.{lawful_from_test}
-use Rattle.am_machine.specs.declared.event.Event.{Event}
-use Rattle.am_machine.specs.declared.answer.Answer.{Answer}
-use Rattle.am_machine.specs.State.{Opening, State, opening_of}
-use Rattle.am_machine.specs.Machine.{Step, Run, after, outcome_of}
-use Rattle.am_machine.specs.Invariant.Traces.{rows_in, FitsTrace, PacketFits}
-use Rattle.am_machine.specs.Invariant.Consistent.{IsTraced, HalvesAgree, IsConsistent}
-use Rattle.am_machine.specs.StepLaws.{IsLawful}
-use Rattle.am_machine.specs.Safety.{RunsAreLawful}
+use Rattle.am_machine.specs.{Event, Answer, Setup, initial_state_of, Step, Run, after, outcome_of, rows_in, FitsTrace, PacketFits, IsTraced, HalvesAgree, IsConsistent, IsLawful, RunsAreLawful}
+use Rattle.am_machine.specs.State.{State}
 use Rattle.am_machine.proofs.Traces.Changes.{outcome_follows}
 use Rattle.am_machine.proofs.Tokens.Notify.{numbered}
 use Rattle.am_machine.proofs.Attachments.Changes.{initial_given, outcome_given}
@@ -23,7 +17,7 @@ use Rattle.am_machine.proofs.Records.Changes.{initial_records, outcome_records}
 use Rattle.am_machine.proofs.Places.Initial.{initial_places}
 use Rattle.am_machine.proofs.Places.Changes.{outcome_places}
 use Rattle.am_machine.proofs.Books.Changes.{initial_book, outcome_book}
-use Rattle.am_machine.proofs.Stands.Changes.{initial_stands, outcome_stands}
+use Rattle.am_machine.proofs.TriggerMounts.Changes.{initial_stands, outcome_stands}
 
 -- ---- steps
 
@@ -41,7 +35,7 @@ step_lawful old event answer shown new (inr comes) =
 
 -- ---- every world is traced
 
-initial_fits : (opening : Opening) → FitsTrace (rows_in (opening_of opening)) []
+initial_fits : (opening : Setup) → FitsTrace (rows_in (initial_state_of opening)) []
 initial_fits opening = record {
   sound = new_sound opening.limits.waiters opening.limits.tokens;
   single = tt;
@@ -53,7 +47,7 @@ initial_fits opening = record {
   delivered = λ job is. absurd cc;
 }
 
-pub initial_traced : (opening : Opening) → IsTraced (opening_of opening)
+pub initial_traced : (opening : Setup) → IsTraced (initial_state_of opening)
 initial_traced opening = record { fits = initial_fits opening; lawful = lawful_from_test [] refl }
 
 -- an outcome keeps what ties the trace to the rows, and the laws
@@ -76,11 +70,11 @@ run_traced old [] (answer ∷ answers) new run h = absurd run
 run_traced old (event ∷ events) [] new run h = absurd run
 
 pub runs_lawful : RunsAreLawful
-runs_lawful opening events answers s run = (run_traced (opening_of opening) events answers s run (initial_traced opening)).lawful
+runs_lawful opening events answers s run = (run_traced (initial_state_of opening) events answers s run (initial_traced opening)).lawful
 
 -- ---- kernel and daemon agree
 
-pub initial_agree : (opening : Opening) → HalvesAgree (opening_of opening)
+pub initial_agree : (opening : Setup) → HalvesAgree (initial_state_of opening)
 initial_agree opening = record {
   given = initial_given opening;
   tokens = initial_tokens opening;
@@ -107,7 +101,7 @@ outcome_agree s event traced h =
 
 -- ---- and every world is consistent
 
-pub initial_consistent : (opening : Opening) → IsConsistent (opening_of opening)
+pub initial_consistent : (opening : Setup) → IsConsistent (initial_state_of opening)
 initial_consistent opening = record { traced = initial_traced opening; agreed = initial_agree opening }
 
 -- an outcome leaves a consistent state

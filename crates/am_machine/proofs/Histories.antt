@@ -1,26 +1,22 @@
 -- A legal history begins with the initial world, and goes on by a step, and by a run.
 use Rattle.std.proofs.Common.{List, [], ◌∷◌, ◌++◌, refl, sym, subst, append_assoc}
 use Rattle.std.proofs.lemmas.List.{map-append, append-nil}
-use Rattle.am_state.specs.declared.obs.Obs.{Obs}
-use Rattle.am_machine.specs.declared.event.Event.{Event}
-use Rattle.am_machine.specs.declared.answer.Answer.{Answer}
-use Rattle.am_machine.specs.declared.entry.Entry.{Entry}
-use Rattle.am_machine.specs.State.{Opening, State, opening_in, opening_of}
-use Rattle.am_machine.specs.History.{entry, entries, events_of, answers_of}
-use Rattle.am_machine.specs.Machine.{Step, Run, IsLegal, GoesOnBy}
+use Rattle.am_state.specs.{Obs}
+use Rattle.am_machine.specs.{Event, Answer, Entry, Setup, setup_of, initial_state_of, entry, entries, events_of, answers_of, Step, Run, IsLegal, GoesOnBy}
+use Rattle.am_machine.specs.State.{State}
 use Rattle.am_machine.proofs.Runs.{run_more}
 use Rattle.am_machine.proofs.Consistent.{step_lawful}
 
-pub legal_begins : (opening : Opening) → IsLegal [] (opening_of opening)
+pub legal_begins : (opening : Setup) → IsLegal [] (initial_state_of opening)
 legal_begins opening = refl
 
 pub legal_more : (history : List Entry) (mid : State) (event : Event) (answer : Answer) (new : State) → IsLegal history mid → (seen : List Obs) × Step mid event answer seen new → IsLegal (history ++ entry event answer ∷ []) new
 legal_more history mid event answer new here step =
     let last = entry event answer ∷ [] in
-    let more = run_more (opening_of (opening_in mid)) (events_of history) (answers_of history) mid event answer new here step in
-    let events = subst (λ (came : List Event). Run (opening_of (opening_in mid)) came (answers_of history ++ answer ∷ []) new) (sym (map-append (λ (e : Entry). e.event) history last)) more in
-    let answers = subst (λ (told : List Answer). Run (opening_of (opening_in mid)) (events_of (history ++ last)) told new) (sym (map-append (λ (e : Entry). e.answer) history last)) events in
-    subst (λ (o : Opening). Run (opening_of o) (events_of (history ++ last)) (answers_of (history ++ last)) new) (sym (step_lawful mid event answer step.0 new step.1).opening) answers
+    let more = run_more (initial_state_of (setup_of mid)) (events_of history) (answers_of history) mid event answer new here step in
+    let events = subst (λ (came : List Event). Run (initial_state_of (setup_of mid)) came (answers_of history ++ answer ∷ []) new) (sym (map-append (λ (e : Entry). e.event) history last)) more in
+    let answers = subst (λ (told : List Answer). Run (initial_state_of (setup_of mid)) (events_of (history ++ last)) told new) (sym (map-append (λ (e : Entry). e.answer) history last)) events in
+    subst (λ (o : Setup). Run (initial_state_of o) (events_of (history ++ last)) (answers_of (history ++ last)) new) (sym (step_lawful mid event answer step.0 new step.1).opening) answers
 
 pub step_goes_on : (old : State) (event : Event) (answer : Answer) (new : State) → (seen : List Obs) × Step old event answer seen new → GoesOnBy (entry event answer ∷ []) old new
 step_goes_on old event answer new step history here = legal_more history old event answer new here step

@@ -9,7 +9,7 @@ pub mod Planned
 pub mod Records
 pub mod Books
 pub mod Places
-pub mod Stands
+pub mod TriggerMounts
 pub mod Consistent
 pub mod Agreement
 pub mod InStep

@@ -1,10 +1,8 @@
 -- A run goes on by one step.
 use Rattle.std.proofs.Common.{List, [], ◌∷◌, ◌++◌, refl, subst}
-use Rattle.am_state.specs.declared.obs.Obs.{Obs}
-use Rattle.am_machine.specs.declared.event.Event.{Event}
-use Rattle.am_machine.specs.declared.answer.Answer.{Answer}
+use Rattle.am_state.specs.{Obs}
+use Rattle.am_machine.specs.{Event, Answer, Step, Run}
 use Rattle.am_machine.specs.State.{State}
-use Rattle.am_machine.specs.Machine.{Step, Run}
 
 pub run_more : (old : State) (events : List Event) (answers : List Answer) (mid : State) (event : Event) (answer : Answer) (new : State) → Run old events answers mid → (seen : List Obs) × Step mid event answer seen new → Run old (events ++ event ∷ []) (answers ++ answer ∷ []) new
 run_more old [] [] mid event answer new here step = (new, step.0, subst (λ (s : State). Step s event answer step.0 new) here step.1, refl)

@@ -1,13 +1,9 @@
 -- What every step keeps.
 use Rattle.std.proofs.Common.{List, sym, subst, inl, inr, ◌∙◌}
-use Rattle.am_state.specs.declared.obs.Obs.{Obs}
+use Rattle.am_state.specs.{Obs}
 use Rattle.am_propagate.proofs.RemovalLemmas.{same_there}
-use Rattle.am_machine.specs.declared.event.Event.{Event}
-use Rattle.am_machine.specs.declared.answer.Answer.{Answer}
-use Rattle.am_machine.specs.State.{State, opening_of}
-use Rattle.am_machine.specs.Machine.{Step, after, outcome_of}
-use Rattle.am_machine.specs.Invariant.Places.{PlacesAgree}
-use Rattle.am_machine.specs.StepLaws.{StepsAreLawful, AddsNoReceivers, StepsAddNoReceivers, RunsGoOn}
+use Rattle.am_machine.specs.{Event, Answer, initial_state_of, Step, after, outcome_of, PlacesAgree, StepsAreLawful, AddsNoReceivers, StepsAddNoReceivers, RunsGoOn}
+use Rattle.am_machine.specs.State.{State}
 use Rattle.am_machine.proofs.Runs.{run_more}
 use Rattle.am_machine.proofs.Places.Changes.{outcome_receivers}
 use Rattle.am_machine.proofs.Consistent.{step_lawful, initial_consistent, run_consistent}
@@ -29,4 +25,4 @@ step_adds old event answer seen new h (inr comes) = subst (AddsNoReceivers old) 
 
 pub steps_add_none : StepsAddNoReceivers
 steps_add_none opening events answers old run event answer seen new step =
-    step_adds old event answer seen new (run_consistent (opening_of opening) events answers old run (initial_consistent opening)).agreed.places step
+    step_adds old event answer seen new (run_consistent (initial_state_of opening) events answers old run (initial_consistent opening)).agreed.places step

@@ -3,7 +3,7 @@ use Rattle.std.proofs.Common.{◌≡◌, Bool, true, false, not, Option, Some, N
 use Rattle.std.specs.Prelude.{is_some, if◌then◌else◌}
 use Rattle.am_names.specs.declared.errno.Errno.{Errno}
 use Rattle.am_names.proofs.Basics.{none_where_not_some, true_where_not_false}
-use Rattle.am_kernel.specs.Sites.{or_else}
+use Rattle.am_kernel.specs.{or_else}
 
 pub test_passed : (b : Bool) (e : Errno) (rest : Option Errno) → (if b then Some e else rest) ≡ None → (b ≡ false) × (rest ≡ None)
 test_passed true e rest h = absurd cc

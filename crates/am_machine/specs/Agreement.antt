@@ -1,23 +1,18 @@
 -- What kernel and daemon agree on, of each file system that the daemon serves (own choice).
 use Rattle.std.specs.Prelude.{◌≡◌, ◌⊎◌, ◌<◌, ℕ, true, List, Some, None}
 use Rattle.am_names.specs.declared.trigger.Trigger.{Trigger}
-use Rattle.am_names.specs.declared.row.OpenToken.{OpenToken}
-use Rattle.am_group.specs.Propagation.{Receives}
-use Rattle.am_wait.specs.Rows.{token_of}
-use Rattle.am_trigger.specs.Sites.{place_of}
-use Rattle.am_state.specs.declared.daemon_row.Record.{Record}
+use Rattle.am_names.specs.{OpenToken}
+use Rattle.am_group.specs.{Receives}
+use Rattle.am_wait.specs.{token_of}
+use Rattle.am_trigger.specs.{place_of}
+use Rattle.am_state.specs.{Record, QueuedRow}
 use Rattle.am_state.specs.declared.daemon_row.Record.TheVariants.{Mounted}
-use Rattle.am_state.specs.declared.kernel_row.QueuedRow.{QueuedRow}
-use Rattle.am_kernel.specs.State.{KernelState}
-use Rattle.am_kernel.specs.DaemonMounts.{location_of, mounted_on}
-use Rattle.am_kernel.specs.Requests.{queued_of}
-use Rattle.am_job.specs.Book.{record_of}
-use Rattle.am_job.specs.Laws.{AcknowledgesLast}
-use Rattle.am_daemon.specs.State.{DaemonState, JobPlan}
-use Rattle.am_daemon.specs.Deliveries.{job_of}
+use Rattle.am_kernel.specs.{KernelState, location_of, mounted_on, queued_of}
+use Rattle.am_job.specs.{record_of, AcknowledgesLast}
+use Rattle.am_daemon.specs.{DaemonState, JobPlan, job_of}
 use Rattle.am_machine.specs.declared.event.Event.{Event}
 use Rattle.am_machine.specs.declared.answer.Answer.{Answer}
-use Rattle.am_machine.specs.State.{Opening, State, opening_of}
+use Rattle.am_machine.specs.State.{Setup, State, initial_state_of}
 use Rattle.am_machine.specs.Paths.{HavePaths}
 use Rattle.am_machine.specs.Machine.{Run}
 use Rattle.am_machine.specs.Invariant.Books.{IsServed, is_pending_for}
@@ -80,5 +75,5 @@ Agree s = (fs attach : ℕ) → IsServed s.kernel s.daemon fs attach →
 
 -- every run from an initial world leaves kernel and daemon agreed
 abbrev pub RunsAgree : Type 0
-RunsAgree = (opening : Opening) (events : List Event) (answers : List Answer) (s : State) →
-    HavePaths events → Run (opening_of opening) events answers s → Agree s
+RunsAgree = (opening : Setup) (events : List Event) (answers : List Answer) (s : State) →
+    HavePaths events → Run (initial_state_of opening) events answers s → Agree s

@@ -1,21 +1,16 @@
 -- Kernel and daemon are in step: what the one tells the other finds it ready (own choice).
 use Rattle.std.specs.Prelude.{◌≡◌, ◌&&◌, ℕ, true, is_some, List, Option, Some}
-use Rattle.am_names.specs.declared.row.OpenToken.{OpenToken}
+use Rattle.am_names.specs.{OpenToken, WaitRow}
 use Rattle.am_names.specs.declared.row.TokenKind.TheVariants.{Missing}
-use Rattle.am_names.specs.declared.row.WaitRow.{WaitRow}
-use Rattle.am_trigger.specs.Rows.{autofs_of}
-use Rattle.am_wait.specs.Rows.{token_of, wait_of}
-use Rattle.am_state.specs.declared.kernel_row.QueuedRow.{QueuedRow}
-use Rattle.am_kernel.specs.Sites.{is_live, latest_attach, attach_of}
-use Rattle.am_kernel.specs.Requests.{queued_of}
-use Rattle.am_kernel.specs.Attachments.{pipe_refusal}
-use Rattle.am_kernel.specs.Resumes.{walk_in}
+use Rattle.am_trigger.specs.{autofs_of}
+use Rattle.am_wait.specs.{token_of, wait_of}
+use Rattle.am_state.specs.{QueuedRow}
+use Rattle.am_kernel.specs.{is_live, latest_attach, attach_of, queued_of, pipe_refusal, walk_in}
 use Rattle.am_daemon.specs.declared.fault.DaemonFault.TheVariants.{Busy}
-use Rattle.am_daemon.specs.Attachments.{knows, holds}
-use Rattle.am_daemon.specs.Deliveries.{delivery_fault}
+use Rattle.am_daemon.specs.{knows, holds, delivery_fault}
 use Rattle.am_machine.specs.declared.event.Event.{Event}
 use Rattle.am_machine.specs.declared.answer.Answer.{Answer}
-use Rattle.am_machine.specs.State.{Opening, State, opening_of}
+use Rattle.am_machine.specs.State.{Setup, State, initial_state_of}
 use Rattle.am_machine.specs.Events.Deliveries.{has_bytes, may_take}
 use Rattle.am_machine.specs.Events.Requests.{reattach_refused}
 use Rattle.am_machine.specs.Paths.{HavePaths}
@@ -59,15 +54,15 @@ pub record RefusesInStep (s : State) : Type 0 where
 
 -- every run from an initial world leaves them so
 abbrev pub RunsAreInStep : Type 0
-RunsAreInStep = (opening : Opening) (events : List Event) (answers : List Answer) (s : State) →
-    HavePaths events → Run (opening_of opening) events answers s → AreInStep s
+RunsAreInStep = (opening : Setup) (events : List Event) (answers : List Answer) (s : State) →
+    HavePaths events → Run (initial_state_of opening) events answers s → AreInStep s
 
 -- after every run from an initial world the daemon is free for each packet
 abbrev pub RunsAreNeverBusy : Type 0
-RunsAreNeverBusy = (opening : Opening) (events : List Event) (answers : List Answer) (s : State) →
-    HavePaths events → Run (opening_of opening) events answers s → IsNeverBusy s
+RunsAreNeverBusy = (opening : Setup) (events : List Event) (answers : List Answer) (s : State) →
+    HavePaths events → Run (initial_state_of opening) events answers s → IsNeverBusy s
 
 -- after every run from an initial world some tests never fail
 abbrev pub RunsRefuseInStep : Type 0
-RunsRefuseInStep = (opening : Opening) (events : List Event) (answers : List Answer) (s : State) →
-    HavePaths events → Run (opening_of opening) events answers s → RefusesInStep s
+RunsRefuseInStep = (opening : Setup) (events : List Event) (answers : List Answer) (s : State) →
+    HavePaths events → Run (initial_state_of opening) events answers s → RefusesInStep s

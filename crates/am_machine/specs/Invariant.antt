@@ -7,5 +7,5 @@ pub mod Planned
 pub mod Books
 pub mod Records
 pub mod Places
-pub mod Stands
+pub mod TriggerMounts
 pub mod Consistent

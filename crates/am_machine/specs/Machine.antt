@@ -1,15 +1,15 @@
 -- The machine: its steps and its runs (own choice).
 use Rattle.std.specs.Prelude.{◌≡◌, ◌⊎◌, List, [], ◌∷◌, ◌++◌}
 use Rattle.am_names.specs.declared.errno.Errno.TheVariants.{NoMemory}
-use Rattle.am_state.specs.declared.obs.Obs.{Obs}
+use Rattle.am_state.specs.{Obs}
 use Rattle.am_machine.specs.declared.event.Event.{Event}
 use Rattle.am_machine.specs.declared.event.Event.TheVariants as events
 use Rattle.am_machine.specs.declared.answer.Answer.{Answer}
 use Rattle.am_machine.specs.declared.answer.Answer.TheVariants as answers
 use Rattle.am_machine.specs.declared.entry.Entry.{Entry}
 use Rattle.am_machine.specs.History.{events_of, answers_of}
-use Rattle.am_machine.specs.State.{State, opening_in, opening_of}
-use Rattle.am_machine.specs.Outcome.{Outcome}
+use Rattle.am_machine.specs.State.{State, setup_of, initial_state_of}
+use Rattle.am_machine.specs.EventOutcome.{EventOutcome}
 use Rattle.am_machine.specs.Events.Administration.{attach_outcome, mount_outcome, bind_outcome, umount_outcome, change_outcome, kind_outcome, copy_outcome, drop_outcome}
 use Rattle.am_machine.specs.Events.Walkers.{walk_outcome, resume_outcome, leave_outcome, expire_outcome}
 use Rattle.am_machine.specs.Events.Deliveries.{deliver_outcome}
@@ -17,7 +17,7 @@ use Rattle.am_machine.specs.Events.Acts.{act_outcome}
 use Rattle.am_machine.specs.Events.Requests.{repeat_outcome, catatonic_outcome, admin_catatonic_outcome, timeout_outcome, die_outcome, reattach_outcome, record_outcome}
 
 -- what an event comes to, one line an event
-abbrev pub outcome_of : State → Event → Outcome
+abbrev pub outcome_of : State → Event → EventOutcome
 outcome_of s (events.Attach path) = attach_outcome s path
 outcome_of s (events.Mount ns path) = mount_outcome s ns path
 outcome_of s (events.Bind ns from to) = bind_outcome s ns from to
@@ -41,7 +41,7 @@ outcome_of s (events.Reattach fs) = reattach_outcome s fs
 outcome_of s (events.Record trigger) = record_outcome s trigger
 
 -- the state after an outcome: what was seen stands at the end of the trace
-abbrev pub after : State → Outcome → State
+abbrev pub after : State → EventOutcome → State
 after s o = record o.state { trace = s.trace ++ o.seen }
 
 -- out of memory, nothing has changed
@@ -51,7 +51,7 @@ pub record RanOut (old : State) (answer : Answer) (seen : List Obs) (new : State
   pub same : new ≡ old
 
 -- the outcome has come
-pub record Comes (o : Outcome) (old : State) (answer : Answer) (seen : List Obs) (new : State) : Type 0 where
+pub record Comes (o : EventOutcome) (old : State) (answer : Answer) (seen : List Obs) (new : State) : Type 0 where
   pub told : answer ≡ o.answer
   pub shown : seen ≡ o.seen
   pub left : new ≡ after old o
@@ -70,7 +70,7 @@ Run old (event ∷ events) [] new = ⊥
 
 -- A history is legal for a world where it is a run from the initial world that ends there.
 abbrev pub IsLegal : List Entry → State → Type 0
-IsLegal history s = Run (opening_of (opening_in s)) (events_of history) (answers_of history) s
+IsLegal history s = Run (initial_state_of (setup_of s)) (events_of history) (answers_of history) s
 
 -- Each legal history of the old world goes on by these entries to one of the new world.
 abbrev pub GoesOnBy : List Entry → State → State → Type 0

@@ -1,7 +1,7 @@
 -- A path is names (path_resolution(7)).
 use Rattle.std.specs.Prelude.{◌≡◌, ⊤, ℕ, true, List}
 use Rattle.std.specs.List.{list_all, All}
-use Rattle.am_names.specs.Name.{is_name}
+use Rattle.am_names.specs.{is_name}
 use Rattle.am_machine.specs.declared.event.Event.{Event}
 use Rattle.am_machine.specs.declared.event.Event.TheVariants as events
 

@@ -1,12 +1,12 @@
 -- The safety theorem, said of the machine alone (own choice).
 use Rattle.std.specs.Prelude.{List}
-use Rattle.am_laws.specs.TraceLaws.{Lawful}
+use Rattle.am_laws.specs.{Lawful}
 use Rattle.am_machine.specs.declared.event.Event.{Event}
 use Rattle.am_machine.specs.declared.answer.Answer.{Answer}
-use Rattle.am_machine.specs.State.{Opening, State, opening_of}
+use Rattle.am_machine.specs.State.{Setup, State, initial_state_of}
 use Rattle.am_machine.specs.Machine.{Run}
 
 -- every run from an initial world leaves a lawful trace
 abbrev pub RunsAreLawful : Type 0
-RunsAreLawful = (opening : Opening) (events : List Event) (answers : List Answer) (s : State) →
-    Run (opening_of opening) events answers s → Lawful s.trace
+RunsAreLawful = (opening : Setup) (events : List Event) (answers : List Answer) (s : State) →
+    Run (initial_state_of opening) events answers s → Lawful s.trace

@@ -1,16 +1,16 @@
 -- A world as a value (own choice).
 use Rattle.std.specs.Prelude.{List, []}
 use Rattle.am_names.specs.declared.limits.Limits.{Limits}
-use Rattle.am_map.specs.EntryText.{Row}
+use Rattle.am_map.specs.{Row}
 use Rattle.am_master.specs.MasterRow.{MasterRow}
-use Rattle.am_state.specs.declared.obs.Obs.{Obs}
-use Rattle.am_kernel.specs.State.{KernelState, initial}
+use Rattle.am_state.specs.{Obs}
+use Rattle.am_kernel.specs.{KernelState, initial}
 use Rattle.am_daemon.specs.State as daemon
-use Rattle.am_daemon.specs.State.{DaemonState}
+use Rattle.am_daemon.specs.{DaemonState}
 
 -- what a world begins with, which no event changes: the limits, the lines of the master map, and
 -- for each of them, in order, the rows of its map
-pub record Opening : Type 0 where
+pub record Setup : Type 0 where
   pub limits : Limits
   pub master : List MasterRow
   pub maps : List (List Row)
@@ -31,12 +31,12 @@ limits_in k = record {
 }
 
 -- what the world began with
-abbrev pub opening_in : State → Opening
-opening_in s = record { limits = limits_in s.kernel; master = s.daemon.master; maps = s.daemon.maps }
+abbrev pub setup_of : State → Setup
+setup_of s = record { limits = limits_in s.kernel; master = s.daemon.master; maps = s.daemon.maps }
 
 -- the initial world: nothing is attached, and nothing was observed
-abbrev pub opening_of : Opening → State
-opening_of opening = record {
+abbrev pub initial_state_of : Setup → State
+initial_state_of opening = record {
   kernel = initial opening.limits;
   daemon = daemon.initial opening.master opening.maps;
   trace = [];

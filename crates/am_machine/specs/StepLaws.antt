@@ -2,18 +2,18 @@
 -- own choice).
 use Rattle.std.specs.Prelude.{◌≡◌, ◌≤◌, ℕ, true, List, [], ◌∷◌, ◌++◌}
 use Rattle.std.specs.List.{count_by}
-use Rattle.am_state.specs.declared.obs.Obs.{Obs}
-use Rattle.am_group.specs.Propagation.{Receives}
-use Rattle.am_propagate.specs.MountTable.{is_mount}
-use Rattle.am_laws.specs.OneObservation.{is_queued}
+use Rattle.am_state.specs.{Obs}
+use Rattle.am_group.specs.{Receives}
+use Rattle.am_propagate.specs.{is_mount}
+use Rattle.am_laws.specs.{is_queued}
 use Rattle.am_machine.specs.declared.event.Event.{Event}
 use Rattle.am_machine.specs.declared.answer.Answer.{Answer}
-use Rattle.am_machine.specs.State.{Opening, State, opening_in, opening_of}
+use Rattle.am_machine.specs.State.{Setup, State, setup_of, initial_state_of}
 use Rattle.am_machine.specs.Machine.{Step, Run}
 
 -- The opening stays, the trace grows by what was seen, and one packet at most is queued.
 pub record IsLawful (old : State) (seen : List Obs) (new : State) : Type 0 where
-  pub opening : opening_in new ≡ opening_in old
+  pub opening : setup_of new ≡ setup_of old
   pub trace : new.trace ≡ old.trace ++ seen
   pub once : count_by is_queued seen ≤ 1
 
@@ -31,8 +31,8 @@ AddsNoReceivers old new = (b c : ℕ) →
 
 -- no step after a run from an initial world adds receivers
 abbrev pub StepsAddNoReceivers : Type 0
-StepsAddNoReceivers = (opening : Opening) (events : List Event) (answers : List Answer) (old : State) →
-    Run (opening_of opening) events answers old →
+StepsAddNoReceivers = (opening : Setup) (events : List Event) (answers : List Answer) (old : State) →
+    Run (initial_state_of opening) events answers old →
     (event : Event) (answer : Answer) (seen : List Obs) (new : State) →
     Step old event answer seen new → AddsNoReceivers old new
 

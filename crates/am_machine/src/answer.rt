@@ -3,8 +3,8 @@
 ghost use Rattle.std.specs.Prelude.{◌≡◌, ◌↔◌, IsTrue};
 ghost use Rattle.am_machine.specs.declared.answer.Answer.TheVariants as answers;
 
-use am_group::Kind;
-use am_names::{Attach, Errno, FsId, JobId, MountId, Mounts, NsId, Position, Token};
+use am_group::MountState;
+use am_names::{Attach, Errno, FsId, JobId, MountId, MountIds, NsId, Position, Token};
 use am_state::Record;
 
 /// The answer to one event.
@@ -22,13 +22,13 @@ pub enum Answer {
     },
     /// These mounts have gone, in rising order.
     Gone {
-        mounts: Mounts,
+        mounts: MountIds,
     },
     /// It is done, and there is nothing more to tell.
     Done,
     /// How the mount takes part in propagation.
     Kind {
-        kind: Kind,
+        kind: MountState,
     },
     /// The new namespace.
     Namespace {
@@ -130,7 +130,7 @@ fn is_mount(mount: MountId, answer: &Answer) -> bool
     }
 }
 
-fn is_gone(mounts: &Mounts, answer: &Answer) -> bool
+fn is_gone(mounts: &MountIds, answer: &Answer) -> bool
     ensures { IsTrue result ↔ (answers.Gone mounts.now ≡ answer.now) }
 {
     match answer {
@@ -150,7 +150,7 @@ fn is_done(answer: &Answer) -> bool
     }
 }
 
-fn is_kind(kind: Kind, answer: &Answer) -> bool
+fn is_kind(kind: MountState, answer: &Answer) -> bool
     ensures { IsTrue result ↔ (answers.Kind kind ≡ answer.now) }
 {
     match answer {

@@ -1,7 +1,6 @@
 -- A fault that is passed on.
-use Rattle.am_map.specs.declared.fault.MapFaultKind.{MapFaultKind}
+use Rattle.am_map.specs.{MapFaultKind, IsFaultOr}
 use Rattle.am_map.specs.declared.fault.MapFaultKind.TheVariants.{BadKey, BadOption, NoLocation, BadLocation, NoMemory}
-use Rattle.am_map.specs.Fault.{IsFaultOr}
 
 pub passed_on : {P Q : Type 0} (kind : MapFaultKind) → (P → Q) → IsFaultOr kind P → IsFaultOr kind Q
 passed_on BadKey f h = f h

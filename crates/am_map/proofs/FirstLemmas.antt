@@ -6,10 +6,7 @@ use Rattle.std.specs.List.{list_any}
 use Rattle.std.proofs.lemmas.List.{append-nil}
 use Rattle.std.proofs.lemmas.List.Folds.{list_any-append}
 use Rattle.std.proofs.lemmas.Slice.Eq.{bytes_eq-Decides}
-use Rattle.am_map.specs.EntryText.{Row}
-use Rattle.am_map.specs.LookUp.{has_key, first_of_each, or_else, entry_for, entry_of_row}
-use Rattle.am_map.specs.Words.{star}
-use Rattle.am_map.specs.Stored.{row_added}
+use Rattle.am_map.specs.{Row, has_key, first_of_each, or_else, entry_for, entry_of_row, star, row_added}
 use Rattle.am_map.proofs.StoredLemmas.{row_added-there, row_added-new}
 use Rattle.am_names.proofs.Basics.{same_test, true_where_not_false, false_where_not}
 

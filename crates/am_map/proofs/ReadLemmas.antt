@@ -2,15 +2,8 @@
 use Rattle.std.proofs.Common.{◌≡◌, ℕ, true, false, cond, List, [], ◌∷◌, ◌++◌, refl, sym, ap, ◌∙◌}
 use Rattle.std.specs.Prelude.{Result, Ok, Err, IsOk, fold}
 use Rattle.std.specs.List.{flat_map}
-use Rattle.am_lines.specs.Lines.{Line, lines_from}
-use Rattle.am_lines.specs.Words.{Statement, words_of, begins_with, statement_of, statement_of_words, statements_from}
-use Rattle.am_map.specs.declared.fault.MapFault.{MapFault}
-use Rattle.am_map.specs.declared.fault.MapFaultKind.{MapFaultKind}
-use Rattle.am_map.specs.declared.kind.MapKind.{MapKind}
-use Rattle.am_map.specs.EntryText.{Row}
-use Rattle.am_map.specs.Grammar.{rows_read, row_read, with_row, AreRows, kept, FindsFirst}
-use Rattle.am_map.specs.LookUp.{first_of_each, entry_for}
-use Rattle.am_map.specs.Stored.{row_added, added, line_added}
+use Rattle.am_lines.specs.{Line, lines_from, Statement, words_of, begins_with, statement_of, statement_of_words, statements_from}
+use Rattle.am_map.specs.{MapFault, MapFaultKind, MapKind, Row, rows_read, row_read, with_row, AreRows, kept, FindsFirst, first_of_each, entry_for, row_added, added, line_added}
 use Rattle.am_map.proofs.FirstLemmas.{added-first_of_each, entry_for-first_of_each}
 
 -- the rows that are kept, and those of the lines that follow

@@ -6,9 +6,8 @@ use Rattle.std.specs.Str.{bytes_eq}
 use Rattle.std.specs.List.{list_any}
 use Rattle.std.specs.Map.{lookup}
 use Rattle.indexmap.specs.IndexMap.{insert_entry}
-use Rattle.am_map.specs.EntryText.{EntryText, Row}
-use Rattle.am_map.specs.LookUp.{has_key}
-use Rattle.am_map.specs.Stored.{rows_by, row_added}
+use Rattle.am_map.specs.EntryText.{EntryText}
+use Rattle.am_map.specs.{Row, has_key, rows_by, row_added}
 use Rattle.am_names.proofs.Basics.{neither_of_or}
 
 module _ {K : Type 0} (bytes : K → List ℕ) where

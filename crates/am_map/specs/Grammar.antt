@@ -1,6 +1,6 @@
 -- The grammar of a map: a text and its rows, or its first fault (autofs(5), "SUN FORMAT").
 use Rattle.std.specs.Prelude.{◌≡◌, ℕ, List, [], ◌∷◌, drop, Option, Some, None, Result, Ok, Err, IsOk, if◌then◌else◌}
-use Rattle.am_lines.specs.Words.{Statement, statements, begins_with}
+use Rattle.am_lines.specs.{Statement, statements, begins_with}
 use Rattle.am_map.specs.declared.fault.MapFault.{MapFault}
 use Rattle.am_map.specs.declared.fault.MapFaultKind.{MapFaultKind}
 use Rattle.am_map.specs.declared.fault.MapFaultKind.TheVariants.{BadOption, NoLocation, BadLocation}

@@ -2,7 +2,7 @@
 -- "A map with a fault is refused as a whole").
 use Rattle.std.specs.Prelude.{ℕ, List, [], ◌∷◌, ◌++◌, map, Result, Ok, Err, if◌then◌else◌}
 use Rattle.std.specs.List.{list_any}
-use Rattle.am_lines.specs.Words.{Statement}
+use Rattle.am_lines.specs.{Statement}
 use Rattle.am_map.specs.declared.fault.MapFaultKind.{MapFaultKind}
 use Rattle.am_map.specs.declared.kind.MapKind.{MapKind}
 use Rattle.am_map.specs.EntryText.{EntryText, Row}

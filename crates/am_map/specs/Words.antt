@@ -3,15 +3,14 @@ use Rattle.std.specs.Prelude.{ℕ, ◌==◌, Bool, not, ◌&&◌, ◌||◌, List
 use Rattle.std.specs.Str.{bytes_eq}
 use Rattle.std.specs.List.{list_all, before_first, after_first}
 use Rattle.am_names.specs.declared.errno.Errno.{Errno}
-use Rattle.am_names.specs.Name.{is_name}
-use Rattle.am_names.specs.Path.{path_read, text_of}
-use Rattle.am_lines.specs.Words.{begins_with, is_colon}
+use Rattle.am_names.specs.{is_name, path_read, text_of}
+use Rattle.am_lines.specs.{begins_with, is_colon}
 use Rattle.am_map.specs.declared.fault.MapFaultKind.{MapFaultKind}
 use Rattle.am_map.specs.declared.fault.MapFaultKind.TheVariants.{BadKey}
 use Rattle.am_map.specs.declared.kind.MapKind.{MapKind}
 use Rattle.am_map.specs.declared.kind.MapKind.TheVariants.{Indirect, Direct}
 
--- own (docs/DECISIONS.md, "Maps are plain"): no variables, quotes or escapes, so no `$`, `"`
+-- own choice (docs/DECISIONS.md, "Maps are plain"): no variables, quotes or escapes, so no `$`, `"`
 -- or `\`, and no zero byte
 abbrev pub is_plain_byte : ℕ → Bool
 is_plain_byte b = not (b == 36) && not (b == 34) && not (b == 92) && not (b == 0)
@@ -48,7 +47,7 @@ key_read Direct word = if is_plain word then path_key (path_read word) else Err 
 abbrev pub is_options : List ℕ → Bool
 is_options word = is_plain word && not (length word == 1)
 
--- own (docs/DECISIONS.md, "Maps are plain"): a single host, so no `/`, `,`, `(` or `[`
+-- own choice (docs/DECISIONS.md, "Maps are plain"): a single host, so no `/`, `,`, `(` or `[`
 abbrev pub is_host_byte : ℕ → Bool
 is_host_byte b = not (b == 47) && not (b == 44) && not (b == 40) && not (b == 91)
 

@@ -2,8 +2,7 @@
 
 ghost use Rattle.std.specs.Prelude.{◌≡◌, ◌≤◌, ◌+◌, [], ℕ, length, is_some, IfOk, IfErr, OnOk, OnErr, find};
 ghost use Rattle.std.specs.Option.{option_copied, option_map};
-ghost use Rattle.am_lines.specs.Words.{words_of, statements, statement_of_words};
-ghost use Rattle.am_lines.specs.Reached.{IsReached};
+ghost use Rattle.am_lines.specs.{words_of, statements, statement_of_words, IsReached};
 ghost use Rattle.am_map.specs.LookUp.{has_key, row_for, entry_for};
 ghost use Rattle.am_map.specs.Fault.{IsFaultOr};
 ghost use Rattle.am_map.specs.Grammar.{map_read, rows_read, AreRows, ReadAs, FindsFirst, keyed, entry_read};

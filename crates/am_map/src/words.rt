@@ -2,12 +2,11 @@
 
 ghost use Rattle.std.specs.Prelude.{◌≡◌, IfOk, IfErr, OnOk};
 ghost use Rattle.std.specs.List.{list_all};
-ghost use Rattle.am_lines.specs.Words.{words_of};
+ghost use Rattle.am_lines.specs.{words_of};
 ghost use Rattle.am_map.specs.Words.{is_plain, is_plain_byte, is_indirect_key, key_read, is_options, is_location, is_host_byte, key_text};
 ghost use Rattle.am_map.specs.Grammar.{entry_read, entry_with};
 ghost use Rattle.am_map.specs.Parts.{entry_of};
-ghost use Rattle.am_names.specs.Name.{is_name};
-ghost use Rattle.am_names.specs.Path.{IsCanonical, names_of};
+ghost use Rattle.am_names.specs.{is_name, IsCanonical, names_of};
 ghost use Rattle.am_map.specs.declared.kind.MapKind.TheVariants.{Indirect, Direct};
 ghost use Rattle.std.specs.Option.{option_copied};
 

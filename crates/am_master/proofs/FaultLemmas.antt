@@ -1,7 +1,6 @@
 -- A fault that is passed on.
-use Rattle.am_master.specs.declared.fault.MasterFaultKind.{MasterFaultKind}
+use Rattle.am_master.specs.{MasterFaultKind, IsFaultOr}
 use Rattle.am_master.specs.declared.fault.MasterFaultKind.TheVariants.{BadPoint, NoMap, BadType, BadTimeout, Twice, NoMemory}
-use Rattle.am_master.specs.Fault.{IsFaultOr}
 
 pub passed_on : {P Q : Type 0} (kind : MasterFaultKind) → (P → Q) → IsFaultOr kind P → IsFaultOr kind Q
 passed_on BadPoint f h = f h

@@ -4,15 +4,10 @@ use Rattle.std.proofs.lemmas.List.{append-nil}
 use Rattle.std.proofs.lemmas.List.Elements.{All-push}
 use Rattle.std.specs.Prelude.{Result, Ok, Err}
 use Rattle.std.specs.List.{flat_map}
-use Rattle.am_lines.specs.Lines.{Line, lines_from}
-use Rattle.am_lines.specs.Words.{Statement, words_of, begins_with, statement_of, statement_of_words, statements_from}
-use Rattle.am_master.specs.declared.fault.MasterFault.{MasterFault}
-use Rattle.am_master.specs.declared.fault.MasterFaultKind.{MasterFaultKind}
+use Rattle.am_lines.specs.{Line, lines_from, Statement, words_of, begins_with, statement_of, statement_of_words, statements_from}
+use Rattle.am_master.specs.{MasterFault, MasterFaultKind, Point, rows_read, row_read, row_of, with_row, once, served_read, AreRows, StandWithin, added, line_added, point_read}
 use Rattle.am_master.specs.MasterRow.{MasterRow}
-use Rattle.am_master.specs.declared.point.Point.{Point}
-use Rattle.am_master.specs.Grammar.{Served, rows_read, row_read, row_of, with_row, once, served_read, AreRows, StandWithin}
-use Rattle.am_master.specs.Stored.{added, line_added}
-use Rattle.am_master.specs.Words.{point_read}
+use Rattle.am_master.specs.Grammar.{ServedPoint}
 
 row_goes : (number : ℕ) (above new : List MasterRow) (read : Result MasterRow MasterFaultKind) (below : List MasterRow → Result (List MasterRow) MasterFault) → added above read ≡ Ok new → with_row number above read below ≡ below new
 row_goes number above new (Ok row) below e =
@@ -65,7 +60,7 @@ line_stops number above kind text bytes lines cut e =
 
 -- ---- the lines on which rows stand
 
-row_stands : (number last : ℕ) (point : Result Point MasterFaultKind) (s : Result Served MasterFaultKind) (above new : List MasterRow) → added above (row_of number point s) ≡ Ok new → number ≤ last → StandWithin last above → StandWithin last new
+row_stands : (number last : ℕ) (point : Result Point MasterFaultKind) (s : Result ServedPoint MasterFaultKind) (above new : List MasterRow) → added above (row_of number point s) ≡ Ok new → number ≤ last → StandWithin last above → StandWithin last new
 row_stands number last (Ok point) (Ok s) above new e h stand =
     let row : MasterRow = record { point = point; map = s.map; timeout = s.timeout; line = number } in
     let is : above ++ row ∷ [] ≡ new = cc in

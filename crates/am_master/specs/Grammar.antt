@@ -1,6 +1,6 @@
 -- The grammar of a master map: a text and its rows, or its first fault (auto.master(5), "FORMAT").
 use Rattle.std.specs.Prelude.{◌≡◌, ◌≤◌, ℕ, Bool, All, List, [], ◌∷◌, ◌++◌, Result, Ok, Err, IsOk, if◌then◌else◌}
-use Rattle.am_lines.specs.Words.{Statement, statements}
+use Rattle.am_lines.specs.{Statement, statements}
 use Rattle.am_master.specs.declared.fault.MasterFault.{MasterFault}
 use Rattle.am_master.specs.declared.fault.MasterFaultKind.{MasterFaultKind}
 use Rattle.am_master.specs.declared.fault.MasterFaultKind.TheVariants.{NoMap, Twice}
@@ -21,24 +21,24 @@ once above (Ok point) = if is_taken above point then Err Twice else Ok point
 once above (Err fault) = Err fault
 
 -- the name of a map and a timeout
-pub record Served : Type 0 where
+pub record ServedPoint : Type 0 where
   pub map : List ℕ
   pub timeout : ℕ
 
 -- a map with a timeout, or the first fault of the two
 abbrev pub served : Result (List ℕ) MasterFaultKind → Result ℕ MasterFaultKind →
-    Result Served MasterFaultKind
+    Result ServedPoint MasterFaultKind
 served (Ok map) (Ok timeout) = Ok (record { map = map; timeout = timeout })
 served (Ok map) (Err fault) = Err fault
 served (Err fault) timeout = Err fault
 
 -- what the words behind the point are read as: a map and options
-abbrev pub served_read : List (List ℕ) → Result Served MasterFaultKind
+abbrev pub served_read : List (List ℕ) → Result ServedPoint MasterFaultKind
 served_read [] = Err NoMap
 served_read (word ∷ options) = served (name_read word) (timeout_read options)
 
 -- the row of a line of this number, or the first fault of its parts
-abbrev pub row_of : ℕ → Result Point MasterFaultKind → Result Served MasterFaultKind →
+abbrev pub row_of : ℕ → Result Point MasterFaultKind → Result ServedPoint MasterFaultKind →
     Result MasterRow MasterFaultKind
 row_of number (Ok point) (Ok s) =
     Ok (record { point = point; map = s.map; timeout = s.timeout; line = number })

@@ -2,7 +2,7 @@
 use Rattle.std.specs.Prelude.{ℕ, Bool, false, List, [], ◌∷◌}
 use Rattle.std.specs.Str.{bytes_eq}
 use Rattle.std.specs.List.{list_any, flat_map}
-use Rattle.am_names.specs.Path.{text_of}
+use Rattle.am_names.specs.{text_of}
 use Rattle.am_master.specs.declared.point.Point.{Point}
 use Rattle.am_master.specs.declared.point.Point.TheVariants.{Direct, Indirect}
 use Rattle.am_master.specs.MasterRow.{MasterRow}

@@ -1,6 +1,6 @@
 -- The rows that are kept while a master map is read, for the code alone (auto.master(5), "FORMAT").
 use Rattle.std.specs.Prelude.{List, [], ◌∷◌, ◌++◌, Result, Ok, Err}
-use Rattle.am_lines.specs.Words.{Statement}
+use Rattle.am_lines.specs.{Statement}
 use Rattle.am_master.specs.declared.fault.MasterFaultKind.{MasterFaultKind}
 use Rattle.am_master.specs.Grammar.{row_read}
 use Rattle.am_master.specs.MasterRow.{MasterRow}

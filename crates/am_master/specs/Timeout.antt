@@ -2,7 +2,7 @@
 use Rattle.std.specs.Prelude.{ℕ, ◌+◌, ◌*◌, ◌-◌, ◌==◌, nat_eq, nat_le, Bool, not, ◌&&◌, ◌||◌, List, [], ◌∷◌, ◌++◌, length, drop, fold, codes, Result, Ok, Err, if◌then◌else◌}
 use Rattle.std.specs.Str.{bytes_eq}
 use Rattle.std.specs.List.{list_all, starts_with}
-use Rattle.am_lines.specs.Digits.{is_digit}
+use Rattle.am_lines.specs.{is_digit}
 use Rattle.am_master.specs.declared.fault.MasterFaultKind.{MasterFaultKind}
 use Rattle.am_master.specs.declared.fault.MasterFaultKind.TheVariants.{BadTimeout}
 
@@ -37,6 +37,6 @@ timeout_of timeout [] = Ok timeout
 timeout_of timeout (value ∷ values) =
     if is_seconds value then timeout_of (number_of value) values else Err BadTimeout
 
--- own (docs/DECISIONS.md, "A timeout that no option tells is 300 seconds")
+-- own choice (docs/DECISIONS.md, "A timeout that no option tells is 300 seconds")
 abbrev pub timeout_read : List (List ℕ) → Result ℕ MasterFaultKind
 timeout_read options = timeout_of 300 (timeout_values options)

@@ -3,8 +3,8 @@ use Rattle.std.specs.Prelude.{ℕ, Bool, not, ◌||◌, List, [], ◌∷◌, cod
 use Rattle.std.specs.Str.{bytes_eq}
 use Rattle.std.specs.List.{list_any, before_first, after_first}
 use Rattle.am_names.specs.declared.errno.Errno.{Errno}
-use Rattle.am_names.specs.Path.{path_read}
-use Rattle.am_lines.specs.Words.{begins_with, is_colon}
+use Rattle.am_names.specs.{path_read}
+use Rattle.am_lines.specs.{begins_with, is_colon}
 use Rattle.am_master.specs.declared.fault.MasterFaultKind.{MasterFaultKind}
 use Rattle.am_master.specs.declared.fault.MasterFaultKind.TheVariants.{BadPoint, NoMap, BadType}
 use Rattle.am_master.specs.declared.point.Point.{Point}
@@ -38,8 +38,8 @@ abbrev pub some_name : List ℕ → Result (List ℕ) MasterFaultKind
 some_name [] = Err NoMap
 some_name (b ∷ bytes) = Ok (b ∷ bytes)
 
--- what the second word is read as: the name of a map, behind its type if there is a colon.
--- own (docs/DECISIONS.md, "Maps are plain"): no built-in maps, which begin with a dash.
+-- what the second word is read as: the name of a map, behind its type if there is a colon. own
+-- choice (docs/DECISIONS.md, "Maps are plain"): no built-in maps, which begin with a dash.
 abbrev pub name_read : List ℕ → Result (List ℕ) MasterFaultKind
 name_read word =
     if begins_with 45 word then Err BadType

@@ -3,8 +3,7 @@
 ghost use Rattle.std.specs.Prelude.{◌≡◌, ◌≤◌, ◌+◌, ◌∷◌, ◌++◌, [], length, IfOk, IfErr, OnOk, OnErr, IsOk, false};
 ghost use Rattle.std.specs.Str.{bytes_eq};
 ghost use Rattle.std.specs.List.{list_any};
-ghost use Rattle.am_lines.specs.Words.{words_of, statement_of_words};
-ghost use Rattle.am_lines.specs.Reached.{IsReached};
+ghost use Rattle.am_lines.specs.{words_of, statement_of_words, IsReached};
 ghost use Rattle.am_master.specs.Fault.{IsFaultOr};
 ghost use Rattle.am_master.specs.Points.{texts_of};
 ghost use Rattle.am_master.specs.declared.fault.MasterFaultKind.TheVariants.{NoMemory};
@@ -15,7 +14,7 @@ use crate::entry::MasterEntry;
 use crate::fault::{MasterFault, MasterFaultKind};
 use crate::point::Point;
 use crate::points::Points;
-use crate::words::{ServedRef, is_direct, read_point, read_served};
+use crate::words::{ServedPointRef, is_direct, read_point, read_served};
 use am_lines::{first_word, next_line};
 use std::alloc::{AllocError, Global};
 use std::marker::Model;
@@ -128,7 +127,7 @@ impl Master {
         &mut self,
         alloc: Global,
         point: Point,
-        served: &ServedRef<'_>,
+        served: &ServedPointRef<'_>,
         line: usize,
     ) -> Result<(), AllocError>
         requires { is_taken self.old point ≡ false }

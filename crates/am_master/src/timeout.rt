@@ -2,7 +2,7 @@
 
 ghost use Rattle.std.specs.Prelude.{◌≡◌, ◌<◌, ◌++◌, [], nat_le, fold, Some, None, IfNone, IfSome, length, if◌then◌else◌};
 ghost use Rattle.std.specs.Option.{option_copied, option_to_list};
-ghost use Rattle.am_lines.specs.Words.{words_of};
+ghost use Rattle.am_lines.specs.{words_of};
 ghost use Rattle.am_master.specs.Timeout.{timeout_read, timeout_values, takes_next, value_in, is_seconds, number_of};
 
 use crate::fault::MasterFaultKind;

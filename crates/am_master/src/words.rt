@@ -1,12 +1,12 @@
 //! What the words of a line may be.
 
 ghost use Rattle.std.specs.Prelude.{◌≡◌, IfOk, IfErr};
-ghost use Rattle.am_lines.specs.Words.{words_of, is_colon};
+ghost use Rattle.am_lines.specs.{words_of, is_colon};
 ghost use Rattle.std.specs.List.{list_any};
-ghost use Rattle.am_names.specs.Path.{path_read};
+ghost use Rattle.am_names.specs.{path_read};
 ghost use Rattle.am_master.specs.Grammar.{served_read};
 ghost use Rattle.am_master.specs.Words.{below_root, is_direct, is_file, name_read};
-ghost use Rattle.am_master.specs.Served.{served_of};
+ghost use Rattle.am_master.specs.ServedPoint.{served_of};
 
 use crate::fault::MasterFaultKind;
 use crate::timeout::read_timeout;
@@ -15,7 +15,7 @@ use am_names::AbsPath;
 
 /// The map and the timeout of a line, borrowed.
 #[derive(Clone, Copy)]
-pub(crate) struct ServedRef<'a> {
+pub(crate) struct ServedPointRef<'a> {
     pub(crate) map: &'a [u8],
     pub(crate) timeout: u32,
 }
@@ -42,7 +42,7 @@ pub(crate) fn read_point(word: &[u8]) -> Result<AbsPath<'_>, MasterFaultKind>
 }
 
 /// Reads the words behind the point: a map and options.
-pub(crate) fn read_served(line: &[u8]) -> Result<ServedRef<'_>, MasterFaultKind>
+pub(crate) fn read_served(line: &[u8]) -> Result<ServedPointRef<'_>, MasterFaultKind>
     ensures ok { IfOk result (λ s. served_read (words_of line.now) ≡ Ok (served_of s)) }
     ensures err { IfErr result (λ fault. served_read (words_of line.now) ≡ Err fault) }
 {
@@ -51,7 +51,7 @@ pub(crate) fn read_served(line: &[u8]) -> Result<ServedRef<'_>, MasterFaultKind>
     };
     let map = read_name(word)?;
     let timeout = read_timeout(options)?;
-    Ok(ServedRef { map, timeout })
+    Ok(ServedPointRef { map, timeout })
 }
 
 /// Reads the name of a map, behind its type if there is a colon.

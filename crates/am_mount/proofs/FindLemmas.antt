@@ -5,8 +5,8 @@ use Rattle.std.specs.Ordering.{nat_cmp, ordering_index}
 use Rattle.std.proofs.lemmas.Cmp.{ranked}
 use Rattle.std.proofs.lemmas.Bool.{eq-eqb, ne_eqb}
 use Rattle.std.proofs.lemmas.Bool.Decides.{nat_tests}
-use Rattle.am_names.specs.declared.row.MountRow.{MountRow}
-use Rattle.am_mount.specs.Rows.{RiseFrom, IsRising, mount_row}
+use Rattle.am_names.specs.{MountRow}
+use Rattle.am_mount.specs.{RiseFrom, IsRising, mount_row}
 
 -- the number of the mount at this index
 abbrev mount_at : List MountRow → ℕ → MountRow → ℕ

@@ -7,13 +7,8 @@ use Rattle.std.proofs.lemmas.Bool.{eqb-true, eq-eqb, ne_eqb}
 use Rattle.std.proofs.lemmas.Bool.Decides.{nat_tests}
 use Rattle.std.proofs.lemmas.List.{take_more, drop_more, take-take, length-take-le}
 use Rattle.am_names.proofs.Basics.{and_false}
-use Rattle.am_names.specs.Path.{text_of}
-use Rattle.am_names.specs.declared.row.MountRow.{MountRow}
-use Rattle.am_mount.specs.Rows.{RiseFrom, IsRising, mount_row, is_among, mounts_where, is_in, is_child, is_at, last_of, top_of, root_of}
-use Rattle.am_mount.specs.Buckets.{bucket, is_position_in, is_in_bucket}
-use Rattle.am_mount.specs.Found.{passes, stands_at, stands_alone}
-use Rattle.am_mount.specs.Index.{listed, but, AreWith, AreWithout, HaveSameLists, AreIndexed, AllRise}
-use Rattle.am_mount.specs.declared.indexes.Indexes.{Indexes}
+use Rattle.am_names.specs.{text_of, MountRow, is_among}
+use Rattle.am_mount.specs.{RiseFrom, IsRising, mount_row, mounts_where, is_in, is_child, is_at, last_of, top_of, root_of, bucket, is_position_in, is_in_bucket, passes, stands_at, stands_alone, listed, but, AreWith, AreWithout, HaveSameLists, AreIndexed, AllRise, Indexes}
 use Rattle.am_mount.proofs.RowLemmas.{found_above, at_decides, last_of_append, where_rises}
 
 and_true : (b : Bool) → (b && true) ≡ b

@@ -3,8 +3,8 @@ use Rattle.std.proofs.Common.{◌≡◌, ◌<◌, ◌++◌, ℕ, suc, List, leng
 use Rattle.std.specs.List.Sorted.{IsBinarySearchResult}
 use Rattle.std.specs.Ordering.{nat_cmp}
 use Rattle.am_names.proofs.LeaveLemmas.{others, others_at, others_none}
-use Rattle.am_names.specs.declared.row.MountRow.{MountRow}
-use Rattle.am_mount.specs.Rows.{IsRising}
+use Rattle.am_names.specs.{MountRow}
+use Rattle.am_mount.specs.{IsRising}
 use Rattle.am_mount.proofs.FindLemmas.{rows_rise, index_found, all_differ}
 
 module _ (rows : List MountRow) (rises : IsRising rows) (m : ℕ) where

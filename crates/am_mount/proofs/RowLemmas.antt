@@ -11,9 +11,8 @@ use Rattle.std.proofs.lemmas.Bool.Decides.{Decides-eqb}
 use Rattle.std.proofs.lemmas.Map.Views.{Contains-from_any, list_any-from_Contains}
 use Rattle.std.proofs.lemmas.Cmp.{nat_eq_equiv}
 use Rattle.am_names.proofs.Basics.{or_left, or_right}
-use Rattle.am_names.specs.declared.row.MountRow.{MountRow}
-use Rattle.am_names.specs.declared.row.Position.{Position}
-use Rattle.am_mount.specs.Rows.{RiseFrom, IsRising, next_of, mount_row, mounts_where, is_in, is_position_on, is_child, is_position, is_at, last_from, last_of, top_of, HasRow, IsIn, IsAt, IsOn, IsTop, IsFree}
+use Rattle.am_names.specs.{MountRow, Position}
+use Rattle.am_mount.specs.{RiseFrom, IsRising, next_of, mount_row, mounts_where, is_in, is_position_on, is_child, is_position, is_at, last_from, last_of, top_of, HasRow, IsIn, IsAt, IsOn, IsTop, HasNoMountAt}
 
 -- rising rows: fewer of them, and some at the end
 pub RiseFrom-lower : (low high : ℕ) (rows : List MountRow) → low ≤ high → RiseFrom high rows → RiseFrom low rows
@@ -186,7 +185,7 @@ in_every ns = where_every (is_in ns) (IsIn ns) (λ row. Decides-eqb row.ns ns)
 
 -- the last of those at a place is the top, and where there is none the place is free
 abbrev pub IsTopOf : List MountRow → ℕ → List (List ℕ) → Option ℕ → Type 0
-IsTopOf rows m place None = IsFree rows m place
+IsTopOf rows m place None = HasNoMountAt rows m place
 IsTopOf rows m place (Some top) = IsTop rows m place top
 
 pub top_is : (rows : List MountRow) → IsRising rows → (m : ℕ) (place : List (List ℕ)) → IsTopOf rows m place (top_of rows m place)
@@ -241,7 +240,7 @@ pub some_greatest : (rows : List MountRow) (m : ℕ) (place : List (List ℕ)) (
 some_greatest rows m place None h = tt
 some_greatest rows m place (Some top) h = h
 
-pub none_free : (rows : List MountRow) (m : ℕ) (place : List (List ℕ)) (o : Option ℕ) → IsTopOf rows m place o → IfNone o (IsFree rows m place)
+pub none_free : (rows : List MountRow) (m : ℕ) (place : List (List ℕ)) (o : Option ℕ) → IsTopOf rows m place o → IfNone o (HasNoMountAt rows m place)
 none_free rows m place None h = h
 none_free rows m place (Some top) h = tt
 

@@ -1,13 +1,12 @@
 -- A number for a place of a mount, which few places have in common: own choice (Linux: m_hash).
 use Rattle.std.specs.Prelude.{◌+◌, ◌*◌, ◌%◌, ◌==◌, ℕ, Bool, false, List, [], ◌∷◌, Option, Some, None}
-use Rattle.am_names.specs.Path.{text_of}
-use Rattle.am_names.specs.declared.row.MountRow.{MountRow}
-use Rattle.am_names.specs.declared.row.Position.{Position}
+use Rattle.am_names.specs.{text_of, MountRow, Position}
 
 -- numbers below a prime of 32 bits
 unfoldable pub seed : ℕ → ℕ
 seed m = m % 4294967291
 
+-- the bucket with one byte more
 unfoldable pub mix_one : ℕ → ℕ → ℕ
 mix_one bucket byte = (bucket * 1000003 + byte) % 4294967291
 

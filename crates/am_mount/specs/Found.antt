@@ -1,6 +1,6 @@
 -- What is found out of mounts that an index lists: own choice.
 use Rattle.std.specs.Prelude.{ℕ, Bool, false, is_none, List, Option, Some, None}
-use Rattle.am_names.specs.declared.row.MountRow.{MountRow}
+use Rattle.am_names.specs.{MountRow}
 use Rattle.am_mount.specs.Rows.{mount_row, is_at}
 
 -- there is a row, and it passes the test

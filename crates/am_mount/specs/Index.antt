@@ -3,9 +3,7 @@ use Rattle.std.specs.Prelude.{◌≡◌, ◌<◌, ◌==◌, ℕ, Bool, nat_eq, n
 use Rattle.std.specs.Vec.{vec_len, vec_capacity}
 use Rattle.std.specs.List.Sorted.{IsStrictlyIncreasing}
 use Rattle.indexmap.specs.IndexMap.{get}
-use Rattle.am_names.specs.declared.row.MountRow.{MountRow}
-use Rattle.am_names.specs.declared.row.Position.{Position}
-use Rattle.am_names.specs.Path.{text_of}
+use Rattle.am_names.specs.{MountRow, Position, text_of}
 use Rattle.am_mount.specs.declared.index.Index.{Index}
 use Rattle.am_mount.specs.declared.indexes.Indexes.{Indexes}
 use Rattle.am_mount.specs.Rows.{mounts_where, is_in, is_child}

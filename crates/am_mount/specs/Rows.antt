@@ -4,10 +4,7 @@ use Rattle.std.specs.Prelude.{◌≡◌, ◌≤◌, ◌==◌, ◌&&◌, ◌+◌,
 use Rattle.std.specs.Option.{option_map}
 use Rattle.std.specs.Cmp.Lexicographic.{pointwise}
 use Rattle.std.specs.Str.{bytes_eq}
-pub use Rattle.am_names.specs.Numbers.{is_among}
-use Rattle.am_names.specs.Numbers.{RiseBy}
-use Rattle.am_names.specs.declared.row.MountRow.{MountRow}
-use Rattle.am_names.specs.declared.row.Position.{Position}
+use Rattle.am_names.specs.{RiseBy, MountRow, Position}
 
 -- the rows stand in rising order of number, from this one on
 abbrev pub RiseFrom : ℕ → List MountRow → Type 0
@@ -97,5 +94,5 @@ pub record IsTop (rows : List MountRow) (m : ℕ) (place : List (List ℕ)) (top
   pub greatest : (other : ℕ) → HasRow (IsAt m place) rows other → other ≤ top
 
 -- nothing is mounted at this place of the mount
-abbrev pub IsFree : List MountRow → ℕ → List (List ℕ) → Type 0
-IsFree rows m place = (other : ℕ) → HasRow (IsAt m place) rows other → ⊥
+abbrev pub HasNoMountAt : List MountRow → ℕ → List (List ℕ) → Type 0
+HasNoMountAt rows m place = (other : ℕ) → HasRow (IsAt m place) rows other → ⊥

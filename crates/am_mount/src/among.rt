@@ -1,7 +1,8 @@
 //! Mounts that are among some.
 
 ghost use Rattle.std.specs.Prelude.{◌≡◌, ◌==◌, filter, not};
-ghost use Rattle.am_mount.specs.Rows.{IsRising, is_among};
+ghost use Rattle.am_names.specs.{is_among};
+ghost use Rattle.am_mount.specs.Rows.{IsRising};
 
 use am_names::{MountId, MountRow, are_ordered, is_among, is_found};
 

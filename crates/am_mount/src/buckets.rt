@@ -1,7 +1,7 @@
 //! The bucket of a place of a mount.
 
 ghost use Rattle.std.specs.Prelude.{◌≡◌};
-ghost use Rattle.am_names.specs.Path.{text_of};
+ghost use Rattle.am_names.specs.{text_of};
 ghost use Rattle.am_mount.specs.Buckets.{seed, mix_one, mixed, bucket};
 
 use am_names::{MountId, Position};

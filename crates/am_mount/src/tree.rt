@@ -5,10 +5,10 @@ ghost use Rattle.std.specs.List.{Contains, slice_get};
 ghost use Rattle.std.specs.List.Sorted.{IsStrictlyIncreasing};
 ghost use Rattle.std.specs.Option.{option_copied};
 ghost use Rattle.std.specs.List.{list_any};
-ghost use Rattle.am_names.specs.Path.{IsCanonical, names_of};
+ghost use Rattle.am_names.specs.{IsCanonical, names_of, is_among};
 ghost use Rattle.am_mount.specs.Found.{stands_at, stands_alone};
 ghost use Rattle.am_mount.specs.Index.{AreIndexed};
-ghost use Rattle.am_mount.specs.Rows.{last_of, IsRising, next_of, mount_row, is_among, mounts_where, is_in, is_child, is_at, top_of, root_of, HasRow, IsIn, IsOn, IsTop, IsFree};
+ghost use Rattle.am_mount.specs.Rows.{last_of, IsRising, next_of, mount_row, mounts_where, is_in, is_child, is_at, top_of, root_of, HasRow, IsIn, IsOn, IsTop, HasNoMountAt};
 
 use crate::among::leave_out;
 use crate::buckets::bucket;
@@ -26,8 +26,8 @@ pub struct Tree {
 
 impl Model for Tree {
     ghost use Rattle.std.specs.Prelude.{List};
-    ghost use Rattle.am_names.specs.declared.row.MountRow.{MountRow};
-    ghost use Rattle.am_mount.specs.Inside.{IsOrdered};
+    ghost use Rattle.am_names.specs.{MountRow};
+    ghost use Rattle.am_mount.specs.View.{IsOrdered};
 
     ghost Value = { List MountRow };
 
@@ -247,7 +247,7 @@ impl Tree {
         requires { IsCanonical place.now }
         ensures exact { result ≡ top_of self.now mount (names_of place.now) }
         ensures greatest { IfSome result (IsTop self.now mount (names_of place.now)) }
-        ensures free { IfNone result (IsFree self.now mount (names_of place.now)) }
+        ensures free { IfNone result (HasNoMountAt self.now mount (names_of place.now)) }
     {
         let mounts = self.indexes.by_place.list(bucket(mount, place));
         last_at(self.rows.as_slice(), mount, place, mounts)

@@ -2,20 +2,16 @@
 use Rattle.std.proofs.Common.{◌≡◌, ℕ, List, length, Option, Some, None, Result, Ok, Err, OnOk, IfOk, IfErr, IfNone, IfSome, refl, sym, ◌∙◌, subst, inl, inr}
 use Rattle.std.proofs.KnownBytes.{Appends-nil}
 use Rattle.std.specs.Io.KnownBytes.{Consumes, IsAtEnd}
-use Rattle.am_machine.specs.State.{State, Opening, opening_in, opening_of}
+use Rattle.am_machine.specs.State.{State}
+use Rattle.am_machine.specs.{Setup, setup_of, initial_state_of}
 use Rattle.am_machine.proofs.Consistent.{initial_consistent, run_consistent}
-use Rattle.am_script.specs.declared.fault.ScriptFault.{ScriptFault}
-use Rattle.am_script.specs.declared.fault.ScriptFaultKind.{ScriptFaultKind}
-use Rattle.am_script.specs.declared.play.Summary.{Summary}
+use Rattle.am_script.specs.{ScriptFault, ScriptFaultKind, Summary, lines_of, OpenedAs, NotOpened, IsReadFault, broken, played, Told, events_in, script_of}
 use Rattle.am_script.specs.declared.visit.Opened.{Opened}
-use Rattle.am_script.specs.Lines.{lines_of}
-use Rattle.am_script.specs.Opened.{OpenedAs, NotOpened}
-use Rattle.am_script.specs.Read.{IsReadFault, broken, played}
-use Rattle.am_script.specs.Script.{Script, Told, events_in, script_of}
+use Rattle.am_script.specs.Script.{Script}
 use Rattle.am_views.proofs.TraceInputs.{was_read, head_stops, told_in}
-use Rattle.am_mountinfo.specs.WorldText.{WorldShown, AllShown, ShowStops, ShownFrom, ShowsInput, StopsShowing}
+use Rattle.am_mountinfo.specs.{WorldShown, AllShown, ShowStops, ShownFrom, ShowsInput, StopsShowing}
 use Rattle.am_mountinfo.proofs.Placed.{are_placed}
-use Rattle.am_world.specs.Table.{state_of}
+use Rattle.am_world.specs.Capacity.{state_of}
 
 -- ---- what was read
 
@@ -41,17 +37,17 @@ shows_head only ro rn wo text broke fault read end kind h = record {
 -- ---- a head with its events
 
 -- a run from an initial world leaves each path below that of its parent
-all_shown : (only : Option ℕ) (opening : Opening) (told : Told) (wo wn : Option (List ℕ)) (summary : Summary) → WorldShown only (opening_of opening) told wo wn summary → AllShown only opening told wo wn summary
+all_shown : (only : Option ℕ) (opening : Setup) (told : Told) (wo wn : Option (List ℕ)) (summary : Summary) → WorldShown only (initial_state_of opening) told wo wn summary → AllShown only opening told wo wn summary
 all_shown only opening told wo wn summary shown =
-    let whole = (run_consistent (opening_of opening) (events_in told.events) shown.played.answers shown.last shown.played.run (initial_consistent opening)).agreed.places.whole in record {
+    let whole = (run_consistent (initial_state_of opening) (events_in told.events) shown.played.answers shown.last shown.played.run (initial_consistent opening)).agreed.places.whole in record {
       shown = shown;
       placed = are_placed shown.last.kernel.table.rows whole.rising whole.older;
     }
 
-all_from : (only : Option ℕ) (opening : Option Opening) (told : Told) (opened : Opened) (wo wn : Option (List ℕ)) (summary : Summary) → opening ≡ Some (opening_in (state_of opened.world)) → state_of opened.world ≡ opening_of (opening_in (state_of opened.world)) → told ≡ told_in opened → WorldShown only (state_of opened.world) (told_in opened) wo wn summary → ShownFrom only opening told wo wn summary
+all_from : (only : Option ℕ) (opening : Option Setup) (told : Told) (opened : Opened) (wo wn : Option (List ℕ)) (summary : Summary) → opening ≡ Some (setup_of (state_of opened.world)) → state_of opened.world ≡ initial_state_of (setup_of (state_of opened.world)) → told ≡ told_in opened → WorldShown only (state_of opened.world) (told_in opened) wo wn summary → ShownFrom only opening told wo wn summary
 all_from only opening told opened wo wn summary e world f shown =
-    subst (λ (o : Option Opening). ShownFrom only o told wo wn summary) (sym e)
-    (all_shown only (opening_in (state_of opened.world)) told wo wn summary
+    subst (λ (o : Option Setup). ShownFrom only o told wo wn summary) (sym e)
+    (all_shown only (setup_of (state_of opened.world)) told wo wn summary
     (subst (λ (s : State). WorldShown only s told wo wn summary) world
     (subst (λ (t : Told). WorldShown only (state_of opened.world) t wo wn summary) (sym f) shown)))
 
@@ -67,7 +63,7 @@ stops_opened only ro rn wo wn text broke opened (Err fault) read end kind h stop
   broke = broke;
   read = was_read ro rn text broke read end kind;
   stopped = inr (record {
-    opening = opening_in (state_of opened.world);
+    opening = setup_of (state_of opened.world);
     begins = h.opening;
     stops =
         subst (λ (s : State). ShowStops only s (script_of broke text).told wo wn fault) h.world

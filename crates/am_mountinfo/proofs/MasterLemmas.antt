@@ -1,9 +1,9 @@
 -- The peer groups above a mount, one after another.
 use Rattle.std.proofs.Common.{◌≡◌, ◌-◌, ◌==◌, ℕ, zero, suc, Bool, true, false, cond, [], ◌∷◌, find, Option, Some, None, refl, ap, ◌∙◌, arith}
 use Rattle.am_names.specs.PeerGroups.{PeerGroups}
-use Rattle.am_group.specs.Propagation.{master_of_group}
+use Rattle.am_group.specs.{master_of_group}
 use Rattle.am_propagate.specs.MountTable.{MountTable}
-use Rattle.am_mountinfo.specs.Mountinfo.{has_peer, masters_from}
+use Rattle.am_mountinfo.specs.{has_peer, masters_from}
 
 pub masters_none : (most : ℕ) (s : PeerGroups) → masters_from most s None ≡ []
 masters_none zero s = refl

@@ -1,7 +1,6 @@
 -- Texts that are put out one behind another.
 use Rattle.std.proofs.Common.{ℕ, List, ◌++◌, Option}
-use Rattle.am_script.specs.declared.output.Output.{Output}
-use Rattle.am_script.specs.Outputs.{Puts}
+use Rattle.am_script.specs.{Output, Puts}
 use Rattle.am_script.proofs.Pieces.{puts_two}
 use Rattle.am_views.proofs.FourPieces.{puts_four}
 

@@ -6,8 +6,8 @@ use Rattle.std.specs.Ordering.{nat_cmp}
 use Rattle.std.proofs.lemmas.List.Kept.{Contains-dedup_nat, Contains-from_dedup}
 use Rattle.std.proofs.lemmas.List.Sorted.{Contains-permutation, IsPermutation-sym}
 use Rattle.std.proofs.lemmas.Map.Keys.{IsStrictlyIncreasing-dedup}
-use Rattle.am_names.specs.declared.row.MountRow.{MountRow}
-use Rattle.am_mountinfo.specs.Mountinfo.{AreNamespaces}
+use Rattle.am_names.specs.{MountRow}
+use Rattle.am_mountinfo.specs.{AreNamespaces}
 
 pub are_namespaces :
     (rows : List MountRow) (sorted : List ℕ) → IsPermutation (map (λ row. row.ns) rows) sorted →

@@ -1,10 +1,9 @@
 -- The paths of one mount more.
 use Rattle.std.proofs.Common.{◌≡◌, ◌<◌, ◌+◌, ◌==◌, ℕ, List, [], ◌∷◌, length, take, get_or, reverse, if◌then◌else◌, sym, ap, ◌∙◌, ap₂}
 use Rattle.std.proofs.lemmas.List.{take_more, reverse-append}
-use Rattle.am_names.specs.declared.row.MountRow.{MountRow}
+use Rattle.am_names.specs.{MountRow}
 use Rattle.am_mountinfo.specs.declared.paths.Paths.{Paths}
-use Rattle.am_mountinfo.specs.Mountinfo.{below, parent_of, path_among, path_of}
-use Rattle.am_mountinfo.specs.Paths.{ArePaths, HasOneMore}
+use Rattle.am_mountinfo.specs.{below, parent_of, path_among, path_of, ArePaths, HasOneMore}
 
 -- the paths of the rows so far, and that of the next
 path_more :

@@ -2,10 +2,9 @@
 use Rattle.std.proofs.Common.{◌≡◌, ◌<◌, ◌+◌, ◌==◌, ℕ, Bool, true, false, cond, List, [], ◌∷◌, ◌++◌, reverse, Option, Some, None, refl, sym, ap, ◌∙◌, subst, append_assoc, append-nil, arith}
 use Rattle.std.proofs.lemmas.Bool.{eqb-true, eq-eqb, ne_eqb}
 use Rattle.std.proofs.lemmas.List.{reverse-append}
-use Rattle.am_names.specs.declared.row.MountRow.{MountRow}
-use Rattle.am_names.specs.declared.row.Position.{Position}
-use Rattle.am_mount.specs.Rows.{RiseFrom, IsRising, mount_row, IsOn}
-use Rattle.am_mountinfo.specs.Mountinfo.{below, parent_in, parent_of, path_among, ArePlaced}
+use Rattle.am_names.specs.{MountRow, Position}
+use Rattle.am_mount.specs.{RiseFrom, IsRising, mount_row, IsOn}
+use Rattle.am_mountinfo.specs.{below, parent_in, parent_of, path_among, ArePlaced}
 
 -- the last of those that are turned round
 turned : (r : MountRow) (rest older : List MountRow) → reverse (r ∷ rest) ++ older ≡ reverse rest ++ r ∷ older

@@ -2,20 +2,13 @@
 use Rattle.std.proofs.Common.{◌≡◌, ◌+◌, ℕ, Bool, cond, List, [], ◌∷◌, ◌++◌, length, count_by, Option, Some, None, Result, Ok, Err, IfOk, IfErr, OnOk, refl, sym, ap, ◌∙◌, subst, inl, inr, append_assoc}
 use Rattle.std.proofs.KnownBytes.{Appends-nil}
 use Rattle.std.proofs.lemmas.List.{map_push, append-nil, length-append}
-use Rattle.am_machine.specs.declared.event.Event.{Event}
-use Rattle.am_machine.specs.declared.answer.Answer.{Answer}
-use Rattle.am_state.specs.declared.obs.Obs.{Obs}
+use Rattle.am_machine.specs.{Event, Answer, Step, Run}
+use Rattle.am_state.specs.{Obs}
 use Rattle.am_machine.specs.State.{State}
-use Rattle.am_machine.specs.Machine.{Step, Run}
-use Rattle.am_script.specs.declared.fault.ScriptFault.{ScriptFault}
-use Rattle.am_script.specs.declared.play.Summary.{Summary}
-use Rattle.am_script.specs.Answers.{is_refused}
-use Rattle.am_script.specs.Opened.{NoNext}
-use Rattle.am_script.specs.Script.{Numbered, Told, events_in, told_by, only_fault}
-use Rattle.am_script.specs.Playing.{behind}
+use Rattle.am_script.specs.{ScriptFault, Summary, is_refused, NoNext, Numbered, Told, events_in, told_by, only_fault, behind}
 use Rattle.am_script.proofs.Answering.{run_more, count_more}
-use Rattle.am_views.specs.Traced.{one_more}
-use Rattle.am_mountinfo.specs.WorldText.{IsWritten, EventsPlayed, NotPlayed, NotWritten, last_line, IsLastLine, WorldShown, ShowStops}
+use Rattle.am_views.specs.{one_more}
+use Rattle.am_mountinfo.specs.{IsWritten, EventsPlayed, NotPlayed, NotWritten, last_line, IsLastLine, WorldShown, ShowStops}
 
 -- of all events these are left, and those before have come
 pub record Playing (start : State) (all left : Told) (now : State) (summary : Summary) (line : ℕ) : Type 0 where

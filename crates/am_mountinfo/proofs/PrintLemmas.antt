@@ -1,16 +1,11 @@
 -- A text that is put out alone is written, or a beginning of it.
 use Rattle.std.proofs.Common.{◌≡◌, ℕ, List, [], ◌∷◌, ◌++◌, Option, None, Result, Ok, Err, OnOk, IfOk, IfErr, refl, sym, ◌∙◌, subst, ⊎_elim, append-nil}
 use Rattle.std.specs.Io.KnownBytes.{Appends}
-use Rattle.am_script.specs.declared.fault.ScriptFault.{ScriptFault}
+use Rattle.am_script.specs.{ScriptFault, Output, Summary, fault_at, Owed, owed_by, IsLost, Stands, Settles, Puts, IsWhole, IsShort, Closes}
 use Rattle.am_script.specs.declared.fault.ScriptFaultKind.TheVariants.{WriteFailed}
-use Rattle.am_script.specs.declared.output.Output.{Output}
-use Rattle.am_script.specs.declared.play.Summary.{Summary}
-use Rattle.am_script.specs.Fault.{fault_at}
-use Rattle.am_script.specs.Outputs.{Owed, owed_by, IsLost, Stands, Settles, Puts}
-use Rattle.am_script.specs.Turns.{IsWhole, IsShort, Closes}
 use Rattle.am_script.proofs.Lost.{bytes_by, InText, Behind, split_owed}
 use Rattle.am_script.proofs.OwedLemmas.{stands_new}
-use Rattle.am_mountinfo.specs.WorldText.{IsCut}
+use Rattle.am_mountinfo.specs.{IsCut}
 
 -- how a text is written, which is told at this line
 abbrev pub TextEnds : ℕ → List ℕ → Summary → Option (List ℕ) → Option (List ℕ) → Result Summary ScriptFault → Type 0

@@ -3,7 +3,7 @@ use Rattle.std.proofs.Common.{◌≡◌, ◌+◌, ◌<◌, ◌≤◌, ℕ, List,
 use Rattle.std.specs.List.{flat_map, slice_get}
 use Rattle.std.proofs.lemmas.List.{take_more, flat_map_more}
 use Rattle.std.proofs.lemmas.Option.{get_or_from_slice_get, slice_get_cases}
-use Rattle.am_mountinfo.specs.Opens.{row_note}
+use Rattle.am_mountinfo.specs.{row_note}
 
 -- one element more
 pub text_more : {X : Type 0} (text : X → List ℕ) (rows : List X) (i : ℕ) (d : X) → i < length rows → flat_map text (take i rows) ++ text (get_or rows i d) ≡ flat_map text (take (i + 1) rows)

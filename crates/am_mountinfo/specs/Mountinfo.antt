@@ -3,16 +3,12 @@ use Rattle.std.specs.Prelude.{◌≡◌, ◌↔◌, ℕ, zero, suc, ◌==◌, �
 use Rattle.std.specs.List.{flat_map, list_any}
 use Rattle.std.specs.List.Sorted.{IsStrictlyIncreasing}
 use Rattle.am_names.specs.PeerGroups.{PeerGroups}
-use Rattle.am_names.specs.Path.{text_of}
-use Rattle.am_names.specs.declared.row.MemberRow.{MemberRow}
-use Rattle.am_names.specs.declared.row.MountRow.{MountRow}
-use Rattle.am_names.specs.declared.row.Position.{Position}
-use Rattle.am_group.specs.Propagation.{member_row, group_of, master_of, master_of_group}
-use Rattle.am_kernel.specs.State.{KernelState}
-use Rattle.am_mount.specs.Rows.{is_in, mount_row}
+use Rattle.am_names.specs.{text_of, MemberRow, MountRow, Position}
+use Rattle.am_group.specs.{member_row, group_of, master_of, master_of_group}
+use Rattle.am_kernel.specs.{KernelState}
+use Rattle.am_mount.specs.{is_in, mount_row}
 use Rattle.am_propagate.specs.MountTable.{MountTable}
-use Rattle.am_trigger.specs.Rows.{autofs_of}
-use Rattle.am_trigger.specs.declared.autofs.Autofs.{Autofs}
+use Rattle.am_trigger.specs.{autofs_of, Autofs}
 
 -- ---- where mounts are
 

@@ -4,22 +4,17 @@
 use Rattle.std.specs.Prelude.{ℕ, List, [], ◌∷◌, ◌++◌, codes, decimal, Option, None, Some}
 use Rattle.std.specs.List.{flat_map}
 use Rattle.std.specs.Option.{option_map}
-use Rattle.am_names.specs.declared.row.WaitRow.{WaitRow}
-use Rattle.am_names.specs.declared.trigger.Status.{Status}
+use Rattle.am_names.specs.{WaitRow, Status}
 use Rattle.am_names.specs.declared.trigger.Trigger.{Trigger}
-use Rattle.am_daemon.specs.State.{DaemonState, JobPlan}
-use Rattle.am_expire.specs.declared.uses.Use.{Use}
-use Rattle.am_kernel.specs.State.{KernelState}
-use Rattle.am_kernel.specs.declared.row.WalkRow.{WalkRow}
+use Rattle.am_daemon.specs.{DaemonState, JobPlan}
+use Rattle.am_expire.specs.{Use}
+use Rattle.am_kernel.specs.{KernelState, WalkRow}
 use Rattle.am_machine.specs.State.{State}
-use Rattle.am_script.specs.Answers.{place_text}
-use Rattle.am_state.specs.declared.daemon_row.RecordRow.{RecordRow}
-use Rattle.am_state.specs.declared.kernel_row.QueuedRow.{QueuedRow}
-use Rattle.am_state.specs.declared.obs.Obs.{Obs}
+use Rattle.am_script.specs.{place_text}
+use Rattle.am_state.specs.{RecordRow, QueuedRow, Obs}
 use Rattle.am_state.specs.declared.obs.Obs.TheVariants as seen
-use Rattle.am_views.specs.EventText.{status_part}
-use Rattle.am_views.specs.ObsText.{obs_text, trigger_part}
-use Rattle.am_wait.specs.Rows.{WaitRows, tokens_of, token_of, waiters_of, wait_of}
+use Rattle.am_views.specs.{status_part, obs_text, trigger_part}
+use Rattle.am_wait.specs.{WaitRows, tokens_of, token_of, waiters_of, wait_of}
 
 -- a comment that says what a trace says of an observation
 unfoldable pub obs_note : Obs → List ℕ

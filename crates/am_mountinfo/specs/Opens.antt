@@ -3,7 +3,7 @@
 use Rattle.std.specs.Prelude.{List, [], ◌++◌, codes, decimal, ℕ, Option, None, Some}
 use Rattle.std.specs.List.{flat_map}
 use Rattle.std.specs.Option.{option_map}
-use Rattle.am_wait.specs.Rows.{WaitRows, token_of}
+use Rattle.am_wait.specs.{WaitRows, token_of}
 use Rattle.am_mountinfo.specs.declared.notes.Open.{Open}
 use Rattle.am_mountinfo.specs.Notes.{walkers_text, trigger_text}
 

@@ -1,7 +1,7 @@
 -- The paths of mounts as they are kept. For the code alone: own choice.
 use Rattle.std.specs.Prelude.{◌≡◌, ◌==◌, ℕ, nat_eq, List, [], Option, None, Some, Vec, if◌then◌else◌}
 use Rattle.indexmap.specs.IndexMap.{get}
-use Rattle.am_names.specs.declared.row.MountRow.{MountRow}
+use Rattle.am_names.specs.{MountRow}
 use Rattle.am_mountinfo.specs.declared.paths.Paths.{Paths}
 use Rattle.am_mountinfo.specs.Mountinfo.{below, parent_of, path_of}
 

@@ -4,7 +4,7 @@ use Rattle.std.specs.Prelude.{◌≡◌, ◌==◌, ◌&&◌, ◌||◌, ℕ, Bool
 use Rattle.std.specs.List.{list_any}
 use Rattle.indexmap.specs.IndexSet.{contains}
 use Rattle.am_names.specs.PeerGroups.{PeerGroups}
-use Rattle.am_names.specs.declared.row.MountRow.{MountRow}
+use Rattle.am_names.specs.{MountRow}
 use Rattle.am_mountinfo.specs.declared.peers.Peers.{Peers}
 use Rattle.am_mountinfo.specs.Mountinfo.{is_number, is_peer_in}
 

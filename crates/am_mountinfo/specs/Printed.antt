@@ -1,8 +1,8 @@
 -- What is gathered of a world before it is printed. For the code alone: own choice
 -- (docs/DECISIONS.md, "A world is gathered before it is printed").
 use Rattle.std.specs.Prelude.{ℕ, List, ◌++◌}
-use Rattle.am_daemon.specs.State.{DaemonState}
-use Rattle.am_kernel.specs.State.{KernelState}
+use Rattle.am_daemon.specs.{DaemonState}
+use Rattle.am_kernel.specs.{KernelState}
 use Rattle.am_mountinfo.specs.declared.world_text.Part.{Part}
 use Rattle.am_mountinfo.specs.declared.world_text.Part.TheVariants as parts
 use Rattle.am_mountinfo.specs.Mountinfo.{mountinfo, namespaces_text}

@@ -2,8 +2,8 @@
 use Rattle.std.specs.Prelude.{◌≡◌, ◌==◌, ℕ, nat_eq, List, [], ◌∷◌, ◌++◌, map, filter, Option, None, Some, Vec, if◌then◌else◌}
 use Rattle.std.specs.Borrow.{Bor}
 use Rattle.indexmap.specs.IndexMap.{get}
-use Rattle.am_names.specs.declared.row.MountRow.{MountRow}
-use Rattle.am_mount.specs.Rows.{is_in}
+use Rattle.am_names.specs.{MountRow}
+use Rattle.am_mount.specs.{is_in}
 use Rattle.am_mountinfo.specs.declared.residents.Residents.{Residents}
 
 -- the rows, if a list of them is kept

@@ -2,21 +2,13 @@
 -- Linux prints mounts").
 use Rattle.std.specs.Prelude.{◌≡◌, ◌⊎◌, ◌<◌, ⊤, ℕ, Bool, List, [], ◌∷◌, ◌++◌, length, take, count_by, Option, None, Some}
 use Rattle.std.specs.Io.KnownBytes.{Appends, Consumes, IsAtEnd}
-use Rattle.am_machine.specs.declared.event.Event.{Event}
-use Rattle.am_machine.specs.declared.answer.Answer.{Answer}
-use Rattle.am_state.specs.declared.obs.Obs.{Obs}
-use Rattle.am_machine.specs.State.{State, Opening, opening_of}
-use Rattle.am_machine.specs.Machine.{Step, Run}
-use Rattle.am_script.specs.declared.fault.ScriptFault.{ScriptFault}
-use Rattle.am_script.specs.declared.fault.ScriptFaultKind.{ScriptFaultKind}
+use Rattle.am_machine.specs.{Event, Answer, Setup, initial_state_of, Step, Run}
+use Rattle.am_state.specs.{Obs}
+use Rattle.am_machine.specs.State.{State}
+use Rattle.am_script.specs.{ScriptFault, ScriptFaultKind, Summary, is_refused, lines_of, NothingPlayed, WasRead, played, Numbered, events_in, Told, script_of}
 use Rattle.am_script.specs.declared.fault.ScriptFaultKind.TheVariants.{NoMemory, WriteFailed}
-use Rattle.am_script.specs.declared.play.Summary.{Summary}
-use Rattle.am_script.specs.Answers.{is_refused}
-use Rattle.am_script.specs.Lines.{lines_of}
-use Rattle.am_script.specs.Played.{NothingPlayed}
-use Rattle.am_script.specs.Read.{WasRead, played}
-use Rattle.am_script.specs.Script.{Numbered, events_in, Told, Script, script_of}
-use Rattle.am_views.specs.Traced.{HeadStops}
+use Rattle.am_script.specs.Script.{Script}
+use Rattle.am_views.specs.{HeadStops}
 use Rattle.am_mountinfo.specs.Mountinfo.{ArePlaced, AreNamespaces, mountinfo, namespaces_text}
 use Rattle.am_mountinfo.specs.Notes.{notes}
 
@@ -126,20 +118,20 @@ ShowStops only start told old new fault =
 
 -- the world that is written is one that the initial world leads to, and each path in it is below
 -- that of its parent
-pub record AllShown (only : Option ℕ) (opening : Opening) (told : Told) (old new : Option (List ℕ)) (summary : Summary) : Type 0 where
-  pub shown : WorldShown only (opening_of opening) told old new summary
+pub record AllShown (only : Option ℕ) (opening : Setup) (told : Told) (old new : Option (List ℕ)) (summary : Summary) : Type 0 where
+  pub shown : WorldShown only (initial_state_of opening) told old new summary
   pub placed : ArePlaced shown.last.kernel.table.rows
 
 -- the world is shown where there is one; where there is none, nothing is written
-abbrev pub ShownFrom : Option ℕ → Option Opening → Told → Option (List ℕ) → Option (List ℕ) → Summary → Type 0
+abbrev pub ShownFrom : Option ℕ → Option Setup → Told → Option (List ℕ) → Option (List ℕ) → Summary → Type 0
 ShownFrom only None told old new summary = NothingPlayed told old new summary
 ShownFrom only (Some opening) told old new summary = AllShown only opening told old new summary
 
 -- the script has a world, and that isn't shown
 pub record EventsStop (only : Option ℕ) (script : Script) (old new : Option (List ℕ)) (fault : ScriptFault) : Type 0 where
-  pub opening : Opening
+  pub opening : Setup
   pub begins : script.opening ≡ Some opening
-  pub stops : ShowStops only (opening_of opening) script.told old new fault
+  pub stops : ShowStops only (initial_state_of opening) script.told old new fault
 
 -- ---- with a reader
 

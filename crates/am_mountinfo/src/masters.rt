@@ -1,7 +1,7 @@
 //! Where mounts receive propagation from.
 
 ghost use Rattle.std.specs.Prelude.{◌≡◌};
-ghost use Rattle.am_group.specs.Propagation.{master_of};
+ghost use Rattle.am_group.specs.{master_of};
 ghost use Rattle.am_mountinfo.specs.Mountinfo.{is_number, dominating, but, source_of};
 ghost use Rattle.am_mountinfo.specs.Peers.{ArePeers};
 

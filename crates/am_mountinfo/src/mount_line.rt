@@ -2,8 +2,8 @@
 
 ghost use Rattle.std.specs.Prelude.{◌≡◌, map};
 ghost use Rattle.std.specs.List.{flat_map};
-ghost use Rattle.am_script.specs.Outputs.{Puts};
-ghost use Rattle.am_trigger.specs.Rows.{autofs_of};
+ghost use Rattle.am_script.specs.{Puts};
+ghost use Rattle.am_trigger.specs.{autofs_of};
 ghost use Rattle.am_mountinfo.specs.Mountinfo.{byte_text, path_text, tag_text, flag_text, unbindable_text, optional_text, numbers_text, point_text, type_text, mount_line, mountinfo};
 ghost use Rattle.am_mountinfo.specs.Peers.{ArePeers};
 ghost use Rattle.am_mountinfo.specs.Tables.{AreTables};

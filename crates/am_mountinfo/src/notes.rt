@@ -2,9 +2,9 @@
 
 ghost use Rattle.std.specs.Prelude.{◌≡◌, ◌++◌, IfOk, OnOk};
 ghost use Rattle.std.specs.List.{flat_map};
-ghost use Rattle.am_daemon.specs.State.{rows_of, job_plan};
+ghost use Rattle.am_daemon.specs.{rows_of, job_plan};
 ghost use Rattle.am_state.specs.declared.obs.Obs.TheVariants.{Queued, Recorded};
-ghost use Rattle.am_script.specs.Outputs.{Puts};
+ghost use Rattle.am_script.specs.{Puts};
 ghost use Rattle.am_mountinfo.specs.Notes.{obs_note, walkers_text, trigger_text, token_note, packet_note, record_note, job_note, status_text, wait_text, walk_note, use_note, fs_notes, tokens_notes, packets_notes, book_notes, jobs_notes, walks_notes, uses_notes, kernel_notes, daemon_notes};
 ghost use Rattle.am_mountinfo.specs.Opens.{open_text, opens_text, row_note};
 

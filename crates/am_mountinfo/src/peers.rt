@@ -1,7 +1,7 @@
 //! Which peer groups have mounts in which namespaces.
 
 ghost use Rattle.std.specs.Prelude.{◌≡◌, ℕ, false, IfOk, OnOk};
-ghost use Rattle.am_group.specs.Propagation.{group_of};
+ghost use Rattle.am_group.specs.{group_of};
 ghost use Rattle.am_mountinfo.specs.Peers.{has_site, ArePeers, HasOneSiteMore};
 
 use am_names::{GroupId, MountId, NsId};

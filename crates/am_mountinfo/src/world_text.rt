@@ -2,15 +2,13 @@
 
 ghost use Rattle.std.specs.Prelude.{◌≡◌, ◌+◌, ◌≤◌, ◌^◌, option_copied, IfOk, IfErr, None, OnOk};
 ghost use Rattle.std.specs.Io.KnownBytes.{Appends};
-ghost use Rattle.am_daemon.specs.State.{rows_of};
-ghost use Rattle.am_script.specs.Lines.{lines_in, size_in};
-ghost use Rattle.am_script.specs.Outputs.{Puts};
-ghost use Rattle.am_script.specs.Script.{events_from};
+ghost use Rattle.am_daemon.specs.{rows_of};
+ghost use Rattle.am_script.specs.{lines_in, size_in, Puts, events_from};
 ghost use Rattle.am_mountinfo.specs.Mountinfo.{namespace_text, namespaces_text};
 ghost use Rattle.am_mountinfo.specs.Printed.{part_text};
 ghost use Rattle.am_mountinfo.specs.Tables.{AreTables};
 ghost use Rattle.am_mountinfo.specs.WorldText.{IsText, IsWritten, IsCut, NotWritten, EventsPlayed, IsPlayed, NotPlayed, IsLastLine, WorldShown, ShowStops, ShowsInput, StopsShowing};
-ghost use Rattle.am_world.specs.Table.{state_of};
+ghost use Rattle.am_world.specs.Capacity.{state_of};
 
 use crate::mount_line::put_mounts;
 use crate::namespaces::namespaces;

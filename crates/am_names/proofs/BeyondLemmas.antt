@@ -9,7 +9,7 @@ use Rattle.std.specs.Ordering.{nat_cmp, is_lt}
 use Rattle.std.proofs.lemmas.Bool.{ne_eqb}
 use Rattle.std.proofs.lemmas.Bool.Decides.{nat_tests}
 use Rattle.std.proofs.lemmas.Option.{get_or_from_slice_get}
-use Rattle.am_names.specs.Numbers.{is_among}
+use Rattle.am_names.specs.{is_among}
 
 none_among :
     (xs : List ℕ) (n d : ℕ) → ((k : ℕ) → k < length xs → get_or xs k d ≢ n) → is_among xs n ≡ false

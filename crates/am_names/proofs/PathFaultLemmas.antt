@@ -5,9 +5,7 @@ use Rattle.std.specs.List.{list_all, filter}
 use Rattle.std.proofs.lemmas.Bool.Decides.{nat_tests}
 use Rattle.am_names.specs.declared.errno.Errno.{Errno}
 use Rattle.am_names.specs.declared.errno.Errno.TheVariants.{ENAMETOOLONG, EINVAL}
-use Rattle.am_names.specs.Name.{name_read, is_name}
-use Rattle.am_names.specs.Path.{path_read, parts_read, parts_of, names_of, with_name, begins_with_slash}
-use Rattle.am_names.specs.PathFaults.{name_fault, part_fault, fault_or, first_fault, AreNames}
+use Rattle.am_names.specs.{name_read, is_name, path_read, parts_read, parts_of, names_of, with_name, begins_with_slash, name_fault, part_fault, fault_or, first_fault, AreNames}
 use Rattle.am_names.proofs.Basics.{and_of_both}
 
 -- the parts that are not empty

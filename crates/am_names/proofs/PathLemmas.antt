@@ -7,8 +7,7 @@ use Rattle.std.proofs.lemmas.Bool.Decides.{nat_tests, Decides-eqb, same_from_dec
 use Rattle.std.proofs.lemmas.Slice.Eq.{slice_eq-Decides}
 use Rattle.std.proofs.lemmas.List.{append-nil, length-append, take_at, drop_at}
 use Rattle.std.proofs.lemmas.List.Splits.{slice_split-cons_no}
-use Rattle.am_names.specs.Name.{is_name, is_name_byte}
-use Rattle.am_names.specs.Path.{is_slash, parts_of, text_of, names_of, same_names, IsCanonical}
+use Rattle.am_names.specs.{is_name, is_name_byte, is_slash, parts_of, text_of, names_of, same_names, IsCanonical}
 use Rattle.am_names.proofs.Basics.{left_of_and, right_of_and, and_of_both}
 
 -- the bytes of a name

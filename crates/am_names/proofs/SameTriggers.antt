@@ -6,13 +6,10 @@ use Rattle.std.specs.Str.{bytes_eq}
 use Rattle.std.proofs.Math.Seq.{take-append_seam}
 use Rattle.std.proofs.lemmas.Bool.Decides.{Decides-eqb, same_from_decides}
 use Rattle.std.proofs.lemmas.Slice.Eq.{bytes_eq-Decides}
-use Rattle.am_names.specs.Name.{padded}
-use Rattle.am_names.specs.Trigger.{same_trigger, same_name}
+use Rattle.am_names.specs.{padded, same_trigger, same_name, eq-value}
 use Rattle.am_names.specs.declared.trigger.Trigger.{Trigger}
 use Rattle.am_names.specs.contracts.name.NamePartialEq.TheImpl.{eq-value as name_eq}
-use Rattle.am_names.specs.contracts.trigger.TriggerPartialEq.TheImpl.{eq-value}
 use Rattle.am_names.proofs.Basics.{both_of_and, and_of_both}
-pub use Rattle.am_names.proofs.Basics.{and_of_both as both_are, holds_where_ok as when_ok}
 
 equal_by_same_name : (a b : Option (List ℕ)) → same_name a b ≡ true → a ≡ b
 equal_by_same_name None None h = refl
@@ -24,21 +21,21 @@ same_name_itself : (a : Option (List ℕ)) → same_name a a ≡ true
 same_name_itself None = refl
 same_name_itself (Some a) = (bytes_eq-Decides a a).1 refl
 
-pub is_one : (a b : Trigger) → same_trigger a b ≡ true → a ≡ b
-is_one a b h =
+pub equal_by_same_trigger : (a b : Trigger) → same_trigger a b ≡ true → a ≡ b
+equal_by_same_trigger a b h =
     let two = both_of_and (a.fs == b.fs) (same_name a.name b.name) h in
     let make : ℕ → Option (List ℕ) → Trigger = λ fs name. record { fs = fs; name = name } in
     ap (λ (fs : ℕ). make fs a.name) ((Decides-eqb a.fs b.fs).0 two.0) ∙ ap (make b.fs) (equal_by_same_name a.name b.name two.1)
 
-pub is_itself : (a : Trigger) → same_trigger a a ≡ true
-is_itself a = and_of_both (a.fs == a.fs) (same_name a.name a.name) ((Decides-eqb a.fs a.fs).1 refl) (same_name_itself a.name)
+pub same_trigger_itself : (a : Trigger) → same_trigger a a ≡ true
+same_trigger_itself a = and_of_both (a.fs == a.fs) (same_name a.name a.name) ((Decides-eqb a.fs a.fs).1 refl) (same_name_itself a.name)
 
 -- the test tells whether two triggers are one
 pub same_trigger-Decides : (a b : Trigger) → Decides (same_trigger a b) (a ≡ b)
-same_trigger-Decides a b = (is_one a b, λ e. subst (λ (x : Trigger). same_trigger a x ≡ true) e (is_itself a))
+same_trigger-Decides a b = (equal_by_same_trigger a b, λ e. subst (λ (x : Trigger). same_trigger a x ≡ true) e (same_trigger_itself a))
 
-pub either_way : (a b : Trigger) → same_trigger a b ≡ same_trigger b a
-either_way a b = same_from_decides (same_trigger a b) (same_trigger b a) (same_trigger-Decides a b) ((λ h. sym (is_one b a h)), (λ e. (same_trigger-Decides b a).1 (sym e)))
+pub same_trigger_either_way : (a b : Trigger) → same_trigger a b ≡ same_trigger b a
+same_trigger_either_way a b = same_from_decides (same_trigger a b) (same_trigger b a) (same_trigger-Decides a b) ((λ h. sym (equal_by_same_trigger b a h)), (λ e. (same_trigger-Decides b a).1 (sym e)))
 
 -- ---- keys of an index
 
@@ -66,5 +63,5 @@ names_eq_is_same_name (Some a) None = refl
 names_eq_is_same_name (Some a) (Some b) = same_from_decides (name_eq.it a b) (bytes_eq a b) (name_eq-Decides a b) (bytes_eq-Decides a b)
 
 -- the index tells triggers apart as `same_trigger` does
-pub key_is : (a b : Trigger) → eq-value.it a b ≡ same_trigger b a
-key_is a b = ap (λ (t : Bool). (a.fs == b.fs) && t) (names_eq_is_same_name a.name b.name) ∙ either_way a b
+pub key_is_same_trigger : (a b : Trigger) → eq-value.it a b ≡ same_trigger b a
+key_is_same_trigger a b = ap (λ (t : Bool). (a.fs == b.fs) && t) (names_eq_is_same_name a.name b.name) ∙ same_trigger_either_way a b

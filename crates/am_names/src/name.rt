@@ -22,7 +22,7 @@ impl Model for Name {
 
     ghost Value = { List ℕ };
 
-    ghost use Rattle.am_names.specs.NameInside.{inside_of, stored_back};
+    ghost use Rattle.am_names.specs.NameView.{inside_of, stored_back};
 
     ghost view = { λ n. take n.len n.buf };
 

@@ -5,7 +5,7 @@ use Rattle.std.proofs.lemmas.Bool.Decides.{nat_tests}
 use Rattle.std.proofs.lemmas.List.Quantifiers.{position-Some}
 use Rattle.std.proofs.lemmas.Option.{same_Some, none-some, slice_get-get_or}
 use Rattle.std.specs.List.{position_or_len}
-use Rattle.am_ordered.specs.Order.{times, IsOrderOf, IsIndexOf, renamed}
+use Rattle.am_ordered.specs.{times, IsOrderOf, IsIndexOf, renamed}
 
 -- the first is there
 pub there_first : (x : ℕ) (xs : List ℕ) → 0 < times x (x ∷ xs)

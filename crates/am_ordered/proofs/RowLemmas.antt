@@ -7,7 +7,7 @@ use Rattle.std.specs.Option.{option_and_then}
 use Rattle.std.proofs.lemmas.Bool.{true≢false, cases_eq}
 use Rattle.std.proofs.lemmas.Option.{same_Some, none-some}
 use Rattle.indexmap.specs.IndexMap.{insert_entry, shift_remove_entry}
-use Rattle.am_ordered.specs.Order.{times}
+use Rattle.am_ordered.specs.{times}
 use Rattle.am_ordered.proofs.OrderLemmas.{there_first, there_later, there_at, times_this, times_other}
 
 -- ---- rows of places

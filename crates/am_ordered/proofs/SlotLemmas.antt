@@ -9,9 +9,8 @@ use Rattle.std.proofs.lemmas.List.Elements.{filter_map-append}
 use Rattle.std.proofs.lemmas.List.{length_push, length-take, length-set, get_or-take, get_or-set_same, get_or-set_other}
 use Rattle.std.proofs.lemmas.Option.{same_Some, none-some, slice_get_within, slice_get_past, slice_get-get_or}
 use Rattle.indexmap.specs.IndexMap.{insert_entry, shift_remove_entry}
-use Rattle.am_ordered.specs.Order.{times, IsOrderOf, renamed}
-use Rattle.am_ordered.specs.Inside.{row_of, row_at, rows_of}
-use Rattle.am_ordered.specs.declared.ordered.Slot.{Slot}
+use Rattle.am_ordered.specs.{times, IsOrderOf, renamed, Slot}
+use Rattle.am_ordered.specs.View.{row_of, row_at, rows_of}
 use Rattle.am_ordered.proofs.OrderLemmas.{below_count, there_once, there_at, none_above, gone, removed_other}
 use Rattle.am_ordered.proofs.RowLemmas.{same_rows, kept_rows, AllStand, row_is, rows_removed, OnlyAt, lookup_rows, lookup_none, removed_row, replaced_row, inserted_last, AreApart, distinct_rows}
 

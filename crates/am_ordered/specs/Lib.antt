@@ -1,4 +1,8 @@
 pub mod Order
-pub mod Table
+pub mod Capacity
 pub mod Lookup
-pub mod Inside
+pub mod View
+-- what contracts cite, passed on from one place
+pub use Lookup.{insert_entry, shift_remove_entry}
+pub use Order.{IsIndexOf, IsOrderOf, renamed, times}
+pub use declared.ordered.Slot.{Slot}

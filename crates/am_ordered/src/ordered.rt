@@ -35,13 +35,13 @@ pub struct OrderedMap<K: Eq + Hash, V> {
 }
 
 impl<K: Eq + Hash, V> Model for OrderedMap<K, V> {
-    ghost use Rattle.am_ordered.specs.Table.{OrderedTable, table_code};
+    ghost use Rattle.am_ordered.specs.Capacity.{OrderedTable, table_code};
 
     ghost Value = { OrderedTable K V };
 
     ghost coded = { table_code K.code V.code };
 
-    ghost use Rattle.am_ordered.specs.Inside.{table_of, IsOrdered};
+    ghost use Rattle.am_ordered.specs.View.{table_of, IsOrdered};
 
     ghost view = { λ m. table_of m.slots m.order };
 

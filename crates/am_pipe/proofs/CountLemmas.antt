@@ -6,9 +6,7 @@ use Rattle.std.proofs.lemmas.Bool.Decides.{nat_tests}
 use Rattle.std.specs.Prelude.{if◌then◌else◌}
 use mathlib.Core.Option.{some, some-injective, some-ne-none}
 use lib.ListN.{get_elem?}
-use Rattle.am_pipe.specs.declared.note.Note.{Note}
-use Rattle.am_pipe.specs.Ends.{total, once_to}
-use Rattle.am_pipe.specs.Rule.{numbered, weigh, weigh_to}
+use Rattle.am_pipe.specs.{Note, total, once_to, numbered, weigh, weigh_to}
 
 -- the total after one element has changed
 pub total_set : {A : Type 0} (f : A → ℕ) (xs : List A) (at : ℕ) (x y : A) → get_elem? xs at ≡ some x

@@ -8,10 +8,7 @@ use mathlib.Core.Option.{some, some-injective, some-ne-none}
 use lib.ListN.{get_elem?}
 use Rattle.crossbeam_queue.specs.Fifo.{Pushes, Pops, Forks, Merges}
 use Rattle.crossbeam_queue.proofs.Lists.{at_set, at_snoc}
-use Rattle.am_pipe.specs.declared.note.Note.{Note}
-use Rattle.am_pipe.specs.declared.rule.EndView.{EndView}
-use Rattle.am_pipe.specs.Rule.{end_view, numbered, weigh, AreTaken, FitsPipe, AllFitPipe, IsPipe}
-use Rattle.am_pipe.specs.Rule.{Puts, Takes}
+use Rattle.am_pipe.specs.{Note, EndView, end_view, numbered, weigh, AreTaken, FitsPipe, AllFitPipe, IsPipe, Puts, Takes}
 use Rattle.am_pipe.proofs.CountLemmas.{total_set, total_snoc, total_append, length_numbered}
 use Rattle.am_pipe.proofs.CountLemmas.{numbered_snoc, slice_get_more, first_left}
 

@@ -7,10 +7,7 @@ use Rattle.std.proofs.lemmas.List.Elements.{All-push}
 use mathlib.Core.Option.{some}
 use lib.ListN.{get_elem?}
 use Rattle.crossbeam_queue.specs.Fifo.{Learns}
-use Rattle.am_pipe.specs.declared.note.Note.{Note}
-use Rattle.am_pipe.specs.declared.rule.EndView.{EndView}
-use Rattle.am_pipe.specs.Ends.{Taker, taken_by, total, AreAsPut}
-use Rattle.am_pipe.specs.Rule.{numbered, weigh, weigh_to, AreTaken, IsPipe, HoldsRest, KnowsAll}
+use Rattle.am_pipe.specs.{Note, EndView, Taker, taken_by, total, AreAsPut, numbered, weigh, weigh_to, AreTaken, IsPipe, HoldsRest, KnowsAll}
 use Rattle.am_pipe.proofs.CountLemmas.{total_all, count_to, count_of, length_numbered}
 
 -- the put end knows that the queue holds what it put, but for the first of it

@@ -1,6 +1,6 @@
 -- The rule of a pipe's queue: it holds what was put, in order, without what was taken. Its queue
--- and the views of its ends are all that is spoken of: own (docs/DECISIONS.md, "A note is put while
--- the lock is held, and taken without it").
+-- and the views of its ends are all that is spoken of: own choice (docs/DECISIONS.md, "A note is
+-- put while the lock is held, and taken without it").
 use Rattle.std.proofs.Common.{zero, suc}
 use Rattle.std.specs.Prelude.{◌≡◌, ℕ, ◌+◌, ◌-◌, ◌<◌, ◌≤◌, Bool, true, false, List, [], ◌∷◌, ◌++◌}
 use Rattle.std.specs.Prelude.{length, drop, All, Some, slice_get}

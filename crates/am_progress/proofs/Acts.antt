@@ -9,41 +9,27 @@ use Rattle.am_names.specs.declared.fail_no.FailNo.{FailNo}
 use Rattle.am_names.specs.declared.errno.Errno.{Errno}
 use Rattle.am_names.specs.declared.errno.Errno.TheVariants as errnos
 use Rattle.am_names.specs.declared.trigger.Trigger.{Trigger}
-use Rattle.am_names.specs.declared.trigger.Status.{Status}
-use Rattle.am_names.specs.declared.row.OpenToken.{OpenToken}
+use Rattle.am_names.specs.{Status, OpenToken}
 use Rattle.am_names.proofs.Basics.{equal_to_itself}
 use Rattle.am_map.specs.EntryText.{EntryText}
-use Rattle.am_state.specs.declared.daemon_row.Record.{Record}
-use Rattle.am_state.specs.declared.obs.Obs.{Obs}
-use Rattle.am_trigger.specs.declared.autofs.Autofs.{Autofs}
+use Rattle.am_state.specs.{Record, Obs}
+use Rattle.am_trigger.specs.{Autofs}
 use Rattle.am_trigger.specs.Rows as triggers
-use Rattle.am_wait.specs.Rows.{WaitRows}
-use Rattle.am_wait.specs.Calls.{answered}
-use Rattle.am_kernel.specs.State.{KernelState}
-use Rattle.am_kernel.specs.Sites.{attach_of, is_current, or_else, is_trigger_of}
-use Rattle.am_kernel.specs.Directories.{names_directory, is_indirect, is_mountpoint, directory_refusal, mkdir_refusal, with_directory, rmdir_refusal, without_directory}
-use Rattle.am_kernel.specs.DaemonMounts.{mount_on_refusal, with_mount_on, umount_from_refusal, gone_from, without_mounts}
-use Rattle.am_kernel.specs.Requests.{token_fs, is_number, answer_tests, answer_refusal, acknowledged}
-use Rattle.am_job.specs.declared.act.Act.{Act}
+use Rattle.am_wait.specs.{WaitRows, answered}
+use Rattle.am_kernel.specs.{KernelState, attach_of, is_current, or_else, is_trigger_of, names_directory, is_indirect, is_mountpoint, directory_refusal, mkdir_refusal, with_directory, rmdir_refusal, without_directory, mount_on_refusal, with_mount_on, umount_from_refusal, gone_from, without_mounts, token_fs, is_number, answer_tests, answer_refusal, acknowledged}
+use Rattle.am_job.specs.{Act, Plan, Ended, Next, next_of, AcknowledgesLast}
 use Rattle.am_job.specs.declared.act.Act.TheVariants as act
 use Rattle.am_job.specs.declared.act.Outcome as outcomes
 use Rattle.am_job.specs.declared.act.Outcome.TheVariants as came
-use Rattle.am_job.specs.Plans.{Plan, Ended, Next, next_of}
-use Rattle.am_job.specs.Laws.{AcknowledgesLast}
-use Rattle.am_daemon.specs.State.{JobPlan}
-use Rattle.am_daemon.specs.Attachments.{attach_held, holds}
-use Rattle.am_daemon.specs.Acts.{finished_in, finished}
-use Rattle.am_daemon.specs.Deliveries.{job_of}
+use Rattle.am_daemon.specs.{JobPlan, attach_held, holds, finished_in, finished, job_of}
 use Rattle.am_daemon.proofs.JobLemmas.{others_stay}
 use Rattle.am_machine.specs.declared.event.Event.TheVariants as events
-use Rattle.am_machine.specs.declared.answer.Answer.{Answer}
+use Rattle.am_machine.specs.{Answer, outcome_of, IsServed}
 use Rattle.am_machine.specs.declared.answer.Answer.TheVariants as answers
 use Rattle.am_machine.specs.State.{State}
-use Rattle.am_machine.specs.Outcome.{Outcome}
-use Rattle.am_machine.specs.Machine.{outcome_of}
+use Rattle.am_machine.specs.EventOutcome.{EventOutcome}
 use Rattle.am_machine.specs.Events.Acts as acts
-use Rattle.am_machine.specs.Invariant.Books.{IsServed}
-use Rattle.am_progress.specs.Acts.{TellsOf, goes_on_as, IsActed, JobsCanGoOn, NextActsAreNeverRefused, HasFewActs, JobsHaveFiveActs}
+use Rattle.am_progress.specs.{TellsOf, goes_on_as, IsActed, JobsCanGoOn, NextActsAreNeverRefused, HasFewActs, JobsHaveFiveActs}
 use Rattle.am_progress.proofs.Attaches.{fs_of_current}
 use Rattle.am_progress.proofs.Plans.{IsOwn, IsOfPlan, next_own, packet_plan}
 use Rattle.am_progress.proofs.Packets.{holds_held}
@@ -64,7 +50,7 @@ LeavesKernel (act.Record trigger entry) outcome token k made = made ≡ k
 LeavesKernel (act.Reply status) outcome token k made = made ≡ acknowledged token status k
 LeavesKernel _ outcome token k made = ⊤
 
-pub record Does (s : State) (row : JobPlan) (a : Act) (o : Outcome) : Type 0 where
+pub record Does (s : State) (row : JobPlan) (a : Act) (o : EventOutcome) : Type 0 where
   pub came : outcomes.Outcome
   pub answer : Answer
   pub shown : List Obs
@@ -76,7 +62,7 @@ pub record Does (s : State) (row : JobPlan) (a : Act) (o : Outcome) : Type 0 whe
   pub leaves : LeavesKernel a came row.token s.kernel made
 
 -- the second of two outcomes, where the test of the first fails
-does_where_not_refused : (s : State) (row : JobPlan) (a : Act) (b : Bool) (first second : Outcome) → b ≡ true → Does s row a second → Does s row a (if not b then first else second)
+does_where_not_refused : (s : State) (row : JobPlan) (a : Act) (b : Bool) (first second : EventOutcome) → b ≡ true → Does s row a second → Does s row a (if not b then first else second)
 does_where_not_refused s row a true first second e h = h
 does_where_not_refused s row a false first second e h = absurd cc
 
@@ -208,7 +194,7 @@ goes_left s number row outcome w =
     subst (λ (n : ℕ). job_of (finished_in n outcome s.daemon.jobs) number ≡ goes_on_as outcome row) (sym (job_number s number row w))
     (left_is number outcome row s.daemon.jobs w.world.consistent.agreed.tokens.numbers w.is_job)
 
-acted_as : (s : State) (number : ℕ) (row : JobPlan) (a : Act) (o : Outcome) → Acting s number row → next_of row.plan ≡ Some a → Does s row a o → IsActed number row s.daemon o
+acted_as : (s : State) (number : ℕ) (row : JobPlan) (a : Act) (o : EventOutcome) → Acting s number row → next_of row.plan ≡ Some a → Does s row a o → IsActed number row s.daemon o
 acted_as s number row a o w e d =
     subst (IsActed number row s.daemon) (sym d.is) (record {
       act = a;
@@ -249,4 +235,4 @@ jobs_short : (s : State) → IsWorld s → All HasFewActs s.daemon.jobs
 jobs_short s w = All-weaker IsOfPlan HasFewActs (λ row h. h.few) s.daemon.jobs w.holds.plans
 
 pub five_acts : JobsHaveFiveActs
-five_acts = record { begins = packet_plan; each = after_runs (λ (s : State). All HasFewActs s.daemon.jobs) jobs_short }
+five_acts = record { attempts = packet_plan; each = after_runs (λ (s : State). All HasFewActs s.daemon.jobs) jobs_short }

@@ -4,35 +4,25 @@ use Rattle.std.specs.Prelude.{◌==◌, is_some, if◌then◌else◌}
 use Rattle.std.specs.List.{list_any}
 use Rattle.am_names.specs.declared.fail_no.FailNo.{FailNo}
 use Rattle.am_names.specs.declared.trigger.Trigger.{Trigger}
-use Rattle.am_names.specs.declared.row.OpenToken.{OpenToken}
+use Rattle.am_names.specs.{OpenToken}
 use Rattle.am_names.proofs.Basics.{neither_of_or, equal_to_itself, some_injective, value_where_some}
-use Rattle.am_wait.specs.Rows.{WaitRows, token_of}
+use Rattle.am_wait.specs.{WaitRows, token_of}
 use Rattle.am_wait.proofs.FindLemmas.{token_taken}
-use Rattle.am_state.specs.declared.kernel_row.QueuedRow.{QueuedRow}
-use Rattle.am_kernel.specs.Sites.{attach_of}
-use Rattle.am_kernel.specs.Requests.{queued_of}
-use Rattle.am_job.specs.declared.act.Act.{Act}
+use Rattle.am_state.specs.{QueuedRow}
+use Rattle.am_kernel.specs.{attach_of, queued_of}
+use Rattle.am_job.specs.{Act, next_of}
 use Rattle.am_job.specs.declared.act.Act.TheVariants as act
-use Rattle.am_job.specs.Plans.{next_of}
-use Rattle.am_daemon.specs.State.{JobPlan}
-use Rattle.am_daemon.specs.Acts.{walked}
-use Rattle.am_daemon.specs.Deliveries.{job_of}
-use Rattle.am_laws.specs.OneObservation.{queues}
-use Rattle.am_laws.specs.Tests.{Has}
+use Rattle.am_daemon.specs.{JobPlan, walked, job_of}
+use Rattle.am_laws.specs.{queues, Has}
 use Rattle.am_laws.proofs.Late.{queued_in_part}
-use Rattle.am_machine.specs.declared.event.Event.{Event}
+use Rattle.am_machine.specs.{Event, Answer, Run, IsServed}
 use Rattle.am_machine.specs.declared.event.Event.TheVariants as events
-use Rattle.am_machine.specs.declared.answer.Answer.{Answer}
 use Rattle.am_machine.specs.State.{State}
-use Rattle.am_machine.specs.Machine.{Run}
-use Rattle.am_machine.specs.Invariant.Books.{IsServed}
 use Rattle.am_machine.proofs.Planned.Acts.{acknowledges}
 use Rattle.am_machine.proofs.Lists.Different.{all_found}
 use Rattle.am_machine.proofs.Tokens.Catatonic.{token_number}
 use Rattle.am_machine.proofs.Agreement.Tokens.{in_pipe, queued_number}
-use Rattle.am_progress.specs.Runs.{IsDone, next}
-use Rattle.am_progress.specs.Acts.{HasActs}
-use Rattle.am_progress.specs.Others.{is_act_of, OthersAct, IsClosed, event_about, ClosesAmong, TokensCloseAmong, OpenTokensCloseAmongOthers}
+use Rattle.am_progress.specs.{IsDone, next, HasActs, is_act_of, OthersAct, IsClosed, event_about, ClosesAmong, TokensCloseAmong, OpenTokensCloseAmongOthers}
 use Rattle.am_progress.proofs.Closed.{run_adds, was_queued, stays_closed, same_trigger_later}
 use Rattle.am_progress.proofs.Others.{jobs_stay}
 use Rattle.am_progress.proofs.Plans.{IsOfPlan, more_acts}
@@ -203,13 +193,13 @@ module _ (fs attach token : ℕ) where
       let leads = first mid world served queued row is (same row is) failure in
       (leads.0, closes_among 5 (next mid (event_about token failure mid)) leads.1))
 
-  begins : (s : State) → IsWorld s → Has (queues token) s.trace → ((mid : State) → OthersAct fs attach token s mid → (row : OpenToken) → token_of mid.kernel.waits.tokens token ≡ Some row → row.trigger.fs ≡ fs) → ClosesAmong 6 fs attach token s
-  begins s world queued same = λ mid o.
+  attempts : (s : State) → IsWorld s → Has (queues token) s.trace → ((mid : State) → OthersAct fs attach token s mid → (row : OpenToken) → token_of mid.kernel.waits.tokens token ≡ Some row → row.trigger.fs ≡ fs) → ClosesAmong 6 fs attach token s
+  attempts s world queued same = λ mid o.
       begins_by_cases mid (token_of mid.kernel.waits.tokens token) refl (world_still s mid o world) o.served (queued_still s mid o queued) (same mid o)
 
 tokens_close_among : (s : State) → IsWorld s → TokensCloseAmong s
 tokens_close_among s world fs attach served token row is same =
-    begins fs attach token s world (was_queued s token row world.consistent.traced is)
+    attempts fs attach token s world (was_queued s token row world.consistent.traced is)
     (λ mid o later found.
     let more = run_adds s o.events o.answers mid o.run in
     ap (λ (g : Trigger). g.fs) (same_trigger_later s mid token more.0 row later world.consistent.traced (world_still fs attach token s mid o world).consistent.traced more.1 is found) ∙ same)

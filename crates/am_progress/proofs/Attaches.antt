@@ -5,10 +5,7 @@ use Rattle.std.specs.Option.{option_map}
 use Rattle.std.specs.List.{All}
 use Rattle.std.proofs.lemmas.List.Elements.{All-nil, All-cons, All-head, All-tail, All-push, All-map, All-weaker}
 use Rattle.am_names.proofs.Basics.{both_of_and, equal_by_test, value_where_some, found_passes}
-use Rattle.am_kernel.specs.declared.row.Attached.{Attached}
-use Rattle.am_kernel.specs.State.{KernelState}
-use Rattle.am_kernel.specs.Sites.{is_live, is_attached_by, fs_of_attach, is_current}
-use Rattle.am_kernel.specs.Attachments.{reattached_row}
+use Rattle.am_kernel.specs.{Attached, KernelState, is_live, is_attached_by, fs_of_attach, is_current, reattached_row}
 use Rattle.am_machine.proofs.Lists.Different.{all_found, found_none}
 use Rattle.am_machine.proofs.Attachments.Known.{any_found}
 

@@ -4,28 +4,20 @@ use Rattle.std.specs.Prelude.{◌==◌, ◌||◌, if◌then◌else◌}
 use Rattle.std.specs.Option.{option_map}
 use Rattle.std.specs.List.{list_any}
 use Rattle.std.proofs.lemmas.List.{append-nil}
-use Rattle.am_names.specs.declared.row.OpenToken.{OpenToken}
+use Rattle.am_names.specs.{OpenToken}
 use Rattle.am_names.proofs.Basics.{none_where_mapped_none, some_injective}
-use Rattle.am_wire.specs.declared.packet.Packet.{Packet}
-use Rattle.am_state.specs.declared.obs.Obs.{Obs}
+use Rattle.am_wire.specs.{Packet}
+use Rattle.am_state.specs.{Obs}
 use Rattle.am_state.specs.declared.obs.Obs.TheVariants.{Queued}
-use Rattle.am_wait.specs.Rows.{token_of}
-use Rattle.am_laws.specs.OneObservation.{queues, closes, packet_in}
-use Rattle.am_laws.specs.Counts.{packet_of, fs_of_token, first_of, dev_of}
-use Rattle.am_laws.specs.Lately.{WereLawful}
-use Rattle.am_laws.specs.Tests.{Has, is_open, since}
-use Rattle.am_laws.specs.TraceLaws.{Lawful}
+use Rattle.am_wait.specs.{token_of}
+use Rattle.am_laws.specs.{queues, closes, packet_in, packet_of, fs_of_token, first_of, dev_of, WereLawful, Has, is_open, since, Lawful}
 use Rattle.am_laws.proofs.Decided.{open_from_test}
 use Rattle.am_laws.proofs.Late.{queued_once, open_queued}
 use Rattle.am_laws.proofs.Lists.{since-append, since_no}
 use Rattle.am_laws.proofs.Places.{at_place, lawful_from_front}
 use Rattle.am_laws.proofs.Grows.{packet_early}
-use Rattle.am_machine.specs.declared.event.Event.{Event}
-use Rattle.am_machine.specs.declared.answer.Answer.{Answer}
+use Rattle.am_machine.specs.{Event, Answer, Run, Asked, asked_in, asked_by, IsTraced}
 use Rattle.am_machine.specs.State.{State}
-use Rattle.am_machine.specs.Machine.{Run}
-use Rattle.am_machine.specs.Invariant.Traces.{Asked, asked_in, asked_by}
-use Rattle.am_machine.specs.Invariant.Consistent.{IsTraced}
 use Rattle.am_machine.proofs.Consistent.{step_lawful}
 
 -- ---- the trace of a run

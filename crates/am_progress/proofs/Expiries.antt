@@ -3,51 +3,33 @@ use Rattle.std.proofs.Common.{◌≡◌, ℕ, suc, zero, Bool, true, false, List
 use Rattle.std.specs.Prelude.{◌==◌, if◌then◌else◌}
 use Rattle.std.specs.List.{All}
 use Rattle.am_names.specs.declared.fail_no.FailNo.{FailNo}
-use Rattle.am_names.specs.Trigger.{same_trigger}
+use Rattle.am_names.specs.{same_trigger, Status, OpenToken, RiseBy}
 use Rattle.am_names.specs.declared.trigger.Trigger.{Trigger}
-use Rattle.am_names.specs.declared.trigger.Status.{Status}
 use Rattle.am_names.specs.declared.trigger.Status.TheVariants.{Ready, Fail}
-use Rattle.am_names.specs.declared.row.OpenToken.{OpenToken}
-use Rattle.am_names.proofs.SameTriggers.{is_itself}
+use Rattle.am_names.proofs.SameTriggers.{same_trigger_itself}
 use Rattle.am_names.proofs.Basics.{equal_to_itself, false_unless_true}
-use Rattle.am_state.specs.declared.daemon_row.Record.{Record}
+use Rattle.am_state.specs.{Record}
 use Rattle.am_state.specs.declared.daemon_row.Record.TheVariants.{Mounted}
-use Rattle.am_mount.specs.Rows.{top_of}
+use Rattle.am_mount.specs.{top_of}
 use Rattle.am_propagate.specs.MountTable.{MountTable}
-use Rattle.am_trigger.specs.Rows.{TriggerRows, autofs_of}
-use Rattle.am_trigger.specs.Sites.{place_of}
-use Rattle.am_wait.specs.Rows.{WaitRows, token_of}
-use Rattle.am_wait.specs.Calls.{answered}
-use Rattle.am_wait.specs.Invariant.{RiseBy}
+use Rattle.am_trigger.specs.{TriggerRows, autofs_of, place_of, failure_of, without_failure}
+use Rattle.am_wait.specs.{WaitRows, token_of, answered}
 use Rattle.am_wait.proofs.FindLemmas.{token_taken}
 use Rattle.am_wait.proofs.KeptLemmas.{all_found}
-use Rattle.am_trigger.specs.Failures.{failure_of, without_failure}
-use Rattle.am_kernel.specs.Requests.{settled_by}
-use Rattle.am_kernel.specs.State.{KernelState}
-use Rattle.am_kernel.specs.Sites.{attach_of}
-use Rattle.am_kernel.specs.DaemonMounts.{location_in, mounted_on}
-use Rattle.am_kernel.specs.Requests.{acknowledged}
-use Rattle.am_job.specs.declared.act.Act.{Act}
+use Rattle.am_kernel.specs.{settled_by, KernelState, attach_of, location_in, mounted_on, acknowledged}
+use Rattle.am_job.specs.{Act, record_of, next_of, rest_of, claims, at_directory, reply, book_and_reply, after_umount, after_failed_umount, unmounting}
 use Rattle.am_job.specs.declared.act.Act.TheVariants as act
 use Rattle.am_job.specs.declared.act.Outcome as outcomes
 use Rattle.am_job.specs.declared.act.Outcome.TheVariants as came
-use Rattle.am_job.specs.Book.{record_of}
-use Rattle.am_job.specs.Plans.{next_of, rest_of, claims, at_directory, reply, book_and_reply, after_umount, after_failed_umount, unmounting}
-use Rattle.am_daemon.specs.State.{JobPlan}
-use Rattle.am_daemon.specs.Acts.{next_in, writes, writing_of, book_after, walked}
-use Rattle.am_daemon.specs.Packets.{is_pending, mounted_in}
+use Rattle.am_daemon.specs.{JobPlan, next_in, writes, writing_of, book_after, walked, is_pending, mounted_in}
 use Rattle.am_machine.specs.declared.event.Event.TheVariants as events
 use Rattle.am_machine.specs.State.{State}
-use Rattle.am_machine.specs.Outcome.{Outcome}
-use Rattle.am_machine.specs.Machine.{after, outcome_of}
-use Rattle.am_machine.specs.Invariant.Planned.{has_record_left}
+use Rattle.am_machine.specs.EventOutcome.{EventOutcome}
+use Rattle.am_machine.specs.{after, outcome_of, has_record_left, IsServed}
 use Rattle.am_machine.proofs.Planned.Rests.{umount_left}
-use Rattle.am_machine.specs.Invariant.Books.{IsServed}
 use Rattle.am_machine.proofs.Books.Pending.{recorded_is}
 use Rattle.am_machine.proofs.Lists.Found.{some_unless}
-use Rattle.am_progress.specs.Runs.{next}
-use Rattle.am_progress.specs.Ways.{LeadsTo}
-use Rattle.am_progress.specs.Expiries.{IsAsFound, IsTrapAgain, EndsWell, ExpiriesEndWell, ExpiriesLeaveTrapOrMount}
+use Rattle.am_progress.specs.{next, LeadsTo, IsAsFound, IsTrapAgain, EndsWell, ExpiriesEndWell, ExpiriesLeaveTrapOrMount}
 use Rattle.am_progress.proofs.Plans.{umount_whole}
 use Rattle.am_progress.proofs.Triggers.Walks.{IsSite}
 use Rattle.am_progress.proofs.Jobs.{its_acts, its_token, on_its_token, its_site, job_number}
@@ -60,12 +42,12 @@ use Rattle.am_progress.proofs.Traps.{notifies, made_good}
 
 module _ (s : State) (fs attach token : ℕ) (row : JobPlan) (w : WaitRows) (h : Served s fs attach token row w) (failure : Option FailNo) (a : Act) (e : next_of row.plan ≡ Some a) where
   act_kernel : (next s (events.Act token failure)).kernel ≡ (its_act s fs attach token row w h failure a e).made
-  act_kernel = ap (λ (o : Outcome). (after s o).kernel) (its_act s fs attach token row w h failure a e).is
+  act_kernel = ap (λ (o : EventOutcome). (after s o).kernel) (its_act s fs attach token row w h failure a e).is
 
   act_book : (next s (events.Act token failure)).daemon.book ≡ book_after (writes (Some a)) s.daemon.book
   act_book =
       let acting = served_acts s fs attach token row w h in
-      ap (λ (o : Outcome). (after s o).daemon.book) (its_act s fs attach token row w h failure a e).is
+      ap (λ (o : EventOutcome). (after s o).daemon.book) (its_act s fs attach token row w h failure a e).is
       ∙ ap (λ (n : ℕ). book_after (writing_of n s.daemon) s.daemon.book) (job_number s token row acting)
       ∙ ap (λ (o : Option JobPlan). book_after (writes (next_in o)) s.daemon.book) h.is_job
       ∙ ap (λ (o : Option Act). book_after (writes o) s.daemon.book) e
@@ -105,7 +87,7 @@ module _ (s : State) (fs attach token : ℕ) (row : JobPlan) (w : WaitRows) (h :
         written =
             ap (λ (book : List _). record_of book row.trigger) (act_book s fs attach token row w h failure a record_next)
             ∙ recorded_is row.trigger entry s.daemon.book row.trigger
-            ∙ ap (λ (b : Bool). if b then entry else record_of s.daemon.book row.trigger) (is_itself row.trigger);
+            ∙ ap (λ (b : Bool). if b then entry else record_of s.daemon.book row.trigger) (same_trigger_itself row.trigger);
         others = λ g other.
             ap (λ (book : List _). record_of book g) (act_book s fs attach token row w h failure a record_next)
             ∙ recorded_is row.trigger entry s.daemon.book g
@@ -252,7 +234,7 @@ module _ (s : State) (fs attach token mount : ℕ) (row : JobPlan) (h : Served s
   then_left = act_goes s fs attach token row s.kernel.waits h failure (act.Umount row.trigger) umount_next refl refl
 
   answer_is : (outcome_of s (events.Act token failure)).answer ≡ its_umount.answer
-  answer_is = ap (λ (o : Outcome). o.answer) its_umount.is
+  answer_is = ap (λ (o : EventOutcome). o.answer) its_umount.is
 
   stands_there : mounted_on s.kernel row.trigger ≡ Some mount
   stands_there =

@@ -2,13 +2,10 @@
 use Rattle.std.proofs.Common.{◌≡◌, ℕ, Bool, true, false, Option, Some, None, refl}
 use Rattle.std.specs.Prelude.{◌==◌, if◌then◌else◌}
 use Rattle.am_names.proofs.Basics.{equal_by_test, found_passes, some_injective}
-use Rattle.am_state.specs.declared.kernel_row.QueuedRow.{QueuedRow}
-use Rattle.am_kernel.specs.State.{KernelState}
-use Rattle.am_kernel.specs.Sites.{is_live, latest_attach, attach_of}
-use Rattle.am_kernel.specs.Requests.{queued_of}
-use Rattle.am_daemon.specs.State.{DaemonState, JobPlan}
-use Rattle.am_daemon.specs.Deliveries.{job_of}
-use Rattle.am_machine.specs.Invariant.Tokens.{HasToken, TokensAgree}
+use Rattle.am_state.specs.{QueuedRow}
+use Rattle.am_kernel.specs.{KernelState, is_live, latest_attach, attach_of, queued_of}
+use Rattle.am_daemon.specs.{DaemonState, JobPlan, job_of}
+use Rattle.am_machine.specs.{HasToken, TokensAgree}
 use Rattle.am_machine.proofs.Lists.Different.{all_found}
 use Rattle.am_machine.proofs.Agreement.Tokens.{token_at_work, queued_number}
 

@@ -1,23 +1,18 @@
 -- A job that acts: its plan, its token, its trigger, and what is left of it.
 use Rattle.std.proofs.Common.{◌≡◌, ℕ, Bool, true, false, cond, List, [], ◌∷◌, map, Some, None, refl, sym, subst}
 use Rattle.std.specs.Prelude.{◌==◌, if◌then◌else◌}
-use Rattle.am_names.specs.declared.row.OpenToken.{OpenToken}
+use Rattle.am_names.specs.{OpenToken}
 use Rattle.am_names.proofs.Basics.{equal_by_test, found_passes}
-use Rattle.am_kernel.specs.Sites.{attach_of, is_current}
+use Rattle.am_kernel.specs.{attach_of, is_current}
 use Rattle.am_job.specs.declared.act.Outcome as outcomes
-use Rattle.am_daemon.specs.State.{JobPlan}
-use Rattle.am_daemon.specs.Attachments.{holds}
-use Rattle.am_daemon.specs.Acts.{walked, is_ended, going, finished_in}
-use Rattle.am_daemon.specs.Deliveries.{job_of}
+use Rattle.am_daemon.specs.{JobPlan, holds, walked, is_ended, going, finished_in, job_of}
 use Rattle.am_machine.specs.State.{State}
-use Rattle.am_machine.specs.Invariant.Traces.{has, AreDifferent}
-use Rattle.am_machine.specs.Invariant.Planned.{IsPlanned}
-use Rattle.am_machine.specs.Invariant.Tokens.{HasToken}
+use Rattle.am_machine.specs.{has, AreDifferent, IsPlanned, HasToken}
 use Rattle.am_machine.proofs.Lists.Different.{all_found}
 use Rattle.am_machine.proofs.Attachments.Current.{current_from_attach}
 use Rattle.am_machine.proofs.Lists.Found.{absent}
 use Rattle.am_machine.proofs.Agreement.Tokens.{token_named, token_at_work}
-use Rattle.am_progress.specs.Acts.{goes_on_as}
+use Rattle.am_progress.specs.{goes_on_as}
 use Rattle.am_progress.proofs.Triggers.Walks.{IsSite}
 use Rattle.am_progress.proofs.Plans.{IsOfPlan}
 use Rattle.am_progress.proofs.Worlds.{IsWorld}

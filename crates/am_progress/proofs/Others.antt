@@ -3,34 +3,18 @@ use Rattle.std.proofs.Common.{◌≡◌, ◌⊎◌, ℕ, ◌+◌, ◌≤◌, Boo
 use Rattle.std.proofs.lemmas.Bool.Decides.{nat_tests}
 use Rattle.std.specs.Prelude.{◌==◌, ◌||◌, find}
 use Rattle.std.specs.List.{list_any}
-use Rattle.am_names.specs.declared.row.TokenKind.{TokenKind}
+use Rattle.am_names.specs.{TokenKind, WaitRow}
 use Rattle.am_names.specs.declared.row.TokenKind.TheVariants.{Missing, Expire}
-use Rattle.am_names.specs.declared.row.WaitRow.{WaitRow}
 use Rattle.am_names.proofs.Basics.{or_left, equal_by_test, differ_the_other_way}
-use Rattle.am_state.specs.declared.kernel_row.QueuedRow.{QueuedRow}
-use Rattle.am_state.specs.declared.obs.Obs.{Obs}
+use Rattle.am_state.specs.{QueuedRow, Obs}
 use Rattle.am_wait.proofs.FindLemmas.{or_first, find_append}
-use Rattle.am_kernel.specs.State.{KernelState}
-use Rattle.am_kernel.specs.Outcome.{with_latest}
-use Rattle.am_kernel.specs.Sites.{is_live, attach_of}
-use Rattle.am_kernel.specs.DaemonMounts.{attached_at}
-use Rattle.am_kernel.specs.Attachments.{with_pipe}
-use Rattle.am_kernel.specs.Requests.{with_timeout}
-use Rattle.am_kernel.specs.Resumes.{freed_from}
-use Rattle.am_kernel.specs.Catatonic.{closed, closing}
-use Rattle.am_job.specs.declared.act.Outcome.{Outcome}
-use Rattle.am_daemon.specs.Points.{line_timeout}
-use Rattle.am_daemon.specs.Deliveries.{job_of, job_for}
-use Rattle.am_daemon.specs.State.{DaemonState, JobPlan}
-use Rattle.am_daemon.specs.Attachments.{attach_held}
+use Rattle.am_kernel.specs.{KernelState, with_latest, is_live, attach_of, attached_at, with_pipe, with_timeout, wait_collected_from, made_catatonic, catatonic_observations}
+use Rattle.am_job.specs.{Outcome}
+use Rattle.am_daemon.specs.{line_timeout, job_of, job_for, DaemonState, JobPlan, attach_held}
 use Rattle.am_daemon.proofs.JobLemmas.{others_stay}
-use Rattle.am_machine.specs.declared.event.Event.{Event}
+use Rattle.am_machine.specs.{Event, Answer, Step, outcome_of, NumbersAreAllocated, IsServed}
 use Rattle.am_machine.specs.declared.event.Event.TheVariants as events
-use Rattle.am_machine.specs.declared.answer.Answer.{Answer}
 use Rattle.am_machine.specs.State.{State}
-use Rattle.am_machine.specs.Machine.{Step, outcome_of}
-use Rattle.am_machine.specs.Invariant.Attachments.{AreGiven}
-use Rattle.am_machine.specs.Invariant.Books.{IsServed}
 use Rattle.am_machine.proofs.Attachments.Held.{held_others}
 use Rattle.am_machine.proofs.Attachments.Acts.{attach_given}
 use Rattle.am_machine.proofs.Attachments.Grows.{attach_other, pipe_grows, attached_grows, timeout_grows}
@@ -39,7 +23,7 @@ use Rattle.am_machine.proofs.Tour.Walks as tour
 use Rattle.am_machine.proofs.Tour.Walks.{AnyPath}
 use Rattle.am_machine.proofs.Tour.Events as tours
 use Rattle.am_machine.proofs.Tour.Events.{AnyJob, IsKnown, with_half, going, any_event}
-use Rattle.am_progress.specs.Others.{is_act_of, JobsStay, ends, ServesOn, ServiceLasts}
+use Rattle.am_progress.specs.{is_act_of, JobsStay, ends, ServesOn, ServiceLasts}
 use Rattle.am_progress.proofs.Found.{live_of}
 use Rattle.am_progress.proofs.Worlds.{IsWorld, after_runs}
 
@@ -49,25 +33,25 @@ use Rattle.am_progress.proofs.Worlds.{IsWorld, after_runs}
 abbrev HasStill : KernelState → List Obs → KernelState → Type 0
 HasStill k shown made = (fs : ℕ) → (attach_of made fs ≡ attach_of k fs) ⊎ (list_any (ends fs) shown ≡ true)
 
-closed_if : (k : KernelState) (closes fs : ℕ) (rest : Bool) (b : Bool) → (closes == fs) ≡ b → (attach_of (closed closes k) fs ≡ attach_of k fs) ⊎ (((closes == fs) || rest) ≡ true)
+closed_if : (k : KernelState) (closes fs : ℕ) (rest : Bool) (b : Bool) → (closes == fs) ≡ b → (attach_of (made_catatonic closes k) fs ≡ attach_of k fs) ⊎ (((closes == fs) || rest) ≡ true)
 closed_if k closes fs rest true e = inr (or_left (closes == fs) rest e)
 closed_if k closes fs rest false e = inl (attach_other k closes fs (differ_the_other_way closes fs e))
 
-closed_still : (k : KernelState) (closes : ℕ) → HasStill k (closing closes k) (closed closes k)
+closed_still : (k : KernelState) (closes : ℕ) → HasStill k (catatonic_observations closes k) (made_catatonic closes k)
 closed_still k closes fs = closed_if k closes fs _ (closes == fs) refl
 
-freed_same : (kind : TokenKind) (wait : WaitRow) (moment : ℕ) (k : KernelState) (fs : ℕ) → attach_of (freed_from kind wait moment k) fs ≡ attach_of k fs
+freed_same : (kind : TokenKind) (wait : WaitRow) (moment : ℕ) (k : KernelState) (fs : ℕ) → attach_of (wait_collected_from kind wait moment k) fs ≡ attach_of k fs
 freed_same Missing wait moment k fs = refl
 freed_same Expire wait moment k fs = refl
 
 walks : tour.Keeps AnyPath HasStill
 walks = record {
   nothing = λ k fs. inl refl;
-  arrived = λ k begin at passed w fs. inl refl;
-  joined = λ k begin token passed w fs. inl refl;
-  notified = λ k begin trigger attach passed w is fs. inl refl;
+  arrived = λ k attempt at passed w fs. inl refl;
+  joined = λ k attempt token passed w fs. inl refl;
+  notified = λ k attempt trigger attach passed w is fs. inl refl;
   expiring = λ k walker fs moment immediate trigger attach x other. inl refl;
-  closed = λ k fs. closed_still k fs;
+  made_catatonic = λ k fs. closed_still k fs;
   collected = λ k kind wait status moment shown made g later fs. ⊎_elim (λ e. inl (e ∙ freed_same kind wait moment k fs)) (λ ended. inr ended) (later fs);
 }
 
@@ -80,7 +64,7 @@ ServesStill s shown t = (fs attach : ℕ) → IsServed s.kernel s.daemon fs atta
 -- a job has still what it has left, unless it may be the one that acts; and so has the daemon what it serves
 record Leaves (Acts : ℕ → Type 0) (s : State) (shown : List Obs) (t : State) : Type 0 where
   jobs : (number : ℕ) (row : JobPlan) → ((job : ℕ) → Acts job → (job == number) ≡ false) → job_of s.daemon.jobs number ≡ Some row → job_of t.daemon.jobs number ≡ Some row
-  serves : AreGiven s.kernel s.daemon → ServesStill s shown t
+  serves : NumbersAreAllocated s.kernel s.daemon → ServesStill s shown t
 
 kernel_changes : (Acts : ℕ → Type 0) (s : State) (shown : List Obs) (k : KernelState) → HasStill s.kernel shown k → Leaves Acts s shown (with_half k s)
 kernel_changes Acts s shown k h = record {
@@ -131,7 +115,7 @@ changes Acts = record {
   walks = walks;
   walked = λ s shown k moment h. kernel_changes Acts s shown (with_latest moment k) h;
   left = λ s walker mount is. quietly Acts s _ _ refl (λ fs. refl);
-  closed = λ s fs. kernel_changes Acts s _ _ (closed_still s.kernel fs);
+  made_catatonic = λ s fs. kernel_changes Acts s _ _ (closed_still s.kernel fs);
   timed = λ s fs timeout. record {
     jobs = λ number row other is. is;
     serves = λ g other attach served.
@@ -177,7 +161,7 @@ outcome_jobs s event number row differs is =
     let acts = IsOther number in
     (tours.outcome AnyPath acts HasStill (Leaves acts) (changes acts) s event (other_acts number s event differs)).well.jobs number row (λ job other. other) is
 
-outcome_serves : (s : State) (event : Event) → AreGiven s.kernel s.daemon → ServesStill s (outcome_of s event).seen (outcome_of s event).state
+outcome_serves : (s : State) (event : Event) → NumbersAreAllocated s.kernel s.daemon → ServesStill s (outcome_of s event).seen (outcome_of s event).state
 outcome_serves s event g = (tours.outcome AnyPath AnyJob HasStill (Leaves AnyJob) (changes AnyJob) s event (any_event s event)).well.serves g
 
 -- ---- every step

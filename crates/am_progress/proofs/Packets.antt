@@ -6,19 +6,15 @@ use Rattle.std.specs.List.{list_any}
 use Rattle.std.proofs.lemmas.Slice.Eq.{bytes_eq-Decides}
 use Rattle.am_names.specs.declared.errno.Errno.TheVariants.{Stranger}
 use Rattle.am_names.proofs.Basics.{and_of_both, equal_to_itself, some_injective}
-use Rattle.am_state.specs.declared.daemon_row.HeldRow.{HeldRow}
-use Rattle.am_state.specs.declared.kernel_row.QueuedRow.{QueuedRow}
-use Rattle.am_kernel.specs.Sites.{attach_of}
-use Rattle.am_kernel.specs.Requests.{queued_of}
-use Rattle.am_daemon.specs.State.{DaemonState}
-use Rattle.am_daemon.specs.Attachments.{attach_held, holds}
+use Rattle.am_state.specs.{HeldRow, QueuedRow}
+use Rattle.am_kernel.specs.{attach_of, queued_of}
+use Rattle.am_daemon.specs.{DaemonState, attach_held, holds}
 use Rattle.am_machine.specs.State.{State}
-use Rattle.am_machine.specs.Outcome.{refused}
-use Rattle.am_machine.specs.Events.Deliveries.{packet_bytes, has_bytes, takes, delivered_at, deliver_outcome}
+use Rattle.am_machine.specs.{refused, packet_bytes, has_bytes, takes, delivered_at, deliver_outcome}
 use Rattle.am_machine.proofs.Tokens.Catatonic.{dev_of}
 use Rattle.am_machine.proofs.Agreement.Tokens.{in_pipe, queued_number}
 use Rattle.am_machine.proofs.InStep.States.{in_step, refuses_in_step}
-use Rattle.am_progress.specs.Packets.{PacketsCanBeTaken, QueuedPacketsCanBeDelivered}
+use Rattle.am_progress.specs.{PacketsCanBeTaken, QueuedPacketsCanBeDelivered}
 use Rattle.am_progress.proofs.Worlds.{IsWorld, after_runs}
 
 -- ---- what the daemon holds of a file system it holds

@@ -5,26 +5,18 @@ use Rattle.std.specs.List.{All}
 use Rattle.std.proofs.lemmas.List.Elements.{All-nil, All-cons, All-head, All-tail, All-push}
 use Rattle.am_names.specs.declared.fail_no.FailNo.TheVariants.{ENOENT}
 use Rattle.am_names.specs.declared.trigger.Trigger.{Trigger}
-use Rattle.am_names.specs.declared.trigger.Status.{Status}
+use Rattle.am_names.specs.{Status, TokenKind}
 use Rattle.am_names.specs.declared.trigger.Status.TheVariants.{Ready, Fail}
-use Rattle.am_names.specs.declared.row.TokenKind.{TokenKind}
 use Rattle.am_names.specs.declared.row.TokenKind.TheVariants.{Missing, Expire}
 use Rattle.am_map.specs.EntryText.{EntryText}
-use Rattle.am_wire.specs.declared.packet.Packet.{Packet}
-use Rattle.am_wire.specs.Kind.{token_kind}
-use Rattle.am_state.specs.declared.daemon_row.Record.{Record}
+use Rattle.am_wire.specs.{Packet, token_kind}
+use Rattle.am_state.specs.{Record}
 use Rattle.am_state.specs.declared.daemon_row.Record.TheVariants.{Mounted}
-use Rattle.am_job.specs.declared.act.Act.{Act}
+use Rattle.am_job.specs.{Act, Outcome, Plan, Ended, Next, next_of, rest_of, reply, book_and_reply, at_directory, after_mount, without_mount, rest_of_mount, mount_entry, after_failed_umount, rest_of_umount, unmounting, plan_for}
 use Rattle.am_job.specs.declared.act.Act.TheVariants as act
-use Rattle.am_job.specs.declared.act.Outcome.{Outcome}
 use Rattle.am_job.specs.declared.act.Outcome.TheVariants.{Done, Made, Failed}
-use Rattle.am_job.specs.Plans.{Plan, Ended, Next, next_of, rest_of, reply, book_and_reply, at_directory, after_mount, without_mount, rest_of_mount, mount_entry, after_failed_umount, rest_of_umount, unmounting, plan_for}
-use Rattle.am_daemon.specs.State.{DaemonState, JobPlan}
-use Rattle.am_daemon.specs.Acts.{walked, is_ended, going, finished_in}
-use Rattle.am_daemon.specs.Deliveries.{job_for}
-use Rattle.am_daemon.specs.Packets.{trigger_of, mounted_for, plan_of_packet}
-use Rattle.am_daemon.specs.Points.{entry_of}
-use Rattle.am_progress.specs.Acts.{HasActs, most_acts, HasFewActs}
+use Rattle.am_daemon.specs.{DaemonState, JobPlan, walked, is_ended, going, finished_in, job_for, trigger_of, mounted_for, plan_of_packet, entry_of}
+use Rattle.am_progress.specs.{HasActs, most_acts, HasFewActs}
 
 -- ---- whose acts they are
 

@@ -2,40 +2,26 @@
 use Rattle.std.proofs.Common.{◌≡◌, ℕ, zero, suc, Bool, true, false, cond, List, [], ◌∷◌, map, Some, None, refl, sym, ap, subst, inl, inr, ⊎_elim, ◌∙◌, Option}
 use Rattle.std.specs.Prelude.{◌==◌, if◌then◌else◌}
 use Rattle.am_names.specs.declared.fail_no.FailNo.{FailNo}
-use Rattle.am_names.specs.declared.trigger.Status.{Status}
-use Rattle.am_names.specs.declared.row.OpenToken.{OpenToken}
-use Rattle.am_names.specs.declared.row.WaitRow.{WaitRow}
+use Rattle.am_names.specs.{Status, OpenToken, WaitRow}
 use Rattle.am_names.proofs.Basics.{equal_to_itself, some_injective, value_where_some}
-use Rattle.am_wait.specs.Rows.{WaitRows, token_of, wait_of}
-use Rattle.am_wait.specs.Calls.{answered, released_row}
+use Rattle.am_wait.specs.{WaitRows, token_of, wait_of, answered, released_row}
 use Rattle.am_wait.proofs.FindLemmas.{token_taken}
-use Rattle.am_state.specs.declared.kernel_row.QueuedRow.{QueuedRow}
-use Rattle.am_kernel.specs.Sites.{attach_of}
-use Rattle.am_kernel.specs.Requests.{queued_of}
-use Rattle.am_job.specs.declared.act.Act.{Act}
+use Rattle.am_state.specs.{QueuedRow}
+use Rattle.am_kernel.specs.{attach_of, queued_of}
+use Rattle.am_job.specs.{Act, Plan, Ended, Next, next_of, rest_of, AcknowledgesLast}
 use Rattle.am_job.specs.declared.act.Act.TheVariants as act
 use Rattle.am_job.specs.declared.act.Outcome as outcomes
-use Rattle.am_job.specs.Plans.{Plan, Ended, Next, next_of, rest_of}
-use Rattle.am_job.specs.Laws.{AcknowledgesLast}
-use Rattle.am_daemon.specs.State.{JobPlan}
-use Rattle.am_daemon.specs.Acts.{walked}
-use Rattle.am_daemon.specs.Deliveries.{job_of, job_for}
+use Rattle.am_daemon.specs.{JobPlan, walked, job_of, job_for}
 use Rattle.am_machine.specs.declared.event.Event.TheVariants as events
-use Rattle.am_machine.specs.declared.answer.Answer.{Answer}
+use Rattle.am_machine.specs.{Answer, after, outcome_of, IsAtWork, IsServed}
 use Rattle.am_machine.specs.State.{State}
-use Rattle.am_machine.specs.Outcome.{Outcome}
-use Rattle.am_machine.specs.Machine.{after, outcome_of}
-use Rattle.am_machine.specs.Invariant.Tokens.{IsAtWork}
-use Rattle.am_machine.specs.Invariant.Books.{IsServed}
+use Rattle.am_machine.specs.EventOutcome.{EventOutcome}
 use Rattle.am_machine.proofs.Lists.Different.{all_found}
 use Rattle.am_machine.proofs.Tokens.Catatonic.{token_number, dev_of}
 use Rattle.am_machine.proofs.Planned.Acts.{acknowledges, goes_after}
 use Rattle.am_machine.proofs.Lists.Found.{find_new}
 use Rattle.am_machine.proofs.Agreement.Tokens.{in_pipe, queued_number}
-use Rattle.am_progress.specs.Runs.{IsDone, is_refused, next}
-use Rattle.am_progress.specs.Acts.{TellsOf, HasActs, most_acts, goes_on_as}
-use Rattle.am_progress.specs.Ways.{LeadsTo, CanReach}
-use Rattle.am_progress.specs.Tokens.{HasReleased, TokensCanClose, OpenTokensCanBeClosed}
+use Rattle.am_progress.specs.{IsDone, is_refused, next, TellsOf, HasActs, most_acts, goes_on_as, LeadsTo, CanReach, HasReleased, TokensCanClose, OpenTokensCanBeClosed}
 use Rattle.am_progress.proofs.Plans.{IsOfPlan, packet_plan}
 use Rattle.am_progress.proofs.Packets.{taken}
 use Rattle.am_progress.proofs.Jobs.{Acting, its_plan, job_number}
@@ -74,24 +60,24 @@ module _ (s : State) (fs attach token : ℕ) (row : JobPlan) (w : WaitRows) (h :
   its_act = does s token row failure a (served_acts s fs attach token row w h) e
 
   pub act_done : IsDone s (events.Act token failure)
-  act_done = ap (λ (o : Outcome). is_refused o.answer) its_act.is ∙ told_done a its_act.came its_act.answer its_act.told
+  act_done = ap (λ (o : EventOutcome). is_refused o.answer) its_act.is ∙ told_done a its_act.came its_act.answer its_act.told
 
   pub act_world : IsWorld (next s (events.Act token failure))
   act_world = next_world s (events.Act token failure) tt h.world
 
   pub act_served : IsServed (next s (events.Act token failure)).kernel (next s (events.Act token failure)).daemon fs attach
   act_served =
-      subst (λ (o : Outcome). IsServed (after s o).kernel (after s o).daemon fs attach) (sym its_act.is)
+      subst (λ (o : EventOutcome). IsServed (after s o).kernel (after s o).daemon fs attach) (sym its_act.is)
       (record { current = its_act.attaches fs ∙ h.served.current; held = h.served.held })
 
   pub act_waits : (next s (events.Act token failure)).kernel.waits ≡ waits_after a token w
   act_waits =
-      subst (λ (o : Outcome). (after s o).kernel.waits ≡ waits_after a token w) (sym its_act.is)
+      subst (λ (o : EventOutcome). (after s o).kernel.waits ≡ waits_after a token w) (sym its_act.is)
       (its_act.waits ∙ ap (λ (n : ℕ). waits_after a n s.kernel.waits) (job_number s token row (served_acts s fs attach token row w h)) ∙ ap (waits_after a token) h.waits)
 
   pub act_left : job_of (next s (events.Act token failure)).daemon.jobs token ≡ goes_on_as its_act.came row
   act_left =
-      subst (λ (o : Outcome). job_of (after s o).daemon.jobs token ≡ goes_on_as its_act.came row) (sym its_act.is)
+      subst (λ (o : EventOutcome). job_of (after s o).daemon.jobs token ≡ goes_on_as its_act.came row) (sym its_act.is)
       (goes_left s token row its_act.came (served_acts s fs attach token row w h))
 
   -- where it isn't the reply the job goes on
@@ -207,16 +193,16 @@ takes_packet s world fs attach served token row is same queued in_queue =
     let job = job_for queued.attach queued.packet s.daemon in
     let its : (job.token == token) ≡ true = subst (λ (n : ℕ). (queued.packet.token == n) ≡ true) t.numbered (equal_to_itself queued.packet.token) in
     record {
-      done = ap (λ (o : Outcome). is_refused o.answer) t.alone;
+      done = ap (λ (o : EventOutcome). is_refused o.answer) t.alone;
       job = job;
       served = record {
         world = next_world s event tt world;
-        served = subst (λ (o : Outcome). IsServed (after s o).kernel (after s o).daemon fs attach) (sym t.alone) (record { current = served.current; held = served.held });
-        is_job = subst (λ (o : Outcome). job_of (after s o).daemon.jobs token ≡ Some job) (sym t.alone)
+        served = subst (λ (o : EventOutcome). IsServed (after s o).kernel (after s o).daemon fs attach) (sym t.alone) (record { current = served.current; held = served.held });
+        is_job = subst (λ (o : EventOutcome). job_of (after s o).daemon.jobs token ≡ Some job) (sym t.alone)
             (find_new (λ (r : JobPlan). r.token == token) s.daemon.jobs job (ap (job_of s.daemon.jobs) (sym number) ∙ pipe.untaken) its);
         fs_is = dev;
         attach_is = own;
-        waits = subst (λ (o : Outcome). (after s o).kernel.waits ≡ s.kernel.waits) (sym t.alone) refl;
+        waits = subst (λ (o : EventOutcome). (after s o).kernel.waits ≡ s.kernel.waits) (sym t.alone) refl;
       };
       few = packet_plan s.daemon queued.packet;
     }

@@ -4,29 +4,21 @@ use Rattle.std.specs.Prelude.{◌==◌, ◌&&◌, is_some, is_none, find, if◌t
 use Rattle.std.specs.Option.{option_map, option_and_then}
 use Rattle.std.specs.List.{All}
 use Rattle.std.proofs.lemmas.List.Elements.{All-head, All-tail, All-weaker}
-use Rattle.am_names.specs.Trigger.{same_trigger}
+use Rattle.am_names.specs.{same_trigger, MountRow, OpenToken, TokenKind}
 use Rattle.am_names.specs.declared.trigger.Trigger.{Trigger}
-use Rattle.am_names.specs.declared.row.MountRow.{MountRow}
-use Rattle.am_names.specs.declared.row.OpenToken.{OpenToken}
-use Rattle.am_names.specs.declared.row.TokenKind.{TokenKind}
 use Rattle.am_names.specs.declared.row.TokenKind.TheVariants.{Missing, Expire}
 use Rattle.am_names.proofs.Basics.{equal_by_test, found_passes, false_unless_true, and_where_left_is_false}
-use Rattle.am_mount.specs.Rows.{top_of}
-use Rattle.am_trigger.specs.declared.failures.Failure.{Failure}
-use Rattle.am_trigger.specs.Failures.{FailureRows, failure_of, without_failure, error_while}
-use Rattle.am_trigger.specs.declared.autofs.Autofs.{Autofs}
-use Rattle.am_trigger.specs.Rows.{autofs_of}
-use Rattle.am_trigger.specs.Sites.{trigger_in, place_named, place_of}
-use Rattle.am_wait.specs.Rows.{open_on, is_open_on, same_kind}
+use Rattle.am_mount.specs.{top_of}
+use Rattle.am_trigger.specs.{Failure, FailureRows, failure_of, without_failure, error_while, Autofs, autofs_of, trigger_in, place_named, place_of}
+use Rattle.am_wait.specs.{open_on, is_open_on, same_kind}
 use Rattle.am_walk.specs.declared.stop.Next.TheVariants as nexts
 use Rattle.am_walk.specs.declared.stop.Stop.TheVariants as stops
-use Rattle.am_walk.specs.Meet.{at_trap, at_autofs, at_site, next_at}
-use Rattle.am_walk.specs.Scene.{Scene, autofs_at}
-use Rattle.am_kernel.specs.Sites.{is_live_row, attach_of, scene_of, is_trigger_of}
-use Rattle.am_kernel.specs.DaemonMounts.{location_in, location_of, mounted_on}
+use Rattle.am_walk.specs.{at_trap, at_autofs, at_site, next_at, autofs_at}
+use Rattle.am_walk.specs.Scene.{Scene}
+use Rattle.am_kernel.specs.{is_live_row, attach_of, scene_of, is_trigger_of, location_in, location_of, mounted_on}
 use Rattle.am_machine.specs.State.{State}
-use Rattle.am_machine.proofs.Stands.Unchanged.{attached_autofs}
-use Rattle.am_machine.proofs.Stands.Mounts.{trigger_same}
+use Rattle.am_machine.proofs.TriggerMounts.Unchanged.{attached_autofs}
+use Rattle.am_machine.proofs.TriggerMounts.Mounts.{trigger_same}
 use Rattle.am_machine.proofs.Lists.Found.{some_unless}
 use Rattle.am_progress.proofs.Found.{live_of}
 use Rattle.am_progress.proofs.Triggers.Walks.{IsSite}

@@ -5,43 +5,29 @@ use Rattle.am_names.specs.declared.fail_no.FailNo.TheVariants.{ENOENT}
 use Rattle.am_names.specs.declared.errno.Errno.{Errno}
 use Rattle.am_names.specs.declared.errno.Errno.TheVariants.{EINVAL, ELOOP}
 use Rattle.am_names.specs.declared.trigger.Trigger.{Trigger}
-use Rattle.am_names.specs.declared.trigger.Status.{Status}
+use Rattle.am_names.specs.{Status, PipeState, OpenToken, WaitRow, TokenKind}
 use Rattle.am_names.specs.declared.trigger.Status.TheVariants.{Ready, Fail}
-use Rattle.am_names.specs.declared.trigger.PipeState.{PipeState}
-use Rattle.am_names.specs.declared.row.OpenToken.{OpenToken}
-use Rattle.am_names.specs.declared.row.WaitRow.{WaitRow}
-use Rattle.am_names.specs.declared.row.TokenKind.{TokenKind}
 use Rattle.am_names.specs.declared.row.TokenKind.TheVariants.{Missing, Expire}
 use Rattle.am_names.proofs.Basics.{equal_to_itself, equal_by_test, value_where_some, found_passes}
-use Rattle.am_trigger.specs.declared.autofs.Autofs.{Autofs}
-use Rattle.am_wait.specs.Rows.{token_of, wait_of}
-use Rattle.am_wait.specs.Calls.{failed_row}
-use Rattle.am_expire.specs.Uses.{mount_of}
-use Rattle.am_walk.specs.Walks.{walk_of}
-use Rattle.am_kernel.specs.State.{KernelState}
-use Rattle.am_kernel.specs.declared.begun.Begun.{Begun}
-use Rattle.am_kernel.specs.declared.begun.Begun.TheVariants as begun
-use Rattle.am_kernel.specs.declared.row.WalkRow.{WalkRow}
-use Rattle.am_kernel.specs.Outcome as kernel
-use Rattle.am_kernel.specs.Outcome.{moment_of}
-use Rattle.am_kernel.specs.Sites.{is_live, attach_of, scene_of}
-use Rattle.am_kernel.specs.Requests.{queued_of}
-use Rattle.am_kernel.specs.Catatonic.{admin_catatonic_refusal, closing, closed, closed_if_live, closing_if_live}
+use Rattle.am_trigger.specs.{Autofs}
+use Rattle.am_wait.specs.{token_of, wait_of, failed_row}
+use Rattle.am_expire.specs.{mount_of_walker}
+use Rattle.am_walk.specs.{walk_of}
+use Rattle.am_kernel.specs.{KernelState, Progress, WalkRow, moment_of, is_live, attach_of, scene_of, queued_of, admin_catatonic_refusal, catatonic_observations, made_catatonic, made_catatonic_if_live, catatonic_observations_if_live}
+use Rattle.am_kernel.specs.declared.progress.Progress.TheVariants as progress
+use Rattle.am_kernel.specs.CallOutcome as kernel
 use Rattle.am_kernel.specs.Walks as walks
 use Rattle.am_kernel.specs.Resumes as resumes
 use Rattle.am_machine.specs.declared.event.Event.TheVariants as events
 use Rattle.am_machine.specs.declared.answer.Answer.TheVariants as answers
 use Rattle.am_machine.specs.State.{State}
-use Rattle.am_machine.specs.Outcome.{Outcome, unless, with_kernel}
-use Rattle.am_machine.specs.Machine.{after, outcome_of}
-use Rattle.am_machine.specs.Events.Walkers.{answer_of, goes}
+use Rattle.am_machine.specs.EventOutcome.{EventOutcome}
+use Rattle.am_machine.specs.{unless, with_kernel, after, outcome_of, answer_of, goes}
 use Rattle.am_machine.proofs.Lists.Different.{all_found}
-use Rattle.am_machine.proofs.Stands.Unchanged.{attached_autofs}
+use Rattle.am_machine.proofs.TriggerMounts.Unchanged.{attached_autofs}
 use Rattle.am_machine.proofs.Agreement.Tokens.{in_pipe, queued_number}
 use Rattle.am_machine.proofs.InStep.States.{in_step}
-use Rattle.am_progress.specs.Runs.{is_refused, next}
-use Rattle.am_progress.specs.Acts.{most_acts}
-use Rattle.am_progress.specs.Walkers.{CanResume, CanBeBroughtOn, WalkersCanGoOn, WaitingWalkersCanGoOn}
+use Rattle.am_progress.specs.{is_refused, next, most_acts, CanResume, CanBeBroughtOn, WalkersCanGoOn, WaitingWalkersCanGoOn}
 use Rattle.am_progress.proofs.Found.{live_of}
 use Rattle.am_progress.proofs.Ways.{reaches_on}
 use Rattle.am_progress.proofs.Tokens.{Answers, can_answer}
@@ -49,52 +35,52 @@ use Rattle.am_progress.proofs.Worlds.{IsWorld, next_world, after_runs}
 
 -- ---- a walker that was released goes on
 
-abbrev Goes : kernel.Outcome → Type 0
-Goes (kernel.Goes begun shown made) = ⊤
+abbrev Goes : kernel.CallOutcome → Type 0
+Goes (kernel.Proceeds progress shown made) = ⊤
 Goes (kernel.Fails e) = ⊥
 
-told_goes : (begun : Begun) → is_refused (answer_of begun) ≡ false
-told_goes (begun.Arrived at) = refl
-told_goes (begun.Waits token) = refl
-told_goes (begun.Failed e) = refl
-told_goes begun.Expired = refl
+told_goes : (progress : Progress) → is_refused (answer_of progress) ≡ false
+told_goes (progress.Arrived at) = refl
+told_goes (progress.Waits token) = refl
+told_goes (progress.Failed e) = refl
+told_goes progress.Expired = refl
 
-goes_done : (o : kernel.Outcome) (s : State) (moment : ℕ) → Goes o → is_refused (goes (kernel.at_moment moment o) s).answer ≡ false
-goes_done (kernel.Goes begun shown made) s moment h = told_goes begun
+goes_done : (o : kernel.CallOutcome) (s : State) (moment : ℕ) → Goes o → is_refused (goes (kernel.at_moment moment o) s).answer ≡ false
+goes_done (kernel.Proceeds progress shown made) s moment h = told_goes progress
 goes_done (kernel.Fails e) s moment h = absurd h
 
-or_failed : (o : kernel.Outcome) (k : KernelState) → Goes (resumes.or_failed o k)
-or_failed (kernel.Goes begun shown made) k = tt
+or_failed : (o : kernel.CallOutcome) (k : KernelState) → Goes (resumes.or_failed o k)
+or_failed (kernel.Proceeds progress shown made) k = tt
 or_failed (kernel.Fails e) k = tt
 
-either_goes : (b : Bool) (first second : kernel.Outcome) → Goes first → Goes second → Goes (if b then first else second)
+either_goes : (b : Bool) (first second : kernel.CallOutcome) → Goes first → Goes second → Goes (if b then first else second)
 either_goes true first second h g = h
 either_goes false first second h g = g
 
-again : (pipe : PipeState) (k base : KernelState) (row : WalkRow) (moment : ℕ) → Goes (resumes.again pipe k base row moment)
+again : (pipe : PipeState) (k base : KernelState) (row : WalkRow) (moment : ℕ) → Goes (resumes.retry pipe k base row moment)
 again pipe k base row moment =
-    either_goes (nat_le resumes.most_begins row.begins) (resumes.failed ELOOP base) _ tt
-    (or_failed (walks.begun_with (walk_of (scene_of k moment) row.ns row.path) pipe base (resumes.next_begin row moment)) base)
+    either_goes (nat_le resumes.max_attempts row.attempts) (resumes.failed ELOOP base) _ tt
+    (or_failed (walks.attempted_with (walk_of (scene_of k moment) row.ns row.path) pipe base (resumes.next_attempt row moment)) base)
 
 resumed_as : (kind : TokenKind) (status : Status) (pipe : PipeState) (k : KernelState) (wait : WaitRow) (row : WalkRow) (moment : ℕ) → Goes (resumes.resumed_as kind status pipe k wait row moment)
 resumed_as Missing (Fail error) pipe k wait row moment = tt
-resumed_as Missing Ready pipe k wait row moment = again pipe k (resumes.freed_from Missing wait moment k) row moment
-resumed_as Expire status pipe k wait row moment = again pipe k (resumes.freed_from Expire wait moment k) row moment
+resumed_as Missing Ready pipe k wait row moment = again pipe k (resumes.wait_collected_from Missing wait moment k) row moment
+resumed_as Expire status pipe k wait row moment = again pipe k (resumes.wait_collected_from Expire wait moment k) row moment
 
 expired_as : (status : Status) (k : KernelState) → Goes (resumes.expired_as status k)
 expired_as Ready k = tt
 expired_as (Fail error) k = tt
 
 -- who has no walk asked for an expiry
-told_as : (kind : TokenKind) (status : Status) (k : KernelState) (wait : WaitRow) (moment : ℕ) → (kind ≡ Missing → ⊥) → Goes (resumes.told_as kind status k wait moment)
-told_as Missing status k wait moment asked = absurd (asked refl)
-told_as Expire status k wait moment asked = expired_as status (resumes.freed_from Expire wait moment k)
+expiry_finished_as : (kind : TokenKind) (status : Status) (k : KernelState) (wait : WaitRow) (moment : ℕ) → (kind ≡ Missing → ⊥) → Goes (resumes.expiry_finished_as kind status k wait moment)
+expiry_finished_as Missing status k wait moment asked = absurd (asked refl)
+expiry_finished_as Expire status k wait moment asked = expired_as status (resumes.wait_collected_from Expire wait moment k)
 
 resumed_walk : (row : Option WalkRow) (status : Status) (pipe : PipeState) (k : KernelState) (wait : WaitRow) (moment : ℕ) → (wait.kind ≡ Missing → is_some row ≡ true) → Goes (resumes.resumed_walk row status pipe k wait moment)
-resumed_walk None status pipe k wait moment walks = told_as wait.kind status k wait moment (λ missing. let no : false ≡ true = walks missing in cc)
+resumed_walk None status pipe k wait moment walks = expiry_finished_as wait.kind status k wait moment (λ missing. let no : false ≡ true = walks missing in cc)
 resumed_walk (Some row) status pipe k wait moment walks = resumed_as wait.kind status pipe k wait row moment
 
-resumes_by_cases : (pipe : PipeState) (k : KernelState) (walker moment : ℕ) (row : WaitRow) (status : Status) → mount_of k.uses walker ≡ None → wait_of k.waits.waits walker ≡ Some row → row.status ≡ Some status → (row.kind ≡ Missing → is_some (resumes.walk_in k.walks row.walker) ≡ true) → Goes (resumes.resume_at pipe k walker moment)
+resumes_by_cases : (pipe : PipeState) (k : KernelState) (walker moment : ℕ) (row : WaitRow) (status : Status) → mount_of_walker k.uses walker ≡ None → wait_of k.waits.waits walker ≡ Some row → row.status ≡ Some status → (row.kind ≡ Missing → is_some (resumes.walk_in k.walks row.walker) ≡ true) → Goes (resumes.resume_at pipe k walker moment)
 resumes_by_cases pipe k walker moment row status out is its walks =
     let same : resumes.resume_at pipe k walker moment ≡ resumes.resumed_walk (resumes.walk_in k.walks row.walker) status pipe k row moment =
     ap (λ (o : Option ℕ). if is_some o then kernel.Fails EINVAL else resumes.resumed_at (wait_of k.waits.waits walker) pipe k moment) out
@@ -109,9 +95,9 @@ wait_number w walker row is = equal_by_test row.walker walker (found_passes (λ 
 pub resumes_on : (s : State) → IsWorld s → (walker : ℕ) (row : WaitRow) (status : Status) → wait_of s.kernel.waits.waits walker ≡ Some row → row.status ≡ Some status → CanResume walker s
 resumes_on s world walker row status is its now pipe =
     let k = s.kernel in
-    let out : mount_of k.uses walker ≡ None =
-    subst (λ (n : ℕ). mount_of k.uses n ≡ None) (wait_number k.waits.waits walker row is)
-    (all_found (λ (r : WaitRow). mount_of k.uses r.walker ≡ None) (λ (r : WaitRow). r.walker == walker) k.waits.waits row world.holds.kernel.outside is) in
+    let out : mount_of_walker k.uses walker ≡ None =
+    subst (λ (n : ℕ). mount_of_walker k.uses n ≡ None) (wait_number k.waits.waits walker row is)
+    (all_found (λ (r : WaitRow). mount_of_walker k.uses r.walker ≡ None) (λ (r : WaitRow). r.walker == walker) k.waits.waits row world.holds.kernel.outside is) in
     goes_done (resumes.resume_at pipe k walker (moment_of s.kernel now)) s (moment_of s.kernel now)
     (resumes_by_cases pipe k walker (moment_of s.kernel now) row status out is its ((in_step s world.consistent world.named).walks walker row is))
 
@@ -158,12 +144,12 @@ is_autofs : (k : KernelState) (fs attach : ℕ) → attach_of k fs ≡ Some atta
 is_autofs k fs attach e = ap (λ (o : Option Autofs). if is_some o then None else Some EINVAL) (attached_autofs k fs attach e).1
 
 -- all that wait on the file system are released
-catatonic_is : (s : State) (fs attach : ℕ) → attach_of s.kernel fs ≡ Some attach → outcome_of s (events.AdminCatatonic fs) ≡ with_kernel answers.Done (closing fs s.kernel) (closed fs s.kernel) s
+catatonic_is : (s : State) (fs attach : ℕ) → attach_of s.kernel fs ≡ Some attach → outcome_of s (events.AdminCatatonic fs) ≡ with_kernel answers.Done (catatonic_observations fs s.kernel) (made_catatonic fs s.kernel) s
 catatonic_is s fs attach e =
     let k = s.kernel in
     let live : is_live k fs ≡ true = live_of k fs attach e in
-    ap (λ (o : Option Errno). unless o s (with_kernel answers.Done (closing_if_live fs k) (closed_if_live fs k) s)) (is_autofs k fs attach e)
-    ∙ ap (λ (b : Bool). with_kernel answers.Done (if b then closing fs k else []) (if b then closed fs k else k) s) live
+    ap (λ (o : Option Errno). unless o s (with_kernel answers.Done (catatonic_observations_if_live fs k) (made_catatonic_if_live fs k) s)) (is_autofs k fs attach e)
+    ∙ ap (λ (b : Bool). with_kernel answers.Done (if b then catatonic_observations fs k else []) (if b then made_catatonic fs k else k) s) live
 
 failed_by_cases : (walker fs : ℕ) (x row : WaitRow) (rows : List WaitRow) (b : Bool) → row.trigger.fs ≡ fs → row.status ≡ None →
     (wait_of rows walker ≡ Some row → wait_of (map (failed_row fs) rows) walker ≡ Some (record row { status = Some (Fail ENOENT) })) →
@@ -197,10 +183,10 @@ brought_on s world walker row is still =
       by_daemon = λ attach served.
           reaches_on most_acts row.token (Answers s row.token) (CanResume row.walker) (answered_resumes s walker row is still) s
           (can_answer s world fs attach served row.token w.token w.is_open w.fs);
-      is_catatonic = ap (λ (o : Outcome). is_refused o.answer) does;
+      is_catatonic = ap (λ (o : EventOutcome). is_refused o.answer) does;
       by_administrator =
           resumes_on (next s event) (next_world s event tt world) row.walker (record row { status = Some (Fail ENOENT) }) (Fail ENOENT)
-          (subst (λ (o : Outcome). wait_of (after s o).kernel.waits.waits row.walker ≡ Some (record row { status = Some (Fail ENOENT) })) (sym does) (failed_is row.walker fs s.kernel.waits.waits row own refl still)) refl;
+          (subst (λ (o : EventOutcome). wait_of (after s o).kernel.waits.waits row.walker ≡ Some (record row { status = Some (Fail ENOENT) })) (sym does) (failed_is row.walker fs s.kernel.waits.waits row own refl still)) refl;
     }
 
 status_by_cases : (P : Type 0) (o : Option Status) → (o ≡ None → ⊥) → ((status : Status) → o ≡ Some status → P) → P

@@ -2,8 +2,7 @@
 use Rattle.std.proofs.Common.{ℕ, zero, suc, None, inl, inr}
 use Rattle.am_machine.specs.declared.event.Event.TheVariants as events
 use Rattle.am_machine.specs.State.{State}
-use Rattle.am_progress.specs.Runs.{next}
-use Rattle.am_progress.specs.Ways.{LeadsTo, CanReach}
+use Rattle.am_progress.specs.{next, LeadsTo, CanReach}
 
 -- a world that is there already
 pub arrived : (acts job : ℕ) (goal : State → Type 0) (s : State) → goal s → LeadsTo acts job goal s

@@ -1,18 +1,13 @@
 -- All that every world keeps.
 use Rattle.std.proofs.Common.{List, [], ◌∷◌, sym, subst, inl, inr}
 use Rattle.std.proofs.lemmas.List.Elements.{All-nil, All-head, All-tail}
-use Rattle.am_state.specs.declared.obs.Obs.{Obs}
-use Rattle.am_daemon.specs.Attachments.{holds}
-use Rattle.am_machine.specs.declared.event.Event.{Event}
-use Rattle.am_machine.specs.declared.answer.Answer.{Answer}
-use Rattle.am_machine.specs.State.{Opening, State, opening_of}
-use Rattle.am_machine.specs.Machine.{Step, Run}
-use Rattle.am_machine.specs.Paths.{HasPaths, HavePaths}
-use Rattle.am_machine.specs.Invariant.Walks.{WalksFit}
-use Rattle.am_machine.specs.Invariant.Consistent.{IsConsistent}
+use Rattle.am_state.specs.{Obs}
+use Rattle.am_daemon.specs.{holds}
+use Rattle.am_machine.specs.{Event, Answer, Setup, initial_state_of, Step, Run, HasPaths, HavePaths, WalksFit, IsConsistent}
+use Rattle.am_machine.specs.State.{State}
 use Rattle.am_machine.proofs.Consistent.{initial_consistent, outcome_consistent}
 use Rattle.am_machine.proofs.Walks.Runs.{initial_named, outcome_named}
-use Rattle.am_progress.specs.Runs.{AfterEachRun, next}
+use Rattle.am_progress.specs.{AfterEachRun, next}
 use Rattle.am_progress.proofs.Triggers.Changes.{Holds, outcome_holds}
 
 -- all that is known of a world
@@ -21,10 +16,10 @@ pub record IsWorld (s : State) : Type 0 where
   pub named : WalksFit s.kernel
   pub holds : Holds s
 
-initial_holds : (opening : Opening) → Holds (opening_of opening)
+initial_holds : (opening : Setup) → Holds (initial_state_of opening)
 initial_holds opening = record { kernel = record { tokens = All-nil _; waits = All-nil _; used = All-nil _; outside = All-nil _; attaches = tt }; plans = All-nil _ }
 
-pub initial_world : (opening : Opening) → IsWorld (opening_of opening)
+pub initial_world : (opening : Setup) → IsWorld (initial_state_of opening)
 initial_world opening = record { consistent = initial_consistent opening; named = initial_named opening; holds = initial_holds opening }
 
 -- what comes of an event is a world
@@ -51,4 +46,4 @@ run_world old (event ∷ events) [] new run along h = absurd run
 
 -- what holds of each world holds after each run
 pub after_runs : (holds : State → Type 0) → ((s : State) → IsWorld s → holds s) → AfterEachRun holds
-after_runs holds h opening events answers s along run = h s (run_world (opening_of opening) events answers s run along (initial_world opening))
+after_runs holds h opening events answers s along run = h s (run_world (initial_state_of opening) events answers s run along (initial_world opening))

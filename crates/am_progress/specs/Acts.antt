@@ -3,23 +3,17 @@
 -- choice).
 use Rattle.std.specs.Prelude.{◌≡◌, ◌⊎◌, ⊤, ℕ, zero, suc, ◌==◌, Bool, false, All, Option, Some, None, if◌then◌else◌}
 use Rattle.am_names.specs.declared.fail_no.FailNo.{FailNo}
-use Rattle.am_wire.specs.declared.packet.Packet.{Packet}
-use Rattle.am_job.specs.declared.act.Act.{Act}
+use Rattle.am_wire.specs.{Packet}
+use Rattle.am_job.specs.{Act, Plan, Ended, Next, next_of}
 use Rattle.am_job.specs.declared.act.Act.TheVariants as act
 use Rattle.am_job.specs.declared.act.Outcome as outcomes
 use Rattle.am_job.specs.declared.act.Outcome.TheVariants.{Done, Made, Failed}
-use Rattle.am_job.specs.Plans.{Plan, Ended, Next, next_of}
-use Rattle.am_daemon.specs.State.{DaemonState, JobPlan}
-use Rattle.am_daemon.specs.Acts.{walked, is_ended}
-use Rattle.am_daemon.specs.Deliveries.{job_of}
-use Rattle.am_daemon.specs.Packets.{plan_of_packet}
+use Rattle.am_daemon.specs.{DaemonState, JobPlan, walked, is_ended, job_of, plan_of_packet}
 use Rattle.am_machine.specs.declared.event.Event.TheVariants as events
-use Rattle.am_machine.specs.declared.answer.Answer.{Answer}
+use Rattle.am_machine.specs.{Answer, IsServed, outcome_of}
 use Rattle.am_machine.specs.declared.answer.Answer.TheVariants as answers
 use Rattle.am_machine.specs.State.{State}
-use Rattle.am_machine.specs.Outcome.{Outcome}
-use Rattle.am_machine.specs.Invariant.Books.{IsServed}
-use Rattle.am_machine.specs.Machine.{outcome_of}
+use Rattle.am_machine.specs.EventOutcome.{EventOutcome}
 use Rattle.am_progress.specs.Runs.{AfterEachRun}
 
 -- ---- the next act
@@ -44,7 +38,7 @@ goes_on_as came row = if is_ended (walked came row) then None else Some (walked 
 
 -- The job's next act is done or has failed, as the answer tells; the job goes on with what is left
 -- then, or it ends; and each other job is as before.
-pub record IsActed (job : ℕ) (row : JobPlan) (old : DaemonState) (o : Outcome) : Type 0 where
+pub record IsActed (job : ℕ) (row : JobPlan) (old : DaemonState) (o : EventOutcome) : Type 0 where
   pub act : Act
   pub is_next : next_of row.plan ≡ Some act
   pub came : outcomes.Outcome
@@ -84,5 +78,5 @@ HasFewActs row = HasActs most_acts row.plan
 
 -- so many has each plan that a packet gets, and no job ever has more left
 pub record JobsHaveFiveActs : Type 0 where
-  pub begins : (d : DaemonState) (packet : Packet) → HasActs most_acts (plan_of_packet d packet)
+  pub attempts : (d : DaemonState) (packet : Packet) → HasActs most_acts (plan_of_packet d packet)
   pub each : AfterEachRun (λ s. All HasFewActs s.daemon.jobs)

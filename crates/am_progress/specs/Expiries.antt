@@ -1,27 +1,23 @@
 -- What an expiry leaves (autofs.rst, "Mountpoint expiry").
 use Rattle.std.specs.Prelude.{◌≡◌, ◌⊎◌, ℕ, Bool, false, Some, None, Option}
 use Rattle.am_names.specs.declared.fail_no.FailNo.{FailNo}
-use Rattle.am_names.specs.Trigger.{same_trigger}
+use Rattle.am_names.specs.{same_trigger}
 use Rattle.am_names.specs.declared.trigger.Trigger.{Trigger}
 use Rattle.am_state.specs.declared.daemon_row.Record.TheVariants.{Mounted}
-use Rattle.am_trigger.specs.Sites.{place_of}
-use Rattle.am_wait.specs.Rows.{token_of}
+use Rattle.am_trigger.specs.{place_of}
+use Rattle.am_wait.specs.{token_of}
 use Rattle.am_walk.specs.declared.stop.Next.TheVariants as nexts
 use Rattle.am_walk.specs.declared.stop.Stop.TheVariants as stops
-use Rattle.am_walk.specs.Meet.{next_at}
-use Rattle.am_kernel.specs.Sites.{attach_of, scene_of}
-use Rattle.am_kernel.specs.DaemonMounts.{location_of, mounted_on}
-use Rattle.am_job.specs.Book.{record_of}
+use Rattle.am_walk.specs.{next_at}
+use Rattle.am_kernel.specs.{attach_of, scene_of, location_of, mounted_on}
+use Rattle.am_job.specs.{record_of, next_of}
 use Rattle.am_job.specs.declared.act.Act.TheVariants as act
-use Rattle.am_job.specs.Plans.{next_of}
-use Rattle.am_daemon.specs.State.{JobPlan}
-use Rattle.am_daemon.specs.Deliveries.{job_of}
+use Rattle.am_daemon.specs.{JobPlan, job_of}
 use Rattle.am_machine.specs.declared.event.Event.TheVariants as events
 use Rattle.am_machine.specs.declared.answer.Answer.TheVariants as answers
 use Rattle.am_machine.specs.State.{State}
-use Rattle.am_machine.specs.Outcome.{Outcome}
-use Rattle.am_machine.specs.Invariant.Books.{IsServed}
-use Rattle.am_machine.specs.Machine.{after, outcome_of}
+use Rattle.am_machine.specs.EventOutcome.{EventOutcome}
+use Rattle.am_machine.specs.{IsServed, after, outcome_of}
 use Rattle.am_progress.specs.Runs.{AfterEachRun}
 use Rattle.am_progress.specs.Ways.{LeadsTo}
 
@@ -49,7 +45,7 @@ pub record IsTrapAgain (attach token : ℕ) (g : Trigger) (new : State) : Type 0
 
 -- The unmount has failed or come, as its answer tells: by two acts more in the one case, and by
 -- three at most in the other, the job ends so.
-abbrev pub EndsWell : State → ℕ → ℕ → Trigger → ℕ → Outcome → Type 0
+abbrev pub EndsWell : State → ℕ → ℕ → Trigger → ℕ → EventOutcome → Type 0
 EndsWell s attach token g mount o =
     ((o.answer ≡ answers.FailedUmount) × LeadsTo 2 token (IsAsFound s token g mount) (after s o))
     ⊎ ((o.answer ≡ answers.DidUmount) × LeadsTo 3 token (IsTrapAgain attach token g) (after s o))

@@ -4,21 +4,15 @@
 use Rattle.std.specs.Prelude.{◌≡◌, ◌⊎◌, ℕ, zero, suc, ◌==◌, Bool, true, false, is_some, List, Some, None, if◌then◌else◌, Option}
 use Rattle.std.specs.List.{list_any}
 use Rattle.am_names.specs.declared.fail_no.FailNo.{FailNo}
-use Rattle.am_names.specs.declared.row.OpenToken.{OpenToken}
-use Rattle.am_names.specs.declared.row.WaitRow.{WaitRow}
-use Rattle.am_wait.specs.Rows.{token_of, wait_of}
-use Rattle.am_state.specs.declared.obs.Obs.{Obs}
+use Rattle.am_names.specs.{OpenToken, WaitRow}
+use Rattle.am_wait.specs.{token_of, wait_of}
+use Rattle.am_state.specs.{Obs}
 use Rattle.am_state.specs.declared.obs.Obs.TheVariants.{Catatonic, Died}
-use Rattle.am_kernel.specs.Requests.{queued_of}
-use Rattle.am_daemon.specs.State.{JobPlan}
-use Rattle.am_daemon.specs.Deliveries.{job_of}
-use Rattle.am_machine.specs.declared.event.Event.{Event}
+use Rattle.am_kernel.specs.{queued_of}
+use Rattle.am_daemon.specs.{JobPlan, job_of}
+use Rattle.am_machine.specs.{Event, Answer, HavePaths, Step, Run, IsServed}
 use Rattle.am_machine.specs.declared.event.Event.TheVariants as events
-use Rattle.am_machine.specs.declared.answer.Answer.{Answer}
 use Rattle.am_machine.specs.State.{State}
-use Rattle.am_machine.specs.Paths.{HavePaths}
-use Rattle.am_machine.specs.Machine.{Step, Run}
-use Rattle.am_machine.specs.Invariant.Books.{IsServed}
 use Rattle.am_progress.specs.Runs.{AfterEachRun, IsDone, next}
 
 -- ---- what a job has left

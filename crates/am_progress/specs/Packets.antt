@@ -1,13 +1,11 @@
 -- A packet that is in the pipe can be taken from it (autofs.rst, "Communicating with autofs: the
 -- event pipe").
 use Rattle.std.specs.Prelude.{◌≡◌, ℕ, Some, None}
-use Rattle.am_state.specs.declared.kernel_row.QueuedRow.{QueuedRow}
-use Rattle.am_kernel.specs.Requests.{queued_of}
+use Rattle.am_state.specs.{QueuedRow}
+use Rattle.am_kernel.specs.{queued_of}
 use Rattle.am_machine.specs.declared.event.Event.TheVariants as events
 use Rattle.am_machine.specs.State.{State}
-use Rattle.am_machine.specs.Events.Deliveries.{packet_bytes, takes}
-use Rattle.am_machine.specs.Invariant.Books.{IsServed}
-use Rattle.am_machine.specs.Machine.{outcome_of}
+use Rattle.am_machine.specs.{packet_bytes, takes, IsServed, outcome_of}
 use Rattle.am_progress.specs.Runs.{AfterEachRun}
 
 -- The packet leaves the pipe and its job begins, which has the token's number: so it is when it is

@@ -3,18 +3,15 @@
 -- also find no memory (the other case of a step): then nothing has changed, and the same is said of
 -- it again (own choice).
 use Rattle.std.specs.Prelude.{◌≡◌, Bool, true, false, List}
-use Rattle.am_machine.specs.declared.event.Event.{Event}
-use Rattle.am_machine.specs.declared.answer.Answer.{Answer}
+use Rattle.am_machine.specs.{Event, Answer, Setup, initial_state_of, HavePaths, Run, after, outcome_of}
 use Rattle.am_machine.specs.declared.answer.Answer.TheVariants as answers
-use Rattle.am_machine.specs.State.{Opening, State, opening_of}
-use Rattle.am_machine.specs.Paths.{HavePaths}
-use Rattle.am_machine.specs.Machine.{Run, after, outcome_of}
+use Rattle.am_machine.specs.State.{State}
 
 -- it holds in each world to which a run from an initial one leads
 abbrev pub AfterEachRun : (State → Type 0) → Type 0
 AfterEachRun holds =
-    (opening : Opening) (events : List Event) (answers : List Answer) (s : State) →
-    HavePaths events → Run (opening_of opening) events answers s → holds s
+    (opening : Setup) (events : List Event) (answers : List Answer) (s : State) →
+    HavePaths events → Run (initial_state_of opening) events answers s → holds s
 
 -- the answer is an error
 abbrev pub is_refused : Answer → Bool

@@ -1,12 +1,10 @@
 -- Each open token can be closed by the daemon alone, by six events at most: its packet is taken
 -- from the pipe, and its job has five acts (own choice).
 use Rattle.std.specs.Prelude.{◌≡◌, ℕ, Some, None}
-use Rattle.am_names.specs.declared.trigger.Status.{Status}
-use Rattle.am_names.specs.declared.row.OpenToken.{OpenToken}
-use Rattle.am_names.specs.declared.row.WaitRow.{WaitRow}
-use Rattle.am_wait.specs.Rows.{token_of, wait_of}
+use Rattle.am_names.specs.{Status, OpenToken, WaitRow}
+use Rattle.am_wait.specs.{token_of, wait_of}
 use Rattle.am_machine.specs.State.{State}
-use Rattle.am_machine.specs.Invariant.Books.{IsServed}
+use Rattle.am_machine.specs.{IsServed}
 use Rattle.am_progress.specs.Runs.{AfterEachRun}
 use Rattle.am_progress.specs.Acts.{most_acts}
 use Rattle.am_progress.specs.Ways.{CanReach}

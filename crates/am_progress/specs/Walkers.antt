@@ -1,12 +1,11 @@
 -- Each walker that waits can be brought on: by the daemon alone where it serves the file system,
 -- and by the administrator in any case (autofs.rst, "Catatonic mode").
 use Rattle.std.specs.Prelude.{◌≡◌, ℕ, Some, None}
-use Rattle.am_names.specs.declared.trigger.PipeState.{PipeState}
-use Rattle.am_names.specs.declared.row.WaitRow.{WaitRow}
-use Rattle.am_wait.specs.Rows.{wait_of}
+use Rattle.am_names.specs.{PipeState, WaitRow}
+use Rattle.am_wait.specs.{wait_of}
 use Rattle.am_machine.specs.declared.event.Event.TheVariants as events
 use Rattle.am_machine.specs.State.{State}
-use Rattle.am_machine.specs.Invariant.Books.{IsServed}
+use Rattle.am_machine.specs.{IsServed}
 use Rattle.am_progress.specs.Runs.{AfterEachRun, IsDone, next}
 use Rattle.am_progress.specs.Acts.{most_acts}
 use Rattle.am_progress.specs.Ways.{CanReach}

@@ -6,31 +6,20 @@ use Rattle.std.proofs.lemmas.List.{length-map}
 use Rattle.std.proofs.lemmas.List.Folds.{find-append}
 use Rattle.std.proofs.lemmas.Bool.{eqb-true, eq-eqb, or_cases}
 use Rattle.am_names.proofs.Basics.{or_left, or_right, and_false, some_injective}
-use Rattle.am_names.specs.declared.row.MountRow.{MountRow}
-use Rattle.am_names.specs.declared.row.MemberRow.{MemberRow}
-use Rattle.am_names.specs.declared.row.GroupRow.{GroupRow}
-use Rattle.am_names.specs.declared.row.Position.{Position}
+use Rattle.am_names.specs.{MountRow, MemberRow, GroupRow, Position}
 use Rattle.am_names.specs.PeerGroups.{PeerGroups}
-use Rattle.am_group.specs.declared.membership.Membership.{Membership}
+use Rattle.am_group.specs.{Membership, member_row, group_row, group_in, slave_in, group_of, master_of_group, Receives, with_group, added, all_added, receiving_groups, rank, stand_in, copy_row, copies_from, group_copies, row_with, is_under, receives, receivers_of, numbers, IsMaster, HasMembers, IsSound, AddsNoReceivers}
 use Rattle.am_group.specs.declared.membership.Membership.TheVariants.{InGroup, SlaveOf, Private, Unbindable}
-use Rattle.am_group.specs.Propagation.{member_row, group_row, group_in, slave_in, group_of, master_of_group, Receives}
-use Rattle.am_group.specs.Changes.{with_group}
-use Rattle.am_group.specs.Copies.{added, all_added, receiving_groups, rank, stand_in, copy_row, copies_from, group_copies}
-use Rattle.am_group.specs.Members.{row_with}
-use Rattle.am_group.specs.Receivers.{is_under, receives, receivers_of}
-use Rattle.am_group.specs.Scan.{numbers}
-use Rattle.am_group.specs.Invariant.{IsMaster, HasMembers, IsSound, AddsNoReceivers}
 use Rattle.am_group.proofs.ReceiveLemmas.{home_where, under_from_way}
 use Rattle.am_group.proofs.ReceiverLemmas.{receives_test, receives_found}
 use Rattle.am_group.proofs.ScanLemmas.{has, has-filter, has-from_filter}
 use Rattle.am_group.proofs.JoinLemmas.{with_group_keeps, joined_keeps}
 use Rattle.am_group.proofs.CopyLemmas.{copied_keeps}
 use Rattle.am_group.proofs.AddLemmas.{added_law}
-use Rattle.am_mount.specs.Rows.{RiseFrom as RowsRise, mount_row}
-use Rattle.am_propagate.specs.MountTable.{MountTable, is_mount}
-use Rattle.am_propagate.specs.Invariant.{IsWhole}
-use Rattle.am_propagate.specs.Grown.{grown}
-use Rattle.am_propagate.specs.Added.{ns_in, row_at, rows_at, membership_where, membership_in, new_group, last_fresh, fresh_groups, stands, new_members, new_groups, fresh_count, groups_made, mounted, HasSource}
+use Rattle.am_mount.specs.Rows.{RiseFrom as RowsRise}
+use Rattle.am_mount.specs.{mount_row}
+use Rattle.am_propagate.specs.MountTable.{MountTable}
+use Rattle.am_propagate.specs.{is_mount, IsWhole, grown, ns_in, row_at, rows_at, membership_where, membership_in, new_group, last_fresh, fresh_groups, stands, new_members, new_groups, fresh_count, groups_made, mounted, HasSource}
 use Rattle.am_propagate.proofs.RemovalLemmas.{some_of, same_there}
 use Rattle.am_propagate.proofs.GrowthLemmas.{IsKin, ComesWell, grown_whole}
 use Rattle.am_propagate.proofs.StandLemmas.{same_receivers, fresh_there, copied_at_once}

@@ -3,18 +3,12 @@ use Rattle.std.proofs.Common.{◌≡◌, ◌≤◌, ◌<◌, ◌+◌, ℕ, suc, 
 use Rattle.std.specs.Prelude.{filter, map, nat_le}
 use Rattle.std.proofs.lemmas.Bool.Decides.{nat_tests}
 use Rattle.std.proofs.lemmas.List.{map-append}
-use Rattle.am_names.specs.declared.row.MountRow.{MountRow}
-use Rattle.am_names.specs.declared.row.Position.{Position}
-use Rattle.am_group.specs.declared.membership.Membership.{Membership}
-use Rattle.am_group.specs.Receivers.{receivers_of}
-use Rattle.am_mount.specs.Rows.{is_in}
+use Rattle.am_names.specs.{MountRow, Position}
+use Rattle.am_group.specs.{Membership, receivers_of}
+use Rattle.am_mount.specs.{is_in}
 use Rattle.am_mount.proofs.RowLemmas.{RiseOn}
-use Rattle.am_propagate.specs.MountTable.{MountTable, all_mounts}
-use Rattle.am_propagate.specs.Invariant.{IsWhole}
-use Rattle.am_propagate.specs.Added.{rows_at, numbers_after, new_mounts, mounts_made, mounted}
-use Rattle.am_propagate.specs.Removed.{mounts_in}
-use Rattle.am_propagate.specs.declared.subtree.namespace.CopyForm.{CopyForm}
-use Rattle.am_propagate.specs.Namespaces.{count_up_to, copy_number, row_in, with_copy}
+use Rattle.am_propagate.specs.MountTable.{MountTable}
+use Rattle.am_propagate.specs.{all_mounts, IsWhole, rows_at, numbers_after, new_mounts, mounts_made, mounted, mounts_in, CopyForm, count_up_to, copy_number, row_in, with_copy}
 use Rattle.am_propagate.proofs.NamespaceLemmas.{row_keys, mounts_rise}
 
 row_numbers : (t : MountTable) (place : List (List ℕ)) (fs origin last : ℕ) (parents : List ℕ) → map (λ (r : MountRow). r.mount) (rows_at t place fs origin (last + 1) parents) ≡ numbers_after last (length parents)

@@ -7,30 +7,18 @@ use Rattle.std.proofs.lemmas.List.Folds.{find-append}
 use Rattle.std.proofs.lemmas.Bool.{eqb-true, eq-eqb, ne_eqb, and_parts, or_cases, ltb-true, ltb-false}
 use Rattle.std.proofs.lemmas.Bool.Decides.{nat_tests}
 use Rattle.am_names.proofs.Basics.{or_left, or_right, some_injective}
-use Rattle.am_names.specs.declared.row.MemberRow.{MemberRow}
-use Rattle.am_names.specs.declared.row.GroupRow.{GroupRow}
-use Rattle.am_names.specs.declared.row.Position.{Position}
+use Rattle.am_names.specs.{MemberRow, GroupRow, Position}
 use Rattle.am_names.specs.PeerGroups.{PeerGroups}
-use Rattle.am_group.specs.declared.membership.Membership.{Membership}
+use Rattle.am_group.specs.{Membership, member_row, group_row, slave_in, master_in, group_of, master_of_group, master_where, Receives, is_just, all_added, has_receiver, receiving_groups, rank, copy_row, copies_from, group_copies, IsGroup, row_with, receivers_of}
 use Rattle.am_group.specs.declared.membership.Membership.TheVariants.{InGroup, SlaveOf, Private, Unbindable}
-use Rattle.am_group.specs.Propagation.{member_row, group_row, slave_in, master_in, group_of, master_of_group, master_where, Receives}
-use Rattle.am_group.specs.Changes.{is_just}
-use Rattle.am_group.specs.Copies.{all_added, has_receiver, receiving_groups, rank, copy_row, copies_from, group_copies}
-use Rattle.am_group.specs.Invariant.{IsGroup}
-use Rattle.am_group.specs.Members.{row_with}
-use Rattle.am_group.specs.Receivers.{receivers_of}
 use Rattle.am_group.proofs.ReceiveLemmas.{home_where, under_from_way}
 use Rattle.am_group.proofs.UnderLemmas.{receivers_rise}
 use Rattle.am_group.proofs.ScanLemmas.{has, any_has, has-from_filter, just_same}
 use Rattle.am_group.proofs.CopyLemmas.{stands_of_receiver, stands_of_slave, stands_above, copy_mount, rank_less}
-use Rattle.am_mount.specs.Rows.{IsOn}
+use Rattle.am_mount.specs.{IsOn}
 use Rattle.am_mount.proofs.RowLemmas.{RiseOn}
-use Rattle.am_propagate.specs.MountTable.{MountTable, is_mount}
-use Rattle.am_propagate.specs.Invariant.{IsWhole}
-use Rattle.am_propagate.specs.Added.{is_unbindable, new_group, last_fresh, fresh_groups, stands, new_members, new_groups, mounted, HasSource}
-use Rattle.am_propagate.specs.Namespaces.{count_up_to}
-use Rattle.am_propagate.specs.ReceiverCopies.{ComesAs}
-use Rattle.am_propagate.specs.GroupsOfCopies.{IsReceiving, IsConcerned, IsReceiversOnly, IsGroupBy, IsAsSource, ComesUnshared, ComesShared, JoinsBy, Joins}
+use Rattle.am_propagate.specs.MountTable.{MountTable}
+use Rattle.am_propagate.specs.{is_mount, IsWhole, is_unbindable, new_group, last_fresh, fresh_groups, stands, new_members, new_groups, mounted, HasSource, count_up_to, ComesAs, IsReceiving, IsConcerned, IsReceiversOnly, IsGroupBy, IsAsSource, ComesUnshared, ComesShared, JoinsBy, Joins}
 use Rattle.am_propagate.proofs.RemovalLemmas.{some_of, same_there}
 use Rattle.am_propagate.proofs.NamespaceLemmas.{count_some}
 use Rattle.am_propagate.proofs.SearchLemmas.{rise_all}

@@ -5,20 +5,14 @@ use Rattle.std.specs.Option.{option_or}
 use Rattle.std.proofs.lemmas.List.{map-append}
 use Rattle.std.proofs.lemmas.List.Folds.{find-append}
 use Rattle.std.proofs.lemmas.Bool.{eqb-true, eq-eqb}
-use Rattle.am_names.specs.declared.row.MountRow.{MountRow}
-use Rattle.am_names.specs.declared.row.MemberRow.{MemberRow}
-use Rattle.am_names.specs.declared.row.GroupRow.{GroupRow}
+use Rattle.am_names.specs.{MountRow, MemberRow, GroupRow}
 use Rattle.am_names.specs.PeerGroups.{PeerGroups}
-use Rattle.am_group.specs.Propagation.{member_row, group_row, group_in, slave_in, master_in, group_of, master_of_group, PropagatesTo}
-use Rattle.am_group.specs.Copies.{all_added}
-use Rattle.am_group.specs.Invariant.{IsGroup, HasMembers, IsSound, AddsNoReceivers}
-use Rattle.am_group.specs.Scan.{numbers}
+use Rattle.am_group.specs.{member_row, group_row, group_in, slave_in, master_in, group_of, master_of_group, PropagatesTo, all_added, IsGroup, HasMembers, IsSound, AddsNoReceivers, numbers}
 use Rattle.am_group.proofs.ReceiveLemmas.{LeadsUp, home_where, home_of, IsUnder, leads_more, under_from_way, reached_from_under}
 use Rattle.am_group.proofs.AddLemmas.{added_law}
-use Rattle.am_mount.specs.Rows.{RiseFrom, mount_row, HasRow, IsIn, IsOn}
+use Rattle.am_mount.specs.{RiseFrom, mount_row, HasRow, IsIn, IsOn}
 use Rattle.am_propagate.specs.MountTable.{MountTable}
-use Rattle.am_propagate.specs.Invariant.{ShareFs, IsWhole}
-use Rattle.am_propagate.specs.Grown.{grown}
+use Rattle.am_propagate.specs.{ShareFs, IsWhole, grown}
 use Rattle.am_propagate.proofs.RemovalLemmas.{some_of, same_there, same_along}
 
 -- rows that follow rise too

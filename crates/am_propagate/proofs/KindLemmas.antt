@@ -1,19 +1,14 @@
 -- A change of a mount's state keeps the invariant.
 use Rattle.std.proofs.Common.{◌≡◌, ◌+◌, ℕ, List, [], ◌∷◌, Option, Some, None, refl, sym, ap, ◌∙◌}
 use Rattle.std.specs.Prelude.{map}
-use Rattle.am_names.specs.declared.row.MemberRow.{MemberRow}
+use Rattle.am_names.specs.{MemberRow}
 use Rattle.am_names.specs.PeerGroups.{PeerGroups}
-use Rattle.am_group.specs.declared.kind.Change.{Change}
-use Rattle.am_group.specs.declared.kind.Change.TheVariants.{MakeShared, MakeSlave, MakePrivate, MakeUnbindable}
-use Rattle.am_group.specs.Propagation.{member_row, group_of}
-use Rattle.am_group.specs.Changes.{is_kept, slave_row, private_row, unbindable_row, shared_row, at_row, with_row, shared_where, changed}
-use Rattle.am_group.specs.Invariant.{IsSound}
-use Rattle.am_group.specs.Scan.{numbers}
+use Rattle.am_group.specs.{Change, member_row, group_of, is_kept, slave_row, private_row, unbindable_row, shared_row, at_row, with_row, shared_where, changed, IsSound, numbers}
+use Rattle.am_group.specs.declared.mount_state.Change.TheVariants.{MakeShared, MakeSlave, MakePrivate, MakeUnbindable}
 use Rattle.am_group.proofs.ChangeLemmas.{KeepsLaw, slave_row_thins, at_row_mount, made_slave_keeps, made_private_keeps, made_unbindable_keeps}
 use Rattle.am_group.proofs.SharedLemmas.{shared_mount, made_shared_keeps}
 use Rattle.am_propagate.specs.MountTable.{MountTable}
-use Rattle.am_propagate.specs.Invariant.{IsWhole}
-use Rattle.am_propagate.specs.Changed.{with_change}
+use Rattle.am_propagate.specs.{IsWhole, with_change}
 use Rattle.am_propagate.proofs.RemovalLemmas.{numbers-settled, law_same_fs}
 
 pub changed_keeps : (change : Change) (m : ℕ) (s : PeerGroups) → IsSound s → KeepsLaw s (changed change m s)

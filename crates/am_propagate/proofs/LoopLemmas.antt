@@ -5,13 +5,11 @@ use Rattle.std.specs.List.{cons_option}
 use Rattle.std.proofs.Math.Seq.{take-suc}
 use Rattle.std.proofs.lemmas.List.{append-nil}
 use Rattle.std.proofs.lemmas.List.Elements.{filter_map-append}
-use Rattle.am_names.specs.declared.row.MountRow.{MountRow}
-use Rattle.am_names.specs.declared.row.MemberRow.{MemberRow}
+use Rattle.am_names.specs.{MountRow, MemberRow}
 use Rattle.am_names.specs.PeerGroups.{PeerGroups}
-use Rattle.am_group.specs.Propagation.{member_row, slave_in, group_of}
-use Rattle.am_group.specs.Copies.{copy_row, copies_from}
+use Rattle.am_group.specs.{member_row, slave_in, group_of, copy_row, copies_from}
 use Rattle.am_propagate.specs.MountTable.{MountTable}
-use Rattle.am_propagate.specs.Added.{row_at, rows_at, numbers_after}
+use Rattle.am_propagate.specs.{row_at, rows_at, numbers_after}
 
 module _ (t : MountTable) (place : List (List ℕ)) (fs origin : ℕ) where
   rows_one_more : (n : ℕ) (parents : List ℕ) (i d : ℕ) → i < length parents → rows_at t place fs origin n (take (suc i) parents) ≡ rows_at t place fs origin n (take i parents) ++ row_at t place fs origin (n + i) (get_or parents i d) ∷ []

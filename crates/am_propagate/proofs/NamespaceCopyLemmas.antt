@@ -4,23 +4,16 @@ use Rattle.std.specs.Prelude.{option_map, is_some, ◌==◌}
 use Rattle.std.proofs.lemmas.List.{append-nil}
 use Rattle.std.proofs.lemmas.List.Folds.{find-append}
 use Rattle.std.proofs.lemmas.Bool.{eqb-true, eq-eqb}
-use Rattle.am_names.specs.declared.row.MountRow.{MountRow}
-use Rattle.am_names.specs.declared.row.MemberRow.{MemberRow}
-use Rattle.am_group.specs.Propagation.{member_row}
-use Rattle.am_group.specs.Changes.{slave_from}
+use Rattle.am_names.specs.{MountRow, MemberRow, is_among}
+use Rattle.am_group.specs.{member_row, slave_from}
 use Rattle.am_group.proofs.ScanLemmas.{has}
 use Rattle.am_group.proofs.ReceiverLemmas.{has_from_Contains}
 use Rattle.am_group.proofs.LookupLemmas.{found_passes}
-use Rattle.am_mount.specs.Rows.{mount_row, is_among, HasRow, IsIn}
+use Rattle.am_mount.specs.{mount_row, HasRow, IsIn}
 use Rattle.am_mount.proofs.RowLemmas.{in_every}
-use Rattle.am_propagate.specs.declared.subtree.namespace.CopyForm.{CopyForm}
+use Rattle.am_propagate.specs.{CopyForm, is_mount, IsWhole, mounts_in, count_up_to, copy_number, position_in, row_in, member_in, with_copy, IsNewMount, IsReduced, IsJoinedIn, AreCopies}
 use Rattle.am_propagate.specs.declared.subtree.namespace.CopyForm.TheVariants.{Full, Reduced}
-use Rattle.am_propagate.specs.MountTable.{MountTable, is_mount}
-use Rattle.am_propagate.specs.Invariant.{IsWhole}
-use Rattle.am_propagate.specs.Removed.{mounts_in}
-use Rattle.am_propagate.specs.Namespaces.{count_up_to, copy_number, position_in, row_in, member_in, with_copy}
-use Rattle.am_propagate.specs.NewMounts.{IsNewMount}
-use Rattle.am_propagate.specs.NamespaceCopies.{IsReduced, IsJoinedIn, AreCopies}
+use Rattle.am_propagate.specs.MountTable.{MountTable}
 use Rattle.am_propagate.proofs.NewMountLemmas.{takes_second, none_above, keeps_mounts}
 use Rattle.am_propagate.proofs.RemovalLemmas.{some_of, same_there, among_has}
 use Rattle.am_propagate.proofs.NamespaceLemmas.{count_some, rises_members, mapped_there, strict, apart, row_from, copy_there, found_mount}

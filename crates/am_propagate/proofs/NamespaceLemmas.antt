@@ -6,30 +6,20 @@ use Rattle.std.proofs.lemmas.List.Folds.{find-append}
 use Rattle.std.proofs.lemmas.Bool.{eqb-true, eq-eqb, ne_eqb, or_cases, cases_eq, ltb-true, ltb-false}
 use Rattle.std.proofs.lemmas.Bool.Decides.{nat_tests}
 use Rattle.am_names.proofs.Basics.{or_left, or_right, same_test}
-use Rattle.am_names.specs.declared.row.MountRow.{MountRow}
-use Rattle.am_names.specs.declared.row.MemberRow.{MemberRow}
-use Rattle.am_names.specs.declared.row.GroupRow.{GroupRow}
-use Rattle.am_names.specs.declared.row.Position.{Position}
-use Rattle.am_group.specs.Propagation.{member_row, group_in, slave_in, group_of}
-use Rattle.am_group.specs.Changes.{slave_from}
-use Rattle.am_group.specs.Copies.{added, all_added}
-use Rattle.am_group.specs.Scan.{numbers}
-use Rattle.am_group.specs.Invariant.{RiseFrom, IsSound, AddsNoReceivers}
+use Rattle.am_names.specs.{MountRow, MemberRow, GroupRow, Position, is_among}
+use Rattle.am_group.specs.{member_row, group_in, slave_in, group_of, slave_from, added, all_added, numbers, RiseFrom, IsSound, AddsNoReceivers}
 use Rattle.am_group.proofs.ReceiveLemmas.{home_where}
 use Rattle.am_group.proofs.ScanLemmas.{has}
 use Rattle.am_group.proofs.ReceiverLemmas.{has_from_Contains, Contains_from_has}
 use Rattle.am_group.proofs.AddLemmas.{added_law}
 use Rattle.am_group.proofs.LookupLemmas.{found_passes}
 use Rattle.am_group.proofs.JoinLemmas.{joined_keeps}
-use Rattle.am_mount.specs.Rows.{RiseFrom as RowsRise, mount_row, is_among, is_in}
+use Rattle.am_mount.specs.Rows.{RiseFrom as RowsRise}
+use Rattle.am_mount.specs.{mount_row, is_in}
 use Rattle.am_mount.proofs.RowLemmas.{RiseFrom-filter, RiseOn, in_every}
 use Rattle.am_propagate.specs.MountTable.{MountTable}
-use Rattle.am_propagate.specs.Invariant.{IsWhole}
-use Rattle.am_propagate.specs.Removed.{mounts_in}
-use Rattle.am_propagate.specs.Grown.{grown}
-use Rattle.am_propagate.specs.declared.subtree.namespace.CopyForm.{CopyForm}
+use Rattle.am_propagate.specs.{IsWhole, mounts_in, grown, CopyForm, count_up_to, copy_number, position_in, row_in, in_form, member_in, with_copy}
 use Rattle.am_propagate.specs.declared.subtree.namespace.CopyForm.TheVariants.{Full, Reduced}
-use Rattle.am_propagate.specs.Namespaces.{count_up_to, copy_number, position_in, row_in, in_form, member_in, with_copy}
 use Rattle.am_propagate.proofs.RemovalLemmas.{keys-filter, some_of, same_there, among_has}
 use Rattle.am_propagate.proofs.GrowthLemmas.{ComesWell, grown_whole}
 

@@ -6,17 +6,13 @@ use Rattle.std.proofs.lemmas.List.Folds.{find-append}
 use Rattle.std.proofs.lemmas.Bool.{eqb-true, eq-eqb, ne_eqb, or_cases}
 use Rattle.std.proofs.lemmas.Bool.Decides.{nat_tests}
 use Rattle.am_names.proofs.Basics.{or_left, or_right}
-use Rattle.am_names.specs.declared.row.MountRow.{MountRow}
-use Rattle.am_names.specs.declared.row.MemberRow.{MemberRow}
-use Rattle.am_names.specs.declared.row.GroupRow.{GroupRow}
-use Rattle.am_group.specs.Propagation.{member_row, group_row}
+use Rattle.am_names.specs.{MountRow, MemberRow, GroupRow}
+use Rattle.am_group.specs.{member_row, group_row}
 use Rattle.am_group.proofs.ScanLemmas.{has}
-use Rattle.am_mount.specs.Rows.{mount_row}
+use Rattle.am_mount.specs.{mount_row}
 use Rattle.am_mount.proofs.RowLemmas.{RiseOn}
-use Rattle.am_propagate.specs.MountTable.{MountTable, is_mount}
-use Rattle.am_propagate.specs.Invariant.{IsWhole}
-use Rattle.am_propagate.specs.Namespaces.{count_up_to}
-use Rattle.am_propagate.specs.NewMounts.{KeepsMounts}
+use Rattle.am_propagate.specs.MountTable.{MountTable}
+use Rattle.am_propagate.specs.{is_mount, IsWhole, count_up_to, KeepsMounts}
 use Rattle.am_propagate.proofs.CameLemmas.{none_up_to}
 use Rattle.am_propagate.proofs.NamespaceLemmas.{count_some}
 

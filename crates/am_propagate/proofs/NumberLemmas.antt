@@ -4,23 +4,15 @@ use Rattle.std.specs.Prelude.{nat_lt, is_some, option_map, ◌==◌}
 use Rattle.std.proofs.lemmas.Bool.{eq-eqb}
 use Rattle.std.proofs.lemmas.Bool.Decides.{nat_tests}
 use Rattle.am_names.proofs.Basics.{or_left, or_right}
-use Rattle.am_names.specs.declared.row.MemberRow.{MemberRow}
-use Rattle.am_names.specs.declared.row.GroupRow.{GroupRow}
+use Rattle.am_names.specs.{MemberRow, GroupRow}
 use Rattle.am_names.specs.PeerGroups.{PeerGroups}
-use Rattle.am_group.specs.declared.membership.Membership.{Membership}
+use Rattle.am_group.specs.{Membership, member_row, slave_in, group_of, master_of_group, Receives, receiving_groups, rank, copy_row, copies_from, group_copies, row_with, receivers_of}
 use Rattle.am_group.specs.declared.membership.Membership.TheVariants.{InGroup, SlaveOf, Private, Unbindable}
-use Rattle.am_group.specs.Propagation.{member_row, slave_in, group_of, master_of_group, Receives}
-use Rattle.am_group.specs.Copies.{receiving_groups, rank, copy_row, copies_from, group_copies}
-use Rattle.am_group.specs.Members.{row_with}
-use Rattle.am_group.specs.Receivers.{receivers_of}
 use Rattle.am_group.proofs.ScanLemmas.{has}
 use Rattle.am_group.proofs.CopyLemmas.{rank_bound, stands_of_receiver, stands_of_slave, stands_above}
-use Rattle.am_mount.specs.Rows.{mount_row}
-use Rattle.am_propagate.specs.declared.subtree.stand_ins.StandIns.{StandIns}
+use Rattle.am_mount.specs.{mount_row}
+use Rattle.am_propagate.specs.{StandIns, IsWhole, new_group, last_fresh, fresh_groups, stands, fresh_count, groups_made, new_members, new_groups, in_64_bits, stand_of}
 use Rattle.am_propagate.specs.MountTable.{MountTable}
-use Rattle.am_propagate.specs.Invariant.{IsWhole}
-use Rattle.am_propagate.specs.Added.{new_group, last_fresh, fresh_groups, stands, fresh_count, groups_made, new_members, new_groups}
-use Rattle.am_propagate.specs.Joining.{in_64_bits, stand_of}
 use Rattle.am_propagate.proofs.RemovalLemmas.{some_of, same_there}
 use Rattle.am_propagate.proofs.AdditionLemmas.{receiver_exact}
 

@@ -1,7 +1,6 @@
 -- Without mounts there is no master.
 use Rattle.std.proofs.Common.{inl, inr}
-use Rattle.am_group.specs.Invariant.{IsPeopled}
-use Rattle.am_group.specs.Members.{no_mounts}
+use Rattle.am_group.specs.{IsPeopled, no_mounts}
 
 pub none_peopled : IsPeopled no_mounts
 none_peopled g (inl (m, e)) = absurd cc

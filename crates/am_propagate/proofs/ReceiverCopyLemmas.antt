@@ -3,21 +3,14 @@ use Rattle.std.proofs.Common.{◌≡◌, ◌≤◌, ◌<◌, ◌+◌, ◌⊎◌,
 use Rattle.std.specs.Prelude.{is_some, ◌==◌}
 use Rattle.std.proofs.lemmas.List.Folds.{find-append}
 use Rattle.std.proofs.lemmas.Bool.{eqb-true, eq-eqb, ne_eqb}
-use Rattle.am_names.specs.declared.row.MountRow.{MountRow}
-use Rattle.am_names.specs.declared.row.Position.{Position}
-use Rattle.am_group.specs.declared.membership.Membership.{Membership}
-use Rattle.am_group.specs.Propagation.{Receives}
-use Rattle.am_group.specs.Receivers.{receivers_of}
+use Rattle.am_names.specs.{MountRow, Position}
+use Rattle.am_group.specs.{Membership, Receives, receivers_of}
 use Rattle.am_group.proofs.ScanLemmas.{has}
 use Rattle.am_group.proofs.UnderLemmas.{receivers_rise}
-use Rattle.am_mount.specs.Rows.{mount_row, IsOn}
+use Rattle.am_mount.specs.{mount_row, IsOn}
 use Rattle.am_mount.proofs.RowLemmas.{RiseOn}
-use Rattle.am_propagate.specs.MountTable.{MountTable, is_mount}
-use Rattle.am_propagate.specs.Invariant.{IsWhole}
-use Rattle.am_propagate.specs.Added.{ns_in, row_at, rows_at, mounted}
-use Rattle.am_propagate.specs.Namespaces.{count_up_to}
-use Rattle.am_propagate.specs.NewMounts.{IsNewMount}
-use Rattle.am_propagate.specs.ReceiverCopies.{IsMountedAt, ComesAs, ComesWithCopies}
+use Rattle.am_propagate.specs.MountTable.{MountTable}
+use Rattle.am_propagate.specs.{is_mount, IsWhole, ns_in, row_at, rows_at, mounted, count_up_to, IsNewMount, IsMountedAt, ComesAs, ComesWithCopies}
 use Rattle.am_propagate.proofs.RemovalLemmas.{some_of, same_there}
 use Rattle.am_propagate.proofs.NamespaceLemmas.{count_some, count_less}
 use Rattle.am_propagate.proofs.SearchLemmas.{rise_all}

@@ -6,22 +6,15 @@ use Rattle.std.proofs.lemmas.Bool.{eqb-true, eq-eqb, ne_eqb, or_cases, and_parts
 use Rattle.std.proofs.lemmas.Map.Views.{Contains-from_any, list_any-from_Contains}
 use Rattle.std.proofs.lemmas.Cmp.{nat_eq_equiv}
 use Rattle.am_names.proofs.Basics.{false_unless_true}
-use Rattle.am_names.specs.declared.row.MountRow.{MountRow}
-use Rattle.am_names.specs.declared.row.MemberRow.{MemberRow}
-use Rattle.am_names.specs.declared.row.Position.{Position}
+use Rattle.am_names.specs.{MountRow, MemberRow, Position, is_among}
 use Rattle.am_names.specs.PeerGroups.{PeerGroups}
-use Rattle.am_group.specs.Propagation.{member_row, group_in, slave_in, master_where, PropagatesTo, PropagatesBy, Receives}
-use Rattle.am_group.specs.Changes.{is_kept, lifted_member, with_only}
-use Rattle.am_group.specs.Invariant.{AddsNoReceivers}
-use Rattle.am_group.specs.Receivers.{receivers_of}
-use Rattle.am_group.specs.Scan.{numbers}
+use Rattle.am_group.specs.{member_row, group_in, slave_in, master_where, PropagatesTo, PropagatesBy, Receives, is_kept, lifted_member, with_only, AddsNoReceivers, receivers_of, numbers}
 use Rattle.am_group.proofs.LookupLemmas.{find_filter}
 use Rattle.am_group.proofs.ChangeLemmas.{without_keeps}
-use Rattle.am_mount.specs.Rows.{RiseFrom, mount_row, is_among, mounts_where, is_position_on, is_child, HasRow, IsIn, IsOn}
+use Rattle.am_mount.specs.{RiseFrom, mount_row, mounts_where, is_position_on, is_child, HasRow, IsIn, IsOn}
 use Rattle.am_mount.proofs.RowLemmas.{RiseFrom-filter, in_every}
-use Rattle.am_propagate.specs.MountTable.{MountTable, is_mount, mountpoint_of}
-use Rattle.am_propagate.specs.Invariant.{ShareFs, IsWhole}
-use Rattle.am_propagate.specs.Removed.{is_bare, is_top_on, goes_with, unmounted, mounts_in, removed, LeavesParents}
+use Rattle.am_propagate.specs.MountTable.{MountTable}
+use Rattle.am_propagate.specs.{is_mount, mountpoint_of, ShareFs, IsWhole, is_bare, is_top_on, goes_with, unmounted, mounts_in, removed, LeavesParents}
 
 -- the numbers of rows that are kept by their number
 pub keys-filter : {R : Type 0} (key : R → ℕ) (keeps : ℕ → Bool) (rows : List R) → map key (filter (λ r. keeps (key r)) rows) ≡ filter keeps (map key rows)

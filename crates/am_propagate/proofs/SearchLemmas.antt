@@ -7,10 +7,10 @@ use Rattle.std.proofs.lemmas.Cmp.{ranked}
 use Rattle.std.proofs.lemmas.Bool.{eq-eqb, ne_eqb}
 use Rattle.std.proofs.lemmas.Bool.Decides.{nat_tests}
 use Rattle.am_names.proofs.Basics.{or_true}
-use Rattle.am_group.specs.Copies.{rank}
-use Rattle.am_mount.specs.Rows.{is_among}
+use Rattle.am_group.specs.{rank}
+use Rattle.am_names.specs.{is_among}
 use Rattle.am_mount.proofs.RowLemmas.{RiseOn, RiseOn-lower}
-use Rattle.am_propagate.specs.Namespaces.{count_up_to}
+use Rattle.am_propagate.specs.{count_up_to}
 
 rise_from : (n : ℕ) (xs : List ℕ) → IsStrictlyIncreasing (n ∷ xs) → RiseOn n (n ∷ xs)
 rise_from n [] steps = (omega arith, tt)

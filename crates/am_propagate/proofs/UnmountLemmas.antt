@@ -7,15 +7,12 @@ use Rattle.std.proofs.lemmas.Bool.{eqb-true, eq-eqb, ne_eqb, or_cases, and_parts
 use Rattle.std.proofs.lemmas.List.Kept.{Contains-dedup_nat, Contains-from_dedup}
 use Rattle.am_group.proofs.ScanLemmas.{just_same}
 use Rattle.am_names.proofs.Basics.{or_right, same_test}
-use Rattle.am_names.specs.declared.row.MountRow.{MountRow}
-use Rattle.am_names.specs.declared.row.Position.{Position}
-use Rattle.am_group.specs.Changes.{is_just}
-use Rattle.am_group.specs.Receivers.{receivers_of}
-use Rattle.am_mount.specs.Rows.{mount_row, is_among, mounts_where, top_of, last_of, HasRow, IsAt, IsTop}
+use Rattle.am_names.specs.{MountRow, Position, is_among}
+use Rattle.am_group.specs.{is_just, receivers_of}
+use Rattle.am_mount.specs.{mount_row, mounts_where, top_of, last_of, HasRow, IsAt, IsTop}
 use Rattle.am_mount.proofs.RowLemmas.{where_every, where_rises, top_is, IsTopOf, RiseOn}
-use Rattle.am_propagate.specs.MountTable.{MountTable, mountpoint_in, mountpoint_of}
-use Rattle.am_propagate.specs.Invariant.{IsWhole}
-use Rattle.am_propagate.specs.Removed.{is_bare, is_top_at, if_bare, bare_top, goes_with}
+use Rattle.am_propagate.specs.MountTable.{MountTable}
+use Rattle.am_propagate.specs.{mountpoint_in, mountpoint_of, IsWhole, is_bare, is_top_at, if_bare, bare_top, goes_with}
 use Rattle.am_propagate.proofs.RemovalLemmas.{among_from, among_contains}
 use Rattle.am_propagate.proofs.SearchLemmas.{rise_all}
 

@@ -2,18 +2,11 @@
 use Rattle.std.specs.Prelude.{◌≡◌, ◌⊎◌, ◌+◌, ℕ, zero, suc, Bool, true, false, not, List, [], ◌∷◌, ◌++◌, length, Option, Some, None, if◌then◌else◌}
 use Rattle.am_names.specs.declared.errno.Errno.{Errno}
 use Rattle.am_names.specs.declared.errno.Errno.TheVariants.{EINVAL, ENOSPC}
-use Rattle.am_names.specs.declared.row.MountRow.{MountRow}
-use Rattle.am_names.specs.declared.row.MemberRow.{MemberRow}
-use Rattle.am_names.specs.declared.row.GroupRow.{GroupRow}
-use Rattle.am_names.specs.declared.row.Position.{Position}
+use Rattle.am_names.specs.{MountRow, MemberRow, GroupRow, Position}
 use Rattle.am_names.specs.PeerGroups.{PeerGroups}
-use Rattle.am_group.specs.declared.membership.Membership.{Membership}
+use Rattle.am_group.specs.{Membership, member_row, group_of, all_added, receiving_groups, stand_in, copies_from, group_copies, row_with, receivers_of}
 use Rattle.am_group.specs.declared.membership.Membership.TheVariants.{InGroup, SlaveOf, Private, Unbindable}
-use Rattle.am_group.specs.Propagation.{member_row, group_of}
-use Rattle.am_group.specs.Copies.{all_added, receiving_groups, stand_in, copies_from, group_copies}
-use Rattle.am_group.specs.Members.{row_with}
-use Rattle.am_group.specs.Receivers.{receivers_of}
-use Rattle.am_mount.specs.Rows.{mount_row}
+use Rattle.am_mount.specs.{mount_row}
 use Rattle.am_propagate.specs.MountTable.{MountTable, is_mount, lacks_mounts, lacks_groups}
 
 -- the namespace of a row that was looked up

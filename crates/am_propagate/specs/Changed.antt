@@ -1,7 +1,6 @@
 -- A change of one mount's state (sharedsubtree.rst, 5a).
 use Rattle.std.specs.Prelude.{ℕ}
-use Rattle.am_group.specs.declared.kind.Change.{Change}
-use Rattle.am_group.specs.Changes.{changed}
+use Rattle.am_group.specs.{Change, changed}
 use Rattle.am_propagate.specs.MountTable.{MountTable}
 
 -- the mounts stay, and the peer groups change

@@ -1,9 +1,7 @@
 -- Rows that are added, all at once: own choice.
 use Rattle.std.specs.Prelude.{◌+◌, ℕ, List, ◌++◌, length}
-use Rattle.am_names.specs.declared.row.MountRow.{MountRow}
-use Rattle.am_names.specs.declared.row.MemberRow.{MemberRow}
-use Rattle.am_names.specs.declared.row.GroupRow.{GroupRow}
-use Rattle.am_group.specs.Copies.{all_added}
+use Rattle.am_names.specs.{MountRow, MemberRow, GroupRow}
+use Rattle.am_group.specs.{all_added}
 use Rattle.am_propagate.specs.MountTable.{MountTable}
 
 -- these rows, with their propagation and their peer groups; the greatest namespace is this one

@@ -1,10 +1,8 @@
 -- What a mount table keeps: own choice.
 use Rattle.std.specs.Prelude.{◌≡◌, ◌≤◌, ◌<◌, ℕ, List, map, Some}
-use Rattle.am_names.specs.declared.row.MountRow.{MountRow}
-use Rattle.am_group.specs.Propagation.{PropagatesTo}
-use Rattle.am_group.specs.Invariant.{IsSound}
-use Rattle.am_group.specs.Scan.{numbers}
-use Rattle.am_mount.specs.Rows.{IsRising, mount_row, HasRow, IsIn, IsOn}
+use Rattle.am_names.specs.{MountRow}
+use Rattle.am_group.specs.{PropagatesTo, IsSound, numbers}
+use Rattle.am_mount.specs.{IsRising, mount_row, HasRow, IsIn, IsOn}
 use Rattle.am_propagate.specs.MountTable.{MountTable}
 
 -- both mounts are of one file system

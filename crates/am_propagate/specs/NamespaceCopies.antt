@@ -1,10 +1,9 @@
 -- What a copy of a namespace is (sharedsubtree.rst, 5g; mount_namespaces(7), "Restrictions on mount
 -- namespaces"), whatever numbers the copies have.
 use Rattle.std.specs.Prelude.{◌≡◌, ◌<◌, ℕ, List, Option, Some, None}
-use Rattle.am_names.specs.declared.row.MountRow.{MountRow}
-use Rattle.am_names.specs.declared.row.MemberRow.{MemberRow}
-use Rattle.am_group.specs.Propagation.{member_row}
-use Rattle.am_mount.specs.Rows.{mount_row, HasRow, IsIn, IsAt}
+use Rattle.am_names.specs.{MountRow, MemberRow}
+use Rattle.am_group.specs.{member_row}
+use Rattle.am_mount.specs.{mount_row, HasRow, IsIn, IsAt}
 use Rattle.am_propagate.specs.declared.subtree.namespace.CopyForm.{CopyForm}
 use Rattle.am_propagate.specs.declared.subtree.namespace.CopyForm.TheVariants.{Full, Reduced}
 use Rattle.am_propagate.specs.MountTable.{MountTable}

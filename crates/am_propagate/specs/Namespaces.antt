@@ -3,12 +3,9 @@
 use Rattle.std.specs.Prelude.{◌==◌, ◌+◌, ℕ, Bool, not, nat_le, List, [], ◌++◌, map, filter, length, Option, Some, None, option_map, if◌then◌else◌}
 use Rattle.am_names.specs.declared.errno.Errno.{Errno}
 use Rattle.am_names.specs.declared.errno.Errno.TheVariants.{ENOENT, ENOSPC}
-use Rattle.am_names.specs.declared.row.MountRow.{MountRow}
-use Rattle.am_names.specs.declared.row.MemberRow.{MemberRow}
-use Rattle.am_names.specs.declared.row.Position.{Position}
-use Rattle.am_group.specs.Changes.{slave_row}
-use Rattle.am_group.specs.Copies.{all_added}
-use Rattle.am_mount.specs.Rows.{is_among, is_in}
+use Rattle.am_names.specs.{MountRow, MemberRow, Position, is_among}
+use Rattle.am_group.specs.{slave_row, all_added}
+use Rattle.am_mount.specs.{is_in}
 use Rattle.am_propagate.specs.declared.subtree.namespace.CopyForm.{CopyForm}
 use Rattle.am_propagate.specs.declared.subtree.namespace.CopyForm.TheVariants.{Full, Reduced}
 use Rattle.am_propagate.specs.MountTable.{MountTable, lacks_mounts}

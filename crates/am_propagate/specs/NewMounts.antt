@@ -1,10 +1,8 @@
 -- Mounts that come, while all others stay as they were (sharedsubtree.rst, 5b and 5e).
 use Rattle.std.specs.Prelude.{◌≡◌, ℕ, true, false, List, Some, None}
-use Rattle.am_names.specs.declared.row.MountRow.{MountRow}
-use Rattle.am_names.specs.declared.row.MemberRow.{MemberRow}
-use Rattle.am_names.specs.declared.row.GroupRow.{GroupRow}
-use Rattle.am_group.specs.Propagation.{member_row, group_row}
-use Rattle.am_mount.specs.Rows.{mount_row}
+use Rattle.am_names.specs.{MountRow, MemberRow, GroupRow}
+use Rattle.am_group.specs.{member_row, group_row}
+use Rattle.am_mount.specs.{mount_row}
 use Rattle.am_propagate.specs.MountTable.{MountTable, is_mount}
 
 -- the mount wasn't there before, and is now

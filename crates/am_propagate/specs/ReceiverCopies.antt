@@ -1,10 +1,9 @@
 -- What comes with a mount or bind (sharedsubtree.rst, 5b and 5e): one copy on each mount that
 -- receives it and no other, whatever numbers the copies have.
 use Rattle.std.specs.Prelude.{◌≡◌, ◌≤◌, ◌<◌, ◌⊎◌, ℕ}
-use Rattle.am_names.specs.declared.row.MountRow.{MountRow}
-use Rattle.am_names.specs.declared.row.Position.{Position}
-use Rattle.am_group.specs.Propagation.{Receives}
-use Rattle.am_mount.specs.Rows.{HasRow, IsIn, IsAt, IsOn}
+use Rattle.am_names.specs.{MountRow, Position}
+use Rattle.am_group.specs.{Receives}
+use Rattle.am_mount.specs.{HasRow, IsIn, IsAt, IsOn}
 use Rattle.am_propagate.specs.MountTable.{MountTable}
 use Rattle.am_propagate.specs.NewMounts.{IsNewMount, KeepsMounts}
 

@@ -3,11 +3,9 @@ use Rattle.std.specs.Prelude.{◌≡◌, ◌==◌, ◌&&◌, ◌||◌, ℕ, Bool
 use Rattle.std.specs.List.{list_any}
 use Rattle.am_names.specs.declared.errno.Errno.{Errno}
 use Rattle.am_names.specs.declared.errno.Errno.TheVariants.{ENOENT, EBUSY, EINVAL}
-use Rattle.am_names.specs.declared.row.MountRow.{MountRow}
-use Rattle.am_names.specs.declared.row.Position.{Position}
-use Rattle.am_group.specs.Changes.{is_just, without}
-use Rattle.am_group.specs.Receivers.{receivers_of}
-use Rattle.am_mount.specs.Rows.{mount_row, is_among, mounts_where, is_in, is_child, top_of, IsOn}
+use Rattle.am_names.specs.{MountRow, Position, is_among}
+use Rattle.am_group.specs.{is_just, without, receivers_of}
+use Rattle.am_mount.specs.{mount_row, mounts_where, is_in, is_child, top_of, IsOn}
 use Rattle.am_propagate.specs.MountTable.{MountTable, is_mount, mountpoint_of}
 
 -- nothing is mounted on the mount, at any place

@@ -1,10 +1,8 @@
 //! All mounts with their propagation.
 
 ghost use Rattle.std.specs.Prelude.{◌≡◌, ◌+◌, ◌^◌, ◌<◌, length, None, IfOk, OnOk, OnErr};
-ghost use Rattle.am_names.specs.Errno.{RefusedAs};
-ghost use Rattle.am_group.specs.Invariant.{AddsNoReceivers};
-ghost use Rattle.am_group.specs.Kinds.{FollowsTable};
-ghost use Rattle.am_group.specs.Members.{change_refusal};
+ghost use Rattle.am_names.specs.{RefusedAs};
+ghost use Rattle.am_group.specs.{AddsNoReceivers, FollowsTable, change_refusal};
 ghost use Rattle.am_propagate.specs.Changed.{with_change};
 ghost use Rattle.am_propagate.specs.MountTable.{opening, is_mount, lacks_mounts, lacks_groups};
 ghost use Rattle.am_propagate.specs.Grown.{grown};
@@ -41,7 +39,7 @@ impl Model for Subtree {
     ghost Value = { MountTable };
 
     ghost use Rattle.am_propagate.specs.Invariant.{IsWhole};
-    ghost use Rattle.am_propagate.specs.Inside.{table_of};
+    ghost use Rattle.am_propagate.specs.View.{table_of};
 
     ghost view = { table_of };
 

@@ -5,14 +5,13 @@ use Rattle.std.proofs.lemmas.Grind.{common_steps}
 use Rattle.std.proofs.lemmas.List.{append-nil}
 use Rattle.std.proofs.lemmas.List.Elements.{All-nil, All-head, All-tail, All-append, All-weaker}
 use Rattle.am_names.specs.declared.trigger.PipeState.TheVariants.{Room}
-use Rattle.am_machine.specs.declared.event.Event.{Event}
+use Rattle.am_machine.specs.{Event}
 use Rattle.am_machine.specs.declared.event.Event.TheVariants as events
 use Rattle.am_machine.specs.declared.answer.Answer.TheVariants as answers
-use Rattle.am_pipe.specs.declared.note.Note.{Note}
-use Rattle.am_shared.specs.declared.caller.Receipt.{Receipt}
-use Rattle.am_runner.specs.declared.calls.Reply.{Reply}
+use Rattle.am_pipe.specs.{Note}
+use Rattle.am_shared.specs.{Receipt}
+use Rattle.am_runner.specs.{Reply, Adds, Makes, IsOf, Resumes, IsOfRound, IsOfExpirer, GoesOn, EndAtRefusal, IsActOf, AreActs, IsService, AreServices, Serves, Tries, Calls, Tells, is_done, IsBreak, AreBreaks, Breaks}
 use Rattle.am_runner.specs.declared.calls.Reply.TheVariants as replies
-use Rattle.am_runner.specs.Roles.{Adds, Makes, IsOf, Resumes, IsOfRound, IsOfExpirer, GoesOn, EndAtRefusal, IsActOf, AreActs, IsService, AreServices, Serves, Tries, Calls, Tells, is_done, IsBreak, AreBreaks, Breaks}
 
 pub any_right : {X : Type 0} (P : X → Type 0) (xs ys : List X) → Any P ys → Any P (xs ++ ys)
 any_right P xs ys (k, x, within, is, holds) =

@@ -1,16 +1,15 @@
--- What each role of a run makes, the receipts of the caller that comes back:
--- own (docs/DECISIONS.md, "A worker gives up a job at any refusal" and "A thread that finds no
--- memory tries again, and then nobody waits").
+-- What each role of a run makes, the receipts of the caller that comes back: own choice
+-- (docs/DECISIONS.md, "A worker gives up a job at any refusal" and "A thread that finds no memory
+-- tries again, and then nobody waits").
 use Rattle.std.specs.Prelude.{◌≡◌, ◌⊎◌, ⊤, ℕ, Bool, true, false, zero, suc, List, [], ◌∷◌, ◌++◌, All, Any, Option, Some}
 use Rattle.am_names.specs.declared.errno.Errno.TheVariants.{NoMemory}
 use Rattle.am_names.specs.declared.fail_no.FailNo.{FailNo}
 use Rattle.am_names.specs.declared.trigger.PipeState.TheVariants.{Room}
-use Rattle.am_machine.specs.declared.event.Event.{Event}
+use Rattle.am_machine.specs.{Event, Answer}
 use Rattle.am_machine.specs.declared.event.Event.TheVariants as events
-use Rattle.am_machine.specs.declared.answer.Answer.{Answer}
 use Rattle.am_machine.specs.declared.answer.Answer.TheVariants as answers
-use Rattle.am_pipe.specs.declared.note.Note.{Note}
-use Rattle.am_shared.specs.declared.caller.Receipt.{Receipt}
+use Rattle.am_pipe.specs.{Note}
+use Rattle.am_shared.specs.{Receipt}
 use Rattle.am_runner.specs.declared.calls.Reply.{Reply}
 use Rattle.am_runner.specs.declared.calls.Reply.TheVariants as replies
 

@@ -1,18 +1,15 @@
--- What a run of threads comes to: own (docs/DECISIONS.md, "Rounds that don't add up are out of
--- memory").
+-- What a run of threads comes to: own choice (docs/DECISIONS.md, "Rounds that don't add up are out
+-- of memory").
 use Rattle.std.specs.Prelude.{◌≡◌, ◌&&◌, Bool, true, false, List, not}
 use Rattle.std.specs.List.{count_by}
 use Rattle.am_names.specs.declared.errno.Errno.TheVariants.{NoMemory}
-use Rattle.am_state.specs.declared.obs.Obs.{Obs}
+use Rattle.am_state.specs.{Obs}
 use Rattle.am_state.specs.declared.obs.Obs.TheVariants.{Entered, Left}
-use Rattle.am_machine.specs.declared.event.Event.{Event}
+use Rattle.am_machine.specs.{Event, Answer, Entry}
 use Rattle.am_machine.specs.declared.event.Event.TheVariants.{Walk}
-use Rattle.am_machine.specs.declared.answer.Answer.{Answer}
 use Rattle.am_machine.specs.declared.answer.Answer.TheVariants.{Refused}
-use Rattle.am_machine.specs.declared.entry.Entry.{Entry}
-use Rattle.am_shared.specs.Sharing.{Sharing, IsShared}
-use Rattle.am_shared.specs.Matching.{Matches}
-use Rattle.am_shared.specs.declared.caller.Receipt.{Receipt}
+use Rattle.am_shared.specs.Sharing.{Sharing}
+use Rattle.am_shared.specs.{IsShared, Matches, Receipt}
 use Rattle.am_runner.specs.declared.tally.Tally.{Tally}
 
 -- memory ran out

@@ -1,7 +1,7 @@
 //! A run of walkers, workers and an expirer.
 
 ghost use Rattle.std.specs.Prelude.{◌≡◌, ◌+◌, ◌*◌, ◌<◌, ◌^◌, [], length, vec_len, IfOk, IfSome, IsTrue};
-ghost use Rattle.am_names.specs.Limits.{IsInRange};
+ghost use Rattle.am_names.specs.{IsInRange};
 ghost use Rattle.am_runner.specs.Runs.{IsTally, IsTallyOf};
 
 use crate::tally::{Tally, tally_of};

@@ -3,24 +3,12 @@ use Rattle.std.proofs.Common.{◌≡◌, ◌+◌, ℕ, ◌≤◌, Bool, true, fa
 use Rattle.std.specs.Io.KnownBytes.{Appends}
 use Rattle.std.proofs.lemmas.List.{map_push, map-append, append-nil, length-append, length-map, length_push}
 use Rattle.std.proofs.lemmas.List.Sums.{sum_by-append}
-use Rattle.am_machine.specs.declared.event.Event.{Event}
-use Rattle.am_machine.specs.declared.answer.Answer.{Answer}
-use Rattle.am_state.specs.declared.obs.Obs.{Obs}
-use Rattle.am_machine.specs.State.{State, Opening, opening_of}
-use Rattle.am_machine.specs.Machine.{Step, Run}
-use Rattle.am_script.specs.declared.fault.ScriptFault.{ScriptFault}
-use Rattle.am_script.specs.declared.fault.ScriptFaultKind.{ScriptFaultKind}
+use Rattle.am_machine.specs.{Event, Answer, Setup, initial_state_of, Step, Run}
+use Rattle.am_state.specs.{Obs}
+use Rattle.am_machine.specs.State.{State}
+use Rattle.am_script.specs.{ScriptFault, ScriptFaultKind, Output, Summary, is_refused, fault_at, lines_of, lines_in, is_long, Owed, bytes_of, IsLost, Stands, Settles, StopsAtEvent, HaltsIn, IsPlayed, lines_for, Ending, with_next, script_behind, Answered, asked_in, answers_in, owed_for, behind, EventsStand, Numbered, Told, events_in, events_from, line_read, told_by, only_fault, script_from, TurnDone, TurnStopped, Closes, counted}
 use Rattle.am_script.specs.declared.fault.ScriptFaultKind.TheVariants.{LongLine, WriteFailed}
-use Rattle.am_script.specs.declared.output.Output.{Output}
-use Rattle.am_script.specs.declared.play.Summary.{Summary}
-use Rattle.am_script.specs.Answers.{is_refused}
-use Rattle.am_script.specs.Fault.{fault_at}
-use Rattle.am_script.specs.Lines.{lines_of, lines_in, is_long}
-use Rattle.am_script.specs.Outputs.{Owed, bytes_of, IsLost, Stands, Settles}
-use Rattle.am_script.specs.Played.{StopsAtEvent, HaltsIn, IsPlayed, lines_for}
-use Rattle.am_script.specs.Playing.{Ending, with_next, script_behind, Answered, asked_in, answers_in, owed_for, behind, EventsStand}
-use Rattle.am_script.specs.Script.{Numbered, Told, Script, events_in, events_from, line_read, told_by, only_fault, script_from}
-use Rattle.am_script.specs.Turns.{TurnDone, TurnStopped, Closes, counted}
+use Rattle.am_script.specs.Script.{Script}
 use Rattle.am_script.proofs.Closing.{lost_by}
 use Rattle.am_script.proofs.Lost.{owed_push, bytes_for, Within, within_some}
 
@@ -45,10 +33,10 @@ pub script_next : (front : List (List ℕ)) (line : List ℕ) (ending : Ending) 
 script_next front line ending = ap (script_from ending.broke) (append_assoc front (line ∷ []) ending.lines)
 
 -- these events are answered, and then the script goes on so
-abbrev told_behind : Opening → List Answered → Told → Script
+abbrev told_behind : Setup → List Answered → Told → Script
 told_behind opening rows left = record { opening = Some opening; told = behind (asked_in rows) left }
 
-told_more : (opening : Opening) (rows : List Answered) (row : Answered) (left : Told) → told_behind opening rows (record left { events = row.asked ∷ left.events }) ≡ told_behind opening (rows ++ row ∷ []) left
+told_more : (opening : Setup) (rows : List Answered) (row : Answered) (left : Told) → told_behind opening rows (record left { events = row.asked ∷ left.events }) ≡ told_behind opening (rows ++ row ∷ []) left
 told_more opening rows row left =
     let script : List Numbered → Script = λ events. record { opening = Some opening; told = record { events = events; fault = left.fault } } in
     ap script (sym (append_assoc (asked_in rows) (row.asked ∷ []) left.events)) ∙ ap (λ (asked : List Numbered). script (asked ++ left.events)) (sym (asked_push rows row))
@@ -61,7 +49,7 @@ said_more s next number summary kept keeps front line start mid new (Ok None) No
   opening = h.opening;
   rows = h.rows;
   goes = goes;
-  run = subst (λ (t : State). Run (opening_of h.opening) (events_in (asked_in h.rows)) (answers_in h.rows) t) (sym turn.same) h.run;
+  run = subst (λ (t : State). Run (initial_state_of h.opening) (events_in (asked_in h.rows)) (answers_in h.rows) t) (sym turn.same) h.run;
   stands = turn.settles (owed_for h.rows) start h.stands;
   lines = h.lines;
   refused = h.refused;
@@ -75,7 +63,7 @@ said_more s next number summary kept keeps front line start mid new (Ok (Some ev
       opening = h.opening;
       rows = h.rows ++ row ∷ [];
       goes = λ ending. goes ending ∙ told_more h.opening h.rows row (events_from ending.broke (number + 1) ending.lines);
-      run = rw (asked_push h.rows row, map_push (λ (r : Numbered). r.event) (asked_in h.rows) asked, answers_push h.rows row) (run_more (opening_of h.opening) (events_in (asked_in h.rows)) (answers_in h.rows) s event turn.answer turn.seen next h.run turn.step);
+      run = rw (asked_push h.rows row, map_push (λ (r : Numbered). r.event) (asked_in h.rows) asked, answers_push h.rows row) (run_more (initial_state_of h.opening) (events_in (asked_in h.rows)) (answers_in h.rows) s event turn.answer turn.seen next h.run turn.step);
       stands = subst (λ (t : List Owed). Stands keeps t start new) (sym (owed_push h.rows row)) (turn.puts (owed_for h.rows) start h.stands);
       lines = rw (length-append h.rows (row ∷ [])) (ap (λ (n : ℕ). n + 1) h.lines);
       refused = rw (answers_push h.rows row, count_more is_refused (answers_in h.rows) turn.answer, turn.test) (ap (λ (n : ℕ). n + cond (is_refused turn.answer) 1 0) h.refused);
@@ -130,15 +118,15 @@ pub same_fault : (one other : ScriptFault) → failed one ≡ failed other → o
 same_fault one other e = ap (fault_or one) e
 
 -- an answer that was put out isn't taken whole
-lost_halts : (script : Script) (opening : Opening) (rows : List Answered) (left : Told) (state : State) (line last : ℕ) (start new : Option (List ℕ)) → script ≡ told_behind opening rows left → Run (opening_of opening) (events_in (asked_in rows)) (answers_in rows) state → IsLost (owed_for rows) line start new → HaltsIn script last start new (fault_at line WriteFailed)
+lost_halts : (script : Script) (opening : Setup) (rows : List Answered) (left : Told) (state : State) (line last : ℕ) (start new : Option (List ℕ)) → script ≡ told_behind opening rows left → Run (initial_state_of opening) (events_in (asked_in rows)) (answers_in rows) state → IsLost (owed_for rows) line start new → HaltsIn script last start new (fault_at line WriteFailed)
 lost_halts script opening rows left state line last start new e run lost =
     subst (λ (s : Script). HaltsIn s last start new (fault_at line WriteFailed)) (sym e) (record {
-      stopped = inr (inr (lost_event (opening_of opening) (behind (asked_in rows) left) left rows line lost.front lost.first start new state refl run lost.line_is lost.written (within_some rows lost.front lost.first lost.others lost.parts)));
+      stopped = inr (inr (lost_event (initial_state_of opening) (behind (asked_in rows) left) left rows line lost.front lost.first start new state refl run lost.line_is lost.written (within_some rows lost.front lost.first lost.others lost.parts)));
       here = inl refl;
     })
 
 -- a fault comes behind these events
-fault_halts : (script : Script) (opening : Opening) (rows : List Answered) (state : State) (fault : ScriptFault) (last : ℕ) (start new : Option (List ℕ)) → script ≡ told_behind opening rows (only_fault (Some fault)) → Run (opening_of opening) (events_in (asked_in rows)) (answers_in rows) state → fault.line ≡ last → Appends start new (bytes_of (owed_for rows)) → HaltsIn script last start new fault
+fault_halts : (script : Script) (opening : Setup) (rows : List Answered) (state : State) (fault : ScriptFault) (last : ℕ) (start new : Option (List ℕ)) → script ≡ told_behind opening rows (only_fault (Some fault)) → Run (initial_state_of opening) (events_in (asked_in rows)) (answers_in rows) state → fault.line ≡ last → Appends start new (bytes_of (owed_for rows)) → HaltsIn script last start new fault
 fault_halts script opening rows state fault last start new e run here written =
     subst (λ (s : Script). HaltsIn s last start new fault) (sym e) (record {
       stopped = inr (inl (record {
@@ -152,7 +140,7 @@ fault_halts script opening rows state fault last start new e run here written =
     })
 
 -- the same, where what is kept is written first
-closes_so : (script : Script) (opening : Opening) (rows : List Answered) (state : State) (keeps : Output) (told fault : ScriptFault) (last : ℕ) (start mid new : Option (List ℕ)) → script ≡ told_behind opening rows (only_fault (Some told)) → Run (opening_of opening) (events_in (asked_in rows)) (answers_in rows) state → Stands keeps (owed_for rows) start mid → told.line ≡ last → Closes keeps (Err told) mid new (Err fault) → HaltsIn script last start new fault
+closes_so : (script : Script) (opening : Setup) (rows : List Answered) (state : State) (keeps : Output) (told fault : ScriptFault) (last : ℕ) (start mid new : Option (List ℕ)) → script ≡ told_behind opening rows (only_fault (Some told)) → Run (initial_state_of opening) (events_in (asked_in rows)) (answers_in rows) state → Stands keeps (owed_for rows) start mid → told.line ≡ last → Closes keeps (Err told) mid new (Err fault) → HaltsIn script last start new fault
 closes_so script opening rows state keeps told fault last start mid new e run stands here closes =
     elim (closes (owed_for rows) start stands) [
       | inl w ↦ subst (λ (f : ScriptFault). HaltsIn script last start new f) (sym (same_fault fault told w.same)) (fault_halts script opening rows state told last start new e run here w.written)

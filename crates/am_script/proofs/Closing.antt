@@ -2,13 +2,8 @@
 use Rattle.std.proofs.Common.{◌≡◌, ℕ, List, [], ◌++◌, Option, Some, None, Result, Err, refl, sym, ap, ◌∙◌, subst, inl, inr}
 use Rattle.std.specs.Io.KnownBytes.{Appends}
 use Rattle.std.proofs.lemmas.List.{append-nil}
-use Rattle.am_script.specs.declared.fault.ScriptFault.{ScriptFault}
+use Rattle.am_script.specs.{ScriptFault, Output, Summary, fault_at, Owed, owed_by, bytes_of, owed_from, IsLost, StandsBy, Settles, Puts, Closes}
 use Rattle.am_script.specs.declared.fault.ScriptFaultKind.TheVariants.{WriteFailed}
-use Rattle.am_script.specs.declared.output.Output.{Output}
-use Rattle.am_script.specs.declared.play.Summary.{Summary}
-use Rattle.am_script.specs.Fault.{fault_at}
-use Rattle.am_script.specs.Outputs.{Owed, owed_by, bytes_of, owed_from, IsLost, StandsBy, Settles, Puts}
-use Rattle.am_script.specs.Turns.{Closes}
 use Rattle.am_script.proofs.Lost.{bytes_by}
 use Rattle.am_script.proofs.OwedLemmas.{stands_new}
 

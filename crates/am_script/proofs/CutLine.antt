@@ -10,9 +10,8 @@ use Rattle.std.proofs.lemmas.Bool.{ltb-true, eqb-true}
 use Rattle.std.proofs.lemmas.Bool.Decides.{nat_tests}
 use Rattle.std.proofs.lemmas.List.Sums.{split_at_first, fails_before_first, passes_at_first}
 use Rattle.std.proofs.lemmas.List.Splits.{length-slice_split}
-use Rattle.am_lines.specs.Lines.{is_line_feed}
-use Rattle.am_script.specs.Lines.{lines_of, lines_in, size_in, EndsNoLine, IsCut}
-use Rattle.am_script.specs.Read.{last_of, cut_line}
+use Rattle.am_lines.specs.{is_line_feed}
+use Rattle.am_script.specs.{lines_of, lines_in, size_in, EndsNoLine, IsCut, last_of, cut_line}
 
 last_more : (line : List ℕ) (lines : List (List ℕ)) → 0 < length lines → last_of (line ∷ lines) ≡ last_of lines
 last_more line [] h = absurd (omega arith)

@@ -2,23 +2,13 @@
 use Rattle.std.proofs.Common.{◌≡◌, ◌≤◌, ◌+◌, ℕ, true, List, [], ◌∷◌, ◌++◌, length, Option, Some, None, Result, Ok, Err, refl, sym, ap, subst, ◌∙◌, inl, inr, append_assoc, arith}
 use Rattle.std.specs.Io.KnownBytes.{Appends}
 use Rattle.std.proofs.lemmas.List.{length_push}
-use Rattle.am_machine.specs.State.{State, Opening, opening_in, opening_of}
-use Rattle.am_script.specs.declared.fault.ScriptFault.{ScriptFault}
-use Rattle.am_script.specs.declared.fault.ScriptFaultKind.{ScriptFaultKind}
+use Rattle.am_machine.specs.State.{State}
+use Rattle.am_machine.specs.{Setup, setup_of, initial_state_of}
+use Rattle.am_script.specs.{ScriptFault, ScriptFaultKind, Output, Summary, fault_at, IsLeft, HeadSoFar, HeadFault, GoesOn, EventsBegin, after_line, first_open, is_long, opening_read, Owed, bytes_of, StandsBy, Settles, HaltsAt, HaltsIn, end_of_head, Ending, with_next, script_behind, HeadStands, EventsStand, PlaceStands, HeadTaken, HeadStops, place_after, script_from, script_by, begun_by, events_from, head_ends, without_world, Closes}
 use Rattle.am_script.specs.declared.fault.ScriptFaultKind.TheVariants.{LongLine, NoMemory}
-use Rattle.am_script.specs.declared.output.Output.{Output}
-use Rattle.am_script.specs.declared.play.Summary.{Summary}
-use Rattle.am_script.specs.Fault.{fault_at}
-use Rattle.am_script.specs.HeadLeft.{IsLeft}
-use Rattle.am_script.specs.Heading.{HeadSoFar, HeadFault, GoesOn, EventsBegin, after_line, first_open}
-use Rattle.am_script.specs.Lines.{is_long}
-use Rattle.am_script.specs.Maps.{opening_read}
-use Rattle.am_script.specs.Outputs.{Owed, bytes_of, StandsBy, Settles}
-use Rattle.am_script.specs.Played.{HaltsAt, HaltsIn, end_of_head}
-use Rattle.am_script.specs.Playing.{Ending, with_next, script_behind, HeadStands, EventsStand, PlaceStands, HeadTaken, HeadStops, place_after}
-use Rattle.am_world.specs.Table.{WorldTable, state_of}
-use Rattle.am_script.specs.Script.{Script, script_from, script_by, begun_by, events_from, head_ends, without_world}
-use Rattle.am_script.specs.Turns.{Closes}
+use Rattle.am_world.specs.Capacity.{state_of}
+use Rattle.am_world.specs.{WorldTable}
+use Rattle.am_script.specs.Script.{Script}
 use Rattle.am_script.proofs.Answering.{script_next, script_ends, EndsSo, same_fault}
 use Rattle.am_script.proofs.Heads.{went, one_taken, begun, ended}
 
@@ -65,14 +55,14 @@ head_more heading next number summary output front line start held h taken = rec
 
 -- the events begin
 pub head_begins : (heading whole : HeadSoFar) (world : State) (number : ℕ) (summary : Summary) (output : Output) (front : List (List ℕ)) (line : List ℕ) (start held : Option (List ℕ)) → HeadStands heading number summary output front start held →
-    after_line heading (number + 1) line ≡ EventsBegin whole → opening_read whole.said ≡ Ok (opening_in world) → world ≡ opening_of (opening_in world) → EventsStand world (number + 1) summary output (front ++ line ∷ []) start held
+    after_line heading (number + 1) line ≡ EventsBegin whole → opening_read whole.said ≡ Ok (setup_of world) → world ≡ initial_state_of (setup_of world) → EventsStand world (number + 1) summary output (front ++ line ∷ []) start held
 head_begins heading whole world number summary output front line start held h taken opens begins = record {
   counted = one_more front line number h.counted;
-  opening = opening_in world;
+  opening = setup_of world;
   rows = [];
   goes = λ ending. script_next front line ending
       ∙ begun ending.broke (front ++ line ∷ ending.lines) heading whole number (line ∷ ending.lines) line ending.lines (h.left (line ∷ ending.lines)) refl taken
-      ∙ ap (λ (r : Result Opening ScriptFault). begun_by r (events_from ending.broke (number + 1) ending.lines)) opens;
+      ∙ ap (λ (r : Result Setup ScriptFault). begun_by r (events_from ending.broke (number + 1) ending.lines)) opens;
   run = begins;
   stands = h.empty;
   lines = h.lines;
@@ -92,7 +82,7 @@ faulty : (script : Script) (fault : ScriptFault) (last : ℕ) (old new : Option 
 faulty script fault last old new e none =
     subst (λ (s : Script). HaltsIn s last old new fault) (sym e) (record { stopped = inr (record { found = refl; written = none }); here = tt })
 
-here_at : (opening : Option Opening) (fault : ScriptFault) (last : ℕ) → fault.line ≡ last → HaltsAt opening fault last
+here_at : (opening : Option Setup) (fault : ScriptFault) (last : ℕ) → fault.line ≡ last → HaltsAt opening fault last
 here_at None fault last e = tt
 here_at (Some opening) fault last e = inr e
 
@@ -120,7 +110,7 @@ head_stops heading number summary output front line start held fault h (inl (inr
 head_stops heading number summary output front line start held fault h (inr (whole, ends, inl fails)) ending =
     faulty (script_behind front (with_next line ending)) fault (length front + 1) start held
     (begun ending.broke (front ++ line ∷ ending.lines) heading whole number (line ∷ ending.lines) line ending.lines (h.left (line ∷ ending.lines)) refl ends
-    ∙ ap (λ (r : Result Opening ScriptFault). begun_by r (events_from ending.broke (number + 1) ending.lines)) fails)
+    ∙ ap (λ (r : Result Setup ScriptFault). begun_by r (events_from ending.broke (number + 1) ending.lines)) fails)
     (nothing_written heading number summary output front start held h)
 head_stops heading number summary output front line start held fault h (inr (whole, ends, inr none)) ending =
     ran_out (script_behind front (with_next line ending)) (number + 1) (length front + 1) fault start held none (omega arith) (ap (λ (n : ℕ). n + 1) (sym h.counted)) (nothing_written heading number summary output front start held h)

@@ -4,18 +4,11 @@ use Rattle.std.specs.Option.{option_map}
 use Rattle.std.specs.Prelude.{codes, drop, Result, Ok, Err, if◌then◌else◌}
 use Rattle.am_names.specs.declared.limits.Limits.{Limits}
 use Rattle.am_master.specs.MasterRow.{MasterRow}
-use Rattle.am_script.specs.declared.fault.ScriptFault.{ScriptFault}
-use Rattle.am_script.specs.declared.heading.Stage.{Stage}
+use Rattle.am_script.specs.{ScriptFault, Stage, fault_at, is_long, are_skipped, limits_read, negative_read, Section, Part, Alone, Whole, Unended, Long, parts_in, part_by, with_line, is_end, are_only, map_name, Headed, Begins, Ends, Faulty, is_limits, is_negative, with_negative, limits_by, negative_by, negative_then, master_by, section_read, bad_section, too_long, stage_then, section_then, left_in, head_left, HeadSoFar, Taken, GoesOn, EventsBegin, HeadFault, after_line, after_short_line, after_words, after_lone_line, after_limits, after_negative, after_events, may_open, closed, mastered, first_open}
 use Rattle.am_script.specs.declared.heading.Stage.TheVariants as stages
 use Rattle.am_script.specs.declared.fault.ScriptFaultKind.TheVariants.{BadSection, LongLine}
-use Rattle.am_script.specs.Fault.{fault_at}
-use Rattle.am_lines.specs.Words.{words_of}
-use Rattle.am_script.specs.Lines.{is_long, are_skipped}
-use Rattle.am_script.specs.Limits.{limits_read, negative_read}
-use Rattle.am_script.specs.Sections.{Section, Part, Alone, Whole, Unended, Long, parts_in, part_by, with_line, is_end, are_only, map_name}
-use Rattle.am_script.specs.Head.{Head, Headed, Begins, Ends, Faulty, is_limits, is_negative, with_negative, limits_by, negative_by, negative_then, master_by, section_read, bad_section, too_long}
-use Rattle.am_script.specs.HeadLeft.{stage_then, section_then, left_in, head_left}
-use Rattle.am_script.specs.Heading.{HeadSoFar, Taken, GoesOn, EventsBegin, HeadFault, after_line, after_short_line, after_words, after_lone_line, after_limits, after_negative, after_events, may_open, closed, mastered, first_open}
+use Rattle.am_lines.specs.{words_of}
+use Rattle.am_script.specs.Head.{Head}
 
 -- what follows a line by what it makes of the head
 abbrev pub follows : Taken → ℕ → (HeadSoFar → Headed) → Headed

@@ -1,13 +1,7 @@
 -- A script whose head is read line by line.
 use Rattle.std.proofs.Common.{◌≡◌, ◌≤◌, ◌+◌, ℕ, List, [], ◌∷◌, length, drop, Option, refl, sym, ap, ◌∙◌, arith}
 use Rattle.std.proofs.lemmas.List.{drop-drop}
-use Rattle.am_script.specs.declared.fault.ScriptFaultKind.{ScriptFaultKind}
-use Rattle.am_script.specs.Sections.{parts_of_lines}
-use Rattle.am_script.specs.Head.{head_of}
-use Rattle.am_script.specs.Heading.{HeadSoFar, no_lines, Taken, GoesOn, EventsBegin, after_line, first_open}
-use Rattle.am_script.specs.Maps.{opening_read}
-use Rattle.am_script.specs.Script.{script_from, script_by, begun_by, events_from, head_ends}
-use Rattle.am_script.specs.HeadLeft.{IsLeft, head_left}
+use Rattle.am_script.specs.{ScriptFaultKind, parts_of_lines, head_of, HeadSoFar, no_lines, Taken, GoesOn, EventsBegin, after_line, first_open, opening_read, script_from, script_by, begun_by, events_from, head_ends, IsLeft, head_left}
 use Rattle.am_script.proofs.HeadSteps.{follows, head_step, head_ends_so}
 
 pub none_taken : (all : List (List ℕ)) → IsLeft all no_lines 0 all

@@ -5,8 +5,7 @@ use Rattle.std.specs.Option.{option_or, option_copied}
 use Rattle.std.proofs.lemmas.Bool.{cases_Bool}
 use Rattle.std.proofs.lemmas.List.{take_more}
 use Rattle.std.proofs.lemmas.List.Folds.{find-append}
-use Rattle.am_script.specs.Sections.{Section}
-use Rattle.am_script.specs.Maps.{is_named, section_for}
+use Rattle.am_script.specs.{Section, is_named, section_for}
 
 -- ---- what the index finds
 

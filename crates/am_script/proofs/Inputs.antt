@@ -1,9 +1,6 @@
 -- What reading broke off is played up to its last whole line.
 use Rattle.std.proofs.Common.{◌≡◌, ◌-◌, ℕ, List, length, take, Some, ap, ◌∙◌}
-use Rattle.am_script.specs.declared.fault.ScriptFaultKind.{ScriptFaultKind}
-use Rattle.am_script.specs.Lines.{lines_of}
-use Rattle.am_script.specs.Read.{cut_line, cut_kind, played}
-use Rattle.am_script.specs.Script.{script_from, script_of}
+use Rattle.am_script.specs.{ScriptFaultKind, lines_of, cut_line, cut_kind, played, script_from, script_of}
 
 pub cut_script : (text slice cut whole : List ℕ) (kind told : ScriptFaultKind) → slice ≡ text → cut ≡ cut_line slice → told ≡ cut_kind cut kind → whole ≡ take (length slice - length cut) slice → script_from (Some told) (lines_of whole) ≡ script_of (Some kind) text
 cut_script text slice cut whole kind told e f g h =

@@ -1,7 +1,6 @@
 pub mod Answering
 pub mod Closing
 pub mod CutLine
-pub mod FirstRead
 pub mod HeadPlaying
 pub mod HeadSteps
 pub mod Heads

@@ -1,13 +1,8 @@
 -- What a line comes to, by what it says.
 use Rattle.std.proofs.Common.{◌≡◌, ◌++◌, ℕ, Bool, List, Option, Some, None, Result, Ok, Err, subst}
-use Rattle.am_machine.specs.declared.event.Event.{Event}
-use Rattle.am_machine.specs.declared.answer.Answer.{Answer}
+use Rattle.am_machine.specs.{Event, Answer}
 use Rattle.am_machine.specs.State.{State}
-use Rattle.am_script.specs.declared.fault.ScriptFaultKind.{ScriptFaultKind}
-use Rattle.am_script.specs.declared.output.Output.{Output}
-use Rattle.am_script.specs.Answers.{answer_line, is_refused}
-use Rattle.am_script.specs.Outputs.{owed_by, Stands, Settles, Puts}
-use Rattle.am_script.specs.Turns.{LineAnswered, TurnDone, TurnStopped}
+use Rattle.am_script.specs.{ScriptFaultKind, Output, answer_line, is_refused, owed_by, Stands, Settles, Puts, LineAnswered, TurnDone, TurnStopped}
 
 -- its answer is put out
 pub turn_of_an_event : (s next : State) (said : Result (Option Event) ScriptFaultKind) (answer : Answer) (number : ℕ) (kept mid keeps : Output) (old now new : Option (List ℕ)) (refused : Bool) → LineAnswered s said next (Ok (Some answer)) → Settles kept mid old now → mid.line ≡ number → Puts mid keeps (answer_line answer) now new → refused ≡ is_refused answer → TurnDone s said next number kept keeps old new (Some refused)

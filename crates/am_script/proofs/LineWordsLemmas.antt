@@ -1,10 +1,6 @@
 -- A line that has another number of words is no event, and says not how long failures last.
 use Rattle.std.proofs.Common.{◌≡◌, ℕ, false, List, [], ◌∷◌, None, refl}
-use Rattle.am_script.specs.Limits.{negative_read}
-use Rattle.am_script.specs.LineWords.{is_one, are_two, are_three, are_five}
-use Rattle.am_script.specs.WalkerLines.{walk_read, resume_read, leave_read, expire_read}
-use Rattle.am_script.specs.DaemonLines.{attach_read, repeat_read, catatonic_read, timeout_read, reattach_read, record_read}
-use Rattle.am_script.specs.AdministratorLines.{mount_read, bind_read, umount_read, change_line_read, kind_read, nsdrop_read, admincat_read}
+use Rattle.am_script.specs.{negative_read, is_one, are_two, are_three, are_five, walk_read, resume_read, leave_read, expire_read, attach_read, repeat_read, catatonic_read, timeout_read, reattach_read, record_read, mount_read, bind_read, umount_read, change_line_read, kind_read, nsdrop_read, admincat_read}
 
 pub no_walk : (words : List (List ℕ)) → are_five words ≡ false → walk_read words ≡ None
 no_walk [] h = refl

@@ -2,10 +2,7 @@
 use Rattle.std.proofs.Common.{◌≡◌, ◌⊎◌, ◌<◌, ℕ, suc, List, [], ◌∷◌, ◌++◌, length, take, drop, refl, sym, ap, ap₂, ◌∙◌, append_assoc, append-nil, ⊎_elim, inl, inr, arith}
 use Rattle.std.proofs.lemmas.Grind.{flat_map-append}
 use Rattle.am_script.proofs.OwedLemmas.{bytes_more}
-use Rattle.am_script.specs.Answers.{answer_line}
-use Rattle.am_script.specs.Outputs.{Owed, owed_by, bytes_of}
-use Rattle.am_script.specs.Played.{lines_for}
-use Rattle.am_script.specs.Playing.{Answered, answers_in, owed_for}
+use Rattle.am_script.specs.{answer_line, Owed, owed_by, bytes_of, lines_for, Answered, answers_in, owed_for}
 
 pub owed_push : (rows : List Answered) (row : Answered) → owed_for (rows ++ row ∷ []) ≡ owed_for rows ++ owed_by row.asked.line (answer_line row.answer)
 owed_push rows row =

@@ -1,11 +1,9 @@
 -- Maps are read one after another.
 use Rattle.std.proofs.Common.{◌≡◌, ◌+◌, ◌<◌, ℕ, suc, List, [], ◌∷◌, ◌++◌, length, drop, get_or, refl, sym, ap, ◌∙◌, append_assoc, add-one, drop-cons}
 use Rattle.std.specs.Prelude.{Result, Ok, Err}
-use Rattle.am_map.specs.EntryText.{Row}
+use Rattle.am_map.specs.{Row}
 use Rattle.am_master.specs.MasterRow.{MasterRow}
-use Rattle.am_script.specs.declared.fault.ScriptFault.{ScriptFault}
-use Rattle.am_script.specs.Sections.{Section}
-use Rattle.am_script.specs.Maps.{before_maps, map_by, maps_read, section_for}
+use Rattle.am_script.specs.{ScriptFault, Section, before_maps, map_by, maps_read, section_for}
 
 -- the maps that are read, and those that follow
 abbrev pub behind : List (List Row) → Result (List (List Row)) ScriptFault → Result (List (List Row)) ScriptFault

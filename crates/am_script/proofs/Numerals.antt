@@ -8,8 +8,8 @@ use Rattle.std.specs.Result.{result_ok}
 use Rattle.std.specs.Str.{IsAscii, IsUtf8}
 use Rattle.std.specs.Str.Parse.{ParsesUnsigned, digits_value}
 use Rattle.am_names.proofs.Basics.{left_of_and, right_of_and}
-use Rattle.am_lines.specs.Digits.{is_digit}
-use Rattle.am_script.specs.Numbers.{is_numeral, number_read}
+use Rattle.am_lines.specs.{is_digit}
+use Rattle.am_script.specs.{is_numeral, number_read}
 
 -- std reads decimal digits as `digits_value` does
 std_reads_digits : IsNumeralModel (λ ds. list_all is_digit ds ≡ true) (digits_value 10)

@@ -1,21 +1,11 @@
 -- A script whose events others play.
 use Rattle.std.proofs.Common.{◌≡◌, ◌⊎◌, ◌≤◌, ◌+◌, ◌-◌, ℕ, List, [], ◌∷◌, length, take, Option, Some, None, Result, Ok, Err, IfOk, IfErr, refl, sym, ap, subst, ◌∙◌, inl, inr, arith}
-use Rattle.am_machine.specs.declared.event.Event.{Event}
-use Rattle.am_machine.specs.State.{Opening}
-use Rattle.am_script.specs.declared.fault.ScriptFault.{ScriptFault}
-use Rattle.am_script.specs.declared.fault.ScriptFaultKind.{ScriptFaultKind}
+use Rattle.am_machine.specs.{Event, Setup}
+use Rattle.am_script.specs.{ScriptFault, ScriptFaultKind, fault_at, IsFaultOr, HeadSoFar, EventsBegin, HeadFault, StopsAt, after_line, first_open, lines_of, lines_in, opening_read, OpenedAs, NotOpened, NoRoom, NoNext, cut_line, cut_kind, played, broken, Told, script_from, script_of, script_by, begun_by, events_from, head_ends, told_by, without_world, line_read, LineReadAs, SaysEvent, IsLeft}
 use Rattle.am_script.specs.declared.fault.ScriptFaultKind.TheVariants.{NoMemory}
 use Rattle.am_script.specs.declared.visit.Opened.{Opened}
-use Rattle.am_script.specs.Fault.{fault_at, IsFaultOr}
-use Rattle.am_script.specs.Heading.{HeadSoFar, EventsBegin, HeadFault, StopsAt, after_line, first_open}
-use Rattle.am_script.specs.Lines.{lines_of, lines_in}
-use Rattle.am_script.specs.Maps.{opening_read}
-use Rattle.am_script.specs.Opened.{OpenedAs, NotOpened, NoRoom, NoNext}
-use Rattle.am_script.specs.Read.{cut_line, cut_kind, played, broken}
-use Rattle.am_script.specs.Script.{Script, Told, script_from, script_of, script_by, begun_by, events_from, head_ends, told_by, without_world, line_read}
-use Rattle.am_script.specs.Turns.{LineReadAs, SaysEvent}
+use Rattle.am_script.specs.Script.{Script}
 use Rattle.am_script.specs.declared.fault.ScriptFaultKind.TheVariants as kinds
-use Rattle.am_script.specs.HeadLeft.{IsLeft}
 use Rattle.am_script.proofs.Heads.{went, begun, taken_within, ended}
 use Rattle.am_script.proofs.Answering.{events_step}
 use Rattle.am_script.proofs.Inputs.{cut_script, cut_text}
@@ -37,8 +27,8 @@ more_room : (few many : ℕ) (script : Script) (fault : ScriptFault) → few ≤
 more_room few many script fault fits (inl e) = inl e
 more_room few many script fault fits (inr none) = inr (record { kind = none.kind; first = none.first; line = omega (arith, none.line, fits) })
 
-pub begin_fails_it : (before : ℕ) (read : Result Opening ScriptFault) (told : Told) (fault : ScriptFault) → 1 ≤ before → IsFaultOr before fault read → NotOpened before (begun_by read told) fault
-begin_fails_it before read told fault first (inl f) = inl (ap (λ (r : Result Opening ScriptFault). begun_by r told) f)
+pub begin_fails_it : (before : ℕ) (read : Result Setup ScriptFault) (told : Told) (fault : ScriptFault) → 1 ≤ before → IsFaultOr before fault read → NotOpened before (begun_by read told) fault
+begin_fails_it before read told fault first (inl f) = inl (ap (λ (r : Result Setup ScriptFault). begun_by r told) f)
 begin_fails_it before read told fault first (inr none) = inr (no_room before before fault none first (omega arith))
 
 -- what is opened behind the head is the whole script

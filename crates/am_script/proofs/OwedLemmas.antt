@@ -4,8 +4,7 @@ use Rattle.std.specs.Io.KnownBytes.{Appends}
 use Rattle.std.proofs.lemmas.Bool.{lt-ltb, le-ltb, cases_lt}
 use Rattle.std.proofs.lemmas.List.{map-append}
 use Rattle.std.proofs.lemmas.List.Elements.{All-head, All-tail, All-nil, All-push, All-weaker}
-use Rattle.am_script.specs.declared.output.Mark.{Mark}
-use Rattle.am_script.specs.Outputs.{Owed, owed_by, bytes_of, line_of, line_at, lost_behind, owed_from, IsOwed, IsLost, StandsBy, StandsOf}
+use Rattle.am_script.specs.{Mark, Owed, owed_by, bytes_of, line_of, line_at, lost_behind, owed_from, IsOwed, IsLost, StandsBy, StandsOf}
 use Rattle.am_script.proofs.Writes.{appends_more, appends_none}
 
 abbrev EndBy : ℕ → List Mark → Type 0

@@ -2,9 +2,7 @@
 use Rattle.std.proofs.Common.{◌≡◌, ◌<◌, ◌+◌, ℕ, List, [], ◌∷◌, ◌++◌, length, take, get_or, codes, decimal, Option, refl, sym, ap, ◌∙◌, subst, append_assoc, append-nil}
 use Rattle.std.proofs.lemmas.List.{map-append, take_more}
 use Rattle.std.proofs.lemmas.Grind.{flat_map-append}
-use Rattle.am_script.specs.declared.output.Output.{Output}
-use Rattle.am_script.specs.Answers.{mounts_text}
-use Rattle.am_script.specs.Outputs.{Owed, owed_by, Stands, Puts}
+use Rattle.am_script.specs.{Output, mounts_text, Owed, owed_by, Stands, Puts}
 
 joined : (all : List Owed) (line other : ℕ) (xs ys : List ℕ) → other ≡ line → (all ++ owed_by line xs) ++ owed_by other ys ≡ all ++ owed_by line (xs ++ ys)
 joined all line other xs ys e =

@@ -1,27 +1,14 @@
 -- A script that is played line by line, in its head and behind it.
 use Rattle.std.proofs.Common.{◌≡◌, ◌+◌, ℕ, Bool, true, List, [], ◌∷◌, ◌++◌, length, Option, Some, None, Result, Ok, Err, IfOk, IfErr, refl, sym, subst}
-use Rattle.am_script.specs.declared.fault.ScriptFault.{ScriptFault}
-use Rattle.am_script.specs.declared.fault.ScriptFaultKind.{ScriptFaultKind}
+use Rattle.am_script.specs.{ScriptFault, ScriptFaultKind, Output, Summary, Place, Player, fault_at, HeadSoFar, no_lines, first_open, IsLeft, is_long, Settles, HaltsIn, end_of_head, Ending, with_next, script_behind, HeadStands, EventsStand, PlaceStands, PlayerStands, place_after, HeadTaken, HeadStops, EndsPlayed, EndsStopped, line_read, script_from, TurnDone, TurnStopped, Closes, counted}
 use Rattle.am_script.specs.declared.fault.ScriptFaultKind.TheVariants.{LongLine, WriteFailed}
-use Rattle.am_script.specs.declared.output.Output.{Output}
-use Rattle.am_script.specs.declared.play.Summary.{Summary}
-use Rattle.am_script.specs.declared.player.Place.{Place}
 use Rattle.am_script.specs.declared.player.Place.TheVariants as places
-use Rattle.am_script.specs.declared.player.Player.{Player}
-use Rattle.am_script.specs.Fault.{fault_at}
-use Rattle.am_script.specs.Heading.{HeadSoFar, no_lines, first_open}
-use Rattle.am_script.specs.HeadLeft.{IsLeft}
-use Rattle.am_script.specs.Lines.{is_long}
-use Rattle.am_script.specs.Outputs.{Settles}
-use Rattle.am_script.specs.Played.{HaltsIn, end_of_head}
-use Rattle.am_script.specs.Playing.{Ending, with_next, script_behind, HeadStands, EventsStand, PlaceStands, PlayerStands, place_after, HeadTaken, HeadStops, EndsPlayed, EndsStopped}
-use Rattle.am_script.specs.Script.{line_read, script_from}
-use Rattle.am_script.specs.Turns.{TurnDone, TurnStopped, Closes, counted}
 use Rattle.am_script.proofs.Answering.{EndsSo, events_more, events_stop, events_long, events_lost, events_flush, events_end, events_broke}
 use Rattle.am_script.proofs.HeadPlaying.{head_takes, head_stops, head_long, head_flush, head_loses_none, head_ends_as}
 use Rattle.am_script.proofs.Heads.{none_taken}
 use Rattle.am_script.proofs.OwedLemmas.{stands_new}
-use Rattle.am_world.specs.Table.{WorldTable, state_of}
+use Rattle.am_world.specs.Capacity.{state_of}
+use Rattle.am_world.specs.{WorldTable}
 
 -- nothing is taken yet
 pub new_stands : (heading : HeadSoFar) (output : Output) (start : Option (List ℕ)) → heading ≡ no_lines → output.bytes.items ≡ [] → output.marks.items ≡ [] → output.lost ≡ None → HeadStands heading 0 (record { lines = 0; refused = 0 }) output [] start start

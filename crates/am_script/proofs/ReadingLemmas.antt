@@ -6,19 +6,10 @@ use Rattle.std.proofs.lemmas.Bool.{lt-ltb, le-ltb, ltb-true, ltb-false, false≢
 use Rattle.std.proofs.lemmas.List.{length-append, length_push, take_at}
 use Rattle.std.proofs.lemmas.List.Elements.{All-nil, All-head, All-tail, All-append}
 use Rattle.std.proofs.lemmas.List.Splits.{slice_split_none, slice_split_at, slice_split-cons_no}
-use Rattle.am_lines.specs.Lines.{is_line_feed}
-use Rattle.am_script.specs.declared.fault.ScriptFault.{ScriptFault}
-use Rattle.am_script.specs.declared.fault.ScriptFaultKind.{ScriptFaultKind}
+use Rattle.am_lines.specs.{is_line_feed}
+use Rattle.am_script.specs.{ScriptFault, ScriptFaultKind, Summary, Player, lines_of, is_long, EndsNoLine, IsCut, HaltsIn, Halts, IsPlayed, BreaksOff, PlaysInput, StopsInput, PlayerStands, TakesLine, StopsAtLine, StopsAtLong, LosesAnswer, Flushes, EndsPlayed, EndsStopped, last_of, cut_line, cut_kind, played, ReadingStands, TakesBytes, StopsInBytes, EndsRead, StopsRead, BreaksRead, script_from}
 use Rattle.am_script.specs.declared.fault.ScriptFaultKind.TheVariants.{ReadFailed}
-use Rattle.am_script.specs.declared.play.Summary.{Summary}
-use Rattle.am_script.specs.declared.player.Player.{Player}
 use Rattle.am_script.specs.declared.reading.Reading.{Reading}
-use Rattle.am_script.specs.Lines.{lines_of, is_long, EndsNoLine, IsCut}
-use Rattle.am_script.specs.Played.{HaltsIn, Halts, IsPlayed, BreaksOff, PlaysInput, StopsInput}
-use Rattle.am_script.specs.Playing.{PlayerStands, TakesLine, StopsAtLine, StopsAtLong, LosesAnswer, Flushes, EndsPlayed, EndsStopped}
-use Rattle.am_script.specs.Read.{last_of, cut_line, cut_kind, played}
-use Rattle.am_script.specs.Reading.{ReadingStands, TakesBytes, StopsInBytes, EndsRead, StopsRead, BreaksRead}
-use Rattle.am_script.specs.Script.{script_from}
 
 -- ---- lines
 

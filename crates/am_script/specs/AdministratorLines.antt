@@ -1,11 +1,11 @@
 -- The lines of what an administrator does: own choice (docs/FORMATS.md, "Events").
-use Rattle.std.specs.Prelude.{ℕ, List, [], ◌∷◌, codes, bytes_eq, Option, None, Some, option_map, if◌then◌else◌}
+use Rattle.std.specs.Prelude.{ℕ, List, [], ◌∷◌, Option, None, Some, option_map}
 use Rattle.std.specs.Result.{result_ok}
-use Rattle.am_names.specs.Path.{path_read}
-use Rattle.am_group.specs.declared.kind.Change.{Change}
-use Rattle.am_propagate.specs.declared.subtree.namespace.CopyForm.{CopyForm}
+use Rattle.am_names.specs.{path_read}
+use Rattle.am_group.specs.{Change}
+use Rattle.am_propagate.specs.{CopyForm}
 use Rattle.am_propagate.specs.declared.subtree.namespace.CopyForm.TheVariants.{Full}
-use Rattle.am_machine.specs.declared.event.Event.{Event}
+use Rattle.am_machine.specs.{Event}
 use Rattle.am_machine.specs.declared.event.Event.TheVariants as events
 use Rattle.am_script.specs.Numbers.{u32_read}
 use Rattle.am_script.specs.EventWords.{change_read, form_read}
@@ -102,16 +102,3 @@ nsdrop_read words = None
 abbrev pub admincat_read : List (List ℕ) → Option Event
 admincat_read (fs ∷ []) = option_map events.AdminCatatonic (u32_read fs)
 admincat_read words = None
-
--- a line of an administrator, by its first word and the others
-abbrev pub administrator_read : List ℕ → List (List ℕ) → Option Event
-administrator_read word words =
-    if bytes_eq word (codes "mount") then mount_read words
-    else if bytes_eq word (codes "bind") then bind_read words
-    else if bytes_eq word (codes "umount") then umount_read words
-    else if bytes_eq word (codes "change") then change_line_read words
-    else if bytes_eq word (codes "kind") then kind_read words
-    else if bytes_eq word (codes "nscopy") then nscopy_read words
-    else if bytes_eq word (codes "nsdrop") then nsdrop_read words
-    else if bytes_eq word (codes "admincat") then admincat_read words
-    else None

@@ -1,13 +1,12 @@
 -- How answers are written: own choice (docs/FORMATS.md, "Answer lines").
 use Rattle.std.specs.Prelude.{ℕ, Bool, true, false, ◌==◌, List, [], ◌∷◌, ◌++◌, length, codes, decimal, Option, None, Some, if◌then◌else◌}
 use Rattle.std.specs.List.{flat_map}
-use Rattle.am_names.specs.Errno.{errno_number}
-use Rattle.am_names.specs.Path.{text_of}
-use Rattle.am_group.specs.declared.kind.Kind.{Kind}
-use Rattle.am_group.specs.declared.kind.Kind.TheVariants.{Shared, Slave, SharedSlave, Private, Unbindable}
-use Rattle.am_state.specs.declared.daemon_row.Record.{Record}
+use Rattle.am_names.specs.{errno_number, text_of}
+use Rattle.am_group.specs.{MountState}
+use Rattle.am_group.specs.declared.mount_state.MountState.TheVariants.{Shared, Slave, SharedSlave, Private, Unbindable}
+use Rattle.am_state.specs.{Record}
 use Rattle.am_state.specs.declared.daemon_row.Record.TheVariants.{Mounting, Mounted, Unmounting}
-use Rattle.am_machine.specs.declared.answer.Answer.{Answer}
+use Rattle.am_machine.specs.{Answer}
 use Rattle.am_machine.specs.declared.answer.Answer.TheVariants as answers
 
 -- the names below the mount's root, each behind a slash; the root is one slash
@@ -15,7 +14,7 @@ abbrev pub place_text : List (List ℕ) → List ℕ
 place_text place = if length (text_of place) == 0 then codes "/" else text_of place
 
 -- the state of a mount
-abbrev pub kind_text : Kind → List ℕ
+abbrev pub kind_text : MountState → List ℕ
 kind_text Shared = codes "shared"
 kind_text Slave = codes "slave"
 kind_text SharedSlave = codes "shared-slave"

@@ -1,10 +1,9 @@
 -- The lines of what the daemon does: own choice (docs/FORMATS.md, "Events").
-use Rattle.std.specs.Prelude.{ℕ, List, [], ◌∷◌, codes, bytes_eq, Option, None, Some, option_map, if◌then◌else◌}
+use Rattle.std.specs.Prelude.{ℕ, List, [], ◌∷◌, Option, None, Some, option_map}
 use Rattle.std.specs.Result.{result_ok}
-use Rattle.am_names.specs.Path.{path_read}
+use Rattle.am_names.specs.{path_read, Status}
 use Rattle.am_names.specs.declared.fail_no.FailNo.{FailNo}
-use Rattle.am_names.specs.declared.trigger.Status.{Status}
-use Rattle.am_machine.specs.declared.event.Event.{Event}
+use Rattle.am_machine.specs.{Event}
 use Rattle.am_machine.specs.declared.event.Event.TheVariants as events
 use Rattle.am_script.specs.Numbers.{u32_read}
 use Rattle.am_script.specs.EventWords.{outcome_read, status_read, trigger_name_read, packet_read}
@@ -90,22 +89,3 @@ record_of fs name = None
 abbrev pub record_read : List (List ℕ) → Option Event
 record_read (fs ∷ name ∷ []) = record_of (u32_read fs) (trigger_name_read name)
 record_read words = None
-
--- a line of the daemon's work, by its first word and the others
-abbrev pub work_read : List ℕ → List (List ℕ) → Option Event
-work_read word words =
-    if bytes_eq word (codes "deliver") then deliver_read words
-    else if bytes_eq word (codes "act") then act_read words
-    else if bytes_eq word (codes "repeat") then repeat_read words
-    else if bytes_eq word (codes "record") then record_read words
-    else None
-
--- a line of the daemon's attachments
-abbrev pub attachment_read : List ℕ → List (List ℕ) → Option Event
-attachment_read word words =
-    if bytes_eq word (codes "attach") then attach_read words
-    else if bytes_eq word (codes "catatonic") then catatonic_read words
-    else if bytes_eq word (codes "timeout") then timeout_read words
-    else if bytes_eq word (codes "die") then die_read words
-    else if bytes_eq word (codes "reattach") then reattach_read words
-    else None

@@ -3,8 +3,7 @@
 -- (docs/FORMATS.md, "The head").
 use Rattle.std.specs.Prelude.{ℕ, Bool, false, is_some, List, [], ◌∷◌, ◌++◌, codes, bytes_eq, drop, Option, None, Some, Result, Ok, Err, if◌then◌else◌}
 use Rattle.am_names.specs.declared.limits.Limits.{Limits}
-use Rattle.am_master.specs.declared.fault.MasterFault.{MasterFault}
-use Rattle.am_master.specs.Grammar.{master_read}
+use Rattle.am_master.specs.{MasterFault, master_read}
 use Rattle.am_master.specs.MasterRow.{MasterRow}
 use Rattle.am_script.specs.declared.fault.ScriptFault.{ScriptFault}
 use Rattle.am_script.specs.declared.fault.ScriptFaultKind.TheVariants.{BadSection, BadLimits, BadMaster, LongLine}
@@ -23,7 +22,7 @@ pub record Head : Type 0 where
   pub master : Mastered
   pub maps : List Section
 
--- own (docs/DECISIONS.md, "A script without a master section has an empty master map")
+-- own choice (docs/DECISIONS.md, "A script without a master section has an empty master map")
 abbrev pub no_head : Head
 no_head = record { limits = default_limits; master = record { first = 0; rows = [] }; maps = [] }
 
@@ -107,8 +106,8 @@ abbrev pub negative_by : Option ℕ → ℕ → Head → List Part → Headed
 negative_by (Some seconds) number head parts = master_then (with_negative head seconds) parts
 negative_by None number head parts = Faulty (fault_at number BadLimits)
 
--- how long failures last if that comes next, and what may follow it:
--- own (docs/DECISIONS.md, "A failure has a number, and may last")
+-- how long failures last if that comes next, and what may follow it: own choice (docs/DECISIONS.md,
+-- "A failure has a number, and may last")
 abbrev pub negative_then : Head → List Part → Headed
 negative_then head (Alone number words ∷ parts) =
     if is_negative words then negative_by (negative_read (drop 1 words)) number head parts

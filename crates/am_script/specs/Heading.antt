@@ -7,7 +7,7 @@ use Rattle.am_script.specs.declared.fault.ScriptFaultKind.TheVariants.{BadSectio
 use Rattle.am_script.specs.declared.heading.Stage.{Stage}
 use Rattle.am_script.specs.declared.heading.Stage.TheVariants as stages
 use Rattle.am_script.specs.Fault.{fault_at}
-use Rattle.am_lines.specs.Words.{words_of}
+use Rattle.am_lines.specs.{words_of}
 use Rattle.am_script.specs.Lines.{is_long, are_skipped}
 use Rattle.am_script.specs.Limits.{limits_read, negative_read}
 use Rattle.am_script.specs.Sections.{Section, section_opened, with_line, is_end, are_only}

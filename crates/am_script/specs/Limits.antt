@@ -1,7 +1,7 @@
 -- The limits of a script, and how long its failures last: own choice (docs/FORMATS.md, "The head").
 use Rattle.std.specs.Prelude.{ℕ, List, [], ◌∷◌, Option, None, Some, if◌then◌else◌}
 use Rattle.am_names.specs.declared.limits.Limits.{Limits}
-use Rattle.am_names.specs.Limits.{is_in_range}
+use Rattle.am_names.specs.{is_in_range}
 use Rattle.am_script.specs.Numbers.{u32_read, u64_read}
 
 -- 1000000 mounts, 1024 waiters, 4294967295 tokens; a failure doesn't last

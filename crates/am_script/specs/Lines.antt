@@ -2,8 +2,7 @@
 -- Own choice (docs/FORMATS.md, "Lines and words").
 use Rattle.std.specs.Prelude.{◌≡◌, ℕ, ◌+◌, Bool, true, false, nat_lt, All, List, [], ◌∷◌, ◌++◌, length, Option, None, Some}
 use Rattle.std.specs.List.{slice_split}
-use Rattle.am_lines.specs.Lines.{is_line_feed}
-use Rattle.am_lines.specs.Words.{begins_with}
+use Rattle.am_lines.specs.{is_line_feed, begins_with}
 
 -- the lines of a text: what stands between line feeds. Behind a last line feed there is a line
 -- without bytes, which is skipped.

@@ -1,15 +1,12 @@
 -- The maps of a master: for each of its lines, in order, the first section of that name. Own choice
 -- (docs/FORMATS.md, "The head").
 use Rattle.std.specs.Prelude.{ℕ, Bool, false, List, [], ◌∷◌, find, bytes_eq, Option, None, Some, Result, Ok, Err}
-use Rattle.am_map.specs.EntryText.{Row}
-use Rattle.am_map.specs.Grammar.{map_read}
-use Rattle.am_map.specs.declared.fault.MapFault.{MapFault}
-use Rattle.am_map.specs.declared.kind.MapKind.{MapKind}
+use Rattle.am_map.specs.{Row, map_read, MapFault, MapKind}
 use Rattle.am_map.specs.declared.kind.MapKind.TheVariants as kinds
 use Rattle.am_master.specs.MasterRow.{MasterRow}
-use Rattle.am_master.specs.declared.point.Point.{Point}
+use Rattle.am_master.specs.{Point}
 use Rattle.am_master.specs.declared.point.Point.TheVariants.{Direct, Indirect}
-use Rattle.am_machine.specs.State.{Opening}
+use Rattle.am_machine.specs.{Setup}
 use Rattle.am_script.specs.declared.fault.ScriptFault.{ScriptFault}
 use Rattle.am_script.specs.declared.fault.ScriptFaultKind.TheVariants.{BadMap, NoSuchMap}
 use Rattle.am_script.specs.Sections.{Section}
@@ -52,10 +49,10 @@ maps_read sections first [] = Ok []
 maps_read sections first (row ∷ rows) = before_maps (map_by (section_for sections row.map) first row) (maps_read sections first rows)
 
 -- what a world begins with that has these maps
-abbrev pub opening_with : Head → Result (List (List Row)) ScriptFault → Result Opening ScriptFault
+abbrev pub opening_with : Head → Result (List (List Row)) ScriptFault → Result Setup ScriptFault
 opening_with head (Ok maps) = Ok (record { limits = head.limits; master = head.master.rows; maps = maps })
 opening_with head (Err fault) = Err fault
 
 -- what a world begins with, behind a whole head
-abbrev pub opening_read : Head → Result Opening ScriptFault
+abbrev pub opening_read : Head → Result Setup ScriptFault
 opening_read head = opening_with head (maps_read head.maps head.master.first head.master.rows)

@@ -2,7 +2,7 @@
 use Rattle.std.specs.Prelude.{ℕ, ◌^◌, Bool, false, not, ◌&&◌, ◌||◌, ◌==◌, nat_lt, List, [], ◌∷◌, length, Option, None, Some, if◌then◌else◌}
 use Rattle.std.specs.List.{list_all}
 use Rattle.std.specs.Str.Parse.{digits_value}
-use Rattle.am_lines.specs.Digits.{is_digit}
+use Rattle.am_lines.specs.{is_digit}
 
 -- decimal digits without a sign, and no zero before others
 abbrev pub is_numeral : List ℕ → Bool

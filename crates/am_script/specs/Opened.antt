@@ -1,6 +1,6 @@
 -- A script that others play: its world, and then its events one by one. Own choice.
 use Rattle.std.specs.Prelude.{◌≡◌, ◌⊎◌, ◌≤◌, ◌<◌, ℕ, ◌+◌, ◌^◌, ◌∷◌, Option, None, Some, Ok, option_copied}
-use Rattle.am_machine.specs.State.{opening_in, opening_of}
+use Rattle.am_machine.specs.{setup_of, initial_state_of}
 use Rattle.am_script.specs.declared.fault.ScriptFault.{ScriptFault}
 use Rattle.am_script.specs.declared.fault.ScriptFaultKind.{ScriptFaultKind}
 use Rattle.am_script.specs.declared.fault.ScriptFaultKind.TheVariants.{NoMemory}
@@ -8,14 +8,14 @@ use Rattle.am_script.specs.declared.visit.Opened.{Opened}
 use Rattle.am_script.specs.declared.visit.Found.{Found}
 use Rattle.am_script.specs.Lines.{lines_in, size_in}
 use Rattle.am_script.specs.Script.{Numbered, Told, Script, events_from, told_by, only_fault, without_world}
-use Rattle.am_world.specs.Table.{state_of}
+use Rattle.am_world.specs.Capacity.{state_of}
 
 -- ---- the head
 
 -- the world of the script, and the events that it tells, up to where reading broke off
 pub record IsOpened (broke : Option ScriptFaultKind) (script : Script) (opened : Opened) : Type 0 where
-  pub opening : script.opening ≡ Some (opening_in (state_of opened.world))
-  pub world : state_of opened.world ≡ opening_of (opening_in (state_of opened.world))
+  pub opening : script.opening ≡ Some (setup_of (state_of opened.world))
+  pub world : state_of opened.world ≡ initial_state_of (setup_of (state_of opened.world))
   pub told : script.told ≡ events_from opened.broke opened.line (lines_in (option_copied opened.rest))
   pub cut : opened.broke ≡ broke
   pub fits : opened.line + size_in (option_copied opened.rest) ≤ 2 ^ 63

@@ -3,9 +3,8 @@
 use Rattle.std.specs.Prelude.{⊤, ◌≡◌, ◌⊎◌, ◌<◌, ◌≤◌, ℕ, List, [], ◌∷◌, ◌++◌, length, take, count_by, Option, None, Some, Result, Ok, Err}
 use Rattle.std.specs.List.{flat_map}
 use Rattle.std.specs.Io.KnownBytes.{Appends, Consumes, IsAtEnd}
-use Rattle.am_machine.specs.declared.answer.Answer.{Answer}
-use Rattle.am_machine.specs.State.{State, Opening, opening_of}
-use Rattle.am_machine.specs.Machine.{Run}
+use Rattle.am_machine.specs.{Answer, Setup, initial_state_of, Run}
+use Rattle.am_machine.specs.State.{State}
 use Rattle.am_script.specs.declared.fault.ScriptFault.{ScriptFault}
 use Rattle.am_script.specs.declared.fault.ScriptFaultKind.{ScriptFaultKind}
 use Rattle.am_script.specs.declared.fault.ScriptFaultKind.TheVariants.{BadSection, NoMemory, ReadFailed, WriteFailed}
@@ -78,18 +77,18 @@ pub record StopsBefore (told : Told) (old new : Option (List ℕ)) (fault : Scri
 -- ---- any script
 
 -- all events are answered where there is a world; where there is none, nothing is played
-abbrev pub PlayedFrom : Option Opening → Told → Option (List ℕ) → Option (List ℕ) → Summary → Type 0
+abbrev pub PlayedFrom : Option Setup → Told → Option (List ℕ) → Option (List ℕ) → Summary → Type 0
 PlayedFrom None told old new summary = NothingPlayed told old new summary
-PlayedFrom (Some opening) told old new summary = AllAnswered (opening_of opening) told old new summary
+PlayedFrom (Some opening) told old new summary = AllAnswered (initial_state_of opening) told old new summary
 
 -- the script is played to its end
 abbrev pub IsPlayed : Script → Option (List ℕ) → Option (List ℕ) → Summary → Type 0
 IsPlayed script old new summary = PlayedFrom script.opening script.told old new summary
 
 -- the script stops behind the beginning of its world, or before it
-abbrev pub StoppedFrom : Option Opening → Told → Option (List ℕ) → Option (List ℕ) → ScriptFault → Type 0
+abbrev pub StoppedFrom : Option Setup → Told → Option (List ℕ) → Option (List ℕ) → ScriptFault → Type 0
 StoppedFrom None told old new fault = StopsBefore told old new fault
-StoppedFrom (Some opening) told old new fault = Stops (opening_of opening) told old new fault
+StoppedFrom (Some opening) told old new fault = Stops (initial_state_of opening) told old new fault
 
 -- no memory for the head or for the world: nothing is written, and that is told at one of so many
 -- lines
@@ -114,7 +113,7 @@ pub record PlaysInput (input rest old new : Option (List ℕ)) (summary : Summar
   pub whole : IsPlayed (script_of None text) old new summary
 
 -- a script with a world stops at the last of so many lines, but where the writer failed
-abbrev pub HaltsAt : Option Opening → ScriptFault → ℕ → Type 0
+abbrev pub HaltsAt : Option Setup → ScriptFault → ℕ → Type 0
 HaltsAt None fault last = ⊤
 HaltsAt (Some opening) fault last = (fault.kind ≡ WriteFailed) ⊎ (fault.line ≡ last)
 

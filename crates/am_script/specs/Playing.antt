@@ -2,9 +2,8 @@
 -- alone: own choice.
 use Rattle.std.specs.Prelude.{◌≡◌, ◌⊎◌, ℕ, ◌+◌, true, List, [], ◌∷◌, ◌++◌, length, map, count_by, Option, None, Some, Ok}
 use Rattle.std.specs.List.{flat_map}
-use Rattle.am_machine.specs.declared.answer.Answer.{Answer}
-use Rattle.am_machine.specs.State.{State, Opening, opening_in, opening_of}
-use Rattle.am_machine.specs.Machine.{Run}
+use Rattle.am_machine.specs.{Answer, Setup, setup_of, initial_state_of, Run}
+use Rattle.am_machine.specs.State.{State}
 use Rattle.am_script.specs.declared.fault.ScriptFault.{ScriptFault}
 use Rattle.am_script.specs.declared.fault.ScriptFaultKind.{ScriptFaultKind}
 use Rattle.am_script.specs.declared.output.Output.{Output}
@@ -21,7 +20,8 @@ use Rattle.am_script.specs.Maps.{opening_read}
 use Rattle.am_script.specs.Outputs.{Owed, owed_by, Stands}
 use Rattle.am_script.specs.Played.{HaltsIn, IsPlayed}
 use Rattle.am_script.specs.Script.{Numbered, Told, Script, events_in, events_from, script_from}
-use Rattle.am_world.specs.Table.{WorldTable, state_of}
+use Rattle.am_world.specs.Capacity.{state_of}
+use Rattle.am_world.specs.{WorldTable}
 
 -- ---- what may follow
 
@@ -75,10 +75,10 @@ pub record HeadStands (heading : HeadSoFar) (number : ℕ) (summary : Summary) (
 -- these lines were taken, and the events among them are answered; their answers are put out
 pub record EventsStand (state : State) (number : ℕ) (summary : Summary) (output : Output) (front : List (List ℕ)) (start now : Option (List ℕ)) : Type 0 where
   pub counted : length front ≡ number
-  pub opening : Opening
+  pub opening : Setup
   pub rows : List Answered
   pub goes : (ending : Ending) → script_behind front ending ≡ record { opening = Some opening; told = behind (asked_in rows) (events_from ending.broke number ending.lines) }
-  pub run : Run (opening_of opening) (events_in (asked_in rows)) (answers_in rows) state
+  pub run : Run (initial_state_of opening) (events_in (asked_in rows)) (answers_in rows) state
   pub stands : Stands output (owed_for rows) start now
   pub lines : summary.lines ≡ length rows
   pub refused : summary.refused ≡ count_by is_refused (answers_in rows)
@@ -102,7 +102,7 @@ abbrev pub HeadTaken : HeadSoFar → ℕ → List ℕ → HeadSoFar → Option W
 HeadTaken old number line new None = after_line old number line ≡ GoesOn new
 HeadTaken old number line new (Some world) =
     (whole : HeadSoFar) × (after_line old number line ≡ EventsBegin whole)
-    × (opening_read whole.said ≡ Ok (opening_in (state_of world))) × (state_of world ≡ opening_of (opening_in (state_of world)))
+    × (opening_read whole.said ≡ Ok (setup_of (state_of world))) × (state_of world ≡ initial_state_of (setup_of (state_of world)))
 
 -- where a player is then
 abbrev pub place_after : HeadSoFar → Option WorldTable → Place

@@ -1,12 +1,11 @@
 -- What the whole text of a script says: the opening of its world, its events with their lines,
 -- and its first fault. Own choice (docs/FORMATS.md, "Scripts").
 use Rattle.std.specs.Prelude.{ℕ, ◌+◌, List, [], ◌∷◌, map, length, drop, Option, None, Some, Result, Ok, Err, if◌then◌else◌}
-use Rattle.am_machine.specs.declared.event.Event.{Event}
-use Rattle.am_machine.specs.State.{Opening}
+use Rattle.am_machine.specs.{Event, Setup}
 use Rattle.am_script.specs.declared.fault.ScriptFault.{ScriptFault}
 use Rattle.am_script.specs.declared.fault.ScriptFaultKind.{ScriptFaultKind}
 use Rattle.am_script.specs.declared.fault.ScriptFaultKind.TheVariants.{BadSection, BadEvent, LongLine}
-use Rattle.am_lines.specs.Words.{words_of}
+use Rattle.am_lines.specs.{words_of}
 use Rattle.am_script.specs.Lines.{lines_of, is_long, are_skipped}
 use Rattle.am_script.specs.Events.{event_read}
 use Rattle.am_script.specs.Fault.{fault_at}
@@ -31,7 +30,7 @@ pub record Told : Type 0 where
 
 -- the opening is there if the head is whole
 pub record Script : Type 0 where
-  pub opening : Option Opening
+  pub opening : Option Setup
   pub told : Told
 
 -- no event, and this fault
@@ -87,7 +86,7 @@ head_ends None section before = without_world (section_fault section)
 head_ends (Some kind) section before = without_world (Some (fault_at before kind))
 
 -- the events begin, if each line of the master has its map
-abbrev pub begun_by : Result Opening ScriptFault → Told → Script
+abbrev pub begun_by : Result Setup ScriptFault → Told → Script
 begun_by (Ok opening) told = record { opening = Some opening; told = told }
 begun_by (Err fault) told = without_world (Some fault)
 

@@ -2,7 +2,7 @@
 -- line to the first line that is just `end`. Own choice (docs/FORMATS.md, "The head").
 use Rattle.std.specs.Prelude.{ℕ, ◌+◌, Bool, false, List, [], ◌∷◌, ◌++◌, codes, bytes_eq, Option, None, Some, if◌then◌else◌}
 use Rattle.std.specs.Option.{option_map}
-use Rattle.am_lines.specs.Words.{words_of}
+use Rattle.am_lines.specs.{words_of}
 use Rattle.am_script.specs.Lines.{is_long, are_skipped}
 
 -- a section: the number of its first line, the name of its map (none for the master section), and

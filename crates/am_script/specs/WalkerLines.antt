@@ -1,9 +1,8 @@
 -- The lines of what walkers do: own choice (docs/FORMATS.md, "Events").
-use Rattle.std.specs.Prelude.{ℕ, Bool, List, [], ◌∷◌, codes, bytes_eq, Option, None, Some, option_map, if◌then◌else◌}
+use Rattle.std.specs.Prelude.{ℕ, Bool, List, [], ◌∷◌, Option, None, Some, option_map}
 use Rattle.std.specs.Result.{result_ok}
-use Rattle.am_names.specs.Path.{path_read}
-use Rattle.am_names.specs.declared.trigger.PipeState.{PipeState}
-use Rattle.am_machine.specs.declared.event.Event.{Event}
+use Rattle.am_names.specs.{path_read, PipeState}
+use Rattle.am_machine.specs.{Event}
 use Rattle.am_machine.specs.declared.event.Event.TheVariants as events
 use Rattle.am_script.specs.Numbers.{u32_read, u64_read}
 use Rattle.am_script.specs.EventWords.{pipe_read, immediate_read}
@@ -51,12 +50,3 @@ abbrev pub expire_read : List (List ℕ) → Option Event
 expire_read (walker ∷ fs ∷ now ∷ how ∷ pipe ∷ []) =
     expire_of (u32_read walker) (u32_read fs) (u64_read now) (immediate_read how) (pipe_read pipe)
 expire_read words = None
-
--- a line of a walker, by its first word and the others
-abbrev pub walker_read : List ℕ → List (List ℕ) → Option Event
-walker_read word words =
-    if bytes_eq word (codes "walk") then walk_read words
-    else if bytes_eq word (codes "resume") then resume_read words
-    else if bytes_eq word (codes "leave") then leave_read words
-    else if bytes_eq word (codes "expire") then expire_read words
-    else None

@@ -1,11 +1,11 @@
 //! The lines of what an administrator does.
 
 ghost use Rattle.std.specs.Prelude.{◌≡◌, option_map};
-ghost use Rattle.am_lines.specs.Words.{words_of};
-ghost use Rattle.am_script.specs.AdministratorLines.{administrator_read, mount_read, mount_event, bind_read, bind_event, umount_read, umount_event, change_line_read, change_event, kind_read, kind_event, nscopy_read, nsdrop_read, admincat_read};
+ghost use Rattle.am_lines.specs.{words_of};
+ghost use Rattle.am_script.specs.AdministratorLines.{mount_read, mount_event, bind_read, bind_event, umount_read, umount_event, change_line_read, change_event, kind_read, kind_event, nscopy_read, nsdrop_read, admincat_read};
 ghost use Rattle.am_script.specs.Events.{ReadAs};
 
-use crate::event_word::{is_word, read_change, read_form};
+use crate::event_word::{read_change, read_form};
 use crate::line_words::{only_word, three_words, two_words};
 use crate::number::read_u32;
 use am_group::Change;
@@ -14,41 +14,6 @@ use am_machine::Event;
 use am_names::{AbsPath, FsId, NsId};
 use am_propagate::CopyForm;
 use std::alloc::{AllocError, Global};
-
-/// A line of an administrator, by its first word and what stands behind that.
-pub(crate) fn read_administrator(
-    alloc: Global,
-    word: &[u8],
-    words: &[u8],
-) -> Result<Option<Event>, AllocError>
-    ensures { ReadAs (administrator_read word.now (words_of words.now)) result }
-{
-    if is_word(word, b"mount") {
-        return read_mount(alloc, words);
-    }
-    if is_word(word, b"bind") {
-        return read_bind(alloc, words);
-    }
-    if is_word(word, b"umount") {
-        return read_umount(alloc, words);
-    }
-    if is_word(word, b"change") {
-        return read_change_line(alloc, words);
-    }
-    if is_word(word, b"kind") {
-        return read_kind(alloc, words);
-    }
-    if is_word(word, b"nscopy") {
-        return Ok(read_nscopy(words));
-    }
-    if is_word(word, b"nsdrop") {
-        return Ok(read_nsdrop(words));
-    }
-    if is_word(word, b"admincat") {
-        return Ok(read_admincat(words));
-    }
-    Ok(None)
-}
 
 /// A namespace and a path.
 #[tactic(auto, using(crate::proofs::LineWordsLemmas::no_mount, crate::proofs::LineWordsLemmas::no_umount, crate::proofs::LineWordsLemmas::no_kind))]
@@ -61,7 +26,7 @@ fn path_words(words: &[u8]) -> Option<(NsId, AbsPath<'_>)>
     Some((NsId(read_u32(ns)?), AbsPath::read(path).ok()?))
 }
 
-fn read_mount(alloc: Global, words: &[u8]) -> Result<Option<Event>, AllocError>
+pub(crate) fn read_mount(alloc: Global, words: &[u8]) -> Result<Option<Event>, AllocError>
     ensures { ReadAs (mount_read (words_of words.now)) result }
 {
     let Some((ns, path)) = path_words(words) else {
@@ -85,7 +50,7 @@ fn bind_words(words: &[u8]) -> Option<(NsId, AbsPath<'_>, AbsPath<'_>)>
     ))
 }
 
-fn read_bind(alloc: Global, words: &[u8]) -> Result<Option<Event>, AllocError>
+pub(crate) fn read_bind(alloc: Global, words: &[u8]) -> Result<Option<Event>, AllocError>
     ensures { ReadAs (bind_read (words_of words.now)) result }
 {
     let Some((ns, from, to)) = bind_words(words) else {
@@ -98,7 +63,7 @@ fn read_bind(alloc: Global, words: &[u8]) -> Result<Option<Event>, AllocError>
     }))
 }
 
-fn read_umount(alloc: Global, words: &[u8]) -> Result<Option<Event>, AllocError>
+pub(crate) fn read_umount(alloc: Global, words: &[u8]) -> Result<Option<Event>, AllocError>
     ensures { ReadAs (umount_read (words_of words.now)) result }
 {
     let Some((ns, path)) = path_words(words) else {
@@ -122,7 +87,7 @@ fn change_words(words: &[u8]) -> Option<(NsId, AbsPath<'_>, Change)>
     ))
 }
 
-fn read_change_line(alloc: Global, words: &[u8]) -> Result<Option<Event>, AllocError>
+pub(crate) fn read_change_line(alloc: Global, words: &[u8]) -> Result<Option<Event>, AllocError>
     ensures { ReadAs (change_line_read (words_of words.now)) result }
 {
     let Some((ns, path, change)) = change_words(words) else {
@@ -135,7 +100,7 @@ fn read_change_line(alloc: Global, words: &[u8]) -> Result<Option<Event>, AllocE
     }))
 }
 
-fn read_kind(alloc: Global, words: &[u8]) -> Result<Option<Event>, AllocError>
+pub(crate) fn read_kind(alloc: Global, words: &[u8]) -> Result<Option<Event>, AllocError>
     ensures { ReadAs (kind_read (words_of words.now)) result }
 {
     let Some((ns, path)) = path_words(words) else {
@@ -147,7 +112,7 @@ fn read_kind(alloc: Global, words: &[u8]) -> Result<Option<Event>, AllocError>
     }))
 }
 
-fn read_nscopy(words: &[u8]) -> Option<Event>
+pub(crate) fn read_nscopy(words: &[u8]) -> Option<Event>
     ensures { result ≡ nscopy_read (words_of words.now) }
 {
     let (ns, words) = next_word(words)?;
@@ -167,7 +132,7 @@ fn read_nscopy(words: &[u8]) -> Option<Event>
 }
 
 #[tactic(auto, using(crate::proofs::LineWordsLemmas::no_nsdrop))]
-fn read_nsdrop(words: &[u8]) -> Option<Event>
+pub(crate) fn read_nsdrop(words: &[u8]) -> Option<Event>
     ensures { result ≡ nsdrop_read (words_of words.now) }
 {
     let ns = only_word(words)?;
@@ -177,7 +142,7 @@ fn read_nsdrop(words: &[u8]) -> Option<Event>
 }
 
 #[tactic(auto, using(crate::proofs::LineWordsLemmas::no_admincat))]
-fn read_admincat(words: &[u8]) -> Option<Event>
+pub(crate) fn read_admincat(words: &[u8]) -> Option<Event>
     ensures { result ≡ admincat_read (words_of words.now) }
 {
     let fs = only_word(words)?;

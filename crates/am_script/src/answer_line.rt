@@ -1,14 +1,14 @@
 //! The lines that answers are written as.
 
 ghost use Rattle.std.specs.Prelude.{◌≡◌, ◌++◌, decimal, OnOk};
-ghost use Rattle.am_names.specs.Errno.{errno_number};
+ghost use Rattle.am_names.specs.{errno_number};
 ghost use Rattle.am_script.specs.Answers.{answer_text, answer_line, kind_text, mounts_text, entry_text, record_text, place_text, is_refused};
 ghost use Rattle.am_script.specs.Outputs.{Puts};
 
 use crate::output::Output;
-use am_group::Kind;
+use am_group::MountState;
 use am_machine::Answer;
-use am_names::{Errno, Mounts, Place};
+use am_names::{Errno, MountIds, Place};
 use am_state::Record;
 use itoa::Buffer;
 use std::alloc::AllocError;
@@ -127,7 +127,7 @@ fn put_errno<W: Write>(output: &mut Output, word: &[u8], errno: Errno, writer: &
 
 /// Puts numbers of mounts out, each behind a blank.
 #[tactic(auto, using(crate::proofs::Pieces::puts_none))]
-pub fn put_mounts<W: Write>(output: &mut Output, mounts: &Mounts, writer: &mut W)
+pub fn put_mounts<W: Write>(output: &mut Output, mounts: &MountIds, writer: &mut W)
     ensures { Puts output.old output.new (mounts_text mounts.now) (W.contents writer.old)
         (W.contents writer.new) }
 {
@@ -136,16 +136,16 @@ pub fn put_mounts<W: Write>(output: &mut Output, mounts: &Mounts, writer: &mut W
     }
 }
 
-fn put_kind<W: Write>(output: &mut Output, kind: Kind, writer: &mut W)
+fn put_kind<W: Write>(output: &mut Output, kind: MountState, writer: &mut W)
     ensures { Puts output.old output.new (kind_text kind) (W.contents writer.old)
         (W.contents writer.new) }
 {
     match kind {
-        Kind::Shared => put_word(output, b"shared", writer),
-        Kind::Slave => put_word(output, b"slave", writer),
-        Kind::SharedSlave => put_word(output, b"shared-slave", writer),
-        Kind::Private => put_word(output, b"private", writer),
-        Kind::Unbindable => put_word(output, b"unbindable", writer),
+        MountState::Shared => put_word(output, b"shared", writer),
+        MountState::Slave => put_word(output, b"slave", writer),
+        MountState::SharedSlave => put_word(output, b"shared-slave", writer),
+        MountState::Private => put_word(output, b"private", writer),
+        MountState::Unbindable => put_word(output, b"unbindable", writer),
     }
 }
 

@@ -1,62 +1,17 @@
 //! The lines of what the daemon does.
 
 ghost use Rattle.std.specs.Prelude.{◌≡◌, option_map};
-ghost use Rattle.am_lines.specs.Words.{words_of};
-ghost use Rattle.am_script.specs.DaemonLines.{attachment_read, work_read, attach_read, attach_event, deliver_read, act_read, repeat_read, catatonic_read, timeout_read, die_read, reattach_read, record_read};
+ghost use Rattle.am_lines.specs.{words_of};
+ghost use Rattle.am_script.specs.DaemonLines.{attach_read, attach_event, deliver_read, act_read, repeat_read, catatonic_read, timeout_read, die_read, reattach_read, record_read};
 ghost use Rattle.am_script.specs.Events.{ReadAs};
 
-use crate::event_word::{is_word, read_outcome, read_status, read_trigger_name};
+use crate::event_word::{read_outcome, read_status, read_trigger_name};
 use crate::line_words::{only_word, three_words, two_words};
 use crate::number::{read_packet, read_u32};
 use am_lines::next_word;
 use am_machine::Event;
 use am_names::{AbsPath, Attach, FsId, JobId, Token, Trigger};
 use std::alloc::{AllocError, Global};
-
-/// A line of the daemon's work, by its first word and what stands behind that.
-pub(crate) fn read_work(word: &[u8], words: &[u8]) -> Option<Event>
-    ensures { result ≡ work_read word.now (words_of words.now) }
-{
-    if is_word(word, b"deliver") {
-        return read_deliver(words);
-    }
-    if is_word(word, b"act") {
-        return read_act(words);
-    }
-    if is_word(word, b"repeat") {
-        return read_repeat(words);
-    }
-    if is_word(word, b"record") {
-        return read_record(words);
-    }
-    None
-}
-
-/// A line of the daemon's attachments, in the same form.
-pub(crate) fn read_attachment(
-    alloc: Global,
-    word: &[u8],
-    words: &[u8],
-) -> Result<Option<Event>, AllocError>
-    ensures { ReadAs (attachment_read word.now (words_of words.now)) result }
-{
-    if is_word(word, b"attach") {
-        return read_attach(alloc, words);
-    }
-    if is_word(word, b"catatonic") {
-        return Ok(read_catatonic(words));
-    }
-    if is_word(word, b"timeout") {
-        return Ok(read_timeout(words));
-    }
-    if is_word(word, b"die") {
-        return Ok(read_die(words));
-    }
-    if is_word(word, b"reattach") {
-        return Ok(read_reattach(words));
-    }
-    Ok(None)
-}
 
 #[tactic(auto, using(crate::proofs::LineWordsLemmas::no_attach))]
 fn attach_words(words: &[u8]) -> Option<AbsPath<'_>>
@@ -65,7 +20,7 @@ fn attach_words(words: &[u8]) -> Option<AbsPath<'_>>
     AbsPath::read(only_word(words)?).ok()
 }
 
-fn read_attach(alloc: Global, words: &[u8]) -> Result<Option<Event>, AllocError>
+pub(crate) fn read_attach(alloc: Global, words: &[u8]) -> Result<Option<Event>, AllocError>
     ensures { ReadAs (attach_read (words_of words.now)) result }
 {
     let Some(path) = attach_words(words) else {
@@ -76,7 +31,7 @@ fn read_attach(alloc: Global, words: &[u8]) -> Result<Option<Event>, AllocError>
     }))
 }
 
-fn read_deliver(words: &[u8]) -> Option<Event>
+pub(crate) fn read_deliver(words: &[u8]) -> Option<Event>
     ensures { result ≡ deliver_read (words_of words.now) }
 {
     let (token, words) = next_word(words)?;
@@ -95,7 +50,7 @@ fn read_deliver(words: &[u8]) -> Option<Event>
     })
 }
 
-fn read_act(words: &[u8]) -> Option<Event>
+pub(crate) fn read_act(words: &[u8]) -> Option<Event>
     ensures { result ≡ act_read (words_of words.now) }
 {
     let (job, outcome) = next_word(words)?;
@@ -106,7 +61,7 @@ fn read_act(words: &[u8]) -> Option<Event>
 }
 
 #[tactic(auto, using(crate::proofs::LineWordsLemmas::no_repeat))]
-fn read_repeat(words: &[u8]) -> Option<Event>
+pub(crate) fn read_repeat(words: &[u8]) -> Option<Event>
     ensures { result ≡ repeat_read (words_of words.now) }
 {
     let (attach, token, status) = three_words(words)?;
@@ -118,7 +73,7 @@ fn read_repeat(words: &[u8]) -> Option<Event>
 }
 
 #[tactic(auto, using(crate::proofs::LineWordsLemmas::no_catatonic))]
-fn read_catatonic(words: &[u8]) -> Option<Event>
+pub(crate) fn read_catatonic(words: &[u8]) -> Option<Event>
     ensures { result ≡ catatonic_read (words_of words.now) }
 {
     let (attach, fs) = two_words(words)?;
@@ -129,7 +84,7 @@ fn read_catatonic(words: &[u8]) -> Option<Event>
 }
 
 #[tactic(auto, using(crate::proofs::LineWordsLemmas::no_timeout))]
-fn read_timeout(words: &[u8]) -> Option<Event>
+pub(crate) fn read_timeout(words: &[u8]) -> Option<Event>
     ensures { result ≡ timeout_read (words_of words.now) }
 {
     let (attach, fs, seconds) = three_words(words)?;
@@ -140,7 +95,7 @@ fn read_timeout(words: &[u8]) -> Option<Event>
     })
 }
 
-fn read_die(words: &[u8]) -> Option<Event>
+pub(crate) fn read_die(words: &[u8]) -> Option<Event>
     ensures { result ≡ die_read (words_of words.now) }
 {
     if let Some(_) = next_word(words) {
@@ -150,7 +105,7 @@ fn read_die(words: &[u8]) -> Option<Event>
 }
 
 #[tactic(auto, using(crate::proofs::LineWordsLemmas::no_reattach))]
-fn read_reattach(words: &[u8]) -> Option<Event>
+pub(crate) fn read_reattach(words: &[u8]) -> Option<Event>
     ensures { result ≡ reattach_read (words_of words.now) }
 {
     let fs = only_word(words)?;
@@ -160,7 +115,7 @@ fn read_reattach(words: &[u8]) -> Option<Event>
 }
 
 #[tactic(auto, using(crate::proofs::LineWordsLemmas::no_record))]
-fn read_record(words: &[u8]) -> Option<Event>
+pub(crate) fn read_record(words: &[u8]) -> Option<Event>
     ensures { result ≡ record_read (words_of words.now) }
 {
     let (fs, name) = two_words(words)?;

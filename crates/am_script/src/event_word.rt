@@ -1,7 +1,7 @@
 //! The words of event lines that are neither plain numbers nor paths.
 
 ghost use Rattle.std.specs.Prelude.{◌≡◌, bytes_eq};
-ghost use Rattle.am_lines.specs.Words.{words_of};
+ghost use Rattle.am_lines.specs.{words_of};
 ghost use Rattle.am_script.specs.EventWords.{pipe_read, change_read, form_read, immediate_read, failure_read, outcome_word_read, outcome_read, status_read, trigger_name_read};
 
 use crate::number::read_u8;

@@ -1,12 +1,12 @@
 //! The head of a script as far as it is read.
 
 ghost use Rattle.std.specs.Prelude.{◌≡◌, ◌≤◌, ◌^◌, [], true, false, drop, None, Ok, IfOk, IfErr, IfNone, IfSome};
-ghost use Rattle.am_master.specs.Grammar.{master_read, StandWithin};
+ghost use Rattle.am_master.specs.{master_read, StandWithin};
 ghost use Rattle.am_script.specs.declared.fault.ScriptFaultKind.TheVariants.{NoMemory};
 ghost use Rattle.am_script.specs.Fault.{IsFaultOr, fault_at};
 ghost use Rattle.am_script.specs.Head.{is_limits, is_negative, master_in};
 ghost use Rattle.am_script.specs.Heading.{may_open, is_start, is_early};
-ghost use Rattle.am_lines.specs.Words.{words_of};
+ghost use Rattle.am_lines.specs.{words_of};
 
 use crate::event_word::is_word;
 use crate::fault::{ScriptFault, ScriptFaultKind, fault_at};
@@ -53,7 +53,7 @@ impl Model for Heading {
 
     ghost Value = { HeadSoFar };
 
-    ghost use Rattle.am_script.specs.Inside.{view_of, IsSound};
+    ghost use Rattle.am_script.specs.View.{view_of, IsSound};
 
     ghost view = { view_of };
 
@@ -64,8 +64,8 @@ impl Heading {
     ghost use Rattle.am_script.specs.Heading.{no_lines, after_line, in_section, between_sections, after_lone_line, after_later_line, opened, closed, after_limits, after_negative, taken_as, first_open, HeadFault, StopsAt};
     ghost use Rattle.am_script.specs.Limits.{limits_read, negative_read};
     ghost use Rattle.am_script.specs.Maps.{opening_read};
-    ghost use Rattle.am_machine.specs.State.{opening_in, opening_of};
-    ghost use Rattle.am_world.specs.Table.{state_of};
+    ghost use Rattle.am_machine.specs.{setup_of, initial_state_of};
+    ghost use Rattle.am_world.specs.Capacity.{state_of};
 
     /// Nothing is read yet.
     pub fn new(alloc: Global) -> Heading
@@ -251,9 +251,9 @@ impl Heading {
     /// The world that begins behind the line with this number.
     pub fn begin(self, alloc: Global, number: u64) -> Result<World, ScriptFault>
         ensures opening { IfOk result (λ world. opening_read self.said ≡ Ok
-            (opening_in (state_of world))) }
-        ensures world { IfOk result (λ world. state_of world ≡ opening_of
-            (opening_in (state_of world))) }
+            (setup_of (state_of world))) }
+        ensures world { IfOk result (λ world. state_of world ≡ initial_state_of
+            (setup_of (state_of world))) }
         ensures err { IfErr result (λ fault. IsFaultOr number fault (opening_read self.said)) }
     {
         let Heading {

@@ -1,8 +1,8 @@
 //! The limits of a script, and how long its failures last.
 
 ghost use Rattle.std.specs.Prelude.{◌≡◌, IfSome};
-ghost use Rattle.am_names.specs.Limits.{IsInRange};
-ghost use Rattle.am_lines.specs.Words.{words_of};
+ghost use Rattle.am_names.specs.{IsInRange};
+ghost use Rattle.am_lines.specs.{words_of};
 ghost use Rattle.am_script.specs.Limits.{default_limits, limits_read, negative_read};
 
 use crate::line_words::only_word;

@@ -1,7 +1,7 @@
 //! The lines of a text.
 
 ghost use Rattle.std.specs.Prelude.{◌≡◌, ◌+◌, ◌<◌, ◌≤◌, ◌∷◌, length, IfNone, IfSome, option_copied};
-ghost use Rattle.am_lines.specs.Words.{words_of};
+ghost use Rattle.am_lines.specs.{words_of};
 ghost use Rattle.am_script.specs.Lines.{lines_of, lines_in, size_in, is_long, are_skipped, EndsNoLine, IsCut};
 ghost use Rattle.am_script.specs.Read.{cut_line, cut_kind};
 

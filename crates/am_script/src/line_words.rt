@@ -1,7 +1,7 @@
 //! The words of a line that has just so many.
 
 ghost use Rattle.std.specs.Prelude.{◌≡◌, ◌∷◌, [], false, IfNone, IfSome};
-ghost use Rattle.am_lines.specs.Words.{words_of};
+ghost use Rattle.am_lines.specs.{words_of};
 ghost use Rattle.am_script.specs.LineWords.{is_one, are_two, are_three, are_five};
 
 use am_lines::next_word;

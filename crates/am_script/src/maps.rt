@@ -3,8 +3,8 @@
 ghost use Rattle.std.specs.Prelude.{◌≡◌, ◌≤◌, ◌^◌, ℕ, List, bytes_eq, length, Ok, IfOk, IfErr};
 ghost use Rattle.std.specs.Option.{option_copied};
 ghost use Rattle.indexmap.specs.IndexMap.{get_by};
-ghost use Rattle.am_map.specs.Grammar.{map_read};
-ghost use Rattle.am_master.specs.Grammar.{StandWithin};
+ghost use Rattle.am_map.specs.{map_read};
+ghost use Rattle.am_master.specs.{StandWithin};
 ghost use Rattle.am_script.specs.Fault.{IsFaultOr};
 ghost use Rattle.am_script.specs.Maps.{section_for, kind_for, rows_in, map_by, maps_read};
 

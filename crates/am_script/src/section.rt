@@ -4,7 +4,7 @@ ghost use Rattle.std.specs.Prelude.{◌≡◌, ◌≤◌, ◌^◌, IfOk, OnOk};
 ghost use Rattle.std.specs.Option.{option_copied};
 ghost use Rattle.am_script.specs.Fault.{fault_in};
 ghost use Rattle.am_script.specs.Head.{is_map};
-ghost use Rattle.am_lines.specs.Words.{words_of};
+ghost use Rattle.am_lines.specs.{words_of};
 ghost use Rattle.am_script.specs.Sections.{is_end, are_only, map_name, section_opened, with_line};
 
 use crate::event_word::is_word;

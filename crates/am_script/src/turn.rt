@@ -3,7 +3,7 @@
 ghost use Rattle.std.specs.Prelude.{◌≡◌, ◌+◌, ◌<◌, ◌≤◌, ◌^◌, IfOk, IfErr, OnOk};
 ghost use Rattle.am_script.specs.Script.{line_read, event_or_fault};
 ghost use Rattle.am_script.specs.Turns.{LineReadAs, LineAnswered, TurnDone, TurnStopped, Closes, counted};
-ghost use Rattle.am_world.specs.Table.{state_of};
+ghost use Rattle.am_world.specs.Capacity.{state_of};
 
 use crate::answer_line::{is_refused, put_answer};
 use crate::event_line::read_event;

@@ -1,39 +1,16 @@
 //! The lines of what walkers do.
 
 ghost use Rattle.std.specs.Prelude.{◌≡◌, option_map};
-ghost use Rattle.am_lines.specs.Words.{words_of};
-ghost use Rattle.am_script.specs.WalkerLines.{walker_read, walk_read, walk_event, resume_read, leave_read, expire_read};
+ghost use Rattle.am_lines.specs.{words_of};
+ghost use Rattle.am_script.specs.WalkerLines.{walk_read, walk_event, resume_read, leave_read, expire_read};
 ghost use Rattle.am_script.specs.Events.{ReadAs};
 
-use crate::event_word::{is_word, read_immediate, read_pipe};
+use crate::event_word::{read_immediate, read_pipe};
 use crate::line_words::{five_words, only_word, three_words};
 use crate::number::{read_u32, read_u64};
 use am_machine::Event;
 use am_names::{AbsPath, FsId, NsId, PipeState, Seconds, WalkerId};
 use std::alloc::{AllocError, Global};
-
-/// A line of a walker, by its first word and what stands behind that.
-pub(crate) fn read_walker(
-    alloc: Global,
-    word: &[u8],
-    words: &[u8],
-) -> Result<Option<Event>, AllocError>
-    ensures { ReadAs (walker_read word.now (words_of words.now)) result }
-{
-    if is_word(word, b"walk") {
-        return read_walk(alloc, words);
-    }
-    if is_word(word, b"resume") {
-        return Ok(read_resume(words));
-    }
-    if is_word(word, b"leave") {
-        return Ok(read_leave(words));
-    }
-    if is_word(word, b"expire") {
-        return Ok(read_expire(words));
-    }
-    Ok(None)
-}
 
 #[tactic(auto, using(crate::proofs::LineWordsLemmas::no_walk))]
 fn walk_words(words: &[u8]) -> Option<(WalkerId, NsId, AbsPath<'_>, Seconds, PipeState)>
@@ -49,7 +26,7 @@ fn walk_words(words: &[u8]) -> Option<(WalkerId, NsId, AbsPath<'_>, Seconds, Pip
     ))
 }
 
-fn read_walk(alloc: Global, words: &[u8]) -> Result<Option<Event>, AllocError>
+pub(crate) fn read_walk(alloc: Global, words: &[u8]) -> Result<Option<Event>, AllocError>
     ensures { ReadAs (walk_read (words_of words.now)) result }
 {
     let Some((walker, ns, path, now, pipe)) = walk_words(words) else {
@@ -65,7 +42,7 @@ fn read_walk(alloc: Global, words: &[u8]) -> Result<Option<Event>, AllocError>
 }
 
 #[tactic(auto, using(crate::proofs::LineWordsLemmas::no_resume))]
-fn read_resume(words: &[u8]) -> Option<Event>
+pub(crate) fn read_resume(words: &[u8]) -> Option<Event>
     ensures { result ≡ resume_read (words_of words.now) }
 {
     let (walker, now, pipe) = three_words(words)?;
@@ -77,7 +54,7 @@ fn read_resume(words: &[u8]) -> Option<Event>
 }
 
 #[tactic(auto, using(crate::proofs::LineWordsLemmas::no_leave))]
-fn read_leave(words: &[u8]) -> Option<Event>
+pub(crate) fn read_leave(words: &[u8]) -> Option<Event>
     ensures { result ≡ leave_read (words_of words.now) }
 {
     let walker = only_word(words)?;
@@ -87,7 +64,7 @@ fn read_leave(words: &[u8]) -> Option<Event>
 }
 
 #[tactic(auto, using(crate::proofs::LineWordsLemmas::no_expire))]
-fn read_expire(words: &[u8]) -> Option<Event>
+pub(crate) fn read_expire(words: &[u8]) -> Option<Event>
     ensures { result ≡ expire_read (words_of words.now) }
 {
     let (walker, fs, now, how, pipe) = five_words(words)?;

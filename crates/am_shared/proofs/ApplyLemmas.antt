@@ -2,19 +2,16 @@
 use Rattle.std.proofs.Common.{◌≡◌, ℕ, ◌+◌, ◌≤◌, List, [], ◌∷◌, ◌++◌, length, length-append, drop}
 use Rattle.std.proofs.Common.{refl, sym, ap, ◌∙◌, subst, arith, append_assoc}
 use Rattle.std.proofs.Math.Seq.{drop-append_seam}
-use Rattle.am_state.specs.declared.obs.Obs.{Obs}
-use Rattle.am_machine.specs.declared.event.Event.{Event}
-use Rattle.am_machine.specs.declared.answer.Answer.{Answer}
-use Rattle.am_machine.specs.State.{State, Opening, opening_in, opening_of}
-use Rattle.am_machine.specs.Machine.{Step, Run, IsLegal}
+use Rattle.am_state.specs.{Obs}
+use Rattle.am_machine.specs.{Event, Answer, Setup, setup_of, initial_state_of, Step, Run, IsLegal, Entry, entry, events_of, answers_of}
+use Rattle.am_machine.specs.State.{State}
 use Rattle.am_machine.proofs.Consistent.{step_lawful}
-use Rattle.am_world.specs.Table.{WorldTable, state_of}
+use Rattle.am_world.specs.Capacity.{state_of}
+use Rattle.am_world.specs.{WorldTable}
 use Rattle.am_world.proofs.TableLemmas.{state_is}
-use Rattle.am_pipe.specs.declared.note.Note.{Note}
-use Rattle.am_machine.specs.declared.entry.Entry.{Entry}
-use Rattle.am_machine.specs.History.{entry, events_of, answers_of}
-use Rattle.am_shared.specs.Notes.{notes_of}
-use Rattle.am_shared.specs.Sharing.{Sharing, IsShared, IsSharedFrom, Applies}
+use Rattle.am_pipe.specs.{Note}
+use Rattle.am_shared.specs.{notes_of, IsShared, IsSharedFrom, Applies}
+use Rattle.am_shared.specs.Sharing.{Sharing}
 use Rattle.am_machine.proofs.Histories.{legal_more}
 use Rattle.am_shared.proofs.NoteLemmas.{notes_append, notes_count}
 
@@ -74,29 +71,29 @@ kept_notes s t event answer sent unsent collected put left step all flushed note
 -- the opening stays
 pub kept_opening : (old new : Sharing) (event : Event) (position : ℕ) (answer : Answer)
     → Applies old new event position answer
-    → opening_in (state_of new.world) ≡ opening_in (state_of old.world)
+    → setup_of (state_of new.world) ≡ setup_of (state_of old.world)
 kept_opening old new event position answer h =
     (step_lawful (state_of old.world) event answer h.seen (state_of new.world) h.step).opening
 
 -- so the history is a run from there
-pub shared_from : (o : Opening) (s : Sharing) → IsShared s → opening_in (state_of s.world) ≡ o
+pub shared_from : (o : Setup) (s : Sharing) → IsShared s → setup_of (state_of s.world) ≡ o
     → IsSharedFrom o s
 shared_from o s h is = record {
   run = subst
-      (λ (x : Opening). Run (opening_of x) (events_of s.history) (answers_of s.history) (state_of s.world))
+      (λ (x : Setup). Run (initial_state_of x) (events_of s.history) (answers_of s.history) (state_of s.world))
       is h.legal;
   shared = h;
 }
 
 -- ---- at the start
 
-pub opening_of_initial : (o : Opening) (s : State) → s ≡ opening_of o → opening_in s ≡ o
-opening_of_initial o s is = ap opening_in is
+pub opening_of_initial : (o : Setup) (s : State) → s ≡ initial_state_of o → setup_of s ≡ o
+opening_of_initial o s is = ap setup_of is
 
-pub new_legal : (o : Opening) (s : State) → s ≡ opening_of o → IsLegal [] s
+pub new_legal : (o : Setup) (s : State) → s ≡ initial_state_of o → IsLegal [] s
 new_legal o s is =
     subst (λ (x : State). IsLegal [] x) (sym is) refl
 
-pub new_notes : (o : Opening) (t : WorldTable) → state_of t ≡ opening_of o → notes_of t.trace ≡ []
+pub new_notes : (o : Setup) (t : WorldTable) → state_of t ≡ initial_state_of o → notes_of t.trace ≡ []
 new_notes o t is =
     ap (λ (s : State). notes_of s.trace) (sym (state_is t) ∙ is)

@@ -5,10 +5,8 @@ use Rattle.std.proofs.Common.{subst, arith, rules, get_or, ltb, inl, inr, ◌⊎
 use Rattle.std.specs.Prelude.{◌↔◌, IsTrue, if◌then◌else◌, nat_le}
 use Rattle.std.specs.List.Sorted.{IsNonDecreasingBy, IsPartitionPoint}
 use Rattle.std.proofs.lemmas.Bool.Decides.{nat_tests}
-use Rattle.am_machine.specs.declared.entry.Entry.{Entry}
-use Rattle.am_shared.specs.declared.caller.Receipt.{Receipt}
-use Rattle.am_shared.specs.Matching.{Agrees, AllAgree, EachAgree, Rise, EachRise, times, times_in}
-use Rattle.am_shared.specs.Matching.{count_in, AtMostOnce, AllAway, Matches}
+use Rattle.am_machine.specs.{Entry}
+use Rattle.am_shared.specs.{Receipt, Agrees, AllAgree, EachAgree, Rise, EachRise, times, times_in, count_in, AtMostOnce, AllAway, Matches}
 
 not_true : IsTrue false → ⊥
 not_true t = absurd (search rules)

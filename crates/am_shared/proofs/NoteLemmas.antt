@@ -2,12 +2,12 @@
 use Rattle.std.proofs.Common.{◌≡◌, ℕ, zero, suc, ◌+◌, ◌≤◌, List, [], ◌∷◌, ◌++◌, Option, Some, None}
 use Rattle.std.proofs.Common.{length, drop, refl, sym, ap, ◌∙◌, arith}
 use Rattle.std.specs.List.{count_by}
-use Rattle.am_state.specs.declared.obs.Obs.{Obs}
+use Rattle.am_state.specs.{Obs}
 use Rattle.am_state.specs.declared.obs.Obs.TheVariants as seen
-use Rattle.am_laws.specs.OneObservation.{is_queued}
+use Rattle.am_laws.specs.{is_queued}
 use Rattle.am_machine.proofs.Lists.Counts.{count_cons}
-use Rattle.am_pipe.specs.declared.note.Note.{Note}
-use Rattle.am_shared.specs.Notes.{note, note_at, before, notes_of}
+use Rattle.am_pipe.specs.{Note}
+use Rattle.am_shared.specs.{note, note_at, before, notes_of}
 
 before_append : (o : Option Note) (xs ys : List Note) → before o xs ++ ys ≡ before o (xs ++ ys)
 before_append None xs ys = refl

@@ -1,9 +1,8 @@
--- The receipts of all callers against the history: own (docs/DECISIONS.md, "Receipts are compared
--- at the end").
+-- The receipts of all callers against the history: own choice (docs/DECISIONS.md, "Receipts are
+-- compared at the end").
 use Rattle.std.specs.Prelude.{◌≡◌, ℕ, ◌+◌, ◌-◌, ◌<◌, ◌≤◌, ◌==◌, if◌then◌else◌, List, [], ◌∷◌, length}
 use Rattle.std.specs.Prelude.{Some, slice_get}
-use Rattle.am_machine.specs.declared.entry.Entry.{Entry}
-use Rattle.am_machine.specs.History.{entry}
+use Rattle.am_machine.specs.{Entry, entry}
 use Rattle.am_shared.specs.declared.caller.Receipt.{Receipt}
 
 -- the history has the receipt's event, with its answer, at its position, where the first is 1

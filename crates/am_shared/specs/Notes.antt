@@ -2,18 +2,15 @@
 -- (autofs.rst, "Communicating with autofs: the event pipe").
 use Rattle.std.specs.Prelude.{◌≡◌, ◌≤◌, ◌+◌, ◌^◌, ◌⊎◌, ℕ, List, [], ◌∷◌, length}
 use Rattle.std.specs.Prelude.{Option, Some, None}
-use Rattle.am_wire.specs.declared.packet.Packet.{Packet}
-use Rattle.am_wire.specs.Said.{said}
-use Rattle.am_wire.specs.Format.{canonical}
-use Rattle.am_state.specs.declared.obs.Obs.{Obs}
+use Rattle.am_wire.specs.{Packet, fields_of, canonical}
+use Rattle.am_state.specs.{Obs}
 use Rattle.am_state.specs.declared.obs.Obs.TheVariants.{Queued}
-use Rattle.am_pipe.specs.declared.note.Note.{Note}
-use Rattle.am_pipe.specs.Ends.{Putter}
+use Rattle.am_pipe.specs.{Note, Putter}
 
 -- a packet with its token and its attachment, in its canonical bytes
 abbrev pub note : ℕ → ℕ → Packet → Note
 note token attach packet =
-    record { token = token; attach = attach; bytes = canonical (said packet) }
+    record { token = token; attach = attach; bytes = canonical (fields_of packet) }
 
 -- the note of an observation, if it is that of a queued packet
 abbrev pub note_at : Obs → Option Note

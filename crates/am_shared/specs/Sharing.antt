@@ -1,19 +1,12 @@
--- What lies under the lock: own (docs/DECISIONS.md, "A shared world has one lock" and "A note is
--- put while the lock is held, and taken without it").
+-- What lies under the lock: own choice (docs/DECISIONS.md, "A shared world has one lock" and "A
+-- note is put while the lock is held, and taken without it").
 use Rattle.std.specs.Prelude.{◌≡◌, ℕ, List, [], ◌∷◌, ◌++◌, length}
-use Rattle.am_state.specs.declared.obs.Obs.{Obs}
-use Rattle.am_laws.specs.TraceLaws.{Lawful}
-use Rattle.am_machine.specs.declared.event.Event.{Event}
-use Rattle.am_machine.specs.declared.answer.Answer.{Answer}
-use Rattle.am_machine.specs.Agreement.{Agree}
-use Rattle.am_machine.specs.InStep.{AreInStep}
-use Rattle.am_machine.specs.State.{Opening, opening_of}
-use Rattle.am_machine.specs.Machine.{Step, Run, IsLegal}
-use Rattle.am_world.specs.Table.{WorldTable, state_of}
-use Rattle.am_pipe.specs.declared.note.Note.{Note}
-use Rattle.am_pipe.specs.Ends.{Putter}
-use Rattle.am_machine.specs.declared.entry.Entry.{Entry}
-use Rattle.am_machine.specs.History.{entry, events_of, answers_of}
+use Rattle.am_state.specs.{Obs}
+use Rattle.am_laws.specs.{Lawful}
+use Rattle.am_machine.specs.{Event, Answer, Agree, AreInStep, Setup, initial_state_of, Step, Run, IsLegal, Entry, entry, events_of, answers_of}
+use Rattle.am_world.specs.Capacity.{state_of}
+use Rattle.am_world.specs.{WorldTable}
+use Rattle.am_pipe.specs.{Note, Putter}
 use Rattle.am_shared.specs.Notes.{notes_of, IsFlushed}
 
 -- a world, the events that happened to it with their answers, the put end of the pipe, and the
@@ -37,9 +30,9 @@ pub record IsShared (s : Sharing) : Type 0 where
   pub in_step : AreInStep (state_of s.world)
 
 -- what holds of it whenever the lock is free, where the world began with this opening
-pub record IsSharedFrom (opening : Opening) (s : Sharing) : Type 0 where
+pub record IsSharedFrom (opening : Setup) (s : Sharing) : Type 0 where
   -- the history is a run from the initial world of this opening
-  pub run : Run (opening_of opening) (events_of s.history) (answers_of s.history) (state_of s.world)
+  pub run : Run (initial_state_of opening) (events_of s.history) (answers_of s.history) (state_of s.world)
   pub shared : IsShared s
 
 -- The event was applied: the world made a step with this answer, and the pair is the last of the

@@ -4,11 +4,10 @@ ghost use Rattle.std.specs.Prelude.{◌≡◌, ◌<◌, ◌+◌, ℕ, [], ◌∷
 ghost use Rattle.std.specs.Prelude.{IfOk, OnOk, OnErr, true, false, if◌then◌else◌};
 ghost use Rattle.std.specs.Sync.Mutex.{mutex_guard_value};
 ghost use Rattle.std.specs.Fn.{FnOnceReturnsAt};
-ghost use Rattle.am_names.specs.Limits.{IsInRange};
-ghost use Rattle.am_wait.specs.Calls.{still_waits};
-ghost use Rattle.am_wait.specs.Rows.{wait_of};
-ghost use Rattle.am_machine.specs.State.{opening_in};
-ghost use Rattle.am_world.specs.Table.{state_of};
+ghost use Rattle.am_names.specs.{IsInRange};
+ghost use Rattle.am_wait.specs.{still_waits, wait_of};
+ghost use Rattle.am_machine.specs.{setup_of};
+ghost use Rattle.am_world.specs.Capacity.{state_of};
 ghost use Rattle.am_shared.specs.Sharing.{Sharing, IsSharedFrom};
 
 use crate::opened::Opened;
@@ -40,7 +39,7 @@ pub struct Desk<L: Opened> {
     /// A caller won't make the events any more that others may wait for.
     given_up: bool,
     ghost counted: { length shared.history ≡ book.total },
-    ghost opened: { opening_in (state_of shared.world) ≡ L.opening },
+    ghost opened: { setup_of (state_of shared.world) ≡ L.opening },
 }
 
 /// The lock, and what tells that an event was applied.

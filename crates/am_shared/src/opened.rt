@@ -6,9 +6,9 @@ use std::sync::ledger::Ledger;
 /// The ledger of the events of one shared world, which began with this opening. Proofs alone speak
 /// of it: the call of `share` picks the opening that it is handed.
 pub trait Opened: Ledger {
-    ghost use Rattle.am_machine.specs.State.{Opening};
+    ghost use Rattle.am_machine.specs.{Setup};
 
-    ghost opening: { Opening };
+    ghost opening: { Setup };
 }
 
 impl Opened for Brand {

@@ -2,10 +2,10 @@
 
 ghost use Rattle.std.specs.Prelude.{◌≡◌, ◌<◌, [], length, IfOk};
 ghost use Rattle.am_names.specs.declared.errno.Errno.TheVariants.{NoMemory};
-ghost use Rattle.am_names.specs.Limits.{IsInRange};
+ghost use Rattle.am_names.specs.{IsInRange};
 ghost use Rattle.am_machine.specs.declared.answer.Answer.TheVariants.{Refused};
-ghost use Rattle.am_machine.specs.State.{opening_of};
-ghost use Rattle.am_world.specs.Table.{state_of};
+ghost use Rattle.am_machine.specs.{initial_state_of};
+ghost use Rattle.am_world.specs.Capacity.{state_of};
 ghost use Rattle.am_shared.specs.Sharing.{IsShared, Applies};
 
 use crate::notes::{collect, flush};
@@ -32,8 +32,8 @@ pub struct Shared {
 
 impl Model for Shared {
     ghost use Rattle.std.specs.Prelude.{◌≡◌, ◌++◌};
-    ghost use Rattle.am_machine.specs.Machine.{IsLegal};
-    ghost use Rattle.am_world.specs.Table.{state_of};
+    ghost use Rattle.am_machine.specs.{IsLegal};
+    ghost use Rattle.am_world.specs.Capacity.{state_of};
     ghost use Rattle.am_shared.specs.Notes.{notes_of, IsFlushed};
     ghost use Rattle.am_shared.specs.Sharing.{Sharing};
 
@@ -65,7 +65,7 @@ impl Shared {
         requires maps { length maps.items ≡ length master }
         requires put { put.sent ≡ [] }
         ensures history { IfOk result (λ s. s.history ≡ []) }
-        ensures world { IfOk result (λ s. state_of s.world ≡ opening_of (record {
+        ensures world { IfOk result (λ s. state_of s.world ≡ initial_state_of (record {
           limits = limits;
           master = master;
           maps = maps.items;

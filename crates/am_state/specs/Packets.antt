@@ -1,6 +1,6 @@
 -- Changes of a packet (auto_fs.h, struct autofs_v5_packet).
 use Rattle.std.specs.Prelude.{ℕ}
-use Rattle.am_wire.specs.declared.packet.Packet.{Packet}
+use Rattle.am_wire.specs.{Packet}
 
 -- the same packet, for this token
 abbrev pub with_token : ℕ → Packet → Packet

@@ -4,7 +4,7 @@ ghost use Rattle.std.specs.Prelude.{◌≡◌, ◌≤◌, length, IfOk};
 ghost use Rattle.am_state.specs.Packets.{with_token};
 
 use am_names::{FsId, Token};
-use am_wire::{Kind, Packet, PacketName};
+use am_wire::{Packet, PacketName, PacketType};
 use std::alloc::{AllocError, Global};
 use std::marker::Model;
 
@@ -43,7 +43,7 @@ impl KeptPacketName {
 /// What a packet is made of.
 #[derive(Drop)]
 pub(crate) struct PacketParts {
-    kind: Kind,
+    kind: PacketType,
     token: Token,
     dev: FsId,
     ino: u64,
@@ -62,11 +62,11 @@ pub struct KeptPacket {
 }
 
 impl Model for KeptPacket {
-    ghost use Rattle.am_wire.specs.declared.packet.Packet.{Packet};
+    ghost use Rattle.am_wire.specs.{Packet};
 
     ghost Value = { Packet };
 
-    ghost use Rattle.am_state.specs.PacketInside.{packet_of};
+    ghost use Rattle.am_state.specs.PacketView.{packet_of};
 
     ghost view = { packet_of };
 }
@@ -118,7 +118,7 @@ impl KeptPacket {
     }
 
     /// What the daemon is asked for.
-    pub fn kind(&self) -> Kind
+    pub fn kind(&self) -> PacketType
         ensures { result ≡ self.now.kind }
     {
         self.parts.kind

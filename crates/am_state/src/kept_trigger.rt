@@ -1,8 +1,7 @@
 //! The kept form of a trigger.
 
 ghost use Rattle.std.specs.Prelude.{◌≡◌, IsTrue, IfOk, Some};
-ghost use Rattle.am_names.specs.Name.{is_name};
-ghost use Rattle.am_names.specs.Trigger.{same_trigger, same_name};
+ghost use Rattle.am_names.specs.{is_name, same_trigger, same_name};
 
 use am_names::{FsId, Name, Trigger};
 use std::alloc::{AllocError, Global};
@@ -16,7 +15,7 @@ pub(crate) struct KeptName {
 
 impl Model for KeptName {
     ghost use Rattle.std.specs.Prelude.{ℕ, List, IsTrue};
-    ghost use Rattle.am_names.specs.Name.{is_name};
+    ghost use Rattle.am_names.specs.{is_name};
 
     ghost Value = { List ℕ };
 

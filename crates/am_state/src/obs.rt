@@ -3,7 +3,7 @@
 use crate::daemon_row::Record;
 use crate::kept_packet::KeptPacket;
 use crate::kept_trigger::KeptTrigger;
-use am_names::{Attach, FsId, MountId, Mounts, Status, Token, WalkerId};
+use am_names::{Attach, FsId, MountId, MountIds, Status, Token, WalkerId};
 
 /// One observation. A trace is a list of them, so each takes little memory in its place: names
 /// stand in memory of their own.
@@ -52,11 +52,11 @@ pub enum Obs {
     },
     /// These mounts came.
     Mounted {
-        mounts: Mounts,
+        mounts: MountIds,
     },
     /// These mounts went.
     Unmounted {
-        mounts: Mounts,
+        mounts: MountIds,
     },
     /// The daemon took a packet from the pipe.
     Delivered {

@@ -87,7 +87,8 @@ fn has_walkers(world: &World) -> bool {
 }
 
 fn is_inside(world: &World) -> bool {
-    world.mount_of(WalkerId(7)) == Some(MountId(3)) && world.mount_of(WalkerId(8)).is_none()
+    world.mount_of_walker(WalkerId(7)) == Some(MountId(3))
+        && world.mount_of_walker(WalkerId(8)).is_none()
 }
 
 fn is_seventh(row: &Use) -> bool {

@@ -6,13 +6,13 @@
 //! - `passed`: a walk passes the trigger home;
 //! - `entered`, `entered-by-2`, `left`: walker 1, or 2, enters and leaves the mount; `unmounted`.
 
-use am_names::{Attach, FailNo, FsId, MountId, Mounts, Name, Status, Token, Trigger, WalkerId};
+use am_names::{Attach, FailNo, FsId, MountId, MountIds, Name, Status, Token, Trigger, WalkerId};
 use am_state::{KeptPacket, KeptTrigger, Obs};
-use am_wire::{Kind, Packet, PacketName};
+use am_wire::{Packet, PacketName, PacketType};
 use am_world::laws::trace_holds;
 use std::alloc::{AllocError, Global};
 
-fn packet(kind: Kind) -> Packet {
+fn packet(kind: PacketType) -> Packet {
     Packet {
         kind,
         token: Token(1),
@@ -26,7 +26,7 @@ fn packet(kind: Kind) -> Packet {
     }
 }
 
-fn queued(alloc: Global, kind: Kind) -> Result<Obs, AllocError> {
+fn queued(alloc: Global, kind: PacketType) -> Result<Obs, AllocError> {
     Ok(Obs::Queued {
         token: Token(1),
         attach: Attach(1),
@@ -38,7 +38,7 @@ fn delivered(alloc: Global) -> Result<Obs, AllocError> {
     Ok(Obs::Delivered {
         token: Token(1),
         attach: Attach(1),
-        packet: KeptPacket::new(alloc, &packet(Kind::MissingIndirect))?,
+        packet: KeptPacket::new(alloc, &packet(PacketType::MissingIndirect))?,
     })
 }
 
@@ -63,7 +63,7 @@ fn unmounted(alloc: Global) -> Result<Obs, AllocError> {
     let mut numbers = Vec::new(alloc);
     numbers.push(MountId(5))?;
     Ok(Obs::Unmounted {
-        mounts: Mounts::of(numbers),
+        mounts: MountIds::of(numbers),
     })
 }
 
@@ -98,8 +98,8 @@ fn left() -> Obs {
 /// What is seen of a token.
 fn seen_of_token(alloc: Global, word: &str) -> Result<Option<Obs>, AllocError> {
     Ok(Some(match word {
-        "queued" => queued(alloc, Kind::MissingIndirect)?,
-        "expiring" => queued(alloc, Kind::ExpireIndirect)?,
+        "queued" => queued(alloc, PacketType::MissingIndirect)?,
+        "expiring" => queued(alloc, PacketType::ExpireIndirect)?,
         "delivered" => delivered(alloc)?,
         "waits" => waits(),
         "answered" => answered(),

@@ -31,7 +31,7 @@ fn are_same_mounts(one: &[MountRow], other: &[MountRow]) -> bool {
 fn is_same_walk(one: &WalkRow, other: &WalkRow) -> bool {
     one.walker == other.walker
         && one.ns == other.ns
-        && one.begins == other.begins
+        && one.attempts == other.attempts
         && one.path.is_same(&other.path)
 }
 
@@ -96,7 +96,8 @@ fn is_same_trigger(one: &Option<Trigger>, other: &Option<Trigger>) -> bool {
 
 /// Whether the walker does the same in both.
 fn is_same_walker(one: &World, other: &World, walker: WalkerId) -> bool {
-    one.wait_of(walker) == other.wait_of(walker) && one.mount_of(walker) == other.mount_of(walker)
+    one.wait_of(walker) == other.wait_of(walker)
+        && one.mount_of_walker(walker) == other.mount_of_walker(walker)
 }
 
 /// Whether the token is open for the same trigger in both.

@@ -6,7 +6,7 @@ use crate::play::{are_long_lines_played, is_long_script_played};
 use crate::readers::are_read;
 use am_map::MapFaultKind;
 use am_master::MasterFaultKind;
-use am_names::{JobId, MountId, Mounts};
+use am_names::{JobId, MountId, MountIds};
 use am_script::ScriptFaultKind;
 use am_script::answer_line::push_answer;
 use am_script::event_line::read_event;
@@ -51,7 +51,7 @@ fn gone(alloc: Global, numbers: &[u64]) -> Result<Answer, AllocError> {
         mounts.push(MountId(*number))?;
     }
     Ok(Answer::Gone {
-        mounts: Mounts::of(mounts),
+        mounts: MountIds::of(mounts),
     })
 }
 

@@ -4,12 +4,11 @@ use Rattle.std.specs.Prelude.{find, filter, if◌then◌else◌}
 use Rattle.std.specs.List.{AllByRecursion, IsDistinct}
 use Rattle.std.specs.Map.{lookup, keys_of}
 use Rattle.std.specs.Option.{option_map}
-use Rattle.am_ordered.specs.Lookup.{insert_entry, shift_remove_entry}
-use Rattle.am_names.specs.Trigger.{same_trigger}
+use Rattle.am_ordered.specs.{insert_entry, shift_remove_entry}
+use Rattle.am_names.specs.{same_trigger}
 use Rattle.am_names.specs.declared.trigger.Trigger.{Trigger}
-use Rattle.am_trigger.specs.declared.failures.Failure.{Failure}
-use Rattle.am_trigger.specs.Failures.{FailureRows, failure_of, with_failure, without_failure, without_failures}
-use Rattle.am_names.proofs.SameTriggers.{is_one, either_way}
+use Rattle.am_trigger.specs.{Failure, FailureRows, failure_of, with_failure, without_failure, without_failures}
+use Rattle.am_names.proofs.SameTriggers.{equal_by_same_trigger, same_trigger_either_way}
 
 -- where all rows of a trigger go nothing failed there, and where all stay the same did
 pub failure_left : (keep : (Trigger × Failure) → Bool) (g : Trigger) (gone : Bool) → ((row : Trigger × Failure) → same_trigger row.0 g ≡ true → keep row ≡ not gone) → (rows : FailureRows) →
@@ -35,11 +34,11 @@ failure_left keep g gone says (row ∷ rows) = by (failure_left keep g gone says
 
 pub removed : (trigger g : Trigger) (rows : FailureRows) → failure_of (without_failure trigger rows) g ≡ (if same_trigger trigger g then None else failure_of rows g)
 removed trigger g rows =
-    failure_left (λ row. not (same_trigger row.0 trigger)) g (same_trigger trigger g) (λ row same. ap (λ (x : Trigger). not (same_trigger x trigger)) (is_one row.0 g same) ∙ ap not (either_way g trigger)) rows
+    failure_left (λ row. not (same_trigger row.0 trigger)) g (same_trigger trigger g) (λ row same. ap (λ (x : Trigger). not (same_trigger x trigger)) (equal_by_same_trigger row.0 g same) ∙ ap not (same_trigger_either_way g trigger)) rows
 
 pub mended : (fs : ℕ) (g : Trigger) (rows : FailureRows) → failure_of (without_failures fs rows) g ≡ (if g.fs == fs then None else failure_of rows g)
 mended fs g rows =
-    failure_left (λ row. not (row.0.fs == fs)) g (g.fs == fs) (λ row same. ap (λ (x : Trigger). not (x.fs == fs)) (is_one row.0 g same)) rows
+    failure_left (λ row. not (row.0.fs == fs)) g (g.fs == fs) (λ row same. ap (λ (x : Trigger). not (x.fs == fs)) (equal_by_same_trigger row.0 g same)) rows
 
 -- the last row counts where none before it is of the trigger
 last_of : (trigger g : Trigger) (failure : Failure) (rows : FailureRows) → failure_of (rows ++ (trigger, failure) ∷ []) g ≡ (if is_some (failure_of rows g) then failure_of rows g else (if same_trigger trigger g then Some failure else None))
@@ -90,7 +89,7 @@ module _ (eq : Trigger → Trigger → Bool) (says : (a b : Trigger) → eq a b 
           shift_remove_entry (eq trigger) (row ∷ rows) ≡ without_failure trigger (row ∷ rows)
       by later true h =
           let same : same_trigger row.0 trigger ≡ true = sym (says trigger row.0) ∙ h in
-          let apart : AllByRecursion (λ key. eq trigger key ≡ false) (keys_of rows) = subst (λ (x : Trigger). AllByRecursion (λ key. eq x key ≡ false) (keys_of rows)) (is_one row.0 trigger same) distinct.0 in
+          let apart : AllByRecursion (λ key. eq trigger key ≡ false) (keys_of rows) = subst (λ (x : Trigger). AllByRecursion (λ key. eq x key ≡ false) (keys_of rows)) (equal_by_same_trigger row.0 trigger same) distinct.0 in
           rw (h, same) (sym (none_go trigger rows apart))
       by later false h =
           let differs : same_trigger row.0 trigger ≡ false = sym (says trigger row.0) ∙ h in

@@ -8,10 +8,10 @@ use Rattle.std.specs.List.{list_any, AllByRecursion, IsDistinct}
 use Rattle.std.specs.Map.{lookup, keys_of}
 use Rattle.std.specs.Option.{option_map}
 use Rattle.am_names.specs.declared.trigger.Trigger.{Trigger}
-use Rattle.am_names.specs.Trigger.{same_trigger}
-use Rattle.am_ordered.specs.Lookup.{insert_entry, shift_remove_entry}
-use Rattle.am_names.proofs.SameTriggers.{is_one, is_itself}
-use Rattle.am_trigger.specs.Rows.{used_in, last_use_in, AreOnce, IsUseIndex}
+use Rattle.am_names.specs.{same_trigger}
+use Rattle.am_ordered.specs.{insert_entry, shift_remove_entry}
+use Rattle.am_names.proofs.SameTriggers.{equal_by_same_trigger, same_trigger_itself}
+use Rattle.am_trigger.specs.{used_in, last_use_in, AreOnce, IsUseIndex}
 
 module _ (eq : Trigger → Trigger → Bool) (says : (a b : Trigger) → eq a b ≡ same_trigger b a) where
   -- the index says when a trigger was last used
@@ -39,7 +39,7 @@ module _ (eq : Trigger → Trigger → Bool) (says : (a b : Trigger) → eq a b 
       let within : index < length rows = omega (arith, found.0, long) in
       let row : Trigger × ℕ = get_or rows index (trigger, 0) in
       let key : get_or (keys_of rows) index trigger ≡ row.0 = get_or-map (λ (r : Trigger × ℕ). r.0) rows index (trigger, 0) trigger within in
-      let is : row.0 ≡ trigger = is_one row.0 trigger (sym (says trigger row.0) ∙ ap (eq trigger) (sym key) ∙ found.1) in
+      let is : row.0 ≡ trigger = equal_by_same_trigger row.0 trigger (sym (says trigger row.0) ∙ ap (eq trigger) (sym key) ∙ found.1) in
       (row.1, slice_get-get_or rows index (trigger, 0) within ∙ ap (λ (g : Trigger). Some (g, row.1)) is)
 
   -- the index says where a trigger stands among the last uses
@@ -52,7 +52,7 @@ module _ (eq : Trigger → Trigger → Bool) (says : (a b : Trigger) → eq a b 
   use_index_is trigger rows (Some index) is found = use_found trigger rows index (sym is)
 
   equal_keys : (a b : Trigger) → a ≡ b → eq a b ≡ true
-  equal_keys a b e = ap (λ (x : Trigger). eq x b) e ∙ says b b ∙ is_itself b
+  equal_keys a b e = ap (λ (x : Trigger). eq x b) e ∙ says b b ∙ same_trigger_itself b
 
   none_further : (key : Trigger) (rows : List (Trigger × ℕ)) → AllByRecursion (λ k. eq key k ≡ false) (keys_of rows) → (j : ℕ) (other : Trigger × ℕ) → slice_get rows j ≡ Some other → eq key other.0 ≡ false
   none_further key [] all j other q = absurd (none-some other q)
@@ -105,6 +105,6 @@ module _ (eq : Trigger → Trigger → Bool) (says : (a b : Trigger) → eq a b 
       by : keys_of (shift_remove_entry (eq trigger) rows) ≡ filter (λ row. not (same_trigger row trigger)) (keys_of rows) → (b : Bool) → same_trigger row.0 trigger ≡ b →
           keys_of (shift_remove_entry (eq trigger) (row ∷ rows)) ≡ filter (λ row. not (same_trigger row trigger)) (keys_of (row ∷ rows))
       by later true e =
-          let apart : AllByRecursion (λ key. eq trigger key ≡ false) (keys_of rows) = subst (λ (x : Trigger). AllByRecursion (λ key. eq x key ≡ false) (keys_of rows)) (is_one row.0 trigger e) distinct.0 in
+          let apart : AllByRecursion (λ key. eq trigger key ≡ false) (keys_of rows) = subst (λ (x : Trigger). AllByRecursion (λ key. eq x key ≡ false) (keys_of rows)) (equal_by_same_trigger row.0 trigger e) distinct.0 in
           rw (says trigger row.0 ∙ e, e) (sym (none_go trigger (keys_of rows) apart))
       by later false e = rw (says trigger row.0 ∙ e, e, later) refl

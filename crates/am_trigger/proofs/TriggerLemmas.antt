@@ -3,11 +3,11 @@ use Rattle.std.proofs.Common.{◌≡◌, ℕ, Bool, true, false, cond, not, ◌&
 use Rattle.std.specs.Prelude.{filter, find, if◌then◌else◌}
 use Rattle.std.specs.List.{list_any}
 use Rattle.std.specs.Option.{option_map}
-use Rattle.am_names.specs.Trigger.{same_trigger}
+use Rattle.am_names.specs.{same_trigger}
 use Rattle.am_names.specs.declared.trigger.Trigger.{Trigger}
-use Rattle.am_names.proofs.SameTriggers.{is_one, either_way}
+use Rattle.am_names.proofs.SameTriggers.{equal_by_same_trigger, same_trigger_either_way}
 use Rattle.am_names.proofs.Basics.{or_false, or_assoc}
-use Rattle.am_trigger.specs.Rows.{used_in, last_use_in}
+use Rattle.am_trigger.specs.{used_in, last_use_in}
 
 -- ---- directories
 
@@ -28,7 +28,7 @@ spread false l that h = refl
 -- a trigger that is one, and not the other: the two are not one
 pub parted : (row trigger g : Trigger) → same_trigger row trigger ≡ false → same_trigger row g ≡ true → same_trigger trigger g ≡ false
 parted row trigger g differs same =
-    either_way trigger g ∙ ap (λ (x : Trigger). same_trigger x trigger) (sym (is_one row g same)) ∙ differs
+    same_trigger_either_way trigger g ∙ ap (λ (x : Trigger). same_trigger x trigger) (sym (equal_by_same_trigger row g same)) ∙ differs
 
 -- where one is taken away, the others are left
 pub any_left : (trigger g : Trigger) (made : List Trigger) →
@@ -40,7 +40,7 @@ any_left trigger g (row ∷ made) = left_by (any_left trigger g made) (same_trig
         (b : Bool) → same_trigger row trigger ≡ b →
         list_any (λ row. same_trigger row g) (filter (λ row. not (same_trigger row trigger)) (row ∷ made)) ≡ (list_any (λ row. same_trigger row g) (row ∷ made) && not (same_trigger trigger g))
     left_by later true e =
-        let same : same_trigger row g ≡ same_trigger trigger g = ap (λ (x : Trigger). same_trigger x g) (is_one row trigger e) in
+        let same : same_trigger row g ≡ same_trigger trigger g = ap (λ (x : Trigger). same_trigger x g) (equal_by_same_trigger row trigger e) in
         rw (e, same) (later ∙ absorbed (list_any (λ row. same_trigger row g) made) (same_trigger trigger g))
     left_by later false e =
         rw e (ap (λ (b : Bool). same_trigger row g || b) later ∙ spread (same_trigger row g) (list_any (λ row. same_trigger row g) made) (same_trigger trigger g) (parted row trigger g e))
@@ -69,5 +69,5 @@ used_at trigger g moment (row ∷ rows) = used_by (used_at trigger g moment rows
     further later false same differs = rw same later
 
     used_by : last_use_in (used_in trigger moment rows) g ≡ (if same_trigger trigger g then Some moment else last_use_in rows g) → (b : Bool) → same_trigger row.0 trigger ≡ b → last_use_in (used_in trigger moment (row ∷ rows)) g ≡ (if same_trigger trigger g then Some moment else last_use_in (row ∷ rows) g)
-    used_by later true e = rw e (again (ap (λ (x : Trigger). same_trigger x g) (is_one row.0 trigger e)))
+    used_by later true e = rw e (again (ap (λ (x : Trigger). same_trigger x g) (equal_by_same_trigger row.0 trigger e)))
     used_by later false e = rw e (further later (same_trigger row.0 g) refl e)

@@ -1,7 +1,7 @@
 //! What failed last at each trigger, and how long that lasts.
 
 ghost use Rattle.std.specs.Prelude.{◌≡◌, ◌≤◌, ◌+◌, ◌==◌, not, [], None, Some, filter, remove, slice_get, if◌then◌else◌, IfSome, OnOk};
-ghost use Rattle.am_names.specs.Errno.{RefusedAs};
+ghost use Rattle.am_names.specs.{RefusedAs};
 ghost use Rattle.am_trigger.specs.Failures.{lasts, failure_of, failing, with_failure, without_failure, without_failures, IsFailed, IsMended};
 
 use am_names::{Errno, FailNo, FsId, Name, Seconds, Trigger};
@@ -37,7 +37,7 @@ impl Model for Failures {
 
     ghost Value = { FailureTable };
 
-    ghost use Rattle.am_trigger.specs.FailureInside.{table_of};
+    ghost use Rattle.am_trigger.specs.FailureView.{table_of};
 
     ghost view = { table_of };
 }

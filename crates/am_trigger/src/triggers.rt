@@ -1,9 +1,9 @@
 //! The triggers of all autofs file systems.
 
 ghost use Rattle.std.specs.Prelude.{◌≡◌, ◌<◌, ◌≤◌, ◌+◌, length, None, map, IfOk, OnOk, OnErr};
-ghost use Rattle.am_names.specs.Errno.{RefusedAs, RefusedOnlyAs};
+ghost use Rattle.am_names.specs.{RefusedAs, RefusedOnlyAs};
 ghost use Rattle.am_trigger.specs.Rows.{no_triggers, autofs_of, add_refusal, with_autofs, catatonic_refusal, catatonic_row, with_catatonic, is_made, mkdir_refusal, with_directory, IsMadeToo, rmdir_refusal, without_directory, IsMadeNoMore, last_use_of, used_in, used, all_used_in, all_used, IsUsedAt};
-ghost use Rattle.am_trigger.specs.Table.{KeepsRoom};
+ghost use Rattle.am_trigger.specs.Capacity.{KeepsRoom};
 ghost use Rattle.indexmap.specs.IndexMap.{spare};
 
 use crate::autofs::Autofs;
@@ -25,11 +25,11 @@ pub struct Triggers {
 }
 
 impl Model for Triggers {
-    ghost use Rattle.am_trigger.specs.Table.{TriggerTable};
+    ghost use Rattle.am_trigger.specs.Capacity.{TriggerTable};
 
     ghost Value = { TriggerTable };
 
-    ghost use Rattle.am_trigger.specs.Inside.{table_of};
+    ghost use Rattle.am_trigger.specs.View.{table_of};
 
     ghost view = { table_of };
 }

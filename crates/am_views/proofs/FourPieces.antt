@@ -1,7 +1,6 @@
 -- Texts that are put out one behind another.
 use Rattle.std.proofs.Common.{ℕ, List, ◌++◌, Option}
-use Rattle.am_script.specs.declared.output.Output.{Output}
-use Rattle.am_script.specs.Outputs.{Puts}
+use Rattle.am_script.specs.{Output, Puts}
 use Rattle.am_script.proofs.Pieces.{puts_two, puts_three}
 
 pub puts_four : (a b c d e : Output) (xs ys zs ws : List ℕ) (u v w x y : Option (List ℕ)) → Puts a b xs u v → Puts b c ys v w → Puts c d zs w x → Puts d e ws x y → Puts a e (xs ++ (ys ++ (zs ++ ws))) u y

@@ -2,10 +2,10 @@
 use Rattle.std.proofs.Common.{◌≡◌, ◌<◌, ℕ, List, [], ◌∷◌, ◌++◌, length, take, refl, sym, ap, ap₂, ◌∙◌, append_assoc, append-nil, ⊎_elim}
 use Rattle.std.specs.List.{flat_map}
 use Rattle.std.proofs.lemmas.Grind.{flat_map-append}
-use Rattle.am_script.specs.Outputs.{Owed, owed_by, bytes_of}
+use Rattle.am_script.specs.{Owed, owed_by, bytes_of}
 use Rattle.am_script.proofs.Lost.{bytes_by, InText, Behind, split_owed}
 use Rattle.am_script.proofs.OwedLemmas.{bytes_more}
-use Rattle.am_views.specs.Traced.{Shown, shown_text, printed_trace}
+use Rattle.am_views.specs.{Shown, shown_text, printed_trace}
 
 -- the bytes of these events
 abbrev pub owed_for : List Shown → List Owed

@@ -1,16 +1,11 @@
 -- What a step adds to the trace is what is seen of its event.
 use Rattle.std.proofs.Common.{◌≡◌, ℕ, Bool, List, ◌++◌, length, drop, Option, sym, ap, ◌∙◌, subst, inl, inr, append-nil}
 use Rattle.std.proofs.Math.Seq.{drop-append_seam}
-use Rattle.am_machine.specs.declared.event.Event.{Event}
-use Rattle.am_machine.specs.declared.answer.Answer.{Answer}
+use Rattle.am_machine.specs.{Event, Answer, Step, RanOut, Comes}
 use Rattle.am_machine.specs.State.{State}
-use Rattle.am_machine.specs.Machine.{Step, RanOut, Comes}
-use Rattle.am_script.specs.declared.output.Output.{Output}
-use Rattle.am_script.specs.Answers.{is_refused}
-use Rattle.am_script.specs.Outputs.{owed_by, Stands, Settles, Puts}
-use Rattle.am_script.specs.Script.{Numbered}
-use Rattle.am_state.specs.declared.obs.Obs.{Obs}
-use Rattle.am_views.specs.Traced.{shown_text, IsShown}
+use Rattle.am_script.specs.{Output, is_refused, owed_by, Stands, Settles, Puts, Numbered}
+use Rattle.am_state.specs.{Obs}
+use Rattle.am_views.specs.{shown_text, IsShown}
 
 pub grows : (s next : State) (event : Event) (answer : Answer) (seen : List Obs) → Step s event answer seen next → next.trace ≡ s.trace ++ seen
 grows s next event answer seen (inl out) =

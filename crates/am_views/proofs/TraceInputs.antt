@@ -2,17 +2,13 @@
 use Rattle.std.proofs.Common.{◌≡◌, ℕ, List, [], length, Option, Some, None, Result, Ok, Err, OnOk, IfOk, IfErr, IfNone, IfSome, option_copied, refl, sym, ap, ◌∙◌, subst, inl, inr}
 use Rattle.std.proofs.KnownBytes.{Appends-nil}
 use Rattle.std.specs.Io.KnownBytes.{Consumes, IsAtEnd}
-use Rattle.am_machine.specs.State.{State, Opening, opening_in, opening_of}
-use Rattle.am_script.specs.declared.fault.ScriptFault.{ScriptFault}
-use Rattle.am_script.specs.declared.fault.ScriptFaultKind.{ScriptFaultKind}
-use Rattle.am_script.specs.declared.play.Summary.{Summary}
+use Rattle.am_machine.specs.State.{State}
+use Rattle.am_machine.specs.{Setup, setup_of, initial_state_of}
+use Rattle.am_script.specs.{ScriptFault, ScriptFaultKind, Summary, lines_of, lines_in, OpenedAs, NotOpened, IsOpened, IsReadFault, WasRead, broken, played, Told, events_from, script_of, without_world}
 use Rattle.am_script.specs.declared.visit.Opened.{Opened}
-use Rattle.am_script.specs.Lines.{lines_of, lines_in}
-use Rattle.am_script.specs.Opened.{OpenedAs, NotOpened, IsOpened}
-use Rattle.am_script.specs.Read.{IsReadFault, WasRead, broken, played}
-use Rattle.am_script.specs.Script.{Script, Told, events_from, script_of, without_world}
-use Rattle.am_views.specs.Traced.{AllTraced, TraceStops, TracedFrom, TracesInput, HeadStops, StopsTrace}
-use Rattle.am_world.specs.Table.{state_of}
+use Rattle.am_script.specs.Script.{Script}
+use Rattle.am_views.specs.{AllTraced, TraceStops, TracedFrom, TracesInput, HeadStops, StopsTrace}
+use Rattle.am_world.specs.Capacity.{state_of}
 
 -- ---- what was read
 
@@ -48,9 +44,9 @@ traces_head ro rn wo text broke fault read end kind h = record {
 abbrev pub told_in : Opened → Told
 told_in opened = events_from opened.broke opened.line (lines_in (option_copied opened.rest))
 
-all_from : (opening : Option Opening) (told : Told) (opened : Opened) (wo wn : Option (List ℕ)) (summary : Summary) → opening ≡ Some (opening_in (state_of opened.world)) → state_of opened.world ≡ opening_of (opening_in (state_of opened.world)) → told ≡ told_in opened → AllTraced (state_of opened.world) (told_in opened) wo wn summary → TracedFrom opening told wo wn summary
+all_from : (opening : Option Setup) (told : Told) (opened : Opened) (wo wn : Option (List ℕ)) (summary : Summary) → opening ≡ Some (setup_of (state_of opened.world)) → state_of opened.world ≡ initial_state_of (setup_of (state_of opened.world)) → told ≡ told_in opened → AllTraced (state_of opened.world) (told_in opened) wo wn summary → TracedFrom opening told wo wn summary
 all_from opening told opened wo wn summary e world f all =
-    subst (λ (o : Option Opening). TracedFrom o told wo wn summary) (sym e)
+    subst (λ (o : Option Setup). TracedFrom o told wo wn summary) (sym e)
     (subst (λ (s : State). AllTraced s told wo wn summary) world
     (subst (λ (t : Told). AllTraced (state_of opened.world) t wo wn summary) (sym f) all))
 
@@ -66,7 +62,7 @@ stops_opened ro rn wo wn text broke opened (Err fault) read end kind h stops = r
   broke = broke;
   read = was_read ro rn text broke read end kind;
   stopped = inr (record {
-    opening = opening_in (state_of opened.world);
+    opening = setup_of (state_of opened.world);
     begins = h.opening;
     stops =
         subst (λ (s : State). TraceStops s (script_of broke text).told wo wn fault) h.world

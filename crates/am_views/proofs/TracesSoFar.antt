@@ -2,26 +2,14 @@
 use Rattle.std.proofs.Common.{◌≡◌, ◌+◌, ℕ, ◌≤◌, Bool, true, false, cond, List, [], ◌∷◌, ◌++◌, length, count_by, Option, Some, None, Result, Ok, Err, refl, sym, ap, ◌∙◌, subst, inl, inr, ⊎_elim, IfOk, IfErr, append_assoc, arith}
 use Rattle.std.specs.Io.KnownBytes.{Appends}
 use Rattle.std.proofs.lemmas.List.{map_push, map-append, append-nil, length-append}
-use Rattle.am_machine.specs.declared.event.Event.{Event}
-use Rattle.am_machine.specs.declared.answer.Answer.{Answer}
+use Rattle.am_machine.specs.{Event, Answer, Step, Run}
 use Rattle.am_machine.specs.State.{State}
-use Rattle.am_machine.specs.Machine.{Step, Run}
-use Rattle.am_script.specs.declared.fault.ScriptFault.{ScriptFault}
-use Rattle.am_script.specs.declared.fault.ScriptFaultKind.{ScriptFaultKind}
+use Rattle.am_script.specs.{ScriptFault, ScriptFaultKind, Output, Summary, is_refused, fault_at, NoRoomFor, NoNext, Owed, bytes_of, IsLost, StandsBy, Stands, Numbered, Told, events_in, told_by, only_fault, IsWhole, IsShort, Closes, behind}
 use Rattle.am_script.specs.declared.fault.ScriptFaultKind.TheVariants.{WriteFailed}
-use Rattle.am_script.specs.declared.output.Output.{Output}
-use Rattle.am_script.specs.declared.play.Summary.{Summary}
-use Rattle.am_script.specs.Answers.{is_refused}
-use Rattle.am_script.specs.Fault.{fault_at}
-use Rattle.am_script.specs.Opened.{NoRoomFor, NoNext}
-use Rattle.am_script.specs.Outputs.{Owed, bytes_of, IsLost, StandsBy, Stands}
-use Rattle.am_script.specs.Script.{Numbered, Told, events_in, told_by, only_fault}
-use Rattle.am_script.specs.Turns.{IsWhole, IsShort, Closes}
-use Rattle.am_script.specs.Playing.{behind}
 use Rattle.am_script.proofs.Answering.{count_more}
 use Rattle.am_script.proofs.Closing.{lost_by}
 use Rattle.am_script.proofs.OwedLemmas.{stands_new}
-use Rattle.am_views.specs.Traced.{Shown, asked_in, answers_in, printed_trace, SeenRun, AllTraced, TracedToLoss, TraceStops, IsShown, one_more}
+use Rattle.am_views.specs.{Shown, asked_in, answers_in, printed_trace, SeenRun, AllTraced, TracedToLoss, TraceStops, IsShown, one_more}
 use Rattle.am_views.proofs.LostTraces.{owed_for, owed_push, bytes_for, Within, within_some}
 
 -- of all events these are left, and those before have come; their trace is put out

@@ -1,20 +1,18 @@
 -- How events are written: as a line of a script says them. Own choice (docs/FORMATS.md, "Events").
 use Rattle.std.specs.Prelude.{ℕ, Bool, true, false, List, [], ◌++◌, codes, decimal, Option, None, Some}
 use Rattle.hex.specs.Hex.{encode_lower}
-use Rattle.am_names.specs.FailNo.{fail_number}
+use Rattle.am_names.specs.{fail_number, PipeState, Status}
 use Rattle.am_names.specs.declared.fail_no.FailNo.{FailNo}
 use Rattle.am_names.specs.declared.fail_no.FailNo.TheVariants.{ENOENT}
-use Rattle.am_names.specs.declared.trigger.PipeState.{PipeState}
 use Rattle.am_names.specs.declared.trigger.PipeState.TheVariants.{Room, Full, Gone}
-use Rattle.am_names.specs.declared.trigger.Status.{Status}
 use Rattle.am_names.specs.declared.trigger.Status.TheVariants.{Ready, Fail}
-use Rattle.am_group.specs.declared.kind.Change.{Change}
-use Rattle.am_group.specs.declared.kind.Change.TheVariants.{MakeShared, MakeSlave, MakePrivate, MakeUnbindable}
-use Rattle.am_propagate.specs.declared.subtree.namespace.CopyForm.{CopyForm}
+use Rattle.am_group.specs.{Change}
+use Rattle.am_group.specs.declared.mount_state.Change.TheVariants.{MakeShared, MakeSlave, MakePrivate, MakeUnbindable}
+use Rattle.am_propagate.specs.{CopyForm}
 use Rattle.am_propagate.specs.declared.subtree.namespace.CopyForm.TheVariants as forms
-use Rattle.am_machine.specs.declared.event.Event.{Event}
+use Rattle.am_machine.specs.{Event}
 use Rattle.am_machine.specs.declared.event.Event.TheVariants as events
-use Rattle.am_script.specs.Answers.{place_text}
+use Rattle.am_script.specs.{place_text}
 
 -- ---- the words of a line, each behind a blank
 

@@ -2,12 +2,12 @@
 use Rattle.std.specs.Prelude.{ℕ, List, [], ◌∷◌, ◌++◌, codes, decimal, Option, None, Some}
 use Rattle.std.specs.List.{flat_map}
 use Rattle.am_names.specs.declared.trigger.Trigger.{Trigger}
-use Rattle.am_wire.specs.declared.kind.Kind.{Kind}
-use Rattle.am_wire.specs.declared.kind.Kind.TheVariants.{MissingIndirect, ExpireIndirect, MissingDirect, ExpireDirect}
-use Rattle.am_wire.specs.declared.packet.Packet.{Packet}
-use Rattle.am_state.specs.declared.obs.Obs.{Obs}
+use Rattle.am_wire.specs.declared.packet_type.PacketType.{PacketType}
+use Rattle.am_wire.specs.declared.packet_type.PacketType.TheVariants.{MissingIndirect, ExpireIndirect, MissingDirect, ExpireDirect}
+use Rattle.am_wire.specs.{Packet}
+use Rattle.am_state.specs.{Obs}
 use Rattle.am_state.specs.declared.obs.Obs.TheVariants as seen
-use Rattle.am_script.specs.Answers.{mounts_text, entry_text}
+use Rattle.am_script.specs.{mounts_text, entry_text}
 use Rattle.am_views.specs.EventText.{status_part}
 
 -- ---- the words of a line, each behind a blank
@@ -22,7 +22,7 @@ abbrev pub trigger_part : Trigger → List ℕ
 trigger_part trigger = codes " fs " ++ decimal trigger.fs ++ key_part trigger.name
 
 -- what a packet asks for (auto_fs.h, enum autofs_notify)
-abbrev pub type_part : Kind → List ℕ
+abbrev pub type_part : PacketType → List ℕ
 type_part MissingIndirect = codes " missing-indirect"
 type_part ExpireIndirect = codes " expire-indirect"
 type_part MissingDirect = codes " missing-direct"

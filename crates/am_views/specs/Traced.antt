@@ -3,22 +3,12 @@
 use Rattle.std.specs.Prelude.{◌≡◌, ◌⊎◌, ◌<◌, ◌≤◌, ℕ, ◌+◌, Bool, cond, List, [], ◌∷◌, ◌++◌, map, length, take, codes, decimal, count_by, Option, None, Some}
 use Rattle.std.specs.List.{flat_map}
 use Rattle.std.specs.Io.KnownBytes.{Appends, Consumes, IsAtEnd}
-use Rattle.am_state.specs.declared.obs.Obs.{Obs}
-use Rattle.am_machine.specs.declared.answer.Answer.{Answer}
-use Rattle.am_machine.specs.State.{State, Opening, opening_of}
-use Rattle.am_machine.specs.Machine.{Step}
-use Rattle.am_script.specs.declared.fault.ScriptFault.{ScriptFault}
-use Rattle.am_script.specs.declared.fault.ScriptFaultKind.{ScriptFaultKind}
+use Rattle.am_state.specs.{Obs}
+use Rattle.am_machine.specs.{Answer, Setup, initial_state_of, Step}
+use Rattle.am_machine.specs.State.{State}
+use Rattle.am_script.specs.{ScriptFault, ScriptFaultKind, Output, Summary, answer_line, is_refused, lines_of, NoRoom, owed_by, PutsOut, NothingPlayed, WasRead, played, Numbered, Told, script_of}
 use Rattle.am_script.specs.declared.fault.ScriptFaultKind.TheVariants.{NoMemory, WriteFailed}
-use Rattle.am_script.specs.declared.output.Output.{Output}
-use Rattle.am_script.specs.declared.play.Summary.{Summary}
-use Rattle.am_script.specs.Answers.{answer_line, is_refused}
-use Rattle.am_script.specs.Lines.{lines_of}
-use Rattle.am_script.specs.Opened.{NoRoom}
-use Rattle.am_script.specs.Outputs.{owed_by, PutsOut}
-use Rattle.am_script.specs.Played.{NothingPlayed}
-use Rattle.am_script.specs.Read.{WasRead, played}
-use Rattle.am_script.specs.Script.{Numbered, Told, Script, script_of}
+use Rattle.am_script.specs.Script.{Script}
 use Rattle.am_views.specs.EventText.{event_text}
 use Rattle.am_views.specs.ObsText.{obs_lines}
 
@@ -118,9 +108,9 @@ TraceStops start told old new fault =
 -- ---- any script
 
 -- all events are traced where there is a world; where there is none, nothing is written
-abbrev pub TracedFrom : Option Opening → Told → Option (List ℕ) → Option (List ℕ) → Summary → Type 0
+abbrev pub TracedFrom : Option Setup → Told → Option (List ℕ) → Option (List ℕ) → Summary → Type 0
 TracedFrom None told old new summary = NothingPlayed told old new summary
-TracedFrom (Some opening) told old new summary = AllTraced (opening_of opening) told old new summary
+TracedFrom (Some opening) told old new summary = AllTraced (initial_state_of opening) told old new summary
 
 -- the head has a fault, or memory ran out for it or for the world; nothing is written
 pub record HeadStops (lines : ℕ) (script : Script) (old new : Option (List ℕ)) (fault : ScriptFault) : Type 0 where
@@ -129,9 +119,9 @@ pub record HeadStops (lines : ℕ) (script : Script) (old new : Option (List ℕ
 
 -- the script has a world, and its trace stops
 pub record EventsStop (script : Script) (old new : Option (List ℕ)) (fault : ScriptFault) : Type 0 where
-  pub opening : Opening
+  pub opening : Setup
   pub begins : script.opening ≡ Some opening
-  pub stops : TraceStops (opening_of opening) script.told old new fault
+  pub stops : TraceStops (initial_state_of opening) script.told old new fault
 
 -- ---- with a reader
 

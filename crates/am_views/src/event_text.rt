@@ -2,7 +2,7 @@
 
 ghost use Rattle.std.specs.Prelude.{◌≡◌, ◌++◌, OnOk};
 ghost use Rattle.hex.specs.Hex.{encode_lower};
-ghost use Rattle.am_script.specs.Outputs.{Puts};
+ghost use Rattle.am_script.specs.{Puts};
 ghost use Rattle.am_views.specs.EventText.{event_text, pipe_part, change_part, form_part, failure_part, status_part, how_part, outcome_part, path_part, site_part, moment_part, expiry_part, bytes_part, name_part};
 
 use am_group::Change;

@@ -2,14 +2,14 @@
 
 ghost use Rattle.std.specs.Prelude.{◌≡◌, ◌++◌, codes, OnOk};
 ghost use Rattle.am_state.specs.declared.obs.Obs.TheVariants.{Queued, Recorded};
-ghost use Rattle.am_script.specs.Outputs.{Puts};
+ghost use Rattle.am_script.specs.{Puts};
 ghost use Rattle.am_views.specs.ObsText.{obs_text, obs_line, obs_lines, key_part, trigger_part, type_part, root_part, owner_part, process_part, caller_part, packet_part};
 
 use crate::event_text::put_status;
 use am_names::{Attach, Name, Token, Trigger};
 use am_script::answer_line::{put_entry, put_mounts, put_number, put_word};
 use am_script::output::Output;
-use am_wire::{Kind, Packet};
+use am_wire::{Packet, PacketType};
 use am_world::{Obs, Record};
 use std::alloc::AllocError;
 use std::io::Write;
@@ -185,15 +185,15 @@ fn put_packet<W: Write>(output: &mut Output, packet: &Packet, writer: &mut W)
     put_caller(output, packet, writer);
 }
 
-fn put_type<W: Write>(output: &mut Output, kind: Kind, writer: &mut W)
+fn put_type<W: Write>(output: &mut Output, kind: PacketType, writer: &mut W)
     ensures { Puts output.old output.new (type_part kind) (W.contents writer.old)
         (W.contents writer.new) }
 {
     match kind {
-        Kind::MissingIndirect => put_word(output, b" missing-indirect", writer),
-        Kind::ExpireIndirect => put_word(output, b" expire-indirect", writer),
-        Kind::MissingDirect => put_word(output, b" missing-direct", writer),
-        Kind::ExpireDirect => put_word(output, b" expire-direct", writer),
+        PacketType::MissingIndirect => put_word(output, b" missing-indirect", writer),
+        PacketType::ExpireIndirect => put_word(output, b" expire-indirect", writer),
+        PacketType::MissingDirect => put_word(output, b" missing-direct", writer),
+        PacketType::ExpireDirect => put_word(output, b" expire-direct", writer),
     }
 }
 

@@ -1,11 +1,9 @@
 //! The trace of a script is printed.
 
 ghost use Rattle.std.specs.Prelude.{◌≡◌, ◌+◌, ◌-◌, ◌<◌, ◌≤◌, ◌^◌, length, drop, option_copied, None, IfOk, IfErr, OnOk};
-ghost use Rattle.am_script.specs.Lines.{lines_in, size_in};
-ghost use Rattle.am_script.specs.Outputs.{Puts};
-ghost use Rattle.am_script.specs.Script.{events_from};
+ghost use Rattle.am_script.specs.{lines_in, size_in, Puts, events_from};
 ghost use Rattle.am_views.specs.Traced.{asked_line, told_line, shown_text, AllTraced, TraceStops, TracesInput, StopsTrace, IsShown, one_more};
-ghost use Rattle.am_world.specs.Table.{state_of};
+ghost use Rattle.am_world.specs.Capacity.{state_of};
 
 use crate::event_text::put_event;
 use crate::obs_text::put_seen;

@@ -4,14 +4,9 @@ use Rattle.std.specs.Prelude.{filter, is_none}
 use Rattle.std.specs.Option.{option_map}
 use Rattle.std.proofs.lemmas.Bool.Decides.{nat_tests, Decides-eqb}
 use Rattle.am_names.specs.declared.trigger.Trigger.{Trigger}
-use Rattle.am_names.specs.declared.trigger.Status.{Status}
-use Rattle.am_names.specs.declared.row.OpenToken.{OpenToken}
-use Rattle.am_names.specs.declared.row.WaitRow.{WaitRow}
-use Rattle.am_names.specs.declared.row.TokenKind.{TokenKind}
+use Rattle.am_names.specs.{Status, OpenToken, WaitRow, TokenKind, RiseBy, is_among}
 use Rattle.am_names.proofs.Basics.{some_injective, none_is_not_some, equal_by_test, equal_to_itself, both_of_and}
-use Rattle.am_wait.specs.Rows.{WaitRows, token_of, wait_of, waiters_of, waiters_in, with_wait, without_wait, with_waiter, without_token, joined_row}
-use Rattle.am_wait.specs.Calls.{waiting_on, opened, released_row, answered, failed_row, fs_released, collected, still_waits, reopened}
-use Rattle.am_wait.specs.Invariant.{RiseBy, AreGiven, is_among, is_waiting_on, IsOnOpen, IsSound}
+use Rattle.am_wait.specs.{WaitRows, token_of, wait_of, waiters_of, waiters_in, with_wait, without_wait, with_waiter, without_token, joined_row, waiting_on, opened, released_row, answered, failed_row, fs_released, collected, still_waits, reopened, NumbersAreAllocated, is_waiting_on, IsOnOpen, IsSound}
 use Rattle.am_wait.proofs.RowLemmas.{rises_put, rises_filter, rises_map}
 use Rattle.am_wait.proofs.CallLemmas.{released_walker, failed_walker, idle_collected}
 use Rattle.am_wait.proofs.FindLemmas.{or_first, or_none, find_map, wait_put, wait_taken, no_wait_left, token_taken, token_last, joined_if, token_joined, unless_of, tokens_off}
@@ -27,23 +22,23 @@ last_among [] walker k = elim (walker == k) as (λ b. (b || false) ≡ (false ||
 last_among (w ∷ walkers) walker k =
     ap (λ (b : Bool). (w == k) || b) (last_among walkers walker k) ∙ elim (w == k) as (λ b. (b || (is_among walkers k || (walker == k))) ≡ ((b || is_among walkers k) || (walker == k))) [ true ↦ refl | false ↦ refl ]
 
-given_filter : (last : ℕ) (test : OpenToken → Bool) (tokens : List OpenToken) → AreGiven last tokens → AreGiven last (filter test tokens)
+given_filter : (last : ℕ) (test : OpenToken → Bool) (tokens : List OpenToken) → NumbersAreAllocated last tokens → NumbersAreAllocated last (filter test tokens)
 given_filter last test [] h = tt
 given_filter last test (row ∷ tokens) h = by_test (test row) (given_filter last test tokens h.1)
   where
-    by_test : (b : Bool) → AreGiven last (filter test tokens) → AreGiven last (cond b (row ∷ filter test tokens) (filter test tokens))
+    by_test : (b : Bool) → NumbersAreAllocated last (filter test tokens) → NumbersAreAllocated last (cond b (row ∷ filter test tokens) (filter test tokens))
     by_test true later = (h.0, later)
     by_test false later = later
 
-given_last : (last : ℕ) (tokens : List OpenToken) (row : OpenToken) → AreGiven last tokens → row.token ≡ last + 1 → AreGiven (last + 1) (tokens ++ row ∷ [])
+given_last : (last : ℕ) (tokens : List OpenToken) (row : OpenToken) → NumbersAreAllocated last tokens → row.token ≡ last + 1 → NumbersAreAllocated (last + 1) (tokens ++ row ∷ [])
 given_last last [] row h e = (omega (arith, e), tt)
 given_last last (r ∷ tokens) row h e = (omega (arith, h.0), given_last last tokens row h.1 e)
 
-given_joined : (t walker last : ℕ) (tokens : List OpenToken) → AreGiven last tokens → AreGiven last (with_waiter t walker tokens)
+given_joined : (t walker last : ℕ) (tokens : List OpenToken) → NumbersAreAllocated last tokens → NumbersAreAllocated last (with_waiter t walker tokens)
 given_joined t walker last [] h = tt
 given_joined t walker last (row ∷ tokens) h = by_test (row.token == t) (given_joined t walker last tokens h.1)
   where
-    by_test : (b : Bool) → AreGiven last (with_waiter t walker tokens) → AreGiven last (cond b (joined_row row walker ∷ tokens) (row ∷ with_waiter t walker tokens))
+    by_test : (b : Bool) → NumbersAreAllocated last (with_waiter t walker tokens) → NumbersAreAllocated last (cond b (joined_row row walker ∷ tokens) (row ∷ with_waiter t walker tokens))
     by_test true later = (h.0, h.1)
     by_test false later = (h.0, later)
 
@@ -55,12 +50,12 @@ rises_joined t walker low (row ∷ tokens) h = by_test (row.token == t) (rises_j
     by_test true later = (h.0, h.1)
     by_test false later = (h.0, later)
 
-rises_last : (low last : ℕ) (tokens : List OpenToken) (row : OpenToken) → RiseBy (λ r. r.token) low tokens → AreGiven last tokens → last < row.token → low ≤ row.token → RiseBy (λ r. r.token) low (tokens ++ row ∷ [])
+rises_last : (low last : ℕ) (tokens : List OpenToken) (row : OpenToken) → RiseBy (λ r. r.token) low tokens → NumbersAreAllocated last tokens → last < row.token → low ≤ row.token → RiseBy (λ r. r.token) low (tokens ++ row ∷ [])
 rises_last low last [] row h g more e = (e, tt)
 rises_last low last (r ∷ tokens) row h g more e = (h.0, rises_last (r.token + 1) last tokens row h.1 g.1 more (omega (arith, g.0, more)))
 
 -- a token that was not given yet isn't open
-unopened : (last k : ℕ) (tokens : List OpenToken) → AreGiven last tokens → last < k → token_of tokens k ≡ None
+unopened : (last k : ℕ) (tokens : List OpenToken) → NumbersAreAllocated last tokens → last < k → token_of tokens k ≡ None
 unopened last k [] h more = refl
 unopened last k (row ∷ tokens) h more =
     let differs : (row.token == k) ≡ false = grind (arith, nat_tests, h.0, more) in

@@ -5,12 +5,10 @@ use Rattle.std.specs.List.{list_any}
 use Rattle.am_names.specs.declared.errno.Errno.{Errno}
 use Rattle.am_names.specs.declared.errno.Errno.TheVariants.{EINVAL}
 use Rattle.am_names.specs.declared.fail_no.FailNo.TheVariants.{ENOENT}
-use Rattle.am_names.specs.declared.trigger.Status.{Status}
+use Rattle.am_names.specs.{Status, WaitRow}
 use Rattle.am_names.specs.declared.trigger.Status.TheVariants.{Fail}
-use Rattle.am_names.specs.declared.row.WaitRow.{WaitRow}
 pub use Rattle.am_names.proofs.Basics.{none_where_not_some as is_none_of}
-use Rattle.am_wait.specs.Rows.{WaitRows, wait_of}
-use Rattle.am_wait.specs.Calls.{open_refusal, join_refusal, released_row, failed_row, collected, still_waits, reopen_refusal, rejoin_refusal}
+use Rattle.am_wait.specs.{WaitRows, wait_of, open_refusal, join_refusal, released_row, failed_row, collected, still_waits, reopen_refusal, rejoin_refusal}
 
 -- nothing is found where nothing passes
 pub none_there : {X : Type 0} (test : X → Bool) (xs : List X) → find test xs ≡ None → list_any test xs ≡ false

@@ -4,10 +4,8 @@ use Rattle.std.specs.Prelude.{filter, All}
 use Rattle.std.proofs.lemmas.Bool.Decides.{Decides-eqb}
 use Rattle.std.proofs.lemmas.List.Elements.{All-head, All-tail, All-nil, All-cons, All-weaker}
 use Rattle.slab.specs.Slab.{Slab, get}
-use Rattle.am_names.specs.declared.row.WaitRow.{WaitRow}
-use Rattle.am_wait.specs.declared.seats.Seat.{Seat}
-use Rattle.am_wait.specs.Rows.{without_wait}
-use Rattle.am_wait.specs.Seats.{row_at, row_in, waits_in, without_seat, IsSeat}
+use Rattle.am_names.specs.{WaitRow}
+use Rattle.am_wait.specs.{Seat, without_wait, row_at, row_in, waits_in, without_seat, IsSeat}
 use Rattle.am_wait.proofs.KeptLemmas.{filter_mapped, map_same}
 
 -- what passed the filter passes its test

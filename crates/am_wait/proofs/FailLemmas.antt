@@ -5,20 +5,13 @@ use Rattle.std.specs.Option.{option_map}
 use Rattle.std.proofs.lemmas.Bool.Decides.{nat_tests, Decides-eqb}
 use Rattle.std.proofs.lemmas.List.Elements.{All-filter, All-weaker}
 use Rattle.slab.specs.Slab.{Slab, get}
-use Rattle.am_names.specs.declared.row.WaitRow.{WaitRow}
+use Rattle.am_names.specs.{WaitRow, OpenToken, RiseBy}
 use Rattle.am_names.specs.declared.fail_no.FailNo.TheVariants.{ENOENT}
 use Rattle.am_names.specs.declared.trigger.Status.TheVariants.{Fail}
-use Rattle.am_names.specs.declared.row.OpenToken.{OpenToken}
 use Rattle.am_names.proofs.Basics.{differ_the_other_way, or_true}
-use Rattle.am_wait.specs.declared.seats.Seat.{Seat}
-use Rattle.am_wait.specs.declared.held.HeldToken.{HeldToken}
+use Rattle.am_wait.specs.{Seat, HeldToken, WaitRows, failed_row, fs_released, IsSound, key_of, row_at, row_in, waits_in, sits_at, IsSeat, token_in, tokens_in, HasKeys}
 use Rattle.am_wait.specs.declared.waits.Waits.TheInside.{Inside}
-use Rattle.am_wait.specs.Rows.{WaitRows}
-use Rattle.am_wait.specs.Calls.{failed_row, fs_released}
-use Rattle.am_wait.specs.Invariant.{RiseBy, IsSound}
-use Rattle.am_wait.specs.Seats.{key_of, row_at, row_in, waits_in, sits_at, IsSeat}
-use Rattle.am_wait.specs.Held.{token_in, tokens_in, HasKeys}
-use Rattle.am_wait.specs.Inside.{rows_of, IsSettled, IsKept}
+use Rattle.am_wait.specs.View.{rows_of, IsSettled, IsKept}
 use Rattle.am_wait.proofs.AgreeLemmas.{released_sound}
 use Rattle.am_wait.proofs.CallLemmas.{failed_walker}
 use Rattle.am_wait.proofs.KeptLemmas.{filter_mapped, map_same, map_twice}

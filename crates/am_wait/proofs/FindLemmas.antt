@@ -4,10 +4,8 @@ use Rattle.std.specs.Prelude.{filter, find, nat_lt}
 use Rattle.std.specs.Option.{option_map}
 use Rattle.std.proofs.lemmas.Bool.{cases_lt}
 use Rattle.std.proofs.lemmas.Bool.Decides.{nat_tests, Decides-eqb}
-use Rattle.am_names.specs.declared.row.OpenToken.{OpenToken}
-use Rattle.am_names.specs.declared.row.WaitRow.{WaitRow}
-use Rattle.am_wait.specs.Invariant.{RiseBy}
-use Rattle.am_wait.specs.Rows.{token_of, wait_of, with_wait, without_wait, with_waiter, without_token, joined_row}
+use Rattle.am_names.specs.{OpenToken, WaitRow, RiseBy}
+use Rattle.am_wait.specs.{token_of, wait_of, with_wait, without_wait, with_waiter, without_token, joined_row}
 use Rattle.am_wait.proofs.RowLemmas.{rises_filter}
 
 -- the first, if there is one, else the other

@@ -5,19 +5,11 @@ use Rattle.std.specs.Option.{option_map}
 use Rattle.std.proofs.lemmas.Bool.Decides.{nat_tests, Decides-eqb}
 use Rattle.std.proofs.lemmas.List.Elements.{All-nil, All-cons, All-filter, All-weaker}
 use Rattle.slab.specs.Slab.{Slab, get}
-use Rattle.am_names.specs.declared.row.WaitRow.{WaitRow}
-use Rattle.am_names.specs.declared.row.OpenToken.{OpenToken}
-use Rattle.am_names.specs.declared.trigger.Status.{Status}
+use Rattle.am_names.specs.{WaitRow, OpenToken, Status, RiseBy}
 use Rattle.am_names.proofs.Basics.{some_injective, none_is_not_some, found_passes}
-use Rattle.am_wait.specs.declared.seats.Seat.{Seat}
-use Rattle.am_wait.specs.declared.held.HeldToken.{HeldToken}
+use Rattle.am_wait.specs.{Seat, HeldToken, WaitRows, wait_of, without_wait, collected, is_waiting_on, IsSound, seat_of, key_of, among_keys, row_at, row_in, waits_in, without_seat, frees, IsSeat, held_of, token_in, tokens_in, HasKeys}
 use Rattle.am_wait.specs.declared.waits.Waits.TheInside.{Inside}
-use Rattle.am_wait.specs.Rows.{WaitRows, wait_of, without_wait}
-use Rattle.am_wait.specs.Calls.{collected}
-use Rattle.am_wait.specs.Invariant.{RiseBy, is_waiting_on, IsSound}
-use Rattle.am_wait.specs.Seats.{seat_of, key_of, among_keys, row_at, row_in, waits_in, without_seat, frees, IsSeat}
-use Rattle.am_wait.specs.Held.{held_of, token_in, tokens_in, HasKeys}
-use Rattle.am_wait.specs.Inside.{rows_of, IsSettled, IsLinked, IsKept}
+use Rattle.am_wait.specs.View.{rows_of, IsSettled, IsLinked, IsKept}
 use Rattle.am_wait.proofs.FindLemmas.{find_kept}
 use Rattle.am_wait.proofs.RowLemmas.{rises_filter}
 use Rattle.am_wait.proofs.AgreeLemmas.{collected_sound}

@@ -5,19 +5,11 @@ use Rattle.std.specs.Option.{option_map}
 use Rattle.std.proofs.lemmas.Bool.Decides.{nat_tests, Decides-eqb}
 use Rattle.std.proofs.lemmas.List.Elements.{All-head, All-tail, All-nil, All-cons, All-filter, All-weaker, All-map}
 use Rattle.slab.specs.Slab.{Slab, get}
-use Rattle.am_names.specs.declared.row.WaitRow.{WaitRow}
-use Rattle.am_names.specs.declared.row.OpenToken.{OpenToken}
-use Rattle.am_names.specs.declared.trigger.Status.{Status}
+use Rattle.am_names.specs.{WaitRow, OpenToken, Status, RiseBy, is_among}
 use Rattle.am_names.proofs.Basics.{some_injective, none_is_not_some, or_true}
-use Rattle.am_wait.specs.declared.seats.Seat.{Seat}
-use Rattle.am_wait.specs.declared.held.HeldToken.{HeldToken}
+use Rattle.am_wait.specs.{Seat, HeldToken, WaitRows, token_of, wait_of, waiters_in, without_token, released_row, answered, is_waiting_on, IsSound, seat_of, key_of, with_status, among_keys, row_at, row_in, walkers_at, waits_in, IsSeat, held_of, without_held, token_in, tokens_in, HasKeys}
 use Rattle.am_wait.specs.declared.waits.Waits.TheInside.{Inside}
-use Rattle.am_wait.specs.Rows.{WaitRows, token_of, wait_of, waiters_in, without_token}
-use Rattle.am_wait.specs.Calls.{released_row, answered}
-use Rattle.am_wait.specs.Invariant.{RiseBy, is_among, is_waiting_on, IsSound}
-use Rattle.am_wait.specs.Seats.{seat_of, key_of, with_status, among_keys, row_at, row_in, walkers_at, waits_in, IsSeat}
-use Rattle.am_wait.specs.Held.{held_of, without_held, token_in, tokens_in, HasKeys}
-use Rattle.am_wait.specs.Inside.{rows_of, IsSettled, IsKept}
+use Rattle.am_wait.specs.View.{rows_of, IsSettled, IsKept}
 use Rattle.am_wait.proofs.FindLemmas.{absent, token_taken}
 use Rattle.am_wait.proofs.AgreeLemmas.{answered_sound}
 use Rattle.am_wait.proofs.SeatLemmas.{SetsAll}

@@ -5,13 +5,9 @@ use Rattle.std.specs.Option.{option_map}
 use Rattle.std.proofs.lemmas.Bool.Decides.{Decides-eqb}
 use Rattle.std.proofs.lemmas.List.Elements.{All-head, All-tail, All-nil, All-cons, All-append, All-filter, All-weaker}
 use Rattle.slab.specs.Slab.{Slab, get}
-use Rattle.am_names.specs.declared.row.WaitRow.{WaitRow}
+use Rattle.am_names.specs.{WaitRow}
 use Rattle.am_names.proofs.Basics.{some_injective, none_is_not_some, found_passes}
-use Rattle.am_wait.specs.declared.seats.Seat.{Seat}
-use Rattle.am_wait.specs.declared.held.HeldToken.{HeldToken}
-use Rattle.am_wait.specs.Rows.{with_wait, with_waiter, joined_row}
-use Rattle.am_wait.specs.Seats.{seat_of, key_of, row_at, row_in, walkers_at, waits_in, with_seat, seat_at, IsSeat}
-use Rattle.am_wait.specs.Held.{token_in, tokens_in, joined_key, with_key, HasKeys}
+use Rattle.am_wait.specs.{Seat, HeldToken, with_wait, with_waiter, joined_row, seat_of, key_of, row_at, row_in, walkers_at, waits_in, with_seat, seat_at, IsSeat, token_in, tokens_in, joined_key, with_key, HasKeys}
 use Rattle.am_wait.proofs.FindLemmas.{found_where_put}
 use Rattle.am_wait.proofs.KeptLemmas.{filter_mapped, map_same, all_find}
 

@@ -5,18 +5,10 @@ use Rattle.std.specs.Option.{option_map}
 use Rattle.std.proofs.lemmas.List.Elements.{All-nil, All-cons, All-append, All-weaker}
 use Rattle.slab.specs.Slab.{Slab, get}
 use Rattle.am_names.specs.declared.trigger.Trigger.{Trigger}
-use Rattle.am_names.specs.declared.row.OpenToken.{OpenToken}
-use Rattle.am_names.specs.declared.row.WaitRow.{WaitRow}
-use Rattle.am_names.specs.declared.row.TokenKind.{TokenKind}
-use Rattle.am_wait.specs.declared.seats.Seat.{Seat}
-use Rattle.am_wait.specs.declared.held.HeldToken.{HeldToken}
+use Rattle.am_names.specs.{OpenToken, WaitRow, TokenKind, RiseBy}
+use Rattle.am_wait.specs.{Seat, HeldToken, WaitRows, token_of, wait_of, with_wait, with_waiter, waiting_on, opened, joined, joined_on, collected, reopened, rejoined, still_waits, IsSound, key_of, row_at, waits_in, with_seat, without_seat, seat_at, frees, next_by, next_key, IsSeat, held_of, held_row, token_in, tokens_in, with_key, HasKeys}
 use Rattle.am_wait.specs.declared.waits.Waits.TheInside.{Inside}
-use Rattle.am_wait.specs.Rows.{WaitRows, token_of, wait_of, with_wait, with_waiter}
-use Rattle.am_wait.specs.Calls.{waiting_on, opened, joined, joined_on, collected, reopened, rejoined, still_waits}
-use Rattle.am_wait.specs.Invariant.{RiseBy, IsSound}
-use Rattle.am_wait.specs.Seats.{key_of, row_at, waits_in, with_seat, without_seat, seat_at, frees, next_by, next_key, IsSeat}
-use Rattle.am_wait.specs.Held.{held_of, held_row, token_in, tokens_in, with_key, HasKeys}
-use Rattle.am_wait.specs.Inside.{rows_of, IsSettled, IsKept}
+use Rattle.am_wait.specs.View.{rows_of, IsSettled, IsKept}
 use Rattle.am_wait.proofs.RowLemmas.{rises_put}
 use Rattle.am_wait.proofs.FindLemmas.{find_gone}
 use Rattle.am_wait.proofs.AgreeLemmas.{opened_sound, joined_sound}

@@ -6,7 +6,7 @@ use Rattle.std.specs.List.{position_or_len}
 use Rattle.std.proofs.lemmas.Bool.Decides.{nat_tests}
 use Rattle.std.proofs.lemmas.List.Sums.{position_or_len_is}
 use Rattle.std.specs.List.Sorted.{IsPartitionPoint}
-use Rattle.am_wait.specs.Invariant.{RiseBy}
+use Rattle.am_names.specs.{RiseBy}
 use Rattle.am_wait.proofs.FindLemmas.{absent}
 use Rattle.am_wait.proofs.CallLemmas.{all_kept}
 

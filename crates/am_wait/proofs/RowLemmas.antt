@@ -5,7 +5,7 @@ use Rattle.std.specs.List.{list_any, position_or_len}
 use Rattle.std.proofs.lemmas.Bool.{cases_lt}
 use Rattle.std.proofs.lemmas.Bool.Decides.{nat_tests}
 use Rattle.std.proofs.lemmas.List.Sums.{position_or_len_is}
-use Rattle.am_wait.specs.Invariant.{RiseBy}
+use Rattle.am_names.specs.{RiseBy}
 
 -- rows that all stand above a number
 pub none_below : {X : Type 0} (key : X → ℕ) (k low : ℕ) (rows : List X) → RiseBy key low rows → k ≤ low → filter (λ row. nat_lt (key row) k) rows ≡ []

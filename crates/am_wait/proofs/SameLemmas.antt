@@ -4,18 +4,11 @@ use Rattle.std.specs.Prelude.{All, is_none}
 use Rattle.std.specs.Option.{option_map}
 use Rattle.std.proofs.lemmas.List.Elements.{All-weaker}
 use Rattle.slab.specs.Slab.{Slab, get}
-use Rattle.am_names.specs.declared.row.WaitRow.{WaitRow}
-use Rattle.am_names.specs.declared.trigger.Status.{Status}
+use Rattle.am_names.specs.{WaitRow, Status, RiseBy}
 use Rattle.am_names.proofs.Basics.{none_where_mapped_none}
-use Rattle.am_wait.specs.declared.seats.Seat.{Seat}
-use Rattle.am_wait.specs.declared.held.HeldToken.{HeldToken}
+use Rattle.am_wait.specs.{Seat, HeldToken, WaitRows, wait_of, collected, still_waits, IsSound, seat_of, key_of, row_at, row_in, waits_in, without_seat, frees, IsSeat, token_in, tokens_in, HasKeys}
 use Rattle.am_wait.specs.declared.waits.Waits.TheInside.{Inside}
-use Rattle.am_wait.specs.Rows.{WaitRows, wait_of}
-use Rattle.am_wait.specs.Calls.{collected, still_waits}
-use Rattle.am_wait.specs.Invariant.{RiseBy, IsSound}
-use Rattle.am_wait.specs.Seats.{seat_of, key_of, row_at, row_in, waits_in, without_seat, frees, IsSeat}
-use Rattle.am_wait.specs.Held.{token_in, tokens_in, HasKeys}
-use Rattle.am_wait.specs.Inside.{rows_of, IsSettled, IsKept}
+use Rattle.am_wait.specs.View.{rows_of, IsSettled, IsKept}
 use Rattle.am_wait.proofs.CallLemmas.{all_kept, idle_collected}
 use Rattle.am_wait.proofs.KeptLemmas.{map_same, wait_found}
 use Rattle.am_wait.proofs.FreedLemmas.{Frees, collected_is, collected_kept}

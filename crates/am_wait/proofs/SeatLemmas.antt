@@ -3,11 +3,9 @@ use Rattle.std.proofs.Common.{◌≡◌, ℕ, Bool, true, false, cond, ◌==◌,
 use Rattle.std.specs.Option.{option_map}
 use Rattle.std.proofs.lemmas.Bool.Decides.{nat_tests, Decides-eqb}
 use Rattle.slab.specs.Slab.{Slab, get, Updates}
-use Rattle.am_names.specs.declared.row.WaitRow.{WaitRow}
-use Rattle.am_names.specs.declared.trigger.Status.{Status}
+use Rattle.am_names.specs.{WaitRow, Status}
 use Rattle.am_names.proofs.Basics.{differ_the_other_way, none_where_mapped_none}
-use Rattle.am_wait.specs.declared.seats.Seat.{Seat}
-use Rattle.am_wait.specs.Seats.{seat_of, key_of, with_status, among_keys}
+use Rattle.am_wait.specs.{Seat, seat_of, key_of, with_status, among_keys}
 
 pub no_key : (seats : List Seat) (walker : ℕ) → key_of seats walker ≡ None → seat_of seats walker ≡ None
 no_key seats walker h = none_where_mapped_none (λ (seat : Seat). seat.key) (seat_of seats walker) h

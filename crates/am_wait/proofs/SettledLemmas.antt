@@ -4,15 +4,10 @@ use Rattle.std.specs.Prelude.{filter, All, nat_lt, is_none, is_some}
 use Rattle.std.proofs.lemmas.Bool.Decides.{nat_tests, Decides-eqb}
 use Rattle.std.proofs.lemmas.List.Elements.{All-cons, All-append, All-filter, All-map, All-weaker}
 use Rattle.am_names.specs.declared.trigger.Trigger.{Trigger}
-use Rattle.am_names.specs.declared.trigger.Status.{Status}
-use Rattle.am_names.specs.declared.row.OpenToken.{OpenToken}
-use Rattle.am_names.specs.declared.row.WaitRow.{WaitRow}
-use Rattle.am_names.specs.declared.row.TokenKind.{TokenKind}
+use Rattle.am_names.specs.{Status, OpenToken, WaitRow, TokenKind}
 use Rattle.am_names.proofs.Basics.{none_is_not_some}
-use Rattle.am_wait.specs.Rows.{WaitRows, token_of, with_wait, with_waiter}
-use Rattle.am_wait.specs.Calls.{waiting_on, opened, failed_row, fs_released}
-use Rattle.am_wait.specs.Invariant.{AreGiven, IsOnOpen, IsSound}
-use Rattle.am_wait.specs.Inside.{IsSettled}
+use Rattle.am_wait.specs.{WaitRows, token_of, with_wait, with_waiter, waiting_on, opened, failed_row, fs_released, NumbersAreAllocated, IsOnOpen, IsSound}
+use Rattle.am_wait.specs.View.{IsSettled}
 use Rattle.am_wait.proofs.FindLemmas.{or_first, or_none, token_last, joined_if, token_joined, unless_of, tokens_off}
 use Rattle.am_wait.proofs.KeptLemmas.{all_found}
 
@@ -40,7 +35,7 @@ opened_settled w trigger kind walker h =
     (All-weaker (IsSettled w) (IsSettled (opened trigger kind walker w)) (opened_old w trigger kind walker) w.waits h)
 
 -- an open token was given
-given_open : (last t : ℕ) (tokens : List OpenToken) (its : OpenToken) → AreGiven last tokens → token_of tokens t ≡ Some its → t ≤ last
+given_open : (last t : ℕ) (tokens : List OpenToken) (its : OpenToken) → NumbersAreAllocated last tokens → token_of tokens t ≡ Some its → t ≤ last
 given_open last t [] its h e = absurd (none_is_not_some its e)
 given_open last t (row ∷ tokens) its h e = by_test (row.token == t) refl e (given_open last t tokens its h.1)
   where

@@ -5,11 +5,10 @@ use Rattle.std.specs.List.{position_or_len}
 use Rattle.std.proofs.lemmas.Bool.{ltb-true, le-ltb}
 use Rattle.std.proofs.lemmas.Bool.Decides.{nat_tests}
 use Rattle.std.proofs.lemmas.Option.{cond_some}
-use Rattle.am_wait.specs.declared.held.HeldToken.{HeldToken}
+use Rattle.am_wait.specs.{HeldToken, joined_key, with_key, held_of}
 use Rattle.am_names.specs.declared.row.TokenKind.TheVariants.{Missing}
 use Rattle.am_names.proofs.Cuts.{passes_on}
 use Rattle.am_names.proofs.Basics.{equal_by_test}
-use Rattle.am_wait.specs.Held.{joined_key, with_key, held_of}
 
 -- the row of a token, and where it stands
 pub record StandsAt (tokens : List HeldToken) (token at : ℕ) (row : HeldToken) : Type 0 where

@@ -5,17 +5,10 @@ use Rattle.std.specs.Option.{option_map}
 use Rattle.std.proofs.lemmas.List.Elements.{All-weaker}
 use Rattle.slab.specs.Slab.{Slab, get}
 use Rattle.am_names.specs.declared.trigger.Trigger.{Trigger}
-use Rattle.am_names.specs.declared.row.OpenToken.{OpenToken}
-use Rattle.am_names.specs.declared.row.WaitRow.{WaitRow}
-use Rattle.am_names.specs.declared.row.TokenKind.{TokenKind}
-use Rattle.am_wait.specs.declared.seats.Seat.{Seat}
-use Rattle.am_wait.specs.declared.held.HeldToken.{HeldToken}
+use Rattle.am_names.specs.{OpenToken, WaitRow, TokenKind, RiseBy}
+use Rattle.am_wait.specs.{Seat, HeldToken, is_open_on, open_on, token_of, tokens_of, without_wait, key_of, row_at, row_in, waits_in, without_seat, IsSeat, held_of, is_held_on, held_open_on, held_tokens_of, token_in, tokens_in}
 use Rattle.am_wait.specs.declared.waits.Waits.TheInside.{Inside}
-use Rattle.am_wait.specs.Rows.{is_open_on, open_on, token_of, tokens_of, without_wait}
-use Rattle.am_wait.specs.Invariant.{RiseBy}
-use Rattle.am_wait.specs.Seats.{key_of, row_at, row_in, waits_in, without_seat, IsSeat}
-use Rattle.am_wait.specs.Held.{held_of, is_held_on, held_open_on, held_tokens_of, token_in, tokens_in}
-use Rattle.am_wait.specs.Inside.{rows_of, IsKept}
+use Rattle.am_wait.specs.View.{rows_of, IsKept}
 use Rattle.am_wait.proofs.KeptLemmas.{find_mapped, filter_mapped, map_twice, token_found, its_keys}
 use Rattle.am_wait.proofs.FreedLemmas.{rise_held}
 use Rattle.am_wait.proofs.PutLemmas.{has_wait}

@@ -5,11 +5,8 @@ use Rattle.am_names.specs.declared.errno.Errno.{Errno}
 use Rattle.am_names.specs.declared.errno.Errno.TheVariants.{EINVAL, ENOSPC, NotReleased}
 use Rattle.am_names.specs.declared.fail_no.FailNo.TheVariants.{ENOENT}
 use Rattle.am_names.specs.declared.trigger.Trigger.{Trigger}
-use Rattle.am_names.specs.declared.trigger.Status.{Status}
+use Rattle.am_names.specs.{Status, OpenToken, WaitRow, TokenKind}
 use Rattle.am_names.specs.declared.trigger.Status.TheVariants.{Fail}
-use Rattle.am_names.specs.declared.row.OpenToken.{OpenToken}
-use Rattle.am_names.specs.declared.row.WaitRow.{WaitRow}
-use Rattle.am_names.specs.declared.row.TokenKind.{TokenKind}
 use Rattle.am_wait.specs.Rows.{WaitRows, token_of, wait_of, with_wait, without_wait, with_waiter, without_token}
 
 -- the numbers of tokens are exhausted

@@ -3,11 +3,8 @@
 use Rattle.std.specs.Prelude.{◌≡◌, ℕ, ◌==◌, Bool, not, ◌&&◌, List, [], ◌∷◌, ◌++◌, map, filter, find, Option, Some, All, if◌then◌else◌}
 use Rattle.std.specs.Option.{option_map}
 use Rattle.slab.specs.Slab.{Slab}
-use Rattle.am_names.specs.Trigger.{same_trigger}
+use Rattle.am_names.specs.{same_trigger, OpenToken, WaitRow, TokenKind}
 use Rattle.am_names.specs.declared.trigger.Trigger.{Trigger}
-use Rattle.am_names.specs.declared.row.OpenToken.{OpenToken}
-use Rattle.am_names.specs.declared.row.WaitRow.{WaitRow}
-use Rattle.am_names.specs.declared.row.TokenKind.{TokenKind}
 use Rattle.am_wait.specs.declared.seats.Seat.{Seat}
 use Rattle.am_wait.specs.declared.held.HeldToken.{HeldToken}
 use Rattle.am_wait.specs.Rows.{same_kind}

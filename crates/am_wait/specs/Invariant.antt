@@ -1,14 +1,12 @@
 -- What tokens and waits keep (autofs.rst, "Communicating with autofs: the event pipe").
 use Rattle.std.specs.Prelude.{◌≡◌, ◌≤◌, ◌==◌, ◌&&◌, ℕ, Bool, false, is_none, List, [], ◌∷◌, Option, Some, None}
-pub use Rattle.am_names.specs.Numbers.{is_among, RiseBy}
-use Rattle.am_names.specs.declared.row.OpenToken.{OpenToken}
-use Rattle.am_names.specs.declared.row.WaitRow.{WaitRow}
+use Rattle.am_names.specs.{is_among, RiseBy, OpenToken, WaitRow}
 use Rattle.am_wait.specs.Rows.{WaitRows, token_of, wait_of, waiters_of}
 
 -- no token is above the last that was given
-abbrev pub AreGiven : ℕ → List OpenToken → Type 0
-AreGiven last [] = Unit {0}
-AreGiven last (row ∷ rows) = (row.token ≤ last) × AreGiven last rows
+abbrev pub NumbersAreAllocated : ℕ → List OpenToken → Type 0
+NumbersAreAllocated last [] = Unit {0}
+NumbersAreAllocated last (row ∷ rows) = (row.token ≤ last) × NumbersAreAllocated last rows
 
 -- the wait is on this token, and was not released yet
 abbrev pub is_waiting_on : ℕ → Option WaitRow → Bool
@@ -29,7 +27,7 @@ pub record IsSound (w : WaitRows) : Type 0 where
   pub waits : RiseBy (λ row. row.walker) 0 w.waits
   -- the open tokens are different ones, and all were given
   pub tokens : RiseBy (λ row. row.token) 0 w.tokens
-  pub given : AreGiven w.last_token w.tokens
+  pub given : NumbersAreAllocated w.last_token w.tokens
   -- a token's waiters are those whose wait is on it and was not released yet
   pub agree : (token walker : ℕ) →
       is_among (waiters_of w.tokens token) walker ≡ is_waiting_on token (wait_of w.waits walker)

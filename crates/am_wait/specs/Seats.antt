@@ -4,9 +4,8 @@ use Rattle.std.specs.Prelude.{◌≡◌, ℕ, ◌==◌, nat_lt, Bool, false, not
 use Rattle.std.specs.Option.{option_map}
 use Rattle.std.specs.List.{list_any}
 use Rattle.slab.specs.Slab.{Slab, get}
-use Rattle.am_names.specs.declared.row.WaitRow.{WaitRow}
+use Rattle.am_names.specs.{WaitRow, Status}
 use Rattle.am_names.specs.declared.row.TokenKind.TheVariants.{Missing}
-use Rattle.am_names.specs.declared.trigger.Status.{Status}
 use Rattle.am_wait.specs.declared.seats.Seat.{Seat}
 
 -- the seat of a walker

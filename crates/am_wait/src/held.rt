@@ -3,10 +3,9 @@
 ghost use Rattle.std.specs.Prelude.{◌≡◌, ◌<◌, ◌==◌, ◌∷◌, ◌++◌, [], None, nat_le, find, filter, position, set, get_or, not, vec_len, option_copied, IfOk, OnOk, OnErr};
 ghost use Rattle.std.specs.List.{position_or_len};
 ghost use Rattle.am_names.specs.declared.row.TokenKind.{TokenKind as Kind};
-ghost use Rattle.am_names.specs.Trigger.{same_trigger};
+ghost use Rattle.am_names.specs.{same_trigger, RiseBy};
 ghost use Rattle.am_wait.specs.declared.held.HeldToken.{HeldToken as Held};
 ghost use Rattle.am_wait.specs.Rows.{same_kind};
-ghost use Rattle.am_wait.specs.Invariant.{RiseBy};
 ghost use Rattle.am_wait.specs.Held.{held_of, without_held, is_held_on, joined_key, with_key, held_row, held_open_on, held_tokens_of};
 
 use crate::keys::Keys;

@@ -4,7 +4,7 @@ ghost use Rattle.std.specs.Prelude.{ℕ, false, ◌≡◌, ◌<◌, ◌≤◌, �
 ghost use Rattle.std.specs.Option.{option_map};
 ghost use Rattle.std.specs.List.{position_or_len};
 ghost use Rattle.slab.specs.Slab.{get, HasRoomFor};
-ghost use Rattle.am_wait.specs.Invariant.{RiseBy};
+ghost use Rattle.am_names.specs.{RiseBy};
 ghost use Rattle.am_wait.specs.Calls.{failed_row};
 ghost use Rattle.am_wait.specs.Seats.{key_of, with_status, among_keys, with_seat, without_seat, frees, next_key, walkers_at, seat_at, sits_at};
 

@@ -2,7 +2,7 @@
 
 ghost use Rattle.std.specs.Prelude.{◌≡◌, ◌<◌, ◌+◌, ◌^◌, Some, length, IfOk, OnOk, OnErr};
 ghost use Rattle.std.specs.Option.{option_map};
-ghost use Rattle.am_names.specs.Errno.{RefusedAs, RefusedOnlyAs};
+ghost use Rattle.am_names.specs.{RefusedAs, RefusedOnlyAs};
 ghost use Rattle.am_wait.specs.Rows.{no_waits, open_on, token_of, wait_of, waiters_of, tokens_of};
 ghost use Rattle.am_wait.specs.Invariant.{IsSound};
 ghost use Rattle.am_wait.specs.Calls.{is_exhausted, is_full, open_refusal, waiting_on, opened, join_refusal, joined, answer_refusal, answered, fs_released, collect_refusal, status_of, collected};
@@ -34,7 +34,7 @@ impl Model for Waits {
 
     ghost Value = { WaitRows };
 
-    ghost use Rattle.am_wait.specs.Inside.{rows_of, IsKept};
+    ghost use Rattle.am_wait.specs.View.{rows_of, IsKept};
 
     ghost view = { rows_of };
 

@@ -5,23 +5,16 @@ use Rattle.std.proofs.lemmas.Bool.Decides.{nat_tests}
 use Rattle.am_names.specs.declared.errno.Errno.TheVariants.{ENOENT, ELOOP}
 use Rattle.am_names.specs.declared.fail_no.FailNo.{FailNo}
 use Rattle.am_names.specs.declared.trigger.Trigger.{Trigger}
-use Rattle.am_names.specs.declared.row.MountRow.{MountRow}
-use Rattle.am_names.specs.declared.row.OpenToken.{OpenToken}
+use Rattle.am_names.specs.{MountRow, OpenToken}
 use Rattle.am_names.specs.declared.row.TokenKind.TheVariants.{Missing, Expire}
-use Rattle.am_mount.specs.Rows.{IsRising, IsTop, IsOn, mount_row, top_of, root_of}
+use Rattle.am_mount.specs.{IsRising, IsTop, IsOn, mount_row, top_of, root_of}
 use Rattle.am_mount.proofs.RowLemmas.{top_is, some_greatest}
-use Rattle.am_trigger.specs.declared.autofs.Autofs.{Autofs}
-use Rattle.am_trigger.specs.Rows.{is_made}
-use Rattle.am_trigger.specs.Sites.{trigger_in, place_of}
-use Rattle.am_wait.specs.Rows.{open_on}
-use Rattle.am_walk.specs.declared.stop.Next.{Next}
+use Rattle.am_trigger.specs.{Autofs, is_made, trigger_in, place_of}
+use Rattle.am_wait.specs.{open_on}
+use Rattle.am_walk.specs.{Next, Stop, autofs_at, has_names, if_open, if_mounted, if_entered, at_directory, at_trap, if_failing, at_trigger, at_plain, at_autofs, at_site, next_at, Visit, Stands, Stops, followed, settled_within, settled, onward, after, visit_from, visit_of, ended, walk_of, RestsAt}
 use Rattle.am_walk.specs.declared.stop.Next.TheVariants as nexts
-use Rattle.am_walk.specs.declared.stop.Stop.{Stop}
 use Rattle.am_walk.specs.declared.stop.Stop.TheVariants as stops
-use Rattle.am_walk.specs.Scene.{Scene, autofs_at, has_names}
-use Rattle.am_walk.specs.Meet.{if_open, if_mounted, if_entered, at_directory, at_trap, if_failing, at_trigger, at_plain, at_autofs, at_site, next_at}
-use Rattle.am_walk.specs.Walks.{Visit, Stands, Stops, followed, settled_within, settled, onward, after, visit_from, visit_of, ended, walk_of}
-use Rattle.am_walk.specs.Laws.{RestsAt}
+use Rattle.am_walk.specs.Scene.{Scene}
 
 -- ---- a mount that is entered is the top where the walk stands
 

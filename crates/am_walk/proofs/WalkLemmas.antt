@@ -3,14 +3,11 @@ use Rattle.std.proofs.Common.{◌≡◌, ℕ, suc, ◌-◌, ◌<◌, List, [], �
 use mathlib.Core.List.{reverse_aux}
 use Rattle.am_names.specs.declared.errno.Errno.TheVariants.{ENOENT}
 use Rattle.am_names.specs.declared.trigger.Trigger.{Trigger}
-use Rattle.am_mount.specs.Rows.{root_of}
-use Rattle.am_walk.specs.declared.stop.Next.{Next}
+use Rattle.am_mount.specs.{root_of}
+use Rattle.am_walk.specs.{Next, Stop, next_at, Visit, Stands, Stops, followed, settled_within, settled, onward, after, visit_from, visit_of, ended}
 use Rattle.am_walk.specs.declared.stop.Next.TheVariants as nexts
-use Rattle.am_walk.specs.declared.stop.Stop.{Stop}
 use Rattle.am_walk.specs.declared.stop.Stop.TheVariants as stops
 use Rattle.am_walk.specs.Scene.{Scene}
-use Rattle.am_walk.specs.Meet.{next_at}
-use Rattle.am_walk.specs.Walks.{Visit, Stands, Stops, followed, settled_within, settled, onward, after, visit_from, visit_of, ended}
 
 met : (steps fewer : ℕ) (scene : Scene) (mount : ℕ) (place : List (List ℕ)) (passed : List Trigger) (next : Next) → steps ≡ suc fewer → next ≡ next_at scene mount place → followed next mount place passed (λ m gs. settled_within fewer scene m [] gs) ≡ settled_within steps scene mount place passed
 met steps fewer scene mount place passed next e n =

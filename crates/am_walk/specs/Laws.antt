@@ -2,9 +2,9 @@
 use Rattle.std.specs.Prelude.{◌≡◌, true, is_some, List, None}
 use Rattle.std.specs.List.{All}
 use Rattle.am_names.specs.declared.trigger.Trigger.{Trigger}
-use Rattle.am_names.specs.declared.row.OpenToken.{OpenToken}
+use Rattle.am_names.specs.{OpenToken}
 use Rattle.am_names.specs.declared.row.TokenKind.TheVariants.{Missing, Expire}
-use Rattle.am_wait.specs.Rows.{open_on, token_of}
+use Rattle.am_wait.specs.{open_on, token_of}
 use Rattle.am_walk.specs.declared.stop.Next.TheVariants as nexts
 use Rattle.am_walk.specs.declared.stop.Stop.{Stop}
 use Rattle.am_walk.specs.declared.stop.Stop.TheVariants as stops

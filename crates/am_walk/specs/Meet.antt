@@ -1,16 +1,13 @@
 -- What a walk meets at a place (autofs.rst, "Mount Traps").
 use Rattle.std.specs.Prelude.{ℕ, ◌||◌, is_some, List, Option, Some, None, if◌then◌else◌}
-use Rattle.am_names.specs.FailNo.{errno_of}
+use Rattle.am_names.specs.{errno_of, OpenToken}
 use Rattle.am_names.specs.declared.fail_no.FailNo.{FailNo}
 use Rattle.am_names.specs.declared.errno.Errno.TheVariants.{ENOENT, ELOOP}
 use Rattle.am_names.specs.declared.trigger.Trigger.{Trigger}
-use Rattle.am_names.specs.declared.row.OpenToken.{OpenToken}
 use Rattle.am_names.specs.declared.row.TokenKind.TheVariants.{Missing, Expire}
-use Rattle.am_mount.specs.Rows.{top_of}
-use Rattle.am_trigger.specs.declared.autofs.Autofs.{Autofs}
-use Rattle.am_trigger.specs.Rows.{is_made}
-use Rattle.am_trigger.specs.Sites.{trigger_in, place_of}
-use Rattle.am_wait.specs.Rows.{open_on}
+use Rattle.am_mount.specs.{top_of}
+use Rattle.am_trigger.specs.{Autofs, is_made, trigger_in, place_of}
+use Rattle.am_wait.specs.{open_on}
 use Rattle.am_walk.specs.declared.stop.Next.{Next}
 use Rattle.am_walk.specs.declared.stop.Next.TheVariants as nexts
 use Rattle.am_walk.specs.declared.stop.Stop.TheVariants as stops
@@ -42,14 +39,11 @@ abbrev pub if_failing : Option FailNo → Next → Next
 if_failing (Some error) others = nexts.Halts (stops.Refuse (errno_of error))
 if_failing None others = others
 
--- At a trigger the first of these holds:
--- it is expiring, and the walk waits;
--- a mount is pending, and the walk waits;
--- something is mounted on it here, and the walk passes it;
--- the file system is catatonic (autofs.rst, "Catatonic mode");
--- own (docs/DECISIONS.md, "Something mounted at the daemon's mount alone is ELOOP");
--- own (docs/DECISIONS.md, "A failure has a number, and may last");
--- else the daemon is notified.
+-- At a trigger the first of these holds: it is expiring, and the walk waits; a mount is pending,
+-- and the walk waits; something is mounted on it here, and the walk passes it; the file system is
+-- catatonic (autofs.rst, "Catatonic mode"); own choice (docs/DECISIONS.md, "Something mounted at
+-- the daemon's mount alone is ELOOP"); own choice (docs/DECISIONS.md, "A failure has a number, and
+-- may last"); else the daemon is notified.
 abbrev pub at_trap : List OpenToken → Scene → Autofs → Trigger → ℕ → List (List ℕ) → Next
 at_trap tokens scene row trigger mount place =
     if_open (open_on tokens Expire trigger)
@@ -61,7 +55,7 @@ at_trap tokens scene row trigger mount place =
     else if_failing (scene.failing trigger) (nexts.Halts (stops.Missing trigger)))))
 
 -- with the traps off nothing blocks; what is mounted is entered, and so is a directory that is
--- made: own (docs/DECISIONS.md, "An administrator's path is followed with the traps off")
+-- made: own choice (docs/DECISIONS.md, "An administrator's path is followed with the traps off")
 abbrev pub at_trigger : Option (List OpenToken) → Scene → Autofs → Trigger → ℕ → List (List ℕ) → Next
 at_trigger (Some tokens) scene row trigger mount place = at_trap tokens scene row trigger mount place
 at_trigger None scene row trigger mount place =

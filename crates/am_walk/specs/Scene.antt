@@ -2,14 +2,12 @@
 use Rattle.std.specs.Prelude.{ℕ, Bool, true, false, not, List, [], ◌∷◌, Option, Some, None}
 use Rattle.std.specs.Option.{option_map, option_and_then}
 use Rattle.am_names.specs.declared.fail_no.FailNo.{FailNo}
-use Rattle.am_names.specs.declared.row.MountRow.{MountRow}
-use Rattle.am_names.specs.declared.row.OpenToken.{OpenToken}
+use Rattle.am_names.specs.{MountRow, OpenToken}
 use Rattle.am_names.specs.declared.trigger.Trigger.{Trigger}
-use Rattle.am_mount.specs.Rows.{mount_row}
+use Rattle.am_mount.specs.{mount_row}
 use Rattle.am_propagate.specs.MountTable.{MountTable}
-use Rattle.am_trigger.specs.declared.autofs.Autofs.{Autofs}
-use Rattle.am_trigger.specs.Rows.{TriggerRows, autofs_of}
-use Rattle.am_wait.specs.Rows.{WaitRows}
+use Rattle.am_trigger.specs.{Autofs, TriggerRows, autofs_of}
+use Rattle.am_wait.specs.{WaitRows}
 
 -- the mounts, the mount traps, and the errors that last
 pub record Scene : Type 0 where
@@ -29,8 +27,8 @@ with_traps subtree triggers waits failing = record {
   failing = failing;
 }
 
--- what an administrator looks at:
--- own (docs/DECISIONS.md, "An administrator's path is followed with the traps off")
+-- what an administrator looks at: own choice (docs/DECISIONS.md, "An administrator's path is
+-- followed with the traps off")
 abbrev pub without_traps : MountTable → TriggerRows → Scene
 without_traps subtree triggers = record {
   mounts = subtree.rows;
@@ -45,8 +43,8 @@ autofs_at scene mount =
     option_and_then (λ fs. autofs_of scene.triggers fs)
     (option_map (λ row. row.fs) (mount_row scene.mounts mount))
 
--- own (docs/DECISIONS.md, "A plain file system has every name as a directory")
--- Below an autofs there are names at the root of an indirect one alone, where nothing is mounted.
+-- own choice (docs/DECISIONS.md, "A plain file system has every name as a directory") Below an
+-- autofs there are names at the root of an indirect one alone, where nothing is mounted.
 abbrev pub has_names : Option Autofs → List (List ℕ) → Bool
 has_names None place = true
 has_names (Some row) [] = not row.direct

@@ -3,8 +3,8 @@ use Rattle.std.specs.Prelude.{ℕ, suc, zero, ◌+◌, List, [], ◌∷◌, ◌+
 use Rattle.am_names.specs.declared.errno.Errno.{Errno}
 use Rattle.am_names.specs.declared.errno.Errno.TheVariants.{ENOENT}
 use Rattle.am_names.specs.declared.trigger.Trigger.{Trigger}
-use Rattle.am_names.specs.declared.row.Position.{Position}
-use Rattle.am_mount.specs.Rows.{root_of}
+use Rattle.am_names.specs.{Position}
+use Rattle.am_mount.specs.{root_of}
 use Rattle.am_walk.specs.declared.stop.Next.{Next}
 use Rattle.am_walk.specs.declared.stop.Next.TheVariants as nexts
 use Rattle.am_walk.specs.declared.stop.Stop.{Stop}

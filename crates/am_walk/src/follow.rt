@@ -1,9 +1,9 @@
 //! A walk along a path is followed to where it stops.
 
 ghost use Rattle.std.specs.Prelude.{◌≡◌, [], None, Some, Ok, IfOk};
-ghost use Rattle.am_names.specs.Errno.{RefusedAs};
-ghost use Rattle.am_trigger.specs.Failures.{failing};
-ghost use Rattle.am_walk.specs.Inside.{scene_in, walked_of, left_of, settled_at};
+ghost use Rattle.am_names.specs.{RefusedAs};
+ghost use Rattle.am_trigger.specs.{failing};
+ghost use Rattle.am_walk.specs.View.{scene_in, walked_of, left_of, settled_at};
 ghost use Rattle.am_walk.specs.Laws.{IsOrderly, RestsAt};
 ghost use Rattle.am_walk.specs.Scene.{with_traps, without_traps};
 ghost use Rattle.am_walk.specs.Walks.{onward, ended, walk_of, position_of, fault_of};

@@ -1,9 +1,9 @@
 //! What a walk meets at a place (autofs.rst, "Mount Traps").
 
 ghost use Rattle.std.specs.Prelude.{◌≡◌, Some};
-ghost use Rattle.am_mount.specs.Rows.{top_of};
-ghost use Rattle.am_trigger.specs.Sites.{trigger_in};
-ghost use Rattle.am_walk.specs.Inside.{scene_in};
+ghost use Rattle.am_mount.specs.{top_of};
+ghost use Rattle.am_trigger.specs.{trigger_in};
+ghost use Rattle.am_walk.specs.View.{scene_in};
 ghost use Rattle.am_walk.specs.Meet.{at_directory, at_trap, at_trigger, at_plain, next_at};
 
 use crate::scene::View;

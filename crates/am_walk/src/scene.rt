@@ -1,7 +1,7 @@
 //! What a walk looks at.
 
 ghost use Rattle.std.specs.Prelude.{◌≡◌};
-ghost use Rattle.am_walk.specs.Inside.{scene_in};
+ghost use Rattle.am_walk.specs.View.{scene_in};
 ghost use Rattle.am_walk.specs.Scene.{autofs_at, has_names};
 
 use am_mount::Tree;

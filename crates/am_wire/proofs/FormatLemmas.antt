@@ -4,22 +4,21 @@ use Rattle.std.specs.Prelude.{Bool, ◌||◌, ◌==◌, IsTrue, replicate}
 use Rattle.std.proofs.lemmas.List.{take_at, append-nil, length-append}
 use Rattle.byteorder.specs.Numbers.{little_number-reads_back}
 use Rattle.am_wire.specs.declared.head.Head.{Head}
-use Rattle.am_wire.specs.declared.kind.Kind.{Kind}
-use Rattle.am_wire.specs.Stored.{padded}
-use Rattle.am_wire.specs.Said.{Said}
-use Rattle.am_wire.specs.Head.{IsHead, HasFittingNumbers, head_of, head_bytes}
-use Rattle.am_wire.specs.Format.{word_at, long_at, has_length, IsPacket, IsWritable, canonical}
-use Rattle.am_wire.proofs.KindLemmas.{kind_number_one}
+use Rattle.am_wire.specs.declared.packet_type.PacketType.{PacketType}
+use Rattle.am_wire.specs.{padded, IsHead, HasFittingNumbers, head_of, head_bytes, has_length, IsPacket, IsWritable, canonical}
+use Rattle.am_wire.specs.Fields.{Fields}
+use Rattle.am_wire.specs.Format.{word_at, long_at}
+use Rattle.am_wire.proofs.PacketTypeLemmas.{kind_number_one}
 
-abbrev saying : Kind → ℕ → ℕ → ℕ → ℕ → ℕ → ℕ → ℕ → List ℕ → Said
+abbrev saying : PacketType → ℕ → ℕ → ℕ → ℕ → ℕ → ℕ → ℕ → List ℕ → Fields
 saying kind token dev ino uid gid pid tgid name = record { kind = kind; token = token; dev = dev; ino = ino; uid = uid; gid = gid; pid = pid; tgid = tgid; name = name }
 
 -- packets that say the same in each field are the same
-same_fields : {kind kind' : Kind} {token token' dev dev' ino ino' uid uid' gid gid' pid pid' tgid tgid' : ℕ} {name name' : List ℕ} → kind ≡ kind' → token ≡ token' → dev ≡ dev' → ino ≡ ino' → uid ≡ uid' → gid ≡ gid' → pid ≡ pid' → tgid ≡ tgid' → name ≡ name' → saying kind token dev ino uid gid pid tgid name ≡ saying kind' token' dev' ino' uid' gid' pid' tgid' name'
+same_fields : {kind kind' : PacketType} {token token' dev dev' ino ino' uid uid' gid gid' pid pid' tgid tgid' : ℕ} {name name' : List ℕ} → kind ≡ kind' → token ≡ token' → dev ≡ dev' → ino ≡ ino' → uid ≡ uid' → gid ≡ gid' → pid ≡ pid' → tgid ≡ tgid' → name ≡ name' → saying kind token dev ino uid gid pid tgid name ≡ saying kind' token' dev' ino' uid' gid' pid' tgid' name'
 same_fields kind token dev ino uid gid pid tgid name = rw (kind, token, dev, ino, uid, gid, pid, tgid, name) refl
 
 -- bytes are those of one packet at most
-pub one_packet : (p q : Said) (bytes : List ℕ) → IsPacket p bytes → IsPacket q bytes → q ≡ p
+pub one_packet : (p q : Fields) (bytes : List ℕ) → IsPacket p bytes → IsPacket q bytes → q ≡ p
 one_packet p q bytes a b =
     same_fields (kind_number_one q.kind p.kind (sym b.kind ∙ a.kind)) (sym b.token ∙ a.token) (sym b.dev ∙ a.dev) (sym b.ino ∙ a.ino)
     (sym b.uid ∙ a.uid) (sym b.gid ∙ a.gid) (sym b.pid ∙ a.pid) (sym b.tgid ∙ a.tgid) (sym b.name ∙ a.name)
@@ -43,11 +42,11 @@ head_reads_back h rest fits =
     }
 
 -- the numbers, the name with zeros behind it, and what stands behind these
-abbrev packet_bytes : Said → List ℕ → List ℕ
+abbrev packet_bytes : Fields → List ℕ → List ℕ
 packet_bytes p rest = head_bytes (head_of p) ++ (padded p.name ++ rest)
 
 -- a packet that was written is read back, whatever stands behind the name's 256 bytes
-packet_reads_back : (p : Said) (rest : List ℕ) → HasFittingNumbers (head_of p) → IsWritable p → IsTrue (has_length (packet_bytes p rest)) → IsPacket p (packet_bytes p rest)
+packet_reads_back : (p : Fields) (rest : List ℕ) → HasFittingNumbers (head_of p) → IsWritable p → IsTrue (has_length (packet_bytes p rest)) → IsPacket p (packet_bytes p rest)
 packet_reads_back p rest fits writable long =
     let bytes : List ℕ = packet_bytes p rest in
     let h = head_reads_back (head_of p) (padded p.name ++ rest) fits in
@@ -74,14 +73,14 @@ abbrev is_format_length : ℕ → Bool
 is_format_length n = (n == 300) || (n == 304)
 
 -- what was written is read back
-pub canonical_reads_back : (p : Said) (out : List ℕ) → out ≡ canonical p → length (padded p.name) ≡ 256 → HasFittingNumbers (head_of p) → IsWritable p → IsPacket p out
+pub canonical_reads_back : (p : Fields) (out : List ℕ) → out ≡ canonical p → length (padded p.name) ≡ 256 → HasFittingNumbers (head_of p) → IsWritable p → IsPacket p out
 canonical_reads_back p out e long fits writable =
     let rest : List ℕ = replicate 4 0 in
     let whole : length (packet_bytes p rest) ≡ 304 = omega (arith, length-append (head_bytes (head_of p)) (padded p.name ++ rest), length-append (padded p.name) rest, long) in
     subst (IsPacket p) (sym e) (packet_reads_back p rest fits writable (subst (λ (n : ℕ). IsTrue (is_format_length n)) (sym whole) refl))
 
 -- and so are its first 300 bytes
-pub canonical_300_reads_back : (p : Said) (out : List ℕ) → out ≡ canonical p → length (padded p.name) ≡ 256 → HasFittingNumbers (head_of p) → IsWritable p → IsPacket p (take 300 out)
+pub canonical_300_reads_back : (p : Fields) (out : List ℕ) → out ≡ canonical p → length (padded p.name) ≡ 256 → HasFittingNumbers (head_of p) → IsWritable p → IsPacket p (take 300 out)
 canonical_300_reads_back p out e long fits writable =
     let head : List ℕ = head_bytes (head_of p) in
     let front : length (head ++ padded p.name) ≡ 300 = omega (arith, length-append head (padded p.name), long) in

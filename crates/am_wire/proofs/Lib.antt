@@ -1,4 +1,4 @@
 pub mod StoredLemmas
-pub mod KindLemmas
+pub mod PacketTypeLemmas
 pub mod WriteLemmas
 pub mod FormatLemmas

@@ -1,13 +1,13 @@
 -- A packet as bytes: the fields at their offsets, little endian
 -- (auto_fs.h, struct autofs_v5_packet, as it lies on x86-64).
 use Rattle.std.specs.Prelude.{◌≡◌, ◌≢◌, ℕ, ◌==◌, ◌||◌, ◌&&◌, nat_lt, not, Bool, false, IsTrue, List, ◌++◌, length, take, drop, replicate}
-use Rattle.am_names.specs.Name.{is_name}
+use Rattle.am_names.specs.{is_name}
 use Rattle.byteorder.specs.Endian.{little_number, little_bytes}
-use Rattle.am_wire.specs.declared.kind.Kind.{Kind}
+use Rattle.am_wire.specs.declared.packet_type.PacketType.{PacketType}
 use Rattle.am_wire.specs.declared.fault.WireFault.{WireFault}
 use Rattle.am_wire.specs.declared.fault.WireFault.TheVariants as faults
-use Rattle.am_wire.specs.Kind.{kind_number, is_indirect}
-use Rattle.am_wire.specs.Said.{Said}
+use Rattle.am_wire.specs.PacketType.{kind_number, is_indirect}
+use Rattle.am_wire.specs.Fields.{Fields}
 use Rattle.am_wire.specs.Stored.{padded}
 
 -- the number in the 4 bytes at an offset
@@ -19,11 +19,11 @@ unfoldable pub long_at : ℕ → List ℕ → ℕ
 long_at at bytes = little_number 8 (drop at bytes)
 
 -- a name has at most 255 bytes, and at least one where it is looked up in a directory
-abbrev pub may_have_length : Kind → ℕ → Bool
+abbrev pub may_have_length : PacketType → ℕ → Bool
 may_have_length k len = not (nat_lt 255 len) && not (is_indirect k && (len == 0))
 
 -- what is looked up in a directory is a name; of a direct trigger it may be any bytes
-abbrev pub may_have_name : Kind → List ℕ → Bool
+abbrev pub may_have_name : PacketType → List ℕ → Bool
 may_have_name k name = not (is_indirect k) || is_name name
 
 -- the name is the first `len` bytes from offset 44
@@ -35,7 +35,7 @@ abbrev pub has_length : List ℕ → Bool
 has_length bytes = (length bytes == 300) || (length bytes == 304)
 
 -- The bytes are those of the packet. What stands behind the name is free.
-pub record IsPacket (p : Said) (bytes : List ℕ) : Type 0 where
+pub record IsPacket (p : Fields) (bytes : List ℕ) : Type 0 where
   pub long : IsTrue (has_length bytes)
   pub proto_version : word_at 0 bytes ≡ 5
   pub kind : word_at 4 bytes ≡ kind_number p.kind
@@ -52,12 +52,12 @@ pub record IsPacket (p : Said) (bytes : List ℕ) : Type 0 where
   pub named : IsTrue (may_have_name p.kind p.name)
 
 -- the bytes are those of no other packet
-abbrev pub IsOnlyPacket : Said → List ℕ → Type 0
-IsOnlyPacket p bytes = (q : Said) → IsPacket q bytes → q ≡ p
+abbrev pub IsOnlyPacket : Fields → List ℕ → Type 0
+IsOnlyPacket p bytes = (q : Fields) → IsPacket q bytes → q ≡ p
 
 -- the bytes are those of no packet
 abbrev pub IsNoPacket : List ℕ → Type 0
-IsNoPacket bytes = (p : Said) → IsPacket p bytes → ⊥
+IsNoPacket bytes = (p : Fields) → IsPacket p bytes → ⊥
 
 -- which test the bytes fail first: those before it hold
 abbrev pub FailsFirst : WireFault → List ℕ → Type 0
@@ -66,23 +66,23 @@ FailsFirst faults.Version bytes = IsTrue (has_length bytes) × (word_at 0 bytes 
 FailsFirst faults.Kind bytes =
     IsTrue (has_length bytes)
     × (word_at 0 bytes ≡ 5)
-    × ((k : Kind) → word_at 4 bytes ≢ kind_number k)
+    × ((k : PacketType) → word_at 4 bytes ≢ kind_number k)
 FailsFirst faults.NameLength bytes =
     IsTrue (has_length bytes)
     × (word_at 0 bytes ≡ 5)
-    × (k : Kind)
+    × (k : PacketType)
     × (word_at 4 bytes ≡ kind_number k)
     × (may_have_length k (word_at 40 bytes) ≡ false)
 FailsFirst faults.BadName bytes =
     IsTrue (has_length bytes)
     × (word_at 0 bytes ≡ 5)
-    × (k : Kind)
+    × (k : PacketType)
     × (word_at 4 bytes ≡ kind_number k)
     × IsTrue (may_have_length k (word_at 40 bytes))
     × (may_have_name k (name_at bytes) ≡ false)
 
 -- what is written: all that is free is zero
-abbrev pub canonical : Said → List ℕ
+abbrev pub canonical : Fields → List ℕ
 canonical p =
     little_bytes 4 5
     ++ little_bytes 4 (kind_number p.kind)
@@ -98,6 +98,6 @@ canonical p =
     ++ replicate 4 0
 
 -- a packet of the format: its name is allowed for its kind
-pub record IsWritable (p : Said) : Type 0 where
+pub record IsWritable (p : Fields) : Type 0 where
   pub sized : IsTrue (may_have_length p.kind (length p.name))
   pub named : IsTrue (may_have_name p.kind p.name)

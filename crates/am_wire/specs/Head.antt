@@ -3,8 +3,8 @@ use Rattle.std.specs.Prelude.{◌≡◌, ◌++◌, ◌<◌, ◌^◌, List, ℕ, 
 use Rattle.byteorder.specs.Endian.{little_bytes}
 use Rattle.am_wire.specs.declared.head.Head.{Head}
 use Rattle.am_wire.specs.Format.{word_at, long_at}
-use Rattle.am_wire.specs.Kind.{kind_number}
-use Rattle.am_wire.specs.Said.{Said}
+use Rattle.am_wire.specs.PacketType.{kind_number}
+use Rattle.am_wire.specs.Fields.{Fields}
 
 -- these numbers stand at their offsets
 pub record IsHead (bytes : List ℕ) (h : Head) : Type 0 where
@@ -33,7 +33,7 @@ pub record HasFittingNumbers (h : Head) : Type 0 where
   pub len : h.len < 256 ^ 4
 
 -- the numbers of a packet
-abbrev pub head_of : Said → Head
+abbrev pub head_of : Fields → Head
 head_of p =
     record {
       proto_version = 5;

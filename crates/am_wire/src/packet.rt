@@ -1,17 +1,17 @@
 //! What a packet says.
 
 ghost use Rattle.std.specs.Prelude.{◌≡◌, ◌≤◌, length};
-ghost use Rattle.am_wire.specs.Said.{said, said_of};
+ghost use Rattle.am_wire.specs.Fields.{fields_of, fields_of_ref};
 
-use crate::kind::Kind;
 use crate::packet_name::PacketName;
+use crate::packet_type::PacketType;
 use am_names::{FsId, Token};
 
 /// A packet (auto_fs.h, `struct autofs_v5_packet`), without `proto_version`, which is 5.
 #[derive(Clone, Copy, Debug, PartialEq)]
 pub struct Packet {
     /// `type`.
-    pub kind: Kind,
+    pub kind: PacketType,
     /// `wait_queue_token`: the daemon acknowledges by it.
     pub token: Token,
     /// The file system's device number.
@@ -29,7 +29,7 @@ pub struct Packet {
 /// A packet whose name is where it was read.
 #[derive(Clone, Copy)]
 pub struct PacketRef<'a> {
-    pub kind: Kind,
+    pub kind: PacketType,
     pub token: Token,
     pub dev: FsId,
     pub ino: u64,
@@ -44,7 +44,7 @@ impl<'a> PacketRef<'a> {
     /// The same packet with its name copied.
     pub fn to_packet(&self) -> Packet
         requires { length self.now.name.now ≤ 255 }
-        ensures { said result ≡ said_of self.now }
+        ensures { fields_of result ≡ fields_of_ref self.now }
     {
         Packet {
             kind: self.kind,

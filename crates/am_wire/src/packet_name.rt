@@ -18,7 +18,7 @@ impl Model for PacketName {
 
     ghost Value = { List ℕ };
 
-    ghost use Rattle.am_wire.specs.StoredInside.{inside_of, stored_back};
+    ghost use Rattle.am_wire.specs.StoredView.{inside_of, stored_back};
 
     ghost view = { λ n. take n.len n.buf };
 

@@ -1,15 +1,15 @@
 //! Bytes to packets.
 
 ghost use Rattle.std.specs.Prelude.{◌≡◌, ◌≤◌, ◌+◌, length, take, drop, true, IfOk, IfErr};
-ghost use Rattle.am_wire.specs.Said.{Said, said_of};
+ghost use Rattle.am_wire.specs.Fields.{Fields, fields_of_ref};
 ghost use Rattle.am_wire.specs.Format.{IsPacket, IsOnlyPacket, IsNoPacket, FailsFirst};
 ghost use Rattle.am_wire.specs.Format.{has_length, may_have_length, may_have_name};
 ghost use Rattle.am_wire.specs.Head.{IsHead};
 
 use crate::fault::WireFault;
 use crate::head::Head;
-use crate::kind::Kind;
 use crate::packet::PacketRef;
+use crate::packet_type::PacketType;
 use am_names::{FsId, Name, Token};
 use byteorder::{ByteOrder, LittleEndian};
 
@@ -42,14 +42,14 @@ fn name_of(bytes: &[u8], len: u32) -> &[u8]
     &bytes[44..44 + len as usize]
 }
 
-pub(crate) fn may_have_length(kind: Kind, len: u32) -> bool
+pub(crate) fn may_have_length(kind: PacketType, len: u32) -> bool
     ensures value { result ≡ may_have_length kind len }
     ensures short { result ≡ true → len ≤ 255 }
 {
     len <= 255 && !(kind.is_indirect() && len == 0)
 }
 
-pub(crate) fn may_have_name(kind: Kind, name: &[u8]) -> bool
+pub(crate) fn may_have_name(kind: PacketType, name: &[u8]) -> bool
     ensures { result ≡ may_have_name kind name.now }
 {
     !kind.is_indirect() || Name::read(name).is_ok()
@@ -58,8 +58,8 @@ pub(crate) fn may_have_name(kind: Kind, name: &[u8]) -> bool
 /// The packet that the bytes are, or the first test that they fail. What stands behind the name
 /// is not looked at.
 pub fn read(bytes: &[u8]) -> Result<PacketRef<'_>, WireFault>
-    ensures ok { IfOk result (λ p. IsPacket (said_of p) bytes.now) }
-    ensures only { IfOk result (λ p. IsOnlyPacket (said_of p) bytes.now) }
+    ensures ok { IfOk result (λ p. IsPacket (fields_of_ref p) bytes.now) }
+    ensures only { IfOk result (λ p. IsOnlyPacket (fields_of_ref p) bytes.now) }
     ensures short { IfOk result (λ p. length p.name.now ≤ 255) }
     ensures err { IfErr result (λ e. FailsFirst e bytes.now) }
     ensures none { IfErr result (λ e. IsNoPacket bytes.now) }
@@ -71,7 +71,7 @@ pub fn read(bytes: &[u8]) -> Result<PacketRef<'_>, WireFault>
     if head.proto_version != 5 {
         return Err(WireFault::Version);
     }
-    let Some(kind) = Kind::read(head.kind) else {
+    let Some(kind) = PacketType::read(head.kind) else {
         return Err(WireFault::Kind);
     };
     if !may_have_length(kind, head.len) {

@@ -2,7 +2,7 @@
 
 ghost use Rattle.std.specs.Prelude.{◌≡◌, ◌≤◌, ◌+◌, ◌++◌, ◌↔◌, IsTrue, length, take, drop};
 ghost use Rattle.byteorder.specs.Endian.{little_bytes};
-ghost use Rattle.am_wire.specs.Said.{said};
+ghost use Rattle.am_wire.specs.Fields.{fields_of};
 ghost use Rattle.am_wire.specs.Format.{IsPacket, IsWritable, canonical};
 ghost use Rattle.am_wire.specs.Head.{head_of, head_bytes, HasFittingNumbers};
 
@@ -47,7 +47,7 @@ fn write_bytes(out: &mut [u8; 304], at: usize, bytes: &[u8])
 }
 
 fn head_of(packet: &Packet) -> Head
-    ensures { result ≡ head_of (said packet.now) }
+    ensures { result ≡ head_of (fields_of packet.now) }
 {
     Head {
         proto_version: 5,
@@ -65,7 +65,7 @@ fn head_of(packet: &Packet) -> Head
 
 /// Whether the packet is one of the format: its name is allowed for its kind.
 pub fn is_writable(packet: &Packet) -> bool
-    ensures { IsTrue result ↔ IsWritable (said packet.now) }
+    ensures { IsTrue result ↔ IsWritable (fields_of packet.now) }
 {
     let name = packet.name.as_bytes();
     may_have_length(packet.kind, name.len() as u32) && may_have_name(packet.kind, name)
@@ -74,9 +74,10 @@ pub fn is_writable(packet: &Packet) -> bool
 /// Writes the packet's bytes, zero where the format leaves them free. What is written for a
 /// packet of the format, and its first 300 bytes, are read as that packet.
 pub fn write(packet: &Packet, out: &mut [u8; 304])
-    ensures bytes { out.new ≡ canonical (said packet.now) }
-    ensures whole { IsWritable (said packet.now) → IsPacket (said packet.now) out.new }
-    ensures cut { IsWritable (said packet.now) → IsPacket (said packet.now) (take 300 out.new) }
+    ensures bytes { out.new ≡ canonical (fields_of packet.now) }
+    ensures whole { IsWritable (fields_of packet.now) → IsPacket (fields_of packet.now) out.new }
+    ensures cut { IsWritable (fields_of packet.now) →
+        IsPacket (fields_of packet.now) (take 300 out.new) }
 {
     let head = head_of(packet);
     write_head(head, out);

@@ -5,54 +5,34 @@ use Rattle.am_names.specs.declared.fail_no.FailNo.{FailNo}
 use Rattle.am_names.specs.declared.errno.Errno.{Errno}
 use Rattle.am_names.specs.declared.errno.Errno.TheVariants.{ENOENT, EBUSY, EEXIST}
 use Rattle.am_names.specs.declared.trigger.Trigger.{Trigger}
-use Rattle.am_names.specs.declared.trigger.Status.{Status}
-use Rattle.am_names.specs.declared.trigger.PipeState.{PipeState}
+use Rattle.am_names.specs.{Status, PipeState}
 use Rattle.am_names.specs.declared.trigger.PipeState.TheVariants.{Room, Full, Gone}
-use Rattle.am_group.specs.declared.kind.Kind.{Kind}
-use Rattle.am_state.specs.declared.kernel_row.QueuedRow.{QueuedRow}
-use Rattle.am_wait.specs.Rows.{token_of}
-use Rattle.am_wait.specs.Calls.{is_exhausted, is_full}
-use Rattle.am_trigger.specs.Rows.{autofs_of}
-use Rattle.am_propagate.specs.Namespaces.{copy_refusal}
-use Rattle.am_expire.specs.Uses.{leave_refusal}
-use Rattle.am_job.specs.declared.act.Act.{Act}
+use Rattle.am_group.specs.{MountState}
+use Rattle.am_state.specs.{QueuedRow}
+use Rattle.am_wait.specs.{token_of, is_exhausted, is_full}
+use Rattle.am_trigger.specs.{autofs_of}
+use Rattle.am_propagate.specs.{copy_refusal}
+use Rattle.am_expire.specs.{leave_refusal}
+use Rattle.am_job.specs.{Act, next_of}
 use Rattle.am_job.specs.declared.act.Act.TheVariants as act
-use Rattle.am_job.specs.Plans.{next_of}
-use Rattle.am_kernel.specs.State.{KernelState}
-use Rattle.am_kernel.specs.Sites.{is_current, is_busy, attach_of, fs_of_attach, is_trigger}
-use Rattle.am_kernel.specs.Outcome as kernel
-use Rattle.am_kernel.specs.Outcome.{moment_of}
+use Rattle.am_kernel.specs.{KernelState, is_current, is_busy, attach_of, fs_of_attach, is_trigger, moment_of, mount_refusal, bind_refusal, plain_change_refusal, kind_refusal, kind_at, catatonic_refusal, admin_catatonic_refusal, mkdir_refusal, rmdir_refusal, mount_on_refusal, umount_from_refusal, timeout_refusal, answer_refusal, queued_of}
+use Rattle.am_kernel.specs.CallOutcome as kernel
 use Rattle.am_kernel.specs.Expires as expires
-use Rattle.am_kernel.specs.Administration.{mount_refusal, bind_refusal, plain_change_refusal, kind_refusal, kind_at}
-use Rattle.am_kernel.specs.Catatonic.{catatonic_refusal, admin_catatonic_refusal}
-use Rattle.am_kernel.specs.Directories.{mkdir_refusal, rmdir_refusal}
-use Rattle.am_kernel.specs.DaemonMounts.{mount_on_refusal, umount_from_refusal}
-use Rattle.am_kernel.specs.Requests.{timeout_refusal, answer_refusal, queued_of}
-use Rattle.am_daemon.specs.declared.served.Point.{Point}
-use Rattle.am_daemon.specs.Points.{point_of}
-use Rattle.am_daemon.specs.State.{JobPlan}
-use Rattle.am_daemon.specs.Attachments.{holds}
-use Rattle.am_daemon.specs.Deliveries.{job_of}
-use Rattle.am_machine.specs.declared.event.Event.{Event}
+use Rattle.am_daemon.specs.{Point, point_of, JobPlan, holds, job_of}
+use Rattle.am_machine.specs.{Event, unless, outcome_of, goes, attach_refusal, attached_as, kind_told, delivered_at, may_take, mount_tried, umount_tried, mkdir_by, mount_by, umount_by, rmdir_by, reply_by, acted, acted_at, reattach_refused}
 use Rattle.am_machine.specs.declared.event.Event.TheVariants as events
 use Rattle.am_machine.specs.State.{State}
-use Rattle.am_machine.specs.Outcome.{Outcome, unless}
-use Rattle.am_machine.specs.Machine.{outcome_of}
-use Rattle.am_machine.specs.Events.Walkers.{goes}
-use Rattle.am_machine.specs.Events.Administration.{attach_refusal, attached_as, kind_told}
-use Rattle.am_machine.specs.Events.Deliveries.{delivered_at, may_take}
-use Rattle.am_machine.specs.Events.Acts.{mount_tried, umount_tried, mkdir_by, mount_by, umount_by, rmdir_by, reply_by, acted, acted_at}
-use Rattle.am_machine.specs.Events.Requests.{reattach_refused}
-use Rattle.am_world.specs.Copies.{owns}
+use Rattle.am_machine.specs.EventOutcome.{EventOutcome}
+use Rattle.am_world.specs.{owns}
 
-pub record Free (o : Outcome) : Type 0 where
+pub record Free (o : EventOutcome) : Type 0 where
   pub free : owns o.answer ≡ false
 
-unless_free : (first : Option Errno) (s : State) (done : Outcome) → owns done.answer ≡ false → Free (unless first s done)
+unless_free : (first : Option Errno) (s : State) (done : EventOutcome) → owns done.answer ≡ false → Free (unless first s done)
 unless_free None s done h = record { free = h }
 unless_free (Some e) s done h = record { free = refl }
 
-either_free : (b : Bool) (first second : Outcome) → Free first → Free second → Free (if b then first else second)
+either_free : (b : Bool) (first second : EventOutcome) → Free first → Free second → Free (if b then first else second)
 either_free true first second h g = h
 either_free false first second h g = g
 
@@ -60,16 +40,16 @@ attached_free : (point : Option Point) (s : State) (path : List (List ℕ)) → 
 attached_free None s path = record { free = refl }
 attached_free (Some point) s path = unless_free (attach_refusal s path) s _ refl
 
-kind_free : (kind : Option Kind) (s : State) → owns (kind_told kind s).answer ≡ false
+kind_free : (kind : Option MountState) (s : State) → owns (kind_told kind s).answer ≡ false
 kind_free None s = refl
 kind_free (Some kind) s = refl
 
 -- ---- expiries
 
-record Goes_free (s : State) (o : kernel.Outcome) : Type 0 where
+record Goes_free (s : State) (o : kernel.CallOutcome) : Type 0 where
   goes_free : owns (goes o s).answer ≡ false
 
-either_goes_free : (s : State) (b : Bool) (first second : kernel.Outcome) → Goes_free s first → Goes_free s second → Goes_free s (if b then first else second)
+either_goes_free : (s : State) (b : Bool) (first second : kernel.CallOutcome) → Goes_free s first → Goes_free s second → Goes_free s (if b then first else second)
 either_goes_free s true first second h g = h
 either_goes_free s false first second h g = g
 
@@ -90,8 +70,8 @@ expires_under : (attach : Option ℕ) (pipe : PipeState) (s : State) (k : Kernel
 expires_under None pipe s k walker next = refusal_goes_free s _
 expires_under (Some attach) pipe s k walker next = expires_next next pipe s k walker attach
 
-at_moment_goes_free : (o : kernel.Outcome) (s : State) (moment : ℕ) → Goes_free s o → Goes_free s (kernel.at_moment moment o)
-at_moment_goes_free (kernel.Goes answer shown made) s moment h = record { goes_free = h.goes_free }
+at_moment_goes_free : (o : kernel.CallOutcome) (s : State) (moment : ℕ) → Goes_free s o → Goes_free s (kernel.at_moment moment o)
+at_moment_goes_free (kernel.Proceeds answer shown made) s moment h = record { goes_free = h.goes_free }
 at_moment_goes_free (kernel.Fails e) s moment h = h
 
 expire_free : (pipe : PipeState) (s : State) (walker fs now : ℕ) (immediate : Bool) → Goes_free s (expires.expire_outcome pipe s.kernel walker fs now immediate)

@@ -1,8 +1,9 @@
 -- The machine's state of a world as it is kept.
 use Rattle.std.proofs.Common.{◌≡◌, refl}
-use Rattle.am_daemon.specs.State.{rows_of}
+use Rattle.am_daemon.specs.{rows_of}
 use Rattle.am_machine.specs.State.{State}
-use Rattle.am_world.specs.Table.{WorldTable, state_of}
+use Rattle.am_world.specs.Capacity.{state_of}
+use Rattle.am_world.specs.{WorldTable}
 
 abbrev pub kept : WorldTable → State
 kept t = record { kernel = t.kernel; daemon = rows_of t.daemon; trace = t.trace }

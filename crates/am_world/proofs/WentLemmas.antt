@@ -5,9 +5,9 @@ use Rattle.std.proofs.lemmas.List.{append-nil}
 use Rattle.am_names.specs.declared.fail_no.FailNo.{FailNo}
 use Rattle.am_names.specs.declared.errno.Errno.{Errno}
 use Rattle.am_names.specs.declared.errno.Errno.TheVariants.{ENOENT, EPERM, EBUSY, EEXIST, NoMemory, Stranger}
-use Rattle.am_names.specs.Errno.{RefusedAs}
+use Rattle.am_names.specs.{RefusedAs}
 use Rattle.am_names.specs.declared.trigger.Trigger.{Trigger}
-use Rattle.am_state.specs.declared.obs.Obs.{Obs}
+use Rattle.am_state.specs.{Obs, QueuedRow}
 use Rattle.am_job.specs.declared.act.Outcome as job
 use Rattle.am_job.specs.declared.act.Outcome.TheVariants as came
 use Rattle.std.specs.Prelude.{is_some, ◌&&◌, ◌||◌, ◌==◌}
@@ -15,89 +15,75 @@ use Rattle.std.specs.List.{list_any}
 use Rattle.std.proofs.Common.{arith}
 use Rattle.std.proofs.lemmas.Bool.Decides.{nat_tests}
 use Rattle.am_state.specs.declared.obs.Obs.TheVariants.{Recorded}
-use Rattle.am_state.specs.declared.kernel_row.QueuedRow.{QueuedRow}
-use Rattle.am_kernel.specs.declared.row.Attached.{Attached}
-use Rattle.am_kernel.specs.Catatonic.{closing, closing_if_live}
-use Rattle.am_daemon.specs.declared.acts.Writing.{Writing}
-use Rattle.am_daemon.specs.declared.fault.DaemonFault.{DaemonFault}
-use Rattle.am_daemon.specs.Deliveries.{delivery_fault}
-use Rattle.am_machine.specs.Events.Deliveries.{takes, delivered_at}
-use Rattle.am_kernel.specs.State.{KernelState}
-use Rattle.am_kernel.specs.Sites.{is_current, is_live, is_attached_by}
-use Rattle.am_kernel.specs.Directories.{with_directory, without_directory}
-use Rattle.am_kernel.specs.DaemonMounts.{mount_on_refusal, umount_from_refusal}
-use Rattle.am_daemon.specs.State.{DaemonState, JobPlan}
-use Rattle.am_daemon.specs.Acts.{finished}
-use Rattle.am_machine.specs.declared.answer.Answer.{Answer}
+use Rattle.am_kernel.specs.{Attached, catatonic_observations, catatonic_observations_if_live, KernelState, is_current, is_live, is_attached_by, with_directory, without_directory, mount_on_refusal, umount_from_refusal}
+use Rattle.am_daemon.specs.{Writing, DaemonFault, delivery_fault, DaemonState, JobPlan, finished}
+use Rattle.am_machine.specs.{takes, delivered_at, Answer, refused, after, goes_on, mkdir_by, mount_fails, mount_by, mount_act, umount_fails, umount_by, umount_act, rmdir_by}
 use Rattle.am_machine.specs.declared.answer.Answer.TheVariants as answers
 use Rattle.am_machine.specs.State.{State}
-use Rattle.am_machine.specs.Outcome.{Outcome, refused}
-use Rattle.am_machine.specs.Machine.{after}
+use Rattle.am_machine.specs.EventOutcome.{EventOutcome}
 use Rattle.am_machine.specs.Events.Acts as acts
-use Rattle.am_machine.specs.Events.Acts.{goes_on, mkdir_by, mount_fails, mount_by, mount_act, umount_fails, umount_by, umount_act, rmdir_by}
-use Rattle.am_world.specs.Halves.{written, Goes}
-use Rattle.am_world.specs.Acts.{as_made, as_removed, is_no_memory}
+use Rattle.am_world.specs.{written, Yields, as_made, as_removed, is_no_memory}
 
-abbrev pub halves : KernelState → DaemonState → List Obs → State → State
-halves k d trace s = record { kernel = k; daemon = d; trace = trace }
+abbrev pub machine : KernelState → DaemonState → List Obs → State → State
+machine k d trace s = record { kernel = k; daemon = d; trace = trace }
 
 pub went : (s : State) (row : JobPlan) (number : ℕ) (outcome : job.Outcome) (answer : Answer) (shown : List Obs) (k new : KernelState) (d : DaemonState) (trace : List Obs) →
-    row.token ≡ number → d ≡ finished number outcome s.daemon → new ≡ k → trace ≡ s.trace ++ shown → halves new d trace s ≡ after s (goes_on s row outcome answer shown k)
+    row.token ≡ number → d ≡ finished number outcome s.daemon → new ≡ k → trace ≡ s.trace ++ shown → machine new d trace s ≡ after s (goes_on s row outcome answer shown k)
 went s row number outcome answer shown k new d trace token its kernel seen =
-    ap (λ (x : KernelState). halves x d trace s) kernel
-    ∙ ap (λ (x : DaemonState). halves k x trace s) (its ∙ ap (λ (n : ℕ). finished n outcome s.daemon) (sym token))
-    ∙ ap (λ (x : List Obs). halves k (finished row.token outcome s.daemon) x s) seen
+    ap (λ (x : KernelState). machine x d trace s) kernel
+    ∙ ap (λ (x : DaemonState). machine k x trace s) (its ∙ ap (λ (n : ℕ). finished n outcome s.daemon) (sym token))
+    ∙ ap (λ (x : List Obs). machine k (finished row.token outcome s.daemon) x s) seen
 
 -- nothing was seen
 pub went_unseen : (s : State) (row : JobPlan) (number : ℕ) (outcome : job.Outcome) (answer : Answer) (k new : KernelState) (d : DaemonState) →
-    row.token ≡ number → d ≡ finished number outcome s.daemon → new ≡ k → halves new d s.trace s ≡ after s (goes_on s row outcome answer [] k)
+    row.token ≡ number → d ≡ finished number outcome s.daemon → new ≡ k → machine new d s.trace s ≡ after s (goes_on s row outcome answer [] k)
 went_unseen s row number outcome answer k new d token its kernel = went s row number outcome answer [] k new d s.trace token its kernel (sym (append-nil s.trace))
 
 -- ---- directories
 
 pub mkdir_goes : (r : Result (Unit {0}) Errno) (first : Option Errno) (s : State) (row : JobPlan) (g : Trigger) (number : ℕ) (new : KernelState) (d : DaemonState) →
     RefusedAs first r → OnOk r (new ≡ with_directory g s.kernel) → OnErr r (new ≡ s.kernel) → as_made r ≡ Ok tt → row.token ≡ number → d ≡ finished number came.Done s.daemon →
-    Goes (mkdir_by first s row g) s (Ok answers.DidMkdir) (halves new d s.trace s)
+    Yields (mkdir_by first s row g) s (Ok answers.DidMkdir) (machine new d s.trace s)
 mkdir_goes (Ok u) first s row g number new d refusal ok err is token its =
-    subst (λ (f : Option Errno). Goes (mkdir_by f s row g) s (Ok answers.DidMkdir) (halves new d s.trace s)) (sym refusal)
+    subst (λ (f : Option Errno). Yields (mkdir_by f s row g) s (Ok answers.DidMkdir) (machine new d s.trace s)) (sym refusal)
     (refl, went_unseen s row number came.Done answers.DidMkdir (with_directory g s.kernel) new d token its ok)
 mkdir_goes (Err EEXIST) first s row g number new d refusal ok err is token its =
-    subst (λ (f : Option Errno). Goes (mkdir_by f s row g) s (Ok answers.DidMkdir) (halves new d s.trace s)) (sym refusal)
+    subst (λ (f : Option Errno). Yields (mkdir_by f s row g) s (Ok answers.DidMkdir) (machine new d s.trace s)) (sym refusal)
     (refl, went_unseen s row number came.Done answers.DidMkdir s.kernel new d token its err)
 mkdir_goes (Err _) first s row g number new d refusal ok err is token its = absurd cc
 
 pub mkdir_fails : (r : Result (Unit {0}) Errno) (first : Option Errno) (s : State) (row : JobPlan) (g : Trigger) (e : Errno) (new : KernelState) →
-    RefusedAs first r → OnErr r (new ≡ s.kernel) → as_made r ≡ Err e → Goes (mkdir_by first s row g) s (Err e) (halves new s.daemon s.trace s)
+    RefusedAs first r → OnErr r (new ≡ s.kernel) → as_made r ≡ Err e → Yields (mkdir_by first s row g) s (Err e) (machine new s.daemon s.trace s)
 mkdir_fails (Ok u) first s row g e new refusal err is = absurd cc
 mkdir_fails (Err EEXIST) first s row g e new refusal err is = absurd cc
-mkdir_fails (Err NoMemory) first s row g e new refusal err is = (ap (λ (x : KernelState). halves x s.daemon s.trace s) err, inl (cc))
+mkdir_fails (Err NoMemory) first s row g e new refusal err is = (ap (λ (x : KernelState). machine x s.daemon s.trace s) err, inl (cc))
 mkdir_fails (Err f) first s row g e new refusal err is =
     let same : f ≡ e = cc in
-    (ap (λ (x : KernelState). halves x s.daemon s.trace s) err, inr (ap (λ (o : Option Errno). mkdir_by o s row g) refusal ∙ ap (refused s) same))
+    (ap (λ (x : KernelState). machine x s.daemon s.trace s) err, inr (ap (λ (o : Option Errno). mkdir_by o s row g) refusal ∙ ap (refused s) same))
 
 pub rmdir_goes : (r : Result (Unit {0}) Errno) (first : Option Errno) (s : State) (row : JobPlan) (g : Trigger) (number : ℕ) (new : KernelState) (d : DaemonState) →
     RefusedAs first r → OnOk r (new ≡ without_directory g s.kernel) → OnErr r (new ≡ s.kernel) → as_removed r ≡ Ok tt → row.token ≡ number → d ≡ finished number came.Done s.daemon →
-    Goes (rmdir_by first s row g) s (Ok answers.DidRmdir) (halves new d s.trace s)
+    Yields (rmdir_by first s row g) s (Ok answers.DidRmdir) (machine new d s.trace s)
 rmdir_goes (Ok u) first s row g number new d refusal ok err is token its =
-    subst (λ (f : Option Errno). Goes (rmdir_by f s row g) s (Ok answers.DidRmdir) (halves new d s.trace s)) (sym refusal)
+    subst (λ (f : Option Errno). Yields (rmdir_by f s row g) s (Ok answers.DidRmdir) (machine new d s.trace s)) (sym refusal)
     (refl, went_unseen s row number came.Done answers.DidRmdir (without_directory g s.kernel) new d token its ok)
 rmdir_goes (Err ENOENT) first s row g number new d refusal ok err is token its =
-    subst (λ (f : Option Errno). Goes (rmdir_by f s row g) s (Ok answers.DidRmdir) (halves new d s.trace s)) (sym refusal)
+    subst (λ (f : Option Errno). Yields (rmdir_by f s row g) s (Ok answers.DidRmdir) (machine new d s.trace s)) (sym refusal)
     (refl, went_unseen s row number came.Done answers.DidRmdir s.kernel new d token its err)
 rmdir_goes (Err EBUSY) first s row g number new d refusal ok err is token its =
-    subst (λ (f : Option Errno). Goes (rmdir_by f s row g) s (Ok answers.DidRmdir) (halves new d s.trace s)) (sym refusal)
+    subst (λ (f : Option Errno). Yields (rmdir_by f s row g) s (Ok answers.DidRmdir) (machine new d s.trace s)) (sym refusal)
     (refl, went_unseen s row number came.Done answers.DidRmdir s.kernel new d token its err)
 rmdir_goes (Err _) first s row g number new d refusal ok err is token its = absurd cc
 
 pub rmdir_fails : (r : Result (Unit {0}) Errno) (first : Option Errno) (s : State) (row : JobPlan) (g : Trigger) (e : Errno) (new : KernelState) →
-    RefusedAs first r → OnErr r (new ≡ s.kernel) → as_removed r ≡ Err e → Goes (rmdir_by first s row g) s (Err e) (halves new s.daemon s.trace s)
+    RefusedAs first r → OnErr r (new ≡ s.kernel) → as_removed r ≡ Err e → Yields (rmdir_by first s row g) s (Err e) (machine new s.daemon s.trace s)
 rmdir_fails (Ok u) first s row g e new refusal err is = absurd cc
 rmdir_fails (Err ENOENT) first s row g e new refusal err is = absurd cc
 rmdir_fails (Err EBUSY) first s row g e new refusal err is = absurd cc
-rmdir_fails (Err NoMemory) first s row g e new refusal err is = (ap (λ (x : KernelState). halves x s.daemon s.trace s) err, inl (cc))
+rmdir_fails (Err NoMemory) first s row g e new refusal err is = (ap (λ (x : KernelState). machine x s.daemon s.trace s) err, inl (cc))
 rmdir_fails (Err f) first s row g e new refusal err is =
     let same : f ≡ e = cc in
-    (ap (λ (x : KernelState). halves x s.daemon s.trace s) err, inr (ap (λ (o : Option Errno). rmdir_by o s row g) refusal ∙ ap (refused s) same))
+    (ap (λ (x : KernelState). machine x s.daemon s.trace s) err, inr (ap (λ (o : Option Errno). rmdir_by o s row g) refusal ∙ ap (refused s) same))
 
 -- ---- mounts
 
@@ -146,8 +132,8 @@ umount_tried s row g failure attach first its current well refusal =
     ∙ ap (λ (o : Option Errno). umount_by o s row g) (ap (λ (a : ℕ). umount_from_refusal s.kernel a g) its ∙ refusal)
 
 -- the outcome is another name of one that has come
-pub goes_by_equal_outcome : (o p : Outcome) (s : State) (answer : Answer) (new : State) → o ≡ p → answer ≡ p.answer → new ≡ after s p → Goes o s (Ok answer) new
-goes_by_equal_outcome o p s answer new same told left = subst (λ (x : Outcome). Goes x s (Ok answer) new) (sym same) (told, left)
+pub goes_by_equal_outcome : (o p : EventOutcome) (s : State) (answer : Answer) (new : State) → o ≡ p → answer ≡ p.answer → new ≡ after s p → Yields o s (Ok answer) new
+goes_by_equal_outcome o p s answer new same told left = subst (λ (x : EventOutcome). Yields x s (Ok answer) new) (sym same) (told, left)
 
 -- ---- a packet that is taken up
 
@@ -158,9 +144,9 @@ written_is false w = refl
 pub packet_is_taken : (s : State) (row : QueuedRow) → delivery_fault row.attach row.packet s.daemon ≡ None → delivered_at (Some row) s None ≡ takes s row
 packet_is_taken s row h = ap (λ (f : Option DaemonFault). if not (is_some f) then takes s row else refused s Stranger) h
 
-pub halves_are : (s : State) (k new : KernelState) (d e : DaemonState) (trace more : List Obs) → new ≡ k → e ≡ d → more ≡ trace → halves new e more s ≡ halves k d trace s
+pub halves_are : (s : State) (k new : KernelState) (d e : DaemonState) (trace more : List Obs) → new ≡ k → e ≡ d → more ≡ trace → machine new e more s ≡ machine k d trace s
 halves_are s k new d e trace more a b c =
-    ap (λ (x : KernelState). halves x e more s) a ∙ ap (λ (x : DaemonState). halves k x more s) b ∙ ap (λ (x : List Obs). halves k d x s) c
+    ap (λ (x : KernelState). machine x e more s) a ∙ ap (λ (x : DaemonState). machine k x more s) b ∙ ap (λ (x : List Obs). machine k d x s) c
 
 -- ---- catatonic mode
 
@@ -184,5 +170,5 @@ current_is_live k fs attach (row ∷ rows) h =
     (current_is_live k fs attach rows)
 
 -- a file system of a current attachment is live
-pub current_closes : (k : KernelState) (fs attach : ℕ) → true ≡ is_current k fs attach → closing_if_live fs k ≡ closing fs k
-current_closes k fs attach h = ap (λ (b : Bool). if b then closing fs k else []) (current_is_live k fs attach k.attached (sym h))
+pub current_closes : (k : KernelState) (fs attach : ℕ) → true ≡ is_current k fs attach → catatonic_observations_if_live fs k ≡ catatonic_observations fs k
+current_closes k fs attach h = ap (λ (b : Bool). if b then catatonic_observations fs k else []) (current_is_live k fs attach k.attached (sym h))

@@ -1,15 +1,14 @@
 //! The daemon's jobs go on, act by act.
 
 ghost use Rattle.std.specs.Prelude.{◌≡◌};
-ghost use Rattle.am_kernel.specs.Directories.{mkdir_refusal, rmdir_refusal};
-ghost use Rattle.am_kernel.specs.Requests.{answer_refusal};
-ghost use Rattle.am_daemon.specs.Acts.{finished};
-ghost use Rattle.am_machine.specs.Events.Acts.{mkdir_by, mount_act, umount_act, rmdir_by, record_act, reply_by, act_outcome};
-ghost use Rattle.am_world.specs.Halves.{whole_state, daemon_of, Goes};
-ghost use Rattle.am_world.specs.declared.acts.Deed.TheVariants as deed;
-ghost use Rattle.am_world.specs.Acts.{deed_of, turn_of, row_for, as_made, as_removed, is_no_memory, IsNext, IsLean};
+ghost use Rattle.am_kernel.specs.{mkdir_refusal, rmdir_refusal, answer_refusal};
+ghost use Rattle.am_daemon.specs.{finished};
+ghost use Rattle.am_machine.specs.{mkdir_by, mount_act, umount_act, rmdir_by, record_act, reply_by, act_outcome};
+ghost use Rattle.am_world.specs.Machine.{whole_state, daemon_of, Yields};
+ghost use Rattle.am_world.specs.declared.acts.ActKind.TheVariants as act_kind;
+ghost use Rattle.am_world.specs.Acts.{act_kind_of, next_act_of, row_for, as_made, as_removed, is_no_memory, IsNext, IsLean};
 
-use crate::halves::Halves;
+use crate::machine::Machine;
 use am_daemon::Daemon;
 use am_job::{Act, Outcome};
 use am_machine::Answer;
@@ -19,7 +18,7 @@ use std::alloc::Global;
 
 /// An act without what it mounts.
 #[derive(Clone, Copy)]
-pub enum Deed {
+pub enum ActKind {
     Mkdir {
         trigger: Trigger,
     },
@@ -43,39 +42,39 @@ pub enum Deed {
 
 /// The next act of a job, and the attachment that it carries.
 #[derive(Clone, Copy)]
-pub struct Turn {
+pub struct NextAct {
     pub job: JobId,
     pub attach: Attach,
-    pub deed: Deed,
+    pub act_kind: ActKind,
 }
 
 /// The act without what it mounts.
-fn deed_of(act: &Act) -> Deed
-    ensures { result ≡ deed_of act.now }
+fn act_kind_of(act: &Act) -> ActKind
+    ensures { result ≡ act_kind_of act.now }
 {
     match act {
-        Act::Mkdir { trigger } => Deed::Mkdir { trigger: *trigger },
-        Act::Mount { trigger, .. } => Deed::Mount { trigger: *trigger },
-        Act::Umount { trigger } => Deed::Umount { trigger: *trigger },
-        Act::Rmdir { trigger } => Deed::Rmdir { trigger: *trigger },
-        Act::Record { trigger, entry } => Deed::Record {
+        Act::Mkdir { trigger } => ActKind::Mkdir { trigger: *trigger },
+        Act::Mount { trigger, .. } => ActKind::Mount { trigger: *trigger },
+        Act::Umount { trigger } => ActKind::Umount { trigger: *trigger },
+        Act::Rmdir { trigger } => ActKind::Rmdir { trigger: *trigger },
+        Act::Record { trigger, entry } => ActKind::Record {
             trigger: *trigger,
             entry: *entry,
         },
-        Act::Reply { status } => Deed::Reply { status: *status },
+        Act::Reply { status } => ActKind::Reply { status: *status },
     }
 }
 
 /// What comes next of a job.
-fn turn_of(daemon: &Daemon, job: JobId) -> Option<Turn>
-    ensures { result ≡ turn_of job (daemon_of daemon.now) }
+fn next_act_of(daemon: &Daemon, job: JobId) -> Option<NextAct>
+    ensures { result ≡ next_act_of job (daemon_of daemon.now) }
 {
     let row = daemon.job(job)?;
     let act = row.next()?;
-    Some(Turn {
+    Some(NextAct {
         job,
         attach: row.attach(),
-        deed: deed_of(act),
+        act_kind: act_kind_of(act),
     })
 }
 
@@ -115,18 +114,18 @@ fn is_no_memory(errno: Errno) -> bool
     matches!(errno, Errno::NoMemory)
 }
 
-impl Halves {
+impl Machine {
     /// The job makes its directory.
-    fn make_directory(&mut self, turn: &Turn, trigger: &Trigger) -> Result<Answer, Errno>
-        requires { IsNext turn.now (deed.Mkdir trigger.now) (daemon_of self.old.daemon) }
-        ensures { Goes (mkdir_by (mkdir_refusal self.old.kernel turn.now.attach trigger.now)
-            (whole_state self.old) (row_for (daemon_of self.old.daemon) turn.now.job) trigger.now)
+    fn make_directory(&mut self, coming: &NextAct, trigger: &Trigger) -> Result<Answer, Errno>
+        requires { IsNext coming.now (act_kind.Mkdir trigger.now) (daemon_of self.old.daemon) }
+        ensures { Yields (mkdir_by (mkdir_refusal self.old.kernel coming.now.attach trigger.now)
+            (whole_state self.old) (row_for (daemon_of self.old.daemon) coming.now.job) trigger.now)
             (whole_state self.old) result (whole_state self.new) }
     {
-        let came = as_made(self.kernel.mkdir(turn.attach, *trigger));
+        let came = as_made(self.kernel.mkdir(coming.attach, *trigger));
         match came {
             Ok(()) => {
-                finish(&mut self.daemon, turn.job, Outcome::Done);
+                finish(&mut self.daemon, coming.job, Outcome::Done);
                 Ok(Answer::DidMkdir)
             }
             Err(errno) => Err(errno),
@@ -137,35 +136,39 @@ impl Halves {
     fn mount_on(
         &mut self,
         alloc: Global,
-        turn: &Turn,
+        coming: &NextAct,
         trigger: &Trigger,
         failure: Option<FailNo>,
     ) -> Result<Answer, Errno>
-        requires { IsNext turn.now (deed.Mount trigger.now) (daemon_of self.old.daemon) }
-        ensures { Goes (mount_act (whole_state self.old)
-            (row_for (daemon_of self.old.daemon) turn.now.job) trigger.now failure)
+        requires { IsNext coming.now (act_kind.Mount trigger.now) (daemon_of self.old.daemon) }
+        ensures { Yields (mount_act (whole_state self.old)
+            (row_for (daemon_of self.old.daemon) coming.now.job) trigger.now failure)
             (whole_state self.old) result (whole_state self.new) }
     {
-        if !self.kernel.is_current(trigger.fs, turn.attach) {
+        if !self.kernel.is_current(trigger.fs, coming.attach) {
             return Err(Errno::EPERM);
         }
         if let Some(no) = failure {
-            finish(&mut self.daemon, turn.job, Outcome::Failed(no));
+            finish(&mut self.daemon, coming.job, Outcome::Failed(no));
             return Ok(Answer::FailedMount);
         }
         match self
             .kernel
-            .mount_on(alloc, turn.attach, trigger, &mut self.trace)
+            .mount_on(alloc, coming.attach, trigger, &mut self.trace)
         {
             Ok(mount) => {
-                finish(&mut self.daemon, turn.job, Outcome::Made { mount });
+                finish(&mut self.daemon, coming.job, Outcome::Made { mount });
                 Ok(Answer::DidMount { mount })
             }
             Err(errno) => {
                 if is_no_memory(errno) {
                     return Err(errno);
                 }
-                finish(&mut self.daemon, turn.job, Outcome::Failed(FailNo::ENOENT));
+                finish(
+                    &mut self.daemon,
+                    coming.job,
+                    Outcome::Failed(FailNo::ENOENT),
+                );
                 Ok(Answer::FailedMount)
             }
         }
@@ -175,35 +178,39 @@ impl Halves {
     fn umount_from(
         &mut self,
         alloc: Global,
-        turn: &Turn,
+        coming: &NextAct,
         trigger: &Trigger,
         failure: Option<FailNo>,
     ) -> Result<Answer, Errno>
-        requires { IsNext turn.now (deed.Umount trigger.now) (daemon_of self.old.daemon) }
-        ensures { Goes (umount_act (whole_state self.old)
-            (row_for (daemon_of self.old.daemon) turn.now.job) trigger.now failure)
+        requires { IsNext coming.now (act_kind.Umount trigger.now) (daemon_of self.old.daemon) }
+        ensures { Yields (umount_act (whole_state self.old)
+            (row_for (daemon_of self.old.daemon) coming.now.job) trigger.now failure)
             (whole_state self.old) result (whole_state self.new) }
     {
-        if !self.kernel.is_current(trigger.fs, turn.attach) {
+        if !self.kernel.is_current(trigger.fs, coming.attach) {
             return Err(Errno::EPERM);
         }
         if let Some(no) = failure {
-            finish(&mut self.daemon, turn.job, Outcome::Failed(no));
+            finish(&mut self.daemon, coming.job, Outcome::Failed(no));
             return Ok(Answer::FailedUmount);
         }
         match self
             .kernel
-            .umount_from(alloc, turn.attach, trigger, &mut self.trace)
+            .umount_from(alloc, coming.attach, trigger, &mut self.trace)
         {
             Ok(_gone) => {
-                finish(&mut self.daemon, turn.job, Outcome::Done);
+                finish(&mut self.daemon, coming.job, Outcome::Done);
                 Ok(Answer::DidUmount)
             }
             Err(errno) => {
                 if is_no_memory(errno) {
                     return Err(errno);
                 }
-                finish(&mut self.daemon, turn.job, Outcome::Failed(FailNo::ENOENT));
+                finish(
+                    &mut self.daemon,
+                    coming.job,
+                    Outcome::Failed(FailNo::ENOENT),
+                );
                 Ok(Answer::FailedUmount)
             }
         }
@@ -213,18 +220,18 @@ impl Halves {
     fn remove_directory(
         &mut self,
         alloc: Global,
-        turn: &Turn,
+        coming: &NextAct,
         trigger: &Trigger,
     ) -> Result<Answer, Errno>
-        requires { IsNext turn.now (deed.Rmdir trigger.now) (daemon_of self.old.daemon) }
-        ensures { Goes (rmdir_by (rmdir_refusal self.old.kernel turn.now.attach trigger.now)
-            (whole_state self.old) (row_for (daemon_of self.old.daemon) turn.now.job) trigger.now)
+        requires { IsNext coming.now (act_kind.Rmdir trigger.now) (daemon_of self.old.daemon) }
+        ensures { Yields (rmdir_by (rmdir_refusal self.old.kernel coming.now.attach trigger.now)
+            (whole_state self.old) (row_for (daemon_of self.old.daemon) coming.now.job) trigger.now)
             (whole_state self.old) result (whole_state self.new) }
     {
-        let came = as_removed(self.kernel.rmdir(alloc, turn.attach, trigger));
+        let came = as_removed(self.kernel.rmdir(alloc, coming.attach, trigger));
         match came {
             Ok(()) => {
-                finish(&mut self.daemon, turn.job, Outcome::Done);
+                finish(&mut self.daemon, coming.job, Outcome::Done);
                 Ok(Answer::DidRmdir)
             }
             Err(errno) => Err(errno),
@@ -235,37 +242,38 @@ impl Halves {
     fn write_down(
         &mut self,
         alloc: Global,
-        turn: &Turn,
+        coming: &NextAct,
         trigger: &Trigger,
         entry: Option<Record>,
     ) -> Result<Answer, Errno>
-        requires { IsNext turn.now (deed.Record trigger.now entry) (daemon_of self.old.daemon) }
-        ensures { Goes (record_act (whole_state self.old)
-            (row_for (daemon_of self.old.daemon) turn.now.job) trigger.now entry)
+        requires { IsNext coming.now (act_kind.Record trigger.now entry)
+            (daemon_of self.old.daemon) }
+        ensures { Yields (record_act (whole_state self.old)
+            (row_for (daemon_of self.old.daemon) coming.now.job) trigger.now entry)
             (whole_state self.old) result (whole_state self.new) }
     {
         let trigger = KeptTrigger::new(alloc, trigger)?;
         self.trace.reserve(1)?;
-        self.daemon.finish_act(turn.job, Outcome::Done)?;
+        self.daemon.finish_act(coming.job, Outcome::Done)?;
         self.trace.push_reserved(Obs::Recorded { trigger, entry });
         Ok(Answer::DidRecord)
     }
 
     /// The job acknowledges its packet, and ends.
-    fn reply(&mut self, alloc: Global, turn: &Turn, status: Status) -> Result<Answer, Errno>
-        requires { IsNext turn.now (deed.Reply status) (daemon_of self.old.daemon) }
-        ensures { Goes (reply_by (answer_refusal self.old.kernel turn.now.attach turn.now.job)
-            (whole_state self.old) (row_for (daemon_of self.old.daemon) turn.now.job) status)
+    fn reply(&mut self, alloc: Global, coming: &NextAct, status: Status) -> Result<Answer, Errno>
+        requires { IsNext coming.now (act_kind.Reply status) (daemon_of self.old.daemon) }
+        ensures { Yields (reply_by (answer_refusal self.old.kernel coming.now.attach coming.now.job)
+            (whole_state self.old) (row_for (daemon_of self.old.daemon) coming.now.job) status)
             (whole_state self.old) result (whole_state self.new) }
     {
-        let job = turn.job;
+        let job = coming.job;
         let token = Token(job.0);
         let mut shown = self.kernel.answering_seen(alloc, token, status)?;
         self.trace.reserve(shown.len())?;
-        self.kernel.answer(turn.attach, token, status)?;
+        self.kernel.answer(coming.attach, token, status)?;
         // There is room for it.
         self.trace.append(&mut shown)?;
-        finish(&mut self.daemon, turn.job, Outcome::Done);
+        finish(&mut self.daemon, coming.job, Outcome::Done);
         Ok(Answer::DidReply)
     }
 
@@ -277,19 +285,19 @@ impl Halves {
         job: JobId,
         failure: Option<FailNo>,
     ) -> Result<Answer, Errno>
-        ensures { Goes (act_outcome (whole_state self.old) job failure)
+        ensures { Yields (act_outcome (whole_state self.old) job failure)
             (whole_state self.old) result (whole_state self.new) }
     {
-        let Some(turn) = turn_of(&self.daemon, job) else {
+        let Some(coming) = next_act_of(&self.daemon, job) else {
             return Err(Errno::EINVAL);
         };
-        match &turn.deed {
-            Deed::Mkdir { trigger } => self.make_directory(&turn, trigger),
-            Deed::Mount { trigger } => self.mount_on(alloc, &turn, trigger, failure),
-            Deed::Umount { trigger } => self.umount_from(alloc, &turn, trigger, failure),
-            Deed::Rmdir { trigger } => self.remove_directory(alloc, &turn, trigger),
-            Deed::Record { trigger, entry } => self.write_down(alloc, &turn, trigger, *entry),
-            Deed::Reply { status } => self.reply(alloc, &turn, *status),
+        match &coming.act_kind {
+            ActKind::Mkdir { trigger } => self.make_directory(&coming, trigger),
+            ActKind::Mount { trigger } => self.mount_on(alloc, &coming, trigger, failure),
+            ActKind::Umount { trigger } => self.umount_from(alloc, &coming, trigger, failure),
+            ActKind::Rmdir { trigger } => self.remove_directory(alloc, &coming, trigger),
+            ActKind::Record { trigger, entry } => self.write_down(alloc, &coming, trigger, *entry),
+            ActKind::Reply { status } => self.reply(alloc, &coming, *status),
         }
     }
 }

@@ -1,19 +1,19 @@
 //! What the administrator does.
 
-ghost use Rattle.am_machine.specs.Events.Administration.{attach_outcome, mount_outcome, bind_outcome, umount_outcome, change_outcome, kind_outcome, copy_outcome, drop_outcome};
-ghost use Rattle.am_world.specs.Halves.{whole_state, Goes};
+ghost use Rattle.am_machine.specs.{attach_outcome, mount_outcome, bind_outcome, umount_outcome, change_outcome, kind_outcome, copy_outcome, drop_outcome};
+ghost use Rattle.am_world.specs.Machine.{whole_state, Yields};
 
-use crate::halves::Halves;
+use crate::machine::Machine;
 use am_group::Change;
 use am_machine::Answer;
-use am_names::{Errno, Mounts, NsId, Place};
+use am_names::{Errno, MountIds, NsId, Place};
 use am_propagate::CopyForm;
 use std::alloc::Global;
 
-impl Halves {
+impl Machine {
     /// An autofs is mounted at a point of the master, and the daemon attaches to it.
     pub fn attach(&mut self, alloc: Global, path: &Place) -> Result<Answer, Errno>
-        ensures { Goes (attach_outcome (whole_state self.old) path.now)
+        ensures { Yields (attach_outcome (whole_state self.old) path.now)
             (whole_state self.old) result (whole_state self.new) }
     {
         let Some(point) = self.daemon.point(path) else {
@@ -42,7 +42,7 @@ impl Halves {
 
     /// A new plain file system is mounted.
     pub fn mount(&mut self, alloc: Global, ns: NsId, path: &Place) -> Result<Answer, Errno>
-        ensures { Goes (mount_outcome (whole_state self.old) ns path.now)
+        ensures { Yields (mount_outcome (whole_state self.old) ns path.now)
             (whole_state self.old) result (whole_state self.new) }
     {
         let mount = self
@@ -59,7 +59,7 @@ impl Halves {
         from: &Place,
         to: &Place,
     ) -> Result<Answer, Errno>
-        ensures { Goes (bind_outcome (whole_state self.old) ns from.now to.now)
+        ensures { Yields (bind_outcome (whole_state self.old) ns from.now to.now)
             (whole_state self.old) result (whole_state self.new) }
     {
         let mount = self
@@ -70,14 +70,14 @@ impl Halves {
 
     /// A mount goes, and what was mounted with it.
     pub fn umount(&mut self, alloc: Global, ns: NsId, path: &Place) -> Result<Answer, Errno>
-        ensures { Goes (umount_outcome (whole_state self.old) ns path.now)
+        ensures { Yields (umount_outcome (whole_state self.old) ns path.now)
             (whole_state self.old) result (whole_state self.new) }
     {
         let gone = self
             .kernel
             .umount_plain(alloc, ns, &path.path(), &mut self.trace)?;
         Ok(Answer::Gone {
-            mounts: Mounts::of(gone),
+            mounts: MountIds::of(gone),
         })
     }
 
@@ -89,7 +89,7 @@ impl Halves {
         path: &Place,
         change: Change,
     ) -> Result<Answer, Errno>
-        ensures { Goes (change_outcome (whole_state self.old) ns path.now change)
+        ensures { Yields (change_outcome (whole_state self.old) ns path.now change)
             (whole_state self.old) result (whole_state self.new) }
     {
         self.kernel.change(alloc, ns, &path.path(), change)?;
@@ -98,7 +98,7 @@ impl Halves {
 
     /// How a mount takes part in propagation.
     pub fn kind(&self, alloc: Global, ns: NsId, path: &Place) -> Result<Answer, Errno>
-        ensures { Goes (kind_outcome (whole_state self.now) ns path.now)
+        ensures { Yields (kind_outcome (whole_state self.now) ns path.now)
             (whole_state self.now) result (whole_state self.now) }
     {
         let kind = self.kernel.kind(alloc, ns, &path.path())?;
@@ -112,7 +112,7 @@ impl Halves {
         ns: NsId,
         form: CopyForm,
     ) -> Result<Answer, Errno>
-        ensures { Goes (copy_outcome (whole_state self.old) ns form)
+        ensures { Yields (copy_outcome (whole_state self.old) ns form)
             (whole_state self.old) result (whole_state self.new) }
     {
         let ns = self.kernel.ns_copy(alloc, ns, form, &mut self.trace)?;
@@ -121,12 +121,12 @@ impl Halves {
 
     /// A namespace is dropped.
     pub fn drop_namespace(&mut self, alloc: Global, ns: NsId) -> Result<Answer, Errno>
-        ensures { Goes (drop_outcome (whole_state self.old) ns)
+        ensures { Yields (drop_outcome (whole_state self.old) ns)
             (whole_state self.old) result (whole_state self.new) }
     {
         let gone = self.kernel.ns_drop(alloc, ns, &mut self.trace)?;
         Ok(Answer::Gone {
-            mounts: Mounts::of(gone),
+            mounts: MountIds::of(gone),
         })
     }
 }

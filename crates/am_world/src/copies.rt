@@ -1,14 +1,13 @@
 //! An answer twice: what owns memory is made before the event.
 
 ghost use Rattle.std.specs.Prelude.{◌≡◌, IfOk};
-ghost use Rattle.am_machine.specs.Machine.{outcome_of};
-ghost use Rattle.am_machine.specs.Events.Administration.{umount_outcome, drop_outcome};
-ghost use Rattle.am_world.specs.Halves.{whole_state};
-ghost use Rattle.am_world.specs.Copies.{IsSpare, arrival_told};
+ghost use Rattle.am_machine.specs.{outcome_of, umount_outcome, drop_outcome};
+ghost use Rattle.am_world.specs.Machine.{whole_state};
+ghost use Rattle.am_world.specs.Copies.{IsMadeAhead, arrival_told};
 
-use crate::halves::Halves;
+use crate::machine::Machine;
 use am_machine::{Answer, Event};
-use am_names::{Errno, Mounts, NsId, Place, Position};
+use am_names::{Errno, MountIds, NsId, Place, Position};
 use std::alloc::{AllocError, Global};
 
 /// The answer of a walk that arrives there.
@@ -19,8 +18,8 @@ fn arrival_told(at: Option<Position>) -> Option<Answer>
 }
 
 /// The same answer once more. One that owns memory was made before.
-pub fn again(answer: &Answer, spare: Option<Answer>) -> Answer
-    requires { IsSpare spare answer.now }
+pub fn second_copy(answer: &Answer, made_ahead: Option<Answer>) -> Answer
+    requires { IsMadeAhead made_ahead answer.now }
     ensures { result ≡ answer.now }
 {
     match answer {
@@ -48,15 +47,15 @@ pub fn again(answer: &Answer, spare: Option<Answer>) -> Answer
         Answer::Record { entry } => Answer::Record { entry: *entry },
         Answer::Refused { errno } => Answer::Refused { errno: *errno },
         Answer::Failed { errno } => Answer::Failed { errno: *errno },
-        Answer::At { .. } | Answer::Gone { .. } => match spare {
-            Some(spare) => spare,
+        Answer::At { .. } | Answer::Gone { .. } => match made_ahead {
+            Some(made_ahead) => made_ahead,
             // It was made.
             None => Answer::Done,
         },
     }
 }
 
-impl Halves {
+impl Machine {
     /// The answer to an unmount, if the path leads somewhere.
     fn umount_told(
         &self,
@@ -65,11 +64,12 @@ impl Halves {
         path: &Place,
     ) -> Result<Option<Answer>, AllocError>
         ensures { IfOk result
-            (λ spare. IsSpare spare (umount_outcome (whole_state self.now) ns path.now).answer) }
+            (λ made_ahead. IsMadeAhead made_ahead
+            (umount_outcome (whole_state self.now) ns path.now).answer) }
     {
         match self.kernel.umount_takes(alloc, ns, &path.path()) {
             Ok(gone) => Ok(Some(Answer::Gone {
-                mounts: Mounts::of(gone),
+                mounts: MountIds::of(gone),
             })),
             Err(Errno::NoMemory) => Err(AllocError),
             Err(_) => Ok(None),
@@ -79,20 +79,21 @@ impl Halves {
     /// The answer to the drop of a namespace.
     fn drop_told(&self, alloc: Global, ns: NsId) -> Result<Option<Answer>, AllocError>
         ensures { IfOk result
-            (λ spare. IsSpare spare (drop_outcome (whole_state self.now) ns).answer) }
+            (λ made_ahead. IsMadeAhead made_ahead (drop_outcome (whole_state self.now) ns).answer) }
     {
         match self.kernel.drop_takes(alloc, ns) {
             Ok(gone) => Ok(Some(Answer::Gone {
-                mounts: Mounts::of(gone),
+                mounts: MountIds::of(gone),
             })),
             Err(_) => Err(AllocError),
         }
     }
 
     /// The answer to an event, where it owns memory.
-    pub fn spare(&self, alloc: Global, event: &Event) -> Result<Option<Answer>, AllocError>
+    pub fn made_ahead(&self, alloc: Global, event: &Event) -> Result<Option<Answer>, AllocError>
         ensures { IfOk result
-            (λ spare. IsSpare spare (outcome_of (whole_state self.now) event.now).answer) }
+            (λ made_ahead. IsMadeAhead made_ahead
+            (outcome_of (whole_state self.now) event.now).answer) }
     {
         match event {
             Event::Umount { ns, path } => self.umount_told(alloc, *ns, path),

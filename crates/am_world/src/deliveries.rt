@@ -2,10 +2,10 @@
 
 ghost use Rattle.std.specs.Prelude.{◌≡◌, ◌≤◌, ◌+◌, ◌∷◌, ◌++◌, Some, None, IfOk, vec_len, vec_capacity};
 ghost use Rattle.am_state.specs.declared.obs.Obs.TheVariants.{Delivered};
-ghost use Rattle.am_machine.specs.Events.Deliveries.{has_bytes, packet_bytes, deliver_outcome, delivered_at};
-ghost use Rattle.am_world.specs.Halves.{whole_state, written, Goes};
+ghost use Rattle.am_machine.specs.{has_bytes, packet_bytes, deliver_outcome, delivered_at};
+ghost use Rattle.am_world.specs.Machine.{whole_state, written, Yields};
 
-use crate::halves::Halves;
+use crate::machine::Machine;
 use am_daemon::DaemonFault;
 use am_daemon::acts::Writing;
 use am_machine::Answer;
@@ -72,10 +72,10 @@ fn tell(trace: &mut Vec<Obs>, seen: Vec<Obs>)
     }
 }
 
-impl Halves {
+impl Machine {
     /// The daemon takes up a queued packet.
     fn take(&mut self, alloc: Global, row: &QueuedRow) -> Result<Answer, Errno>
-        ensures { Goes (delivered_at (Some row.now) (whole_state self.old) None)
+        ensures { Yields (delivered_at (Some row.now) (whole_state self.old) None)
             (whole_state self.old) result (whole_state self.new) }
     {
         let writing = self.daemon.recording(&row.packet);
@@ -99,7 +99,7 @@ impl Halves {
         token: Token,
         bytes: &Option<[u8; 304]>,
     ) -> Result<Answer, Errno>
-        ensures { Goes (deliver_outcome (whole_state self.old) token bytes.now)
+        ensures { Yields (deliver_outcome (whole_state self.old) token bytes.now)
             (whole_state self.old) result (whole_state self.new) }
     {
         let Some(row) = self.kernel.queued(token) else {

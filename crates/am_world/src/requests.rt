@@ -2,17 +2,16 @@
 //! begin.
 
 ghost use Rattle.std.specs.Prelude.{◌≡◌, Some};
-ghost use Rattle.am_machine.specs.Outcome.{refused};
-ghost use Rattle.am_machine.specs.Events.Requests.{repeat_outcome, catatonic_outcome, admin_catatonic_outcome, timeout_outcome, die_outcome, reattach_outcome, record_outcome};
-ghost use Rattle.am_world.specs.Halves.{whole_state, Goes};
+ghost use Rattle.am_machine.specs.{refused, repeat_outcome, catatonic_outcome, admin_catatonic_outcome, timeout_outcome, die_outcome, reattach_outcome, record_outcome};
+ghost use Rattle.am_world.specs.Machine.{whole_state, Yields};
 
-use crate::halves::Halves;
+use crate::machine::Machine;
 use am_machine::Answer;
 use am_names::{Attach, Errno, FsId, Token, Trigger};
 use am_state::Obs;
 use std::alloc::Global;
 
-impl Halves {
+impl Machine {
     /// Why a reply that no job makes isn't taken.
     pub fn repeat(&self, attach: Attach, token: Token) -> Errno
         ensures { repeat_outcome (whole_state self.now) attach token ≡
@@ -29,7 +28,7 @@ impl Halves {
 
     /// The daemon ends an attachment.
     pub fn catatonic(&mut self, alloc: Global, attach: Attach, fs: FsId) -> Result<Answer, Errno>
-        ensures { Goes (catatonic_outcome (whole_state self.old) attach fs)
+        ensures { Yields (catatonic_outcome (whole_state self.old) attach fs)
             (whole_state self.old) result (whole_state self.new) }
     {
         if !self.kernel.is_current(fs, attach) {
@@ -43,7 +42,7 @@ impl Halves {
 
     /// The administrator ends the attachment of an autofs.
     pub fn admin_catatonic(&mut self, alloc: Global, fs: FsId) -> Result<Answer, Errno>
-        ensures { Goes (admin_catatonic_outcome (whole_state self.old) fs)
+        ensures { Yields (admin_catatonic_outcome (whole_state self.old) fs)
             (whole_state self.old) result (whole_state self.new) }
     {
         // Nothing is to be seen of what is no autofs.
@@ -55,7 +54,7 @@ impl Halves {
 
     /// The daemon sets the timeout of an autofs.
     pub fn set_timeout(&mut self, attach: Attach, fs: FsId, timeout: u32) -> Result<Answer, Errno>
-        ensures { Goes (timeout_outcome (whole_state self.old) attach fs timeout)
+        ensures { Yields (timeout_outcome (whole_state self.old) attach fs timeout)
             (whole_state self.old) result (whole_state self.new) }
     {
         self.kernel.set_timeout(attach, fs, timeout)?;
@@ -64,7 +63,7 @@ impl Halves {
 
     /// The daemon dies.
     pub fn die(&mut self) -> Result<Answer, Errno>
-        ensures { Goes (die_outcome (whole_state self.old))
+        ensures { Yields (die_outcome (whole_state self.old))
             (whole_state self.old) result (whole_state self.new) }
     {
         self.trace.reserve(1)?;
@@ -75,7 +74,7 @@ impl Halves {
 
     /// The daemon attaches again to a catatonic autofs.
     pub fn reattach(&mut self, alloc: Global, fs: FsId) -> Result<Answer, Errno>
-        ensures { Goes (reattach_outcome (whole_state self.old) fs)
+        ensures { Yields (reattach_outcome (whole_state self.old) fs)
             (whole_state self.old) result (whole_state self.new) }
     {
         if let Some(errno) = self.kernel.pipe_refusal(fs) {
@@ -93,7 +92,7 @@ impl Halves {
 
     /// The daemon's book is read.
     pub fn read_book(&self, trigger: &Trigger) -> Result<Answer, Errno>
-        ensures { Goes (record_outcome (whole_state self.now) trigger.now)
+        ensures { Yields (record_outcome (whole_state self.now) trigger.now)
             (whole_state self.now) result (whole_state self.now) }
     {
         if !self.kernel.is_trigger(trigger) {

@@ -2,14 +2,13 @@
 
 ghost use Rattle.std.specs.Prelude.{◌≡◌, IfOk};
 ghost use Rattle.std.specs.Option.{option_map, option_copied};
-ghost use Rattle.am_daemon.specs.State.{job_plan, rows_of};
-ghost use Rattle.am_daemon.specs.Deliveries.{job_of};
-ghost use Rattle.am_expire.specs.Uses.{mount_of};
-ghost use Rattle.am_group.specs.Propagation.{member_row, master_of_group};
-ghost use Rattle.am_job.specs.Book.{record_of};
-ghost use Rattle.am_mount.specs.Rows.{mount_row};
-ghost use Rattle.am_trigger.specs.Rows.{autofs_of};
-ghost use Rattle.am_wait.specs.Rows.{token_of, tokens_of, wait_of, waiters_of};
+ghost use Rattle.am_daemon.specs.{job_plan, rows_of, job_of};
+ghost use Rattle.am_expire.specs.{mount_of_walker};
+ghost use Rattle.am_group.specs.{member_row, master_of_group};
+ghost use Rattle.am_job.specs.{record_of};
+ghost use Rattle.am_mount.specs.{mount_row};
+ghost use Rattle.am_trigger.specs.{autofs_of};
+ghost use Rattle.am_wait.specs.{token_of, tokens_of, wait_of, waiters_of};
 
 use crate::world::World;
 use am_expire::Uses;
@@ -27,56 +26,60 @@ impl World {
     pub fn mounts(&self) -> &[MountRow]
         ensures { result.now ≡ self.now.kernel.table.rows }
     {
-        self.halves.kernel.subtree().tree().rows()
+        self.machine.kernel.subtree().tree().rows()
     }
 
     /// The row of a mount, if it is there.
     pub fn mount_row(&self, mount: MountId) -> Option<&MountRow>
         ensures { option_copied result ≡ mount_row self.now.kernel.table.rows mount }
     {
-        self.halves.kernel.subtree().tree().row(mount)
+        self.machine.kernel.subtree().tree().row(mount)
     }
 
     /// How a mount takes part in propagation.
     pub fn member(&self, mount: MountId) -> Option<MemberRow>
         ensures { result ≡ member_row self.now.kernel.table.groups.members mount }
     {
-        self.halves.kernel.subtree().groups().member(mount)
+        self.machine.kernel.subtree().groups().member(mount)
     }
 
     /// How all mounts take part in propagation, in rising order of number.
     pub fn members(&self) -> &[MemberRow]
         ensures { result.now ≡ self.now.kernel.table.groups.members }
     {
-        self.halves.kernel.subtree().groups().members()
+        self.machine.kernel.subtree().groups().members()
     }
 
     /// The master of a peer group.
     pub fn master_of_group(&self, group: GroupId) -> Option<GroupId>
         ensures { result ≡ master_of_group self.now.kernel.table.groups group }
     {
-        self.halves.kernel.subtree().groups().master_of_group(group)
+        self.machine
+            .kernel
+            .subtree()
+            .groups()
+            .master_of_group(group)
     }
 
     /// The autofs of this number.
     pub fn autofs(&self, fs: FsId) -> Option<Autofs>
         ensures { result ≡ autofs_of self.now.kernel.triggers fs }
     {
-        self.halves.kernel.triggers().autofs(fs)
+        self.machine.kernel.triggers().autofs(fs)
     }
 
     /// The timeout and the latest attachment of each autofs, in order of attaching.
     pub fn attached(&self) -> &[Attached]
         ensures { result.now ≡ self.now.kernel.attached }
     {
-        self.halves.kernel.attached()
+        self.machine.kernel.attached()
     }
 
     /// The open tokens of a file system, in rising order.
     pub fn tokens_of(&self, alloc: Global, fs: FsId) -> Result<Vec<Token>, AllocError>
         ensures { IfOk result (λ v. v.items ≡ tokens_of self.now.kernel.waits.tokens fs) }
     {
-        self.halves.kernel.waits().tokens_of(alloc, fs)
+        self.machine.kernel.waits().tokens_of(alloc, fs)
     }
 
     /// The trigger of a token; none if it isn't open.
@@ -84,70 +87,70 @@ impl World {
         ensures { result ≡
             option_map (λ row. row.trigger) (token_of self.now.kernel.waits.tokens token) }
     {
-        self.halves.kernel.waits().trigger_of(token)
+        self.machine.kernel.waits().trigger_of(token)
     }
 
     /// The waiters of a token, in the order in which they joined; none if it isn't open.
     pub fn waiters_of(&self, alloc: Global, token: Token) -> Result<Vec<WalkerId>, AllocError>
         ensures { IfOk result (λ v. v.items ≡ waiters_of self.now.kernel.waits.tokens token) }
     {
-        self.halves.kernel.waits().waiters_of(alloc, token)
+        self.machine.kernel.waits().waiters_of(alloc, token)
     }
 
     /// The wait of a walker, with what it waits for and the status with which it was released.
     pub fn wait_of(&self, walker: WalkerId) -> Option<WaitRow>
         ensures { result ≡ wait_of self.now.kernel.waits.waits walker }
     {
-        self.halves.kernel.waits().wait_of(walker)
+        self.machine.kernel.waits().wait_of(walker)
     }
 
     /// The walk that each waiting walker began, in order of waiting.
     pub fn walks(&self) -> &[WalkRow]
         ensures { result.now ≡ self.now.kernel.walks }
     {
-        self.halves.kernel.walks()
+        self.machine.kernel.walks()
     }
 
     /// The walkers that are inside mounts, in order of entering.
     pub fn uses(&self) -> &Uses
         ensures { result.now ≡ self.now.kernel.uses }
     {
-        self.halves.kernel.uses()
+        self.machine.kernel.uses()
     }
 
     /// The mount that a walker is inside of.
-    pub fn mount_of(&self, walker: WalkerId) -> Option<MountId>
-        ensures { result ≡ mount_of self.now.kernel.uses walker }
+    pub fn mount_of_walker(&self, walker: WalkerId) -> Option<MountId>
+        ensures { result ≡ mount_of_walker self.now.kernel.uses walker }
     {
-        self.halves.kernel.uses().mount_of(walker)
+        self.machine.kernel.uses().mount_of_walker(walker)
     }
 
     /// The packets in the pipes, in order.
     pub fn packets(&self) -> &[QueuedRow]
         ensures { result.now ≡ self.now.kernel.queue }
     {
-        self.halves.kernel.packets()
+        self.machine.kernel.packets()
     }
 
     /// The daemon's book, in order of making.
     pub fn book(&self) -> &Book
         ensures { result.now.rows ≡ self.now.daemon.book }
     {
-        self.halves.daemon.book()
+        self.machine.daemon.book()
     }
 
     /// The daemon's jobs that have not ended, in order of delivery.
     pub fn jobs(&self) -> &[Job]
         ensures { result.now ≡ self.now.daemon.jobs }
     {
-        self.halves.daemon.jobs()
+        self.machine.daemon.jobs()
     }
 
     /// What the daemon's book says of a trigger.
     pub fn record(&self, trigger: &Trigger) -> Option<Record>
         ensures { result ≡ record_of self.now.daemon.book trigger.now }
     {
-        self.halves.daemon.record(trigger)
+        self.machine.daemon.record(trigger)
     }
 
     /// A job that has not ended.
@@ -155,6 +158,6 @@ impl World {
         ensures { option_map job_plan (option_copied result) ≡
             job_of (rows_of self.now.daemon).jobs job }
     {
-        self.halves.daemon.job(job)
+        self.machine.daemon.job(job)
     }
 }

@@ -1,28 +1,28 @@
 //! What walkers do.
 
 ghost use Rattle.std.specs.Prelude.{◌≡◌};
-ghost use Rattle.am_machine.specs.Events.Walkers.{answer_of, walk_outcome, resume_outcome, expire_outcome, leave_outcome};
-ghost use Rattle.am_world.specs.Halves.{whole_state, Goes};
+ghost use Rattle.am_machine.specs.{answer_of, walk_outcome, resume_outcome, expire_outcome, leave_outcome};
+ghost use Rattle.am_world.specs.Machine.{whole_state, Yields};
 
-use crate::halves::Halves;
-use am_kernel::Begun;
+use crate::machine::Machine;
+use am_kernel::Progress;
 use am_machine::Answer;
 use am_names::{Errno, FsId, NsId, PipeState, Place, Seconds, WalkerId};
 use std::alloc::Global;
 
 /// The answer to a walk that goes on so.
-fn answer_of(begun: Begun) -> Answer
-    ensures { result ≡ answer_of begun }
+fn answer_of(progress: Progress) -> Answer
+    ensures { result ≡ answer_of progress }
 {
-    match begun {
-        Begun::Arrived(position) => Answer::At { position },
-        Begun::Waits(token) => Answer::Wait { token },
-        Begun::Failed(errno) => Answer::Failed { errno },
-        Begun::Expired => Answer::Expired,
+    match progress {
+        Progress::Arrived(position) => Answer::At { position },
+        Progress::Waits(token) => Answer::Wait { token },
+        Progress::Failed(errno) => Answer::Failed { errno },
+        Progress::Expired => Answer::Expired,
     }
 }
 
-impl Halves {
+impl Machine {
     /// A walker begins a walk.
     pub fn walk(
         &mut self,
@@ -33,7 +33,7 @@ impl Halves {
         now: Seconds,
         pipe: PipeState,
     ) -> Result<Answer, Errno>
-        ensures { Goes (walk_outcome (whole_state self.old) walker ns path.now now pipe)
+        ensures { Yields (walk_outcome (whole_state self.old) walker ns path.now now pipe)
             (whole_state self.old) result (whole_state self.new) }
     {
         let path = path.path();
@@ -41,7 +41,7 @@ impl Halves {
             .kernel
             .walk(alloc, walker, ns, &path, now, pipe, &mut self.trace);
         match came {
-            Ok(begun) => Ok(answer_of(begun)),
+            Ok(progress) => Ok(answer_of(progress)),
             Err(errno) => Err(errno),
         }
     }
@@ -54,13 +54,13 @@ impl Halves {
         now: Seconds,
         pipe: PipeState,
     ) -> Result<Answer, Errno>
-        ensures { Goes (resume_outcome (whole_state self.old) walker now pipe)
+        ensures { Yields (resume_outcome (whole_state self.old) walker now pipe)
             (whole_state self.old) result (whole_state self.new) }
     {
-        let begun = self
+        let progress = self
             .kernel
             .resume(alloc, walker, now, pipe, &mut self.trace)?;
-        Ok(answer_of(begun))
+        Ok(answer_of(progress))
     }
 
     /// A walker asks for an expiry.
@@ -73,21 +73,21 @@ impl Halves {
         immediate: bool,
         pipe: PipeState,
     ) -> Result<Answer, Errno>
-        ensures { Goes (expire_outcome (whole_state self.old) walker fs now immediate pipe)
+        ensures { Yields (expire_outcome (whole_state self.old) walker fs now immediate pipe)
             (whole_state self.old) result (whole_state self.new) }
     {
         let came = self
             .kernel
             .expire(alloc, walker, fs, now, immediate, pipe, &mut self.trace);
         match came {
-            Ok(begun) => Ok(answer_of(begun)),
+            Ok(progress) => Ok(answer_of(progress)),
             Err(errno) => Err(errno),
         }
     }
 
     /// A walker leaves the mount that it is inside of.
     pub fn leave(&mut self, walker: WalkerId) -> Result<Answer, Errno>
-        ensures { Goes (leave_outcome (whole_state self.old) walker)
+        ensures { Yields (leave_outcome (whole_state self.old) walker)
             (whole_state self.old) result (whole_state self.new) }
     {
         let _mount = self.kernel.leave(walker, &mut self.trace)?;

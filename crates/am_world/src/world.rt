@@ -2,28 +2,19 @@
 
 ghost use Rattle.std.specs.Prelude.{◌≡◌, List, [], ◌∷◌, length, None, IfOk, IfErr};
 ghost use Rattle.std.specs.Option.{option_map, option_copied};
-ghost use Rattle.am_names.specs.Errno.{RefusedAs};
-ghost use Rattle.am_names.specs.Limits.{IsInRange};
-ghost use Rattle.am_state.specs.declared.obs.Obs.{Obs};
-ghost use Rattle.am_laws.specs.TraceLaws.{Lawful};
-ghost use Rattle.am_wait.specs.Rows.{wait_of};
-ghost use Rattle.am_wait.specs.Calls.{still_waits};
-ghost use Rattle.am_kernel.specs.Requests.{queued_of};
-ghost use Rattle.am_daemon.specs.Acts.{next_act_of};
-ghost use Rattle.am_daemon.specs.State.{rows_of};
-ghost use Rattle.am_machine.specs.Agreement.{Agree};
-ghost use Rattle.am_machine.specs.InStep.{AreInStep};
-ghost use Rattle.am_machine.specs.Paths.{HasPaths};
-ghost use Rattle.am_machine.specs.State.{opening_of};
-ghost use Rattle.am_machine.specs.History.{entry, entries};
-ghost use Rattle.am_machine.specs.Machine.{Step, Run, GoesOnBy};
-ghost use Rattle.am_machine.specs.Events.Deliveries.{packet_bytes};
-ghost use Rattle.am_world.specs.Table.{state_of};
-ghost use Rattle.am_world.specs.Halves.{told};
+ghost use Rattle.am_names.specs.{RefusedAs, IsInRange};
+ghost use Rattle.am_state.specs.{Obs};
+ghost use Rattle.am_laws.specs.{Lawful};
+ghost use Rattle.am_wait.specs.{wait_of, still_waits};
+ghost use Rattle.am_kernel.specs.{queued_of};
+ghost use Rattle.am_daemon.specs.{next_act_of, rows_of};
+ghost use Rattle.am_machine.specs.{Agree, AreInStep, HasPaths, initial_state_of, entry, entries, Step, Run, GoesOnBy, packet_bytes};
+ghost use Rattle.am_world.specs.Capacity.{state_of};
+ghost use Rattle.am_world.specs.Machine.{told};
 
-use crate::copies::again;
+use crate::copies::second_copy;
 use crate::deliveries::bytes_of;
-use crate::halves::Halves;
+use crate::machine::Machine;
 use am_daemon::Daemon;
 use am_job::Act;
 use am_kernel::Kernel;
@@ -37,24 +28,24 @@ use std::marker::Model;
 
 /// A world: the kernel's half and the daemon's, and the trace of what was observed.
 pub struct World {
-    pub(crate) halves: Halves,
+    pub(crate) machine: Machine,
 }
 
 // Written by hand, it is proved here once: a derived one is proved again in each crate that lets a
 // world go, and field by field in each function that has one at an early return.
 impl Drop for World {
     fn drop(self) {
-        let World { halves } = self;
-        drop(halves);
+        let World { machine } = self;
+        drop(machine);
     }
 }
 
 impl Model for World {
-    ghost use Rattle.am_world.specs.Table.{WorldTable};
+    ghost use Rattle.am_world.specs.Capacity.{WorldTable};
 
     ghost Value = { WorldTable };
 
-    ghost use Rattle.am_world.specs.Inside.{view_of, IsSound};
+    ghost use Rattle.am_world.specs.View.{view_of, IsSound};
 
     ghost view = { view_of };
 
@@ -113,7 +104,7 @@ impl World {
         requires limits { IsInRange limits }
         requires maps { length maps.items ≡ length master }
         ensures refusal { RefusedAs None result }
-        ensures ok { IfOk result (λ world. state_of world ≡ opening_of (record {
+        ensures ok { IfOk result (λ world. state_of world ≡ initial_state_of (record {
           limits = limits;
           master = master;
           maps = maps.items;
@@ -122,7 +113,7 @@ impl World {
         let daemon = Daemon::new(alloc, master, maps);
         let kernel = Kernel::new(alloc, limits)?;
         Ok(World {
-            halves: Halves {
+            machine: Machine {
                 kernel,
                 daemon,
                 trace: Vec::new(alloc),
@@ -137,14 +128,14 @@ impl World {
         ensures agree { Agree (state_of self.now) }
         ensures in_step { AreInStep (state_of self.now) }
     {
-        self.halves.trace.as_slice()
+        self.machine.trace.as_slice()
     }
 
     /// The bytes of the queued packet of a token, if there is one.
     pub fn queued(&self, token: Token) -> Option<[u8; 304]>
         ensures { result ≡ option_map packet_bytes (queued_of self.now.kernel.queue token) }
     {
-        let row = self.halves.kernel.queued(token)?;
+        let row = self.machine.kernel.queued(token)?;
         Some(bytes_of(&row))
     }
 
@@ -152,14 +143,14 @@ impl World {
     pub fn next_act(&self, job: JobId) -> Option<&Act>
         ensures { option_copied result ≡ next_act_of job (rows_of self.now.daemon) }
     {
-        self.halves.daemon.next_act(job)
+        self.machine.daemon.next_act(job)
     }
 
     /// Whether a walker waits on a token that isn't acknowledged yet.
     pub fn is_waiting(&self, walker: WalkerId) -> bool
         ensures { result ≡ still_waits (wait_of self.now.kernel.waits.waits walker) }
     {
-        match self.halves.kernel.waits().wait_of(walker) {
+        match self.machine.kernel.waits().wait_of(walker) {
             Some(wait) => wait.status.is_none(),
             None => false,
         }
@@ -171,7 +162,7 @@ impl World {
             Step (state_of self.old) event.now result seen (state_of self.new) }
     {
         know_paths(event);
-        told(self.halves.handle(alloc, event))
+        told(self.machine.handle(alloc, event))
     }
 
     /// One step of the machine, with its answer twice.
@@ -182,12 +173,12 @@ impl World {
             (state_of self.new) }
         ensures same { result.1 ≡ result.0 }
     {
-        let Ok(spare) = self.halves.spare(alloc, event) else {
+        let Ok(made_ahead) = self.machine.made_ahead(alloc, event) else {
             let errno = Errno::NoMemory;
             return (Answer::Refused { errno }, Answer::Refused { errno });
         };
         let answer = self.step(alloc, event);
-        let other = again(&answer, spare);
+        let other = second_copy(&answer, made_ahead);
         (answer, other)
     }
 }
@@ -218,6 +209,6 @@ pub fn run(alloc: Global, mut world: World, events: &[Event]) -> Result<Ran, Wor
         answers.push_reserved(answer);
     }
     // What every world keeps is known where its fields are read.
-    let _ = &world.halves;
+    let _ = &world.machine;
     Ok(Ran { world, answers })
 }

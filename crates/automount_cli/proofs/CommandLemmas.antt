@@ -6,7 +6,7 @@ use Rattle.clap.specs.declared.builder.command.Command.TheViews.{out-Command}
 use Rattle.clap.specs.declared.parser.matches.Found.{Found}
 use Rattle.clap.specs.Words.{AddsSubcommand, App, ReadsOne, Text, first_of, first_value, one_of, one_text, rows_of, with_subcommand}
 use Rattle.std.specs.Str.Parse.{ParsesUnsigned}
-use Rattle.automount_cli.specs.CommandLine.{IsCommand, IsNumber}
+use Rattle.automount_cli.specs.{IsCommand, IsNumber}
 
 -- a command has one more
 pub adds : (old sub new : Command) (whole part : App) → IsCommand whole old → IsCommand part sub → AddsSubcommand old sub new → IsCommand (with_subcommand whole part.top) new

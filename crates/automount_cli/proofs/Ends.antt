@@ -1,18 +1,13 @@
 -- Each way in which the program ends.
 use Rattle.std.proofs.Common.{◌≡◌, ℕ, List, Option, None, Some, refl}
 use Rattle.std.specs.Io.KnownBytes.{Appends}
-use Rattle.am_mountinfo.specs.WorldText.{ShowsInput, StopsShowing}
-use Rattle.am_runner.specs.Runs.{IsTally}
-use Rattle.am_runner.specs.declared.tally.Tally.{Tally}
-use Rattle.am_script.specs.Played.{PlaysInput, StopsInput}
-use Rattle.am_script.specs.declared.fault.ScriptFault.{ScriptFault}
-use Rattle.am_script.specs.declared.play.Summary.{Summary}
-use Rattle.automount_cli.specs.Args.{fault_number}
-use Rattle.am_draw.specs.Drawn.{DrawsInput, StopsDrawing}
-use Rattle.am_views.specs.Traced.{TracesInput, StopsTrace}
-use Rattle.automount_cli.specs.Program.{Exits, Played, Stopped, Traced, TraceStopped, Drawn, DrawStopped, Shown, ShowStopped, Ran, Untold, NotRun, Refused, rounds_line}
+use Rattle.am_mountinfo.specs.{ShowsInput, StopsShowing}
+use Rattle.am_runner.specs.{IsTally, Tally}
+use Rattle.am_script.specs.{PlaysInput, StopsInput, ScriptFault, Summary}
+use Rattle.automount_cli.specs.{fault_number, Exits, Played, Stopped, Traced, TraceStopped, Drawn, DrawStopped, Shown, ShowStopped, Ran, Untold, NotRun, Refused, rounds_line, ArgsFault}
+use Rattle.am_draw.specs.{DrawsInput, StopsDrawing}
+use Rattle.am_views.specs.{TracesInput, StopsTrace}
 use Rattle.automount_cli.specs.declared.args.Args.TheVariants.{Script, Trace, Draw, World, Threads}
-use Rattle.automount_cli.specs.declared.args.ArgsFault.{ArgsFault}
 
 pub ends_played : (input rest old new quiet : Option (List ℕ)) (summary : Summary) → PlaysInput input rest old new summary → Exits (Some Script) input rest old new quiet quiet 0
 ends_played input rest old new quiet summary plays = record { end = Played summary; asked_is = refl; status_is = refl; streams = (plays, refl) }

@@ -1,14 +1,11 @@
 -- How a run of the program ends: own choice (docs/FORMATS.md, "The program").
 use Rattle.std.specs.Prelude.{◌≡◌, ⊤, ◌++◌, ℕ, List, Option, None, Some, codes, decimal}
 use Rattle.std.specs.Io.KnownBytes.{Appends}
-use Rattle.am_mountinfo.specs.WorldText.{ShowsInput, StopsShowing}
-use Rattle.am_runner.specs.Runs.{IsTally}
-use Rattle.am_runner.specs.declared.tally.Tally.{Tally}
-use Rattle.am_script.specs.Played.{PlaysInput, StopsInput}
-use Rattle.am_script.specs.declared.fault.ScriptFault.{ScriptFault}
-use Rattle.am_script.specs.declared.play.Summary.{Summary}
-use Rattle.am_draw.specs.Drawn.{DrawsInput, StopsDrawing}
-use Rattle.am_views.specs.Traced.{TracesInput, StopsTrace}
+use Rattle.am_mountinfo.specs.{ShowsInput, StopsShowing}
+use Rattle.am_runner.specs.{IsTally, Tally}
+use Rattle.am_script.specs.{PlaysInput, StopsInput, ScriptFault, Summary}
+use Rattle.am_draw.specs.{DrawsInput, StopsDrawing}
+use Rattle.am_views.specs.{TracesInput, StopsTrace}
 use Rattle.clap.specs.Words.{Text, subcommand_of}
 use Rattle.automount_cli.specs.Args.{fault_number}
 use Rattle.automount_cli.specs.CommandLine.{cli, Asks}

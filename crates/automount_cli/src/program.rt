@@ -2,7 +2,7 @@
 
 ghost use Rattle.std.specs.Prelude.{◌≡◌, ◌<◌, ◌≤◌, ℕ, List, map, string_bytes, Option, Some, IfOk, OnOk};
 ghost use Rattle.std.specs.Io.KnownBytes.{Appends};
-ghost use Rattle.am_runner.specs.Runs.{IsTally};
+ghost use Rattle.am_runner.specs.{IsTally};
 ghost use Rattle.clap.specs.Words.{Text};
 ghost use Rattle.automount_cli.specs.Program.{Exits, ExitsWith, rounds_line};
 ghost use Rattle.automount_cli.specs.Args.{fault_number, IsInRange};

@@ -3,14 +3,14 @@
 use am_map::{Entry, Map, MapFaultKind, MapKind};
 use am_master::{Master, Point};
 use am_names::{FsId, Token};
-use am_wire::{Kind, Packet, PacketName, WireFault, read, write};
+use am_wire::{Packet, PacketName, PacketType, WireFault, read, write};
 use std::alloc::{AllocError, Global};
 use std::test::Fail;
 
 /// What a packet asks to mount: the map's entry for its name, if it has one.
 fn asked_for(alloc: Global, map: &Map, bytes: &[u8]) -> Result<Option<Entry>, AllocError> {
     match read(bytes) {
-        Ok(packet) if packet.kind == Kind::MissingIndirect => map.look_up(alloc, packet.name),
+        Ok(packet) if packet.kind == PacketType::MissingIndirect => map.look_up(alloc, packet.name),
         _ => Ok(None),
     }
 }
@@ -18,7 +18,7 @@ fn asked_for(alloc: Global, map: &Map, bytes: &[u8]) -> Result<Option<Entry>, Al
 /// The packet of a walk to the name `home`.
 fn packet() -> Packet {
     Packet {
-        kind: Kind::MissingIndirect,
+        kind: PacketType::MissingIndirect,
         token: Token(1),
         dev: FsId(2),
         ino: 1,

@@ -1,7 +1,7 @@
 //! For the author of tests with threads: callers of a shared world, and its history.
 
 ghost use Rattle.std.specs.Prelude.{◌≡◌, [], length};
-ghost use Rattle.am_names.specs.Limits.{IsInRange};
+ghost use Rattle.am_names.specs.{IsInRange};
 
 use am_map::Map;
 use am_master::Master;

@@ -4,15 +4,15 @@ ghost use Rattle.std.specs.Prelude.{◌≡◌, ◌==◌, true, false, not, map, 
 ghost use Rattle.std.specs.Bool.{OnTrue};
 ghost use Rattle.std.specs.List.{list_all, list_any};
 ghost use Rattle.std.specs.List.Sorted.{IsNonDecreasing};
-ghost use Rattle.am_names.specs.Errno.{RefusedAs};
-ghost use Rattle.am_group.specs.Changes.{left, at_row, with_row, made_shared, made_slave, made_private, made_unbindable, changed, is_among, with_only, without};
+ghost use Rattle.am_names.specs.{RefusedAs, is_among};
+ghost use Rattle.am_group.specs.Changes.{left, at_row, with_row, made_shared, made_slave, made_private, made_unbindable, changed, with_only, without};
 ghost use Rattle.am_group.specs.Invariant.{RiseFrom, IsOrderly, IsPeopled, AddsNoReceivers};
-ghost use Rattle.am_group.specs.Kinds.{FollowsTable};
+ghost use Rattle.am_group.specs.MountStates.{FollowsTable};
 ghost use Rattle.am_group.specs.Members.{change_refusal};
 ghost use Rattle.am_group.specs.Tables.{state_of, AreLiveAmong, AreLost, is_free_member, is_free_of, is_other_in, is_not_alone, row_of, gives_up};
 
 use crate::groups::Groups;
-use crate::kind::{Change, asked, row_as};
+use crate::mount_state::{Change, asked, row_as};
 use crate::tables::{
     Tables, are_groups_free, clear, is_among as is_live, is_one_of, live_groups, without_these,
 };

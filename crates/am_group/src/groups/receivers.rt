@@ -4,8 +4,7 @@
 ghost use Rattle.std.specs.Prelude.{◌≡◌, ◌↔◌, ◌==◌, ◌||◌, ◌&&◌, ℕ, not, map, filter, None, IfOk};
 ghost use Rattle.std.specs.List.{Contains};
 ghost use Rattle.std.specs.List.Sorted.{IsStrictlyIncreasing, IsNonDecreasing};
-ghost use Rattle.am_names.specs.Errno.{RefusedAs};
-ghost use Rattle.am_group.specs.Changes.{is_among};
+ghost use Rattle.am_names.specs.{RefusedAs, is_among};
 ghost use Rattle.am_group.specs.Copies.{AreOfReceivers, receiving_groups};
 ghost use Rattle.am_group.specs.Propagation.{Receives};
 ghost use Rattle.am_group.specs.Scan.{is_one_of};

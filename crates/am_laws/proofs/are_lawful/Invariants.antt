@@ -1,6 +1,5 @@
 use Rattle.std.proofs.Common.{◌≡◌, [], take, drop}
-use Rattle.am_laws.specs.Tests.{are_lawful}
-use Rattle.am_laws.specs.Lately.{Remembers}
+use Rattle.am_laws.specs.{are_lawful, Remembers}
 use Rattle.am_laws.proofs.are_lawful.Given as goal
 
 abbrev pub invariant-loop-i : goal.invariant-loop-i

@@ -1,7 +1,6 @@
 use Rattle.std.proofs.Common.{◌≡◌, [], ◌∷◌, ◌++◌, false, true, List, sym, ap, ◌∙◌}
-use Rattle.am_state.specs.declared.obs.Obs.{Obs}
-use Rattle.am_laws.specs.OneObservation.{is_released}
-use Rattle.am_laws.specs.Tests.{ends_in_row}
+use Rattle.am_state.specs.{Obs}
+use Rattle.am_laws.specs.{is_released, ends_in_row}
 use Rattle.am_laws.proofs.Rows.{row_goes_on, row_begins}
 use Rattle.am_laws.proofs.ends_in_row.Goals as goal
 

@@ -1,5 +1,5 @@
 use Rattle.std.proofs.Common.{◌≡◌, [], length}
-use Rattle.am_laws.specs.Tests.{ends_in_row}
+use Rattle.am_laws.specs.{ends_in_row}
 use Rattle.am_laws.proofs.ends_in_row.Given as goal
 
 abbrev pub invariant-loop-o : goal.invariant-loop-o

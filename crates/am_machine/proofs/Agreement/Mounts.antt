@@ -3,26 +3,18 @@
 use Rattle.std.proofs.Common.{◌≡◌, ◌<◌, ℕ, List, Option, Some, None, refl, ap, subst, ◌∙◌}
 use Rattle.std.specs.Prelude.{if◌then◌else◌}
 use Rattle.am_names.specs.declared.trigger.Trigger.{Trigger}
-use Rattle.am_group.specs.Propagation.{Receives}
-use Rattle.am_mount.specs.Rows.{top_of, HasRow, IsAt}
+use Rattle.am_group.specs.{Receives}
+use Rattle.am_mount.specs.{top_of, HasRow, IsAt}
 use Rattle.am_mount.proofs.RowLemmas.{IsTopOf, top_is}
 use Rattle.am_propagate.specs.MountTable.{MountTable}
-use Rattle.am_propagate.specs.Invariant.{IsWhole}
-use Rattle.am_trigger.specs.declared.autofs.Autofs.{Autofs}
-use Rattle.am_trigger.specs.Rows.{autofs_of}
-use Rattle.am_trigger.specs.Sites.{place_of}
+use Rattle.am_propagate.specs.{IsWhole}
+use Rattle.am_trigger.specs.{Autofs, autofs_of, place_of}
 use Rattle.am_state.specs.declared.daemon_row.Record.TheVariants.{Mounted}
-use Rattle.am_kernel.specs.State.{KernelState}
-use Rattle.am_kernel.specs.Sites.{is_live_row, latest_attach, attach_of}
-use Rattle.am_kernel.specs.DaemonMounts.{location_in, location_of, mounted_on}
-use Rattle.am_job.specs.Book.{record_of}
-use Rattle.am_daemon.specs.State.{DaemonState}
-use Rattle.am_daemon.specs.Packets.{is_pending, mounted_in}
-use Rattle.am_machine.specs.Invariant.Books.{IsServed}
-use Rattle.am_machine.specs.Invariant.Places.{HasCopy, PlacesAgree}
-use Rattle.am_machine.specs.Invariant.Stands.{AreWritten}
-use Rattle.am_machine.specs.Agreement.{IsMounted}
-use Rattle.am_machine.proofs.Stands.Unchanged.{attached_autofs}
+use Rattle.am_kernel.specs.{KernelState, is_live_row, latest_attach, attach_of, location_in, location_of, mounted_on}
+use Rattle.am_job.specs.{record_of}
+use Rattle.am_daemon.specs.{DaemonState, is_pending, mounted_in}
+use Rattle.am_machine.specs.{IsServed, HasCopy, PlacesAgree, AreWritten, IsMounted}
+use Rattle.am_machine.proofs.TriggerMounts.Unchanged.{attached_autofs}
 
 -- the top at a place is a mount at that place
 pub top_there : (t : MountTable) → IsWhole t → (x m : ℕ) (place : List (List ℕ)) → top_of t.rows x place ≡ Some m → HasRow (IsAt x place) t.rows m

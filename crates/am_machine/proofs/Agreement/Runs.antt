@@ -1,17 +1,9 @@
 -- Kernel and daemon agree on each file system that the daemon serves.
 use Rattle.std.proofs.Common.{ℕ}
-use Rattle.am_kernel.specs.State.{KernelState}
-use Rattle.am_daemon.specs.State.{DaemonState}
-use Rattle.am_machine.specs.State.{State, opening_of}
-use Rattle.am_machine.specs.Invariant.Walks.{WalksFit}
-use Rattle.am_machine.specs.Invariant.Tokens.{TokensAgree}
-use Rattle.am_machine.specs.Invariant.Planned.{ArePlanned}
-use Rattle.am_machine.specs.Invariant.Places.{PlacesAgree}
-use Rattle.am_machine.specs.Invariant.Books.{IsServed, BookAgrees}
-use Rattle.am_machine.specs.Invariant.Records.{AreOfTheirTokens}
-use Rattle.am_machine.specs.Invariant.Stands.{AreWritten}
-use Rattle.am_machine.specs.Invariant.Consistent.{IsConsistent}
-use Rattle.am_machine.specs.Agreement.{AgreeOn, Agree, RunsAgree}
+use Rattle.am_kernel.specs.{KernelState}
+use Rattle.am_daemon.specs.{DaemonState}
+use Rattle.am_machine.specs.State.{State}
+use Rattle.am_machine.specs.{initial_state_of, WalksFit, TokensAgree, ArePlanned, PlacesAgree, IsServed, BookAgrees, AreOfTheirTokens, AreWritten, IsConsistent, AgreeOn, Agree, RunsAgree}
 use Rattle.am_machine.proofs.Agreement.Mounts.{mounted_here, nothing_here}
 use Rattle.am_machine.proofs.Agreement.Tokens.{pending_here, tokens_here}
 use Rattle.am_machine.proofs.Consistent.{initial_consistent, run_consistent}
@@ -35,5 +27,5 @@ agrees s h named fs attach served =
 -- after every run
 pub runs_agree : RunsAgree
 runs_agree opening events answers s along run =
-    let old = opening_of opening in
+    let old = initial_state_of opening in
     agrees s (run_consistent old events answers s run (initial_consistent opening)) (run_named old events answers s run along (initial_named opening))

@@ -3,27 +3,16 @@
 use Rattle.std.proofs.Common.{◌≡◌, ◌⊎◌, ℕ, Bool, true, false, Option, Some, None, refl, sym, ap, subst, inl, inr, ⊎_elim, ◌∙◌}
 use Rattle.std.specs.Prelude.{◌==◌, ◌&&◌, is_some, find, List}
 use Rattle.std.specs.Option.{option_map}
-use Rattle.am_names.specs.Trigger.{same_trigger}
+use Rattle.am_names.specs.{same_trigger, OpenToken}
 use Rattle.am_names.specs.declared.trigger.Trigger.{Trigger}
-use Rattle.am_names.specs.declared.row.OpenToken.{OpenToken}
-use Rattle.am_wait.specs.Rows.{WaitRows, token_of}
-use Rattle.am_state.specs.declared.daemon_row.Record.{Record}
-use Rattle.am_state.specs.declared.daemon_row.RecordRow.{RecordRow}
-use Rattle.am_state.specs.declared.kernel_row.QueuedRow.{QueuedRow}
-use Rattle.am_kernel.specs.State.{KernelState}
-use Rattle.am_kernel.specs.Sites.{attach_of}
-use Rattle.am_kernel.specs.Requests.{queued_of}
-use Rattle.am_job.specs.Book.{record_of}
-use Rattle.am_daemon.specs.State.{DaemonState, JobPlan}
-use Rattle.am_daemon.specs.Deliveries.{job_of}
-use Rattle.am_names.proofs.SameTriggers.{is_one}
+use Rattle.am_wait.specs.{WaitRows, token_of}
+use Rattle.am_state.specs.{Record, RecordRow, QueuedRow}
+use Rattle.am_kernel.specs.{KernelState, attach_of, queued_of}
+use Rattle.am_job.specs.{record_of}
+use Rattle.am_daemon.specs.{DaemonState, JobPlan, job_of}
+use Rattle.am_names.proofs.SameTriggers.{equal_by_same_trigger}
 use Rattle.am_names.proofs.Basics.{equal_by_test, some_injective, value_where_some, found_passes}
-use Rattle.am_machine.specs.Invariant.Walks.{is_named, WalksFit}
-use Rattle.am_machine.specs.Invariant.Tokens.{IsInPipe, IsAtWork, HasToken, TokensAgree}
-use Rattle.am_machine.specs.Invariant.Planned.{has_record_left, IsPlanned, ArePlanned}
-use Rattle.am_machine.specs.Invariant.Books.{IsServed, is_pending_for, is_to_record, BookAgrees}
-use Rattle.am_machine.specs.Invariant.Records.{IsOfItsToken, AreOfTheirTokens}
-use Rattle.am_machine.specs.Agreement.{IsPending, IsToDeliver, IsToAnswer}
+use Rattle.am_machine.specs.{is_named, WalksFit, IsInPipe, IsAtWork, HasToken, TokensAgree, has_record_left, IsPlanned, ArePlanned, IsServed, is_pending_for, is_to_record, BookAgrees, IsOfItsToken, AreOfTheirTokens, IsPending, IsToDeliver, IsToAnswer}
 use Rattle.am_machine.proofs.Lists.Different.{all_found}
 
 first_two : (a b c : Bool) → (a && b && c) ≡ true → (a ≡ true) × (b ≡ true)
@@ -44,7 +33,7 @@ job_on : (attach : ℕ) (g : Trigger) (o : Option JobPlan) → is_to_record atta
 job_on attach g None e = absurd cc
 job_on attach g (Some job) e =
     let both = first_two (job.attach == attach) (same_trigger job.trigger g) (has_record_left job.plan) e in
-    record { job = job; is_job = refl; current = equal_by_test job.attach attach both.0; trigger = is_one job.trigger g both.1 }
+    record { job = job; is_job = refl; current = equal_by_test job.attach attach both.0; trigger = equal_by_same_trigger job.trigger g both.1 }
 
 -- an open token asks for a trigger that has a name
 pub token_named : (k : KernelState) → WalksFit k → (token : ℕ) (row : OpenToken) → token_of k.waits.tokens token ≡ Some row → is_named row.trigger ≡ true

@@ -6,26 +6,12 @@ use Rattle.std.specs.List.{All}
 use Rattle.std.proofs.lemmas.List.Elements.{All-push}
 use Rattle.am_names.specs.declared.trigger.Trigger.{Trigger}
 use Rattle.am_names.proofs.Basics.{equal_by_test, found_passes}
-use Rattle.am_state.specs.declared.kernel_row.QueuedRow.{QueuedRow}
-use Rattle.am_state.specs.declared.daemon_row.Record.{Record}
-use Rattle.am_state.specs.declared.daemon_row.RecordRow.{RecordRow}
-use Rattle.am_kernel.specs.declared.row.Attached.{Attached}
-use Rattle.am_kernel.specs.State.{KernelState}
-use Rattle.am_kernel.specs.Sites.{is_live, attach_of}
-use Rattle.am_kernel.specs.Requests.{without_packet}
-use Rattle.am_job.specs.declared.act.Act.{Act}
+use Rattle.am_state.specs.{QueuedRow, Record, RecordRow}
+use Rattle.am_kernel.specs.{Attached, KernelState, is_live, attach_of, without_packet}
+use Rattle.am_job.specs.{Act, Outcome, next_of, is_reply, recorded}
 use Rattle.am_job.specs.declared.act.Act.TheVariants as act
-use Rattle.am_job.specs.declared.act.Outcome.{Outcome}
-use Rattle.am_job.specs.Plans.{next_of, is_reply}
-use Rattle.am_job.specs.Book.{recorded}
-use Rattle.am_daemon.specs.State.{DaemonState, JobPlan}
-use Rattle.am_daemon.specs.Packets.{trigger_of, plan_of_packet, pending_of}
-use Rattle.am_daemon.specs.Deliveries.{job_of, job_for, taken_up}
-use Rattle.am_daemon.specs.Acts.{next_in, writes, book_after, finished}
-use Rattle.am_machine.specs.Invariant.Attachments.{AreGiven}
-use Rattle.am_machine.specs.Invariant.Traces.{AreDifferent}
-use Rattle.am_machine.specs.Invariant.Planned.{IsPlanned}
-use Rattle.am_machine.specs.Invariant.Tokens.{IsInPipe}
+use Rattle.am_daemon.specs.{DaemonState, JobPlan, trigger_of, plan_of_packet, pending_of, job_of, job_for, taken_up, next_in, writes, book_after, finished}
+use Rattle.am_machine.specs.{NumbersAreAllocated, AreDifferent, IsPlanned, IsInPipe}
 use Rattle.am_machine.proofs.Lists.Different.{all_found}
 use Rattle.am_machine.proofs.Tokens.Catatonic.{dev_of}
 use Rattle.am_machine.proofs.Tokens.Jobs.{finished_all}
@@ -41,7 +27,7 @@ IsOld k row = (row.attach ≤ k.last_attach) × (row.trigger.fs ≤ k.last_fs)
 
 -- ---- a current attachment was given
 
-given_by_cases : (k : KernelState) (d : DaemonState) (fs attach : ℕ) (live : Bool) (o : Option Attached) → find (λ (r : Attached). r.fs == fs) k.attached ≡ o → (if live then option_map (λ (r : Attached). r.attach) o else None) ≡ Some attach → AreGiven k d → (attach ≤ k.last_attach) × (fs ≤ k.last_fs)
+given_by_cases : (k : KernelState) (d : DaemonState) (fs attach : ℕ) (live : Bool) (o : Option Attached) → find (λ (r : Attached). r.fs == fs) k.attached ≡ o → (if live then option_map (λ (r : Attached). r.attach) o else None) ≡ Some attach → NumbersAreAllocated k d → (attach ≤ k.last_attach) × (fs ≤ k.last_fs)
 given_by_cases k d fs attach false o is e h = absurd cc
 given_by_cases k d fs attach true None is e h = absurd cc
 given_by_cases k d fs attach true (Some row) is e h =
@@ -49,7 +35,7 @@ given_by_cases k d fs attach true (Some row) is e h =
     let number : row.fs ≡ fs = equal_by_test row.fs fs (found_passes (λ (r : Attached). r.fs == fs) k.attached row is) in
     (subst (λ (n : ℕ). n ≤ k.last_attach) same (all_found (λ (r : Attached). r.attach ≤ k.last_attach) (λ (r : Attached). r.fs == fs) k.attached row h.attached is), subst (λ (n : ℕ). n ≤ k.last_fs) number (all_found (λ (r : Attached). r.fs ≤ k.last_fs) (λ (r : Attached). r.fs == fs) k.attached row (rise_all k.last_fs 0 k.attached h.rise) is))
 
-pub attach_given : (k : KernelState) (d : DaemonState) (fs attach : ℕ) → attach_of k fs ≡ Some attach → AreGiven k d → (attach ≤ k.last_attach) × (fs ≤ k.last_fs)
+pub attach_given : (k : KernelState) (d : DaemonState) (fs attach : ℕ) → attach_of k fs ≡ Some attach → NumbersAreAllocated k d → (attach ≤ k.last_attach) × (fs ≤ k.last_fs)
 attach_given k d fs attach e h = given_by_cases k d fs attach (is_live k fs) (find (λ (r : Attached). r.fs == fs) k.attached) refl e h
 
 -- ---- a packet is taken up
@@ -58,7 +44,7 @@ told_by_cases : (last : ℕ) (reply : Bool) (g : Trigger) (entry : Option Record
 told_by_cases last true g entry book le h = h
 told_by_cases last false g entry book le h = book_recorded last g entry book le h
 
-pub given_taken : (k : KernelState) (d : DaemonState) (row : QueuedRow) → IsInPipe k d.jobs row → AreGiven k d → AreGiven (without_packet row.token k) (taken_up row.attach row.packet d)
+pub given_taken : (k : KernelState) (d : DaemonState) (row : QueuedRow) → IsInPipe k d.jobs row → NumbersAreAllocated k d → NumbersAreAllocated (without_packet row.token k) (taken_up row.attach row.packet d)
 given_taken k d row p h =
     let both = attach_given k d p.token.trigger.fs row.attach p.current h in
     let fs : row.packet.dev ≤ k.last_fs = subst (λ (n : ℕ). n ≤ k.last_fs) (sym (dev_of row.packet p.token p.asks)) both.1 in
@@ -83,7 +69,7 @@ after_by_cases last (Some (act.Rmdir g)) book own h = h
 after_by_cases last (Some (act.Record g entry)) book own h = book_recorded last g entry book (own g entry refl) h
 after_by_cases last (Some (act.Reply status)) book own h = h
 
-pub given_finished : (k : KernelState) (d : DaemonState) (row : JobPlan) (outcome : Outcome) → job_of d.jobs row.token ≡ Some row → IsPlanned row → AreDifferent (map (λ (r : JobPlan). r.token) d.jobs) → AreGiven k d → AreGiven k (finished row.token outcome d)
+pub given_finished : (k : KernelState) (d : DaemonState) (row : JobPlan) (outcome : Outcome) → job_of d.jobs row.token ≡ Some row → IsPlanned row → AreDifferent (map (λ (r : JobPlan). r.token) d.jobs) → NumbersAreAllocated k d → NumbersAreAllocated k (finished row.token outcome d)
 given_finished k d row outcome is planned differ h =
     let its = all_found (IsOld k) (λ (r : JobPlan). r.token == row.token) d.jobs row h.jobs is in
     record {

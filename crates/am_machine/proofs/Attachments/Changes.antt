@@ -4,26 +4,15 @@
 use Rattle.std.proofs.Common.{◌≡◌, ℕ, ◌+◌, ◌≤◌, ◌==◌, List, [], ◌∷◌, Some, refl, ap, arith}
 use Rattle.std.specs.Prelude.{is_some}
 use Rattle.std.proofs.lemmas.List.Elements.{All-nil}
-use Rattle.am_names.specs.declared.row.TokenKind.{TokenKind}
+use Rattle.am_names.specs.{TokenKind, WaitRow}
 use Rattle.am_names.specs.declared.row.TokenKind.TheVariants.{Missing, Expire}
-use Rattle.am_names.specs.declared.row.WaitRow.{WaitRow}
-use Rattle.am_state.specs.declared.kernel_row.QueuedRow.{QueuedRow}
-use Rattle.am_state.specs.declared.obs.Obs.{Obs}
-use Rattle.am_kernel.specs.State.{KernelState}
-use Rattle.am_kernel.specs.Outcome.{with_latest}
+use Rattle.am_state.specs.{QueuedRow, Obs}
+use Rattle.am_kernel.specs.{KernelState, with_latest, with_expiring, wait_collected_from}
 use Rattle.am_kernel.specs.Walks as walks
-use Rattle.am_kernel.specs.Expires.{with_expiring}
-use Rattle.am_kernel.specs.Resumes.{freed_from}
-use Rattle.am_job.specs.declared.act.Act.{Act}
-use Rattle.am_job.specs.declared.act.Outcome.{Outcome}
-use Rattle.am_daemon.specs.Points.{line_timeout}
-use Rattle.am_daemon.specs.State.{DaemonState, JobPlan}
-use Rattle.am_machine.specs.declared.event.Event.{Event}
-use Rattle.am_machine.specs.State.{Opening, State, opening_of}
-use Rattle.am_machine.specs.Machine.{outcome_of}
-use Rattle.am_machine.specs.Invariant.Attachments.{AreGiven}
-use Rattle.am_machine.specs.Invariant.Tokens.{IsInPipe, TokensAgree}
-use Rattle.am_machine.specs.Invariant.Planned.{IsPlanned, ArePlanned}
+use Rattle.am_job.specs.{Act, Outcome}
+use Rattle.am_daemon.specs.{line_timeout, DaemonState, JobPlan}
+use Rattle.am_machine.specs.{Event, Setup, initial_state_of, outcome_of, NumbersAreAllocated, IsInPipe, TokensAgree, IsPlanned, ArePlanned}
+use Rattle.am_machine.specs.State.{State}
 use Rattle.am_machine.proofs.Lists.Different.{all_found}
 use Rattle.am_machine.proofs.Attachments.Rows.{given_more, given_closed, given_timeout, given_attached, given_reattached}
 use Rattle.am_machine.proofs.Attachments.Acts.{given_taken, given_finished}
@@ -35,18 +24,18 @@ use Rattle.am_machine.proofs.Tour.Events.{AnyJob, with_half, going, IsNext, any_
 -- ---- what walkers do
 
 abbrev pub GivenBy : KernelState → List Obs → KernelState → Type 0
-GivenBy k shown made = (d : DaemonState) → AreGiven k d → AreGiven made d
+GivenBy k shown made = (d : DaemonState) → NumbersAreAllocated k d → NumbersAreAllocated made d
 
-pub given_freed : (kind : TokenKind) (k : KernelState) (wait : WaitRow) (moment : ℕ) (d : DaemonState) → AreGiven k d → AreGiven (freed_from kind wait moment k) d
-given_freed Missing k wait moment d h = given_more k (freed_from Missing wait moment k) d refl refl refl (omega arith) h
-given_freed Expire k wait moment d h = given_more k (freed_from Expire wait moment k) d refl refl refl (omega arith) h
+pub given_freed : (kind : TokenKind) (k : KernelState) (wait : WaitRow) (moment : ℕ) (d : DaemonState) → NumbersAreAllocated k d → NumbersAreAllocated (wait_collected_from kind wait moment k) d
+given_freed Missing k wait moment d h = given_more k (wait_collected_from Missing wait moment k) d refl refl refl (omega arith) h
+given_freed Expire k wait moment d h = given_more k (wait_collected_from Expire wait moment k) d refl refl refl (omega arith) h
 
 pub given_walkers : tour.Keeps AnyPath GivenBy
 given_walkers = record {
   nothing = λ k d h. h;
-  arrived = λ k begin at passed w d h. given_more k (walks.arrived begin at.mount passed k) d refl refl refl (omega arith) h;
-  joined = λ k begin token passed w d h. given_more k (walks.with_joined begin token passed k) d refl refl refl (omega arith) h;
-  notified = λ k begin trigger attach passed w is d h. given_more k (walks.with_notified begin trigger attach passed k) d refl refl refl (omega arith) h;
+  arrived = λ k attempt at passed w d h. given_more k (walks.arrived attempt at.mount passed k) d refl refl refl (omega arith) h;
+  joined = λ k attempt token passed w d h. given_more k (walks.with_joined attempt token passed k) d refl refl refl (omega arith) h;
+  notified = λ k attempt trigger attach passed w is d h. given_more k (walks.with_notified attempt trigger attach passed k) d refl refl refl (omega arith) h;
   expiring = λ k walker fs moment immediate trigger attach x d h. given_more k (with_expiring walker trigger attach k) d refl refl refl (omega arith) h;
   closed = λ k fs d h. given_closed k d fs h;
   collected = λ k kind wait status moment shown made g later d h. later d (given_freed kind k wait moment d h);
@@ -55,7 +44,7 @@ given_walkers = record {
 -- ---- events
 
 record Keeps (s : State) (shown : List Obs) (t : State) : Type 0 where
-  keeps : ArePlanned s.daemon.jobs → TokensAgree s.kernel s.daemon.jobs → AreGiven s.kernel s.daemon → AreGiven t.kernel t.daemon
+  keeps : ArePlanned s.daemon.jobs → TokensAgree s.kernel s.daemon.jobs → NumbersAreAllocated s.kernel s.daemon → NumbersAreAllocated t.kernel t.daemon
 
 -- the number of file systems may rise
 more : (s : State) (shown : List Obs) (k : KernelState) → k.attached ≡ s.kernel.attached → k.triggers.autofs ≡ s.kernel.triggers.autofs → k.last_attach ≡ s.kernel.last_attach → s.kernel.last_fs ≤ k.last_fs → Keeps s shown (with_half k s)
@@ -113,8 +102,8 @@ changes = record {
   replied = λ s row status its i is. goes s _ row _ _ _ i refl refl refl (omega arith);
 }
 
-pub outcome_given : (s : State) (event : Event) → ArePlanned s.daemon.jobs → TokensAgree s.kernel s.daemon.jobs → AreGiven s.kernel s.daemon → AreGiven (outcome_of s event).state.kernel (outcome_of s event).state.daemon
+pub outcome_given : (s : State) (event : Event) → ArePlanned s.daemon.jobs → TokensAgree s.kernel s.daemon.jobs → NumbersAreAllocated s.kernel s.daemon → NumbersAreAllocated (outcome_of s event).state.kernel (outcome_of s event).state.daemon
 outcome_given s event planned tokens h = (tours.outcome AnyPath AnyJob GivenBy Keeps changes s event (any_event s event)).well.keeps planned tokens h
 
-pub initial_given : (opening : Opening) → AreGiven (opening_of opening).kernel (opening_of opening).daemon
+pub initial_given : (opening : Setup) → NumbersAreAllocated (initial_state_of opening).kernel (initial_state_of opening).daemon
 initial_given opening = record { rise = tt; attached = All-nil _; autofs = All-nil _; known = All-nil _; jobs = All-nil _; book = All-nil _; familiar = record { autofs_known = All-nil _; autofs_attached = All-nil _; held_known = All-nil _ } }

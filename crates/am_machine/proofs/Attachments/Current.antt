@@ -6,12 +6,9 @@ use Rattle.std.specs.Option.{option_map}
 use Rattle.std.specs.List.{list_any, All}
 use Rattle.std.proofs.lemmas.Bool.Decides.{nat_tests}
 use Rattle.std.proofs.lemmas.List.Elements.{All-nil, All-cons, All-weaker}
-use Rattle.am_kernel.specs.declared.row.Attached.{Attached}
-use Rattle.am_kernel.specs.State.{KernelState}
-use Rattle.am_kernel.specs.Sites.{is_live, attach_of, is_attached_by, fs_of_attach, is_current}
-use Rattle.am_names.proofs.SameTriggers.{both_are}
-use Rattle.am_names.proofs.Basics.{both_of_and, equal_to_itself, equal_by_test, found_passes}
-use Rattle.am_machine.specs.Invariant.Attachments.{RiseTo}
+use Rattle.am_kernel.specs.{Attached, KernelState, is_live, attach_of, is_attached_by, fs_of_attach, is_current}
+use Rattle.am_names.proofs.Basics.{both_of_and, equal_to_itself, equal_by_test, found_passes, and_of_both}
+use Rattle.am_machine.specs.{RiseTo}
 use Rattle.am_machine.proofs.Lists.Different.{all_found}
 
 -- ---- rows of different file systems
@@ -94,7 +91,7 @@ current_by_cases k fs attach true (Some row) l is e =
     let here : (row.attach == attach) ≡ true = ap (λ (n : ℕ). n == attach) same ∙ equal_to_itself attach in
     let lives : is_live k row.fs ≡ true = ap (is_live k) (equal_by_test row.fs fs passes) ∙ l in
     found_any (λ (r : Attached). r.fs == fs) (λ (r : Attached). r.fs == fs && is_attached_by k attach r) k.attached row is
-    (both_are (row.fs == fs) (is_attached_by k attach row) passes (both_are (row.attach == attach) (is_live k row.fs) here lives))
+    (and_of_both (row.fs == fs) (is_attached_by k attach row) passes (and_of_both (row.attach == attach) (is_live k row.fs) here lives))
 
 pub current_from_attach : (k : KernelState) (fs attach : ℕ) → attach_of k fs ≡ Some attach → is_current k fs attach ≡ true
 current_from_attach k fs attach e = current_by_cases k fs attach (is_live k fs) (find (λ (r : Attached). r.fs == fs) k.attached) refl refl e

@@ -5,21 +5,14 @@ use Rattle.std.specs.Option.{option_map}
 use Rattle.std.specs.List.{All}
 use Rattle.std.proofs.lemmas.Bool.Decides.{nat_tests}
 use Rattle.std.proofs.lemmas.List.Elements.{All-nil, All-cons, All-head, All-tail}
-use Rattle.am_names.specs.declared.row.Position.{Position}
+use Rattle.am_names.specs.{Position}
 use Rattle.am_names.proofs.Basics.{equal_to_itself, equal_by_test, found_passes}
-use Rattle.am_trigger.specs.declared.autofs.Autofs.{Autofs}
-use Rattle.am_trigger.specs.Rows.{TriggerRows, autofs_of, catatonic_row, with_catatonic}
+use Rattle.am_trigger.specs.{Autofs, TriggerRows, autofs_of, catatonic_row, with_catatonic}
 use Rattle.am_wait.proofs.FindLemmas.{or_none, find_append, find_map}
-use Rattle.am_kernel.specs.declared.row.Attached.{Attached}
-use Rattle.am_kernel.specs.State.{KernelState}
-use Rattle.am_kernel.specs.Sites.{is_live_row, is_live, latest_attach, attach_of}
-use Rattle.am_kernel.specs.Catatonic.{closed}
+use Rattle.am_kernel.specs.{Attached, KernelState, is_live_row, is_live, latest_attach, attach_of, made_catatonic, with_pipe, attached_at, timeout_row, with_timeout}
 use Rattle.am_kernel.specs.Attachments as piped
-use Rattle.am_kernel.specs.Attachments.{with_pipe}
 use Rattle.am_kernel.specs.DaemonMounts as mounts
-use Rattle.am_kernel.specs.DaemonMounts.{attached_at}
-use Rattle.am_kernel.specs.Requests.{timeout_row, with_timeout}
-use Rattle.am_machine.specs.Invariant.Attachments.{RiseTo}
+use Rattle.am_machine.specs.{RiseTo}
 
 -- ---- numbers that rise
 
@@ -80,11 +73,11 @@ closed_row fs t (Some row) e =
 abbrev attach_by : Bool → Option ℕ → Option ℕ
 attach_by live latest = if live then latest else None
 
-pub attach_closed : (k : KernelState) (fs : ℕ) → attach_of (closed fs k) fs ≡ None
+pub attach_closed : (k : KernelState) (fs : ℕ) → attach_of (made_catatonic fs k) fs ≡ None
 attach_closed k fs =
     ap (λ (b : Bool). attach_by b (latest_attach k.attached fs)) (ap is_live_row (autofs_changed fs fs true k.triggers) ∙ closed_row fs k.triggers (autofs_of k.triggers fs) refl)
 
-pub attach_other : (k : KernelState) (fs other : ℕ) → (other == fs) ≡ false → attach_of (closed fs k) other ≡ attach_of k other
+pub attach_other : (k : KernelState) (fs other : ℕ) → (other == fs) ≡ false → attach_of (made_catatonic fs k) other ≡ attach_of k other
 attach_other k fs other d = ap (λ (b : Bool). attach_by b (latest_attach k.attached other)) (live_other fs other true k.triggers d)
 
 -- ---- an attachment is new

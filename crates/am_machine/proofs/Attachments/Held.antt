@@ -6,9 +6,9 @@ use Rattle.std.specs.Option.{option_map}
 use Rattle.std.proofs.lemmas.Bool.Decides.{nat_tests}
 use Rattle.std.proofs.lemmas.List.Elements.{All-push, All-filter}
 use Rattle.am_names.proofs.Basics.{equal_to_itself, differ_the_other_way}
-use Rattle.am_state.specs.declared.daemon_row.HeldRow.{HeldRow}
-use Rattle.am_daemon.specs.Attachments.{held_as}
-use Rattle.am_machine.specs.Invariant.Traces.{AreDifferent}
+use Rattle.am_state.specs.{HeldRow}
+use Rattle.am_daemon.specs.{held_as}
+use Rattle.am_machine.specs.{AreDifferent}
 use Rattle.am_machine.proofs.Lists.Found.{find_others, find_new, absent, different_more, gone, found_left}
 use Rattle.am_machine.proofs.Lists.Different.{differ_filter}
 

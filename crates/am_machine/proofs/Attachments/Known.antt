@@ -7,12 +7,11 @@ use Rattle.std.proofs.lemmas.List.Elements.{All-map, All-weaker, All-push, All-f
 use Rattle.std.proofs.lemmas.List.Folds.{list_any-append}
 use Rattle.std.proofs.lemmas.Map.Views.{any-filter_same}
 use Rattle.am_names.proofs.Basics.{equal_to_itself, equal_by_test, or_left, or_right, value_where_some, found_passes, differ_the_other_way}
-use Rattle.am_state.specs.declared.daemon_row.HeldRow.{HeldRow}
-use Rattle.am_state.specs.declared.daemon_row.KnownRow.{KnownRow}
-use Rattle.am_trigger.specs.declared.autofs.Autofs.{Autofs}
-use Rattle.am_kernel.specs.declared.row.Attached.{Attached}
-use Rattle.am_daemon.specs.Attachments.{known_at, held_as}
-use Rattle.am_machine.specs.Invariant.Attachments.{is_known, was_attached, AreKnown}
+use Rattle.am_state.specs.{HeldRow, KnownRow}
+use Rattle.am_trigger.specs.{Autofs}
+use Rattle.am_kernel.specs.{Attached}
+use Rattle.am_daemon.specs.{known_at, held_as}
+use Rattle.am_machine.specs.{is_known, was_attached, AreKnown}
 use Rattle.am_machine.proofs.Lists.Different.{all_found}
 
 -- ---- a test that a row passes

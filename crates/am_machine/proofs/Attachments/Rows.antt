@@ -3,29 +3,16 @@ use Rattle.std.proofs.Common.{◌≡◌, ℕ, ◌+◌, ◌≤◌, ◌==◌, Bool
 use Rattle.std.specs.Prelude.{not, is_some, if◌then◌else◌}
 use Rattle.std.specs.List.{All, list_any, flat_map}
 use Rattle.std.proofs.lemmas.List.Elements.{All-nil, All-cons, All-head, All-tail, All-append, All-push, All-weaker, All-map, All-filter}
-use Rattle.am_names.specs.Trigger.{same_trigger}
+use Rattle.am_names.specs.{same_trigger, MountRow, Position}
 use Rattle.am_names.specs.declared.trigger.Trigger.{Trigger}
-use Rattle.am_names.specs.declared.row.MountRow.{MountRow}
-use Rattle.am_names.specs.declared.row.Position.{Position}
-use Rattle.am_state.specs.declared.daemon_row.HeldRow.{HeldRow}
-use Rattle.am_state.specs.declared.daemon_row.KnownRow.{KnownRow}
-use Rattle.am_state.specs.declared.daemon_row.Record.{Record}
+use Rattle.am_state.specs.{HeldRow, KnownRow, Record, RecordRow}
 use Rattle.am_state.specs.declared.daemon_row.Record.TheVariants.{Mounted}
-use Rattle.am_state.specs.declared.daemon_row.RecordRow.{RecordRow}
-use Rattle.am_trigger.specs.declared.autofs.Autofs.{Autofs}
-use Rattle.am_trigger.specs.Rows.{autofs_of, catatonic_row}
-use Rattle.am_trigger.specs.Sites.{trigger_in}
-use Rattle.am_kernel.specs.declared.row.Attached.{Attached}
-use Rattle.am_kernel.specs.State.{KernelState}
-use Rattle.am_kernel.specs.DaemonMounts.{attached_at, is_top_at, trigger_at, standing_on, standing_row, standing_in, standing}
+use Rattle.am_trigger.specs.{Autofs, autofs_of, catatonic_row, trigger_in}
+use Rattle.am_kernel.specs.{Attached, KernelState, attached_at, is_top_at, trigger_at, standing_on, standing_row, standing_in, standing, with_pipe, with_timeout, timeout_row, made_catatonic}
 use Rattle.am_kernel.specs.Attachments as piped
-use Rattle.am_kernel.specs.Attachments.{with_pipe}
-use Rattle.am_kernel.specs.Requests.{with_timeout, timeout_row}
-use Rattle.am_kernel.specs.Catatonic.{closed}
-use Rattle.am_job.specs.Book.{record_row, with_record, recorded, without_fs}
-use Rattle.am_daemon.specs.State.{DaemonState, JobPlan}
-use Rattle.am_daemon.specs.Attachments.{with_attachment, all_mounted, reattached}
-use Rattle.am_machine.specs.Invariant.Attachments.{RiseTo, AreKnown, AreGiven}
+use Rattle.am_job.specs.{record_row, with_record, recorded, without_fs}
+use Rattle.am_daemon.specs.{DaemonState, JobPlan, with_attachment, all_mounted, reattached}
+use Rattle.am_machine.specs.{RiseTo, AreKnown, NumbersAreAllocated}
 use Rattle.am_machine.proofs.Attachments.Known.{autofs_is, known_marked, known_changed, known_more, known_again}
 use Rattle.am_machine.proofs.Lists.Different.{all_found}
 use Rattle.am_machine.proofs.Attachments.Grows.{rise_push, rise_map, rise_more, piped_fs, timeout_keeps}
@@ -46,7 +33,7 @@ record DaemonGiven (k : KernelState) (d : DaemonState) : Type 0 where
   jobs : All (λ (row : JobPlan). (row.attach ≤ k.last_attach) × (row.trigger.fs ≤ k.last_fs)) d.jobs
   book : All (λ (row : RecordRow). row.trigger.fs ≤ k.last_fs) d.book
 
-given_daemon : (k made : KernelState) (d : DaemonState) → IsGiven k made → AreGiven k d → DaemonGiven made d
+given_daemon : (k made : KernelState) (d : DaemonState) → IsGiven k made → NumbersAreAllocated k d → DaemonGiven made d
 given_daemon k made d g h =
     let fs = g.more_fs in
     let attach = g.more_attach in
@@ -56,13 +43,13 @@ given_daemon k made d g h =
       book = All-weaker (λ (row : RecordRow). row.trigger.fs ≤ k.last_fs) (λ (row : RecordRow). row.trigger.fs ≤ made.last_fs) (λ row le. omega (arith, le, fs)) d.book h.book;
     }
 
-pub given_kernel : (k made : KernelState) (d : DaemonState) → IsGiven k made → AreKnown made.triggers.autofs made.attached d.known d.held → AreGiven k d → AreGiven made d
+pub given_kernel : (k made : KernelState) (d : DaemonState) → IsGiven k made → AreKnown made.triggers.autofs made.attached d.known d.held → NumbersAreAllocated k d → NumbersAreAllocated made d
 given_kernel k made d g familiar h =
     let daemon = given_daemon k made d g h in
     record { rise = g.rise; attached = g.attached; autofs = g.autofs; known = daemon.known; jobs = daemon.jobs; book = daemon.book; familiar = familiar }
 
 -- only the number of file systems rises, if any
-pub given_more : (k made : KernelState) (d : DaemonState) → made.attached ≡ k.attached → made.triggers.autofs ≡ k.triggers.autofs → made.last_attach ≡ k.last_attach → k.last_fs ≤ made.last_fs → AreGiven k d → AreGiven made d
+pub given_more : (k made : KernelState) (d : DaemonState) → made.attached ≡ k.attached → made.triggers.autofs ≡ k.triggers.autofs → made.last_attach ≡ k.last_attach → k.last_fs ≤ made.last_fs → NumbersAreAllocated k d → NumbersAreAllocated made d
 given_more k made d attached autofs last le h =
     given_kernel k made d (record {
       rise = subst (RiseTo made.last_fs 0) (sym attached) (rise_more k.last_fs made.last_fs 0 k.attached le h.rise);
@@ -83,12 +70,12 @@ catatonic_all fs last b rows h =
     All-map (λ (row : Autofs). row.fs ≤ last) (catatonic_row fs b) rows
     (All-weaker (λ (row : Autofs). row.fs ≤ last) (λ (row : Autofs). (catatonic_row fs b row).fs ≤ last) (λ row le. subst (λ (n : ℕ). n ≤ last) (sym (catatonic_by_cases b (row.fs == fs) row)) le) rows h)
 
-pub given_closed : (k : KernelState) (d : DaemonState) (fs : ℕ) → AreGiven k d → AreGiven (closed fs k) d
+pub given_closed : (k : KernelState) (d : DaemonState) (fs : ℕ) → NumbersAreAllocated k d → NumbersAreAllocated (made_catatonic fs k) d
 given_closed k d fs h =
-    given_kernel k (closed fs k) d (record { rise = h.rise; attached = h.attached; autofs = catatonic_all fs k.last_fs true k.triggers.autofs h.autofs; more_fs = omega arith; more_attach = omega arith })
+    given_kernel k (made_catatonic fs k) d (record { rise = h.rise; attached = h.attached; autofs = catatonic_all fs k.last_fs true k.triggers.autofs h.autofs; more_fs = omega arith; more_attach = omega arith })
     (known_marked k.triggers.autofs k.attached d.known d.held h.familiar (catatonic_row fs true) (λ row. catatonic_by_cases true (row.fs == fs) row)) h
 
-pub given_timeout : (k : KernelState) (d : DaemonState) (fs n : ℕ) → AreGiven k d → AreGiven (with_timeout fs n k) d
+pub given_timeout : (k : KernelState) (d : DaemonState) (fs n : ℕ) → NumbersAreAllocated k d → NumbersAreAllocated (with_timeout fs n k) d
 given_timeout k d fs n h =
     given_kernel k (with_timeout fs n k) d (record {
       rise = rise_map k.last_fs 0 (timeout_row fs n) k.attached (λ row. (timeout_keeps fs n row).0) h.rise;
@@ -106,7 +93,7 @@ piped_most : (last : ℕ) (row : Attached) (b : Bool) → row.attach ≤ last �
 piped_most last row true le = omega arith
 piped_most last row false le = omega (arith, le)
 
-given_pipe : (k : KernelState) (d : DaemonState) (fs : ℕ) → AreGiven k d → AreGiven (with_pipe fs k) d
+given_pipe : (k : KernelState) (d : DaemonState) (fs : ℕ) → NumbersAreAllocated k d → NumbersAreAllocated (with_pipe fs k) d
 given_pipe k d fs h =
     let made = with_pipe fs k in
     given_kernel k made d (record {
@@ -121,7 +108,7 @@ given_pipe k d fs h =
     (known_changed k.triggers.autofs k.attached d.known d.held h.familiar (piped.reattached_row fs (k.last_attach + 1)) (piped_fs fs (k.last_attach + 1)))
     (catatonic_row fs false) (λ row. catatonic_by_cases false (row.fs == fs) row)) h
 
-pub given_attached : (direct : Bool) (timeout : ℕ) (k : KernelState) (at : Position) (path : List (List ℕ)) (d : DaemonState) → AreGiven k d → AreGiven (attached_at direct timeout k at) (with_attachment (k.last_fs + 1) (k.last_attach + 1) path d)
+pub given_attached : (direct : Bool) (timeout : ℕ) (k : KernelState) (at : Position) (path : List (List ℕ)) (d : DaemonState) → NumbersAreAllocated k d → NumbersAreAllocated (attached_at direct timeout k at) (with_attachment (k.last_fs + 1) (k.last_attach + 1) path d)
 given_attached direct timeout k at path d h =
     let made = attached_at direct timeout k at in
     let g : IsGiven k made = record {
@@ -207,7 +194,7 @@ standing_below : (k : KernelState) (last fs : ℕ) (o : Option Autofs) → autof
 standing_below k last fs None e h = All-nil (IsBelow last)
 standing_below k last fs (Some autofs) e h = all_standing k last autofs k.table.rows (all_found (λ (row : Autofs). row.fs ≤ last) (λ (row : Autofs). row.fs == fs) k.triggers.autofs autofs h e)
 
-pub given_reattached : (k : KernelState) (d : DaemonState) (fs : ℕ) → is_some (autofs_of k.triggers fs) ≡ true → AreGiven k d → AreGiven (with_pipe fs k) (reattached fs (k.last_attach + 1) (standing k fs) d)
+pub given_reattached : (k : KernelState) (d : DaemonState) (fs : ℕ) → is_some (autofs_of k.triggers fs) ≡ true → NumbersAreAllocated k d → NumbersAreAllocated (with_pipe fs k) (reattached fs (k.last_attach + 1) (standing k fs) d)
 given_reattached k d fs there h =
     let g = given_pipe k d fs h in
     let is = (autofs_is k.triggers.autofs k.attached d.known d.held h.familiar fs there).0 in

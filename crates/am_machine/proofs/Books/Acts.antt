@@ -1,26 +1,17 @@
 -- A job that goes on leaves the daemon's book right.
 use Rattle.std.proofs.Common.{◌≡◌, ℕ, Bool, true, false, map, Option, Some, None, refl, sym, ap, subst, ◌∙◌}
 use Rattle.std.specs.Prelude.{◌==◌, ◌&&◌, if◌then◌else◌}
-use Rattle.am_names.specs.Trigger.{same_trigger}
+use Rattle.am_names.specs.{same_trigger}
 use Rattle.am_names.specs.declared.trigger.Trigger.{Trigger}
-use Rattle.am_state.specs.declared.daemon_row.HeldRow.{HeldRow}
-use Rattle.am_state.specs.declared.daemon_row.Record.{Record}
+use Rattle.am_state.specs.{HeldRow, Record}
 use Rattle.am_job.specs.declared.act.Act.TheVariants as act
-use Rattle.am_job.specs.declared.act.Outcome.{Outcome}
-use Rattle.am_job.specs.Plans.{rest_of, next_of}
-use Rattle.am_job.specs.Book.{record_of}
-use Rattle.am_names.proofs.SameTriggers.{is_one, is_itself}
+use Rattle.am_job.specs.{Outcome, rest_of, next_of, record_of}
+use Rattle.am_names.proofs.SameTriggers.{equal_by_same_trigger, same_trigger_itself}
 use Rattle.am_names.proofs.Basics.{equal_to_itself, equal_by_test}
-use Rattle.am_kernel.specs.State.{KernelState}
-use Rattle.am_daemon.specs.declared.acts.Writing.{Writing}
-use Rattle.am_daemon.specs.State.{DaemonState, JobPlan}
-use Rattle.am_daemon.specs.Attachments.{holds, attach_held}
-use Rattle.am_daemon.specs.Deliveries.{job_of}
-use Rattle.am_daemon.specs.Acts.{next_in, writes, writing_of, book_after, finished_in, finished}
+use Rattle.am_kernel.specs.{KernelState}
+use Rattle.am_daemon.specs.{Writing, DaemonState, JobPlan, holds, attach_held, job_of, next_in, writes, writing_of, book_after, finished_in, finished}
 use Rattle.am_daemon.proofs.JobLemmas.{others_stay}
-use Rattle.am_machine.specs.Invariant.Traces.{AreDifferent}
-use Rattle.am_machine.specs.Invariant.Planned.{has_record_left, IsPlanned}
-use Rattle.am_machine.specs.Invariant.Books.{IsServed, is_pending_for, is_to_record, BookAgrees}
+use Rattle.am_machine.specs.{AreDifferent, has_record_left, IsPlanned, IsServed, is_pending_for, is_to_record, BookAgrees}
 use Rattle.am_machine.proofs.Planned.Rests.{left_kept, Writes, left_written}
 use Rattle.am_machine.proofs.Books.Pending.{recorded_is, settled_for, pending_once}
 use Rattle.am_machine.proofs.Books.Jobs.{is_left, never_left, finished_here, holds_one}
@@ -79,7 +70,7 @@ held_is d fs attach other differ h held =
     cc
 
 its_left : (row : JobPlan) → is_left row.attach row.trigger row true ≡ true
-its_left row = rw (equal_to_itself row.attach, is_itself row.trigger) refl
+its_left row = rw (equal_to_itself row.attach, same_trigger_itself row.trigger) refl
 
 -- until then the record is pending for the job, where its file system is served
 was_pending : (k : KernelState) (d : DaemonState) (row : JobPlan) (fs attach : ℕ) → IsJob d row → has_record_left row.plan ≡ true → holds d row.trigger.fs row.attach ≡ true → BookAgrees k d → IsServed k d fs attach → row.trigger.fs ≡ fs →
@@ -114,7 +105,7 @@ written_by_cases k d row outcome trigger entry fs attach g token true false is o
     ∙ not_its (row.attach == attach) (same_trigger row.trigger g) (has_record_left row.plan) other
     ∙ sym (subst (λ (n : ℕ). is_to_record attach g (job_of (finished_in row.token outcome d.jobs) n) ≡ false) (sym (equal_by_test token row.token is)) (written_here attach g d row outcome j p.written))
 written_by_cases k d row outcome trigger entry fs attach g token false true differs its j p w h s same =
-    let g_is : row.trigger ≡ g = is_one row.trigger g its in
+    let g_is : row.trigger ≡ g = equal_by_same_trigger row.trigger g its in
     let system : row.trigger.fs ≡ fs = ap (λ (t : Trigger). t.fs) g_is ∙ same in
     let mine : is_pending_for row.token (record_of d.book g) ≡ true =
     subst (λ (t : Trigger). is_pending_for row.token (record_of d.book t) ≡ true) g_is (was_pending k d row fs attach j p.before w h s system) in

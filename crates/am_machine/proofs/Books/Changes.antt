@@ -1,30 +1,16 @@
 -- Each change leaves the daemon's book right, and so does each event.
 use Rattle.std.proofs.Common.{◌≡◌, ◌∙◌, ℕ, ◌≤◌, ◌==◌, List, map, Some, None, refl, ap, arith}
 use Rattle.std.proofs.lemmas.List.Elements.{All-nil}
-use Rattle.am_names.specs.declared.row.TokenKind.{TokenKind}
+use Rattle.am_names.specs.{TokenKind, WaitRow}
 use Rattle.am_names.specs.declared.row.TokenKind.TheVariants.{Missing, Expire}
-use Rattle.am_names.specs.declared.row.WaitRow.{WaitRow}
-use Rattle.am_state.specs.declared.daemon_row.HeldRow.{HeldRow}
-use Rattle.am_state.specs.declared.obs.Obs.{Obs}
-use Rattle.am_kernel.specs.State.{KernelState}
-use Rattle.am_kernel.specs.Outcome.{with_latest}
-use Rattle.am_kernel.specs.Sites.{attach_of}
-use Rattle.am_kernel.specs.Requests.{without_packet}
+use Rattle.am_state.specs.{HeldRow, Obs}
+use Rattle.am_kernel.specs.{KernelState, with_latest, attach_of, without_packet}
 use Rattle.am_kernel.specs.Resumes as resumes
 use Rattle.am_job.specs.declared.act.Outcome as job
-use Rattle.am_job.specs.Plans.{next_of}
-use Rattle.am_daemon.specs.State.{JobPlan}
-use Rattle.am_daemon.specs.Points.{line_timeout}
-use Rattle.am_daemon.specs.Deliveries.{job_of, taken_up}
-use Rattle.am_daemon.specs.Acts.{writes, finished}
-use Rattle.am_machine.specs.declared.event.Event.{Event}
-use Rattle.am_machine.specs.State.{State, Opening, opening_of}
-use Rattle.am_machine.specs.Machine.{outcome_of, after}
-use Rattle.am_machine.specs.Invariant.Attachments.{AreGiven}
-use Rattle.am_machine.specs.Invariant.Tokens.{TokensAgree}
-use Rattle.am_machine.specs.Invariant.Planned.{IsPlanned, ArePlanned}
-use Rattle.am_machine.specs.Invariant.Traces.{AreDifferent}
-use Rattle.am_machine.specs.Invariant.Books.{BookAgrees}
+use Rattle.am_job.specs.{next_of}
+use Rattle.am_daemon.specs.{JobPlan, line_timeout, job_of, taken_up, writes, finished}
+use Rattle.am_machine.specs.{Event, Setup, initial_state_of, outcome_of, after, NumbersAreAllocated, TokensAgree, IsPlanned, ArePlanned, AreDifferent, BookAgrees}
+use Rattle.am_machine.specs.State.{State}
 use Rattle.am_machine.proofs.Lists.Different.{all_found}
 use Rattle.am_machine.proofs.Books.Unchanged.{Narrows, narrowed, same_attachments, narrows_itself, one_after_another, narrows_latest, timeout_narrows, closed_narrows}
 use Rattle.am_machine.proofs.Books.Acts.{IsJob, goes_on_kept, goes_on_written}
@@ -41,16 +27,16 @@ abbrev pub NarrowsBy : KernelState → List Obs → KernelState → Type 0
 NarrowsBy k shown made = Narrows k made
 
 -- a wait that is collected
-freed_narrows : (kind : TokenKind) (k : KernelState) (wait : WaitRow) (moment : ℕ) → Narrows k (resumes.freed_from kind wait moment k)
-freed_narrows Missing k wait moment = same_attachments k (resumes.freed_from Missing wait moment k) (λ fs. refl) (omega arith)
-freed_narrows Expire k wait moment = same_attachments k (resumes.freed_from Expire wait moment k) (λ fs. refl) (omega arith)
+freed_narrows : (kind : TokenKind) (k : KernelState) (wait : WaitRow) (moment : ℕ) → Narrows k (resumes.wait_collected_from kind wait moment k)
+freed_narrows Missing k wait moment = same_attachments k (resumes.wait_collected_from Missing wait moment k) (λ fs. refl) (omega arith)
+freed_narrows Expire k wait moment = same_attachments k (resumes.wait_collected_from Expire wait moment k) (λ fs. refl) (omega arith)
 
 pub walks : tour.Keeps AnyPath NarrowsBy
 walks = record {
   nothing = narrows_itself;
-  arrived = λ k begin at passed w. same_attachments k _ (λ fs. refl) (omega arith);
-  joined = λ k begin token passed w. same_attachments k _ (λ fs. refl) (omega arith);
-  notified = λ k begin trigger attach passed w is. same_attachments k _ (λ fs. refl) (omega arith);
+  arrived = λ k attempt at passed w. same_attachments k _ (λ fs. refl) (omega arith);
+  joined = λ k attempt token passed w. same_attachments k _ (λ fs. refl) (omega arith);
+  notified = λ k attempt trigger attach passed w is. same_attachments k _ (λ fs. refl) (omega arith);
   expiring = λ k walker fs moment immediate trigger attach x. same_attachments k _ (λ fs. refl) (omega arith);
   closed = closed_narrows;
   collected = λ k kind wait status moment shown made g later. one_after_another k _ made (freed_narrows kind k wait moment) later;
@@ -60,7 +46,7 @@ walks = record {
 
 -- where the book is right, and what else it rests on, it is right afterwards
 record BookStays (s : State) (shown : List Obs) (t : State) : Type 0 where
-  book : AreGiven s.kernel s.daemon → ArePlanned s.daemon.jobs → AreDifferent (map (λ (r : JobPlan). r.token) s.daemon.jobs) → BookAgrees s.kernel s.daemon → BookAgrees t.kernel t.daemon
+  book : NumbersAreAllocated s.kernel s.daemon → ArePlanned s.daemon.jobs → AreDifferent (map (λ (r : JobPlan). r.token) s.daemon.jobs) → BookAgrees s.kernel s.daemon → BookAgrees t.kernel t.daemon
 
 -- the kernel's half changes, and no file system is served that wasn't
 narrows : (s : State) (shown : List Obs) (k : KernelState) → Narrows s.kernel k → BookStays s shown (with_half k s)
@@ -114,13 +100,13 @@ book = record {
 }
 
 -- an outcome leaves the book right
-pub outcome_book : (s : State) (event : Event) → AreGiven s.kernel s.daemon → TokensAgree s.kernel s.daemon.jobs → ArePlanned s.daemon.jobs → BookAgrees s.kernel s.daemon → BookAgrees (after s (outcome_of s event)).kernel (after s (outcome_of s event)).daemon
+pub outcome_book : (s : State) (event : Event) → NumbersAreAllocated s.kernel s.daemon → TokensAgree s.kernel s.daemon.jobs → ArePlanned s.daemon.jobs → BookAgrees s.kernel s.daemon → BookAgrees (after s (outcome_of s event)).kernel (after s (outcome_of s event)).daemon
 outcome_book s event given tokens planned h = (tours.outcome AnyPath AnyJob NarrowsBy BookStays book s event (any_event s event)).well.book given planned tokens.numbers h
 
 -- in the initial world nothing is served, and nothing is written down
-pub initial_book : (opening : Opening) → BookAgrees (opening_of opening).kernel (opening_of opening).daemon
+pub initial_book : (opening : Setup) → BookAgrees (initial_state_of opening).kernel (initial_state_of opening).daemon
 initial_book opening = record {
   pending = λ fs attach s g same token. let held : None ≡ Some attach = s.held in absurd cc;
   held = tt;
-  given = All-nil (λ (row : HeldRow). row.fs ≤ (opening_of opening).kernel.last_fs);
+  given = All-nil (λ (row : HeldRow). row.fs ≤ (initial_state_of opening).kernel.last_fs);
 }

@@ -1,27 +1,19 @@
 -- A job that begins leaves the daemon's book right: its record is pending, unless it only acknowledges.
 use Rattle.std.proofs.Common.{◌≡◌, ℕ, Bool, true, false, [], ◌∷◌, ◌++◌, Option, Some, None, refl, sym, ap, subst, ◌∙◌}
 use Rattle.std.specs.Prelude.{◌==◌, not, is_some, if◌then◌else◌}
-use Rattle.am_names.specs.Trigger.{same_trigger}
+use Rattle.am_names.specs.{same_trigger, TokenKind}
 use Rattle.am_names.specs.declared.trigger.Trigger.{Trigger}
-use Rattle.am_names.specs.declared.row.TokenKind.{TokenKind}
 use Rattle.am_names.specs.declared.row.TokenKind.TheVariants.{Missing, Expire}
-use Rattle.am_wire.specs.Kind.{token_kind}
-use Rattle.am_wire.specs.declared.packet.Packet.{Packet}
+use Rattle.am_wire.specs.{token_kind, Packet}
 use Rattle.am_map.specs.EntryText.{EntryText}
-use Rattle.am_state.specs.declared.daemon_row.Record.{Record}
-use Rattle.am_job.specs.Book.{record_of, recorded}
-use Rattle.am_job.specs.Plans.{is_reply, plan_for}
-use Rattle.am_names.proofs.SameTriggers.{is_one}
+use Rattle.am_state.specs.{Record}
+use Rattle.am_job.specs.{record_of, recorded, is_reply, plan_for}
+use Rattle.am_names.proofs.SameTriggers.{equal_by_same_trigger}
 use Rattle.am_names.proofs.Basics.{neither_of_or, equal_to_itself, equal_by_test}
 use Rattle.am_wait.proofs.CallLemmas.{is_none_of}
-use Rattle.am_kernel.specs.State.{KernelState}
-use Rattle.am_daemon.specs.State.{DaemonState, JobPlan}
-use Rattle.am_daemon.specs.Attachments.{holds, attach_held}
-use Rattle.am_daemon.specs.Points.{entry_of}
-use Rattle.am_daemon.specs.Packets.{trigger_of, plan_of_packet, pending, pending_of, mounted_for, is_pending}
-use Rattle.am_daemon.specs.Deliveries.{job_of, job_for, is_busy, taken_up}
-use Rattle.am_machine.specs.Invariant.Planned.{has_record_left}
-use Rattle.am_machine.specs.Invariant.Books.{IsServed, is_pending_for, is_to_record, BookAgrees}
+use Rattle.am_kernel.specs.{KernelState}
+use Rattle.am_daemon.specs.{DaemonState, JobPlan, holds, attach_held, entry_of, trigger_of, plan_of_packet, pending, pending_of, mounted_for, is_pending, job_of, job_for, is_busy, taken_up}
+use Rattle.am_machine.specs.{has_record_left, IsServed, is_pending_for, is_to_record, BookAgrees}
 use Rattle.am_machine.proofs.Planned.Rests.{plan_left}
 use Rattle.am_machine.proofs.Books.Pending.{recorded_is, settled_for}
 use Rattle.am_machine.proofs.Lists.Found.{find_others, find_new}
@@ -70,7 +62,7 @@ others_by_cases : (d : DaemonState) (packet : Packet) (g : Trigger) (token : ℕ
     is_pending_for token (told_by reply d packet (pending_of d packet) g) ≡ is_pending_for token (record_of d.book g)
 others_by_cases d packet g token true b is differs settled = refl
 others_by_cases d packet g token false true is differs settled =
-    let g_is : trigger_of packet ≡ g = is_one (trigger_of packet) g is in
+    let g_is : trigger_of packet ≡ g = equal_by_same_trigger (trigger_of packet) g is in
     rw is (pending_other (token_kind packet.kind) packet.token token (mounted_for d packet) differs
     ∙ sym (subst (λ (t : Trigger). is_pending_for token (record_of d.book t) ≡ false) g_is (settled_for token (record_of d.book (trigger_of packet)) settled)))
 others_by_cases d packet g token false false is differs settled = rw is refl
@@ -81,7 +73,7 @@ pending_here_by_cases : (k : KernelState) (d : DaemonState) (attach : ℕ) (pack
 pending_here_by_cases k d attach packet fs own g true b replies is m h s same =
     h.pending fs attach s g same packet.token ∙ ap (is_to_record attach g) m.idle ∙ sym (never_left (own == attach) (same_trigger (trigger_of packet) g))
 pending_here_by_cases k d attach packet fs own g false true more is m h s same =
-    let g_is : trigger_of packet ≡ g = is_one (trigger_of packet) g is in
+    let g_is : trigger_of packet ≡ g = equal_by_same_trigger (trigger_of packet) g is in
     let system : packet.dev ≡ fs = ap (λ (t : Trigger). t.fs) g_is ∙ same in
     let held : attach_held d packet.dev ≡ Some attach = subst (λ (n : ℕ). attach_held d n ≡ Some attach) (sym system) s.held in
     let under : own ≡ attach = held_is d packet.dev attach own h.held m.holds held in

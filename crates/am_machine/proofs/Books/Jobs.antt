@@ -3,18 +3,13 @@ use Rattle.std.proofs.Common.{◌≡◌, ℕ, Bool, true, false, cond, List, [],
 use Rattle.std.specs.Prelude.{◌==◌, ◌||◌, ◌&&◌, not, is_some, find, if◌then◌else◌}
 use Rattle.std.specs.List.{list_any}
 use Rattle.std.specs.Option.{option_map}
-use Rattle.am_names.specs.Trigger.{same_trigger}
+use Rattle.am_names.specs.{same_trigger}
 use Rattle.am_names.specs.declared.trigger.Trigger.{Trigger}
 use Rattle.am_names.proofs.Basics.{equal_by_test}
-use Rattle.am_state.specs.declared.daemon_row.HeldRow.{HeldRow}
-use Rattle.am_job.specs.declared.act.Outcome.{Outcome}
-use Rattle.am_job.specs.Plans.{Plan, Ended, Next, rest_of, next_of}
-use Rattle.am_daemon.specs.State.{JobPlan}
-use Rattle.am_daemon.specs.Deliveries.{job_of}
-use Rattle.am_daemon.specs.Acts.{walked, is_ended, going, finished_in}
-use Rattle.am_machine.specs.Invariant.Traces.{has, AreDifferent}
-use Rattle.am_machine.specs.Invariant.Planned.{has_record_left}
-use Rattle.am_machine.specs.Invariant.Books.{is_to_record}
+use Rattle.am_state.specs.{HeldRow}
+use Rattle.am_job.specs.{Outcome, Plan, Ended, Next, rest_of, next_of}
+use Rattle.am_daemon.specs.{JobPlan, job_of, walked, is_ended, going, finished_in}
+use Rattle.am_machine.specs.{has, AreDifferent, has_record_left, is_to_record}
 use Rattle.am_machine.proofs.Lists.Found.{absent, absent_and}
 
 -- ---- what the job itself has still to write

@@ -5,16 +5,15 @@ use Rattle.std.specs.List.{list_any, All}
 use Rattle.std.specs.Option.{option_map}
 use Rattle.std.proofs.lemmas.Bool.Decides.{nat_tests}
 use Rattle.std.proofs.lemmas.List.Elements.{All-head, All-tail}
-use Rattle.am_names.specs.Trigger.{same_trigger}
+use Rattle.am_names.specs.{same_trigger}
 use Rattle.am_names.specs.declared.trigger.Trigger.{Trigger}
-use Rattle.am_state.specs.declared.daemon_row.Record.{Record}
+use Rattle.am_state.specs.{Record, RecordRow}
 use Rattle.am_state.specs.declared.daemon_row.Record.TheVariants.{Mounting, Mounted, Unmounting}
-use Rattle.am_state.specs.declared.daemon_row.RecordRow.{RecordRow}
-use Rattle.am_job.specs.Book.{record_of, record_row, with_record, recorded, IsRecorded}
+use Rattle.am_job.specs.{record_of, record_row, with_record, recorded, IsRecorded}
 use Rattle.am_job.proofs.BookLemmas.{removed}
-use Rattle.am_names.proofs.SameTriggers.{is_one, is_itself}
-use Rattle.am_machine.specs.Invariant.Books.{is_pending_for}
-use Rattle.am_daemon.specs.Packets.{is_pending}
+use Rattle.am_names.proofs.SameTriggers.{equal_by_same_trigger, same_trigger_itself}
+use Rattle.am_machine.specs.{is_pending_for}
+use Rattle.am_daemon.specs.{is_pending}
 
 -- ---- one record changes
 
@@ -39,13 +38,13 @@ changed_other trigger g entry (row ∷ rows) other = by (changed_other trigger g
   where
     by : record_of (map (record_row trigger entry) rows) g ≡ record_of rows g → (b : Bool) → same_trigger row.trigger trigger ≡ b → record_of (map (record_row trigger entry) (row ∷ rows)) g ≡ record_of (row ∷ rows) g
     by later true same =
-        let skipped : same_trigger row.trigger g ≡ false = subst (λ (t : Trigger). same_trigger t g ≡ false) (sym (is_one row.trigger trigger same)) other in
+        let skipped : same_trigger row.trigger g ≡ false = subst (λ (t : Trigger). same_trigger t g ≡ false) (sym (equal_by_same_trigger row.trigger trigger same)) other in
         rw (same, skipped) later
     by later false differs = rw differs (behind (same_trigger row.trigger g) row (map (record_row trigger entry) rows) rows g later)
 
 -- the record of a trigger that has none
 added_here : (trigger : Trigger) (entry : Record) (book : List RecordRow) → list_any (λ row. same_trigger row.trigger trigger) book ≡ false → record_of (book ++ (record { trigger = trigger; entry = entry }) ∷ []) trigger ≡ Some entry
-added_here trigger entry [] none = rw (is_itself trigger) refl
+added_here trigger entry [] none = rw (same_trigger_itself trigger) refl
 added_here trigger entry (row ∷ rows) none = by (λ none. added_here trigger entry rows none) (same_trigger row.trigger trigger) refl none
   where
     by : (list_any (λ row. same_trigger row.trigger trigger) rows ≡ false → record_of (rows ++ (record { trigger = trigger; entry = entry }) ∷ []) trigger ≡ Some entry) →
@@ -70,7 +69,7 @@ put_other trigger g entry book false other = added_other trigger g entry book ot
 
 put_by_cases : (trigger g : Trigger) (entry : Record) (book : List RecordRow) (b : Bool) → same_trigger trigger g ≡ b → record_of (with_record trigger entry book) g ≡ (if b then Some entry else record_of book g)
 put_by_cases trigger g entry book true same =
-    subst (λ (t : Trigger). record_of (with_record trigger entry book) t ≡ Some entry) (is_one trigger g same) (put_here trigger entry book (list_any (λ row. same_trigger row.trigger trigger) book) refl)
+    subst (λ (t : Trigger). record_of (with_record trigger entry book) t ≡ Some entry) (equal_by_same_trigger trigger g same) (put_here trigger entry book (list_any (λ row. same_trigger row.trigger trigger) book) refl)
 put_by_cases trigger g entry book false other = put_other trigger g entry book (list_any (λ row. same_trigger row.trigger trigger) book) other
 
 -- the record is written, and the others stay
@@ -81,7 +80,7 @@ recorded_is trigger (Some entry) book = λ g. put_by_cases trigger g entry book 
 -- ---- file systems of which there is no record
 
 no_record_by_cases : (g : Trigger) (row : RecordRow) (rows : List RecordRow) (b : Bool) → same_trigger row.trigger g ≡ b → (row.trigger.fs ≡ g.fs → ⊥) → record_of rows g ≡ None → record_of (row ∷ rows) g ≡ None
-no_record_by_cases g row rows true same apart later = absurd (apart (ap (λ (t : Trigger). t.fs) (is_one row.trigger g same)))
+no_record_by_cases g row rows true same apart later = absurd (apart (ap (λ (t : Trigger). t.fs) (equal_by_same_trigger row.trigger g same)))
 no_record_by_cases g row rows false other apart later = rw other later
 
 -- no row of the book is of this file system

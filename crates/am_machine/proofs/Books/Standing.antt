@@ -4,22 +4,15 @@ use Rattle.std.proofs.Common.{◌≡◌, ℕ, Bool, true, false, List, [], ◌�
 use Rattle.std.specs.Prelude.{◌==◌, if◌then◌else◌}
 use Rattle.std.specs.List.{flat_map, All}
 use Rattle.std.proofs.lemmas.List.Elements.{All-nil, All-cons, All-head, All-tail, All-append}
-use Rattle.am_names.specs.Trigger.{same_trigger}
+use Rattle.am_names.specs.{same_trigger, MountRow, Position}
 use Rattle.am_names.specs.declared.trigger.Trigger.{Trigger}
-use Rattle.am_names.specs.declared.row.MountRow.{MountRow}
-use Rattle.am_names.specs.declared.row.Position.{Position}
 use Rattle.am_names.proofs.Basics.{equal_by_test, found_passes}
-use Rattle.am_state.specs.declared.daemon_row.Record.{Record}
+use Rattle.am_state.specs.{Record, RecordRow}
 use Rattle.am_state.specs.declared.daemon_row.Record.TheVariants.{Mounted}
-use Rattle.am_state.specs.declared.daemon_row.RecordRow.{RecordRow}
-use Rattle.am_trigger.specs.declared.autofs.Autofs.{Autofs}
-use Rattle.am_trigger.specs.Rows.{autofs_of}
-use Rattle.am_trigger.specs.Sites.{trigger_in}
-use Rattle.am_kernel.specs.State.{KernelState}
-use Rattle.am_kernel.specs.DaemonMounts.{is_top_at, trigger_at, trigger_under, standing_on, standing_row, standing_of, standing_in, standing}
-use Rattle.am_job.specs.Book.{record_of, with_record}
-use Rattle.am_daemon.specs.Attachments.{all_mounted}
-use Rattle.am_daemon.specs.Packets.{is_pending}
+use Rattle.am_trigger.specs.{Autofs, autofs_of, trigger_in}
+use Rattle.am_kernel.specs.{KernelState, is_top_at, trigger_at, trigger_under, standing_on, standing_row, standing_of, standing_in, standing}
+use Rattle.am_job.specs.{record_of, with_record}
+use Rattle.am_daemon.specs.{all_mounted, is_pending}
 use Rattle.am_machine.proofs.Books.Pending.{recorded_is}
 
 -- ---- they are of one file system

@@ -5,18 +5,11 @@ use Rattle.std.specs.Option.{option_map}
 use Rattle.std.proofs.lemmas.Bool.Decides.{nat_tests}
 use Rattle.std.proofs.lemmas.List.Elements.{All-weaker}
 use Rattle.am_names.proofs.Basics.{equal_by_test}
-use Rattle.am_state.specs.declared.daemon_row.HeldRow.{HeldRow}
-use Rattle.am_trigger.specs.declared.autofs.Autofs.{Autofs}
-use Rattle.am_trigger.specs.Rows.{catatonic_row}
-use Rattle.am_kernel.specs.declared.row.Attached.{Attached}
-use Rattle.am_kernel.specs.State.{KernelState}
-use Rattle.am_kernel.specs.Outcome.{with_latest}
-use Rattle.am_kernel.specs.Sites.{is_live, is_live_row, latest_attach, attach_of}
-use Rattle.am_kernel.specs.Requests.{timeout_row, with_timeout}
-use Rattle.am_kernel.specs.Attachments.{reattached_row, with_pipe}
-use Rattle.am_kernel.specs.Catatonic.{closed}
-use Rattle.am_daemon.specs.State.{DaemonState}
-use Rattle.am_machine.specs.Invariant.Books.{IsServed, BookAgrees}
+use Rattle.am_state.specs.{HeldRow}
+use Rattle.am_trigger.specs.{Autofs, catatonic_row}
+use Rattle.am_kernel.specs.{Attached, KernelState, with_latest, is_live, is_live_row, latest_attach, attach_of, timeout_row, with_timeout, reattached_row, with_pipe, made_catatonic}
+use Rattle.am_daemon.specs.{DaemonState}
+use Rattle.am_machine.specs.{IsServed, BookAgrees}
 use Rattle.am_machine.proofs.Lists.Found.{found_unchanged, read_unchanged}
 use Rattle.am_machine.proofs.Places.Unchanged.{catatonic_fs}
 
@@ -100,14 +93,14 @@ no_attachment : (live : Bool) (row : Option ℕ) (attach : ℕ) → live ≡ fal
 no_attachment true row attach dead e = absurd cc
 no_attachment false row attach dead e = absurd cc
 
-closed_by_cases : (k : KernelState) (fs f attach : ℕ) (b : Bool) → (fs == f) ≡ b → attach_of (closed fs k) f ≡ Some attach → attach_of k f ≡ Some attach
+closed_by_cases : (k : KernelState) (fs f attach : ℕ) (b : Bool) → (fs == f) ≡ b → attach_of (made_catatonic fs k) f ≡ Some attach → attach_of k f ≡ Some attach
 closed_by_cases k fs f attach true same e =
-    let here : attach_of (closed fs k) fs ≡ Some attach = subst (λ (n : ℕ). attach_of (closed fs k) n ≡ Some attach) (sym (equal_by_test fs f same)) e in
-    absurd (no_attachment (is_live (closed fs k) fs) (latest_attach k.attached fs) attach (not_live fs k.triggers.autofs) here)
+    let here : attach_of (made_catatonic fs k) fs ≡ Some attach = subst (λ (n : ℕ). attach_of (made_catatonic fs k) n ≡ Some attach) (sym (equal_by_test fs f same)) e in
+    absurd (no_attachment (is_live (made_catatonic fs k) fs) (latest_attach k.attached fs) attach (not_live fs k.triggers.autofs) here)
 closed_by_cases k fs f attach false other e =
     sym (found_same _ _ _ _ (autofs_unchanged fs f true k.triggers.autofs other) refl) ∙ e
 
-pub closed_narrows : (k : KernelState) (fs : ℕ) → Narrows k (closed fs k)
+pub closed_narrows : (k : KernelState) (fs : ℕ) → Narrows k (made_catatonic fs k)
 closed_narrows k fs = record { current = λ f attach e. closed_by_cases k fs f attach (fs == f) refl e; given = omega arith }
 
 -- ---- a new pipe

@@ -1,13 +1,12 @@
 -- Every run leaves kernel and daemon in step.
-use Rattle.am_machine.specs.State.{opening_of}
-use Rattle.am_machine.specs.InStep.{RunsAreInStep, RunsAreNeverBusy, RunsRefuseInStep}
+use Rattle.am_machine.specs.{initial_state_of, RunsAreInStep, RunsAreNeverBusy, RunsRefuseInStep}
 use Rattle.am_machine.proofs.Consistent.{initial_consistent, run_consistent}
 use Rattle.am_machine.proofs.Walks.Runs.{initial_named, run_named}
 use Rattle.am_machine.proofs.InStep.States.{in_step, refuses_in_step}
 
 pub runs_in_step : RunsAreInStep
 runs_in_step opening events answers s along run =
-    let old = opening_of opening in
+    let old = initial_state_of opening in
     in_step s (run_consistent old events answers s run (initial_consistent opening)) (run_named old events answers s run along (initial_named opening))
 
 pub runs_never_busy : RunsAreNeverBusy

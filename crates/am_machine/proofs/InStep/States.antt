@@ -4,40 +4,21 @@ use Rattle.std.specs.Prelude.{◌==◌, ◌||◌, ◌&&◌, not, is_some, find, 
 use Rattle.std.specs.Option.{option_map}
 use Rattle.am_names.specs.declared.errno.Errno.{Errno}
 use Rattle.am_names.specs.declared.errno.Errno.TheVariants.{ENOENT, EBUSY, EINVAL}
-use Rattle.am_names.specs.Trigger.{same_trigger}
+use Rattle.am_names.specs.{same_trigger, WaitRow}
 use Rattle.am_names.specs.declared.trigger.Trigger.{Trigger}
-use Rattle.am_trigger.specs.declared.autofs.Autofs.{Autofs}
+use Rattle.am_trigger.specs.{Autofs, autofs_of}
 use Rattle.am_names.specs.declared.row.TokenKind.TheVariants.{Missing}
-use Rattle.am_names.specs.declared.row.WaitRow.{WaitRow}
-use Rattle.am_trigger.specs.Rows.{autofs_of}
-use Rattle.am_wait.specs.Rows.{wait_of}
-use Rattle.am_state.specs.declared.daemon_row.Record.{Record}
+use Rattle.am_wait.specs.{wait_of}
+use Rattle.am_state.specs.{Record, QueuedRow}
 use Rattle.am_state.specs.declared.daemon_row.Record.TheVariants.{Mounting, Mounted, Unmounting}
-use Rattle.am_state.specs.declared.kernel_row.QueuedRow.{QueuedRow}
-use Rattle.am_job.specs.Book.{record_of}
-use Rattle.am_names.proofs.SameTriggers.{is_itself}
+use Rattle.am_job.specs.{record_of}
+use Rattle.am_names.proofs.SameTriggers.{same_trigger_itself}
 use Rattle.am_names.proofs.Basics.{equal_to_itself, true_where_not_false}
-use Rattle.am_kernel.specs.State.{KernelState}
-use Rattle.am_kernel.specs.declared.row.Attached.{Attached}
-use Rattle.am_kernel.specs.declared.row.WalkRow.{WalkRow}
-use Rattle.am_kernel.specs.Sites.{is_live, is_live_row, attach_of, latest_attach, attach_refusal, or_else}
-use Rattle.am_kernel.specs.Attachments.{pipe_refusal}
-use Rattle.am_kernel.specs.Resumes.{walk_in}
-use Rattle.am_kernel.specs.Requests.{queued_of}
+use Rattle.am_kernel.specs.{KernelState, Attached, WalkRow, is_live, is_live_row, attach_of, latest_attach, attach_refusal, or_else, pipe_refusal, walk_in, queued_of}
 use Rattle.am_daemon.specs.declared.fault.DaemonFault.TheVariants.{UnknownFs, OldAttach, Busy}
-use Rattle.am_daemon.specs.State.{DaemonState}
-use Rattle.am_daemon.specs.Attachments.{knows, holds, reattach_refusal}
-use Rattle.am_daemon.specs.Deliveries.{job_of, is_busy, delivery_fault}
-use Rattle.am_daemon.specs.Packets.{trigger_of, is_pending}
+use Rattle.am_daemon.specs.{DaemonState, knows, holds, reattach_refusal, job_of, is_busy, delivery_fault, trigger_of, is_pending}
 use Rattle.am_machine.specs.State.{State}
-use Rattle.am_machine.specs.Events.Deliveries.{has_bytes}
-use Rattle.am_machine.specs.Invariant.Attachments.{was_attached}
-use Rattle.am_machine.specs.Invariant.Walks.{HasWalk, WalksFit}
-use Rattle.am_machine.specs.Invariant.Tokens.{IsInPipe, TokensAgree}
-use Rattle.am_machine.specs.Invariant.Books.{IsServed, is_pending_for, BookAgrees}
-use Rattle.am_machine.specs.Invariant.Records.{AreOfTheirTokens}
-use Rattle.am_machine.specs.Invariant.Consistent.{IsConsistent}
-use Rattle.am_machine.specs.InStep.{AreInStep, RefusesInStep}
+use Rattle.am_machine.specs.{has_bytes, was_attached, HasWalk, WalksFit, IsInPipe, TokensAgree, IsServed, is_pending_for, BookAgrees, AreOfTheirTokens, IsConsistent, AreInStep, RefusesInStep}
 use Rattle.am_machine.proofs.Lists.Different.{all_found, true_is_not_false}
 use Rattle.am_machine.proofs.Attachments.Known.{any_found, autofs_is, held_is}
 use Rattle.am_machine.proofs.Tests.{test_passed}
@@ -67,7 +48,7 @@ for_token (Some (Mounted mount)) h = absurd cc
 for_token (Some (Unmounting token mount)) h = record { entry = Unmounting token mount; is = refl; token = token; pending = equal_to_itself token }
 
 same_itself : (a b : Trigger) → a ≡ b → same_trigger a b ≡ true
-same_itself a b e = subst (λ (g : Trigger). same_trigger a g ≡ true) e (is_itself a)
+same_itself a b e = subst (λ (g : Trigger). same_trigger a g ≡ true) e (same_trigger_itself a)
 
 either_busy : (a b : Bool) → (a || b) ≡ true → (a ≡ true → ⊥) → (b ≡ true → ⊥) → ⊥
 either_busy true b h first second = first refl

@@ -7,7 +7,7 @@ use Rattle.std.proofs.lemmas.Bool.Decides.{nat_tests}
 use Rattle.std.proofs.lemmas.List.Elements.{All-head, All-tail, All-nil, All-cons}
 use Rattle.am_names.proofs.Basics.{neither_of_or, differ_the_other_way, equal_by_test}
 use Rattle.am_wait.proofs.FindLemmas.{or_first, find_append}
-use Rattle.am_machine.specs.Invariant.Traces.{has, AreDifferent}
+use Rattle.am_machine.specs.{has, AreDifferent}
 
 pub true_is_not_false : (b : Bool) → b ≡ true → b ≡ false → ⊥
 true_is_not_false b h g = cc

@@ -5,7 +5,7 @@ use Rattle.std.specs.List.{list_any}
 use Rattle.std.specs.Option.{option_map}
 use Rattle.std.proofs.lemmas.Bool.Decides.{nat_tests}
 use Rattle.am_names.proofs.Basics.{neither_of_or, equal_by_test, differ_the_other_way}
-use Rattle.am_machine.specs.Invariant.Traces.{has, AreDifferent}
+use Rattle.am_machine.specs.{has, AreDifferent}
 
 -- what is found unless it is taken away
 pub some_unless : {X : Type 0} (b : Bool) (o : Option X) (row : X) → cond b None o ≡ Some row → (b ≡ false) × (o ≡ Some row)

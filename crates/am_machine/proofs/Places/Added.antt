@@ -4,17 +4,13 @@ use Rattle.std.specs.Prelude.{◌==◌}
 use Rattle.std.specs.Option.{option_or}
 use Rattle.std.proofs.lemmas.List.Folds.{find-append}
 use Rattle.std.proofs.lemmas.Bool.{eqb-true, eq-eqb, or_cases}
-use Rattle.am_names.specs.declared.row.MountRow.{MountRow}
-use Rattle.am_names.specs.declared.row.Position.{Position}
+use Rattle.am_names.specs.{MountRow, Position}
 use Rattle.am_names.proofs.Basics.{some_injective}
-use Rattle.am_group.specs.declared.membership.Membership.{Membership}
-use Rattle.am_group.specs.Propagation.{Receives}
-use Rattle.am_group.specs.Receivers.{receivers_of}
+use Rattle.am_group.specs.{Membership, Receives, receivers_of}
 use Rattle.am_group.proofs.ScanLemmas.{has}
-use Rattle.am_mount.specs.Rows.{mount_row}
+use Rattle.am_mount.specs.{mount_row}
 use Rattle.am_propagate.specs.MountTable.{MountTable}
-use Rattle.am_propagate.specs.Invariant.{IsWhole}
-use Rattle.am_propagate.specs.Added.{row_at, rows_at, mounted}
+use Rattle.am_propagate.specs.{IsWhole, row_at, rows_at, mounted}
 use Rattle.am_propagate.proofs.AdditionLemmas.{receiver_exact, mounted_law}
 use Rattle.am_machine.proofs.Places.Rows.{Grows}
 

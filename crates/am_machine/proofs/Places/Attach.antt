@@ -4,20 +4,15 @@ use Rattle.std.specs.Prelude.{◌==◌, is_some}
 use Rattle.std.specs.Option.{option_or}
 use Rattle.std.proofs.lemmas.List.Folds.{find-append}
 use Rattle.std.proofs.lemmas.Bool.{eqb-true, ne_eqb}
-use Rattle.am_names.specs.declared.row.MountRow.{MountRow}
-use Rattle.am_names.specs.declared.row.Position.{Position}
+use Rattle.am_names.specs.{MountRow, Position}
 use Rattle.am_names.proofs.Basics.{some_injective}
 use Rattle.am_group.specs.declared.membership.Membership.TheVariants.{Private}
-use Rattle.am_mount.specs.Rows.{mount_row, HasRow, IsIn}
+use Rattle.am_mount.specs.{mount_row, HasRow, IsIn}
 use Rattle.am_propagate.specs.MountTable.{MountTable}
-use Rattle.am_propagate.specs.Added.{ns_in, row_at, mounted}
-use Rattle.am_trigger.specs.declared.autofs.Autofs.{Autofs}
-use Rattle.am_trigger.specs.Rows.{TriggerRows, autofs_of, with_autofs}
-use Rattle.am_kernel.specs.declared.row.Attached.{Attached}
-use Rattle.am_kernel.specs.State.{KernelState}
-use Rattle.am_kernel.specs.Sites.{is_on_autofs}
-use Rattle.am_kernel.specs.DaemonMounts.{with_mount, attached_at}
-use Rattle.am_machine.specs.Invariant.Places.{IsLocation, PlacesAgree}
+use Rattle.am_propagate.specs.{ns_in, row_at, mounted}
+use Rattle.am_trigger.specs.{Autofs, TriggerRows, autofs_of, with_autofs}
+use Rattle.am_kernel.specs.{Attached, KernelState, is_on_autofs, with_mount, attached_at}
+use Rattle.am_machine.specs.{IsLocation, PlacesAgree}
 use Rattle.am_machine.proofs.Places.Rows.{receiver_row, parent_row}
 use Rattle.am_machine.proofs.Places.Added.{mounted_grows, first_row}
 use Rattle.am_machine.proofs.Places.Grown.{position, mounts_same, off_autofs, came_at, mounted_places}

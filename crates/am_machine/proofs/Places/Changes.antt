@@ -3,43 +3,29 @@ use Rattle.std.proofs.Common.{◌≡◌, ◌≢◌, ◌≤◌, ℕ, ◌+◌, ◌
 use Rattle.std.specs.Prelude.{is_some, is_none, Ok, IfNone, IfSome}
 use Rattle.std.specs.List.{list_any}
 use Rattle.std.proofs.lemmas.Bool.{eq-eqb, eqb-true, or_cases, and_parts}
-use Rattle.am_names.specs.declared.row.Position.{Position}
-use Rattle.am_names.specs.declared.row.TokenKind.{TokenKind}
+use Rattle.am_names.specs.{Position, TokenKind, WaitRow}
 use Rattle.am_names.specs.declared.row.TokenKind.TheVariants.{Missing, Expire}
-use Rattle.am_names.specs.declared.row.WaitRow.{WaitRow}
 use Rattle.am_names.specs.declared.trigger.Trigger.{Trigger}
 use Rattle.am_names.proofs.Basics.{none_where_not_some, true_where_not_false}
-use Rattle.am_state.specs.declared.obs.Obs.{Obs}
+use Rattle.am_state.specs.{Obs}
 use Rattle.am_group.specs.declared.membership.Membership.TheVariants.{Private}
-use Rattle.am_group.specs.Invariant.{AddsNoReceivers}
-use Rattle.am_mount.specs.Rows.{mount_row, IsTop, IsFree}
+use Rattle.am_group.specs.{AddsNoReceivers}
+use Rattle.am_mount.specs.{mount_row, IsTop, HasNoMountAt}
 use Rattle.am_mount.proofs.RowLemmas.{top_is, some_greatest, none_free}
-use Rattle.am_propagate.specs.MountTable.{MountTable, is_mount, mountpoint_in, mountpoint_of}
+use Rattle.am_propagate.specs.MountTable.{MountTable}
+use Rattle.am_propagate.specs.{is_mount, mountpoint_in, mountpoint_of, fs_in, membership_of, is_bare, unmounted, umount_refusal, mounts_in}
 use Rattle.am_propagate.specs.Added as added
-use Rattle.am_propagate.specs.Added.{fs_in, membership_of}
-use Rattle.am_propagate.specs.Removed.{is_bare, unmounted, umount_refusal, mounts_in}
 use Rattle.am_propagate.proofs.AdditionLemmas.{mounted_law}
 use Rattle.am_propagate.proofs.RemovalLemmas.{some_of, removed_law}
 use Rattle.am_propagate.proofs.NamespaceLemmas.{with_copy_law}
 use Rattle.am_propagate.proofs.KindLemmas.{changed_keeps}
-use Rattle.am_trigger.specs.declared.autofs.Autofs.{Autofs}
-use Rattle.am_trigger.specs.Rows.{autofs_of}
-use Rattle.am_trigger.specs.Sites.{place_of}
-use Rattle.am_expire.specs.Uses.{is_used}
-use Rattle.am_kernel.specs.declared.row.Attached.{Attached}
-use Rattle.am_kernel.specs.State.{KernelState}
-use Rattle.am_kernel.specs.Outcome.{with_latest}
-use Rattle.am_kernel.specs.Sites.{is_live_row, is_live, is_attached_by, is_current, is_on_autofs, position_at, or_else, root_refusal, fs_refusal, attach_refusal}
-use Rattle.am_kernel.specs.DaemonMounts.{new_fs_refusal, is_there, location_in, location_of, mounted_on, mount_on_refusal, trigger_position, with_mount, attach_tests, attached_at, with_mount_on, gone_with, without_mounts}
-use Rattle.am_kernel.specs.Administration.{mount_tests, source_refusal, bind_tests, bound_at, is_parent_on_autofs, is_any_on_autofs, is_daemons, site_refusal, umount_tests, gone_at}
-use Rattle.am_kernel.specs.Catatonic.{closed}
+use Rattle.am_trigger.specs.{Autofs, autofs_of, place_of}
+use Rattle.am_expire.specs.{is_used}
+use Rattle.am_kernel.specs.{Attached, KernelState, with_latest, is_live_row, is_live, is_attached_by, is_current, is_on_autofs, position_at, or_else, root_refusal, fs_refusal, attach_refusal, new_fs_refusal, is_there, location_in, location_of, mounted_on, mount_on_refusal, trigger_position, with_mount, attach_tests, attached_at, with_mount_on, gone_with, without_mounts, mount_tests, source_refusal, bind_tests, bound_at, is_parent_on_autofs, is_any_on_autofs, is_daemons, site_refusal, umount_tests, gone_at, made_catatonic}
 use Rattle.am_kernel.specs.Resumes as resumes
-use Rattle.am_daemon.specs.Points.{line_timeout}
-use Rattle.am_daemon.specs.State.{JobPlan}
-use Rattle.am_machine.specs.declared.event.Event.{Event}
+use Rattle.am_daemon.specs.{line_timeout, JobPlan}
+use Rattle.am_machine.specs.{Event, after, outcome_of, PlacesAgree}
 use Rattle.am_machine.specs.State.{State}
-use Rattle.am_machine.specs.Machine.{after, outcome_of}
-use Rattle.am_machine.specs.Invariant.Places.{PlacesAgree}
 use Rattle.am_machine.proofs.Tests.{test_passed, first_passed, others_passed}
 use Rattle.am_machine.proofs.Places.Unchanged.{kept_places, SamePlaces, keeps_all, keeps_then, keeps_latest, marked_sites}
 use Rattle.am_machine.proofs.Places.Grown.{mounted_places, mounted_here}
@@ -57,22 +43,22 @@ use Rattle.am_machine.proofs.Tour.Events.{IsUnmounted, any_event, AnyJob}
 abbrev pub KeepsBy : KernelState → List Obs → KernelState → Type 0
 KeepsBy k shown made = SamePlaces k made
 
-pub closes : (k : KernelState) (fs : ℕ) → SamePlaces k (closed fs k)
+pub closes : (k : KernelState) (fs : ℕ) → SamePlaces k (made_catatonic fs k)
 closes k fs = record { table = refl; last_fs = refl; sites = marked_sites fs true k.triggers }
 
-freed : (kind : TokenKind) (k : KernelState) (wait : WaitRow) (moment : ℕ) → SamePlaces k (resumes.freed_from kind wait moment k)
+freed : (kind : TokenKind) (k : KernelState) (wait : WaitRow) (moment : ℕ) → SamePlaces k (resumes.wait_collected_from kind wait moment k)
 freed Missing k wait moment = record { table = refl; last_fs = refl; sites = λ fs. refl }
 freed Expire k wait moment = record { table = refl; last_fs = refl; sites = λ fs. refl }
 
 pub walks : tour.Keeps AnyPath KeepsBy
 walks = record {
   nothing = keeps_all;
-  arrived = λ k begin at passed w. record { table = refl; last_fs = refl; sites = λ fs. refl };
-  joined = λ k begin token passed w. record { table = refl; last_fs = refl; sites = λ fs. refl };
-  notified = λ k begin trigger attach passed w is. record { table = refl; last_fs = refl; sites = λ fs. refl };
+  arrived = λ k attempt at passed w. record { table = refl; last_fs = refl; sites = λ fs. refl };
+  joined = λ k attempt token passed w. record { table = refl; last_fs = refl; sites = λ fs. refl };
+  notified = λ k attempt trigger attach passed w is. record { table = refl; last_fs = refl; sites = λ fs. refl };
   expiring = λ k walker fs moment immediate trigger attach x. record { table = refl; last_fs = refl; sites = λ fs. refl };
-  closed = closes;
-  collected = λ k kind wait status moment shown made g later. keeps_then k (resumes.freed_from kind wait moment k) made (freed kind k wait moment) later;
+  made_catatonic = closes;
+  collected = λ k kind wait status moment shown made g later. keeps_then k (resumes.wait_collected_from kind wait moment k) made (freed kind k wait moment) later;
 }
 
 -- ---- what an event leaves
@@ -190,7 +176,7 @@ mount_on k attach trigger may h =
     let third = test_passed (is_some (mounted_on k trigger)) _ (new_fs_refusal k (location_of k trigger.fs)) second.1 in
     let autofs = current_autofs k trigger.fs attach first.0 in
     let location = location_of k trigger.fs in
-    let free : IsFree k.table.rows location (place_of trigger) = subst (λ (o : Option ℕ). IfNone o (IsFree k.table.rows location (place_of trigger))) (none_where_not_some (mounted_on k trigger) third.0) (none_free k.table.rows location (place_of trigger) (mounted_on k trigger) (top_is k.table.rows h.whole.rising location (place_of trigger))) in
+    let free : HasNoMountAt k.table.rows location (place_of trigger) = subst (λ (o : Option ℕ). IfNone o (HasNoMountAt k.table.rows location (place_of trigger))) (none_where_not_some (mounted_on k trigger) third.0) (none_free k.table.rows location (place_of trigger) (mounted_on k trigger) (top_is k.table.rows h.whole.rising location (place_of trigger))) in
     record {
       places = mounted_here k (trigger_position k trigger) (k.last_fs + 1) (k.last_fs + 1) Private h trigger.fs autofs.0 autofs.1 (ap location_in autofs.1) free (inl refl) (omega arith) (omega arith);
       law = mounted_law k.table h.whole (trigger_position k trigger) (k.last_fs + 1) Private;
@@ -228,7 +214,7 @@ places = record {
   walks = walks;
   walked = λ s shown k moment keeps. record { holds = placed_kept s.kernel (with_latest moment k) (keeps_latest s.kernel k moment keeps) };
   left = λ s walker mount is. quietly s _ _ (record { table = refl; last_fs = refl; sites = λ fs. refl });
-  closed = λ s fs. quietly s _ _ (closes s.kernel fs);
+  made_catatonic = λ s fs. quietly s _ _ (closes s.kernel fs);
   timed = λ s fs timeout. quietly s _ _ (record { table = refl; last_fs = refl; sites = λ fs. refl });
   died = λ s. quietly s _ _ (keeps_all s.kernel);
   reattached = λ s fs row is dead. quietly s _ _ (record { table = refl; last_fs = refl; sites = marked_sites fs false s.kernel.triggers });

@@ -3,21 +3,16 @@ use Rattle.std.proofs.Common.{◌≡◌, ◌≤◌, ◌<◌, ◌⊎◌, ◌+◌,
 use Rattle.std.specs.Prelude.{◌==◌, nat_le, map, filter}
 use Rattle.std.proofs.lemmas.Bool.{eqb-true, eq-eqb, ne_eqb}
 use Rattle.std.proofs.lemmas.Bool.Decides.{nat_tests}
-use Rattle.am_names.specs.declared.row.MountRow.{MountRow}
+use Rattle.am_names.specs.{MountRow, is_among}
 use Rattle.am_names.proofs.Basics.{some_injective}
-use Rattle.am_group.specs.declared.kind.Change.{Change}
-use Rattle.am_mount.specs.Rows.{RiseFrom, mount_row, is_among, is_in}
-use Rattle.am_propagate.specs.declared.subtree.namespace.CopyForm.{CopyForm}
+use Rattle.am_group.specs.{Change}
+use Rattle.am_mount.specs.{RiseFrom, mount_row, is_in}
+use Rattle.am_propagate.specs.{CopyForm, IsWhole, mounts_in, count_up_to, copy_number, row_in, with_copy, with_change}
 use Rattle.am_propagate.specs.MountTable.{MountTable}
-use Rattle.am_propagate.specs.Invariant.{IsWhole}
-use Rattle.am_propagate.specs.Removed.{mounts_in}
-use Rattle.am_propagate.specs.Namespaces.{count_up_to, copy_number, row_in, with_copy}
-use Rattle.am_propagate.specs.Changed.{with_change}
 use Rattle.am_propagate.proofs.NamespaceLemmas.{with_copy_whole, with_copy_law}
 use Rattle.am_propagate.proofs.KindLemmas.{changed_keeps, changed_whole}
-use Rattle.am_kernel.specs.State.{KernelState}
-use Rattle.am_kernel.specs.Namespaces.{with_namespace}
-use Rattle.am_machine.specs.Invariant.Places.{IsLocation, PlacesAgree}
+use Rattle.am_kernel.specs.{KernelState, with_namespace}
+use Rattle.am_machine.specs.{IsLocation, PlacesAgree}
 use Rattle.am_machine.proofs.Places.Rows.{receiver_row, received, parent_row, Grows, StaysFree, free_alone}
 use Rattle.am_machine.proofs.Places.Added.{joined_row, first_stays}
 use Rattle.am_machine.proofs.Places.Grown.{grown_places}

@@ -2,22 +2,17 @@
 use Rattle.std.proofs.Common.{◌≡◌, ◌≤◌, ◌<◌, ◌⊎◌, ◌+◌, ℕ, true, false, List, [], Option, Some, None, refl, sym, ◌∙◌, ap, subst, inl, inr, ⊎_elim, arith}
 use Rattle.std.specs.Prelude.{is_some}
 use Rattle.std.specs.Option.{option_map, option_and_then}
-use Rattle.am_names.specs.declared.row.MountRow.{MountRow}
-use Rattle.am_names.specs.declared.row.Position.{Position}
+use Rattle.am_names.specs.{MountRow, Position}
 use Rattle.am_names.proofs.Basics.{some_injective}
-use Rattle.am_group.specs.declared.membership.Membership.{Membership}
-use Rattle.am_group.specs.Propagation.{Receives}
-use Rattle.am_mount.specs.Rows.{mount_row, IsAt, IsFree}
-use Rattle.am_propagate.specs.MountTable.{MountTable, is_mount}
-use Rattle.am_propagate.specs.Invariant.{IsWhole}
-use Rattle.am_propagate.specs.Added.{row_at, mounted, HasSource}
+use Rattle.am_group.specs.{Membership, Receives}
+use Rattle.am_mount.specs.{mount_row, IsAt, HasNoMountAt}
+use Rattle.am_propagate.specs.MountTable.{MountTable}
+use Rattle.am_propagate.specs.{is_mount, IsWhole, row_at, mounted, HasSource}
 use Rattle.am_propagate.proofs.RemovalLemmas.{some_of}
 use Rattle.am_propagate.proofs.AdditionLemmas.{mounted_whole}
-use Rattle.am_trigger.specs.declared.autofs.Autofs.{Autofs}
-use Rattle.am_trigger.specs.Rows.{autofs_of}
-use Rattle.am_kernel.specs.State.{KernelState}
-use Rattle.am_kernel.specs.Sites.{is_on_autofs}
-use Rattle.am_machine.specs.Invariant.Places.{IsLocation, HasCopy, PlacesAgree}
+use Rattle.am_trigger.specs.{Autofs, autofs_of}
+use Rattle.am_kernel.specs.{KernelState, is_on_autofs}
+use Rattle.am_machine.specs.{IsLocation, HasCopy, PlacesAgree}
 use Rattle.am_machine.proofs.Places.Rows.{receiver_row, receiver_fs, received, Grows, ComesAlone, StaysFree, free_alone, grown_one, grown_copied}
 use Rattle.am_machine.proofs.Places.Added.{IsFirst, IsCopyRow, came_row, mounted_grows, copy_row}
 
@@ -121,7 +116,7 @@ module _ (k : KernelState) (h : PlacesAgree k) (at : Position) (fs : ℕ) (membe
   }
 
   -- at a free place of a location: just the first stands on a location, and has its copies
-  module _ (f : ℕ) (b : Autofs) (is_b : autofs_of k.triggers f ≡ Some b) (here : at.mount ≡ b.location) (free : IsFree k.table.rows at.mount at.place) where
+  module _ (f : ℕ) (b : Autofs) (is_b : autofs_of k.triggers f ≡ Some b) (here : at.mount ≡ b.location) (free : HasNoMountAt k.table.rows at.mount at.place) where
     -- what stands on a location is the first, at the position
     pub record IsHere (x m : ℕ) (names : List (List ℕ)) : Type 0 where
       pub location : x ≡ at.mount
@@ -192,7 +187,7 @@ mounted_places k at fs last membership h there off source low up =
     (λ g a is. free_alone k.table (mounted at fs membership k.table) a.location (stays_free k h at fs membership row.0 row.1 off g a is))
 
 -- a mount at a free place of a location, and its copies
-pub mounted_here : (k : KernelState) (at : Position) (fs last : ℕ) (membership : Membership) → PlacesAgree k → (f : ℕ) (b : Autofs) → autofs_of k.triggers f ≡ Some b → at.mount ≡ b.location → IsFree k.table.rows at.mount at.place → HasSource k.table fs membership → fs ≤ last → k.last_fs ≤ last →
+pub mounted_here : (k : KernelState) (at : Position) (fs last : ℕ) (membership : Membership) → PlacesAgree k → (f : ℕ) (b : Autofs) → autofs_of k.triggers f ≡ Some b → at.mount ≡ b.location → HasNoMountAt k.table.rows at.mount at.place → HasSource k.table fs membership → fs ≤ last → k.last_fs ≤ last →
     PlacesAgree (record k { table = mounted at fs membership k.table; last_fs = last })
 mounted_here k at fs last membership h f b is_b here free source low up =
     let mine = h.locations f b is_b in

@@ -1,17 +1,14 @@
 -- Kernel and triggers agree on places in the initial world.
 use Rattle.std.proofs.Common.{◌≡◌, ℕ, ◌==◌, Bool, true, false, cond, [], ◌∷◌, Some, None, refl, sym, ◌∙◌, ap, inl, inr, arith}
 use Rattle.std.proofs.lemmas.Bool.{eqb-true}
-use Rattle.am_names.specs.declared.row.MountRow.{MountRow}
+use Rattle.am_names.specs.{MountRow}
 use Rattle.am_names.specs.PeerGroups.{PeerGroups}
 use Rattle.am_group.specs.declared.membership.Membership.TheVariants.{Private}
-use Rattle.am_group.specs.Invariant.{IsGroup, IsMaster, IsSound}
-use Rattle.am_group.specs.Members.{no_mounts, row_with, with_member}
+use Rattle.am_group.specs.{IsGroup, IsMaster, IsSound, no_mounts, row_with, with_member}
 use Rattle.am_group.proofs.MemberLemmas.{member_keeps}
-use Rattle.am_mount.specs.Rows.{mount_row, IsOn}
-use Rattle.am_propagate.specs.MountTable.{opening}
-use Rattle.am_propagate.specs.Invariant.{IsWhole}
-use Rattle.am_machine.specs.State.{Opening, opening_of}
-use Rattle.am_machine.specs.Invariant.Places.{PlacesAgree}
+use Rattle.am_mount.specs.{mount_row, IsOn}
+use Rattle.am_propagate.specs.{opening, IsWhole}
+use Rattle.am_machine.specs.{Setup, initial_state_of, PlacesAgree}
 
 no_mounts_sound : IsSound no_mounts
 no_mounts_sound = record {
@@ -73,7 +70,7 @@ opening_whole limit = record {
   one_fs = λ b c p x y ex ey. ap (λ (r : MountRow). r.fs) ((only_root b x ex).0 ∙ sym (only_root c y ey).0);
 }
 
-pub initial_places : (opening : Opening) → PlacesAgree (opening_of opening).kernel
+pub initial_places : (opening : Setup) → PlacesAgree (initial_state_of opening).kernel
 initial_places opening = record {
   whole = opening_whole opening.limits.mounts;
   given_fs = λ m row e. let fs : row.fs ≡ 1 = ap (λ (r : MountRow). r.fs) (only_root m row e).0 in omega arith;

@@ -5,26 +5,20 @@ use Rattle.std.specs.List.{list_any}
 use Rattle.std.proofs.lemmas.Bool.{eqb-true, eq-eqb, or_cases, and_parts}
 use Rattle.std.proofs.lemmas.Map.Views.{Contains-from_any, list_any-from_Contains}
 use Rattle.std.proofs.lemmas.Cmp.{nat_eq_equiv}
-use Rattle.am_names.specs.declared.row.MountRow.{MountRow}
-use Rattle.am_names.specs.declared.row.Position.{Position}
+use Rattle.am_names.specs.{MountRow, Position, is_among}
 use Rattle.am_names.proofs.Basics.{some_injective, false_unless_true, or_left}
-use Rattle.am_group.specs.Changes.{is_just}
-use Rattle.am_group.specs.Propagation.{Receives}
-use Rattle.am_group.specs.Receivers.{receivers_of}
+use Rattle.am_group.specs.{is_just, Receives, receivers_of}
 use Rattle.am_group.proofs.LookupLemmas.{find_filter, found_passes}
 use Rattle.am_group.proofs.ScanLemmas.{just_same, has_any}
-use Rattle.am_mount.specs.Rows.{IsRising, mount_row, is_among, mounts_where, top_of}
+use Rattle.am_mount.specs.{IsRising, mount_row, mounts_where, top_of}
 use Rattle.am_mount.proofs.RowLemmas.{where_every}
-use Rattle.am_propagate.specs.MountTable.{MountTable, mountpoint_of}
-use Rattle.am_propagate.specs.Invariant.{IsWhole}
-use Rattle.am_propagate.specs.Removed.{is_bare, is_top_at, is_top_on, goes_with, unmounted, removed, LeavesParents}
+use Rattle.am_propagate.specs.MountTable.{MountTable}
+use Rattle.am_propagate.specs.{mountpoint_of, IsWhole, is_bare, is_top_at, is_top_on, goes_with, unmounted, removed, LeavesParents}
 use Rattle.am_propagate.proofs.RemovalLemmas.{among_has, removed_whole, removed_law}
 use Rattle.am_propagate.proofs.AdditionLemmas.{receiver_exact}
-use Rattle.am_trigger.specs.declared.autofs.Autofs.{Autofs}
-use Rattle.am_trigger.specs.Rows.{autofs_of}
-use Rattle.am_kernel.specs.State.{KernelState}
-use Rattle.am_kernel.specs.DaemonMounts.{without_mounts}
-use Rattle.am_machine.specs.Invariant.Places.{IsLocation, PlacesAgree}
+use Rattle.am_trigger.specs.{Autofs, autofs_of}
+use Rattle.am_kernel.specs.{KernelState, without_mounts}
+use Rattle.am_machine.specs.{IsLocation, PlacesAgree}
 use Rattle.am_machine.proofs.Places.Rows.{Shrinks, LeavesCopies, left_one, left_copied}
 
 -- ---- what is among the mounts that pass a test

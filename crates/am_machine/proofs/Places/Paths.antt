@@ -5,26 +5,19 @@ use Rattle.std.specs.Option.{option_map}
 use Rattle.std.proofs.lemmas.Bool.{eqb-true, eq-eqb, ne_eqb, and_parts}
 use Rattle.am_names.specs.declared.errno.Errno.TheVariants.{ENOENT}
 use Rattle.am_names.specs.declared.trigger.Trigger.{Trigger}
-use Rattle.am_names.specs.declared.row.MountRow.{MountRow}
-use Rattle.am_names.specs.declared.row.Position.{Position}
+use Rattle.am_names.specs.{MountRow, Position}
 use Rattle.am_names.proofs.Basics.{some_injective}
 use Rattle.am_group.proofs.LookupLemmas.{found_passes}
-use Rattle.am_mount.specs.Rows.{RiseFrom, mount_row, top_of, root_of, HasRow, IsIn, IsTop}
+use Rattle.am_mount.specs.{RiseFrom, mount_row, top_of, root_of, HasRow, IsIn, IsTop}
 use Rattle.am_mount.specs.Rows as rows
 use Rattle.am_mount.proofs.RowLemmas.{top_is, some_greatest}
-use Rattle.am_propagate.specs.Invariant.{IsWhole}
-use Rattle.am_trigger.specs.declared.autofs.Autofs.{Autofs}
-use Rattle.am_trigger.specs.Rows.{is_made}
-use Rattle.am_trigger.specs.Sites.{trigger_in}
-use Rattle.am_walk.specs.declared.stop.Next.{Next}
+use Rattle.am_propagate.specs.{IsWhole}
+use Rattle.am_trigger.specs.{Autofs, is_made, trigger_in}
+use Rattle.am_walk.specs.{Next, autofs_at, has_names, if_entered, at_directory, at_autofs, at_site, next_at, Visit, Stands, Stops, followed, settled_within, settled, onward, after, visit_from, visit_of, ended, reached}
 use Rattle.am_walk.specs.declared.stop.Next.TheVariants as nexts
 use Rattle.am_walk.specs.declared.stop.Stop.TheVariants as stops
-use Rattle.am_walk.specs.Scene.{autofs_at, has_names}
-use Rattle.am_walk.specs.Meet.{if_entered, at_directory, at_autofs, at_site, next_at}
-use Rattle.am_walk.specs.Walks.{Visit, Stands, Stops, followed, settled_within, settled, onward, after, visit_from, visit_of, ended, reached}
 use Rattle.am_walk.proofs.RestLemmas.{IsHalt, IsTopIn}
-use Rattle.am_kernel.specs.State.{KernelState}
-use Rattle.am_kernel.specs.Sites.{open_scene, position_at}
+use Rattle.am_kernel.specs.{KernelState, open_scene, position_at}
 use Rattle.am_machine.proofs.Places.Rows.{parent_row}
 
 -- ---- what is entered is the top

@@ -1,15 +1,14 @@
 -- Mounts that come and mounts that go: what stays mounted at a place, and its copies.
 use Rattle.std.proofs.Common.{◌≡◌, ◌≤◌, ◌<◌, ◌⊎◌, ℕ, Bool, false, List, [], ◌∷◌, Some, sym, ◌∙◌, ap, ⊎_elim, arith}
 use Rattle.std.specs.Prelude.{is_some}
-use Rattle.am_names.specs.declared.row.MountRow.{MountRow}
+use Rattle.am_names.specs.{MountRow}
 use Rattle.am_names.proofs.Basics.{some_injective}
-use Rattle.am_group.specs.Propagation.{PropagatesBy, Receives}
-use Rattle.am_group.specs.Invariant.{AddsNoReceivers}
-use Rattle.am_mount.specs.Rows.{mount_row, HasRow, IsIn, IsAt}
+use Rattle.am_group.specs.{PropagatesBy, Receives, AddsNoReceivers}
+use Rattle.am_mount.specs.{mount_row, HasRow, IsIn, IsAt}
 use Rattle.am_propagate.specs.MountTable.{MountTable}
-use Rattle.am_propagate.specs.Invariant.{ShareFs, IsWhole}
+use Rattle.am_propagate.specs.{ShareFs, IsWhole}
 use Rattle.am_propagate.proofs.RemovalLemmas.{same_there, reached_row, same_along}
-use Rattle.am_machine.specs.Invariant.Places.{HoldsOne, HasCopy, IsCopied}
+use Rattle.am_machine.specs.{HoldsOne, HasCopy, IsCopied}
 
 -- a mount that receives is there
 reached_by_a_way : (t : MountTable) → IsWhole t → (way : List ℕ) (b c : ℕ) → PropagatesBy t.groups way b c → (row : MountRow) × (mount_row t.rows c ≡ Some row)

@@ -3,23 +3,17 @@
 use Rattle.std.proofs.Common.{◌≡◌, ◌≢◌, ◌⊎◌, ℕ, true, false, List, Option, Some, None, refl, sym, ◌∙◌, ap, subst, inl, inr, ⊎_elim}
 use Rattle.std.specs.Prelude.{IfSome}
 use Rattle.std.proofs.lemmas.Bool.{eqb-true, eq-eqb}
-use Rattle.am_names.specs.declared.row.MountRow.{MountRow}
-use Rattle.am_names.specs.declared.row.Position.{Position}
+use Rattle.am_names.specs.{MountRow, Position, is_among}
 use Rattle.am_names.proofs.Basics.{some_injective, false_unless_true}
-use Rattle.am_group.specs.Propagation.{Receives}
-use Rattle.am_mount.specs.Rows.{mount_row, is_among, is_in, top_of, IsAt, IsTop}
+use Rattle.am_group.specs.{Receives}
+use Rattle.am_mount.specs.{mount_row, is_in, top_of, IsAt, IsTop}
 use Rattle.am_mount.proofs.RowLemmas.{top_is, some_greatest}
-use Rattle.am_propagate.specs.MountTable.{MountTable, mountpoint_in, mountpoint_of}
-use Rattle.am_propagate.specs.Invariant.{IsWhole}
-use Rattle.am_propagate.specs.Removed.{is_bare, unmounted, mounts_in}
+use Rattle.am_propagate.specs.MountTable.{MountTable}
+use Rattle.am_propagate.specs.{mountpoint_in, mountpoint_of, IsWhole, is_bare, unmounted, mounts_in}
 use Rattle.am_propagate.proofs.RemovalLemmas.{unmounted_leaves, dropped_leaves}
-use Rattle.am_trigger.specs.declared.autofs.Autofs.{Autofs}
-use Rattle.am_trigger.specs.Rows.{autofs_of}
-use Rattle.am_kernel.specs.State.{KernelState}
-use Rattle.am_kernel.specs.Sites.{is_on_autofs}
-use Rattle.am_kernel.specs.Administration.{is_any_on_autofs}
-use Rattle.am_kernel.specs.DaemonMounts.{without_mounts}
-use Rattle.am_machine.specs.Invariant.Places.{IsLocation, PlacesAgree}
+use Rattle.am_trigger.specs.{Autofs, autofs_of}
+use Rattle.am_kernel.specs.{KernelState, is_on_autofs, is_any_on_autofs, without_mounts}
+use Rattle.am_machine.specs.{IsLocation, PlacesAgree}
 use Rattle.am_machine.proofs.Places.Rows.{receiver_row, receiver_fs, parent_row}
 use Rattle.am_machine.proofs.Places.Grown.{position, mounts_same, places_same, on_autofs}
 use Rattle.am_machine.proofs.Places.Left.{among_passes, passes_among, any_among, left_places, goes_cases, itself_goes, its_number}

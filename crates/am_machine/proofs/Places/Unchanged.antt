@@ -3,17 +3,14 @@ use Rattle.std.proofs.Common.{◌≡◌, ℕ, Bool, true, false, Option, Some, N
 use Rattle.std.specs.Prelude.{◌==◌, if◌then◌else◌}
 use Rattle.std.specs.Option.{option_map}
 use Rattle.am_names.proofs.Basics.{some_injective}
-use Rattle.am_names.specs.declared.row.MountRow.{MountRow}
-use Rattle.am_mount.specs.Rows.{mount_row}
+use Rattle.am_names.specs.{MountRow}
+use Rattle.am_mount.specs.{mount_row}
 use Rattle.am_propagate.specs.MountTable.{MountTable}
-use Rattle.am_propagate.specs.Invariant.{IsWhole}
-use Rattle.am_trigger.specs.declared.autofs.Autofs.{Autofs}
-use Rattle.am_trigger.specs.Rows.{TriggerRows, autofs_of, catatonic_row, with_catatonic}
-use Rattle.am_kernel.specs.State.{KernelState}
-use Rattle.am_kernel.specs.Outcome.{with_latest}
-use Rattle.am_kernel.specs.DaemonMounts.{location_in}
+use Rattle.am_propagate.specs.{IsWhole}
+use Rattle.am_trigger.specs.{Autofs, TriggerRows, autofs_of, catatonic_row, with_catatonic}
+use Rattle.am_kernel.specs.{KernelState, with_latest, location_in}
 use Rattle.am_machine.proofs.Lists.Found.{read_unchanged}
-use Rattle.am_machine.specs.Invariant.Places.{IsLocation, HoldsOne, IsCopied, PlacesAgree}
+use Rattle.am_machine.specs.{IsLocation, HoldsOne, IsCopied, PlacesAgree}
 
 abbrev pub awake : Autofs → Autofs
 awake a = record a { catatonic = false }

@@ -2,17 +2,13 @@
 use Rattle.std.proofs.Common.{◌≡◌, ◌⊎◌, ◌∙◌, ◌==◌, ℕ, Bool, true, false, List, [], ◌∷◌, Some, refl, ap, inl, inr}
 use Rattle.std.specs.Prelude.{is_some, not, if◌then◌else◌}
 use Rattle.std.proofs.lemmas.List.Elements.{All-nil, All-cons, All-head, All-tail}
-use Rattle.am_names.specs.declared.trigger.Status.{Status}
-use Rattle.am_job.specs.declared.act.Act.{Act}
+use Rattle.am_names.specs.{Status}
+use Rattle.am_job.specs.{Act, Outcome, Plan, Ended, Next, next_of, rest_of, IsEnded, AcknowledgesLast}
 use Rattle.am_job.specs.declared.act.Act.TheVariants as act
-use Rattle.am_job.specs.declared.act.Outcome.{Outcome}
 use Rattle.am_job.specs.declared.act.Outcome.TheVariants.{Done}
-use Rattle.am_job.specs.Plans.{Plan, Ended, Next, next_of, rest_of}
-use Rattle.am_job.specs.Laws.{IsEnded, AcknowledgesLast}
 use Rattle.am_job.proofs.PlanLemmas.{rest_lawful}
-use Rattle.am_daemon.specs.State.{JobPlan}
-use Rattle.am_daemon.specs.Acts.{walked, is_ended, going, finished_in}
-use Rattle.am_machine.specs.Invariant.Planned.{IsPlanned, ArePlanned}
+use Rattle.am_daemon.specs.{JobPlan, walked, is_ended, going, finished_in}
+use Rattle.am_machine.specs.{IsPlanned, ArePlanned}
 use Rattle.am_machine.proofs.Planned.Rests.{goes_on_rest}
 
 -- ---- when a job ends

@@ -1,20 +1,14 @@
 -- Each change keeps what is planned. It needs nothing of the other parts.
 use Rattle.std.proofs.Common.{◌≡◌, ℕ, List, refl, sym, subst}
 use Rattle.std.proofs.lemmas.List.Elements.{All-nil, All-push}
-use Rattle.am_state.specs.declared.kernel_row.QueuedRow.{QueuedRow}
-use Rattle.am_state.specs.declared.obs.Obs.{Obs}
-use Rattle.am_wire.specs.Kind.{token_kind}
-use Rattle.am_kernel.specs.State.{KernelState}
-use Rattle.am_job.specs.declared.act.Outcome.{Outcome}
+use Rattle.am_state.specs.{QueuedRow, Obs}
+use Rattle.am_wire.specs.{token_kind}
+use Rattle.am_kernel.specs.{KernelState}
+use Rattle.am_job.specs.{Outcome}
 use Rattle.am_job.proofs.PlanLemmas.{plan_acknowledges, plan_lawful}
-use Rattle.am_daemon.specs.State.{DaemonState, JobPlan}
-use Rattle.am_daemon.specs.Packets.{trigger_of, mounted_for}
-use Rattle.am_daemon.specs.Points.{entry_of}
-use Rattle.am_daemon.specs.Deliveries.{job_for}
-use Rattle.am_machine.specs.declared.event.Event.{Event}
-use Rattle.am_machine.specs.State.{Opening, State, opening_of}
-use Rattle.am_machine.specs.Machine.{outcome_of}
-use Rattle.am_machine.specs.Invariant.Planned.{IsPlanned, ArePlanned}
+use Rattle.am_daemon.specs.{DaemonState, JobPlan, trigger_of, mounted_for, entry_of, job_for}
+use Rattle.am_machine.specs.{Event, Setup, initial_state_of, outcome_of, IsPlanned, ArePlanned}
+use Rattle.am_machine.specs.State.{State}
 use Rattle.am_machine.proofs.Planned.Rests.{plan_rest}
 use Rattle.am_machine.proofs.Planned.Acts.{finished_planned}
 use Rattle.am_machine.proofs.Tour.Walks.{AnyPath, AnyMove, any_move}
@@ -71,5 +65,5 @@ changes = record {
 pub outcome_planned : (s : State) (event : Event) → ArePlanned s.daemon.jobs → ArePlanned (outcome_of s event).state.daemon.jobs
 outcome_planned s event h = (tours.outcome AnyPath AnyJob AnyMove Keeps changes s event (any_event s event)).well.keeps h
 
-pub initial_planned : (opening : Opening) → ArePlanned (opening_of opening).daemon.jobs
+pub initial_planned : (opening : Setup) → ArePlanned (initial_state_of opening).daemon.jobs
 initial_planned opening = All-nil _

@@ -3,23 +3,18 @@ use Rattle.std.proofs.Common.{◌≡◌, ℕ, true, false, List, Option, Some, N
 use Rattle.std.specs.Prelude.{not}
 use Rattle.am_names.specs.declared.fail_no.FailNo.TheVariants.{ENOENT}
 use Rattle.am_names.specs.declared.trigger.Trigger.{Trigger}
-use Rattle.am_names.specs.declared.trigger.Status.{Status}
+use Rattle.am_names.specs.{Status, TokenKind}
 use Rattle.am_names.specs.declared.trigger.Status.TheVariants.{Ready, Fail}
-use Rattle.am_names.specs.declared.row.TokenKind.{TokenKind}
 use Rattle.am_names.specs.declared.row.TokenKind.TheVariants.{Missing, Expire}
 use Rattle.am_map.specs.EntryText.{EntryText}
-use Rattle.am_state.specs.declared.daemon_row.Record.{Record}
+use Rattle.am_state.specs.{Record}
 use Rattle.am_state.specs.declared.daemon_row.Record.TheVariants.{Mounted}
-use Rattle.am_job.specs.declared.act.Act.{Act}
+use Rattle.am_job.specs.{Act, Outcome, Plan, Ended, Next, plan_for, is_reply, at_directory, rest_of, next_of, without_mount, rest_of_mount, rest_of_umount, unmounting, mount_entry, book_and_reply, reply, IsEnded, AcknowledgesLast}
 use Rattle.am_job.specs.declared.act.Act.TheVariants as act
-use Rattle.am_job.specs.declared.act.Outcome.{Outcome}
 use Rattle.am_job.specs.declared.act.Outcome.TheVariants.{Done, Made, Failed}
-use Rattle.am_job.specs.Plans.{Plan, Ended, Next, plan_for, is_reply, at_directory, rest_of, next_of, without_mount, rest_of_mount, rest_of_umount, unmounting, mount_entry, book_and_reply, reply}
-use Rattle.am_job.specs.Laws.{IsEnded, AcknowledgesLast}
 use Rattle.am_job.proofs.PlanLemmas.{plan_acknowledges}
-use Rattle.am_daemon.specs.Acts.{writes}
-use Rattle.am_daemon.specs.Packets.{is_pending}
-use Rattle.am_machine.specs.Invariant.Planned.{has_record_left, IsRest}
+use Rattle.am_daemon.specs.{writes, is_pending}
+use Rattle.am_machine.specs.{has_record_left, IsRest}
 
 -- ---- a plan begins as a rest of itself
 

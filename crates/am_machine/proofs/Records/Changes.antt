@@ -2,30 +2,16 @@
 -- say of it, a job that goes on what is planned, and tokens that close need their numbers in the trace.
 use Rattle.std.proofs.Common.{◌≡◌, ℕ, ◌+◌, ◌==◌, not, List, [], ◌∷◌, refl, sym, subst}
 use Rattle.std.proofs.lemmas.List.Elements.{All-nil, All-filter}
-use Rattle.am_names.specs.declared.row.TokenKind.{TokenKind}
+use Rattle.am_names.specs.{TokenKind, WaitRow}
 use Rattle.am_names.specs.declared.row.TokenKind.TheVariants.{Missing, Expire}
-use Rattle.am_names.specs.declared.row.WaitRow.{WaitRow}
-use Rattle.am_wait.specs.Rows.{WaitRows, token_of}
-use Rattle.am_state.specs.declared.daemon_row.RecordRow.{RecordRow}
-use Rattle.am_state.specs.declared.kernel_row.QueuedRow.{QueuedRow}
-use Rattle.am_state.specs.declared.obs.Obs.{Obs}
-use Rattle.am_kernel.specs.State.{KernelState}
-use Rattle.am_kernel.specs.DaemonMounts.{standing}
+use Rattle.am_wait.specs.{WaitRows, token_of}
+use Rattle.am_state.specs.{RecordRow, QueuedRow, Obs}
+use Rattle.am_kernel.specs.{KernelState, standing, made_catatonic, with_expiring, wait_collected_from, acknowledged}
 use Rattle.am_kernel.specs.Walks as walks
-use Rattle.am_kernel.specs.Catatonic.{closed}
-use Rattle.am_kernel.specs.Expires.{with_expiring}
-use Rattle.am_kernel.specs.Resumes.{freed_from}
-use Rattle.am_kernel.specs.Requests.{acknowledged}
-use Rattle.am_job.specs.Book.{without_fs}
-use Rattle.am_job.specs.declared.act.Act.{Act}
-use Rattle.am_job.specs.declared.act.Outcome.{Outcome}
-use Rattle.am_daemon.specs.State.{DaemonState, JobPlan}
-use Rattle.am_machine.specs.declared.event.Event.{Event}
-use Rattle.am_machine.specs.State.{Opening, State, opening_of}
-use Rattle.am_machine.specs.Machine.{outcome_of}
-use Rattle.am_machine.specs.Invariant.Tokens.{IsInPipe, TokensAgree}
-use Rattle.am_machine.specs.Invariant.Planned.{IsPlanned, ArePlanned}
-use Rattle.am_machine.specs.Invariant.Records.{IsOfItsToken, AreOfTheirTokens}
+use Rattle.am_job.specs.{without_fs, Act, Outcome}
+use Rattle.am_daemon.specs.{DaemonState, JobPlan}
+use Rattle.am_machine.specs.{Event, Setup, initial_state_of, outcome_of, IsInPipe, TokensAgree, IsPlanned, ArePlanned, IsOfItsToken, AreOfTheirTokens}
+use Rattle.am_machine.specs.State.{State}
 use Rattle.am_machine.proofs.Lists.Different.{all_found}
 use Rattle.am_machine.proofs.Tokens.Notify.{AreNumbered}
 use Rattle.am_machine.proofs.Tokens.Walks.{tokens_joined, last_joined, notice_token}
@@ -40,28 +26,28 @@ use Rattle.am_machine.proofs.Tour.Events.{AnyJob, going, IsNext, any_event}
 abbrev FitsBy : KernelState → List Obs → KernelState → Type 0
 FitsBy k shown made = (d : DaemonState) → AreNumbered k.waits.tokens k.waits.last_token d.jobs → AreOfTheirTokens k.waits d.book → AreOfTheirTokens made.waits d.book
 
-closed_fits : (k : KernelState) (fs : ℕ) (d : DaemonState) → AreNumbered k.waits.tokens k.waits.last_token d.jobs → AreOfTheirTokens k.waits d.book → AreOfTheirTokens (closed fs k).waits d.book
-closed_fits k fs d n h = later_records k.waits (closed fs k).waits d.book (closed_later fs k.waits n.rise) h
+closed_fits : (k : KernelState) (fs : ℕ) (d : DaemonState) → AreNumbered k.waits.tokens k.waits.last_token d.jobs → AreOfTheirTokens k.waits d.book → AreOfTheirTokens (made_catatonic fs k).waits d.book
+closed_fits k fs d n h = later_records k.waits (made_catatonic fs k).waits d.book (closed_later fs k.waits n.rise) h
 
-after_freed : (kind : TokenKind) (k : KernelState) (wait : WaitRow) (moment : ℕ) (shown : List Obs) (made : KernelState) → FitsBy (freed_from kind wait moment k) shown made → FitsBy k shown made
-after_freed Missing k wait moment shown made later d n h = later d n (later_records k.waits (freed_from Missing wait moment k).waits d.book (stays_later k.waits (freed_from Missing wait moment k).waits (λ t. refl) refl) h)
-after_freed Expire k wait moment shown made later d n h = later d n (later_records k.waits (freed_from Expire wait moment k).waits d.book (stays_later k.waits (freed_from Expire wait moment k).waits (λ t. refl) refl) h)
+after_freed : (kind : TokenKind) (k : KernelState) (wait : WaitRow) (moment : ℕ) (shown : List Obs) (made : KernelState) → FitsBy (wait_collected_from kind wait moment k) shown made → FitsBy k shown made
+after_freed Missing k wait moment shown made later d n h = later d n (later_records k.waits (wait_collected_from Missing wait moment k).waits d.book (stays_later k.waits (wait_collected_from Missing wait moment k).waits (λ t. refl) refl) h)
+after_freed Expire k wait moment shown made later d n h = later d n (later_records k.waits (wait_collected_from Expire wait moment k).waits d.book (stays_later k.waits (wait_collected_from Expire wait moment k).waits (λ t. refl) refl) h)
 
 walkers : tour.Keeps AnyPath FitsBy
 walkers = record {
   nothing = λ k d n h. h;
-  arrived = λ k begin at passed w d n h. h;
-  joined = λ k begin token passed w d n h.
+  arrived = λ k attempt at passed w d n h. h;
+  joined = λ k attempt token passed w d n h.
       let found = token_of k.waits.tokens token in
-      later_records k.waits (walks.with_joined begin token passed k).waits d.book
-      (stays_later k.waits (walks.with_joined begin token passed k).waits (λ t. tokens_joined found token begin.walker t k.waits) (last_joined found token begin.walker k.waits)) h;
-  notified = λ k begin trigger attach passed w is d n h.
-      let made = walks.with_notified begin trigger attach passed k in
-      later_records k.waits made.waits d.book (opened_later k.waits made.waits (notice_token k begin.walker trigger Missing) refl refl refl) h;
+      later_records k.waits (walks.with_joined attempt token passed k).waits d.book
+      (stays_later k.waits (walks.with_joined attempt token passed k).waits (λ t. tokens_joined found token attempt.walker t k.waits) (last_joined found token attempt.walker k.waits)) h;
+  notified = λ k attempt trigger attach passed w is d n h.
+      let made = walks.with_notified attempt trigger attach passed k in
+      later_records k.waits made.waits d.book (opened_later k.waits made.waits (notice_token k attempt.walker trigger Missing) refl refl refl) h;
   expiring = λ k walker fs moment immediate trigger attach x d n h.
       let made = with_expiring walker trigger attach k in
       later_records k.waits made.waits d.book (opened_later k.waits made.waits (notice_token k walker trigger Expire) refl refl refl) h;
-  closed = λ k fs d n h. closed_fits k fs d n h;
+  made_catatonic = λ k fs d n h. closed_fits k fs d n h;
   collected = λ k kind wait status moment shown made g later. after_freed kind k wait moment shown made later;
 }
 
@@ -96,7 +82,7 @@ changes = record {
   walks = walkers;
   walked = λ s shown k moment fits. record { keeps = λ n planned tokens h. fits s.daemon n h };
   left = λ s walker mount is. stays s _ _ refl refl;
-  closed = λ s fs. record { keeps = λ n planned tokens h. closed_fits s.kernel fs s.daemon n h };
+  made_catatonic = λ s fs. record { keeps = λ n planned tokens h. closed_fits s.kernel fs s.daemon n h };
   timed = λ s fs timeout. stays s _ _ refl refl;
   died = λ s. record { keeps = λ n planned tokens h. All-nil _ };
   reattached = λ s fs row is dead. record {
@@ -122,5 +108,5 @@ pub outcome_records : (s : State) (event : Event) → AreNumbered s.kernel.waits
     AreOfTheirTokens (outcome_of s event).state.kernel.waits (outcome_of s event).state.daemon.book
 outcome_records s event n planned tokens h = (tours.outcome AnyPath AnyJob FitsBy Keeps changes s event (any_event s event)).well.keeps n planned tokens h
 
-pub initial_records : (opening : Opening) → AreOfTheirTokens (opening_of opening).kernel.waits (opening_of opening).daemon.book
+pub initial_records : (opening : Setup) → AreOfTheirTokens (initial_state_of opening).kernel.waits (initial_state_of opening).daemon.book
 initial_records opening = All-nil _

@@ -5,37 +5,20 @@ use Rattle.std.specs.Option.{option_map}
 use Rattle.std.specs.List.{list_any}
 use Rattle.std.proofs.lemmas.Bool.Decides.{nat_tests}
 use Rattle.std.proofs.lemmas.List.Elements.{All-filter, All-map, All-push, All-weaker}
-use Rattle.am_names.specs.Trigger.{same_trigger}
+use Rattle.am_names.specs.{same_trigger, Status, OpenToken, TokenKind, RiseBy}
 use Rattle.am_names.specs.declared.trigger.Trigger.{Trigger}
-use Rattle.am_names.specs.declared.trigger.Status.{Status}
-use Rattle.am_names.specs.declared.row.OpenToken.{OpenToken}
-use Rattle.am_names.specs.declared.row.TokenKind.{TokenKind}
 use Rattle.am_names.specs.declared.row.TokenKind.TheVariants.{Missing, Expire}
 use Rattle.am_names.proofs.Basics.{equal_by_test}
-use Rattle.am_wait.specs.Rows.{WaitRows, token_of}
-use Rattle.am_wait.specs.Calls.{answered, fs_released}
-use Rattle.am_wait.specs.Invariant as waits
+use Rattle.am_wait.specs.{WaitRows, token_of, answered, fs_released}
 use Rattle.am_wait.proofs.FindLemmas.{or_first, find_append, token_taken, tokens_off}
-use Rattle.am_state.specs.declared.daemon_row.Record.{Record}
+use Rattle.am_state.specs.{Record, RecordRow, QueuedRow}
 use Rattle.am_state.specs.declared.daemon_row.Record.TheVariants.{Mounting, Mounted, Unmounting}
-use Rattle.am_state.specs.declared.daemon_row.RecordRow.{RecordRow}
-use Rattle.am_state.specs.declared.kernel_row.QueuedRow.{QueuedRow}
-use Rattle.am_wire.specs.Kind.{token_kind}
-use Rattle.am_job.specs.declared.act.Act.{Act}
+use Rattle.am_wire.specs.{token_kind}
+use Rattle.am_job.specs.{Act, Outcome, record_row, with_record, recorded, next_of, is_reply}
 use Rattle.am_job.specs.declared.act.Act.TheVariants as act
-use Rattle.am_job.specs.declared.act.Outcome.{Outcome}
-use Rattle.am_job.specs.Book.{record_row, with_record, recorded}
-use Rattle.am_job.specs.Plans.{next_of, is_reply}
-use Rattle.am_kernel.specs.State.{KernelState}
-use Rattle.am_daemon.specs.State.{DaemonState, JobPlan}
-use Rattle.am_daemon.specs.Acts.{writes, next_in, book_after, finished}
-use Rattle.am_daemon.specs.Attachments.{all_mounted}
-use Rattle.am_daemon.specs.Deliveries.{job_of, taken_up}
-use Rattle.am_daemon.specs.Packets.{trigger_of, mounted_for, pending, pending_of, is_pending, plan_of_packet}
-use Rattle.am_machine.specs.Invariant.Traces.{Asked}
-use Rattle.am_machine.specs.Invariant.Tokens.{IsInPipe}
-use Rattle.am_machine.specs.Invariant.Records.{is_of_kind, IsOfItsToken, AreOfTheirTokens}
-use Rattle.am_machine.specs.Invariant.Planned.{IsPlanned}
+use Rattle.am_kernel.specs.{KernelState}
+use Rattle.am_daemon.specs.{DaemonState, JobPlan, writes, next_in, book_after, finished, all_mounted, job_of, taken_up, trigger_of, mounted_for, pending, pending_of, is_pending, plan_of_packet}
+use Rattle.am_machine.specs.{Asked, IsInPipe, is_of_kind, IsOfItsToken, AreOfTheirTokens, IsPlanned}
 use Rattle.am_machine.proofs.Planned.Rests.{left_written}
 use Rattle.am_machine.proofs.Lists.Different.{mapped_some}
 use Rattle.am_machine.proofs.Tokens.Unchanged.{bare}
@@ -71,7 +54,7 @@ stays_later w made same last = record {
 }
 
 -- the tokens of a file system close
-pub closed_later : (fs : ℕ) (w : WaitRows) → waits.RiseBy (λ (row : OpenToken). row.token) 0 w.tokens → Later w (fs_released fs w)
+pub closed_later : (fs : ℕ) (w : WaitRows) → RiseBy (λ (row : OpenToken). row.token) 0 w.tokens → Later w (fs_released fs w)
 closed_later fs w rise = record {
   more = omega arith;
   old = λ t row e most. (row, (kept_row fs (token_of w.tokens t) row (sym (tokens_off fs t 0 w.tokens rise) ∙ e)).0, refl);

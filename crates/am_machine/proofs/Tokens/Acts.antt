@@ -2,21 +2,16 @@
 use Rattle.std.proofs.Common.{◌≡◌, ◌⊎◌, ℕ, Bool, true, false, cond, ◌==◌, List, Option, Some, None, refl, sym, ap, subst, ◌∙◌, inl, inr}
 use Rattle.std.specs.Prelude.{is_some}
 use Rattle.std.proofs.lemmas.List.Elements.{All-weaker}
-use Rattle.am_names.specs.declared.trigger.Status.{Status}
-use Rattle.am_names.specs.declared.row.OpenToken.{OpenToken}
+use Rattle.am_names.specs.{Status, OpenToken}
 use Rattle.am_names.proofs.Basics.{equal_by_test, differ_the_other_way}
-use Rattle.am_wait.specs.Rows.{token_of}
+use Rattle.am_wait.specs.{token_of}
 use Rattle.am_wait.proofs.FindLemmas.{token_taken}
-use Rattle.am_state.specs.declared.kernel_row.QueuedRow.{QueuedRow}
-use Rattle.am_kernel.specs.State.{KernelState}
-use Rattle.am_kernel.specs.Sites.{attach_of}
-use Rattle.am_kernel.specs.Requests.{queued_of, acknowledged}
-use Rattle.am_job.specs.declared.act.Outcome.{Outcome}
-use Rattle.am_daemon.specs.State.{JobPlan}
-use Rattle.am_daemon.specs.Deliveries.{job_of}
-use Rattle.am_daemon.specs.Acts.{walked, is_ended, finished_in}
+use Rattle.am_state.specs.{QueuedRow}
+use Rattle.am_kernel.specs.{KernelState, attach_of, queued_of, acknowledged}
+use Rattle.am_job.specs.{Outcome}
+use Rattle.am_daemon.specs.{JobPlan, job_of, walked, is_ended, finished_in}
 use Rattle.am_daemon.proofs.JobLemmas.{others_stay}
-use Rattle.am_machine.specs.Invariant.Tokens.{IsInPipe, IsAtWork, HasToken, TokensAgree}
+use Rattle.am_machine.specs.{IsInPipe, IsAtWork, HasToken, TokensAgree}
 use Rattle.am_machine.proofs.Lists.Different.{mapped_some, mapped_none}
 use Rattle.am_machine.proofs.Tokens.Catatonic.{token_number}
 use Rattle.am_machine.proofs.Tokens.Jobs.{bare_job, goes_found, differ_finished, finished_all}

@@ -1,20 +1,15 @@
 -- Kernel and jobs agree on tokens still where a file system becomes catatonic.
 use Rattle.std.proofs.Common.{◌≡◌, ◌⊎◌, ℕ, Bool, true, false, cond, not, ◌==◌, List, get_or, Option, Some, None, refl, sym, ap, subst, ◌∙◌, inl, inr}
 use Rattle.std.specs.Prelude.{is_some}
-use Rattle.am_names.specs.declared.row.OpenToken.{OpenToken}
+use Rattle.am_names.specs.{OpenToken, RiseBy}
 use Rattle.am_names.proofs.Basics.{equal_by_test, value_where_some, found_passes}
-use Rattle.am_wait.specs.Rows.{token_of}
-use Rattle.am_wait.specs.Invariant.{RiseBy}
+use Rattle.am_wait.specs.{token_of}
 use Rattle.am_wait.proofs.FindLemmas.{unless_of, tokens_off}
-use Rattle.am_wire.specs.declared.packet.Packet.{Packet}
-use Rattle.am_state.specs.declared.kernel_row.QueuedRow.{QueuedRow}
-use Rattle.am_kernel.specs.State.{KernelState}
-use Rattle.am_kernel.specs.Sites.{attach_of}
-use Rattle.am_kernel.specs.Requests.{queued_of}
-use Rattle.am_kernel.specs.Catatonic.{is_packet_of, closed}
-use Rattle.am_daemon.specs.State.{JobPlan}
-use Rattle.am_machine.specs.Invariant.Traces.{Asked, asked_in, asked_by}
-use Rattle.am_machine.specs.Invariant.Tokens.{IsInPipe, IsAtWork, HasToken, TokensAgree}
+use Rattle.am_wire.specs.{Packet}
+use Rattle.am_state.specs.{QueuedRow}
+use Rattle.am_kernel.specs.{KernelState, attach_of, queued_of, is_packet_of, made_catatonic}
+use Rattle.am_daemon.specs.{JobPlan}
+use Rattle.am_machine.specs.{Asked, asked_in, asked_by, IsInPipe, IsAtWork, HasToken, TokensAgree}
 use Rattle.am_machine.proofs.Attachments.Grows.{attach_closed, attach_other}
 use Rattle.am_machine.proofs.Lists.Different.{all_found, each_kept, found_stays, differ_filter}
 
@@ -54,16 +49,16 @@ not_its fs row true e h = absurd (let g : not (row.packet.dev == fs) ≡ false =
 not_its fs row false e h = refl
 
 module _ (k : KernelState) (jobs : List JobPlan) (fs : ℕ) (rise : RiseBy (λ (row : OpenToken). row.token) 0 k.waits.tokens) (h : TokensAgree k jobs) where
-  left : (t : ℕ) → token_of (closed fs k).waits.tokens t ≡ unless_of fs (token_of k.waits.tokens t)
+  left : (t : ℕ) → token_of (made_catatonic fs k).waits.tokens t ≡ unless_of fs (token_of k.waits.tokens t)
   left t = tokens_off fs t 0 k.waits.tokens rise
 
-  was_open : (t : ℕ) (row : OpenToken) → token_of (closed fs k).waits.tokens t ≡ Some row → (token_of k.waits.tokens t ≡ Some row) × ((row.trigger.fs == fs) ≡ false)
+  was_open : (t : ℕ) (row : OpenToken) → token_of (made_catatonic fs k).waits.tokens t ≡ Some row → (token_of k.waits.tokens t ≡ Some row) × ((row.trigger.fs == fs) ≡ false)
   was_open t row e = kept_row fs (token_of k.waits.tokens t) row (sym (left t) ∙ e)
 
-  still_open : (t : ℕ) (row : OpenToken) → token_of k.waits.tokens t ≡ Some row → (row.trigger.fs == fs) ≡ false → token_of (closed fs k).waits.tokens t ≡ Some row
+  still_open : (t : ℕ) (row : OpenToken) → token_of k.waits.tokens t ≡ Some row → (row.trigger.fs == fs) ≡ false → token_of (made_catatonic fs k).waits.tokens t ≡ Some row
   still_open t row e other = left t ∙ ap (unless_of fs) e ∙ unless_some fs row (row.trigger.fs == fs) refl other
 
-  has_packet_or_job : (t : ℕ) (row : OpenToken) → token_of k.waits.tokens t ≡ Some row → (row.trigger.fs == fs) ≡ false → (is_some (queued_of k.queue t) ≡ true) ⊎ IsAtWork k jobs row → (is_some (queued_of (closed fs k).queue t) ≡ true) ⊎ IsAtWork (closed fs k) jobs row
+  has_packet_or_job : (t : ℕ) (row : OpenToken) → token_of k.waits.tokens t ≡ Some row → (row.trigger.fs == fs) ≡ false → (is_some (queued_of k.queue t) ≡ true) ⊎ IsAtWork k jobs row → (is_some (queued_of (made_catatonic fs k).queue t) ≡ true) ⊎ IsAtWork (made_catatonic fs k) jobs row
   has_packet_or_job t row e other (inl q) =
       let found = value_where_some (queued_of k.queue t) q in
       let dev = queued_row k jobs t row found.0 h e found.1 in
@@ -71,7 +66,7 @@ module _ (k : KernelState) (jobs : List JobPlan) (fs : ℕ) (rise : RiseBy (λ (
       inl (ap is_some (found_stays (λ (r : QueuedRow). r.token == t) (λ (r : QueuedRow). not (is_packet_of fs r)) k.queue found.0 found.1 keep))
   has_packet_or_job t row e other (inr w) = inr (record { job = w.job; is_job = w.is_job; fs = w.fs; current = attach_other k fs row.trigger.fs other ∙ w.current })
 
-  pipe_left : (row : QueuedRow) → not (is_packet_of fs row) ≡ true → IsInPipe k jobs row → IsInPipe (closed fs k) jobs row
+  pipe_left : (row : QueuedRow) → not (is_packet_of fs row) ≡ true → IsInPipe k jobs row → IsInPipe (made_catatonic fs k) jobs row
   pipe_left row keep p =
       let other : (p.token.trigger.fs == fs) ≡ false = ap (λ (n : ℕ). n == fs) (sym (dev_of row.packet p.token p.asks)) ∙ not_its fs row (row.packet.dev == fs) refl keep in
       record {
@@ -83,19 +78,19 @@ module _ (k : KernelState) (jobs : List JobPlan) (fs : ℕ) (rise : RiseBy (λ (
         untaken = p.untaken;
       }
 
-  work_left : (job : JobPlan) (b : Bool) → (job.trigger.fs == fs) ≡ b → (attach_of k job.trigger.fs ≡ Some job.attach → HasToken k job) → attach_of (closed fs k) job.trigger.fs ≡ Some job.attach → HasToken (closed fs k) job
+  work_left : (job : JobPlan) (b : Bool) → (job.trigger.fs == fs) ≡ b → (attach_of k job.trigger.fs ≡ Some job.attach → HasToken k job) → attach_of (made_catatonic fs k) job.trigger.fs ≡ Some job.attach → HasToken (made_catatonic fs k) job
   work_left job true e had current =
-      absurd (let none : attach_of (closed fs k) job.trigger.fs ≡ None = ap (attach_of (closed fs k)) (equal_by_test job.trigger.fs fs e) ∙ attach_closed k fs in cc)
+      absurd (let none : attach_of (made_catatonic fs k) job.trigger.fs ≡ None = ap (attach_of (made_catatonic fs k)) (equal_by_test job.trigger.fs fs e) ∙ attach_closed k fs in cc)
   work_left job false e had current =
       let t = had (sym (attach_other k fs job.trigger.fs e) ∙ current) in
       record { token = t.token; is_open = still_open job.token t.token t.is_open (ap (λ (n : ℕ). n == fs) (sym t.fs) ∙ e); fs = t.fs; trigger = t.trigger }
 
-  pub closed_agree : TokensAgree (closed fs k) jobs
+  pub closed_agree : TokensAgree (made_catatonic fs k) jobs
   closed_agree = record {
     once = λ a b x y p q same. h.once a b x y (was_open a x p).0 (was_open b y q).0 same;
     packets = differ_filter (λ (row : QueuedRow). row.token) (λ (row : QueuedRow). not (is_packet_of fs row)) k.queue h.packets;
     numbers = h.numbers;
     open_tokens = λ t row e. let old = was_open t row e in has_packet_or_job t row old.0 old.1 (h.open_tokens t row old.0);
-    in_pipe = each_kept (IsInPipe k jobs) (IsInPipe (closed fs k) jobs) (λ (row : QueuedRow). not (is_packet_of fs row)) k.queue pipe_left h.in_pipe;
+    in_pipe = each_kept (IsInPipe k jobs) (IsInPipe (made_catatonic fs k) jobs) (λ (row : QueuedRow). not (is_packet_of fs row)) k.queue pipe_left h.in_pipe;
     at_work = λ i d lt current. let job = get_or jobs i d in work_left job (job.trigger.fs == fs) refl (h.at_work i d lt) current;
   }

@@ -2,28 +2,17 @@
 -- given, a job that goes on what is planned, and new tokens need the numbers that the trace has of tokens.
 use Rattle.std.proofs.Common.{◌≡◌, ℕ, ◌+◌, ◌==◌, false, List, [], ◌∷◌, Some, refl}
 use Rattle.std.proofs.lemmas.List.Elements.{All-nil}
-use Rattle.am_names.specs.declared.trigger.Status.{Status}
-use Rattle.am_state.specs.declared.kernel_row.QueuedRow.{QueuedRow}
-use Rattle.am_state.specs.declared.obs.Obs.{Obs}
-use Rattle.am_kernel.specs.State.{KernelState}
-use Rattle.am_kernel.specs.Outcome.{with_latest}
-use Rattle.am_kernel.specs.DaemonMounts.{attached_at}
-use Rattle.am_kernel.specs.Attachments.{with_pipe}
-use Rattle.am_kernel.specs.Requests.{acknowledged, answering, with_timeout}
-use Rattle.am_job.specs.declared.act.Act.{Act}
+use Rattle.am_names.specs.{Status}
+use Rattle.am_state.specs.{QueuedRow, Obs}
+use Rattle.am_kernel.specs.{KernelState, with_latest, attached_at, with_pipe, acknowledged, answering, with_timeout}
+use Rattle.am_job.specs.{Act}
 use Rattle.am_job.specs.declared.act.Act.TheVariants as act
 use Rattle.am_job.specs.declared.act.Outcome as job
 use Rattle.am_job.specs.declared.act.Outcome.TheVariants as came
-use Rattle.am_daemon.specs.Points.{line_timeout}
-use Rattle.am_daemon.specs.State.{JobPlan}
-use Rattle.am_daemon.specs.Deliveries.{job_for}
-use Rattle.am_machine.specs.declared.event.Event.{Event}
-use Rattle.am_machine.specs.State.{Opening, State, opening_of}
-use Rattle.am_machine.specs.Machine.{outcome_of}
+use Rattle.am_daemon.specs.{line_timeout, JobPlan, job_for}
+use Rattle.am_machine.specs.{Event, Setup, initial_state_of, outcome_of, NumbersAreAllocated, IsInPipe, TokensAgree, IsPlanned, ArePlanned}
+use Rattle.am_machine.specs.State.{State}
 use Rattle.am_machine.specs.Events.Deliveries as deliveries
-use Rattle.am_machine.specs.Invariant.Attachments.{AreGiven}
-use Rattle.am_machine.specs.Invariant.Tokens.{IsInPipe, TokensAgree}
-use Rattle.am_machine.specs.Invariant.Planned.{IsPlanned, ArePlanned}
 use Rattle.am_machine.proofs.Lists.Different.{all_found}
 use Rattle.am_machine.proofs.Attachments.Grows.{attached_grows, pipe_grows, timeout_grows}
 use Rattle.am_machine.proofs.Planned.Acts.{acknowledges, goes_after, ends_after}
@@ -39,7 +28,7 @@ use Rattle.am_machine.proofs.Tour.Events as tours
 use Rattle.am_machine.proofs.Tour.Events.{AnyJob, with_half, going, IsNext, IsTaken, any_event}
 
 record Keeps (s : State) (shown : List Obs) (t : State) : Type 0 where
-  keeps : AreNumbered s.kernel.waits.tokens s.kernel.waits.last_token s.daemon.jobs → AreGiven s.kernel s.daemon → ArePlanned s.daemon.jobs → TokensAgree s.kernel s.daemon.jobs → TokensAgree t.kernel t.daemon.jobs
+  keeps : AreNumbered s.kernel.waits.tokens s.kernel.waits.last_token s.daemon.jobs → NumbersAreAllocated s.kernel s.daemon → ArePlanned s.daemon.jobs → TokensAgree s.kernel s.daemon.jobs → TokensAgree t.kernel t.daemon.jobs
 
 -- nothing changes of tokens, packets and attachments
 same : (s : State) (shown : List Obs) (k : KernelState) → SameTokens s.kernel k → Keeps s shown (with_half k s)
@@ -109,11 +98,11 @@ changes = record {
   replied = λ s row status its i is. replies s row status i;
 }
 
-pub outcome_tokens : (s : State) (event : Event) → AreNumbered s.kernel.waits.tokens s.kernel.waits.last_token s.daemon.jobs → AreGiven s.kernel s.daemon → ArePlanned s.daemon.jobs → TokensAgree s.kernel s.daemon.jobs →
+pub outcome_tokens : (s : State) (event : Event) → AreNumbered s.kernel.waits.tokens s.kernel.waits.last_token s.daemon.jobs → NumbersAreAllocated s.kernel s.daemon → ArePlanned s.daemon.jobs → TokensAgree s.kernel s.daemon.jobs →
     TokensAgree (outcome_of s event).state.kernel (outcome_of s event).state.daemon.jobs
 outcome_tokens s event n given planned h = (tours.outcome AnyPath AnyJob (Both GivenBy AgreesBy) Keeps changes s event (any_event s event)).well.keeps n given planned h
 
-pub initial_tokens : (opening : Opening) → TokensAgree (opening_of opening).kernel (opening_of opening).daemon.jobs
+pub initial_tokens : (opening : Setup) → TokensAgree (initial_state_of opening).kernel (initial_state_of opening).daemon.jobs
 initial_tokens opening = record {
   once = λ a b x y p q same. absurd cc;
   packets = tt;

@@ -4,18 +4,14 @@ use Rattle.std.specs.Prelude.{is_some}
 use Rattle.std.proofs.lemmas.Bool.Decides.{nat_tests}
 use Rattle.std.proofs.lemmas.List.Elements.{All-weaker, All-push}
 use Rattle.am_names.specs.declared.trigger.Trigger.{Trigger}
-use Rattle.am_names.specs.declared.row.OpenToken.{OpenToken}
+use Rattle.am_names.specs.{OpenToken}
 use Rattle.am_names.proofs.Basics.{equal_to_itself, equal_by_test}
-use Rattle.am_wait.specs.Rows.{token_of}
+use Rattle.am_wait.specs.{token_of}
 use Rattle.am_wait.proofs.FindLemmas.{or_first, find_append, find_kept}
-use Rattle.am_state.specs.declared.kernel_row.QueuedRow.{QueuedRow}
-use Rattle.am_kernel.specs.State.{KernelState}
-use Rattle.am_kernel.specs.Sites.{attach_of}
-use Rattle.am_kernel.specs.Requests.{queued_of, without_packet}
-use Rattle.am_daemon.specs.State.{JobPlan}
-use Rattle.am_daemon.specs.Deliveries.{job_of}
-use Rattle.am_daemon.specs.Packets.{trigger_of}
-use Rattle.am_machine.specs.Invariant.Tokens.{IsInPipe, IsAtWork, HasToken, TokensAgree}
+use Rattle.am_state.specs.{QueuedRow}
+use Rattle.am_kernel.specs.{KernelState, attach_of, queued_of, without_packet}
+use Rattle.am_daemon.specs.{JobPlan, job_of, trigger_of}
+use Rattle.am_machine.specs.{IsInPipe, IsAtWork, HasToken, TokensAgree}
 use Rattle.am_machine.proofs.Lists.Different.{each_kept, differ_push, differ_filter, differ_as_the_third}
 use Rattle.am_machine.proofs.Tokens.Catatonic.{token_number, dev_of}
 use Rattle.am_machine.proofs.Tokens.Names.{reads}

@@ -5,13 +5,10 @@ use Rattle.std.specs.Option.{option_map}
 use Rattle.std.specs.List.{All}
 use Rattle.std.proofs.lemmas.List.Elements.{All-nil, All-cons, All-head, All-tail}
 use Rattle.am_names.proofs.Basics.{neither_of_or, equal_by_test, or_neither}
-use Rattle.am_job.specs.declared.act.Outcome.{Outcome}
-use Rattle.am_job.specs.Plans.{Ended}
-use Rattle.am_daemon.specs.State.{JobPlan}
-use Rattle.am_daemon.specs.Deliveries.{job_of}
-use Rattle.am_daemon.specs.Acts.{walked, is_ended, going, finished_in}
+use Rattle.am_job.specs.{Outcome, Ended}
+use Rattle.am_daemon.specs.{JobPlan, job_of, walked, is_ended, going, finished_in}
 use Rattle.am_daemon.proofs.JobLemmas.{find_mapped}
-use Rattle.am_machine.specs.Invariant.Traces.{has, AreDifferent}
+use Rattle.am_machine.specs.{has, AreDifferent}
 
 -- a job without its plan
 abbrev pub bare_job : JobPlan → JobPlan

@@ -3,16 +3,13 @@ use Rattle.std.proofs.Common.{◌≡◌, ℕ, Bool, true, false, not, ◌&&◌, 
 use Rattle.std.specs.Prelude.{nat_lt, Ok, Err, if◌then◌else◌}
 use Rattle.std.specs.List.{list_all}
 use Rattle.std.specs.Result.{result_ok}
-use Rattle.am_names.specs.Name.{is_name, is_name_byte, is_dots, name_read}
+use Rattle.am_names.specs.{is_name, is_name_byte, is_dots, name_read, OpenToken}
 use Rattle.am_names.specs.declared.errno.Errno.TheVariants.{ENAMETOOLONG, EINVAL}
 use Rattle.am_names.specs.declared.trigger.Trigger.{Trigger}
-use Rattle.am_names.specs.declared.row.OpenToken.{OpenToken}
-use Rattle.am_wire.specs.Kind.{is_indirect}
-use Rattle.am_wire.specs.declared.packet.Packet.{Packet}
+use Rattle.am_wire.specs.{is_indirect, Packet}
 use Rattle.am_laws.specs.OneObservation as laws
-use Rattle.am_daemon.specs.Packets.{name_in, trigger_of}
-use Rattle.am_machine.specs.Invariant.Traces.{Asked, asked_in, asked_by}
-use Rattle.am_machine.specs.Invariant.Walks.{is_name_if_any, is_named}
+use Rattle.am_daemon.specs.{name_in, trigger_of}
+use Rattle.am_machine.specs.{Asked, asked_in, asked_by, is_name_if_any, is_named}
 
 -- a name isn't too long
 short_enough : (a b c d : Bool) → (not a && not b && c && d) ≡ true → b ≡ false

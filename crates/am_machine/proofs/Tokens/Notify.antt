@@ -4,23 +4,16 @@ use Rattle.std.specs.Prelude.{is_some}
 use Rattle.std.specs.List.{list_any, All}
 use Rattle.std.proofs.lemmas.Bool.{cases_lt}
 use Rattle.std.proofs.lemmas.List.Elements.{All-weaker, All-push}
-use Rattle.am_names.specs.Trigger.{same_trigger}
-use Rattle.am_names.specs.declared.row.OpenToken.{OpenToken}
-use Rattle.am_names.proofs.SameTriggers.{either_way}
+use Rattle.am_names.specs.{same_trigger, OpenToken, RiseBy}
+use Rattle.am_names.proofs.SameTriggers.{same_trigger_either_way}
 use Rattle.am_names.proofs.Basics.{equal_to_itself, equal_by_test, found_passes}
-use Rattle.am_wait.specs.Rows.{token_of}
-use Rattle.am_wait.specs.Invariant.{RiseBy, AreGiven}
+use Rattle.am_wait.specs.{token_of, NumbersAreAllocated}
 use Rattle.am_wait.proofs.FindLemmas.{or_first, find_append}
-use Rattle.am_state.specs.declared.kernel_row.QueuedRow.{QueuedRow}
-use Rattle.am_state.specs.declared.obs.Obs.{Obs}
-use Rattle.am_kernel.specs.State.{KernelState}
-use Rattle.am_kernel.specs.Sites.{attach_of}
-use Rattle.am_kernel.specs.Requests.{queued_of}
-use Rattle.am_daemon.specs.State.{JobPlan}
-use Rattle.am_daemon.specs.Deliveries.{job_of}
-use Rattle.am_laws.specs.OneObservation.{delivers}
-use Rattle.am_machine.specs.Invariant.Traces.{AreDifferent, names, FitsTrace, rows_of, asked_in, asked_by}
-use Rattle.am_machine.specs.Invariant.Tokens.{IsInPipe, IsAtWork, TokensAgree}
+use Rattle.am_state.specs.{QueuedRow, Obs}
+use Rattle.am_kernel.specs.{KernelState, attach_of, queued_of}
+use Rattle.am_daemon.specs.{JobPlan, job_of}
+use Rattle.am_laws.specs.{delivers}
+use Rattle.am_machine.specs.{AreDifferent, names, FitsTrace, rows_of, asked_in, asked_by, IsInPipe, IsAtWork, TokensAgree}
 use Rattle.am_machine.proofs.Traces.Counts.{any_none_of, delivers_names}
 use Rattle.am_machine.proofs.Lists.Different.{all_found, differ_push, true_is_not_false}
 
@@ -29,7 +22,7 @@ use Rattle.am_machine.proofs.Lists.Different.{all_found, differ_push, true_is_no
 -- the tokens rise, and neither a token nor a job is above the last that was given
 pub record AreNumbered (tokens : List OpenToken) (last : ℕ) (jobs : List JobPlan) : Type 0 where
   pub rise : RiseBy (λ (row : OpenToken). row.token) 0 tokens
-  pub given : AreGiven last tokens
+  pub given : NumbersAreAllocated last tokens
   pub jobs_given : (job : ℕ) → is_some (job_of jobs job) ≡ true → job ≤ last
 
 pub numbered : (k : KernelState) (jobs : List JobPlan) (trace : List Obs) → FitsTrace (rows_of k jobs) trace → AreNumbered k.waits.tokens k.waits.last_token jobs
@@ -47,7 +40,7 @@ given_by_cases : (last t : ℕ) (x row : OpenToken) (tokens : List OpenToken) (b
 given_by_cases last t x row tokens true most e later f = let same = equal_by_test x.token t e in omega (arith, most, same)
 given_by_cases last t x row tokens false most e later f = later f
 
-pub token_given : (last t : ℕ) (tokens : List OpenToken) (row : OpenToken) → AreGiven last tokens → token_of tokens t ≡ Some row → t ≤ last
+pub token_given : (last t : ℕ) (tokens : List OpenToken) (row : OpenToken) → NumbersAreAllocated last tokens → token_of tokens t ≡ Some row → t ≤ last
 token_given last t [] row h e = absurd cc
 token_given last t (x ∷ tokens) row h e = given_by_cases last t x row tokens (x.token == t) h.0 refl (token_given last t tokens row h.1) e
 
@@ -121,7 +114,7 @@ module _ (k made : KernelState) (jobs : List JobPlan) (new : OpenToken) (packet 
   once_by_cases a b x y (inl p) (inr q) same =
       absurd (true_is_not_false (same_trigger x.trigger new.trigger) (subst (λ (r : OpenToken). same_trigger x.trigger r.trigger ≡ true) (sym q.1) same) (n.idle a x p))
   once_by_cases a b x y (inr p) (inl q) same =
-      absurd (true_is_not_false (same_trigger y.trigger new.trigger) (either_way y.trigger new.trigger ∙ subst (λ (r : OpenToken). same_trigger r.trigger y.trigger ≡ true) (sym p.1) same) (n.idle b y q))
+      absurd (true_is_not_false (same_trigger y.trigger new.trigger) (same_trigger_either_way y.trigger new.trigger ∙ subst (λ (r : OpenToken). same_trigger r.trigger y.trigger ≡ true) (sym p.1) same) (n.idle b y q))
   once_by_cases a b x y (inr p) (inr q) same = sym (equal_by_test new.token a p.0) ∙ equal_by_test new.token b q.0
 
   had : (t : ℕ) (row : OpenToken) → (is_some (queued_of k.queue t) ≡ true) ⊎ IsAtWork k jobs row → (is_some (queued_of made.queue t) ≡ true) ⊎ IsAtWork made jobs row

@@ -4,22 +4,14 @@ use Rattle.std.specs.Prelude.{is_some, find, if◌then◌else◌}
 use Rattle.std.specs.Option.{option_map}
 use Rattle.std.specs.List.{All}
 use Rattle.std.proofs.lemmas.List.Elements.{All-weaker}
-use Rattle.am_names.specs.Trigger.{same_trigger}
+use Rattle.am_names.specs.{same_trigger, OpenToken}
 use Rattle.am_names.specs.declared.trigger.Trigger.{Trigger}
-use Rattle.am_names.specs.declared.row.OpenToken.{OpenToken}
-use Rattle.am_wait.specs.Rows.{token_of}
-use Rattle.am_trigger.specs.declared.autofs.Autofs.{Autofs}
-use Rattle.am_state.specs.declared.kernel_row.QueuedRow.{QueuedRow}
-use Rattle.am_kernel.specs.declared.row.Attached.{Attached}
-use Rattle.am_kernel.specs.State.{KernelState}
-use Rattle.am_kernel.specs.Sites.{is_live_row, latest_attach, attach_of}
-use Rattle.am_kernel.specs.Requests.{queued_of}
-use Rattle.am_daemon.specs.State.{DaemonState, JobPlan}
-use Rattle.am_daemon.specs.Deliveries.{job_of}
-use Rattle.am_machine.specs.Invariant.Attachments.{AreGiven}
-use Rattle.am_machine.specs.Invariant.Traces.{AreDifferent, asked_by}
-use Rattle.am_machine.specs.Invariant.Walks.{is_named}
-use Rattle.am_machine.specs.Invariant.Tokens.{IsInPipe, IsAtWork, HasToken, TokensAgree}
+use Rattle.am_wait.specs.{token_of}
+use Rattle.am_trigger.specs.{Autofs}
+use Rattle.am_state.specs.{QueuedRow}
+use Rattle.am_kernel.specs.{Attached, KernelState, is_live_row, latest_attach, attach_of, queued_of}
+use Rattle.am_daemon.specs.{DaemonState, JobPlan, job_of}
+use Rattle.am_machine.specs.{NumbersAreAllocated, AreDifferent, asked_by, is_named, IsInPipe, IsAtWork, HasToken, TokensAgree}
 use Rattle.am_machine.proofs.Attachments.Grows.{Grows}
 use Rattle.am_machine.proofs.Lists.Different.{mapped_some}
 
@@ -130,8 +122,8 @@ same_stays k made s = record {
 }
 
 -- the attachments of all jobs were given
-pub jobs_given : (k : KernelState) (d : DaemonState) → AreGiven k d → All (λ (row : JobPlan). row.attach ≤ k.last_attach) d.jobs
+pub jobs_given : (k : KernelState) (d : DaemonState) → NumbersAreAllocated k d → All (λ (row : JobPlan). row.attach ≤ k.last_attach) d.jobs
 jobs_given k d h = λ i x lt. (h.jobs i x lt).0
 
-pub same_agree : (k made : KernelState) (d : DaemonState) → SameTokens k made → AreGiven k d → TokensAgree k d.jobs → TokensAgree made d.jobs
+pub same_agree : (k made : KernelState) (d : DaemonState) → SameTokens k made → NumbersAreAllocated k d → TokensAgree k d.jobs → TokensAgree made d.jobs
 same_agree k made d s given h = stays_agree k made d.jobs (same_stays k made s) (jobs_given k d given) h

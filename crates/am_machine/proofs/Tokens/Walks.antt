@@ -3,37 +3,27 @@ use Rattle.std.proofs.Common.{◌≡◌, ℕ, ◌+◌, Bool, true, false, not, �
 use Rattle.std.specs.Prelude.{is_some}
 use Rattle.std.specs.Option.{option_map}
 use Rattle.std.proofs.lemmas.List.Elements.{filter_passes, All-weaker}
-use Rattle.am_names.specs.Trigger.{same_trigger}
+use Rattle.am_names.specs.{same_trigger, OpenToken, TokenKind, WaitRow}
 use Rattle.am_names.specs.declared.trigger.Trigger.{Trigger}
-use Rattle.am_names.specs.declared.row.OpenToken.{OpenToken}
-use Rattle.am_names.specs.declared.row.TokenKind.{TokenKind}
 use Rattle.am_names.specs.declared.row.TokenKind.TheVariants.{Missing, Expire}
-use Rattle.am_state.specs.declared.kernel_row.QueuedRow.{QueuedRow}
-use Rattle.am_wait.specs.Rows.{WaitRows, token_of, is_open_on, same_kind, open_on}
-use Rattle.am_wait.specs.Calls.{joined_on}
+use Rattle.am_state.specs.{QueuedRow, Obs}
+use Rattle.am_wait.specs.{WaitRows, token_of, is_open_on, same_kind, open_on, joined_on}
 use Rattle.am_wait.proofs.CallLemmas.{is_none_of}
 use Rattle.am_wait.proofs.FindLemmas.{joined_if, token_joined}
-use Rattle.am_expire.specs.Pick.{Expiry, is_due, is_open, may_go, mount_on, is_eligible, candidates, pick_of}
-use Rattle.am_walk.specs.Laws.{IsIdle}
-use Rattle.am_kernel.specs.declared.begun.Begin.{Begin}
-use Rattle.am_kernel.specs.State.{KernelState}
-use Rattle.am_daemon.specs.State.{DaemonState}
+use Rattle.am_expire.specs.{Expiry, is_due, is_open, may_go, mount_on, is_eligible, candidates, pick_of}
+use Rattle.am_walk.specs.{IsIdle}
+use Rattle.am_kernel.specs.{Attempt, KernelState, packet_for, attach_of}
+use Rattle.am_daemon.specs.{DaemonState}
 use Rattle.am_kernel.specs.Walks as walks
-use Rattle.am_kernel.specs.Walks.{packet_for}
 use Rattle.am_kernel.specs.Expires as expires
-use Rattle.am_machine.specs.Invariant.Attachments.{AreGiven}
-use Rattle.am_machine.specs.Invariant.Tokens.{TokensAgree}
+use Rattle.am_machine.specs.{NumbersAreAllocated, TokensAgree}
 use Rattle.am_machine.proofs.Attachments.Changes.{given_freed}
 use Rattle.am_machine.proofs.Lists.Different.{all_found, found_none}
 use Rattle.am_machine.proofs.Tokens.Catatonic.{closed_agree}
 use Rattle.am_machine.proofs.Tokens.Unchanged.{bare, stays_agree, jobs_given, same_agree}
 use Rattle.am_machine.proofs.Tokens.Notify.{notices_agree, AreNumbered}
-use Rattle.am_names.specs.declared.row.WaitRow.{WaitRow}
 use Rattle.am_kernel.specs.Resumes as resumes
-use Rattle.am_names.specs.declared.row.WaitRow.{WaitRow}
 use Rattle.am_names.proofs.Basics.{neither_of_or, both_of_and, equal_by_test, none_where_mapped_none, false_where_not}
-use Rattle.am_kernel.specs.Sites.{attach_of}
-use Rattle.am_state.specs.declared.obs.Obs.{Obs}
 use Rattle.am_machine.proofs.Traces.Walks.{packet_asks}
 use Rattle.am_machine.proofs.Tour.Picked.{picked_candidate}
 use Rattle.am_machine.proofs.Tour.Walks as tour
@@ -41,7 +31,7 @@ use Rattle.am_machine.proofs.Tour.Walks.{AnyPath}
 
 -- where the attachments of jobs were given, and tokens are numbered as the trace has it
 abbrev pub AgreesBy : KernelState → List Obs → KernelState → Type 0
-AgreesBy k shown made = (d : DaemonState) → AreNumbered k.waits.tokens k.waits.last_token d.jobs → AreGiven k d → TokensAgree k d.jobs → TokensAgree made d.jobs
+AgreesBy k shown made = (d : DaemonState) → AreNumbered k.waits.tokens k.waits.last_token d.jobs → NumbersAreAllocated k d → TokensAgree k d.jobs → TokensAgree made d.jobs
 
 -- ---- no token is open on an idle trigger
 
@@ -80,10 +70,10 @@ pub last_joined : (o : Option OpenToken) (token walker : ℕ) (w : WaitRows) →
 last_joined None token walker w = refl
 last_joined (Some row) token walker w = refl
 
-joined_agrees : (k : KernelState) (begin : Begin) (token : ℕ) (passed : List Trigger) (d : DaemonState) → AreGiven k d → TokensAgree k d.jobs → TokensAgree (walks.with_joined begin token passed k) d.jobs
-joined_agrees k begin token passed d given h =
-    stays_agree k (walks.with_joined begin token passed k) d.jobs
-    (record { tokens = λ t. tokens_joined (token_of k.waits.tokens token) token begin.walker t k.waits; queue = refl; grows = λ fs. inl refl })
+joined_agrees : (k : KernelState) (attempt : Attempt) (token : ℕ) (passed : List Trigger) (d : DaemonState) → NumbersAreAllocated k d → TokensAgree k d.jobs → TokensAgree (walks.with_joined attempt token passed k) d.jobs
+joined_agrees k attempt token passed d given h =
+    stays_agree k (walks.with_joined attempt token passed k) d.jobs
+    (record { tokens = λ t. tokens_joined (token_of k.waits.tokens token) token attempt.walker t k.waits; queue = refl; grows = λ fs. inl refl })
     (jobs_given k d given) h
 
 -- ---- the daemon is notified
@@ -94,10 +84,10 @@ notice_token k walker trigger kind = record { token = k.waits.last_token + 1; tr
 abbrev pub notice_packet : KernelState → ℕ → ℕ → Trigger → TokenKind → QueuedRow
 notice_packet k walker attach trigger kind = record { token = k.waits.last_token + 1; attach = attach; packet = packet_for kind (k.waits.last_token + 1) walker trigger }
 
-notified_agrees : (k : KernelState) (begin : Begin) (trigger : Trigger) (attach : ℕ) (passed : List Trigger) → attach_of k trigger.fs ≡ Some attach → IsIdle k.waits.tokens trigger →
-    (d : DaemonState) → AreNumbered k.waits.tokens k.waits.last_token d.jobs → TokensAgree k d.jobs → TokensAgree (walks.with_notified begin trigger attach passed k) d.jobs
-notified_agrees k begin trigger attach passed is idle d n h =
-    notices_agree k (walks.with_notified begin trigger attach passed k) d.jobs (notice_token k begin.walker trigger Missing) (notice_packet k begin.walker attach trigger Missing)
+notified_agrees : (k : KernelState) (attempt : Attempt) (trigger : Trigger) (attach : ℕ) (passed : List Trigger) → attach_of k trigger.fs ≡ Some attach → IsIdle k.waits.tokens trigger →
+    (d : DaemonState) → AreNumbered k.waits.tokens k.waits.last_token d.jobs → TokensAgree k d.jobs → TokensAgree (walks.with_notified attempt trigger attach passed k) d.jobs
+notified_agrees k attempt trigger attach passed is idle d n h =
+    notices_agree k (walks.with_notified attempt trigger attach passed k) d.jobs (notice_token k attempt.walker trigger Missing) (notice_packet k attempt.walker attach trigger Missing)
     (record {
       tokens = refl;
       queue = refl;
@@ -105,7 +95,7 @@ notified_agrees k begin trigger attach passed is idle d n h =
       token = refl;
       its = refl;
       its_number = refl;
-      asks = packet_asks Missing (k.waits.last_token + 1) begin.walker trigger.fs trigger.name;
+      asks = packet_asks Missing (k.waits.last_token + 1) attempt.walker trigger.fs trigger.name;
       current = is;
       idle = λ t row e. idle_differs k.waits.tokens trigger t row idle e;
     }) n h
@@ -151,20 +141,20 @@ picked e trigger h =
 -- ---- a wait is collected
 
 -- what keeps the tokens once the wait is collected keeps them
-after_freed : (kind : TokenKind) (k : KernelState) (wait : WaitRow) (moment : ℕ) (shown : List Obs) (made : KernelState) → AgreesBy (resumes.freed_from kind wait moment k) shown made → AgreesBy k shown made
+after_freed : (kind : TokenKind) (k : KernelState) (wait : WaitRow) (moment : ℕ) (shown : List Obs) (made : KernelState) → AgreesBy (resumes.wait_collected_from kind wait moment k) shown made → AgreesBy k shown made
 after_freed Missing k wait moment shown made later d n given h =
-    later d n (given_freed Missing k wait moment d given) (same_agree k (resumes.freed_from Missing wait moment k) d (record { tokens = refl; queue = refl; attached = refl; autofs = refl }) given h)
+    later d n (given_freed Missing k wait moment d given) (same_agree k (resumes.wait_collected_from Missing wait moment k) d (record { tokens = refl; queue = refl; attached = refl; autofs = refl }) given h)
 after_freed Expire k wait moment shown made later d n given h =
-    later d n (given_freed Expire k wait moment d given) (same_agree k (resumes.freed_from Expire wait moment k) d (record { tokens = refl; queue = refl; attached = refl; autofs = refl }) given h)
+    later d n (given_freed Expire k wait moment d given) (same_agree k (resumes.wait_collected_from Expire wait moment k) d (record { tokens = refl; queue = refl; attached = refl; autofs = refl }) given h)
 
 -- ---- all that walkers do
 
 pub walkers : tour.Keeps AnyPath AgreesBy
 walkers = record {
   nothing = λ k d n given h. h;
-  arrived = λ k begin at passed w d n given h. same_agree k (walks.arrived begin at.mount passed k) d (record { tokens = refl; queue = refl; attached = refl; autofs = refl }) given h;
-  joined = λ k begin token passed w d n given h. joined_agrees k begin token passed d given h;
-  notified = λ k begin trigger attach passed w is d n given h. notified_agrees k begin trigger attach passed is w.stops d n h;
+  arrived = λ k attempt at passed w d n given h. same_agree k (walks.arrived attempt at.mount passed k) d (record { tokens = refl; queue = refl; attached = refl; autofs = refl }) given h;
+  joined = λ k attempt token passed w d n given h. joined_agrees k attempt token passed d given h;
+  notified = λ k attempt trigger attach passed w is d n given h. notified_agrees k attempt trigger attach passed is w.stops d n h;
   expiring = λ k walker fs moment immediate trigger attach x d n given h.
       let pick = picked (expires.expiry_of k fs moment immediate) trigger x.next in
       expiring_agrees k walker trigger attach (ap (attach_of k) pick.0 ∙ x.current) pick.1 d n h;

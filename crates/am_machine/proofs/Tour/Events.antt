@@ -6,67 +6,37 @@ use Rattle.am_names.specs.declared.fail_no.FailNo.{FailNo}
 use Rattle.am_names.specs.declared.fail_no.FailNo.TheVariants.{ENOENT}
 use Rattle.am_names.specs.declared.errno.Errno.{Errno}
 use Rattle.am_names.specs.declared.errno.Errno.TheVariants as errnos
-use Rattle.am_names.specs.declared.row.Position.{Position}
-use Rattle.am_names.specs.declared.row.OpenToken.{OpenToken}
+use Rattle.am_names.specs.{Position, OpenToken, Status}
 use Rattle.am_names.specs.declared.trigger.Trigger.{Trigger}
-use Rattle.am_names.specs.declared.trigger.Status.{Status}
 use Rattle.am_names.proofs.Basics.{both_of_and, equal_by_test, true_where_not_false, value_where_some, found_passes}
 use Rattle.am_map.specs.EntryText.{EntryText}
-use Rattle.am_state.specs.declared.daemon_row.Record.{Record}
-use Rattle.am_state.specs.declared.kernel_row.QueuedRow.{QueuedRow}
-use Rattle.am_state.specs.declared.obs.Obs.{Obs}
+use Rattle.am_state.specs.{Record, QueuedRow, Obs}
 use Rattle.am_state.specs.declared.obs.Obs.TheVariants as seen
-use Rattle.am_group.specs.declared.kind.Change.{Change}
-use Rattle.am_group.specs.declared.kind.Kind.{Kind}
-use Rattle.am_propagate.specs.declared.subtree.namespace.CopyForm.{CopyForm}
-use Rattle.am_propagate.specs.Added.{new_mounts}
-use Rattle.am_propagate.specs.Namespaces.{copy_refusal}
-use Rattle.am_propagate.specs.Removed.{drop_refusal, mounts_in}
-use Rattle.am_trigger.specs.declared.autofs.Autofs.{Autofs}
-use Rattle.am_trigger.specs.Rows.{autofs_of}
-use Rattle.am_wait.specs.Rows.{token_of}
-use Rattle.am_expire.specs.Uses.{is_used, mount_of}
-use Rattle.am_kernel.specs.declared.row.WalkRow.{WalkRow}
-use Rattle.am_kernel.specs.State.{KernelState}
-use Rattle.am_kernel.specs.Outcome as kernel
-use Rattle.am_kernel.specs.Outcome.{moment_of, with_latest}
-use Rattle.am_kernel.specs.Sites.{is_live, is_current, position_at, tested, from_position, fs_of_attach, attach_refusal, is_trigger}
-use Rattle.am_kernel.specs.Administration.{mount_tests, mount_refusal, mounting_at, bind_tests, bind_refusal, bound_at, umount_tests, plain_umount_refusal, gone_at, change_tests, plain_change_refusal, changed_at, kind_refusal, kind_at}
-use Rattle.am_kernel.specs.Directories.{mkdir_refusal, with_directory, rmdir_refusal, without_directory}
+use Rattle.am_group.specs.{Change, MountState}
+use Rattle.am_propagate.specs.{CopyForm, new_mounts, copy_refusal, drop_refusal, mounts_in}
+use Rattle.am_trigger.specs.{Autofs, autofs_of}
+use Rattle.am_wait.specs.{token_of}
+use Rattle.am_expire.specs.{is_used, mount_of_walker}
+use Rattle.am_kernel.specs.{WalkRow, KernelState, moment_of, with_latest, is_live, is_current, position_at, tested, from_position, fs_of_attach, attach_refusal, is_trigger, mount_tests, mount_refusal, mounting_at, bind_tests, bind_refusal, bound_at, umount_tests, plain_umount_refusal, gone_at, change_tests, plain_change_refusal, changed_at, kind_refusal, kind_at, mkdir_refusal, with_directory, rmdir_refusal, without_directory, coming, with_mount, attach_tests, attached_at, attaching_at, location_of, mounted_on, mount_on_refusal, with_mount_on, umount_from_refusal, gone_with, gone_from, without_mounts, with_namespace, without_namespace, queued_of, is_number, answer_tests, answer_refusal, acknowledged, answering, timeout_refusal, with_timeout, leaving, without_use, pipe_refusal, catatonic_refusal, admin_catatonic_refusal, catatonic_observations, made_catatonic, first_attempt, walk_in}
+use Rattle.am_kernel.specs.CallOutcome as kernel
 use Rattle.am_kernel.specs.DaemonMounts as mounts
-use Rattle.am_kernel.specs.DaemonMounts.{coming, with_mount, attach_tests, attached_at, attaching_at, location_of, mounted_on, mount_on_refusal, with_mount_on, umount_from_refusal, gone_with, gone_from, without_mounts}
-use Rattle.am_kernel.specs.Namespaces.{with_namespace, without_namespace}
-use Rattle.am_kernel.specs.Requests.{queued_of, is_number, answer_tests, answer_refusal, acknowledged, answering, timeout_refusal, with_timeout, leaving, without_use}
-use Rattle.am_kernel.specs.Attachments.{pipe_refusal}
-use Rattle.am_kernel.specs.Catatonic.{catatonic_refusal, admin_catatonic_refusal, closing, closed}
-use Rattle.am_kernel.specs.Walks.{first_begin}
-use Rattle.am_kernel.specs.Resumes.{walk_in}
-use Rattle.am_job.specs.declared.act.Act.{Act}
+use Rattle.am_job.specs.{Act, next_of}
 use Rattle.am_job.specs.declared.act.Act.TheVariants as act
 use Rattle.am_job.specs.declared.act.Outcome as job
 use Rattle.am_job.specs.declared.act.Outcome.TheVariants as came
-use Rattle.am_job.specs.Plans.{next_of}
-use Rattle.am_daemon.specs.declared.served.Point.{Point}
-use Rattle.am_daemon.specs.State.{JobPlan}
-use Rattle.am_daemon.specs.Points.{point_of, line_timeout}
-use Rattle.am_daemon.specs.Attachments.{is_attached, with_attachment, knows, holds, dead, reattach_refusal}
-use Rattle.am_daemon.specs.Deliveries.{job_of, is_busy}
+use Rattle.am_daemon.specs.{Point, JobPlan, point_of, line_timeout, is_attached, with_attachment, knows, holds, dead, reattach_refusal, job_of, is_busy, writes, finished}
 use Rattle.am_daemon.specs.declared.fault.DaemonFault.TheVariants.{UnknownFs, OldAttach, Busy}
-use Rattle.am_daemon.specs.Acts.{writes, finished}
-use Rattle.am_machine.specs.declared.event.Event.{Event}
+use Rattle.am_machine.specs.{Event, Answer, refused, unless, with_kernel, outcome_of, goes}
 use Rattle.am_machine.specs.declared.event.Event.TheVariants as events
-use Rattle.am_machine.specs.declared.answer.Answer.{Answer}
 use Rattle.am_machine.specs.declared.answer.Answer.TheVariants as answers
 use Rattle.am_machine.specs.State.{State}
-use Rattle.am_machine.specs.Outcome.{Outcome, refused, unless, with_kernel}
-use Rattle.am_machine.specs.Machine.{outcome_of}
+use Rattle.am_machine.specs.EventOutcome.{EventOutcome}
 use Rattle.am_machine.specs.Events.Administration as administration
-use Rattle.am_machine.specs.Events.Walkers.{goes}
 use Rattle.am_machine.specs.Events.Requests as requests
 use Rattle.am_machine.specs.Events.Deliveries as deliveries
 use Rattle.am_machine.specs.Events.Acts as acts
 use Rattle.am_machine.proofs.Planned.Acts.{acknowledges}
-use Rattle.am_machine.proofs.Stands.Jobs.{MovesNothing}
+use Rattle.am_machine.proofs.TriggerMounts.Jobs.{MovesNothing}
 use Rattle.am_machine.proofs.Tests.{test_passed, first_passed}
 use Rattle.am_machine.proofs.Tour.Walks as walks
 
@@ -131,9 +101,9 @@ pub record Keeps (Fits : List (List ℕ) → Type 0) (Acts : ℕ → Type 0) (P 
   -- walkers
   pub walks : walks.Keeps Fits P
   pub walked : (s : State) (shown : List Obs) (k : KernelState) (moment : ℕ) → P s.kernel shown k → R s shown (with_half (with_latest moment k) s)
-  pub left : (s : State) (walker mount : ℕ) → mount_of s.kernel.uses walker ≡ Some mount → R s (seen.Left walker mount ∷ []) (with_half (without_use walker s.kernel) s)
+  pub left : (s : State) (walker mount : ℕ) → mount_of_walker s.kernel.uses walker ≡ Some mount → R s (seen.Left walker mount ∷ []) (with_half (without_use walker s.kernel) s)
   -- what the daemon asks for, and its death
-  pub closed : (s : State) (fs : ℕ) → R s (closing fs s.kernel) (with_half (closed fs s.kernel) s)
+  pub made_catatonic : (s : State) (fs : ℕ) → R s (catatonic_observations fs s.kernel) (with_half (made_catatonic fs s.kernel) s)
   pub timed : (s : State) (fs timeout : ℕ) → R s [] (with_half (with_timeout fs timeout s.kernel) s)
   pub died : (s : State) → R s (seen.Died ∷ []) (record s { daemon = dead s.daemon })
   pub reattached : (s : State) (fs : ℕ) (row : Autofs) → autofs_of s.kernel.triggers fs ≡ Some row → is_live s.kernel fs ≡ false → R s (requests.reattaches s fs).seen (requests.reattaches s fs).state
@@ -152,7 +122,7 @@ pub record Keeps (Fits : List (List ℕ) → Type 0) (Acts : ℕ → Type 0) (P 
       R s (answering row.token status s.kernel) (going row came.Done (acknowledged row.token status s.kernel) s)
 
 -- the outcome goes by the relation
-pub record Leaves (R : State → List Obs → State → Type 0) (s : State) (o : Outcome) : Type 0 where
+pub record Leaves (R : State → List Obs → State → Type 0) (s : State) (o : EventOutcome) : Type 0 where
   pub well : R s o.seen o.state
 
 -- what is known of the event's path, of those of the walks that wait, or of the job that is to act
@@ -186,21 +156,21 @@ module _ (Fits : List (List ℕ) → Type 0) (Acts : ℕ → Type 0) (P : Kernel
   refuses : (s : State) (e : Errno) → Leaves R s (refused s e)
   refuses s e = same s _
 
-  in_either_case : (s : State) (b : Bool) (first second : Outcome) → Leaves R s first → Leaves R s second → Leaves R s (if b then first else second)
+  in_either_case : (s : State) (b : Bool) (first second : EventOutcome) → Leaves R s first → Leaves R s second → Leaves R s (if b then first else second)
   in_either_case s true first second h g = h
   in_either_case s false first second h g = g
 
   -- the first, where the test passes
-  where_true : (s : State) (b : Bool) (first second : Outcome) → (b ≡ true → Leaves R s first) → Leaves R s second → Leaves R s (if b then first else second)
+  where_true : (s : State) (b : Bool) (first second : EventOutcome) → (b ≡ true → Leaves R s first) → Leaves R s second → Leaves R s (if b then first else second)
   where_true s true first second h g = h refl
   where_true s false first second h g = g
 
   -- the second, where the test fails
-  where_false : (s : State) (b : Bool) (first second : Outcome) → Leaves R s first → (b ≡ false → Leaves R s second) → Leaves R s (if b then first else second)
+  where_false : (s : State) (b : Bool) (first second : EventOutcome) → Leaves R s first → (b ≡ false → Leaves R s second) → Leaves R s (if b then first else second)
   where_false s true first second h g = h
   where_false s false first second h g = g refl
 
-  unless_refused : (e : Option Errno) (s : State) (done : Outcome) → (e ≡ None → Leaves R s done) → Leaves R s (unless e s done)
+  unless_refused : (e : Option Errno) (s : State) (done : EventOutcome) → (e ≡ None → Leaves R s done) → Leaves R s (unless e s done)
   unless_refused (Some e) s done h = refuses s e
   unless_refused None s done h = h refl
 
@@ -239,17 +209,17 @@ module _ (Fits : List (List ℕ) → Type 0) (Acts : ℕ → Type 0) (P : Kernel
   changes_at (Err e) s change may = absurd cc
   changes_at (Ok at) s change may = keeps.changed s change at may
 
-  kind_told : (kind : Option Kind) (s : State) → Leaves R s (administration.kind_told kind s)
+  kind_told : (kind : Option MountState) (s : State) → Leaves R s (administration.kind_told kind s)
   kind_told None s = same s _
   kind_told (Some kind) s = same s _
 
   -- ---- walkers
 
-  goes_on : (o : kernel.Outcome) (s : State) (moment : ℕ) → walks.Leaves P s.kernel o → Leaves R s (goes (kernel.at_moment moment o) s)
-  goes_on (kernel.Goes begun shown made) s moment l = record { well = keeps.walked s shown made moment l.well }
+  goes_on : (o : kernel.CallOutcome) (s : State) (moment : ℕ) → walks.Leaves P s.kernel o → Leaves R s (goes (kernel.at_moment moment o) s)
+  goes_on (kernel.Proceeds progress shown made) s moment l = record { well = keeps.walked s shown made moment l.well }
   goes_on (kernel.Fails e) s moment l = refuses s e
 
-  leave_from : (inside : Option ℕ) (s : State) (walker : ℕ) → mount_of s.kernel.uses walker ≡ inside →
+  leave_from : (inside : Option ℕ) (s : State) (walker : ℕ) → mount_of_walker s.kernel.uses walker ≡ inside →
       Leaves R s (unless (if is_some inside then None else Some errnos.EINVAL) s (with_kernel answers.Done (leaving inside walker) (without_use walker s.kernel) s))
   leave_from None s walker is = refuses s _
   leave_from (Some mount) s walker is = record { well = keeps.left s walker mount is }
@@ -260,10 +230,10 @@ module _ (Fits : List (List ℕ) → Type 0) (Acts : ℕ → Type 0) (P : Kernel
   repeats s attach token =
       in_either_case s (not (is_some (fs_of_attach s.kernel attach))) _ _ (refuses s _) (in_either_case s (is_some (token_of s.kernel.waits.tokens token)) _ _ (refuses s _) (refuses s _))
 
-  closes : (s : State) (fs : ℕ) → Leaves R s (with_kernel answers.Done (closing fs s.kernel) (closed fs s.kernel) s)
+  closes : (s : State) (fs : ℕ) → Leaves R s (with_kernel answers.Done (catatonic_observations fs s.kernel) (made_catatonic fs s.kernel) s)
   closes s fs = record { well = keeps.closed s fs }
 
-  closes_if : (live : Bool) (s : State) (fs : ℕ) → Leaves R s (with_kernel answers.Done (if live then closing fs s.kernel else []) (if live then closed fs s.kernel else s.kernel) s)
+  closes_if : (live : Bool) (s : State) (fs : ℕ) → Leaves R s (with_kernel answers.Done (if live then catatonic_observations fs s.kernel else []) (if live then made_catatonic fs s.kernel else s.kernel) s)
   closes_if true s fs = closes s fs
   closes_if false s fs = same s _
 
@@ -380,11 +350,11 @@ module _ (Fits : List (List ℕ) → Type 0) (Acts : ℕ → Type 0) (P : Kernel
   outcome s (events.DropNamespace ns) fit = unless_refused (drop_refusal (is_used s.kernel.uses) ns s.kernel.table) s _ (λ may. record { well = keeps.dropped s ns may })
   outcome s (events.Walk walker ns path now pipe) fit =
       let moment = moment_of s.kernel now in
-      goes_on _ s moment (walks.walk Fits P keeps.walks pipe s.kernel (first_begin walker ns path moment) fit)
+      goes_on _ s moment (walks.walk Fits P keeps.walks pipe s.kernel (first_attempt walker ns path moment) fit)
   outcome s (events.Resume walker now pipe) fit =
       let moment = moment_of s.kernel now in
       goes_on _ s moment (walks.resume Fits P keeps.walks pipe s.kernel walker moment fit)
-  outcome s (events.Leave walker) fit = leave_from (mount_of s.kernel.uses walker) s walker refl
+  outcome s (events.Leave walker) fit = leave_from (mount_of_walker s.kernel.uses walker) s walker refl
   outcome s (events.Expire walker fs now immediate pipe) fit =
       let moment = moment_of s.kernel now in
       goes_on _ s moment (walks.expire Fits P keeps.walks pipe s.kernel walker fs moment immediate)

@@ -5,7 +5,7 @@ use Rattle.std.specs.Option.{option_map}
 use Rattle.std.specs.List.{All}
 use Rattle.std.proofs.lemmas.List.Elements.{All-filter}
 use Rattle.am_names.specs.declared.trigger.Trigger.{Trigger}
-use Rattle.am_expire.specs.Pick.{Expiry, is_eligible, candidates, is_first, pick_of}
+use Rattle.am_expire.specs.{Expiry, is_eligible, candidates, is_first, pick_of}
 use Rattle.am_machine.proofs.Lists.Different.{all_found}
 
 module _ (P : Trigger → Type 0) (e : Expiry) (trigger : Trigger) where

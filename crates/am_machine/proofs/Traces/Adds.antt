@@ -5,20 +5,17 @@ use Rattle.std.specs.List.{count_by, list_any, All}
 use Rattle.std.proofs.lemmas.List.{append-nil}
 use Rattle.am_names.specs.declared.fail_no.FailNo.TheVariants.{ENOENT}
 use Rattle.am_names.specs.declared.trigger.Trigger.{Trigger}
-use Rattle.am_names.specs.declared.trigger.Status.{Status}
+use Rattle.am_names.specs.{Status}
 use Rattle.am_names.specs.declared.trigger.Status.TheVariants.{Fail}
-use Rattle.am_state.specs.declared.obs.Obs.{Obs}
+use Rattle.am_state.specs.{Obs}
 use Rattle.am_state.specs.declared.obs.Obs.TheVariants as seen
-use Rattle.am_wait.specs.Rows.{tokens_of, waiters_of}
-use Rattle.am_walk.specs.Laws.{IsIdle}
-use Rattle.am_kernel.specs.State.{KernelState}
-use Rattle.am_kernel.specs.Catatonic.{closing, closed}
-use Rattle.am_kernel.specs.Observations.{passes, releases}
-use Rattle.am_daemon.specs.State.{JobPlan}
-use Rattle.am_laws.specs.OneObservation.{is_queued, enters, leaves}
-use Rattle.am_laws.specs.Fold.{AreLawful, begins_with_released}
+use Rattle.am_wait.specs.{tokens_of, waiters_of}
+use Rattle.am_walk.specs.{IsIdle}
+use Rattle.am_kernel.specs.{KernelState, catatonic_observations, made_catatonic, passes, releases}
+use Rattle.am_daemon.specs.{JobPlan}
+use Rattle.am_laws.specs.{is_queued, enters, leaves, AreLawful, begins_with_released}
 use Rattle.am_laws.proofs.Append.{front_more}
-use Rattle.am_machine.specs.Invariant.Traces.{Rows, rows_of, FitsTrace}
+use Rattle.am_machine.specs.{Rows, rows_of, FitsTrace}
 use Rattle.am_machine.proofs.Lists.Counts.{count_append}
 use Rattle.am_machine.proofs.Traces.Unchanged.{IsQuiet, IsStill, quiet_fits}
 use Rattle.am_machine.proofs.Traces.Releases.{Waiter, row_of}
@@ -91,7 +88,7 @@ once_passed walker triggers more h =
 abbrev its_waiters : KernelState → ℕ → List Waiter
 its_waiters k fs = waiters_over k.waits.tokens (tokens_of k.waits.tokens fs)
 
-closing_row : (k : KernelState) (fs : ℕ) → closing fs k ≡ quits fs (its_waiters k fs)
+closing_row : (k : KernelState) (fs : ℕ) → catatonic_observations fs k ≡ quits fs (its_waiters k fs)
 closing_row k fs = ap (λ (r : List Obs). seen.Catatonic fs ∷ r) (failures_row k (tokens_of k.waits.tokens fs))
 
 its_quits : (k : KernelState) (jobs : List JobPlan) (trace : List Obs) (fs : ℕ) → FitsTrace (rows_of k jobs) trace → Quits k.waits.tokens fs (its_waiters k fs)
@@ -102,22 +99,22 @@ its_quits k jobs trace fs h =
       new = over_new tokens trace [] (tokens_of tokens fs) (λ w token is. refl) (tokens_differ fs 0 tokens h.sound.tokens) h.waiters;
     }
 
-pub adds_closing : (k : KernelState) (jobs : List JobPlan) (trace : List Obs) (fs : ℕ) → FitsTrace (rows_of k jobs) trace → Adds trace (closing fs k) (rows_of (closed fs k) jobs)
+pub adds_closing : (k : KernelState) (jobs : List JobPlan) (trace : List Obs) (fs : ℕ) → FitsTrace (rows_of k jobs) trace → Adds trace (catatonic_observations fs k) (rows_of (made_catatonic fs k) jobs)
 adds_closing k jobs trace fs h =
     let ws = its_waiters k fs in
     let quit = its_quits k jobs trace fs h in
-    let adds : Adds trace (quits fs ws) (rows_of (closed fs k) jobs) = record {
+    let adds : Adds trace (quits fs ws) (rows_of (made_catatonic fs k) jobs) = record {
       fits = catatonic_fits (rows_of k jobs) trace fs ws quit h;
       lawful = catatonic_lawful (rows_of k jobs) trace fs ws quit h;
       start = refl;
     } in
-    subst (λ (shown : List Obs). Adds trace shown (rows_of (closed fs k) jobs)) (sym (closing_row k fs)) adds
+    subst (λ (shown : List Obs). Adds trace shown (rows_of (made_catatonic fs k) jobs)) (sym (closing_row k fs)) adds
 
 row_unqueued : (status : Status) (ws : List Waiter) → count_by is_queued (row_of status ws) ≡ 0
 row_unqueued status [] = refl
 row_unqueued status (w ∷ ws) = row_unqueued status ws
 
-pub once_closing : (k : KernelState) (fs : ℕ) → count_by is_queued (closing fs k) ≤ 1
+pub once_closing : (k : KernelState) (fs : ℕ) → count_by is_queued (catatonic_observations fs k) ≤ 1
 once_closing k fs =
     subst (λ (shown : List Obs). count_by is_queued shown ≤ 1) (sym (closing_row k fs)) (at_most_one (quits fs (its_waiters k fs)) 0 (row_unqueued (Fail ENOENT) (its_waiters k fs)) (omega arith))
 

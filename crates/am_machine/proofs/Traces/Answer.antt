@@ -4,22 +4,17 @@ use Rattle.std.specs.Prelude.{◌&&◌, ◌||◌, if◌then◌else◌}
 use Rattle.std.specs.Option.{option_map}
 use Rattle.std.specs.List.{list_any, count_by}
 use Rattle.std.proofs.lemmas.Bool.Decides.{nat_tests}
-use Rattle.am_names.specs.declared.trigger.Status.{Status}
-use Rattle.am_names.specs.declared.row.OpenToken.{OpenToken}
-use Rattle.am_wire.specs.declared.packet.Packet.{Packet}
-use Rattle.am_state.specs.declared.kernel_row.QueuedRow.{QueuedRow}
-use Rattle.am_state.specs.declared.obs.Obs.{Obs}
+use Rattle.am_names.specs.{Status, OpenToken}
+use Rattle.am_wire.specs.{Packet}
+use Rattle.am_state.specs.{QueuedRow, Obs}
 use Rattle.am_state.specs.declared.obs.Obs.TheVariants as seen
-use Rattle.am_wait.specs.Rows.{token_of, without_token}
-use Rattle.am_wait.specs.Calls.{answered}
+use Rattle.am_wait.specs.{token_of, without_token, answered}
 use Rattle.am_wait.proofs.FindLemmas.{token_taken}
 use Rattle.am_wait.proofs.AgreeLemmas.{answered_sound}
 use Rattle.am_kernel.specs.Observations as kernel
-use Rattle.am_laws.specs.OneObservation.{waits, releases, delivers, queues, closes, queues_as, unqueues, enters, leaves}
-use Rattle.am_laws.specs.Counts.{packet_of}
-use Rattle.am_laws.specs.Tests.{since, is_open}
+use Rattle.am_laws.specs.{waits, releases, delivers, queues, closes, queues_as, unqueues, enters, leaves, packet_of, since, is_open}
 use Rattle.am_laws.proofs.Lists.{since-append}
-use Rattle.am_machine.specs.Invariant.Traces.{Rows, names, KnowsTokens, Asked, asked_in, asked_by, opened, AgreeOnOpen, WaitersFit, AgreeOnWaiters, PacketFits, FitsTrace}
+use Rattle.am_machine.specs.{Rows, names, KnowsTokens, Asked, asked_in, asked_by, opened, AgreeOnOpen, WaitersFit, AgreeOnWaiters, PacketFits, FitsTrace}
 use Rattle.am_machine.proofs.Traces.Counts.{any_same, packet_same, is_open-append, opened_by_cases, packet_known, waiters_more, or_neither_and}
 use Rattle.am_machine.proofs.Traces.Unchanged.{delivered_more, inside_still, queue_more}
 use Rattle.am_machine.proofs.Traces.Join.{row_opened}

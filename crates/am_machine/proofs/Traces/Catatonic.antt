@@ -5,28 +5,21 @@ use Rattle.std.specs.Option.{option_map}
 use Rattle.std.specs.List.{list_any, count_by}
 use Rattle.std.proofs.lemmas.Bool.Decides.{nat_tests}
 use Rattle.am_names.specs.declared.fail_no.FailNo.TheVariants.{ENOENT}
-use Rattle.am_names.specs.declared.trigger.Status.{Status}
+use Rattle.am_names.specs.{Status, OpenToken}
 use Rattle.am_names.specs.declared.trigger.Status.TheVariants.{Fail}
-use Rattle.am_names.specs.declared.row.OpenToken.{OpenToken}
 use Rattle.am_names.proofs.Basics.{or_right, or_left, both_of_and, false_unless_true, equal_to_itself, equal_by_test}
-use Rattle.am_wire.specs.declared.packet.Packet.{Packet}
-use Rattle.am_state.specs.declared.kernel_row.QueuedRow.{QueuedRow}
-use Rattle.am_state.specs.declared.obs.Obs.{Obs}
+use Rattle.am_wire.specs.{Packet}
+use Rattle.am_state.specs.{QueuedRow, Obs}
 use Rattle.am_state.specs.declared.obs.Obs.TheVariants as seen
-use Rattle.am_wait.specs.Rows.{token_of, waiters_in, waiters_of}
-use Rattle.am_wait.specs.Calls.{fs_released}
+use Rattle.am_wait.specs.{token_of, waiters_in, waiters_of, fs_released}
 use Rattle.am_wait.proofs.FindLemmas.{unless_of, tokens_off}
 use Rattle.am_wait.proofs.AgreeLemmas.{released_sound}
-use Rattle.am_kernel.specs.Catatonic.{is_packet_of}
-use Rattle.am_laws.specs.OneObservation.{is_fs, waits, delivers, queues, closes, queues_as, unqueues, enters, leaves}
-use Rattle.am_laws.specs.Counts.{IsOpen, packet_of, fs_of_token, dev_of}
-use Rattle.am_laws.specs.TraceLaws.{AllReleased}
-use Rattle.am_laws.specs.Fold.{IsLawfulAt, AreLawful}
-use Rattle.am_laws.specs.Tests.{since, is_open}
+use Rattle.am_kernel.specs.{is_packet_of}
+use Rattle.am_laws.specs.{is_fs, waits, delivers, queues, closes, queues_as, unqueues, enters, leaves, IsOpen, packet_of, fs_of_token, dev_of, AllReleased, IsLawfulAt, AreLawful, since, is_open}
 use Rattle.am_laws.proofs.Words.{waits_true, waits_from_test, once_from_test}
 use Rattle.am_laws.proofs.Decided.{is_open_true, open_from_test}
 use Rattle.am_laws.proofs.Lists.{since-append}
-use Rattle.am_machine.specs.Invariant.Traces.{Rows, names, Asked, asked_in, asked_by, opened, has, WaitersFit, PacketFits, FitsTrace}
+use Rattle.am_machine.specs.{Rows, names, Asked, asked_in, asked_by, opened, has, WaitersFit, PacketFits, FitsTrace}
 use Rattle.am_machine.proofs.Traces.Counts.{any_same, packet_same, is_open-append, opened_by_cases, packet_known, waiters_more}
 use Rattle.am_machine.proofs.Traces.Unchanged.{delivered_more, inside_still, queue_kept}
 use Rattle.am_machine.proofs.Traces.Join.{row_opened}

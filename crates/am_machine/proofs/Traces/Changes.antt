@@ -5,44 +5,29 @@ use Rattle.std.specs.Prelude.{Ok, if◌then◌else◌, ◌==◌, not, is_some}
 use Rattle.std.specs.List.{count_by, list_any}
 use Rattle.am_names.specs.declared.errno.Errno.{Errno}
 use Rattle.am_names.specs.declared.limits.Limits.{Limits}
-use Rattle.am_names.specs.declared.row.Position.{Position}
-use Rattle.am_state.specs.declared.obs.Obs.{Obs}
+use Rattle.am_names.specs.{Position, Status, OpenToken}
+use Rattle.am_state.specs.{Obs, QueuedRow, Record}
 use Rattle.am_state.specs.declared.obs.Obs.TheVariants as seen
-use Rattle.am_expire.specs.Uses.{is_used}
-use Rattle.am_kernel.specs.State.{KernelState}
-use Rattle.am_kernel.specs.Sites.{root_refusal}
-use Rattle.am_daemon.specs.State.{JobPlan}
-use Rattle.am_laws.specs.OneObservation.{is_queued}
-use Rattle.am_machine.specs.State.{Opening, State, limits_in, opening_in}
-use Rattle.am_machine.specs.Invariant.Traces.{Rows, rows_of, rows_in, FitsTrace}
+use Rattle.am_expire.specs.{is_used}
+use Rattle.am_kernel.specs.{KernelState, root_refusal, site_refusal, umount_tests, gone_at, without_mounts, answering, acknowledged, releases}
+use Rattle.am_daemon.specs.{JobPlan, plan_of_packet, job_of, job_for, finished_in}
+use Rattle.am_laws.specs.{is_queued}
+use Rattle.am_machine.specs.State.{State}
+use Rattle.am_machine.specs.{Setup, limits_in, setup_of, Rows, rows_of, rows_in, FitsTrace, Event, outcome_of}
 use Rattle.am_machine.proofs.Traces.Unchanged.{quiet_fits}
 use Rattle.am_machine.proofs.Traces.Lawful.{unmount_lawful, delivery_lawful, answer_lawful}
 use Rattle.am_machine.proofs.Traces.Adds.{Adds, IsPlain, adds_plain, at_most_one, adds_both, once_answered}
 use Rattle.am_names.specs.declared.errno.Errno.TheVariants.{EINVAL, EBUSY, ENOENT}
 use Rattle.am_names.specs.declared.trigger.Trigger.{Trigger}
-use Rattle.am_propagate.specs.MountTable.{MountTable, is_mount, mountpoint_of}
-use Rattle.am_propagate.specs.Removed.{is_bare, unmounted, umount_refusal, is_namespace, drop_refusal, mounts_in}
-use Rattle.am_wait.specs.Rows.{token_of, waiters_in, waiters_of}
-use Rattle.am_kernel.specs.Administration.{site_refusal, umount_tests, gone_at}
-use Rattle.am_kernel.specs.DaemonMounts.{without_mounts}
-use Rattle.am_kernel.specs.Requests.{answering, acknowledged}
-use Rattle.am_kernel.specs.Observations.{releases}
+use Rattle.am_propagate.specs.MountTable.{MountTable}
+use Rattle.am_propagate.specs.{is_mount, mountpoint_of, is_bare, unmounted, umount_refusal, is_namespace, drop_refusal, mounts_in}
+use Rattle.am_wait.specs.{token_of, waiters_in, waiters_of, answered}
 use Rattle.am_machine.proofs.Traces.Enter.{leave_fits}
-use Rattle.am_names.specs.declared.trigger.Status.{Status}
-use Rattle.am_names.specs.declared.row.OpenToken.{OpenToken}
-use Rattle.am_state.specs.declared.kernel_row.QueuedRow.{QueuedRow}
-use Rattle.am_state.specs.declared.daemon_row.Record.{Record}
-use Rattle.am_wait.specs.Calls.{answered}
 use Rattle.am_job.specs.declared.act.Outcome as job
 use Rattle.am_job.specs.declared.act.Outcome.TheVariants as came
-use Rattle.am_job.specs.Plans.{is_reply}
-use Rattle.am_daemon.specs.Packets.{plan_of_packet}
-use Rattle.am_daemon.specs.Deliveries.{job_of, job_for}
-use Rattle.am_daemon.specs.Acts.{finished_in}
+use Rattle.am_job.specs.{is_reply}
 use Rattle.am_machine.specs.Events.Deliveries as deliveries
 use Rattle.am_machine.proofs.Traces.Deliver.{found_fits, deliver_fits, finish_fits}
-use Rattle.am_machine.specs.declared.event.Event.{Event}
-use Rattle.am_machine.specs.Machine.{outcome_of}
 use Rattle.am_machine.proofs.Traces.Answer.{answer, answer_fits}
 use Rattle.am_machine.proofs.Tests.{others_passed}
 use Rattle.am_machine.proofs.Traces.Walks.{Moves, moves, closes}
@@ -54,7 +39,7 @@ use Rattle.am_machine.proofs.Tour.Events.{with_half, going, IsNext, IsTaken, IsU
 pub record Follows (s : State) (shown : List Obs) (t : State) : Type 0 where
   pub adds : FitsTrace (rows_in s) s.trace → Adds s.trace shown (rows_in t)
   pub once : count_by is_queued shown ≤ 1
-  pub opening : opening_in t ≡ opening_in s
+  pub opening : setup_of t ≡ setup_of s
 
 -- ---- what is plain
 
@@ -79,14 +64,14 @@ if_plain false trigger entry = recorded_plain trigger entry
 
 -- ---- what speaks of no token leaves the rows
 
-plainly : (s : State) (shown : List Obs) (t : State) → IsPlain shown → rows_in t ≡ rows_in s → opening_in t ≡ opening_in s → Follows s shown t
+plainly : (s : State) (shown : List Obs) (t : State) → IsPlain shown → rows_in t ≡ rows_in s → setup_of t ≡ setup_of s → Follows s shown t
 plainly s shown t p rows opening = record {
   adds = λ h. subst (λ (r : Rows). Adds s.trace shown r) (sym rows) (adds_plain s.trace shown (rows_in s) p h);
   once = at_most_one shown 0 p.none (omega arith);
   opening = opening;
 }
 
-abbrev opening_with : State → Limits → Opening
+abbrev opening_with : State → Limits → Setup
 opening_with s limits = record { limits = limits; master = s.daemon.master; maps = s.daemon.maps }
 
 -- ---- mounts go that nobody is inside of
@@ -98,7 +83,7 @@ unmounts_add trace r gone free h = record {
   start = refl;
 }
 
-unmounts : (s t : State) (gone : List ℕ) → list_any (is_used s.kernel.uses) gone ≡ false → rows_in t ≡ rows_in s → opening_in t ≡ opening_in s → Follows s (seen.Unmounted gone ∷ []) t
+unmounts : (s t : State) (gone : List ℕ) → list_any (is_used s.kernel.uses) gone ≡ false → rows_in t ≡ rows_in s → setup_of t ≡ setup_of s → Follows s (seen.Unmounted gone ∷ []) t
 unmounts s t gone free rows opening = record {
   adds = λ fits. subst (λ (r : Rows). Adds s.trace (seen.Unmounted gone ∷ []) r) (sym rows) (unmounts_add s.trace (rows_in s) gone free fits);
   once = at_most_one (seen.Unmounted gone ∷ []) 0 refl (omega arith);

@@ -8,15 +8,13 @@ use Rattle.std.proofs.lemmas.List.Folds.{list_any-append}
 use Rattle.std.proofs.lemmas.Bool.Decides.{nat_tests}
 use Rattle.am_names.specs.declared.fail_no.FailNo.TheVariants.{ENOENT}
 use Rattle.am_names.specs.declared.trigger.Status.TheVariants.{Fail}
-use Rattle.am_names.specs.declared.row.OpenToken.{OpenToken}
+use Rattle.am_names.specs.{OpenToken, RiseBy}
 use Rattle.am_names.proofs.Basics.{or_right, equal_to_itself, equal_by_test, or_neither}
-use Rattle.am_state.specs.declared.obs.Obs.{Obs}
-use Rattle.am_wait.specs.Rows.{token_of, tokens_of, waiters_in, waiters_of}
-use Rattle.am_wait.specs.Invariant.{RiseBy}
+use Rattle.am_state.specs.{Obs}
+use Rattle.am_wait.specs.{token_of, tokens_of, waiters_in, waiters_of}
 use Rattle.am_wait.proofs.FindLemmas.{absent}
-use Rattle.am_kernel.specs.State.{KernelState}
-use Rattle.am_kernel.specs.Catatonic.{failures}
-use Rattle.am_machine.specs.Invariant.Traces.{has, AreDifferent, AgreeOnWaiters}
+use Rattle.am_kernel.specs.{KernelState, failures}
+use Rattle.am_machine.specs.{has, AreDifferent, AgreeOnWaiters}
 use Rattle.am_machine.proofs.Traces.Releases.{Waiter, is_waiter, AreNew, row_of, row_of-append, on_token, on_token_has, releases_row, all_new, other_number}
 use Rattle.am_machine.proofs.Traces.Counts.{or_neither_and}
 

@@ -6,14 +6,12 @@ use Rattle.std.specs.List.{list_any, count_by}
 use Rattle.std.proofs.lemmas.Bool.{cases_lt}
 use Rattle.std.proofs.lemmas.List.Folds.{list_any-append}
 use Rattle.am_names.proofs.Basics.{neither_of_or, both_of_and, false_unless_true, or_left, or_neither}
-use Rattle.am_wire.specs.declared.packet.Packet.{Packet}
-use Rattle.am_state.specs.declared.obs.Obs.{Obs}
+use Rattle.am_wire.specs.{Packet}
+use Rattle.am_state.specs.{Obs}
 use Rattle.am_state.specs.declared.obs.Obs.TheVariants.{Queued, Waits, Released, Delivered}
-use Rattle.am_laws.specs.OneObservation.{queues, closes, packet_in, waits, releases, delivers}
-use Rattle.am_laws.specs.Counts.{packet_of, first_of, dev_of, fs_of_token}
-use Rattle.am_laws.specs.Tests.{since, is_open}
+use Rattle.am_laws.specs.{queues, closes, packet_in, waits, releases, delivers, packet_of, first_of, dev_of, fs_of_token, since, is_open}
 use Rattle.am_laws.proofs.Lists.{since-append}
-use Rattle.am_machine.specs.Invariant.Traces.{KnowsTokens, Asked, asked_in, opened, names, WaitersFit}
+use Rattle.am_machine.specs.{KnowsTokens, Asked, asked_in, opened, names, WaitersFit}
 use Rattle.am_machine.proofs.Lists.Counts.{count_append}
 
 -- ---- a test of a longer trace

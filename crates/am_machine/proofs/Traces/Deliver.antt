@@ -6,20 +6,16 @@ use Rattle.std.specs.List.{list_any}
 use Rattle.std.proofs.lemmas.Bool.Decides.{nat_tests}
 use Rattle.std.proofs.lemmas.List.Folds.{find-append, list_any-append}
 use Rattle.std.proofs.lemmas.List.Elements.{All-head, All-tail}
-use Rattle.am_names.specs.declared.row.OpenToken.{OpenToken}
-use Rattle.am_wire.specs.declared.packet.Packet.{Packet}
-use Rattle.am_state.specs.declared.kernel_row.QueuedRow.{QueuedRow}
-use Rattle.am_state.specs.declared.obs.Obs.{Obs}
+use Rattle.am_names.specs.{OpenToken}
+use Rattle.am_wire.specs.{Packet}
+use Rattle.am_state.specs.{QueuedRow, Obs}
 use Rattle.am_state.specs.declared.obs.Obs.TheVariants as seen
-use Rattle.am_kernel.specs.Requests.{queued_of}
-use Rattle.am_job.specs.declared.act.Outcome.{Outcome}
-use Rattle.am_daemon.specs.State.{JobPlan}
-use Rattle.am_daemon.specs.Deliveries.{job_of}
-use Rattle.am_daemon.specs.Acts.{walked, is_ended, going, finished_in}
-use Rattle.am_laws.specs.OneObservation.{delivers, queues_as, unqueues}
-use Rattle.am_laws.specs.Tests.{is_open}
+use Rattle.am_kernel.specs.{queued_of}
+use Rattle.am_job.specs.{Outcome}
+use Rattle.am_daemon.specs.{JobPlan, job_of, walked, is_ended, going, finished_in}
+use Rattle.am_laws.specs.{delivers, queues_as, unqueues, is_open}
 use Rattle.am_laws.proofs.Lists.{since-append}
-use Rattle.am_machine.specs.Invariant.Traces.{Rows, names, KnowsTokens, opened, AgreeOnWaiters, PacketFits, AgreeOnQueue, AgreeOnJobs, FitsTrace}
+use Rattle.am_machine.specs.{Rows, names, KnowsTokens, opened, AgreeOnWaiters, PacketFits, AgreeOnQueue, AgreeOnJobs, FitsTrace}
 use Rattle.am_machine.proofs.Traces.Counts.{any_same, any_stays, packet_same, is_open-append, opened_by_cases, packet_known, waiters_more}
 use Rattle.am_machine.proofs.Traces.Unchanged.{inside_still, queue_kept}
 

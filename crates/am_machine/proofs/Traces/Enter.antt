@@ -1,15 +1,15 @@
 -- A walker enters a mount, or leaves the one that it is inside of.
 use Rattle.std.proofs.Common.{◌≡◌, ℕ, List, [], ◌∷◌, ◌++◌, Some, None, refl, arith}
-use Rattle.am_state.specs.declared.obs.Obs.{Obs}
+use Rattle.am_state.specs.{Obs}
 use Rattle.am_state.specs.declared.obs.Obs.TheVariants as seen
-use Rattle.am_expire.specs.Uses.{mount_of, entered, left}
+use Rattle.am_expire.specs.{mount_of_walker, entered, left}
 use Rattle.am_expire.proofs.UseLemmas.{enters_count, enters_single, leaves_count, leaves_single}
-use Rattle.am_laws.specs.OneObservation.{enters, leaves}
-use Rattle.am_machine.specs.Invariant.Traces.{Rows, FitsTrace}
+use Rattle.am_laws.specs.{enters, leaves}
+use Rattle.am_machine.specs.{Rows, FitsTrace}
 use Rattle.am_machine.proofs.Lists.Counts.{count_cons, count_append}
 use Rattle.am_machine.proofs.Traces.Unchanged.{known_quiet, opens_quiet, waiters_quiet, queued_quiet, delivered_more}
 
-pub enter_fits : (r : Rows) (trace : List Obs) (walker mount : ℕ) → mount_of r.uses walker ≡ None → FitsTrace r trace → FitsTrace (record r { uses = entered walker mount r.uses }) (trace ++ seen.Entered walker mount ∷ [])
+pub enter_fits : (r : Rows) (trace : List Obs) (walker mount : ℕ) → mount_of_walker r.uses walker ≡ None → FitsTrace r trace → FitsTrace (record r { uses = entered walker mount r.uses }) (trace ++ seen.Entered walker mount ∷ [])
 enter_fits r trace walker mount idle h =
     let more = seen.Entered walker mount ∷ [] in
     record {
@@ -29,7 +29,7 @@ enter_fits r trace walker mount idle h =
       delivered = delivered_more r.jobs trace more h.delivered;
     }
 
-pub leave_fits : (r : Rows) (trace : List Obs) (walker mount : ℕ) → mount_of r.uses walker ≡ Some mount → FitsTrace r trace → FitsTrace (record r { uses = left walker r.uses }) (trace ++ seen.Left walker mount ∷ [])
+pub leave_fits : (r : Rows) (trace : List Obs) (walker mount : ℕ) → mount_of_walker r.uses walker ≡ Some mount → FitsTrace r trace → FitsTrace (record r { uses = left walker r.uses }) (trace ++ seen.Left walker mount ∷ [])
 leave_fits r trace walker mount is h =
     let more = seen.Left walker mount ∷ [] in
     record {

@@ -5,22 +5,17 @@ use Rattle.std.specs.Option.{option_map}
 use Rattle.std.specs.List.{list_any}
 use Rattle.std.proofs.lemmas.Bool.Decides.{nat_tests}
 use Rattle.std.proofs.lemmas.List.Folds.{list_any-append}
-use Rattle.am_names.specs.declared.row.OpenToken.{OpenToken}
+use Rattle.am_names.specs.{OpenToken}
 use Rattle.am_names.proofs.Basics.{equal_by_test, some_injective}
-use Rattle.am_state.specs.declared.kernel_row.QueuedRow.{QueuedRow}
-use Rattle.am_state.specs.declared.obs.Obs.{Obs}
+use Rattle.am_state.specs.{QueuedRow, Obs}
 use Rattle.am_state.specs.declared.obs.Obs.TheVariants as seen
-use Rattle.am_wire.specs.declared.packet.Packet.{Packet}
-use Rattle.am_wait.specs.Rows.{WaitRows, token_of, wait_of, with_waiter, waiters_in}
-use Rattle.am_wait.specs.Calls.{joined, joined_on}
-use Rattle.am_wait.specs.Invariant.{IsSound, is_waiting_on}
+use Rattle.am_wire.specs.{Packet}
+use Rattle.am_wait.specs.{WaitRows, token_of, wait_of, with_waiter, waiters_in, joined, joined_on, IsSound, is_waiting_on}
 use Rattle.am_wait.proofs.FindLemmas.{joined_if, token_joined}
 use Rattle.am_wait.proofs.AgreeLemmas.{joined_sound}
-use Rattle.am_laws.specs.OneObservation.{waits, releases, delivers}
-use Rattle.am_laws.specs.Counts.{packet_of}
-use Rattle.am_laws.specs.Tests.{is_open}
+use Rattle.am_laws.specs.{waits, releases, delivers, packet_of, is_open}
 use Rattle.am_laws.proofs.Lists.{since-append}
-use Rattle.am_machine.specs.Invariant.Traces.{Rows, names, KnowsTokens, Asked, asked_in, asked_by, opened, AgreeOnOpen, has, AreDifferent, WaitersFit, AgreeOnWaiters, PacketFits, FitsTrace}
+use Rattle.am_machine.specs.{Rows, names, KnowsTokens, Asked, asked_in, asked_by, opened, AgreeOnOpen, has, AreDifferent, WaitersFit, AgreeOnWaiters, PacketFits, FitsTrace}
 use Rattle.am_machine.proofs.Traces.Counts.{any_same, packet_same, is_open-append, opened_by_cases, packet_known, waiters_more, or_neither_and}
 use Rattle.am_machine.proofs.Traces.Unchanged.{inside_still, queue_more, delivered_more}
 

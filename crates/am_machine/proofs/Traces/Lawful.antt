@@ -5,30 +5,22 @@ use Rattle.std.specs.Option.{option_map}
 use Rattle.std.specs.List.{list_any, count_by, All}
 use Rattle.std.proofs.lemmas.List.Elements.{All-nil, All-cons, All-head, All-tail}
 use Rattle.am_names.specs.declared.trigger.Trigger.{Trigger}
-use Rattle.am_names.specs.declared.trigger.Status.{Status}
-use Rattle.am_names.specs.declared.row.OpenToken.{OpenToken}
+use Rattle.am_names.specs.{Status, OpenToken}
 use Rattle.am_names.specs.declared.row.TokenKind.TheVariants.{Expire}
-use Rattle.am_wire.specs.declared.packet.Packet.{Packet}
-use Rattle.am_state.specs.declared.kernel_row.QueuedRow.{QueuedRow}
-use Rattle.am_state.specs.declared.obs.Obs.{Obs}
+use Rattle.am_wire.specs.{Packet}
+use Rattle.am_state.specs.{QueuedRow, Obs}
 use Rattle.am_state.specs.declared.obs.Obs.TheVariants as seen
-use Rattle.am_wait.specs.Rows.{open_on, is_open_on, token_of}
-use Rattle.am_walk.specs.Laws.{IsIdle}
-use Rattle.am_expire.specs.declared.uses.Use.{Use}
-use Rattle.am_expire.specs.Uses.{is_used, use_count}
+use Rattle.am_wait.specs.{open_on, is_open_on, token_of}
+use Rattle.am_walk.specs.{IsIdle}
+use Rattle.am_expire.specs.{Use, is_used, use_count}
 use Rattle.am_kernel.specs.Observations as kernel
-use Rattle.am_daemon.specs.State.{JobPlan}
-use Rattle.am_daemon.specs.Deliveries.{job_of}
-use Rattle.am_laws.specs.OneObservation.{trigger_of, waits, releases, queues, queues_as, unqueues, enters, leaves}
-use Rattle.am_laws.specs.Counts.{IsOpen, IsExpiring, IsInRow, uses}
-use Rattle.am_laws.specs.TraceLaws.{AllReleased}
-use Rattle.am_laws.specs.Fold.{IsLawfulAt, AreLawful}
-use Rattle.am_laws.specs.Tests.{is_open}
-use Rattle.am_names.proofs.SameTriggers.{is_itself}
+use Rattle.am_daemon.specs.{JobPlan, job_of}
+use Rattle.am_laws.specs.{trigger_of, waits, releases, queues, queues_as, unqueues, enters, leaves, IsOpen, IsExpiring, IsInRow, uses, AllReleased, IsLawfulAt, AreLawful, is_open}
+use Rattle.am_names.proofs.SameTriggers.{same_trigger_itself}
 use Rattle.am_names.proofs.Basics.{neither_of_or, or_right, equal_to_itself, none_where_mapped_none}
 use Rattle.am_laws.proofs.Words.{waits_true, waits_from_test, once_from_test, delivered_from_test, never_queued_from_test, never_delivered_from_test, queued_from_since, zero_uses}
 use Rattle.am_laws.proofs.Decided.{is_open_true, open_from_test, has_since}
-use Rattle.am_machine.specs.Invariant.Traces.{has, names, Asked, asked_in, asked_by, opened, AgreeOnOpen, WaitersFit, AgreeOnWaiters, AgreeOnUses, PacketFits, AgreeOnJobs}
+use Rattle.am_machine.specs.{has, names, Asked, asked_in, asked_by, opened, AgreeOnOpen, WaitersFit, AgreeOnWaiters, AgreeOnUses, PacketFits, AgreeOnJobs}
 use Rattle.am_machine.proofs.Lists.Counts.{count_cons}
 use Rattle.am_machine.proofs.Traces.Counts.{any_none_of, queues_names, is_open-append}
 use Rattle.am_machine.proofs.Traces.Unchanged.{opens_quiet}
@@ -57,7 +49,7 @@ asks_same : (row : OpenToken) (packet : Packet) (trigger : Trigger) → asked_by
 asks_same row packet trigger e t k =
     let its : row.trigger ≡ trigger = ap (λ (a : Asked). a.trigger) e ∙ t in
     let kind : row.kind ≡ Expire = ap (λ (a : Asked). a.kind) e ∙ k in
-    rw (its, kind, is_itself trigger) refl
+    rw (its, kind, same_trigger_itself trigger) refl
 
 not_expiring : (tokens : List OpenToken) (trace : List Obs) (trigger : Trigger) → AgreeOnOpen tokens trace → open_on tokens Expire trigger ≡ None → ¬ IsExpiring trace trigger
 not_expiring tokens trace trigger h none = λ expiring.

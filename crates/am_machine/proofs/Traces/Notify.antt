@@ -7,22 +7,18 @@ use Rattle.std.proofs.lemmas.Bool.Decides.{nat_tests}
 use Rattle.std.proofs.lemmas.List.Folds.{find-append}
 use Rattle.std.proofs.lemmas.List.Elements.{All-nil, All-cons, All-append}
 use Rattle.am_names.specs.declared.trigger.Trigger.{Trigger}
-use Rattle.am_names.specs.declared.row.OpenToken.{OpenToken}
-use Rattle.am_names.specs.declared.row.TokenKind.{TokenKind}
+use Rattle.am_names.specs.{OpenToken, TokenKind}
 use Rattle.am_names.proofs.Basics.{equal_to_itself, equal_by_test, some_injective, none_where_mapped_none}
-use Rattle.am_wire.specs.declared.packet.Packet.{Packet}
-use Rattle.am_state.specs.declared.kernel_row.QueuedRow.{QueuedRow}
-use Rattle.am_state.specs.declared.obs.Obs.{Obs}
+use Rattle.am_wire.specs.{Packet}
+use Rattle.am_state.specs.{QueuedRow, Obs}
 use Rattle.am_state.specs.declared.obs.Obs.TheVariants as seen
-use Rattle.am_wait.specs.Rows.{token_of, wait_of}
+use Rattle.am_wait.specs.{token_of, wait_of}
 use Rattle.am_wait.specs.Calls as calls
 use Rattle.am_wait.proofs.AgreeLemmas.{opened_sound}
-use Rattle.am_laws.specs.OneObservation.{waits, releases, delivers, queues_as, unqueues}
-use Rattle.am_laws.specs.Counts.{packet_of}
-use Rattle.am_laws.specs.Tests.{is_open}
+use Rattle.am_laws.specs.{waits, releases, delivers, queues_as, unqueues, packet_of, is_open}
 use Rattle.am_laws.proofs.Words.{queues_as_same}
 use Rattle.am_laws.proofs.Lists.{since-append}
-use Rattle.am_machine.specs.Invariant.Traces.{Rows, names, KnowsTokens, Asked, asked_in, asked_by, opened, AgreeOnOpen, WaitersFit, AgreeOnWaiters, PacketFits, AgreeOnQueue, FitsTrace}
+use Rattle.am_machine.specs.{Rows, names, KnowsTokens, Asked, asked_in, asked_by, opened, AgreeOnOpen, WaitersFit, AgreeOnWaiters, PacketFits, AgreeOnQueue, FitsTrace}
 use Rattle.am_machine.proofs.Traces.Counts.{any_same, any_new, packet_same, packet_new, is_open-append, opened_by_cases, unnamed_packet, packet_known, any_none_of, waits_names, releases_names, delivers_names, waiters_more, or_neither_and}
 use Rattle.am_machine.proofs.Traces.Unchanged.{inside_still, queue_more, delivered_more}
 

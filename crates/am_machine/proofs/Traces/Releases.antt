@@ -4,17 +4,13 @@ use Rattle.std.specs.Prelude.{◌==◌, ◌&&◌, ◌||◌}
 use Rattle.std.specs.List.{list_any, list_all, Contains}
 use Rattle.std.proofs.lemmas.List.Folds.{list_any-append}
 use Rattle.std.proofs.lemmas.List.Elements.{Contains-append_left}
-use Rattle.am_names.specs.declared.trigger.Status.{Status}
+use Rattle.am_names.specs.{Status}
 use Rattle.am_names.proofs.Basics.{or_right, equal_to_itself, equal_by_test, or_neither}
-use Rattle.am_state.specs.declared.obs.Obs.{Obs}
+use Rattle.am_state.specs.{Obs}
 use Rattle.am_state.specs.declared.obs.Obs.TheVariants.{Waits, Released}
 use Rattle.am_kernel.specs.Observations as kernel
-use Rattle.am_laws.specs.OneObservation.{releases, is_released}
-use Rattle.am_laws.specs.Counts.{IsOpen, IsInRow}
-use Rattle.am_laws.specs.TraceLaws.{Closes, MayBeReleased}
-use Rattle.am_laws.specs.Fold.{AreLawful}
-use Rattle.am_laws.specs.Tests.{is_in_row}
-use Rattle.am_machine.specs.Invariant.Traces.{has, AreDifferent}
+use Rattle.am_laws.specs.{releases, is_released, IsOpen, IsInRow, Closes, MayBeReleased, AreLawful, is_in_row}
+use Rattle.am_machine.specs.{has, AreDifferent}
 use Rattle.am_laws.proofs.Words.{once_test, once_from_test, in_row_from_test}
 
 -- a walker and a token on which it waits

@@ -3,19 +3,16 @@ use Rattle.std.proofs.Common.{◌≡◌, ℕ, Bool, true, false, cond, List, [],
 use Rattle.std.specs.Prelude.{filter, not, ◌||◌, ◌&&◌, if◌then◌else◌}
 use Rattle.std.specs.List.{list_any, list_all, count_by, All}
 use Rattle.std.proofs.lemmas.List.Elements.{All-nil, All-cons, All-head, All-tail}
-use Rattle.am_names.specs.declared.row.OpenToken.{OpenToken}
+use Rattle.am_names.specs.{OpenToken}
 use Rattle.am_names.proofs.Basics.{or_neither, both_of_and}
-use Rattle.am_wire.specs.declared.packet.Packet.{Packet}
-use Rattle.am_state.specs.declared.kernel_row.QueuedRow.{QueuedRow}
-use Rattle.am_state.specs.declared.obs.Obs.{Obs}
+use Rattle.am_wire.specs.{Packet}
+use Rattle.am_state.specs.{QueuedRow, Obs}
 use Rattle.am_state.specs.declared.obs.Obs.TheVariants.{Queued, Waits, Answered, Catatonic, Released, Delivered}
-use Rattle.am_expire.specs.declared.uses.Use.{Use}
-use Rattle.am_daemon.specs.State.{JobPlan}
-use Rattle.am_laws.specs.OneObservation.{queues, queues_as, closes, unqueues, waits, releases, delivers, enters, leaves}
-use Rattle.am_laws.specs.Counts.{packet_of, fs_of_token}
-use Rattle.am_laws.specs.Tests.{since, is_open, is_in_queue}
+use Rattle.am_expire.specs.{Use}
+use Rattle.am_daemon.specs.{JobPlan}
+use Rattle.am_laws.specs.{queues, queues_as, closes, unqueues, waits, releases, delivers, enters, leaves, packet_of, fs_of_token, since, is_open, is_in_queue}
 use Rattle.am_laws.proofs.Lists.{since-append}
-use Rattle.am_machine.specs.Invariant.Traces.{Rows, names, opened, KnowsTokens, AgreeOnOpen, AgreeOnWaiters, AgreeOnUses, PacketFits, AgreeOnQueue, AgreeOnJobs, FitsTrace}
+use Rattle.am_machine.specs.{Rows, names, opened, KnowsTokens, AgreeOnOpen, AgreeOnWaiters, AgreeOnUses, PacketFits, AgreeOnQueue, AgreeOnJobs, FitsTrace}
 use Rattle.am_machine.proofs.Traces.Counts.{any_same, any_stays, count_same, packet_same, is_open-append, opened_by_cases, unnamed_packet, waiters_more}
 
 abbrev pub is_quiet : Obs → Bool

@@ -2,20 +2,13 @@
 use Rattle.std.proofs.Common.{◌≡◌, ℕ, ◌==◌, true, List, Option, Some, None, refl, subst}
 use Rattle.std.specs.List.{All}
 use Rattle.am_names.specs.declared.trigger.Trigger.{Trigger}
-use Rattle.am_names.specs.declared.row.WaitRow.{WaitRow}
-use Rattle.am_state.specs.declared.obs.Obs.{Obs}
-use Rattle.am_walk.specs.declared.stop.Stop.{Stop}
-use Rattle.am_kernel.specs.declared.begun.Begin.{Begin}
-use Rattle.am_kernel.specs.declared.row.WalkRow.{WalkRow}
-use Rattle.am_kernel.specs.State.{KernelState}
-use Rattle.am_kernel.specs.Expires.{expiry_of}
-use Rattle.am_kernel.specs.Outcome.{with_latest}
-use Rattle.am_machine.specs.declared.event.Event.{Event}
+use Rattle.am_names.specs.{WaitRow}
+use Rattle.am_state.specs.{Obs}
+use Rattle.am_walk.specs.{Stop}
+use Rattle.am_kernel.specs.{Attempt, WalkRow, KernelState, expiry_of, with_latest}
+use Rattle.am_machine.specs.{Event, outcome_of, IsPath, HasPaths, is_named, WalksFit}
 use Rattle.am_machine.specs.declared.event.Event.TheVariants as events
 use Rattle.am_machine.specs.State.{State}
-use Rattle.am_machine.specs.Machine.{outcome_of}
-use Rattle.am_machine.specs.Paths.{IsPath, HasPaths}
-use Rattle.am_machine.specs.Invariant.Walks.{is_named, WalksFit}
 use Rattle.am_machine.proofs.Lists.Different.{all_found}
 use Rattle.am_machine.proofs.Walks.Named.{IsNamed, IsNamedStop, walk_named}
 use Rattle.am_machine.proofs.Walks.Rows.{IsNamedUse, IsAlongNames, same_rows, arrived_named, joined_named, notified_named, expiring_named, closed_named, acknowledged_named, freed_from_named}
@@ -27,11 +20,11 @@ use Rattle.am_machine.proofs.Tour.Events.{IsKnown, AnyJob}
 
 -- ---- what walkers do
 
-passed_named : (k : KernelState) (begin : Begin) (stop : Stop) (passed : List Trigger) → Walking IsPath k begin stop passed → All IsNamed passed
-passed_named k begin stop passed w = subst (All IsNamed) w.passed_is (walk_named w.scene begin.ns begin.path w.path).passes
+passed_named : (k : KernelState) (attempt : Attempt) (stop : Stop) (passed : List Trigger) → Walking IsPath k attempt stop passed → All IsNamed passed
+passed_named k attempt stop passed w = subst (All IsNamed) w.passed_is (walk_named w.scene attempt.ns attempt.path w.path).passes
 
-stop_named : (k : KernelState) (begin : Begin) (stop : Stop) (passed : List Trigger) → Walking IsPath k begin stop passed → IsNamedStop stop
-stop_named k begin stop passed w = subst IsNamedStop w.stop_is (walk_named w.scene begin.ns begin.path w.path).stops
+stop_named : (k : KernelState) (attempt : Attempt) (stop : Stop) (passed : List Trigger) → Walking IsPath k attempt stop passed → IsNamedStop stop
+stop_named k attempt stop passed w = subst IsNamedStop w.stop_is (walk_named w.scene attempt.ns attempt.path w.path).stops
 
 abbrev StaysNamed : KernelState → List Obs → KernelState → Type 0
 StaysNamed k shown made = WalksFit k → WalksFit made
@@ -39,9 +32,9 @@ StaysNamed k shown made = WalksFit k → WalksFit made
 walks : tour.Keeps IsPath StaysNamed
 walks = record {
   nothing = λ k h. h;
-  arrived = λ k begin at passed w h. arrived_named k begin at.mount passed (passed_named k begin _ passed w) h;
-  joined = λ k begin token passed w h. joined_named k begin token passed w.path (passed_named k begin _ passed w) h;
-  notified = λ k begin trigger attach passed w is h. notified_named k begin trigger attach passed w.path (stop_named k begin _ passed w) (passed_named k begin _ passed w) h;
+  arrived = λ k attempt at passed w h. arrived_named k attempt at.mount passed (passed_named k attempt _ passed w) h;
+  joined = λ k attempt token passed w h. joined_named k attempt token passed w.path (passed_named k attempt _ passed w) h;
+  notified = λ k attempt trigger attach passed w is h. notified_named k attempt trigger attach passed w.path (stop_named k attempt _ passed w) (passed_named k attempt _ passed w) h;
   expiring = λ k walker fs moment immediate trigger attach x h. expiring_named k walker trigger attach (picked_use IsNamed (expiry_of k fs moment immediate) trigger x.next h.used) h;
   closed = λ k fs h. closed_named fs k h;
   collected = λ k kind wait status moment shown made g later h.

@@ -4,27 +4,14 @@ use Rattle.std.specs.Prelude.{◌==◌, ◌&&◌, nat_lt, not, is_none, filter, 
 use Rattle.std.specs.List.{list_all, All}
 use Rattle.std.proofs.lemmas.List.Elements.{All-cons, All-head, All-tail, All-nil, All-append, All-push, All-filter, All-map, All-weaker}
 use Rattle.std.proofs.lemmas.Map.Views.{any-filter_same}
-use Rattle.am_names.specs.Name.{is_name}
-use Rattle.am_names.specs.Trigger.{same_trigger}
+use Rattle.am_names.specs.{is_name, same_trigger, Status, OpenToken, TokenKind, WaitRow}
 use Rattle.am_names.specs.declared.trigger.Trigger.{Trigger}
-use Rattle.am_names.specs.declared.trigger.Status.{Status}
-use Rattle.am_names.specs.declared.row.OpenToken.{OpenToken}
-use Rattle.am_names.specs.declared.row.TokenKind.{TokenKind}
 use Rattle.am_names.specs.declared.row.TokenKind.TheVariants.{Missing, Expire}
-use Rattle.am_names.specs.declared.row.WaitRow.{WaitRow}
 use Rattle.am_names.proofs.Basics.{equal_to_itself, equal_by_test, false_where_not, differ_the_other_way}
-use Rattle.am_trigger.specs.Rows.{used_in, all_used_in}
-use Rattle.am_wait.specs.Rows.{WaitRows, token_of, with_wait, with_waiter, joined_row}
-use Rattle.am_wait.specs.Calls.{waiting_on, opened, joined_on, released_row, failed_row}
-use Rattle.am_kernel.specs.declared.begun.Begin.{Begin}
-use Rattle.am_kernel.specs.declared.row.WalkRow.{WalkRow}
-use Rattle.am_kernel.specs.State.{KernelState}
-use Rattle.am_kernel.specs.Walks.{walk_row, without_walk, with_walk, arrived, with_joined, with_notified}
-use Rattle.am_kernel.specs.Catatonic.{closed}
-use Rattle.am_kernel.specs.Requests.{acknowledged}
-use Rattle.am_kernel.specs.Expires.{with_expiring}
-use Rattle.am_kernel.specs.Resumes.{freed, freed_from}
-use Rattle.am_machine.specs.Invariant.Walks.{is_named, has_walk, HasWalk, WalksFit}
+use Rattle.am_trigger.specs.{used_in, all_used_in}
+use Rattle.am_wait.specs.{WaitRows, token_of, with_wait, with_waiter, joined_row, waiting_on, opened, joined_on, released_row, failed_row}
+use Rattle.am_kernel.specs.{Attempt, WalkRow, KernelState, walk_row, without_walk, with_walk, arrived, with_joined, with_notified, made_catatonic, acknowledged, with_expiring, wait_collected, wait_collected_from}
+use Rattle.am_machine.specs.{is_named, has_walk, HasWalk, WalksFit}
 use Rattle.am_machine.proofs.Lists.Different.{all_found, each_kept, differ_as_the_third}
 use Rattle.am_machine.proofs.Attachments.Known.{any_more, any_last}
 use Rattle.am_machine.proofs.Walks.Named.{IsNamed, AreNames}
@@ -125,22 +112,22 @@ other_walk : (gone walker : ℕ) (walks : List WalkRow) → (gone == walker) ≡
 other_walk gone walker walks other h =
     any-filter_same (λ (row : WalkRow). row.walker == walker) (λ (row : WalkRow). not (row.walker == gone)) true (λ row is. differ_as_the_third row.walker gone walker is other) walks ∙ h
 
-walk_by_cases : (begin : Begin) (walks : List WalkRow) (walker : ℕ) (b : Bool) → (begin.walker == walker) ≡ b → has_walk walks walker ≡ true → has_walk (with_walk begin walks) walker ≡ true
-walk_by_cases begin walks walker true same h = any_last (λ (row : WalkRow). row.walker == walker) (without_walk begin.walker walks) (walk_row begin) same
-walk_by_cases begin walks walker false other h = any_more (λ (row : WalkRow). row.walker == walker) (without_walk begin.walker walks) (walk_row begin ∷ []) (other_walk begin.walker walker walks other h)
+walk_by_cases : (attempt : Attempt) (walks : List WalkRow) (walker : ℕ) (b : Bool) → (attempt.walker == walker) ≡ b → has_walk walks walker ≡ true → has_walk (with_walk attempt walks) walker ≡ true
+walk_by_cases attempt walks walker true same h = any_last (λ (row : WalkRow). row.walker == walker) (without_walk attempt.walker walks) (walk_row attempt) same
+walk_by_cases attempt walks walker false other h = any_more (λ (row : WalkRow). row.walker == walker) (without_walk attempt.walker walks) (walk_row attempt ∷ []) (other_walk attempt.walker walker walks other h)
 
 -- a walk more: all have theirs as before, and the walker has it
-still_began : (begin : Begin) (walks : List WalkRow) (waits : List WaitRow) → All (HasWalk walks) waits → All (HasWalk (with_walk begin walks)) waits
-still_began begin walks waits h =
-    All-weaker (HasWalk walks) (HasWalk (with_walk begin walks)) (λ row began missing. walk_by_cases begin walks row.walker (begin.walker == row.walker) refl (began missing)) waits h
+still_began : (attempt : Attempt) (walks : List WalkRow) (waits : List WaitRow) → All (HasWalk walks) waits → All (HasWalk (with_walk attempt walks)) waits
+still_began attempt walks waits h =
+    All-weaker (HasWalk walks) (HasWalk (with_walk attempt walks)) (λ row began missing. walk_by_cases attempt walks row.walker (attempt.walker == row.walker) refl (began missing)) waits h
 
-own_walk : (begin : Begin) (walks : List WalkRow) → has_walk (with_walk begin walks) begin.walker ≡ true
-own_walk begin walks = any_last (λ (row : WalkRow). row.walker == begin.walker) (without_walk begin.walker walks) (walk_row begin) (equal_to_itself begin.walker)
+own_walk : (attempt : Attempt) (walks : List WalkRow) → has_walk (with_walk attempt walks) attempt.walker ≡ true
+own_walk attempt walks = any_last (λ (row : WalkRow). row.walker == attempt.walker) (without_walk attempt.walker walks) (walk_row attempt) (equal_to_itself attempt.walker)
 
-joined_began : (o : Option OpenToken) (token : ℕ) (begin : Begin) (walks : List WalkRow) (w : WaitRows) → All (HasWalk walks) w.waits → All (HasWalk (with_walk begin walks)) (joined_on o token begin.walker w).waits
-joined_began None token begin walks w h = still_began begin walks w.waits h
-joined_began (Some row) token begin walks w h =
-    wait_more (HasWalk (with_walk begin walks)) (waiting_on token row.trigger row.kind begin.walker) w.waits (λ missing. own_walk begin walks) (still_began begin walks w.waits h)
+joined_began : (o : Option OpenToken) (token : ℕ) (attempt : Attempt) (walks : List WalkRow) (w : WaitRows) → All (HasWalk walks) w.waits → All (HasWalk (with_walk attempt walks)) (joined_on o token attempt.walker w).waits
+joined_began None token attempt walks w h = still_began attempt walks w.waits h
+joined_began (Some row) token attempt walks w h =
+    wait_more (HasWalk (with_walk attempt walks)) (waiting_on token row.trigger row.kind attempt.walker) w.waits (λ missing. own_walk attempt walks) (still_began attempt walks w.waits h)
 
 failed_kind : (b : Bool) (row : WaitRow) (status : Option Status) → (if b then record row { status = status } else row).kind ≡ row.kind
 failed_kind true row status = refl
@@ -163,33 +150,33 @@ freed_began walker walks waits h =
 
 -- ---- what the kernel makes of it
 
-walk_more : (begin : Begin) (walks : List WalkRow) → AreNames begin.path → All IsAlongNames walks → All IsAlongNames (with_walk begin walks)
-walk_more begin walks names h =
-    All-push IsAlongNames (filter (λ (row : WalkRow). not (row.walker == begin.walker)) walks) (walk_row begin) (All-filter (λ (row : WalkRow). not (row.walker == begin.walker)) IsAlongNames walks h) names
+walk_more : (attempt : Attempt) (walks : List WalkRow) → AreNames attempt.path → All IsAlongNames walks → All IsAlongNames (with_walk attempt walks)
+walk_more attempt walks names h =
+    All-push IsAlongNames (filter (λ (row : WalkRow). not (row.walker == attempt.walker)) walks) (walk_row attempt) (All-filter (λ (row : WalkRow). not (row.walker == attempt.walker)) IsAlongNames walks h) names
 
-pub arrived_named : (k : KernelState) (begin : Begin) (mount : ℕ) (passed : List Trigger) → All IsNamed passed → WalksFit k → WalksFit (arrived begin mount passed k)
-arrived_named k begin mount passed named h = record { tokens = h.tokens; waits = h.waits; used = all_used_named passed begin.moment k.triggers.uses named h.used; walks = h.walks; began = h.began }
+pub arrived_named : (k : KernelState) (attempt : Attempt) (mount : ℕ) (passed : List Trigger) → All IsNamed passed → WalksFit k → WalksFit (arrived attempt mount passed k)
+arrived_named k attempt mount passed named h = record { tokens = h.tokens; waits = h.waits; used = all_used_named passed attempt.moment k.triggers.uses named h.used; walks = h.walks; began = h.began }
 
-pub joined_named : (k : KernelState) (begin : Begin) (token : ℕ) (passed : List Trigger) → AreNames begin.path → All IsNamed passed → WalksFit k → WalksFit (with_joined begin token passed k)
-joined_named k begin token passed names named h =
-    let w = joined_by_cases (token_of k.waits.tokens token) token begin.walker k.waits refl (waits_of k h) in
+pub joined_named : (k : KernelState) (attempt : Attempt) (token : ℕ) (passed : List Trigger) → AreNames attempt.path → All IsNamed passed → WalksFit k → WalksFit (with_joined attempt token passed k)
+joined_named k attempt token passed names named h =
+    let w = joined_by_cases (token_of k.waits.tokens token) token attempt.walker k.waits refl (waits_of k h) in
     record {
       tokens = w.tokens;
       waits = w.waits;
-      used = all_used_named passed begin.moment k.triggers.uses named h.used;
-      walks = walk_more begin k.walks names h.walks;
-      began = joined_began (token_of k.waits.tokens token) token begin k.walks k.waits h.began;
+      used = all_used_named passed attempt.moment k.triggers.uses named h.used;
+      walks = walk_more attempt k.walks names h.walks;
+      began = joined_began (token_of k.waits.tokens token) token attempt k.walks k.waits h.began;
     }
 
-pub notified_named : (k : KernelState) (begin : Begin) (trigger : Trigger) (attach : ℕ) (passed : List Trigger) → AreNames begin.path → IsNamed trigger → All IsNamed passed → WalksFit k → WalksFit (with_notified begin trigger attach passed k)
-notified_named k begin trigger attach passed names own named h =
-    let w = opened_named trigger Missing begin.walker k.waits own (waits_of k h) in
+pub notified_named : (k : KernelState) (attempt : Attempt) (trigger : Trigger) (attach : ℕ) (passed : List Trigger) → AreNames attempt.path → IsNamed trigger → All IsNamed passed → WalksFit k → WalksFit (with_notified attempt trigger attach passed k)
+notified_named k attempt trigger attach passed names own named h =
+    let w = opened_named trigger Missing attempt.walker k.waits own (waits_of k h) in
     record {
       tokens = w.tokens;
       waits = w.waits;
-      used = used_named trigger begin.moment (all_used_in passed begin.moment k.triggers.uses) own (all_used_named passed begin.moment k.triggers.uses named h.used);
-      walks = walk_more begin k.walks names h.walks;
-      began = wait_more (HasWalk (with_walk begin k.walks)) (waiting_on (k.waits.last_token + 1) trigger Missing begin.walker) k.waits.waits (λ missing. own_walk begin k.walks) (still_began begin k.walks k.waits.waits h.began);
+      used = used_named trigger attempt.moment (all_used_in passed attempt.moment k.triggers.uses) own (all_used_named passed attempt.moment k.triggers.uses named h.used);
+      walks = walk_more attempt k.walks names h.walks;
+      began = wait_more (HasWalk (with_walk attempt k.walks)) (waiting_on (k.waits.last_token + 1) trigger Missing attempt.walker) k.waits.waits (λ missing. own_walk attempt k.walks) (still_began attempt k.walks k.waits.waits h.began);
     }
 
 pub expiring_named : (k : KernelState) (walker : ℕ) (trigger : Trigger) (attach : ℕ) → IsNamed trigger → WalksFit k → WalksFit (with_expiring walker trigger attach k)
@@ -203,7 +190,7 @@ expiring_named k walker trigger attach own h =
       began = wait_more (HasWalk k.walks) (waiting_on (k.waits.last_token + 1) trigger Expire walker) k.waits.waits (λ missing. absurd cc) h.began;
     }
 
-pub closed_named : (fs : ℕ) (k : KernelState) → WalksFit k → WalksFit (closed fs k)
+pub closed_named : (fs : ℕ) (k : KernelState) → WalksFit k → WalksFit (made_catatonic fs k)
 closed_named fs k h = record {
   tokens = All-filter (λ (row : OpenToken). not (row.trigger.fs == fs)) IsNamedToken k.waits.tokens h.tokens;
   waits = mapped_named (failed_row fs) k.waits.waits (λ row. failed_trigger (row.trigger.fs == fs && is_none row.status) row _) h.waits;
@@ -221,7 +208,7 @@ acknowledged_named token status k h = record {
   began = mapped_began k.walks (released_row token status) k.waits.waits (λ row. failed_kind (row.token == token) row _) (λ row. failed_walker (row.token == token) row _) h.began;
 }
 
-freed_named : (walker : ℕ) (k : KernelState) → WalksFit k → WalksFit (freed walker k)
+freed_named : (walker : ℕ) (k : KernelState) → WalksFit k → WalksFit (wait_collected walker k)
 freed_named walker k h = record {
   tokens = h.tokens;
   waits = All-filter (λ (row : WaitRow). not (row.walker == walker)) IsNamedWait k.waits.waits h.waits;
@@ -230,7 +217,7 @@ freed_named walker k h = record {
   began = freed_began walker k.walks k.waits.waits h.began;
 }
 
-pub freed_from_named : (kind : TokenKind) (wait : WaitRow) (moment : ℕ) (k : KernelState) → IsNamed wait.trigger → WalksFit k → WalksFit (freed_from kind wait moment k)
+pub freed_from_named : (kind : TokenKind) (wait : WaitRow) (moment : ℕ) (k : KernelState) → IsNamed wait.trigger → WalksFit k → WalksFit (wait_collected_from kind wait moment k)
 freed_from_named Missing wait moment k own h = freed_named wait.walker k h
 freed_from_named Expire wait moment k own h =
     let f = freed_named wait.walker k h in

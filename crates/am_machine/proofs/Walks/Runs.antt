@@ -1,16 +1,12 @@
 -- In every world all names are names.
 use Rattle.std.proofs.Common.{List, [], ◌∷◌, subst, sym, inl, inr}
 use Rattle.std.proofs.lemmas.List.Elements.{All-nil, All-head, All-tail}
-use Rattle.am_state.specs.declared.obs.Obs.{Obs}
-use Rattle.am_machine.specs.declared.event.Event.{Event}
-use Rattle.am_machine.specs.declared.answer.Answer.{Answer}
-use Rattle.am_machine.specs.State.{Opening, State, opening_of}
-use Rattle.am_machine.specs.Machine.{Step, Run, after, outcome_of}
-use Rattle.am_machine.specs.Paths.{HasPaths, HavePaths}
-use Rattle.am_machine.specs.Invariant.Walks.{WalksFit}
+use Rattle.am_state.specs.{Obs}
+use Rattle.am_machine.specs.{Event, Answer, Setup, initial_state_of, Step, Run, after, outcome_of, HasPaths, HavePaths, WalksFit}
+use Rattle.am_machine.specs.State.{State}
 use Rattle.am_machine.proofs.Walks.Changes.{outcome_names}
 
-pub initial_named : (opening : Opening) → WalksFit (opening_of opening).kernel
+pub initial_named : (opening : Setup) → WalksFit (initial_state_of opening).kernel
 initial_named opening = record { tokens = All-nil _; waits = All-nil _; used = All-nil _; walks = All-nil _; began = All-nil _ }
 
 -- an outcome leaves it so

@@ -2,23 +2,19 @@
 use Rattle.std.specs.Prelude.{ℕ, Bool, true, ◌&&◌, not, is_some, List, [], ◌∷◌, Option, Some, None, if◌then◌else◌}
 use Rattle.std.specs.Str.{bytes_eq}
 use Rattle.am_names.specs.declared.errno.Errno.TheVariants.{Stranger}
-use Rattle.am_wire.specs.Said.{said}
-use Rattle.am_wire.specs.Format.{canonical}
-use Rattle.am_state.specs.declared.kernel_row.QueuedRow.{QueuedRow}
-use Rattle.am_state.specs.declared.obs.Obs.{Obs}
+use Rattle.am_wire.specs.{fields_of, canonical}
+use Rattle.am_state.specs.{QueuedRow, Obs}
 use Rattle.am_state.specs.declared.obs.Obs.TheVariants as seen
-use Rattle.am_kernel.specs.Requests.{queued_of, without_packet}
-use Rattle.am_job.specs.Plans.{is_reply}
-use Rattle.am_daemon.specs.State.{DaemonState}
-use Rattle.am_daemon.specs.Packets.{trigger_of, plan_of_packet, pending_of}
-use Rattle.am_daemon.specs.Deliveries.{delivery_fault, taken_up}
+use Rattle.am_kernel.specs.{queued_of, without_packet}
+use Rattle.am_job.specs.{is_reply}
+use Rattle.am_daemon.specs.{DaemonState, trigger_of, plan_of_packet, pending_of, delivery_fault, taken_up}
 use Rattle.am_machine.specs.declared.answer.Answer.TheVariants as answers
 use Rattle.am_machine.specs.State.{State}
-use Rattle.am_machine.specs.Outcome.{Outcome, refused}
+use Rattle.am_machine.specs.EventOutcome.{EventOutcome, refused}
 
 -- the bytes of a queued packet
 abbrev pub packet_bytes : QueuedRow → List ℕ
-packet_bytes row = canonical (said row.packet)
+packet_bytes row = canonical (fields_of row.packet)
 
 -- the bytes that were read, where they are given, are those of the packet
 abbrev pub has_bytes : Option (List ℕ) → QueuedRow → Bool
@@ -38,7 +34,7 @@ recording d row =
     else seen.Recorded (trigger_of row.packet) (pending_of d row.packet) ∷ []
 
 -- the packet leaves the pipe, and its job begins
-abbrev pub takes : State → QueuedRow → Outcome
+abbrev pub takes : State → QueuedRow → EventOutcome
 takes s row = record {
   answer = answers.Job row.packet.token;
   seen = seen.Delivered row.token row.attach row.packet ∷ recording s.daemon row;
@@ -49,10 +45,10 @@ takes s row = record {
 }
 
 -- there is a packet of that token in the pipe
-abbrev pub delivered_at : Option QueuedRow → State → Option (List ℕ) → Outcome
+abbrev pub delivered_at : Option QueuedRow → State → Option (List ℕ) → EventOutcome
 delivered_at None s bytes = refused s Stranger
 delivered_at (Some row) s bytes = if may_take s row bytes then takes s row else refused s Stranger
 
 -- the daemon takes the packet of the token
-abbrev pub deliver_outcome : State → ℕ → Option (List ℕ) → Outcome
+abbrev pub deliver_outcome : State → ℕ → Option (List ℕ) → EventOutcome
 deliver_outcome s token bytes = delivered_at (queued_of s.kernel.queue token) s bytes

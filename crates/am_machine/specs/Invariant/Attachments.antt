@@ -2,13 +2,10 @@
 -- the daemon knows (own choice).
 use Rattle.std.specs.Prelude.{◌≡◌, ◌≤◌, ℕ, ◌+◌, ◌==◌, Bool, true, List, [], ◌∷◌}
 use Rattle.std.specs.List.{list_any, All}
-use Rattle.am_state.specs.declared.daemon_row.HeldRow.{HeldRow}
-use Rattle.am_state.specs.declared.daemon_row.KnownRow.{KnownRow}
-use Rattle.am_state.specs.declared.daemon_row.RecordRow.{RecordRow}
-use Rattle.am_trigger.specs.declared.autofs.Autofs.{Autofs}
-use Rattle.am_kernel.specs.declared.row.Attached.{Attached}
-use Rattle.am_kernel.specs.State.{KernelState}
-use Rattle.am_daemon.specs.State.{DaemonState, JobPlan}
+use Rattle.am_state.specs.{HeldRow, KnownRow, RecordRow}
+use Rattle.am_trigger.specs.{Autofs}
+use Rattle.am_kernel.specs.{Attached, KernelState}
+use Rattle.am_daemon.specs.{DaemonState, JobPlan}
 
 -- the file systems rise from this number on, each has one row, and all were given
 abbrev pub RiseTo : ℕ → ℕ → List Attached → Type 0
@@ -30,7 +27,7 @@ pub record AreKnown (autofs : List Autofs) (attached : List Attached) (known : L
   pub held_known : All (λ (row : HeldRow). is_known known row.fs ≡ true) held
 
 -- all numbers of file systems and attachments were given, and the daemon knows what it serves
-pub record AreGiven (k : KernelState) (d : DaemonState) : Type 0 where
+pub record NumbersAreAllocated (k : KernelState) (d : DaemonState) : Type 0 where
   -- each autofs has one attachment, the latest
   pub rise : RiseTo k.last_fs 0 k.attached
   pub attached : All (λ (row : Attached). row.attach ≤ k.last_attach) k.attached

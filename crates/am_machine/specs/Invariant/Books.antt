@@ -1,17 +1,13 @@
 -- What the daemon's book says while a job is at work (own choice).
 use Rattle.std.specs.Prelude.{◌≡◌, ◌≤◌, ℕ, ◌==◌, Bool, false, ◌&&◌, map, Option, Some, None}
 use Rattle.std.specs.List.{All}
-use Rattle.am_names.specs.Trigger.{same_trigger}
+use Rattle.am_names.specs.{same_trigger}
 use Rattle.am_names.specs.declared.trigger.Trigger.{Trigger}
-use Rattle.am_state.specs.declared.daemon_row.HeldRow.{HeldRow}
-use Rattle.am_state.specs.declared.daemon_row.Record.{Record}
+use Rattle.am_state.specs.{HeldRow, Record}
 use Rattle.am_state.specs.declared.daemon_row.Record.TheVariants.{Mounting, Mounted, Unmounting}
-use Rattle.am_job.specs.Book.{record_of}
-use Rattle.am_kernel.specs.State.{KernelState}
-use Rattle.am_kernel.specs.Sites.{attach_of}
-use Rattle.am_daemon.specs.State.{DaemonState, JobPlan}
-use Rattle.am_daemon.specs.Attachments.{attach_held}
-use Rattle.am_daemon.specs.Deliveries.{job_of}
+use Rattle.am_job.specs.{record_of}
+use Rattle.am_kernel.specs.{KernelState, attach_of}
+use Rattle.am_daemon.specs.{DaemonState, JobPlan, attach_held, job_of}
 use Rattle.am_machine.specs.Invariant.Traces.{AreDifferent}
 use Rattle.am_machine.specs.Invariant.Planned.{has_record_left}
 

@@ -1,14 +1,13 @@
 -- Where mounts stand: the daemon's mount of each autofs, what is mounted on it, and the copies
 -- (sharedsubtree.rst, 5a and 5b).
 use Rattle.std.specs.Prelude.{◌≡◌, ◌<◌, ◌≤◌, ℕ, List, Some, None}
-use Rattle.am_names.specs.declared.row.MountRow.{MountRow}
-use Rattle.am_group.specs.Propagation.{Receives}
-use Rattle.am_mount.specs.Rows.{mount_row, IsOn}
+use Rattle.am_names.specs.{MountRow}
+use Rattle.am_group.specs.{Receives}
+use Rattle.am_mount.specs.{mount_row, IsOn}
 use Rattle.am_propagate.specs.MountTable.{MountTable}
-use Rattle.am_propagate.specs.Invariant.{IsWhole}
-use Rattle.am_trigger.specs.declared.autofs.Autofs.{Autofs}
-use Rattle.am_trigger.specs.Rows.{autofs_of}
-use Rattle.am_kernel.specs.State.{KernelState}
+use Rattle.am_propagate.specs.{IsWhole}
+use Rattle.am_trigger.specs.{Autofs, autofs_of}
+use Rattle.am_kernel.specs.{KernelState}
 
 -- The daemon's mount of an autofs: a mount of its file system in namespace 0, which isn't mounted on
 -- an autofs.

@@ -2,14 +2,10 @@
 use Rattle.std.specs.Prelude.{◌≡◌, ⊤, Bool, true, false, List}
 use Rattle.std.specs.List.{All}
 use Rattle.am_names.specs.declared.trigger.Trigger.{Trigger}
-use Rattle.am_job.specs.declared.act.Act.{Act}
+use Rattle.am_job.specs.{Act, Outcome, Plan, Ended, Next, IsEnded, AcknowledgesLast, ClaimsRight}
 use Rattle.am_job.specs.declared.act.Act.TheVariants as act
-use Rattle.am_job.specs.declared.act.Outcome.{Outcome}
 use Rattle.am_job.specs.declared.act.Outcome.TheVariants.{Done}
-use Rattle.am_job.specs.Plans.{Plan, Ended, Next}
-use Rattle.am_job.specs.Laws.{IsEnded, AcknowledgesLast, ClaimsRight}
-use Rattle.am_daemon.specs.State.{JobPlan}
-use Rattle.am_daemon.specs.Packets.{is_pending}
+use Rattle.am_daemon.specs.{JobPlan, is_pending}
 
 -- The acts that are left write the book where those before are done. In the rest of a plan they do
 -- whatever comes of those (`IsRest`).

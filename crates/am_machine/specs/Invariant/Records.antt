@@ -1,13 +1,11 @@
 -- What a pending record is about: an open token of its kind (own choice).
 use Rattle.std.specs.Prelude.{◌≡◌, ◌≤◌, ℕ, Bool, true, false, List, Some}
 use Rattle.std.specs.List.{All}
-use Rattle.am_names.specs.declared.row.OpenToken.{OpenToken}
-use Rattle.am_names.specs.declared.row.TokenKind.{TokenKind}
+use Rattle.am_names.specs.{OpenToken, TokenKind}
 use Rattle.am_names.specs.declared.row.TokenKind.TheVariants.{Missing, Expire}
-use Rattle.am_wait.specs.Rows.{WaitRows, token_of}
-use Rattle.am_state.specs.declared.daemon_row.Record.{Record}
+use Rattle.am_wait.specs.{WaitRows, token_of}
+use Rattle.am_state.specs.{Record, RecordRow}
 use Rattle.am_state.specs.declared.daemon_row.Record.TheVariants.{Mounting, Mounted, Unmounting}
-use Rattle.am_state.specs.declared.daemon_row.RecordRow.{RecordRow}
 use Rattle.am_machine.specs.Invariant.Books.{is_pending_for}
 
 -- a missing mount is being mounted, and what is to expire is being unmounted

@@ -2,15 +2,11 @@
 -- (own choice).
 use Rattle.std.specs.Prelude.{◌≡◌, ◌⊎◌, ℕ, true, is_some, List, map, Some, None}
 use Rattle.std.specs.List.{All}
-use Rattle.am_names.specs.Trigger.{same_trigger}
-use Rattle.am_names.specs.declared.row.OpenToken.{OpenToken}
-use Rattle.am_wait.specs.Rows.{token_of}
-use Rattle.am_state.specs.declared.kernel_row.QueuedRow.{QueuedRow}
-use Rattle.am_kernel.specs.State.{KernelState}
-use Rattle.am_kernel.specs.Sites.{attach_of}
-use Rattle.am_kernel.specs.Requests.{queued_of}
-use Rattle.am_daemon.specs.State.{JobPlan}
-use Rattle.am_daemon.specs.Deliveries.{job_of}
+use Rattle.am_names.specs.{same_trigger, OpenToken}
+use Rattle.am_wait.specs.{token_of}
+use Rattle.am_state.specs.{QueuedRow}
+use Rattle.am_kernel.specs.{KernelState, attach_of, queued_of}
+use Rattle.am_daemon.specs.{JobPlan, job_of}
 use Rattle.am_machine.specs.Invariant.Traces.{AreDifferent, asked_in, asked_by}
 use Rattle.am_machine.specs.Invariant.Walks.{is_named}
 

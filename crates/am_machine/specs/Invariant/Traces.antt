@@ -4,24 +4,16 @@ use Rattle.std.specs.Prelude.{◌≡◌, ℕ, ◌+◌, ◌<◌, ◌==◌, Bool, 
 use Rattle.std.specs.List.{list_any, count_by, All}
 use Rattle.std.specs.Option.{option_map}
 use Rattle.am_names.specs.declared.trigger.Trigger.{Trigger}
-use Rattle.am_names.specs.declared.row.OpenToken.{OpenToken}
-use Rattle.am_names.specs.declared.row.TokenKind.{TokenKind}
-use Rattle.am_wire.specs.Kind.{token_kind}
-use Rattle.am_wire.specs.declared.packet.Packet.{Packet}
-use Rattle.am_state.specs.declared.kernel_row.QueuedRow.{QueuedRow}
-use Rattle.am_state.specs.declared.obs.Obs.{Obs}
+use Rattle.am_names.specs.{OpenToken, TokenKind}
+use Rattle.am_wire.specs.{token_kind, Packet}
+use Rattle.am_state.specs.{QueuedRow, Obs}
 use Rattle.am_state.specs.declared.obs.Obs.TheVariants.{Queued, Waits, Delivered, Released}
-use Rattle.am_wait.specs.Rows.{WaitRows, token_of}
-use Rattle.am_wait.specs.Invariant.{IsSound}
-use Rattle.am_expire.specs.declared.uses.Use.{Use}
-use Rattle.am_expire.specs.Uses.{use_count}
-use Rattle.am_expire.specs.Inside.{IsSingle}
-use Rattle.am_kernel.specs.State.{KernelState}
-use Rattle.am_daemon.specs.State.{JobPlan}
-use Rattle.am_daemon.specs.Deliveries.{job_of}
-use Rattle.am_laws.specs.OneObservation.{trigger_of, waits, releases, delivers, enters, leaves}
-use Rattle.am_laws.specs.Counts.{packet_of}
-use Rattle.am_laws.specs.Tests.{is_open, is_in_queue}
+use Rattle.am_wait.specs.{WaitRows, token_of, IsSound}
+use Rattle.am_expire.specs.{Use, use_count}
+use Rattle.am_expire.specs.View.{IsSingle}
+use Rattle.am_kernel.specs.{KernelState}
+use Rattle.am_daemon.specs.{JobPlan, job_of}
+use Rattle.am_laws.specs.{trigger_of, waits, releases, delivers, enters, leaves, packet_of, is_open, is_in_queue}
 use Rattle.am_machine.specs.State.{State}
 
 -- ---- rows

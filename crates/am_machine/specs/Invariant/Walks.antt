@@ -3,13 +3,10 @@
 -- (own choice).
 use Rattle.std.specs.Prelude.{◌≡◌, ℕ, ◌==◌, Bool, true, List, Option, None, Some}
 use Rattle.std.specs.List.{list_any, All}
-use Rattle.am_names.specs.Name.{is_name}
+use Rattle.am_names.specs.{is_name, OpenToken, WaitRow}
 use Rattle.am_names.specs.declared.trigger.Trigger.{Trigger}
-use Rattle.am_names.specs.declared.row.OpenToken.{OpenToken}
 use Rattle.am_names.specs.declared.row.TokenKind.TheVariants.{Missing}
-use Rattle.am_names.specs.declared.row.WaitRow.{WaitRow}
-use Rattle.am_kernel.specs.declared.row.WalkRow.{WalkRow}
-use Rattle.am_kernel.specs.State.{KernelState}
+use Rattle.am_kernel.specs.{WalkRow, KernelState}
 use Rattle.am_machine.specs.Paths.{IsPath}
 
 -- there is no name, or it is one

@@ -4,35 +4,17 @@
 use Rattle.std.proofs.Common.{◌≡◌, ◌≤◌, ℕ, Bool, true, false, List, [], ◌∷◌, ◌++◌, map, Option, Some, None, refl, ap, sym, subst, ◌∙◌, arith}
 use Rattle.std.specs.Prelude.{◌==◌, is_some, is_none, find, if◌then◌else◌}
 use Rattle.std.specs.List.{All}
-use Rattle.am_names.specs.declared.row.Position.{Position}
-use Rattle.am_names.specs.declared.row.TokenKind.{TokenKind}
+use Rattle.am_names.specs.{Position, TokenKind, WaitRow}
 use Rattle.am_names.specs.declared.row.TokenKind.TheVariants.{Missing, Expire}
-use Rattle.am_names.specs.declared.row.WaitRow.{WaitRow}
 use Rattle.am_names.specs.declared.trigger.Trigger.{Trigger}
-use Rattle.am_state.specs.declared.obs.Obs.{Obs}
-use Rattle.am_trigger.specs.declared.autofs.Autofs.{Autofs}
-use Rattle.am_trigger.specs.Rows.{TriggerRows, autofs_of, catatonic_row, with_catatonic}
-use Rattle.am_walk.specs.declared.stop.Stop.{Stop}
-use Rattle.am_walk.specs.Walks.{walk_of}
-use Rattle.am_kernel.specs.declared.begun.Begin.{Begin}
-use Rattle.am_kernel.specs.declared.row.Attached.{Attached}
-use Rattle.am_kernel.specs.State.{KernelState}
-use Rattle.am_kernel.specs.Sites.{is_trigger_of}
-use Rattle.am_kernel.specs.Outcome.{with_latest}
-use Rattle.am_kernel.specs.Directories.{with_directory, without_directory}
-use Rattle.am_kernel.specs.DaemonMounts.{attached_at, with_mount_on, gone_with, without_mounts}
-use Rattle.am_kernel.specs.Requests.{with_timeout, timeout_row, without_packet}
-use Rattle.am_kernel.specs.Attachments.{with_pipe}
-use Rattle.am_kernel.specs.Expires.{expiry_of}
-use Rattle.am_kernel.specs.Resumes.{freed_from}
-use Rattle.am_kernel.specs.Catatonic.{closed}
-use Rattle.am_job.specs.declared.act.Outcome.{Outcome}
-use Rattle.am_daemon.specs.Points.{line_timeout}
-use Rattle.am_daemon.specs.State.{JobPlan}
-use Rattle.am_machine.specs.declared.event.Event.{Event}
+use Rattle.am_state.specs.{Obs}
+use Rattle.am_trigger.specs.{Autofs, TriggerRows, autofs_of, catatonic_row, with_catatonic}
+use Rattle.am_walk.specs.{Stop, walk_of}
+use Rattle.am_kernel.specs.{Attempt, Attached, KernelState, is_trigger_of, with_latest, with_directory, without_directory, attached_at, with_mount_on, gone_with, without_mounts, with_timeout, timeout_row, without_packet, with_pipe, expiry_of, wait_collected_from, made_catatonic}
+use Rattle.am_job.specs.{Outcome}
+use Rattle.am_daemon.specs.{line_timeout, JobPlan}
+use Rattle.am_machine.specs.{Event, outcome_of, IsConsistent}
 use Rattle.am_machine.specs.State.{State}
-use Rattle.am_machine.specs.Machine.{outcome_of}
-use Rattle.am_machine.specs.Invariant.Consistent.{IsConsistent}
 use Rattle.am_machine.proofs.Lists.Different.{all_found}
 use Rattle.am_machine.proofs.Attachments.Grows.{timeout_keeps}
 use Rattle.am_machine.proofs.Tour.Picked.{picked_use}
@@ -83,25 +65,25 @@ pub more_sites : (rows : List Autofs) (new : Autofs) (g : Trigger) → is_trigge
 more_sites [] new g h = absurd cc
 more_sites (row ∷ rows) new g h = more_by_cases row (find (λ (r : Autofs). r.fs == g.fs) rows) (find (λ (r : Autofs). r.fs == g.fs) (rows ++ new ∷ [])) g (row.fs == g.fs) (more_sites rows new g) h
 
-pub closed_leaves : (k : KernelState) (fs : ℕ) → AreSites k → AreSites (closed fs k)
-closed_leaves k fs h = sites_weaker (IsSite k.triggers) (IsSite (with_catatonic fs true k.triggers)) (closed fs k) (still_site fs true k.triggers) (closed_sites (IsSite k.triggers) fs k h)
+pub closed_leaves : (k : KernelState) (fs : ℕ) → AreSites k → AreSites (made_catatonic fs k)
+closed_leaves k fs h = sites_weaker (IsSite k.triggers) (IsSite (with_catatonic fs true k.triggers)) (made_catatonic fs k) (still_site fs true k.triggers) (closed_sites (IsSite k.triggers) fs k h)
 
 -- ---- what walkers do
 
 -- the walk meets triggers of the kernel's autofs
-meets : (k : KernelState) (begin : Begin) (stop : Stop) (passed : List Trigger) (w : Walking AnyPath k begin stop passed) → MeetsSites k.triggers (walk_of w.scene begin.ns begin.path)
-meets k begin stop passed w =
-    meets_weaker w.scene.triggers k.triggers (walk_of w.scene begin.ns begin.path)
+meets : (k : KernelState) (attempt : Attempt) (stop : Stop) (passed : List Trigger) (w : Walking AnyPath k attempt stop passed) → MeetsSites k.triggers (walk_of w.scene attempt.ns attempt.path)
+meets k attempt stop passed w =
+    meets_weaker w.scene.triggers k.triggers (walk_of w.scene attempt.ns attempt.path)
     (λ g there. subst (λ (rows : List Autofs). is_trigger_of (find (λ (r : Autofs). r.fs == g.fs) rows) g ≡ true) w.autofs there)
-    (walk_sites w.scene begin.ns begin.path)
+    (walk_sites w.scene attempt.ns attempt.path)
 
-passed_sites : (k : KernelState) (begin : Begin) (stop : Stop) (passed : List Trigger) → Walking AnyPath k begin stop passed → All (IsSite k.triggers) passed
-passed_sites k begin stop passed w = subst (All (IsSite k.triggers)) w.passed_is (meets k begin stop passed w).passes
+passed_sites : (k : KernelState) (attempt : Attempt) (stop : Stop) (passed : List Trigger) → Walking AnyPath k attempt stop passed → All (IsSite k.triggers) passed
+passed_sites k attempt stop passed w = subst (All (IsSite k.triggers)) w.passed_is (meets k attempt stop passed w).passes
 
-stop_site : (k : KernelState) (begin : Begin) (stop : Stop) (passed : List Trigger) → Walking AnyPath k begin stop passed → IsSiteStop k.triggers stop
-stop_site k begin stop passed w = subst (IsSiteStop k.triggers) w.stop_is (meets k begin stop passed w).stops
+stop_site : (k : KernelState) (attempt : Attempt) (stop : Stop) (passed : List Trigger) → Walking AnyPath k attempt stop passed → IsSiteStop k.triggers stop
+stop_site k attempt stop passed w = subst (IsSiteStop k.triggers) w.stop_is (meets k attempt stop passed w).stops
 
-freed_leaves : (kind : TokenKind) (wait : WaitRow) (moment : ℕ) (k : KernelState) → IsSite k.triggers wait.trigger → AreSites k → AreSites (freed_from kind wait moment k)
+freed_leaves : (kind : TokenKind) (wait : WaitRow) (moment : ℕ) (k : KernelState) → IsSite k.triggers wait.trigger → AreSites k → AreSites (wait_collected_from kind wait moment k)
 freed_leaves Missing wait moment k there h = freed_from_sites (IsSite k.triggers) Missing wait moment k there h
 freed_leaves Expire wait moment k there h = freed_from_sites (IsSite k.triggers) Expire wait moment k there h
 
@@ -111,11 +93,11 @@ StaysAtSites k shown made = AreSites k → AreSites made
 walks : tour.Keeps AnyPath StaysAtSites
 walks = record {
   nothing = λ k h. h;
-  arrived = λ k begin at passed w h. arrived_on (IsSite k.triggers) k begin at.mount passed w.free (passed_sites k begin _ passed w) h;
-  joined = λ k begin token passed w h. joined_sites (IsSite k.triggers) k begin token passed w.free (passed_sites k begin _ passed w) h;
-  notified = λ k begin trigger attach passed w is h. notified_sites (IsSite k.triggers) k begin trigger attach passed w.free (stop_site k begin _ passed w) (passed_sites k begin _ passed w) h;
+  arrived = λ k attempt at passed w h. arrived_on (IsSite k.triggers) k attempt at.mount passed w.free (passed_sites k attempt _ passed w) h;
+  joined = λ k attempt token passed w h. joined_sites (IsSite k.triggers) k attempt token passed w.free (passed_sites k attempt _ passed w) h;
+  notified = λ k attempt trigger attach passed w is h. notified_sites (IsSite k.triggers) k attempt trigger attach passed w.free (stop_site k attempt _ passed w) (passed_sites k attempt _ passed w) h;
   expiring = λ k walker fs moment immediate trigger attach x h. expiring_sites (IsSite k.triggers) k walker trigger attach x.free.uses (picked_use (IsSite k.triggers) (expiry_of k fs moment immediate) trigger x.next h.used) h;
-  closed = λ k fs h. closed_leaves k fs h;
+  made_catatonic = λ k fs h. closed_leaves k fs h;
   collected = λ k kind wait status moment shown made g later h.
       let there = all_found (λ (r : WaitRow). IsSite k.triggers r.trigger) (λ (r : WaitRow). r.walker == wait.walker) k.waits.waits wait h.waits g.waits in
       later (freed_leaves kind wait moment k there h);
@@ -171,7 +153,7 @@ events = record {
   walks = walks;
   walked = λ s shown k moment h. stays s _ _ (λ held. sites_same k (with_latest moment k) (λ g there. there) refl refl refl refl (h held)) refl;
   left = λ s walker mount is. stays s _ _ (left_sites (IsSite s.kernel.triggers) walker s.kernel) refl;
-  closed = λ s fs. stays s _ _ (closed_leaves s.kernel fs) refl;
+  made_catatonic = λ s fs. stays s _ _ (closed_leaves s.kernel fs) refl;
   timed = λ s fs timeout. stays s _ _ (timeout_leaves s.kernel fs timeout) refl;
   died = λ s. same s _ _ refl refl refl refl refl refl;
   reattached = λ s fs row is dead. record {

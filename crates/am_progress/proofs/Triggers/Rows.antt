@@ -4,35 +4,23 @@ use Rattle.std.proofs.Common.{◌≡◌, ℕ, ◌+◌, Bool, true, false, List, 
 use Rattle.std.specs.Prelude.{◌==◌, ◌&&◌, nat_lt, not, is_none, filter, find, if◌then◌else◌}
 use Rattle.std.specs.List.{All}
 use Rattle.std.proofs.lemmas.List.Elements.{All-cons, All-head, All-tail, All-nil, All-append, All-push, All-filter, All-map, All-weaker}
-use Rattle.am_names.specs.Trigger.{same_trigger}
+use Rattle.am_names.specs.{same_trigger, Status, OpenToken, TokenKind, WaitRow}
 use Rattle.am_names.specs.declared.trigger.Trigger.{Trigger}
-use Rattle.am_names.specs.declared.trigger.Status.{Status}
-use Rattle.am_names.specs.declared.row.OpenToken.{OpenToken}
-use Rattle.am_names.specs.declared.row.TokenKind.{TokenKind}
 use Rattle.am_names.specs.declared.row.TokenKind.TheVariants.{Missing, Expire}
-use Rattle.am_names.specs.declared.row.WaitRow.{WaitRow}
 use Rattle.am_names.proofs.Basics.{differ_the_other_way}
-use Rattle.am_trigger.specs.Rows.{used_in, all_used_in}
-use Rattle.am_wait.specs.Rows.{WaitRows, token_of, wait_of, with_wait, with_waiter, joined_row}
-use Rattle.am_wait.specs.Calls.{waiting_on, opened, joined_on, released_row, failed_row}
-use Rattle.am_expire.specs.declared.uses.Use.{Use}
-use Rattle.am_expire.specs.Uses.{mount_of, entered, left}
+use Rattle.am_trigger.specs.{used_in, all_used_in}
+use Rattle.am_wait.specs.{WaitRows, token_of, wait_of, with_wait, with_waiter, joined_row, waiting_on, opened, joined_on, released_row, failed_row}
+use Rattle.am_expire.specs.{Use, mount_of_walker, entered, left}
 use Rattle.am_expire.proofs.UseLemmas.{enters, leaves}
-use Rattle.am_kernel.specs.declared.begun.Begin.{Begin}
-use Rattle.am_kernel.specs.State.{KernelState}
-use Rattle.am_kernel.specs.Walks.{arrived, with_joined, with_notified}
-use Rattle.am_kernel.specs.Catatonic.{closed}
-use Rattle.am_kernel.specs.Requests.{acknowledged, without_use}
-use Rattle.am_kernel.specs.Expires.{with_expiring}
-use Rattle.am_kernel.specs.Resumes.{freed, freed_from}
+use Rattle.am_kernel.specs.{Attempt, KernelState, arrived, with_joined, with_notified, made_catatonic, acknowledged, without_use, with_expiring, wait_collected, wait_collected_from}
 use Rattle.am_machine.proofs.Lists.Different.{all_found}
-use Rattle.am_machine.proofs.Tour.Walks.{IsFree}
+use Rattle.am_machine.proofs.Tour.Walks.{IsIdleWalker}
 use Rattle.am_machine.proofs.Walks.Rows.{failed_trigger, failed_walker, wait_more}
 use Rattle.am_progress.proofs.Attaches.{AreOfOne}
 use Rattle.am_progress.proofs.Triggers.Walks.{IsSite}
 
 abbrev IsOutside : List Use → WaitRow → Type 0
-IsOutside uses row = mount_of uses row.walker ≡ None
+IsOutside uses row = mount_of_walker uses row.walker ≡ None
 
 -- The triggers of open tokens, of waits and of last uses are such ones, who waits is inside no mount,
 -- and each attachment is one file system's.
@@ -40,7 +28,7 @@ pub record AreOn (P : Trigger → Type 0) (k : KernelState) : Type 0 where
   pub tokens : All (λ (row : OpenToken). P row.trigger) k.waits.tokens
   pub waits : All (λ (row : WaitRow). P row.trigger) k.waits.waits
   pub used : All (λ (row : Trigger × ℕ). P row.0) k.triggers.uses
-  pub outside : All (λ (row : WaitRow). mount_of k.uses row.walker ≡ None) k.waits.waits
+  pub outside : All (λ (row : WaitRow). mount_of_walker k.uses row.walker ≡ None) k.waits.waits
   pub attaches : AreOfOne k.attached
 
 -- they are of autofs that are there
@@ -65,10 +53,10 @@ others_by_cases : (mount : ℕ) (b : Bool) (was now : Option ℕ) → b ≡ fals
 others_by_cases mount true was now other e none = absurd cc
 others_by_cases mount false was now other e none = e ∙ none
 
-entered_outside : (walker mount : ℕ) (uses : List Use) (waits : List WaitRow) → mount_of uses walker ≡ None → wait_of waits walker ≡ None → All (IsOutside uses) waits → All (IsOutside (entered walker mount uses)) waits
+entered_outside : (walker mount : ℕ) (uses : List Use) (waits : List WaitRow) → mount_of_walker uses walker ≡ None → wait_of waits walker ≡ None → All (IsOutside uses) waits → All (IsOutside (entered walker mount uses)) waits
 entered_outside walker mount uses waits free idle h =
     both_all (IsOutside uses) (λ (row : WaitRow). (row.walker == walker) ≡ false) (IsOutside (entered walker mount uses))
-    (λ row out other. others_by_cases mount (walker == row.walker) (mount_of uses row.walker) (mount_of (entered walker mount uses) row.walker) (differ_the_other_way row.walker walker other) (enters uses (record { walker = walker; mount = mount }) free row.walker) out)
+    (λ row out other. others_by_cases mount (walker == row.walker) (mount_of_walker uses row.walker) (mount_of_walker (entered walker mount uses) row.walker) (differ_the_other_way row.walker walker other) (enters uses (record { walker = walker; mount = mount }) free row.walker) out)
     waits h (none_all (λ (row : WaitRow). row.walker == walker) waits idle)
 
 left_by_cases : (b : Bool) (was now : Option ℕ) → now ≡ (if b then None else was) → was ≡ None → now ≡ None
@@ -77,12 +65,12 @@ left_by_cases false was now e none = e ∙ none
 
 left_outside : (walker : ℕ) (uses : List Use) (waits : List WaitRow) → All (IsOutside uses) waits → All (IsOutside (left walker uses)) waits
 left_outside walker uses waits h =
-    All-weaker (IsOutside uses) (IsOutside (left walker uses)) (λ row out. left_by_cases (walker == row.walker) (mount_of uses row.walker) (mount_of (left walker uses) row.walker) (leaves uses walker row.walker) out) waits h
+    All-weaker (IsOutside uses) (IsOutside (left walker uses)) (λ row out. left_by_cases (walker == row.walker) (mount_of_walker uses row.walker) (mount_of_walker (left walker uses) row.walker) (leaves uses walker row.walker) out) waits h
 
 mapped_outside : (uses : List Use) (change : WaitRow → WaitRow) (waits : List WaitRow) → ((row : WaitRow) → (change row).walker ≡ row.walker) → All (IsOutside uses) waits → All (IsOutside uses) (map change waits)
 mapped_outside uses change waits walker h =
     All-map (IsOutside uses) change waits
-    (All-weaker (IsOutside uses) (λ (row : WaitRow). IsOutside uses (change row)) (λ row out. subst (λ (n : ℕ). mount_of uses n ≡ None) (sym (walker row)) out) waits h)
+    (All-weaker (IsOutside uses) (λ (row : WaitRow). IsOutside uses (change row)) (λ row out. subst (λ (n : ℕ). mount_of_walker uses n ≡ None) (sym (walker row)) out) waits h)
 
 -- ---- triggers of which P is said
 
@@ -135,12 +123,12 @@ module _ (P : Trigger → Type 0) where
     attaches = subst AreOfOne (sym attached) h.attaches;
   }
 
-  pub arrived_on : (k : KernelState) (begin : Begin) (mount : ℕ) (passed : List Trigger) → IsFree k begin.walker → All P passed → AreOn P k → AreOn P (arrived begin mount passed k)
-  arrived_on k begin mount passed free own h = record {
+  pub arrived_on : (k : KernelState) (attempt : Attempt) (mount : ℕ) (passed : List Trigger) → IsIdleWalker k attempt.walker → All P passed → AreOn P k → AreOn P (arrived attempt mount passed k)
+  arrived_on k attempt mount passed free own h = record {
     tokens = h.tokens;
     waits = h.waits;
-    used = all_used_on passed begin.moment k.triggers.uses own h.used;
-    outside = entered_outside begin.walker mount k.uses k.waits.waits free.uses free.waits h.outside;
+    used = all_used_on passed attempt.moment k.triggers.uses own h.used;
+    outside = entered_outside attempt.walker mount k.uses k.waits.waits free.uses free.waits h.outside;
     attaches = h.attaches;
   }
 
@@ -150,7 +138,7 @@ module _ (P : Trigger → Type 0) where
     waits : All OnWait w.waits
     outside : All (IsOutside uses) w.waits
 
-  joined_by_cases : (o : Option OpenToken) (token walker : ℕ) (uses : List Use) (w : WaitRows) → token_of w.tokens token ≡ o → mount_of uses walker ≡ None → WaitsOn uses w → WaitsOn uses (joined_on o token walker w)
+  joined_by_cases : (o : Option OpenToken) (token walker : ℕ) (uses : List Use) (w : WaitRows) → token_of w.tokens token ≡ o → mount_of_walker uses walker ≡ None → WaitsOn uses w → WaitsOn uses (joined_on o token walker w)
   joined_by_cases None token walker uses w e out h = h
   joined_by_cases (Some row) token walker uses w e out h =
       let own = all_found OnToken (λ (r : OpenToken). r.token == token) w.tokens row h.tokens e in
@@ -160,7 +148,7 @@ module _ (P : Trigger → Type 0) where
         outside = wait_more (IsOutside uses) (waiting_on token row.trigger row.kind walker) w.waits out h.outside;
       }
 
-  opened_on : (trigger : Trigger) (kind : TokenKind) (walker : ℕ) (uses : List Use) (w : WaitRows) → P trigger → mount_of uses walker ≡ None → WaitsOn uses w → WaitsOn uses (opened trigger kind walker w)
+  opened_on : (trigger : Trigger) (kind : TokenKind) (walker : ℕ) (uses : List Use) (w : WaitRows) → P trigger → mount_of_walker uses walker ≡ None → WaitsOn uses w → WaitsOn uses (opened trigger kind walker w)
   opened_on trigger kind walker uses w own out h = record {
     tokens = All-push OnToken w.tokens _ h.tokens own;
     waits = wait_more OnWait (waiting_on (w.last_token + 1) trigger kind walker) w.waits own h.waits;
@@ -170,28 +158,28 @@ module _ (P : Trigger → Type 0) where
   waits_of : (k : KernelState) → AreOn P k → WaitsOn k.uses k.waits
   waits_of k h = record { tokens = h.tokens; waits = h.waits; outside = h.outside }
 
-  pub joined_sites : (k : KernelState) (begin : Begin) (token : ℕ) (passed : List Trigger) → IsFree k begin.walker → All P passed → AreOn P k → AreOn P (with_joined begin token passed k)
-  joined_sites k begin token passed free own h =
-      let w = joined_by_cases (token_of k.waits.tokens token) token begin.walker k.uses k.waits refl free.uses (waits_of k h) in
-      record { tokens = w.tokens; waits = w.waits; used = all_used_on passed begin.moment k.triggers.uses own h.used; outside = w.outside; attaches = h.attaches }
+  pub joined_sites : (k : KernelState) (attempt : Attempt) (token : ℕ) (passed : List Trigger) → IsIdleWalker k attempt.walker → All P passed → AreOn P k → AreOn P (with_joined attempt token passed k)
+  joined_sites k attempt token passed free own h =
+      let w = joined_by_cases (token_of k.waits.tokens token) token attempt.walker k.uses k.waits refl free.uses (waits_of k h) in
+      record { tokens = w.tokens; waits = w.waits; used = all_used_on passed attempt.moment k.triggers.uses own h.used; outside = w.outside; attaches = h.attaches }
 
-  pub notified_sites : (k : KernelState) (begin : Begin) (trigger : Trigger) (attach : ℕ) (passed : List Trigger) → IsFree k begin.walker → P trigger → All P passed → AreOn P k → AreOn P (with_notified begin trigger attach passed k)
-  notified_sites k begin trigger attach passed free own all h =
-      let w = opened_on trigger Missing begin.walker k.uses k.waits own free.uses (waits_of k h) in
+  pub notified_sites : (k : KernelState) (attempt : Attempt) (trigger : Trigger) (attach : ℕ) (passed : List Trigger) → IsIdleWalker k attempt.walker → P trigger → All P passed → AreOn P k → AreOn P (with_notified attempt trigger attach passed k)
+  notified_sites k attempt trigger attach passed free own all h =
+      let w = opened_on trigger Missing attempt.walker k.uses k.waits own free.uses (waits_of k h) in
       record {
         tokens = w.tokens;
         waits = w.waits;
-        used = used_on trigger begin.moment (all_used_in passed begin.moment k.triggers.uses) own (all_used_on passed begin.moment k.triggers.uses all h.used);
+        used = used_on trigger attempt.moment (all_used_in passed attempt.moment k.triggers.uses) own (all_used_on passed attempt.moment k.triggers.uses all h.used);
         outside = w.outside;
         attaches = h.attaches;
       }
 
-  pub expiring_sites : (k : KernelState) (walker : ℕ) (trigger : Trigger) (attach : ℕ) → mount_of k.uses walker ≡ None → P trigger → AreOn P k → AreOn P (with_expiring walker trigger attach k)
+  pub expiring_sites : (k : KernelState) (walker : ℕ) (trigger : Trigger) (attach : ℕ) → mount_of_walker k.uses walker ≡ None → P trigger → AreOn P k → AreOn P (with_expiring walker trigger attach k)
   expiring_sites k walker trigger attach out own h =
       let w = opened_on trigger Expire walker k.uses k.waits own out (waits_of k h) in
       record { tokens = w.tokens; waits = w.waits; used = h.used; outside = w.outside; attaches = h.attaches }
 
-  pub closed_sites : (fs : ℕ) (k : KernelState) → AreOn P k → AreOn P (closed fs k)
+  pub closed_sites : (fs : ℕ) (k : KernelState) → AreOn P k → AreOn P (made_catatonic fs k)
   closed_sites fs k h = record {
     tokens = All-filter (λ (row : OpenToken). not (row.trigger.fs == fs)) OnToken k.waits.tokens h.tokens;
     waits = mapped_on (failed_row fs) k.waits.waits (λ row. failed_trigger (row.trigger.fs == fs && is_none row.status) row _) h.waits;
@@ -212,7 +200,7 @@ module _ (P : Trigger → Type 0) where
   pub left_sites : (walker : ℕ) (k : KernelState) → AreOn P k → AreOn P (without_use walker k)
   left_sites walker k h = record { tokens = h.tokens; waits = h.waits; used = h.used; outside = left_outside walker k.uses k.waits.waits h.outside; attaches = h.attaches }
 
-  freed_sites : (walker : ℕ) (k : KernelState) → AreOn P k → AreOn P (freed walker k)
+  freed_sites : (walker : ℕ) (k : KernelState) → AreOn P k → AreOn P (wait_collected walker k)
   freed_sites walker k h = record {
     tokens = h.tokens;
     waits = All-filter (λ (row : WaitRow). not (row.walker == walker)) OnWait k.waits.waits h.waits;
@@ -221,7 +209,7 @@ module _ (P : Trigger → Type 0) where
     attaches = h.attaches;
   }
 
-  pub freed_from_sites : (kind : TokenKind) (wait : WaitRow) (moment : ℕ) (k : KernelState) → P wait.trigger → AreOn P k → AreOn P (freed_from kind wait moment k)
+  pub freed_from_sites : (kind : TokenKind) (wait : WaitRow) (moment : ℕ) (k : KernelState) → P wait.trigger → AreOn P k → AreOn P (wait_collected_from kind wait moment k)
   freed_from_sites Missing wait moment k own h = freed_sites wait.walker k h
   freed_from_sites Expire wait moment k own h =
       let f = freed_sites wait.walker k h in

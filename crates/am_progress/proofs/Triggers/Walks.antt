@@ -7,23 +7,17 @@ use Rattle.std.proofs.lemmas.List.Elements.{All-nil, All-push, All-weaker}
 use Rattle.am_names.specs.declared.fail_no.FailNo.{FailNo}
 use Rattle.am_names.specs.declared.errno.Errno.TheVariants.{ENOENT, ELOOP}
 use Rattle.am_names.specs.declared.trigger.Trigger.{Trigger}
-use Rattle.am_names.specs.declared.row.OpenToken.{OpenToken}
-use Rattle.am_names.specs.declared.row.MountRow.{MountRow}
+use Rattle.am_names.specs.{OpenToken, MountRow}
 use Rattle.am_names.specs.declared.row.TokenKind.TheVariants.{Missing, Expire}
 use Rattle.am_names.proofs.Basics.{equal_by_test, found_passes}
-use Rattle.am_mount.specs.Rows.{top_of, root_of, mount_row}
-use Rattle.am_trigger.specs.declared.autofs.Autofs.{Autofs}
-use Rattle.am_trigger.specs.Rows.{TriggerRows, is_made, autofs_of}
-use Rattle.am_trigger.specs.Sites.{trigger_in, place_of}
-use Rattle.am_wait.specs.Rows.{open_on}
-use Rattle.am_walk.specs.declared.stop.Next.{Next}
+use Rattle.am_mount.specs.{top_of, root_of, mount_row}
+use Rattle.am_trigger.specs.{Autofs, TriggerRows, is_made, autofs_of, trigger_in, place_of}
+use Rattle.am_wait.specs.{open_on}
+use Rattle.am_walk.specs.{Next, Stop, autofs_at, has_names, if_open, if_mounted, if_failing, if_entered, at_directory, at_trap, at_trigger, at_plain, at_autofs, at_site, next_at, Visit, Stands, Stops, followed, settled_within, settled, onward, after, visit_from, visit_of, Walked, ended, walk_of}
 use Rattle.am_walk.specs.declared.stop.Next.TheVariants as nexts
-use Rattle.am_walk.specs.declared.stop.Stop.{Stop}
 use Rattle.am_walk.specs.declared.stop.Stop.TheVariants as stops
-use Rattle.am_walk.specs.Scene.{Scene, autofs_at, has_names}
-use Rattle.am_walk.specs.Meet.{if_open, if_mounted, if_failing, if_entered, at_directory, at_trap, at_trigger, at_plain, at_autofs, at_site, next_at}
-use Rattle.am_walk.specs.Walks.{Visit, Stands, Stops, followed, settled_within, settled, onward, after, visit_from, visit_of, Walked, ended, walk_of}
-use Rattle.am_kernel.specs.Sites.{is_trigger_of}
+use Rattle.am_walk.specs.Scene.{Scene}
+use Rattle.am_kernel.specs.{is_trigger_of}
 
 -- the trigger is one of an autofs that is there
 abbrev pub IsSite : TriggerRows → Trigger → Type 0

@@ -2,12 +2,10 @@
 
 ghost use Rattle.std.specs.Prelude.{◌≡◌, ◌+◌, ◌^◌, ◌<◌, ◌∷◌, ◌++◌, true, false, length, Some, None, IfOk, OnOk, OnErr};
 ghost use Rattle.std.specs.List.{slice_get};
-ghost use Rattle.am_names.specs.Errno.{RefusedAs};
-ghost use Rattle.am_group.specs.Invariant.{AddsNoReceivers};
-ghost use Rattle.am_group.specs.Propagation.{group_of};
+ghost use Rattle.am_names.specs.{RefusedAs};
+ghost use Rattle.am_group.specs.{AddsNoReceivers, group_of, receivers_of};
 ghost use Rattle.am_group.specs.declared.membership.Membership.TheVariants.{Private};
-ghost use Rattle.am_group.specs.Receivers.{receivers_of};
-ghost use Rattle.am_mount.specs.Rows.{mount_row};
+ghost use Rattle.am_mount.specs.{mount_row};
 ghost use Rattle.am_propagate.specs.MountTable.{is_mount, all_mounts};
 ghost use Rattle.am_propagate.specs.GroupsOfCopies.{Joins};
 ghost use Rattle.am_propagate.specs.Joining.{others_of};

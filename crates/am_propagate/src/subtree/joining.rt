@@ -4,10 +4,7 @@ ghost use Rattle.std.specs.Prelude.{◌≡◌, ◌+◌, ◌^◌, ◌<◌, ◌∷
 ghost use Rattle.std.specs.List.Sorted.{IsStrictlyIncreasing};
 ghost use Rattle.std.specs.Option.{option_to_list};
 ghost use Rattle.am_group.specs.declared.membership.Membership.TheVariants.{InGroup};
-ghost use Rattle.am_group.specs.Propagation.{member_row, slave_in, group_of};
-ghost use Rattle.am_group.specs.Copies.{copy_row, copies_from, group_copies};
-ghost use Rattle.am_group.specs.Receivers.{receivers_of};
-ghost use Rattle.am_group.specs.Members.{row_with};
+ghost use Rattle.am_group.specs.{member_row, slave_in, group_of, copy_row, copies_from, group_copies, receivers_of, row_with};
 ghost use Rattle.am_propagate.specs.Joining.{stand_of, others_of, group_copy, AreNew};
 ghost use Rattle.am_propagate.specs.Added.{groups_made};
 

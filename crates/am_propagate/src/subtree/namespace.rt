@@ -2,9 +2,9 @@
 
 ghost use Rattle.std.specs.Prelude.{◌≡◌, ◌+◌, ◌^◌, ◌<◌, ◌≤◌, ◌++◌, map, filter, length, IfOk, OnOk, OnErr};
 ghost use Rattle.std.specs.List.Sorted.{IsStrictlyIncreasing};
-ghost use Rattle.am_names.specs.Errno.{RefusedAs};
-ghost use Rattle.am_group.specs.Invariant.{AddsNoReceivers};
-ghost use Rattle.am_mount.specs.Rows.{is_among, is_in};
+ghost use Rattle.am_names.specs.{RefusedAs, is_among};
+ghost use Rattle.am_group.specs.{AddsNoReceivers};
+ghost use Rattle.am_mount.specs.{is_in};
 ghost use Rattle.am_propagate.specs.MountTable.{all_mounts};
 ghost use Rattle.am_propagate.specs.Added.{new_mounts};
 ghost use Rattle.am_propagate.specs.Removed.{mounts_in};

@@ -4,12 +4,9 @@ ghost use Rattle.std.specs.Prelude.{◌≡◌, ◌||◌, ◌==◌, ◌∷◌, �
 ghost use Rattle.std.specs.List.{list_any, filter_map};
 ghost use Rattle.std.specs.List.Sorted.{IsStrictlyIncreasing};
 ghost use Rattle.std.specs.Option.{option_copied};
-ghost use Rattle.am_names.specs.Errno.{RefusedAs};
-ghost use Rattle.am_names.specs.Path.{IsCanonical, names_of};
-ghost use Rattle.am_names.specs.declared.row.MountRow.{MountRow};
-ghost use Rattle.am_group.specs.Invariant.{AddsNoReceivers};
-ghost use Rattle.am_group.specs.Receivers.{receivers_of};
-ghost use Rattle.am_mount.specs.Rows.{is_child, is_among, mounts_where};
+ghost use Rattle.am_names.specs.{RefusedAs, IsCanonical, names_of, MountRow, is_among};
+ghost use Rattle.am_group.specs.{AddsNoReceivers, receivers_of};
+ghost use Rattle.am_mount.specs.{is_child, mounts_where};
 ghost use Rattle.am_propagate.specs.MountTable.{is_mount, mountpoint_of};
 ghost use Rattle.am_propagate.specs.Removed.{is_bare, bare_top, goes_with, unmounted, umount_refusal, mounts_in, is_namespace, drop_refusal, removed, LeavesParents};
 

@@ -3,7 +3,7 @@
 ghost use Rattle.std.specs.Prelude.{◌≡◌, ◌+◌, ◌^◌, ◌<◌, option_map};
 ghost use Rattle.std.specs.List.Sorted.{IsStrictlyIncreasing};
 ghost use Rattle.std.specs.Option.{option_to_list};
-ghost use Rattle.am_group.specs.Copies.{rank};
+ghost use Rattle.am_group.specs.{rank};
 ghost use Rattle.am_propagate.specs.Joining.{stand_of};
 ghost use Rattle.am_propagate.specs.Added.{new_group, last_fresh, fresh_groups, fresh_count};
 

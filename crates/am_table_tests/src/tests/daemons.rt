@@ -7,12 +7,12 @@ use am_job::{Act, Outcome};
 use am_map::{Map, MapKind};
 use am_master::Master;
 use am_names::{AbsPath, Attach, Errno, FsId, JobId, Token};
-use am_wire::{Kind, Packet, PacketName, WireFault, write};
+use am_wire::{Packet, PacketName, PacketType, WireFault, write};
 use std::alloc::Global;
 
 /// A packet: its kind, its file system, its name and its token.
 #[derive(Clone, Copy)]
-struct Mail(Kind, u32, &'static [u8], u32);
+struct Mail(PacketType, u32, &'static [u8], u32);
 
 impl Mail {
     fn packet(self) -> Result<Packet, Errno> {
@@ -46,7 +46,7 @@ enum Call {
     DeliversBytes(u32, &'static [u8], WireFault),
     FaultNumber(DaemonFault, u8),
     /// The job's next act mounts `srv` with this path, and without options.
-    Mounts(u32, &'static [u8]),
+    MountIds(u32, &'static [u8]),
     /// The daemon holds this attachment of the file system, and no other.
     Holds(u32, u32),
     /// It holds none, and knows the file system or doesn't.
@@ -191,7 +191,7 @@ fn makes(alloc: Global, daemon: &mut Daemon, call: Call) -> Result<bool, Errno> 
             Ok(delivers_bytes(alloc, daemon, attach, bytes, fault))
         }
         Call::FaultNumber(fault, number) => Ok(fault.number() == number),
-        Call::Mounts(job, path) => mounts(alloc, daemon, job, path),
+        Call::MountIds(job, path) => mounts(alloc, daemon, job, path),
         Call::Holds(fs, attach) => Ok(holds(daemon, fs, attach)),
         Call::HoldsNone(fs, is_known) => Ok(holds_none(daemon, fs, is_known)),
         Call::Serves(path, entry, timeout) => serves(alloc, daemon, path, entry, timeout),
@@ -230,9 +230,9 @@ const OLD_ATTACH: u8 = 3;
 
 const BUSY: u8 = 4;
 
-const MISSING: Kind = Kind::MissingIndirect;
+const MISSING: PacketType = PacketType::MissingIndirect;
 
-const EXPIRE: Kind = Kind::ExpireIndirect;
+const EXPIRE: PacketType = PacketType::ExpireIndirect;
 
 const TESTS_IN_ORDER: &[Step<Call>] = &[
     // Each packet fails one test less than the one before. File system 2 isn't known, attachment 9
@@ -289,10 +289,10 @@ const ENTRIES: &[Step<Call>] = &[
     Step::Does(Call::Takes(1, Mail(MISSING, 2, b"work", 6), NONE)),
     Step::Does(Call::Finishes(5)),
     Step::Does(Call::Finishes(6)),
-    Step::Does(Call::Mounts(5, b"/home")),
-    Step::Does(Call::Mounts(6, b"/any/work")),
+    Step::Does(Call::MountIds(5, b"/home")),
+    Step::Does(Call::MountIds(6, b"/any/work")),
     Step::Refused(Call::Finishes(7), Errno::EINVAL),
-    Step::Does(Call::Mounts(6, b"/any/work")),
+    Step::Does(Call::MountIds(6, b"/any/work")),
 ];
 
 /// Bytes are tested before anything else.

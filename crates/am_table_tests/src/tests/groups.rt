@@ -1,7 +1,7 @@
 //! Peer groups of mounts by calls that no event makes. What events make of them is in scripts.
 
 use crate::tests::script::{Stage, Step, plays_all};
-use am_group::{Change, Groups, Kind, Membership};
+use am_group::{Change, Groups, Membership, MountState};
 use am_names::{Errno, GroupId, MountId};
 use std::alloc::Global;
 
@@ -45,7 +45,7 @@ enum Call {
     /// The same by `change`.
     Changes(u64, Change),
     Leaves(u64),
-    HasState(u64, Option<Kind>),
+    HasState(u64, Option<MountState>),
     /// The mounts that receive from this one.
     Receive(u64, &'static [u64]),
     LastGroup(u64),
@@ -184,20 +184,20 @@ const GROUPS_FIRST: &[Step<Call>] = &[
     Step::Does(Call::Adds(3, Part::InGroup(FIRST))),
     Step::Does(Call::Adds(4, Part::InGroup(SECOND))),
     Step::Does(Call::Adds(5, Part::SlaveOf(SECOND))),
-    Step::Does(Call::HasState(3, Some(Kind::Shared))),
-    Step::Does(Call::HasState(4, Some(Kind::SharedSlave))),
-    Step::Does(Call::HasState(5, Some(Kind::Slave))),
+    Step::Does(Call::HasState(3, Some(MountState::Shared))),
+    Step::Does(Call::HasState(4, Some(MountState::SharedSlave))),
+    Step::Does(Call::HasState(5, Some(MountState::Slave))),
     Step::Does(Call::Receive(2, &[3, 4, 5])),
     Step::Does(Call::Receive(4, &[5])),
     Step::Does(Call::Receive(5, &[])),
     Step::Does(Call::Makes(4, Change::MakePrivate)),
-    Step::Does(Call::HasState(5, Some(Kind::Slave))),
+    Step::Does(Call::HasState(5, Some(MountState::Slave))),
     Step::Does(Call::Receive(3, &[2, 5])),
     Step::Does(Call::Makes(2, Change::MakeSlave)),
     Step::Does(Call::Makes(3, Change::MakeSlave)),
-    Step::Does(Call::HasState(2, Some(Kind::Private))),
-    Step::Does(Call::HasState(3, Some(Kind::Private))),
-    Step::Does(Call::HasState(5, Some(Kind::Private))),
+    Step::Does(Call::HasState(2, Some(MountState::Private))),
+    Step::Does(Call::HasState(3, Some(MountState::Private))),
+    Step::Does(Call::HasState(5, Some(MountState::Private))),
 ];
 
 /// The groups 1, 2 and 3, each under the one before. What is under 2 receives nothing until 2 has
@@ -208,8 +208,8 @@ const MEMBERS_LAST: &[Step<Call>] = &[
     Step::Does(Call::FreshUnder(SECOND, 3)),
     Step::Does(Call::Adds(5, Part::SlaveOf(SECOND))),
     Step::Does(Call::Adds(6, Part::InGroup(3))),
-    Step::Does(Call::HasState(5, Some(Kind::Slave))),
-    Step::Does(Call::HasState(6, Some(Kind::SharedSlave))),
+    Step::Does(Call::HasState(5, Some(MountState::Slave))),
+    Step::Does(Call::HasState(6, Some(MountState::SharedSlave))),
     Step::Does(Call::Adds(1, Part::InGroup(FIRST))),
     Step::Does(Call::Receive(1, &[])),
     Step::Does(Call::Adds(9, Part::Private)),
@@ -217,7 +217,7 @@ const MEMBERS_LAST: &[Step<Call>] = &[
     Step::Does(Call::Makes(9, Change::MakePrivate)),
     Step::Does(Call::Leaves(9)),
     Step::Does(Call::Makes(5, Change::MakeSlave)),
-    Step::Does(Call::HasState(5, Some(Kind::Slave))),
+    Step::Does(Call::HasState(5, Some(MountState::Slave))),
     Step::Does(Call::Receive(1, &[])),
     Step::Does(Call::Adds(4, Part::InGroup(SECOND))),
     Step::Does(Call::Receive(1, &[4, 5, 6])),
@@ -230,7 +230,7 @@ const MEMBERS_LAST: &[Step<Call>] = &[
 
 const ALL_TOGETHER: &[Step<Call>] = &[
     Step::Does(Call::AddsAll(3)),
-    Step::Does(Call::HasState(3, Some(Kind::Private))),
+    Step::Does(Call::HasState(3, Some(MountState::Private))),
     Step::Does(Call::Members(1)),
 ];
 
@@ -250,7 +250,7 @@ const NUMBERS: &[Step<Call>] = &[
     Step::Does(Call::Makes(2, Change::MakeShared)),
     Step::Does(Call::LastGroup(SECOND)),
     Step::Does(Call::Makes(2, Change::MakeUnbindable)),
-    Step::Does(Call::HasState(2, Some(Kind::Unbindable))),
+    Step::Does(Call::HasState(2, Some(MountState::Unbindable))),
     Step::Does(Call::Makes(2, Change::MakePrivate)),
     Step::Does(Call::Makes(1, Change::MakeSlave)),
 ];

@@ -3,7 +3,7 @@
 
 use crate::tests::script::{Stage, Step, plays_all};
 use crate::tests::trap::Trap;
-use am_kernel::{Begun, Granted, Kernel};
+use am_kernel::{Granted, Kernel, Progress};
 use am_names::{
     AbsPath, Attach, Errno, FailNo, FsId, Limits, MountId, Name, NsId, PipeState, Position,
     Seconds, Status, Token, WalkerId,
@@ -25,12 +25,12 @@ enum Told {
 }
 
 impl Told {
-    fn begins(self, begun: &Begun) -> bool {
+    fn begins(self, begun: &Progress) -> bool {
         match (self, begun) {
-            (Told::Waits(token), Begun::Waits(on)) => *on == Token(token),
-            (Told::Arrives(mount), Begun::Arrived(at)) => at.mount == MountId(mount),
-            (Told::Fails(with), Begun::Failed(errno)) => *errno == with,
-            (Told::Expires, Begun::Expired) => true,
+            (Told::Waits(token), Progress::Waits(on)) => *on == Token(token),
+            (Told::Arrives(mount), Progress::Arrived(at)) => at.mount == MountId(mount),
+            (Told::Fails(with), Progress::Failed(errno)) => *errno == with,
+            (Told::Expires, Progress::Expired) => true,
             _ => false,
         }
     }
@@ -38,7 +38,7 @@ impl Told {
     fn is(self, granted: &Granted) -> bool {
         match (self, granted) {
             (Told::Done, Granted::Done) => true,
-            (told, Granted::Begun(begun)) => told.begins(begun),
+            (told, Granted::Progress(begun)) => told.begins(begun),
             (Told::Attached(attach), Granted::Attached(number)) => *number == Attach(attach),
             _ => false,
         }

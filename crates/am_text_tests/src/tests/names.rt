@@ -2,7 +2,7 @@
 
 use crate::tests::table::{Row, hold, stretched};
 use am_names::{
-    AbsPath, Errno, FailNo, FsId, Limits, MountId, MountRow, Mounts, Name, NsId, Place, Position,
+    AbsPath, Errno, FailNo, FsId, Limits, MountId, MountIds, MountRow, Name, NsId, Place, Position,
     Seconds, Waiters, WalkerId, are_ordered, is_among, is_found, split_first_name,
 };
 use std::alloc::Global;
@@ -199,12 +199,12 @@ fn goes_down(alloc: Global, path: &[u8], name: &[u8], text: &[u8]) -> Result<boo
 }
 
 /// These mounts, in their order.
-fn mounts_of(alloc: Global, numbers: &[u64]) -> Result<Mounts, Errno> {
+fn mounts_of(alloc: Global, numbers: &[u64]) -> Result<MountIds, Errno> {
     let mut mounts = Vec::new(alloc);
     for number in numbers {
         mounts.push(MountId(*number))?;
     }
-    Ok(Mounts::of(mounts))
+    Ok(MountIds::of(mounts))
 }
 
 fn mounts_copied(alloc: Global, numbers: &[u64]) -> Result<bool, Errno> {

@@ -8,7 +8,7 @@ use crate::tests::packets::made::{
 };
 use crate::tests::table::{Row, hold};
 use am_names::{Attach, Errno, FailNo, FsId, PipeState, Seconds, Token, TokenKind, WalkerId};
-use am_wire::{Kind, Packet, Request, WireFault, is_writable, read};
+use am_wire::{Packet, PacketType, Request, WireFault, is_writable, read};
 use std::alloc::Global;
 
 /// The longest name.
@@ -43,13 +43,13 @@ enum Bytes {
     /// The packets with these types and this name are written as they were read.
     WrittenBack(&'static [u32], &'static [u8]),
     /// A packet with this kind and this name is one of the format, and is read.
-    Writable(Kind, &'static [u8], bool),
+    Writable(PacketType, &'static [u8], bool),
     /// The bytes of a name, and those with as many zeros behind them.
     Padded(&'static [u8], &'static [u8]),
     /// Two names are equal.
     EqualNames(&'static [u8], &'static [u8], bool),
     /// A number, its kind, and what is asked for: for a direct trigger or an indirect one.
-    Kind(u32, Kind, TokenKind, bool),
+    Kind(u32, PacketType, TokenKind, bool),
     NoKind(u32),
     Fault(WireFault, u8, &'static str),
     /// Each request equals itself and no other.
@@ -186,7 +186,7 @@ fn is_refused_first(numbers: &[(usize, u32)], len: usize, fault: WireFault) -> b
     is_asking(first(&bytes, len), b"a/b", Some(fault))
 }
 
-fn is_writable_so(kind: Kind, name: &[u8], expected: bool) -> bool {
+fn is_writable_so(kind: PacketType, name: &[u8], expected: bool) -> bool {
     let mut packet = home_packet();
     packet.kind = kind;
     packet.name = name_of(name);
@@ -203,10 +203,10 @@ fn are_equal_names(one: &[u8], other: &[u8]) -> bool {
     name_of(one) == name_of(other)
 }
 
-fn is_kind(number: u32, kind: Kind, asked: TokenKind, direct: bool) -> bool {
+fn is_kind(number: u32, kind: PacketType, asked: TokenKind, direct: bool) -> bool {
     kind.number() == number
-        && Kind::read(number) == Some(kind)
-        && Kind::of(asked, direct) == kind
+        && PacketType::read(number) == Some(kind)
+        && PacketType::of(asked, direct) == kind
         && kind.token_kind() == asked
         && kind.is_indirect() != direct
 }
@@ -289,7 +289,7 @@ impl Row for Bytes {
             Bytes::Padded(name, front) => is_padded(name, front),
             Bytes::EqualNames(one, other, expected) => are_equal_names(one, other) == *expected,
             Bytes::Kind(number, kind, asked, direct) => is_kind(*number, *kind, *asked, *direct),
-            Bytes::NoKind(number) => Kind::read(*number).is_none(),
+            Bytes::NoKind(number) => PacketType::read(*number).is_none(),
             Bytes::Fault(fault, number, word) => is_fault(alloc, *fault, *number, word)?,
             Bytes::Compared => are_compared(),
         })
@@ -383,13 +383,13 @@ static IN_ORDER: [Bytes; 7] = [
 ];
 
 static OF_THE_FORMAT: [Bytes; 7] = [
-    Bytes::Writable(Kind::MissingIndirect, b"home", true),
-    Bytes::Writable(Kind::ExpireIndirect, b"home", true),
-    Bytes::Writable(Kind::MissingIndirect, b"", false),
-    Bytes::Writable(Kind::ExpireIndirect, b"a/b", false),
-    Bytes::Writable(Kind::MissingDirect, b"", true),
-    Bytes::Writable(Kind::ExpireDirect, b"a/b", true),
-    Bytes::Writable(Kind::MissingDirect, b"direct", true),
+    Bytes::Writable(PacketType::MissingIndirect, b"home", true),
+    Bytes::Writable(PacketType::ExpireIndirect, b"home", true),
+    Bytes::Writable(PacketType::MissingIndirect, b"", false),
+    Bytes::Writable(PacketType::ExpireIndirect, b"a/b", false),
+    Bytes::Writable(PacketType::MissingDirect, b"", true),
+    Bytes::Writable(PacketType::ExpireDirect, b"a/b", true),
+    Bytes::Writable(PacketType::MissingDirect, b"direct", true),
 ];
 
 static KEPT_NAMES: [Bytes; 3] = [
@@ -399,10 +399,10 @@ static KEPT_NAMES: [Bytes; 3] = [
 ];
 
 static KINDS: [Bytes; 5] = [
-    Bytes::Kind(3, Kind::MissingIndirect, TokenKind::Missing, false),
-    Bytes::Kind(4, Kind::ExpireIndirect, TokenKind::Expire, false),
-    Bytes::Kind(5, Kind::MissingDirect, TokenKind::Missing, true),
-    Bytes::Kind(6, Kind::ExpireDirect, TokenKind::Expire, true),
+    Bytes::Kind(3, PacketType::MissingIndirect, TokenKind::Missing, false),
+    Bytes::Kind(4, PacketType::ExpireIndirect, TokenKind::Expire, false),
+    Bytes::Kind(5, PacketType::MissingDirect, TokenKind::Missing, true),
+    Bytes::Kind(6, PacketType::ExpireDirect, TokenKind::Expire, true),
     Bytes::NoKind(7),
 ];
 

@@ -2,7 +2,7 @@
 //! made.
 
 ghost use Rattle.std.specs.Prelude.{◌≡◌, length};
-ghost use Rattle.am_names.specs.Limits.{IsInRange};
+ghost use Rattle.am_names.specs.{IsInRange};
 
 use am_map::{Map, MapKind};
 use am_master::Master;

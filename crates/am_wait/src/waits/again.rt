@@ -1,7 +1,7 @@
 //! A walker whose wait was released begins to wait again, in one step.
 
 ghost use Rattle.std.specs.Prelude.{◌≡◌, ◌+◌, IfOk, OnOk, OnErr};
-ghost use Rattle.am_names.specs.Errno.{RefusedAs};
+ghost use Rattle.am_names.specs.{RefusedAs};
 ghost use Rattle.am_wait.specs.Rows.{wait_of};
 ghost use Rattle.am_wait.specs.Calls.{is_full, collected, still_waits, reopen_refusal, reopened, rejoin_refusal, rejoined};
 

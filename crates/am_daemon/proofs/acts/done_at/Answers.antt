@@ -1,7 +1,6 @@
 use Rattle.std.proofs.Common.{◌≡◌, map, set, get_or, sym, ap, ◌∙◌}
 use Rattle.std.proofs.lemmas.List.{map-set, get_or-map}
-use Rattle.am_daemon.specs.State.{job_plan}
-use Rattle.am_daemon.specs.Acts.{walked}
+use Rattle.am_daemon.specs.{job_plan, walked}
 use Rattle.am_daemon.proofs.JobLemmas.{walked_is}
 use Rattle.am_daemon.proofs.acts.done_at.Goals as goal
 

@@ -1,8 +1,7 @@
 use Rattle.std.proofs.Common.{◌≡◌, ◌==◌, List, Some, None, length, map, vec_len, sym, ap, ◌∙◌}
 use Rattle.std.specs.Prelude.{position, remove}
-use Rattle.am_job.specs.Job.{JobState}
-use Rattle.am_daemon.specs.State.{JobPlan, job_plan}
-use Rattle.am_daemon.specs.Acts.{finished_in}
+use Rattle.am_job.specs.{JobState}
+use Rattle.am_daemon.specs.{JobPlan, job_plan, finished_in}
 use Rattle.am_daemon.proofs.JobLemmas.{position_mapped, finished_in-none, stands_at, remove_mapped, no_job, written_back}
 use Rattle.am_daemon.proofs.acts.go_on.Goals as goal
 

@@ -1,7 +1,7 @@
 use Rattle.std.proofs.Common.{eqb, rules, tests}
 use Rattle.std.specs.Prelude.{not}
 use Rattle.std.proofs.lemmas.Fn.{filter_same}
-use Rattle.am_state.specs.declared.daemon_row.KnownRow.{KnownRow}
+use Rattle.am_state.specs.{KnownRow}
 use Rattle.am_daemon.proofs.attachments.forget.Goals as goal
 
 pub returns-clause-rows : goal.returns-clause-rows

@@ -1,5 +1,5 @@
 use Rattle.std.proofs.Common.{◌≡◌, ◌≤◌, ◌+◌, drop}
-use Rattle.am_daemon.specs.Attachments.{all_mounted}
+use Rattle.am_daemon.specs.{all_mounted}
 use Rattle.am_daemon.proofs.attachments.write_standing.Given as goal
 
 abbrev pub invariant-loop-trigger : goal.invariant-loop-trigger

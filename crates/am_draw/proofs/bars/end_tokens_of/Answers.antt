@@ -1,5 +1,5 @@
 use Rattle.std.proofs.lemmas.List.Edits.{map_over_more}
-use Rattle.am_draw.specs.Bars.{catatonic_lane}
+use Rattle.am_draw.specs.{catatonic_lane}
 use Rattle.am_draw.proofs.bars.end_tokens_of.Goals as goal
 
 pub loop-lane-preserved : goal.loop-lane-preserved

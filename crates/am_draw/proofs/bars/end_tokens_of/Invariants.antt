@@ -1,5 +1,5 @@
 use Rattle.std.proofs.Common.{◌≡◌, ◌++◌, take, drop, map}
-use Rattle.am_draw.specs.Bars.{catatonic_lane}
+use Rattle.am_draw.specs.{catatonic_lane}
 use Rattle.am_draw.proofs.bars.end_tokens_of.Given as goal
 
 abbrev pub invariant-loop-lane : goal.invariant-loop-lane

@@ -1,6 +1,5 @@
 use Rattle.std.proofs.Common.{◌≤◌, ◌+◌, ◌^◌, option_copied}
-use Rattle.am_script.specs.Lines.{lines_in, size_in}
-use Rattle.am_script.specs.Script.{events_from}
+use Rattle.am_script.specs.{lines_in, size_in, events_from}
 use Rattle.am_draw.proofs.CountLemmas.{Counting}
 use Rattle.am_draw.proofs.draw.count_events.Given as goal
 

@@ -1,9 +1,8 @@
 use Rattle.std.proofs.Common.{ℕ, ap, length, subst}
-use Rattle.am_script.specs.Outputs.{Puts}
-use Rattle.am_draw.specs.Drawn.{drawn_for}
-use Rattle.am_draw.specs.Sides.{sides_said}
+use Rattle.am_script.specs.{Puts}
+use Rattle.am_draw.specs.{drawn_for, sides_said}
 use Rattle.am_draw.proofs.Draws.{draws}
-use Rattle.am_world.specs.Table.{state_of}
+use Rattle.am_world.specs.Capacity.{state_of}
 use Rattle.am_draw.proofs.draw.draw_event.Goals as goal
 
 pub returns-clause-drawn : goal.returns-clause-drawn

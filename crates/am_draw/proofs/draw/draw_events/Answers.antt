@@ -1,11 +1,9 @@
 use Rattle.std.proofs.Common.{◌≡◌, ◌+◌, Option, List, ℕ, Some, Ok, Err, option_copied, refl, subst, arith}
-use Rattle.am_script.specs.Lines.{lines_in}
-use Rattle.am_script.specs.declared.output.Output.{Output}
-use Rattle.am_script.specs.Script.{Numbered, Told, events_from, told_by}
+use Rattle.am_script.specs.{lines_in, Output, Numbered, Told, events_from, told_by}
 use Rattle.am_views.proofs.TracesSoFar.{more_lines}
-use Rattle.am_draw.specs.Drawn.{Finishes}
+use Rattle.am_draw.specs.{Finishes}
 use Rattle.am_draw.proofs.DrawnSoFar.{drawing_none, drawing_more, drawing_cut, drawing_ends, drawing_fails, no_room}
-use Rattle.am_world.specs.Table.{state_of}
+use Rattle.am_world.specs.Capacity.{state_of}
 use Rattle.am_draw.proofs.draw.draw_events.Goals as goal
 
 pub loop-output-init : goal.loop-output-init

@@ -1,8 +1,7 @@
 use Rattle.std.proofs.Common.{◌≤◌, ◌+◌, ◌^◌, option_copied}
-use Rattle.am_script.specs.Lines.{lines_in, size_in}
-use Rattle.am_script.specs.Script.{events_from}
+use Rattle.am_script.specs.{lines_in, size_in, events_from}
 use Rattle.am_draw.proofs.DrawnSoFar.{Drawing}
-use Rattle.am_world.specs.Table.{state_of}
+use Rattle.am_world.specs.Capacity.{state_of}
 use Rattle.am_draw.proofs.draw.draw_events.Given as goal
 
 abbrev pub invariant-loop-output : goal.invariant-loop-output

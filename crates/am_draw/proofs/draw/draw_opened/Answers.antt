@@ -1,10 +1,9 @@
 use Rattle.std.proofs.Common.{option_copied, ap, ◌∙◌, inr}
 use Rattle.std.proofs.KnownBytes.{Appends-nil}
-use Rattle.am_script.specs.Lines.{lines_in}
-use Rattle.am_script.specs.Script.{Told, events_from}
-use Rattle.am_draw.specs.Parts.{part_of}
+use Rattle.am_script.specs.{lines_in, Told, events_from}
+use Rattle.am_draw.specs.{part_of}
 use Rattle.am_draw.proofs.DrawnSoFar.{ends_ok, ends_err}
-use Rattle.am_world.specs.Table.{state_of}
+use Rattle.am_world.specs.Capacity.{state_of}
 use Rattle.am_draw.proofs.draw.draw_opened.Goals as goal
 
 pub returns-in-Ok-clause-ok : goal.returns-in-Ok-clause-ok

@@ -1,5 +1,5 @@
 use Rattle.std.proofs.Common.{ℕ, List, subst}
-use Rattle.am_script.specs.Outputs.{Puts}
+use Rattle.am_script.specs.{Puts}
 use Rattle.am_draw.proofs.head.put_look.Goals as goal
 
 pub returns : goal.returns

@@ -1,7 +1,6 @@
 use Rattle.std.proofs.Common.{◌≡◌, take}
-use Rattle.am_script.specs.Outputs.{Puts}
-use Rattle.am_draw.specs.Bars.{seen_behind}
-use Rattle.am_draw.specs.Rows.{seen_marks}
+use Rattle.am_script.specs.{Puts}
+use Rattle.am_draw.specs.{seen_behind, seen_marks}
 use Rattle.am_draw.proofs.row.put_seen.Given as goal
 
 abbrev pub invariant-loop-obs : goal.invariant-loop-obs

@@ -1,5 +1,5 @@
 use Rattle.std.proofs.Common.{ℕ, List, subst}
-use Rattle.am_script.specs.Outputs.{Puts}
+use Rattle.am_script.specs.{Puts}
 use Rattle.am_script.proofs.Pieces.{puts_two}
 use Rattle.am_draw.proofs.RowLemmas.{lanes_next}
 use Rattle.am_draw.proofs.scene.put_lanes.Goals as goal

@@ -1,6 +1,6 @@
 use Rattle.std.proofs.Common.{take}
-use Rattle.am_script.specs.Outputs.{Puts}
-use Rattle.am_draw.specs.Rows.{lanes_half}
+use Rattle.am_script.specs.{Puts}
+use Rattle.am_draw.specs.{lanes_half}
 use Rattle.am_draw.proofs.scene.put_lanes.Given as goal
 
 abbrev pub invariant-loop-lane : goal.invariant-loop-lane

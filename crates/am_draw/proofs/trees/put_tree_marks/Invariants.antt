@@ -1,6 +1,6 @@
 use Rattle.std.proofs.Common.{take}
-use Rattle.am_script.specs.Outputs.{Puts}
-use Rattle.am_draw.specs.Trees.{tree_marks}
+use Rattle.am_script.specs.{Puts}
+use Rattle.am_draw.specs.{tree_marks}
 use Rattle.am_draw.proofs.trees.put_tree_marks.Given as goal
 
 abbrev pub invariant-loop-mount : goal.invariant-loop-mount

@@ -1,8 +1,8 @@
 use Rattle.std.proofs.Common.{◌≡◌, true, ◌∙◌}
 use Rattle.std.proofs.lemmas.Result.{IfOk-weaker}
-use Rattle.am_draw.specs.Trees.{takes_mounts}
+use Rattle.am_draw.specs.{takes_mounts}
 use Rattle.am_draw.proofs.TreeLemmas.{taken}
-use Rattle.am_world.specs.Table.{state_of}
+use Rattle.am_world.specs.Capacity.{state_of}
 use Rattle.am_draw.proofs.trees.rows_taken.Goals as goal
 
 pub returns-then-takes_mounts : goal.returns-then-takes_mounts

@@ -1,6 +1,6 @@
 use Rattle.std.proofs.Common.{ap, ◌∙◌}
-use Rattle.am_draw.specs.Trees.{is_umount}
-use Rattle.am_world.specs.Table.{state_of}
+use Rattle.am_draw.specs.{is_umount}
+use Rattle.am_world.specs.Capacity.{state_of}
 use Rattle.am_draw.proofs.trees.takes_mounts.Goals as goal
 
 pub returns-in-Act : goal.returns-in-Act

@@ -1,6 +1,6 @@
 use Rattle.std.proofs.Common.{take}
-use Rattle.am_script.specs.Outputs.{Puts}
-use Rattle.am_draw.specs.Words.{xml}
+use Rattle.am_script.specs.{Puts}
+use Rattle.am_draw.specs.{xml}
 use Rattle.am_draw.proofs.words.put_xml.Given as goal
 
 abbrev pub invariant-loop-byte : goal.invariant-loop-byte

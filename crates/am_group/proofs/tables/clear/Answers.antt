@@ -1,7 +1,7 @@
 use Rattle.std.proofs.Common.{rules, tests}
 use Rattle.std.proofs.lemmas.Fn.{filter_same}
-use Rattle.am_names.specs.declared.row.GroupRow.{GroupRow}
-use Rattle.am_group.specs.Tables.{is_left}
+use Rattle.am_names.specs.{GroupRow}
+use Rattle.am_group.specs.{is_left}
 use Rattle.am_group.proofs.tables.clear.Goals as goal
 
 pub returns : goal.returns

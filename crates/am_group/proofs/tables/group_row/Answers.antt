@@ -1,7 +1,7 @@
 use Rattle.std.proofs.Common.{◌≡◌, Some, get_or, sym, ap, ◌∙◌, rules}
 use Rattle.std.proofs.lemmas.List.Sorted.{answers_always}
-use Rattle.am_names.specs.declared.row.GroupRow.{GroupRow}
-use Rattle.am_group.specs.Propagation.{group_row}
+use Rattle.am_names.specs.{GroupRow}
+use Rattle.am_group.specs.{group_row}
 use Rattle.am_group.proofs.FindLemmas.{found, absent}
 use Rattle.am_group.proofs.tables.group_row.Goals as goal
 

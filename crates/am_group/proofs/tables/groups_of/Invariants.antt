@@ -1,5 +1,5 @@
 use Rattle.std.proofs.Common.{take}
-use Rattle.am_group.specs.Tables.{AreLive}
+use Rattle.am_group.specs.{AreLive}
 use Rattle.am_group.proofs.tables.groups_of.Given as goal
 
 abbrev pub invariant-loop-row : goal.invariant-loop-row

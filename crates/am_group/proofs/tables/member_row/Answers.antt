@@ -1,7 +1,7 @@
 use Rattle.std.proofs.Common.{◌≡◌, Some, get_or, sym, ap, ◌∙◌, rules}
 use Rattle.std.proofs.lemmas.List.Sorted.{answers_always}
-use Rattle.am_names.specs.declared.row.MemberRow.{MemberRow}
-use Rattle.am_group.specs.Propagation.{member_row}
+use Rattle.am_names.specs.{MemberRow}
+use Rattle.am_group.specs.{member_row}
 use Rattle.am_group.proofs.FindLemmas.{found, absent}
 use Rattle.am_group.proofs.tables.member_row.Goals as goal
 

@@ -1,5 +1,5 @@
 use Rattle.std.proofs.Common.{take}
-use Rattle.am_group.specs.Tables.{AreOthers}
+use Rattle.am_group.specs.{AreOthers}
 use Rattle.am_group.proofs.tables.others.Given as goal
 
 abbrev pub invariant-loop-group : goal.invariant-loop-group

@@ -1,5 +1,5 @@
 use Rattle.std.proofs.lemmas.List.Edits.{map_over_more}
-use Rattle.am_kernel.specs.Attachments.{reattached_row}
+use Rattle.am_kernel.specs.{reattached_row}
 use Rattle.am_kernel.proofs.attachments.set_attach.Goals as goal
 
 pub loop-row-preserved : goal.loop-row-preserved

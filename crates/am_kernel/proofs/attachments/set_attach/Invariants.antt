@@ -1,5 +1,5 @@
 use Rattle.std.proofs.Common.{◌≡◌, ◌++◌, take, drop, map}
-use Rattle.am_kernel.specs.Attachments.{reattached_row}
+use Rattle.am_kernel.specs.{reattached_row}
 use Rattle.am_kernel.proofs.attachments.set_attach.Given as goal
 
 abbrev pub invariant-loop-row : goal.invariant-loop-row

@@ -1,7 +1,7 @@
 use Rattle.std.proofs.Common.{true, sym, ap, ◌∙◌}
 use Rattle.std.specs.Prelude.{is_some}
 use Rattle.am_names.proofs.Basics.{none_where_not_some}
-use Rattle.am_trigger.specs.Rows.{TriggerRows, autofs_of}
+use Rattle.am_trigger.specs.{TriggerRows, autofs_of}
 use Rattle.am_kernel.proofs.WalkLemmas.{catatonic_absent}
 use Rattle.am_kernel.proofs.catatonic.make_catatonic.Goals as goal
 

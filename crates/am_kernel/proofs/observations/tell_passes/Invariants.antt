@@ -1,7 +1,7 @@
 use Rattle.std.proofs.Common.{◌≡◌, ◌+◌, ◌++◌, length, vec_len}
 use Rattle.std.specs.Prelude.{vec_capacity}
 use Rattle.std.specs.Vec.Iter.{into_iter_items}
-use Rattle.am_kernel.specs.Observations.{passes}
+use Rattle.am_kernel.specs.{passes}
 use Rattle.am_kernel.proofs.observations.tell_passes.Given as goal
 
 abbrev pub invariant-loop-trigger : goal.invariant-loop-trigger

@@ -1,5 +1,5 @@
 use Rattle.std.proofs.Common.{◌≡◌, ◌++◌, take}
-use Rattle.am_kernel.specs.Observations.{releases}
+use Rattle.am_kernel.specs.{releases}
 use Rattle.am_kernel.proofs.observations.tell_releases.Given as goal
 
 abbrev pub invariant-loop-walker : goal.invariant-loop-walker

@@ -1,5 +1,5 @@
 use Rattle.std.proofs.lemmas.List.Edits.{map_over_more}
-use Rattle.am_kernel.specs.Requests.{timeout_row}
+use Rattle.am_kernel.specs.{timeout_row}
 use Rattle.am_kernel.proofs.requests.set_timeout.Goals as goal
 
 pub loop-row-preserved : goal.loop-row-preserved

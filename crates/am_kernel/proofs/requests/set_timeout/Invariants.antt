@@ -1,5 +1,5 @@
 use Rattle.std.proofs.Common.{◌≡◌, ◌++◌, take, drop, map}
-use Rattle.am_kernel.specs.Requests.{timeout_row}
+use Rattle.am_kernel.specs.{timeout_row}
 use Rattle.am_kernel.proofs.requests.set_timeout.Given as goal
 
 abbrev pub invariant-loop-row : goal.invariant-loop-row

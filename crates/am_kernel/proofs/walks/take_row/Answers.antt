@@ -1,6 +1,6 @@
 use Rattle.std.proofs.Common.{◌==◌, sym, ap, ◌∙◌, arith}
 use Rattle.std.specs.Prelude.{drop, position}
-use Rattle.am_kernel.specs.declared.row.WalkRow.{WalkRow}
+use Rattle.am_kernel.specs.{WalkRow}
 use Rattle.am_kernel.proofs.WaitingLemmas.{none_there, first_taken, taken_behind}
 use Rattle.am_kernel.proofs.walks.take_row.Goals as goal
 

@@ -1,7 +1,6 @@
 use Rattle.std.proofs.Common.{◌≡◌, ℕ, [], ◌∷◌, ◌++◌, true, sym, subst}
 use Rattle.std.proofs.lemmas.List.{take_rest}
-use Rattle.am_laws.specs.Tests.{is_lawful_at}
-use Rattle.am_laws.specs.Lately.{Remembers}
+use Rattle.am_laws.specs.{is_lawful_at, Remembers}
 use Rattle.am_laws.proofs.Decided.{at_from_test}
 use Rattle.am_laws.proofs.Grows.{judged_lately, remembers_grows}
 use Rattle.am_laws.proofs.Past.next.Goals as goal

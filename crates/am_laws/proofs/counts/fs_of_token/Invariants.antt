@@ -1,5 +1,5 @@
 use Rattle.std.proofs.Common.{◌≡◌, length}
-use Rattle.am_laws.specs.Counts.{fs_of_token}
+use Rattle.am_laws.specs.{fs_of_token}
 use Rattle.am_laws.proofs.counts.fs_of_token.Given as goal
 
 abbrev pub invariant-loop-o : goal.invariant-loop-o

@@ -1,6 +1,5 @@
 use Rattle.std.proofs.Common.{◌≡◌, length}
-use Rattle.am_laws.specs.OneObservation.{queues_as, unqueues}
-use Rattle.am_laws.specs.Tests.{since, is_in_queue}
+use Rattle.am_laws.specs.{queues_as, unqueues, since, is_in_queue}
 use Rattle.am_laws.proofs.counts.is_in_queue.Given as goal
 
 abbrev pub invariant-loop-o : goal.invariant-loop-o

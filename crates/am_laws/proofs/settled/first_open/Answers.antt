@@ -1,6 +1,6 @@
 use Rattle.std.proofs.Common.{◌≡◌, ◌∷◌, false, drop, sym, ◌∙◌}
 use Rattle.std.proofs.lemmas.List.{take_rest}
-use Rattle.am_laws.specs.Lately.{is_pending}
+use Rattle.am_laws.specs.{is_pending}
 use Rattle.am_laws.proofs.Grows.{place_is_in, settles_on}
 use Rattle.am_laws.proofs.settled.first_open.Goals as goal
 

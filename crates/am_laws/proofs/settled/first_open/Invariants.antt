@@ -1,5 +1,5 @@
 use Rattle.std.proofs.Common.{◌≤◌, ◌-◌, length, take}
-use Rattle.am_laws.specs.Lately.{AreSettled}
+use Rattle.am_laws.specs.{AreSettled}
 use Rattle.am_laws.proofs.settled.first_open.Given as goal
 
 abbrev pub invariant-loop-o : goal.invariant-loop-o

@@ -1,6 +1,6 @@
 use Rattle.std.proofs.Common.{sym, ◌+◌}
 use Rattle.std.proofs.lemmas.List.{take_rest}
-use Rattle.am_lines.specs.Lines.{is_line_feed}
+use Rattle.am_lines.specs.{is_line_feed}
 use Rattle.am_lines.proofs.Cuts.{cut_some, cut_none}
 use Rattle.am_lines.proofs.lines.cut_at_line_feed.Goals as goal
 

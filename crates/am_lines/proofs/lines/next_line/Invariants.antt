@@ -1,5 +1,5 @@
 use Rattle.std.proofs.Common.{◌≡◌, ◌≤◌, ◌+◌, ℕ, length}
-use Rattle.am_lines.specs.Lines.{lines_from, put_before, raw_lines_in}
+use Rattle.am_lines.specs.{lines_from, put_before, raw_lines_in}
 use Rattle.am_lines.proofs.lines.next_line.Given as goal
 
 abbrev pub invariant-loop-front : goal.invariant-loop-front

@@ -1,6 +1,6 @@
 use Rattle.std.proofs.Common.{sym, ◌+◌}
 use Rattle.std.proofs.lemmas.List.{take_rest}
-use Rattle.am_lines.specs.Words.{is_blank}
+use Rattle.am_lines.specs.{is_blank}
 use Rattle.am_lines.proofs.Cuts.{cut_some, cut_none}
 use Rattle.am_lines.proofs.words.cut_at_blank.Goals as goal
 

@@ -1,5 +1,5 @@
 use Rattle.std.proofs.Common.{◌≡◌, ◌≤◌, length}
-use Rattle.am_lines.specs.Words.{words_of}
+use Rattle.am_lines.specs.{words_of}
 use Rattle.am_lines.proofs.words.next_word.Given as goal
 
 abbrev pub invariant-loop-word : goal.invariant-loop-word

@@ -1,5 +1,5 @@
 use Rattle.std.proofs.Common.{◌≡◌, take}
-use Rattle.am_map.specs.LookUp.{with_key}
+use Rattle.am_map.specs.{with_key}
 use Rattle.am_map.proofs.entry.with_key.Given as goal
 
 abbrev pub invariant-loop-byte : goal.invariant-loop-byte

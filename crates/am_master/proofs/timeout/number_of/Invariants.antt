@@ -1,6 +1,6 @@
 use Rattle.std.proofs.Common.{◌≡◌, ◌≤◌, ◌+◌, ◌*◌, ◌-◌, length}
 use Rattle.std.specs.Prelude.{fold}
-use Rattle.am_master.specs.Timeout.{number_of}
+use Rattle.am_master.specs.{number_of}
 use Rattle.am_master.proofs.timeout.number_of.Given as goal
 
 abbrev pub invariant-loop-rest : goal.invariant-loop-rest

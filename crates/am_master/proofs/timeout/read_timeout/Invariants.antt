@@ -1,6 +1,6 @@
 use Rattle.std.proofs.Common.{◌≡◌, length}
-use Rattle.am_lines.specs.Words.{words_of}
-use Rattle.am_master.specs.Timeout.{timeout_of, timeout_values, timeout_read}
+use Rattle.am_lines.specs.{words_of}
+use Rattle.am_master.specs.{timeout_of, timeout_values, timeout_read}
 use Rattle.am_master.proofs.timeout.read_timeout.Given as goal
 
 abbrev pub invariant-loop-value : goal.invariant-loop-value

@@ -1,7 +1,7 @@
 use Rattle.std.proofs.Common.{◌<◌, List, length, take, sym, ap, subst, ◌∙◌, rules}
 use Rattle.std.specs.Prelude.{not}
-use Rattle.am_names.specs.declared.row.MountRow.{MountRow}
-use Rattle.am_mount.specs.Rows.{IsRising, is_among}
+use Rattle.am_names.specs.{MountRow, is_among}
+use Rattle.am_mount.specs.{IsRising}
 use Rattle.am_mount.proofs.RowLemmas.{RiseFrom-filter}
 use Rattle.am_names.proofs.LeaveLemmas.{others, none_out, one_more_out}
 use Rattle.am_mount.proofs.among.leave_each_out.Goals as goal

@@ -1,6 +1,6 @@
 use Rattle.std.proofs.Common.{◌≡◌, take}
 use Rattle.std.specs.Prelude.{filter, not}
-use Rattle.am_mount.specs.Rows.{is_among}
+use Rattle.am_names.specs.{is_among}
 use Rattle.am_mount.proofs.among.leave_each_out.Given as goal
 
 abbrev pub invariant-loop-mount : goal.invariant-loop-mount

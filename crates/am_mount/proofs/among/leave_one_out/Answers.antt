@@ -1,7 +1,7 @@
 use Rattle.std.proofs.Common.{◌≡◌, ◌++◌, List, suc, take, drop, sym, subst, ◌∙◌, rules}
 use Rattle.std.proofs.lemmas.List.Sorted.{answers_always}
-use Rattle.am_names.specs.declared.row.MountRow.{MountRow}
-use Rattle.am_mount.specs.Rows.{IsRising}
+use Rattle.am_names.specs.{MountRow}
+use Rattle.am_mount.specs.{IsRising}
 use Rattle.am_names.proofs.LeaveLemmas.{others}
 use Rattle.am_mount.proofs.LeaveLemmas.{left_found, left_absent}
 use Rattle.am_mount.proofs.among.leave_one_out.Goals as goal

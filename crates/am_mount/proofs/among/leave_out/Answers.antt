@@ -1,8 +1,7 @@
 use Rattle.std.proofs.Common.{rules, tests}
 use Rattle.std.specs.Prelude.{not}
 use Rattle.std.proofs.lemmas.Fn.{filter_same}
-use Rattle.am_names.specs.declared.row.MountRow.{MountRow}
-use Rattle.am_mount.specs.Rows.{is_among}
+use Rattle.am_names.specs.{MountRow, is_among}
 use Rattle.am_mount.proofs.among.leave_out.Goals as goal
 
 pub returns-then-are_ordered : goal.returns-then-are_ordered

@@ -1,5 +1,5 @@
 use Rattle.std.proofs.Common.{◌≡◌, drop}
-use Rattle.am_mount.specs.Buckets.{mixed}
+use Rattle.am_mount.specs.{mixed}
 use Rattle.am_mount.proofs.buckets.mixed.Given as goal
 
 abbrev pub invariant-loop-byte : goal.invariant-loop-byte

@@ -1,7 +1,7 @@
 use Rattle.std.proofs.Common.{◌≡◌, ◌++◌, ℕ, List, suc, take, drop, sym, subst, ◌∙◌, rules}
 use Rattle.std.specs.List.Sorted.{IsStrictlyIncreasing}
 use Rattle.std.proofs.lemmas.List.Sorted.{answers_always}
-use Rattle.am_mount.specs.Index.{but}
+use Rattle.am_mount.specs.{but}
 use Rattle.am_mount.proofs.TakeLemmas.{but_found, but_unfound}
 use Rattle.am_mount.proofs.index.take_out.Goals as goal
 

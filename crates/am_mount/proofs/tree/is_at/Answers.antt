@@ -3,7 +3,7 @@ use Rattle.std.specs.Prelude.{◌==◌}
 use Rattle.std.specs.Cmp.Lexicographic.{pointwise, pointwise_decides, bytes_decides}
 use Rattle.std.specs.Str.{bytes_eq}
 use Rattle.std.proofs.lemmas.Bool.Decides.{same_from_decides}
-use Rattle.am_names.specs.Path.{names_of}
+use Rattle.am_names.specs.{names_of}
 use Rattle.am_mount.proofs.RowLemmas.{is_position_some}
 use Rattle.am_mount.proofs.tree.is_at.Goals as goal
 

@@ -1,8 +1,7 @@
 use Rattle.std.proofs.Common.{◌≡◌, ◌≤◌, length, take}
 use Rattle.std.specs.Prelude.{filter}
-use Rattle.am_names.specs.Path.{names_of}
-use Rattle.am_mount.specs.Found.{stands_at}
-use Rattle.am_mount.specs.Rows.{last_of}
+use Rattle.am_names.specs.{names_of}
+use Rattle.am_mount.specs.{stands_at, last_of}
 use Rattle.am_mount.proofs.tree.last_at.Given as goal
 
 abbrev pub invariant-loop-left : goal.invariant-loop-left

@@ -1,7 +1,7 @@
 use Rattle.std.proofs.Common.{◌≡◌, Some, get_or, sym, ap, ◌∙◌, rules}
 use Rattle.std.proofs.lemmas.List.Sorted.{answers_always}
-use Rattle.am_names.specs.declared.row.MountRow.{MountRow}
-use Rattle.am_mount.specs.Rows.{mount_row}
+use Rattle.am_names.specs.{MountRow}
+use Rattle.am_mount.specs.{mount_row}
 use Rattle.am_mount.proofs.FindLemmas.{found, absent}
 use Rattle.am_mount.proofs.tree.mount_row.Goals as goal
 

@@ -1,9 +1,8 @@
 use Rattle.std.proofs.Common.{◌≤◌, ◌<◌, ◌-◌, Bool, List, length, drop, sym, ap, subst, ◌∙◌, arith}
 use Rattle.std.specs.Prelude.{filter, not}
 use Rattle.std.specs.Option.{option_copied}
-use Rattle.am_names.specs.declared.row.MountRow.{MountRow}
-use Rattle.am_mount.specs.Index.{AreIndexed}
-use Rattle.am_mount.specs.Rows.{is_among}
+use Rattle.am_names.specs.{MountRow, is_among}
+use Rattle.am_mount.specs.{AreIndexed}
 use Rattle.am_mount.proofs.IndexLemmas.{none_gone, gone_earlier, indexed_none, indexed_less, lists_rise}
 use Rattle.am_mount.proofs.RowLemmas.{RiseFrom-filter}
 use Rattle.am_mount.proofs.tree.unlist.Goals as goal

@@ -1,7 +1,7 @@
 use Rattle.std.proofs.Common.{◌≤◌, length, drop}
 use Rattle.std.specs.Prelude.{filter, not}
-use Rattle.am_mount.specs.Index.{AreIndexed}
-use Rattle.am_mount.specs.Rows.{is_among}
+use Rattle.am_mount.specs.{AreIndexed}
+use Rattle.am_names.specs.{is_among}
 use Rattle.am_mount.proofs.tree.unlist.Given as goal
 
 abbrev pub invariant-loop-left : goal.invariant-loop-left

@@ -1,5 +1,5 @@
 use Rattle.std.proofs.Common.{◌≡◌, find}
-use Rattle.am_mountinfo.specs.Mountinfo.{has_peer, masters_from, dominating}
+use Rattle.am_mountinfo.specs.{has_peer, masters_from, dominating}
 use Rattle.am_mountinfo.proofs.masters.dominating.Given as goal
 
 abbrev pub invariant-loop-above : goal.invariant-loop-above

@@ -1,7 +1,7 @@
 use Rattle.std.proofs.Common.{take}
 use Rattle.std.specs.List.{flat_map}
-use Rattle.am_script.specs.Outputs.{Puts}
-use Rattle.am_mountinfo.specs.Mountinfo.{byte_text}
+use Rattle.am_script.specs.{Puts}
+use Rattle.am_mountinfo.specs.{byte_text}
 use Rattle.am_mountinfo.proofs.mount_line.put_bytes.Given as goal
 
 abbrev pub invariant-loop-byte : goal.invariant-loop-byte

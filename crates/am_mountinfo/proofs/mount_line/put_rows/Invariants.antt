@@ -1,7 +1,7 @@
 use Rattle.std.proofs.Common.{take, map}
 use Rattle.std.specs.List.{flat_map}
-use Rattle.am_script.specs.Outputs.{Puts}
-use Rattle.am_mountinfo.specs.Mountinfo.{mount_line}
+use Rattle.am_script.specs.{Puts}
+use Rattle.am_mountinfo.specs.{mount_line}
 use Rattle.am_mountinfo.proofs.mount_line.put_rows.Given as goal
 
 abbrev pub invariant-loop-row : goal.invariant-loop-row

@@ -1,7 +1,6 @@
 use Rattle.std.proofs.Common.{◌≡◌, ◌++◌, take}
 use Rattle.std.specs.List.{flat_map}
-use Rattle.am_mountinfo.specs.Notes.{token_note}
-use Rattle.am_mountinfo.specs.Opens.{opens_text}
+use Rattle.am_mountinfo.specs.{token_note, opens_text}
 use Rattle.am_mountinfo.proofs.notes.add_opens.Given as goal
 
 abbrev pub invariant-loop-token : goal.invariant-loop-token

@@ -1,7 +1,6 @@
 use Rattle.std.proofs.Common.{◌≡◌, take}
 use Rattle.std.specs.List.{flat_map}
-use Rattle.am_mountinfo.specs.Notes.{fs_notes}
-use Rattle.am_mountinfo.specs.Opens.{opens_text}
+use Rattle.am_mountinfo.specs.{fs_notes, opens_text}
 use Rattle.am_mountinfo.proofs.notes.opens.Given as goal
 
 abbrev pub invariant-loop-row : goal.invariant-loop-row

@@ -1,7 +1,7 @@
 use Rattle.std.proofs.Common.{ℕ, List, subst}
-use Rattle.am_script.specs.Outputs.{Puts}
+use Rattle.am_script.specs.{Puts}
 use Rattle.am_script.proofs.Pieces.{puts_two}
-use Rattle.am_mountinfo.specs.Notes.{record_note}
+use Rattle.am_mountinfo.specs.{record_note}
 use Rattle.am_mountinfo.proofs.RowLemmas.{row_more}
 use Rattle.am_mountinfo.proofs.notes.put_book.Goals as goal
 

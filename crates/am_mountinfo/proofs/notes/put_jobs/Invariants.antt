@@ -1,8 +1,8 @@
 use Rattle.std.proofs.Common.{take, map}
 use Rattle.std.specs.List.{flat_map}
-use Rattle.am_daemon.specs.State.{job_plan}
-use Rattle.am_script.specs.Outputs.{Puts}
-use Rattle.am_mountinfo.specs.Notes.{job_note}
+use Rattle.am_daemon.specs.{job_plan}
+use Rattle.am_script.specs.{Puts}
+use Rattle.am_mountinfo.specs.{job_note}
 use Rattle.am_mountinfo.proofs.notes.put_jobs.Given as goal
 
 abbrev pub invariant-loop-job : goal.invariant-loop-job

@@ -1,6 +1,6 @@
 use Rattle.std.proofs.Common.{take}
-use Rattle.am_script.specs.Outputs.{Puts}
-use Rattle.am_mountinfo.specs.Opens.{opens_text}
+use Rattle.am_script.specs.{Puts}
+use Rattle.am_mountinfo.specs.{opens_text}
 use Rattle.am_mountinfo.proofs.notes.put_opens.Given as goal
 
 abbrev pub invariant-loop-row : goal.invariant-loop-row

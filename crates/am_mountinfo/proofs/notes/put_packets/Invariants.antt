@@ -1,7 +1,7 @@
 use Rattle.std.proofs.Common.{take}
 use Rattle.std.specs.List.{flat_map}
-use Rattle.am_script.specs.Outputs.{Puts}
-use Rattle.am_mountinfo.specs.Notes.{packet_note}
+use Rattle.am_script.specs.{Puts}
+use Rattle.am_mountinfo.specs.{packet_note}
 use Rattle.am_mountinfo.proofs.notes.put_packets.Given as goal
 
 abbrev pub invariant-loop-row : goal.invariant-loop-row

@@ -1,7 +1,7 @@
 use Rattle.std.proofs.Common.{take}
 use Rattle.std.specs.List.{flat_map}
-use Rattle.am_script.specs.Outputs.{Puts}
-use Rattle.am_mountinfo.specs.Notes.{use_note}
+use Rattle.am_script.specs.{Puts}
+use Rattle.am_mountinfo.specs.{use_note}
 use Rattle.am_mountinfo.proofs.notes.put_uses.Given as goal
 
 abbrev pub invariant-loop-index : goal.invariant-loop-index

@@ -1,6 +1,6 @@
 use Rattle.std.proofs.Common.{take}
-use Rattle.am_script.specs.Outputs.{Puts}
-use Rattle.am_mountinfo.specs.Notes.{walkers_text}
+use Rattle.am_script.specs.{Puts}
+use Rattle.am_mountinfo.specs.{walkers_text}
 use Rattle.am_mountinfo.proofs.notes.put_walkers.Given as goal
 
 abbrev pub invariant-loop-walker : goal.invariant-loop-walker

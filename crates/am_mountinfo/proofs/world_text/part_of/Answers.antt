@@ -1,5 +1,5 @@
 use Rattle.std.proofs.Common.{refl}
-use Rattle.am_world.specs.Table.{state_of}
+use Rattle.am_world.specs.Capacity.{state_of}
 use Rattle.am_mountinfo.proofs.world_text.part_of.Goals as goal
 
 pub returns-in-Some : goal.returns-in-Some

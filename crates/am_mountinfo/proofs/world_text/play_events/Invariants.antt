@@ -1,8 +1,7 @@
 use Rattle.std.proofs.Common.{◌≤◌, ◌+◌, ◌^◌, option_copied}
-use Rattle.am_script.specs.Lines.{lines_in, size_in}
-use Rattle.am_script.specs.Script.{events_from}
+use Rattle.am_script.specs.{lines_in, size_in, events_from}
 use Rattle.am_mountinfo.proofs.PlayLemmas.{Playing}
-use Rattle.am_world.specs.Table.{state_of}
+use Rattle.am_world.specs.Capacity.{state_of}
 use Rattle.am_mountinfo.proofs.world_text.play_events.Given as goal
 
 abbrev pub invariant-loop-found : goal.invariant-loop-found

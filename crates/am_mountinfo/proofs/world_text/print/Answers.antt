@@ -1,5 +1,5 @@
-use Rattle.am_daemon.specs.State.{rows_of}
-use Rattle.am_mountinfo.specs.Printed.{part_text}
+use Rattle.am_daemon.specs.{rows_of}
+use Rattle.am_mountinfo.specs.{part_text}
 use Rattle.am_mountinfo.proofs.PrintLemmas.{text_ends, ends_ok, ends_err}
 use Rattle.am_mountinfo.proofs.world_text.print.Goals as goal
 

@@ -1,7 +1,7 @@
 use Rattle.std.proofs.Common.{ℕ, List, subst}
-use Rattle.am_script.specs.Outputs.{Puts}
+use Rattle.am_script.specs.{Puts}
 use Rattle.am_script.proofs.Pieces.{puts_two}
-use Rattle.am_mountinfo.specs.Mountinfo.{namespace_text}
+use Rattle.am_mountinfo.specs.{namespace_text}
 use Rattle.am_mountinfo.proofs.RowLemmas.{text_more}
 use Rattle.am_mountinfo.proofs.world_text.put_namespaces.Goals as goal
 

@@ -1,6 +1,6 @@
 use Rattle.std.proofs.Common.{take}
-use Rattle.am_script.specs.Outputs.{Puts}
-use Rattle.am_mountinfo.specs.Mountinfo.{namespaces_text}
+use Rattle.am_script.specs.{Puts}
+use Rattle.am_mountinfo.specs.{namespaces_text}
 use Rattle.am_mountinfo.proofs.world_text.put_namespaces.Given as goal
 
 abbrev pub invariant-loop-ns : goal.invariant-loop-ns

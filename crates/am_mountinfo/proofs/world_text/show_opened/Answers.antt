@@ -1,5 +1,5 @@
 use Rattle.am_mountinfo.proofs.PlayLemmas.{shown_by, stops_by, stops_before}
-use Rattle.am_world.specs.Table.{state_of}
+use Rattle.am_world.specs.Capacity.{state_of}
 use Rattle.am_mountinfo.proofs.world_text.show_opened.Goals as goal
 
 pub returns-in-Ok-clause-ok : goal.returns-in-Ok-clause-ok

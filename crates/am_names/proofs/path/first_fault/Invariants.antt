@@ -1,6 +1,5 @@
 use Rattle.std.proofs.Common.{◌≡◌, length}
-use Rattle.am_names.specs.Path.{parts_of}
-use Rattle.am_names.specs.PathFaults.{first_fault}
+use Rattle.am_names.specs.{parts_of, first_fault}
 use Rattle.am_names.proofs.path.first_fault.Given as goal
 
 abbrev pub invariant-loop-part : goal.invariant-loop-part

@@ -1,7 +1,7 @@
 use Rattle.std.proofs.Common.{length, sym, arith}
 use Rattle.std.proofs.lemmas.List.Sums.{position_or_len_is}
 use Rattle.std.proofs.lemmas.Bool.Decides.{nat_tests}
-use Rattle.am_names.specs.Path.{is_slash}
+use Rattle.am_names.specs.{is_slash}
 use Rattle.am_names.proofs.text.name_len.Goals as goal
 
 pub returns-then-byte-eq47 : goal.returns-then-byte-eq47

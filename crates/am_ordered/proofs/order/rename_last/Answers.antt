@@ -2,7 +2,7 @@ use Rattle.std.proofs.Common.{◌≡◌, ◌≤◌, ◌<◌, ◌⊎◌, inl, inr
 use Rattle.std.proofs.lemmas.Bool.{cases_lt, false≢true}
 use Rattle.std.proofs.lemmas.Option.{slice_get_within}
 use Rattle.indexmap.specs.IndexMap.{index_map_len}
-use Rattle.am_ordered.specs.Order.{times, renamed}
+use Rattle.am_ordered.specs.{times, renamed}
 use Rattle.am_ordered.proofs.OrderLemmas.{renamed_alike, renamed_none, renamed_one}
 use Rattle.am_ordered.proofs.order.rename_last.Goals as goal
 

@@ -3,8 +3,7 @@ use Rattle.std.proofs.Common.{length-append, append_assoc}
 use Rattle.std.specs.Prelude.{if◌then◌else◌, ◌==◌}
 use Rattle.std.specs.Vec.Iter.{into_iter_items}
 use Rattle.std.proofs.lemmas.List.{append-nil}
-use Rattle.am_pipe.specs.Ends.{taken_by}
-use Rattle.am_pipe.specs.Rule.{end_view, known, weigh, weigh_to}
+use Rattle.am_pipe.specs.{taken_by, end_view, known, weigh, weigh_to}
 use Rattle.am_pipe.proofs.CountLemmas.{once_at, empty_where_length_is_zero}
 use Rattle.am_pipe.proofs.RestLemmas.{taken_by_snoc}
 use Rattle.am_pipe.proofs.ends.gather.Goals as goal

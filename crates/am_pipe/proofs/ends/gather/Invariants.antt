@@ -2,8 +2,7 @@ use Rattle.std.proofs.Common.{◌≡◌, ◌++◌, true, length}
 use Rattle.std.specs.Arc.{arc_value}
 use Rattle.std.specs.Vec.Iter.{into_iter_items}
 use Rattle.crossbeam_queue.specs.Passes.{IsPassOf}
-use Rattle.am_pipe.specs.Ends.{taken_by}
-use Rattle.am_pipe.specs.Rule.{end_view, known}
+use Rattle.am_pipe.specs.{taken_by, end_view, known}
 use Rattle.am_pipe.proofs.ends.gather.Given as goal
 
 abbrev pub invariant-loop-end : goal.invariant-loop-end

@@ -1,6 +1,5 @@
 use Rattle.std.proofs.Common.{◌≡◌, [], ap, ◌∙◌, rules}
-use Rattle.am_pipe.specs.Ends.{Taker}
-use Rattle.am_pipe.specs.Rule.{known}
+use Rattle.am_pipe.specs.{Taker, known}
 use Rattle.am_pipe.proofs.MoveLemmas.{begins, forks}
 use Rattle.am_pipe.proofs.RestLemmas.{all_snoc}
 use Rattle.am_pipe.proofs.ends.pipe.Goals as goal

@@ -2,7 +2,7 @@ use Rattle.std.proofs.Common.{◌≡◌, ◌≤◌, true, [], vec_len, All}
 use Rattle.std.specs.Prelude.{vec_capacity}
 use Rattle.std.specs.Arc.{arc_value}
 use Rattle.crossbeam_queue.specs.Passes.{IsPassOf, ruled_capacity}
-use Rattle.am_pipe.specs.Rule.{end_view, known}
+use Rattle.am_pipe.specs.{end_view, known}
 use Rattle.am_pipe.proofs.ends.pipe.Given as goal
 
 abbrev pub invariant-loop-made : goal.invariant-loop-made

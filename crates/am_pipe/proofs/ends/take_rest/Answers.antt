@@ -1,9 +1,7 @@
 use Rattle.std.proofs.Common.{◌≡◌, ◌++◌, ◌∷◌, [], length, ap, sym, ◌∙◌, subst, rules, arith}
 use Rattle.std.proofs.Common.{length-append, append_assoc}
 use Rattle.std.proofs.lemmas.List.{append-nil}
-use Rattle.am_pipe.specs.declared.rule.EndView.{EndView}
-use Rattle.am_pipe.specs.Ends.{AreAsPut}
-use Rattle.am_pipe.specs.Rule.{end_view, known, weigh, weigh_to}
+use Rattle.am_pipe.specs.{EndView, AreAsPut, end_view, known, weigh, weigh_to}
 use Rattle.am_pipe.proofs.MoveLemmas.{takes}
 use Rattle.am_pipe.proofs.RestLemmas.{knows, left_count, as_put}
 use Rattle.am_pipe.proofs.ends.take_rest.Goals as goal

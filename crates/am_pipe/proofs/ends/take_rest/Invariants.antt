@@ -1,7 +1,7 @@
 use Rattle.std.proofs.Common.{◌≡◌, ◌≤◌, ◌+◌, ◌++◌, length, vec_len}
 use Rattle.std.specs.Prelude.{vec_capacity}
 use Rattle.crossbeam_queue.specs.Passes.{IsPassOf}
-use Rattle.am_pipe.specs.Rule.{end_view, known}
+use Rattle.am_pipe.specs.{end_view, known}
 use Rattle.am_pipe.proofs.ends.take_rest.Given as goal
 
 abbrev pub invariant-loop-i : goal.invariant-loop-i

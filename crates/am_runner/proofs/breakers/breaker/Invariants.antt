@@ -1,5 +1,5 @@
 use Rattle.std.proofs.Common.{◌≤◌, ◌-◌}
-use Rattle.am_runner.specs.Roles.{Breaks}
+use Rattle.am_runner.specs.{Breaks}
 use Rattle.am_runner.proofs.breakers.breaker.Given as goal
 
 abbrev pub invariant-loop-made : goal.invariant-loop-made

@@ -1,4 +1,4 @@
-use Rattle.am_runner.specs.Roles.{IsOf}
+use Rattle.am_runner.specs.{IsOf}
 use Rattle.am_runner.proofs.RoleLemmas.{tries_more, tries_again, tries_end}
 use Rattle.am_runner.proofs.calls.call.Goals as goal
 

@@ -1,4 +1,4 @@
-use Rattle.am_runner.specs.Roles.{Adds, IsOf}
+use Rattle.am_runner.specs.{Adds, IsOf}
 use Rattle.am_runner.proofs.RoleLemmas.{Accepted}
 use Rattle.am_runner.proofs.calls.call.Given as goal
 

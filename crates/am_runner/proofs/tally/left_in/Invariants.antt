@@ -1,6 +1,6 @@
 use Rattle.std.proofs.Common.{◌≡◌, ◌≤◌, take}
 use Rattle.std.specs.List.{count_by}
-use Rattle.am_runner.specs.Runs.{is_left}
+use Rattle.am_runner.specs.{is_left}
 use Rattle.am_runner.proofs.tally.left_in.Given as goal
 
 abbrev pub invariant-loop-obs : goal.invariant-loop-obs

@@ -1,4 +1,4 @@
-use Rattle.am_runner.specs.Roles.{Adds, IsOfExpirer}
+use Rattle.am_runner.specs.{Adds, IsOfExpirer}
 use Rattle.am_runner.proofs.walkers.expirer.Given as goal
 
 abbrev pub invariant-loop : goal.invariant-loop

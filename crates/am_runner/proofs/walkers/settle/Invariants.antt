@@ -1,4 +1,4 @@
-use Rattle.am_runner.specs.Roles.{Adds, Resumes}
+use Rattle.am_runner.specs.{Adds, Resumes}
 use Rattle.am_runner.proofs.walkers.settle.Given as goal
 
 abbrev pub invariant-loop : goal.invariant-loop

@@ -1,5 +1,5 @@
 use Rattle.std.proofs.Common.{ℕ, List, subst}
-use Rattle.am_runner.specs.Roles.{Adds, IsOfWalker}
+use Rattle.am_runner.specs.{Adds, IsOfWalker}
 use Rattle.am_runner.proofs.RoleLemmas.{adds_more}
 use Rattle.am_runner.proofs.walkers.walker.Goals as goal
 

@@ -1,4 +1,4 @@
-use Rattle.am_runner.specs.Roles.{Adds, IsOfWalker}
+use Rattle.am_runner.specs.{Adds, IsOfWalker}
 use Rattle.am_runner.proofs.walkers.walker.Given as goal
 
 abbrev pub invariant-loop : goal.invariant-loop

@@ -1,5 +1,5 @@
 use Rattle.std.proofs.Common.{◌≡◌}
-use Rattle.am_runner.specs.Roles.{Serves}
+use Rattle.am_runner.specs.{Serves}
 use Rattle.am_runner.proofs.workers.daemon_worker.Given as goal
 
 abbrev pub invariant-loop : goal.invariant-loop

@@ -1,5 +1,5 @@
 use Rattle.std.proofs.Common.{sym, ◌∙◌}
-use Rattle.am_runner.specs.Roles.{IsActOf}
+use Rattle.am_runner.specs.{IsActOf}
 use Rattle.am_runner.proofs.RoleLemmas.{tries_more, acts_more, acts_end, acts_of_tries}
 use Rattle.am_runner.proofs.workers.finish.Goals.{in-None, in-Some+then-not-goes_on}
 use Rattle.am_runner.proofs.workers.finish.Goals as goal

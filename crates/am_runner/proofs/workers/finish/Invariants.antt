@@ -1,4 +1,4 @@
-use Rattle.am_runner.specs.Roles.{Adds, IsActOf}
+use Rattle.am_runner.specs.{Adds, IsActOf}
 use Rattle.am_runner.proofs.RoleLemmas.{Accepted}
 use Rattle.am_runner.proofs.workers.finish.Given as goal
 

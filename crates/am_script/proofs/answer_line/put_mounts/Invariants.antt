@@ -1,6 +1,5 @@
 use Rattle.std.proofs.Common.{take}
-use Rattle.am_script.specs.Answers.{mounts_text}
-use Rattle.am_script.specs.Outputs.{Puts}
+use Rattle.am_script.specs.{mounts_text, Puts}
 use Rattle.am_script.proofs.answer_line.put_mounts.Given as goal
 
 abbrev pub invariant-loop-mount : goal.invariant-loop-mount

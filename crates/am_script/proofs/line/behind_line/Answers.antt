@@ -1,6 +1,6 @@
 use Rattle.std.proofs.Common.{sym, ◌+◌, take, drop}
 use Rattle.std.proofs.lemmas.List.{take_rest}
-use Rattle.am_lines.specs.Lines.{is_line_feed}
+use Rattle.am_lines.specs.{is_line_feed}
 use Rattle.am_lines.proofs.Cuts.{cut_some, cut_none}
 use Rattle.am_script.proofs.CutLine.{cut_line_more, cut_line_last}
 use Rattle.am_script.proofs.line.behind_line.Goals as goal

@@ -1,5 +1,5 @@
 use Rattle.std.proofs.Common.{◌≡◌, ◌≤◌, length}
-use Rattle.am_script.specs.Read.{cut_line}
+use Rattle.am_script.specs.{cut_line}
 use Rattle.am_script.proofs.line.cut_line.Given as goal
 
 abbrev pub invariant-loop-after : goal.invariant-loop-after

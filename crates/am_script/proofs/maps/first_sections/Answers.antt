@@ -3,8 +3,7 @@ use Rattle.std.specs.Option.{option_copied}
 use Rattle.std.proofs.lemmas.List.{take_all}
 use Rattle.std.proofs.lemmas.Map.Text.{hash_map_updates_str}
 use Rattle.indexmap.specs.IndexMap.{get_by}
-use Rattle.am_script.specs.Sections.{Section}
-use Rattle.am_script.specs.Maps.{section_for}
+use Rattle.am_script.specs.{Section, section_for}
 use Rattle.am_script.proofs.IndexLemmas.{copied_none, copied_there, copied_choice, more_nameless, more_there, more_new}
 use Rattle.am_script.proofs.maps.first_sections.Goals as goal
 use Rattle.am_script.proofs.maps.first_sections.Goals.{in-Some+then-not-contains_key+in_ok-insert, in-Some+else-not-contains_key, in_default}

@@ -1,7 +1,7 @@
 use Rattle.std.proofs.Common.{◌≡◌, ℕ, List, take, bytes_eq}
 use Rattle.std.specs.Option.{option_copied}
 use Rattle.indexmap.specs.IndexMap.{get_by}
-use Rattle.am_script.specs.Maps.{section_for}
+use Rattle.am_script.specs.{section_for}
 use Rattle.am_script.proofs.maps.first_sections.Given as goal
 
 abbrev pub invariant-loop-section : goal.invariant-loop-section

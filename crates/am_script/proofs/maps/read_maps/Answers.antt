@@ -1,10 +1,8 @@
 use Rattle.std.proofs.Common.{◌≡◌, ◌<◌, ◌+◌, ◌∙◌, List, Bor, Option, Ok, inl, inr, ⊎_elim, length, drop, get_or, sym, ap, rules}
 use Rattle.std.specs.Option.{option_copied}
-use Rattle.am_map.specs.EntryText.{Row}
+use Rattle.am_map.specs.{Row}
 use Rattle.am_master.specs.MasterRow.{MasterRow}
-use Rattle.am_script.specs.Fault.{IsFaultOr}
-use Rattle.am_script.specs.Maps.{map_by, maps_read, section_for}
-use Rattle.am_script.specs.Sections.{Section}
+use Rattle.am_script.specs.{IsFaultOr, map_by, maps_read, section_for, Section}
 use Rattle.am_script.proofs.MapsLemmas.{behind, map_more, map_stops}
 use Rattle.am_script.proofs.maps.read_maps.Goals as goal
 

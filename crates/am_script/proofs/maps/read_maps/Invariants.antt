@@ -1,5 +1,5 @@
 use Rattle.std.proofs.Common.{◌≡◌, ◌≤◌, length, drop, vec_capacity}
-use Rattle.am_script.specs.Maps.{maps_read}
+use Rattle.am_script.specs.{maps_read}
 use Rattle.am_script.proofs.MapsLemmas.{behind}
 use Rattle.am_script.proofs.maps.read_maps.Given as goal
 

@@ -1,6 +1,5 @@
 use Rattle.std.proofs.Common.{◌∙◌, Ok, option_copied, ap, arith}
-use Rattle.am_script.specs.Lines.{lines_in, size_in}
-use Rattle.am_script.specs.Script.{events_from}
+use Rattle.am_script.specs.{lines_in, size_in, events_from}
 use Rattle.am_script.proofs.Openings.{event_skipped}
 use Rattle.am_script.proofs.visit.next_event.Goals as goal
 

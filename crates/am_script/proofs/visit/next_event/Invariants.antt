@@ -1,6 +1,5 @@
 use Rattle.std.proofs.Common.{◌≡◌, ◌≤◌, ◌+◌, option_copied}
-use Rattle.am_script.specs.Lines.{lines_in, size_in}
-use Rattle.am_script.specs.Script.{events_from}
+use Rattle.am_script.specs.{lines_in, size_in, events_from}
 use Rattle.am_script.proofs.visit.next_event.Given as goal
 
 abbrev pub invariant-loop-rest : goal.invariant-loop-rest

@@ -1,6 +1,5 @@
 use Rattle.std.proofs.Common.{◌≡◌, ◌∷◌, option_copied, ap, ◌∙◌, arith}
-use Rattle.am_script.specs.Heading.{taken_as}
-use Rattle.am_script.specs.Lines.{lines_in, lines_of, size_in}
+use Rattle.am_script.specs.{taken_as, lines_in, lines_of, size_in}
 use Rattle.am_script.proofs.Heads.{one_taken}
 use Rattle.am_script.proofs.Openings.{head_stops_it, begins_opened, begins_not}
 use Rattle.am_script.proofs.visit.open_text.Goals as goal

@@ -1,6 +1,5 @@
 use Rattle.std.proofs.Common.{◌≤◌, ◌+◌, ◌^◌, option_copied}
-use Rattle.am_script.specs.Lines.{lines_of, lines_in, size_in}
-use Rattle.am_script.specs.HeadLeft.{IsLeft}
+use Rattle.am_script.specs.{lines_of, lines_in, size_in, IsLeft}
 use Rattle.am_script.proofs.visit.open_text.Given as goal
 
 abbrev pub invariant-loop-rest : goal.invariant-loop-rest

@@ -1,6 +1,6 @@
 use Rattle.std.proofs.Common.{◌≡◌, [], length, ap, arith, rules}
 use Rattle.std.specs.Prelude.{List}
-use Rattle.am_shared.specs.declared.caller.Receipt.{Receipt}
+use Rattle.am_shared.specs.{Receipt}
 use Rattle.std.proofs.lemmas.List.Elements.{All-push}
 use Rattle.am_shared.proofs.caller.share.Goals as goal
 

@@ -1,8 +1,7 @@
 use Rattle.std.proofs.Common.{◌≡◌, ◌∷◌, ◌++◌, [], length, List, rules, refl, ap, sym, ◌∙◌, subst, arith}
 use Rattle.std.specs.Prelude.{◌↔◌, IsTrue}
-use Rattle.am_machine.specs.declared.entry.Entry.{Entry}
-use Rattle.am_shared.specs.declared.caller.Receipt.{Receipt}
-use Rattle.am_shared.specs.Matching.{EachAgree, EachRise, AtMostOnce, count_in}
+use Rattle.am_machine.specs.{Entry}
+use Rattle.am_shared.specs.{Receipt, EachAgree, EachRise, AtMostOnce, count_in}
 use Rattle.am_shared.proofs.ApplyLemmas.{shared_from}
 use Rattle.am_shared.proofs.MatchLemmas.{count_snoc, order_test_decides}
 use Rattle.am_shared.proofs.gathering.gather.Goals as goal

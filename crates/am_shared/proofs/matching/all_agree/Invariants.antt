@@ -1,6 +1,6 @@
 use Rattle.std.proofs.Common.{drop}
 use Rattle.std.specs.Prelude.{◌↔◌}
-use Rattle.am_shared.specs.Matching.{AllAgree}
+use Rattle.am_shared.specs.{AllAgree}
 use Rattle.am_shared.proofs.matching.all_agree.Given as goal
 
 abbrev pub invariant-loop-receipt : goal.invariant-loop-receipt

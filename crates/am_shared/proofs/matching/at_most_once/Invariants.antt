@@ -1,6 +1,6 @@
 use Rattle.std.proofs.Common.{length}
 use Rattle.std.specs.Prelude.{◌↔◌}
-use Rattle.am_shared.specs.Matching.{EachRise, AtMostOnce}
+use Rattle.am_shared.specs.{EachRise, AtMostOnce}
 use Rattle.am_shared.proofs.matching.at_most_once.Given as goal
 
 abbrev pub invariant-loop-caller : goal.invariant-loop-caller

@@ -1,6 +1,6 @@
 use Rattle.std.proofs.Common.{ltb, sym, arith, rules, tests}
 use Rattle.std.proofs.lemmas.List.Sorted.{IsPartitionedBy-ltb, IsPartitionPoint-from_clause}
-use Rattle.am_shared.specs.declared.caller.Receipt.{Receipt}
+use Rattle.am_shared.specs.{Receipt}
 use Rattle.am_shared.proofs.MatchLemmas.{rise_sorted, found_at, found_nowhere}
 use Rattle.am_shared.proofs.matching.has_position.Goals as goal
 

@@ -1,6 +1,6 @@
 use Rattle.std.proofs.Common.{◌≡◌, ◌+◌, ◌≤◌, ◌++◌, length, drop}
 use Rattle.std.specs.VecDeque.{deque_len, deque_capacity}
-use Rattle.am_shared.specs.Notes.{notes_of}
+use Rattle.am_shared.specs.{notes_of}
 use Rattle.am_shared.proofs.notes.collect_all.Given as goal
 
 abbrev pub invariant-loop-obs : goal.invariant-loop-obs

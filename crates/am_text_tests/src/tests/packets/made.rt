@@ -1,7 +1,7 @@
 //! The bytes of packets, and what is written for some.
 
 use am_names::{FsId, Token};
-use am_wire::{Kind, Packet, PacketName, write};
+use am_wire::{Packet, PacketName, PacketType, write};
 
 /// A packet for the name `home`, as the kernel of x86-64 writes it.
 static HOME: [u8; 48] = [
@@ -57,7 +57,7 @@ pub fn first(bytes: &[u8], len: usize) -> &[u8] {
 /// The packet for the name `home`.
 pub fn home_packet() -> Packet {
     Packet {
-        kind: Kind::MissingIndirect,
+        kind: PacketType::MissingIndirect,
         token: Token(1),
         dev: FsId(2),
         ino: 1,
@@ -72,7 +72,7 @@ pub fn home_packet() -> Packet {
 /// A packet whose numbers have different bytes.
 pub fn packet_of_fields() -> Packet {
     Packet {
-        kind: Kind::ExpireDirect,
+        kind: PacketType::ExpireDirect,
         token: Token(0x0b0a_0908),
         dev: FsId(0x0f0e_0d0c),
         ino: 0x1716_1514_1312_1110,

@@ -1,5 +1,5 @@
 use Rattle.std.proofs.Common.{◌≡◌, ◌≤◌, ◌++◌, length, take, drop}
-use Rattle.am_trigger.specs.Failures.{without_failures}
+use Rattle.am_trigger.specs.{without_failures}
 use Rattle.am_trigger.proofs.failures.mend_fs.Given as goal
 
 abbrev pub invariant-loop-left : goal.invariant-loop-left

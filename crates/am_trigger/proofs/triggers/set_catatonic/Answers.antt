@@ -1,5 +1,5 @@
 use Rattle.std.proofs.lemmas.List.Edits.{map_over_more}
-use Rattle.am_trigger.specs.Rows.{catatonic_row}
+use Rattle.am_trigger.specs.{catatonic_row}
 use Rattle.am_trigger.proofs.triggers.set_catatonic.Goals as goal
 
 pub loop-row-preserved : goal.loop-row-preserved

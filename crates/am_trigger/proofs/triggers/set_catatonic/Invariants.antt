@@ -1,5 +1,5 @@
 use Rattle.std.proofs.Common.{◌≡◌, ◌++◌, take, drop, map}
-use Rattle.am_trigger.specs.Rows.{catatonic_row}
+use Rattle.am_trigger.specs.{catatonic_row}
 use Rattle.am_trigger.proofs.triggers.set_catatonic.Given as goal
 
 abbrev pub invariant-loop-row : goal.invariant-loop-row

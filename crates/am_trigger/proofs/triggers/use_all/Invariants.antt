@@ -1,6 +1,6 @@
 use Rattle.std.proofs.Common.{◌≡◌, ◌≤◌, ◌+◌, drop}
 use Rattle.indexmap.specs.IndexMap.{spare}
-use Rattle.am_trigger.specs.Rows.{all_used_in}
+use Rattle.am_trigger.specs.{all_used_in}
 use Rattle.am_trigger.proofs.triggers.use_all.Given as goal
 
 abbrev pub invariant-loop-trigger : goal.invariant-loop-trigger

@@ -1,6 +1,6 @@
 use Rattle.std.proofs.Common.{take}
-use Rattle.am_script.specs.Outputs.{Puts}
-use Rattle.am_views.specs.ObsText.{obs_lines}
+use Rattle.am_script.specs.{Puts}
+use Rattle.am_views.specs.{obs_lines}
 use Rattle.am_views.proofs.obs_text.put_seen.Given as goal
 
 abbrev pub invariant-loop-obs : goal.invariant-loop-obs

@@ -1,6 +1,6 @@
 use Rattle.std.proofs.Common.{ap, length}
 use Rattle.am_views.proofs.Shows.{shows}
-use Rattle.am_world.specs.Table.{state_of}
+use Rattle.am_world.specs.Capacity.{state_of}
 use Rattle.am_views.proofs.trace.show.Goals as goal
 
 pub returns : goal.returns

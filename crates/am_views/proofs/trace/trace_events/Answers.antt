@@ -1,8 +1,7 @@
 use Rattle.std.proofs.Common.{◌≡◌, Some, Ok, option_copied, arith}
-use Rattle.am_script.specs.Lines.{lines_in, size_in}
-use Rattle.am_script.specs.Script.{Numbered, Told, events_from, told_by}
+use Rattle.am_script.specs.{lines_in, size_in, Numbered, Told, events_from, told_by}
 use Rattle.am_views.proofs.TracesSoFar.{tracing_none, tracing_more, tracing_cut, tracing_ends, tracing_fails, ends_ok, ends_err, more_lines}
-use Rattle.am_world.specs.Table.{state_of}
+use Rattle.am_world.specs.Capacity.{state_of}
 use Rattle.am_views.proofs.trace.trace_events.Goals as goal
 
 pub loop-output-init : goal.loop-output-init

@@ -1,6 +1,6 @@
 use Rattle.std.proofs.Common.{◌≡◌, ◌==◌, Some, None, sym, ap, ◌∙◌}
 use Rattle.std.specs.Prelude.{position}
-use Rattle.am_wait.specs.declared.held.HeldToken.{HeldToken}
+use Rattle.am_wait.specs.{HeldToken}
 use Rattle.am_wait.proofs.TokenLemmas.{nobody, stands_at, unchanged}
 use Rattle.am_wait.proofs.held.add_key.Goals as goal
 

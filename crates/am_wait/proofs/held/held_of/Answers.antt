@@ -1,6 +1,6 @@
 use Rattle.std.proofs.Common.{◌≡◌, ◌==◌, ◌≤◌, true, false, length, sym, arith}
 use Rattle.std.proofs.lemmas.Bool.Decides.{nat_tests}
-use Rattle.am_wait.specs.declared.held.HeldToken.{HeldToken}
+use Rattle.am_wait.specs.{HeldToken}
 use Rattle.am_wait.proofs.RisingLemmas.{found_none, found_other, found_row}
 use Rattle.am_wait.proofs.held.held_of.Goals as goal
 

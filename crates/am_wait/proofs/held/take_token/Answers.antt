@@ -2,7 +2,7 @@ use Rattle.std.proofs.Common.{◌≡◌, ◌==◌, ◌≤◌, ◌<◌, true, fal
 use Rattle.std.specs.Prelude.{nat_le}
 use Rattle.std.specs.List.{position_or_len}
 use Rattle.std.proofs.lemmas.Bool.Decides.{nat_tests}
-use Rattle.am_wait.specs.declared.held.HeldToken.{HeldToken}
+use Rattle.am_wait.specs.{HeldToken}
 use Rattle.am_wait.proofs.CallLemmas.{all_kept}
 use Rattle.am_wait.proofs.RisingLemmas.{found_none, found_other, found_row, taken_at_its_point}
 use Rattle.am_wait.proofs.held.take_token.Goals as goal

@@ -1,7 +1,7 @@
 use Rattle.std.proofs.Common.{eqb, rules, tests}
 use Rattle.std.specs.Prelude.{not}
 use Rattle.std.proofs.lemmas.Fn.{filter_same}
-use Rattle.am_wait.specs.declared.held.HeldToken.{HeldToken}
+use Rattle.am_wait.specs.{HeldToken}
 use Rattle.am_wait.proofs.held.take_tokens_of.Goals as goal
 
 pub returns : goal.returns

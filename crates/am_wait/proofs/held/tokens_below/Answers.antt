@@ -1,7 +1,7 @@
 use Rattle.std.proofs.Common.{rules, of_calls, tests, ltb}
 use Rattle.std.proofs.lemmas.Fn.{always_returns_same}
 use Rattle.std.proofs.lemmas.List.Sorted.{IsPartitionedBy-ltb}
-use Rattle.am_wait.specs.declared.held.HeldToken.{HeldToken}
+use Rattle.am_wait.specs.{HeldToken}
 use Rattle.am_wait.proofs.RisingLemmas.{rise_on, point_is}
 use Rattle.am_wait.proofs.held.tokens_below.Goals as goal
 

@@ -1,6 +1,6 @@
 use Rattle.std.proofs.Common.{◌≡◌, ◌+◌, take, ◌∷◌, ◌++◌, [], sym, ap, subst, ◌∙◌, List}
 use Rattle.std.proofs.lemmas.List.{take_more}
-use Rattle.am_wait.specs.declared.seats.Seat.{Seat}
+use Rattle.am_wait.specs.{Seat}
 use Rattle.am_wait.proofs.FailLemmas.{FailsAll, fails_more}
 use Rattle.am_wait.proofs.seats.fail_waits_of.Goals as goal
 

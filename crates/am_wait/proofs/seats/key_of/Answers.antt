@@ -1,7 +1,7 @@
 use Rattle.std.proofs.Common.{◌≡◌, ◌==◌, ◌≤◌, true, false, length, sym, ap, arith}
 use Rattle.std.specs.Option.{option_map}
 use Rattle.std.proofs.lemmas.Bool.Decides.{nat_tests}
-use Rattle.am_wait.specs.declared.seats.Seat.{Seat}
+use Rattle.am_wait.specs.{Seat}
 use Rattle.am_wait.proofs.RisingLemmas.{found_none, found_other, found_row}
 use Rattle.am_wait.proofs.seats.key_of.Goals as goal
 

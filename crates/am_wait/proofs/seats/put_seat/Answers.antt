@@ -1,7 +1,7 @@
 use Rattle.std.proofs.Common.{◌≡◌, ℕ, insert, length, ap, ◌∙◌, arith}
 use Rattle.std.specs.Prelude.{nat_le, ◌==◌}
 use Rattle.std.specs.List.{position_or_len}
-use Rattle.am_wait.specs.declared.seats.Seat.{Seat}
+use Rattle.am_wait.specs.{Seat}
 use Rattle.am_wait.proofs.RowLemmas.{put_new, position_fits}
 use Rattle.am_wait.proofs.CallLemmas.{none_there}
 use Rattle.am_wait.proofs.SeatLemmas.{no_key}

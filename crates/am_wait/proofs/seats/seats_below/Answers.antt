@@ -1,7 +1,7 @@
 use Rattle.std.proofs.Common.{rules, of_calls, tests, ltb}
 use Rattle.std.proofs.lemmas.Fn.{always_returns_same}
 use Rattle.std.proofs.lemmas.List.Sorted.{IsPartitionedBy-ltb}
-use Rattle.am_wait.specs.declared.seats.Seat.{Seat}
+use Rattle.am_wait.specs.{Seat}
 use Rattle.am_wait.proofs.RisingLemmas.{rise_on, point_is}
 use Rattle.am_wait.proofs.seats.seats_below.Goals as goal
 

@@ -1,6 +1,5 @@
 use Rattle.std.proofs.Common.{◌≡◌, ◌==◌, None, sym, ◌∙◌}
-use Rattle.am_wait.specs.declared.seats.Seat.{Seat}
-use Rattle.am_wait.specs.Seats.{key_of}
+use Rattle.am_wait.specs.{Seat, key_of}
 use Rattle.am_wait.proofs.SeatLemmas.{no_key}
 use Rattle.am_wait.proofs.CallLemmas.{all_kept}
 use Rattle.am_wait.proofs.seats.take_wait.Goals as goal

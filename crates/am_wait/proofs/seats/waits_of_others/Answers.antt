@@ -1,7 +1,6 @@
 use Rattle.std.proofs.Common.{◌≢◌, ◌==◌, None, length, sym, ap, ◌∙◌, arith}
 use Rattle.std.specs.Option.{option_map}
-use Rattle.am_wait.specs.declared.seats.Seat.{Seat}
-use Rattle.am_wait.specs.Seats.{seat_of}
+use Rattle.am_wait.specs.{Seat, seat_of}
 use Rattle.am_wait.proofs.CallLemmas.{all_kept}
 use Rattle.am_wait.proofs.SeatLemmas.{no_key}
 use Rattle.am_wait.proofs.RisingLemmas.{others_of}

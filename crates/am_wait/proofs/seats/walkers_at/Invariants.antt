@@ -1,5 +1,5 @@
 use Rattle.std.proofs.Common.{◌≡◌, take}
-use Rattle.am_wait.specs.Seats.{walkers_at}
+use Rattle.am_wait.specs.{walkers_at}
 use Rattle.am_wait.proofs.seats.walkers_at.Given as goal
 
 abbrev pub invariant-loop-key : goal.invariant-loop-key

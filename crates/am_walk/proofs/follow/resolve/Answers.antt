@@ -1,11 +1,10 @@
 use Rattle.std.proofs.Common.{◌≡◌, List, Some, sym, subst, refl}
 use Rattle.std.specs.Prelude.{IfOk}
-use Rattle.am_names.specs.declared.row.MountRow.{MountRow}
-use Rattle.am_trigger.specs.Failures.{failing}
-use Rattle.am_walk.specs.Inside.{scene_in, walked_of}
-use Rattle.am_walk.specs.Laws.{IsOrderly, RestsAt}
-use Rattle.am_walk.specs.Scene.{Scene, with_traps}
-use Rattle.am_walk.specs.Walks.{Walked, walk_of}
+use Rattle.am_names.specs.{MountRow}
+use Rattle.am_trigger.specs.{failing}
+use Rattle.am_walk.specs.View.{scene_in, walked_of}
+use Rattle.am_walk.specs.{IsOrderly, RestsAt, with_traps, Walked, walk_of}
+use Rattle.am_walk.specs.Scene.{Scene}
 use Rattle.am_walk.proofs.LawLemmas.{orderly, if_ok}
 use Rattle.am_walk.proofs.RestLemmas.{rests}
 use Rattle.am_walk.proofs.follow.resolve.Goals as goal

@@ -1,8 +1,8 @@
 use Rattle.std.proofs.Common.{◌≡◌, ℕ, rules, arith, sym, ◌∙◌, ap, length, take, drop, true}
 use Rattle.std.proofs.lemmas.List.{length-take, length-drop}
-use Rattle.am_wire.specs.Format.{may_have_length}
+use Rattle.am_wire.specs.{may_have_length}
 use Rattle.am_wire.proofs.FormatLemmas.{one_packet}
-use Rattle.am_wire.proofs.KindLemmas.{kind_read_is}
+use Rattle.am_wire.proofs.PacketTypeLemmas.{kind_read_is}
 use Rattle.am_wire.proofs.reading.read.Goals as goal
 
 pub returns-clause-ok : goal.returns-clause-ok

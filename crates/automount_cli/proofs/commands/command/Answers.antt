@@ -1,5 +1,5 @@
 use Rattle.std.proofs.lemmas.Result.{IfOk-weaker}
-use Rattle.automount_cli.specs.CommandLine.{IsCommand, script_app, trace_app, draw_app, world_app, threads_app}
+use Rattle.automount_cli.specs.{IsCommand, script_app, trace_app, draw_app, world_app, threads_app}
 use Rattle.clap.specs.Words.{App}
 use Rattle.clap.specs.declared.builder.command.Command.{Command}
 use Rattle.automount_cli.proofs.CommandLemmas.{adds}

@@ -1,6 +1,6 @@
 use Rattle.std.proofs.Common.{List, map, sym, subst}
-use Rattle.am_state.specs.declared.daemon_row.HeldRow.{HeldRow}
-use Rattle.am_daemon.specs.Attachments.{AreOnce}
+use Rattle.am_state.specs.{HeldRow}
+use Rattle.am_daemon.specs.{AreOnce}
 use Rattle.am_daemon.proofs.OnceLemmas.{none_once}
 use Rattle.am_daemon.proofs.daemon.Daemon.die.Goals as goal
 

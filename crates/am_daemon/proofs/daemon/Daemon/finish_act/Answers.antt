@@ -1,9 +1,7 @@
 use Rattle.std.proofs.Common.{◌≡◌, List, map, ap, ◌∙◌}
-use Rattle.am_job.specs.Job.{JobState}
+use Rattle.am_job.specs.{JobState}
 use Rattle.am_daemon.specs.declared.daemon.Daemon.TheInside.{Inside}
-use Rattle.am_daemon.specs.State.{JobPlan, DaemonTable, job_plan}
-use Rattle.am_daemon.specs.Deliveries.{job_of}
-use Rattle.am_daemon.specs.Acts.{finished_in}
+use Rattle.am_daemon.specs.{JobPlan, DaemonTable, job_plan, job_of, finished_in}
 use Rattle.am_daemon.proofs.JobLemmas.{others_stay}
 use Rattle.am_daemon.proofs.daemon.Daemon.finish_act.Goals as goal
 use Rattle.am_daemon.proofs.daemon.Daemon.finish_act.Goals.{in-Some-writing+in_ok-write_down, in_default-writing}

@@ -1,8 +1,7 @@
 use Rattle.std.proofs.Common.{List, ◌==◌, ap, ◌∙◌}
 use Rattle.std.specs.Prelude.{find, option_map}
-use Rattle.am_job.specs.Job.{JobState}
-use Rattle.am_daemon.specs.State.{DaemonTable, JobPlan, job_plan, rows_of}
-use Rattle.am_daemon.specs.Deliveries.{job_of}
+use Rattle.am_job.specs.{JobState}
+use Rattle.am_daemon.specs.{DaemonTable, JobPlan, job_plan, rows_of, job_of}
 use Rattle.am_daemon.proofs.JobLemmas.{find_mapped}
 use Rattle.am_daemon.proofs.daemon.Daemon.job.Goals as goal
 

@@ -3,9 +3,8 @@ use Rattle.std.specs.Prelude.{find}
 use Rattle.std.proofs.lemmas.Iterator.{YieldsList-from_slice, YieldsList-from_zip}
 use Rattle.std.proofs.lemmas.Iterator.Consumers.{YieldsList-at, YieldsList-from_enumerate}
 use Rattle.std.proofs.lemmas.Iterator.Search.{find_from_yields_List}
-use Rattle.am_names.specs.Path.{names_of}
-use Rattle.am_daemon.specs.Points.{Line, has_point, lines_of}
-use Rattle.am_daemon.specs.State.{DaemonTable, rows_of}
+use Rattle.am_names.specs.{names_of}
+use Rattle.am_daemon.specs.{Line, has_point, lines_of, DaemonTable, rows_of}
 use Rattle.am_daemon.proofs.daemon.Daemon.line_at.Goals as goal
 
 pub returns : goal.returns

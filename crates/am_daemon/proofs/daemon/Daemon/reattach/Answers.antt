@@ -1,6 +1,6 @@
 use Rattle.std.proofs.Common.{List, ap, ◌∙◌}
-use Rattle.am_state.specs.declared.daemon_row.HeldRow.{HeldRow}
-use Rattle.am_daemon.specs.Attachments.{held_as}
+use Rattle.am_state.specs.{HeldRow}
+use Rattle.am_daemon.specs.{held_as}
 use Rattle.am_daemon.proofs.OnceLemmas.{held_once}
 use Rattle.am_daemon.proofs.daemon.Daemon.reattach.Goals as goal
 

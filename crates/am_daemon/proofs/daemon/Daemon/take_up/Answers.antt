@@ -1,8 +1,6 @@
-use Rattle.am_wire.specs.Kind.{token_kind}
+use Rattle.am_wire.specs.{token_kind}
 use Rattle.am_job.proofs.PlanLemmas.{plan_records}
-use Rattle.am_daemon.specs.Packets.{trigger_of, mounted_for}
-use Rattle.am_daemon.specs.Points.{entry_of}
-use Rattle.am_daemon.specs.State.{rows_of}
+use Rattle.am_daemon.specs.{trigger_of, mounted_for, entry_of, rows_of}
 use Rattle.am_daemon.proofs.daemon.Daemon.take_up.Goals as goal
 
 pub returns-clause-records : goal.returns-clause-records

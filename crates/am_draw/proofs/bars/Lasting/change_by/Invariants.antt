@@ -1,5 +1,5 @@
 use Rattle.std.proofs.Common.{◌≡◌, take}
-use Rattle.am_draw.specs.Bars.{seen_behind}
+use Rattle.am_draw.specs.{seen_behind}
 use Rattle.am_draw.proofs.bars.Lasting.change_by.Given as goal
 
 abbrev pub invariant-loop-obs : goal.invariant-loop-obs

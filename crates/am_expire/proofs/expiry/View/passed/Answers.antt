@@ -1,6 +1,5 @@
 use Rattle.std.proofs.Common.{sym, ◌∙◌, arith}
-use Rattle.am_expire.specs.Part.{rows_in}
-use Rattle.am_expire.specs.Scan.{expiry_in}
+use Rattle.am_expire.specs.{rows_in, expiry_in}
 use Rattle.am_expire.proofs.UpLemmas.{ends_here, passed_more, passed_all}
 use Rattle.am_expire.proofs.expiry.View.passed.Goals as goal
 

@@ -1,7 +1,5 @@
 use Rattle.std.proofs.Common.{◌≡◌, ◌<◌, ℕ, false, get_or}
-use Rattle.am_expire.specs.Order.{is_end, no_use}
-use Rattle.am_expire.specs.Part.{rows_in}
-use Rattle.am_expire.specs.Scan.{expiry_in}
+use Rattle.am_expire.specs.{is_end, no_use, rows_in, expiry_in}
 use Rattle.am_expire.proofs.expiry.View.passed.Given as goal
 
 abbrev pub invariant-loop-index : goal.invariant-loop-index

@@ -1,7 +1,5 @@
 use Rattle.std.proofs.Common.{sym, ap, subst, ◌∙◌}
-use Rattle.am_expire.specs.Pick.{IsPick}
-use Rattle.am_expire.specs.Part.{rows_in}
-use Rattle.am_expire.specs.Scan.{expiry_in, due_at}
+use Rattle.am_expire.specs.{IsPick, rows_in, expiry_in, due_at}
 use Rattle.am_expire.proofs.UpLemmas.{pick_up, exact_up, none_off, exact_off}
 use Rattle.am_expire.proofs.expiry.View.pick_in.Goals as goal
 

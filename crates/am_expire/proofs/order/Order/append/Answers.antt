@@ -1,8 +1,8 @@
 use Rattle.std.proofs.Common.{◌≡◌, ◌≤◌, ℕ, List, length, sym, ap, subst, ◌∙◌, arith}
 use Rattle.std.specs.List.{insert}
 use Rattle.std.specs.VecDeque.{deque_len, deque_capacity}
-use Rattle.am_trigger.specs.Rows.{used_in}
-use Rattle.am_expire.specs.Order.{IsListed}
+use Rattle.am_trigger.specs.{used_in}
+use Rattle.am_expire.specs.{IsListed}
 use Rattle.am_expire.proofs.PlaceLemmas.{listed_appended, holds_where_room}
 use Rattle.am_expire.proofs.order.Order.append.Goals as goal
 

@@ -3,7 +3,7 @@ use Rattle.std.specs.Prelude.{slice_get}
 use Rattle.std.proofs.lemmas.Bool.Decides.{nat_tests}
 use Rattle.std.proofs.lemmas.List.Sorted.{IsPartitionPoint-from_clause, IsPartitionedBy-leb}
 use Rattle.am_names.specs.declared.trigger.Trigger.{Trigger}
-use Rattle.am_expire.specs.Order.{rows_at, passes}
+use Rattle.am_expire.specs.{rows_at, passes}
 use Rattle.am_expire.proofs.OrderLemmas.{fs_rises}
 use Rattle.am_expire.proofs.PlaceLemmas.{places_parted, rows_parted}
 use Rattle.am_expire.proofs.order.Order.end.Goals as goal

@@ -1,6 +1,6 @@
 use Rattle.std.proofs.Common.{◌≡◌, ◌≤◌, length, arith}
 use Rattle.std.proofs.lemmas.List.{length-map}
-use Rattle.am_expire.specs.Order.{row_at, rows_at}
+use Rattle.am_expire.specs.{row_at, rows_at}
 use Rattle.am_expire.proofs.OrderLemmas.{start_end, run_of}
 use Rattle.am_expire.proofs.order.Order.of_fs.Goals as goal
 

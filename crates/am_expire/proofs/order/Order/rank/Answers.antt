@@ -3,7 +3,7 @@ use Rattle.std.specs.Prelude.{slice_get}
 use Rattle.std.specs.Ordering.{is_lt}
 use Rattle.std.proofs.lemmas.List.Sorted.{IsPartitionPoint-from_clause}
 use Rattle.am_names.specs.declared.trigger.Trigger.{Trigger}
-use Rattle.am_expire.specs.Order.{use_cmp, rows_at, passes}
+use Rattle.am_expire.specs.{use_cmp, rows_at, passes}
 use Rattle.am_expire.proofs.OrderLemmas.{ranked}
 use Rattle.am_expire.proofs.PlaceLemmas.{places_parted, rows_parted}
 use Rattle.am_expire.proofs.order.Order.rank.Goals as goal

@@ -4,8 +4,8 @@ use Rattle.std.specs.List.{insert, remove}
 use Rattle.std.specs.Option.{option_map, unwrap_or}
 use Rattle.std.specs.VecDeque.{deque_len, deque_capacity}
 use Rattle.am_names.specs.declared.trigger.Trigger.{Trigger}
-use Rattle.am_trigger.specs.Rows.{used_in}
-use Rattle.am_expire.specs.Order.{IsListed}
+use Rattle.am_trigger.specs.{used_in}
+use Rattle.am_expire.specs.{IsListed}
 use Rattle.am_expire.proofs.PlaceLemmas.{used_again, from_within, listed_renewed, holds_where_some, holds_where_room}
 use Rattle.am_expire.proofs.order.Order.renew.Goals as goal
 

@@ -3,8 +3,7 @@ use Rattle.std.specs.Prelude.{slice_get}
 use Rattle.std.specs.Map.Iter.{deref_pair}
 use Rattle.std.specs.Option.{option_map}
 use Rattle.std.proofs.lemmas.Option.{same_Some}
-use Rattle.am_expire.specs.Order.{no_use}
-use Rattle.am_expire.specs.Part.{rows_in}
+use Rattle.am_expire.specs.{no_use, rows_in}
 use Rattle.am_expire.proofs.PlaceLemmas.{part_row, some_where_mapped}
 use Rattle.am_expire.proofs.order.Part.row.Goals as goal
 

@@ -1,8 +1,7 @@
 use Rattle.std.proofs.Common.{sym, subst}
 use Rattle.std.specs.Prelude.{filter}
-use Rattle.am_trigger.specs.Table.{TriggerTable}
-use Rattle.am_expire.specs.Order.{is_of, rows_at, IsOrder}
-use Rattle.am_expire.specs.Part.{rows_in}
+use Rattle.am_trigger.specs.{TriggerTable}
+use Rattle.am_expire.specs.{is_of, rows_at, IsOrder, rows_in}
 use Rattle.am_expire.proofs.TouchLemmas.{order_within}
 use Rattle.am_expire.proofs.ordered.OrderedTriggers.order_of.Goals as goal
 

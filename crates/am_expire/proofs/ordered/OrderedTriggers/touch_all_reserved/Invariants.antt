@@ -1,5 +1,5 @@
 use Rattle.std.proofs.Common.{◌≡◌, ◌≤◌, ◌+◌, drop}
-use Rattle.am_trigger.specs.Rows.{all_used}
+use Rattle.am_trigger.specs.{all_used}
 use Rattle.am_expire.proofs.ordered.OrderedTriggers.touch_all_reserved.Given as goal
 
 abbrev pub invariant-loop-trigger : goal.invariant-loop-trigger

@@ -1,6 +1,6 @@
 use Rattle.std.proofs.Common.{sym, subst}
-use Rattle.am_trigger.specs.Rows.{TriggerRows}
-use Rattle.am_expire.specs.Order.{IsListed}
+use Rattle.am_trigger.specs.{TriggerRows}
+use Rattle.am_expire.specs.{IsListed}
 use Rattle.am_expire.proofs.ordered.OrderedTriggers.touch_reserved.Goals as goal
 
 pub invariant_of-self : goal.invariant_of-self

@@ -1,6 +1,5 @@
 use Rattle.std.proofs.Common.{ap, ◌∙◌, List}
-use Rattle.am_expire.specs.declared.uses.Use.{Use}
-use Rattle.am_expire.specs.Uses.{use_count}
+use Rattle.am_expire.specs.{Use, use_count}
 use Rattle.am_expire.proofs.uses.Uses.count.Goals as goal
 
 pub returns : goal.returns

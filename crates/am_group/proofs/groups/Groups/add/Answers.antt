@@ -1,11 +1,9 @@
 use Rattle.std.proofs.Common.{◌≡◌, ℕ, List, length, true, None, ap, sym, subst, ◌∙◌}
 use Rattle.std.specs.List.{insert}
 use Rattle.am_names.proofs.Basics.{none_where_not_some}
-use Rattle.am_names.specs.declared.row.MemberRow.{MemberRow}
+use Rattle.am_names.specs.{MemberRow}
 use Rattle.am_names.specs.PeerGroups.{PeerGroups}
-use Rattle.am_group.specs.Propagation.{member_row}
-use Rattle.am_group.specs.Invariant.{IsOrderly, IsPeopled, AddsNoReceivers}
-use Rattle.am_group.specs.Members.{row_with, below, with_member, may_have}
+use Rattle.am_group.specs.{member_row, IsOrderly, IsPeopled, AddsNoReceivers, row_with, below, with_member, may_have}
 use Rattle.am_group.proofs.LiftLemmas.{same_state}
 use Rattle.am_group.proofs.MemberLemmas.{put_rows, member_orderly, member_law, member_peopled}
 use Rattle.am_group.proofs.groups.Groups.add.Goals as goal

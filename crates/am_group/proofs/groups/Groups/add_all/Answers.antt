@@ -1,8 +1,7 @@
 use Rattle.std.proofs.Common.{rules, ◌≡◌, ℕ, ◌+◌, ◌++◌, List, length, refl, ap, sym, subst, ◌∙◌}
-use Rattle.am_names.specs.declared.row.MemberRow.{MemberRow}
+use Rattle.am_names.specs.{MemberRow}
 use Rattle.am_names.specs.PeerGroups.{PeerGroups}
-use Rattle.am_group.specs.Copies.{added, all_added}
-use Rattle.am_group.specs.Invariant.{IsOrderly, IsPeopled, AddsNoReceivers}
+use Rattle.am_group.specs.{added, all_added, IsOrderly, IsPeopled, AddsNoReceivers}
 use Rattle.am_group.proofs.AddLemmas.{added_law}
 use Rattle.am_group.proofs.LiftLemmas.{same_state}
 use Rattle.am_group.proofs.groups.Groups.add_all.Goals as goal

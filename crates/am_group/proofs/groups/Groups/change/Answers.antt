@@ -1,10 +1,8 @@
 use Rattle.std.proofs.Common.{subst, sym}
 use Rattle.std.specs.Prelude.{OnOk}
 use Rattle.am_names.specs.PeerGroups.{PeerGroups}
-use Rattle.am_group.specs.declared.kind.Change.{Change}
-use Rattle.am_group.specs.declared.kind.Change.TheVariants.{MakeShared, MakeSlave, MakePrivate, MakeUnbindable}
-use Rattle.am_group.specs.Invariant.{IsOrderly}
-use Rattle.am_group.specs.Kinds.{FollowsTable}
+use Rattle.am_group.specs.{Change, IsOrderly, FollowsTable}
+use Rattle.am_group.specs.declared.mount_state.Change.TheVariants.{MakeShared, MakeSlave, MakePrivate, MakeUnbindable}
 use Rattle.am_group.proofs.TableLemmas.{table_ok}
 use Rattle.am_group.proofs.groups.Groups.change.Goals as goal
 

@@ -1,8 +1,6 @@
 use Rattle.std.proofs.Common.{◌≡◌, ◌+◌, ◌++◌, [], ◌∷◌, true, ap, sym, subst, ◌∙◌}
 use Rattle.am_names.specs.PeerGroups.{PeerGroups}
-use Rattle.am_group.specs.Changes.{with_group}
-use Rattle.am_group.specs.Invariant.{IsOrderly, IsPeopled, AddsNoReceivers}
-use Rattle.am_group.specs.Members.{may_be_master}
+use Rattle.am_group.specs.{with_group, IsOrderly, IsPeopled, AddsNoReceivers, may_be_master}
 use Rattle.am_group.proofs.LiftLemmas.{same_state}
 use Rattle.am_group.proofs.JoinLemmas.{master_there, master_member, with_group_orderly, with_group_peopled, with_group_law}
 use Rattle.am_group.proofs.groups.Groups.fresh.Goals as goal

@@ -1,11 +1,8 @@
 use Rattle.std.proofs.Common.{◌≡◌, Some, true, sym, ap, subst, ◌∙◌}
 use Rattle.std.specs.Prelude.{map}
-use Rattle.am_names.specs.declared.row.MemberRow.{MemberRow}
+use Rattle.am_names.specs.{MemberRow}
 use Rattle.am_names.specs.PeerGroups.{PeerGroups}
-use Rattle.am_group.specs.Propagation.{member_row}
-use Rattle.am_group.specs.Changes.{left, at_row, with_row}
-use Rattle.am_group.specs.Invariant.{IsOrderly, IsPeopled, AddsNoReceivers}
-use Rattle.am_group.specs.Tables.{row_of, is_not_alone}
+use Rattle.am_group.specs.{member_row, left, at_row, with_row, IsOrderly, IsPeopled, AddsNoReceivers, row_of, is_not_alone}
 use Rattle.am_group.proofs.ChangeLemmas.{left_orderly}
 use Rattle.am_group.proofs.KindLemmas.{change_orderly, change_law, change_peopled}
 use Rattle.am_group.proofs.SpareLemmas.{changed_alone}

@@ -3,8 +3,7 @@ use Rattle.std.specs.Prelude.{◌==◌}
 use Rattle.std.specs.List.Sorted.{IsNonDecreasing}
 use Rattle.std.proofs.lemmas.List.{append-nil}
 use Rattle.am_names.specs.PeerGroups.{PeerGroups}
-use Rattle.am_group.specs.Invariant.{IsOrderly}
-use Rattle.am_group.specs.Scan.{is_one_of}
+use Rattle.am_group.specs.{IsOrderly, is_one_of}
 use Rattle.am_group.proofs.UnderLemmas.{below_before_ordered, next_below}
 use Rattle.am_group.proofs.groups.Groups.groups_below.Goals.{then-is_next+in_ok-push, else-is_next}
 use Rattle.am_group.proofs.groups.Groups.groups_below.Goals as goal

@@ -1,6 +1,6 @@
 use Rattle.std.proofs.Common.{◌≡◌, take}
 use Rattle.std.specs.Prelude.{filter}
-use Rattle.am_group.specs.Receivers.{is_below, group_numbers}
+use Rattle.am_group.specs.{is_below, group_numbers}
 use Rattle.am_group.proofs.groups.Groups.groups_below.Given as goal
 
 abbrev pub invariant-loop-row : goal.invariant-loop-row

@@ -1,5 +1,5 @@
 use Rattle.std.proofs.Common.{take}
-use Rattle.am_group.specs.Copies.{AreOfReceivers}
+use Rattle.am_group.specs.{AreOfReceivers}
 use Rattle.am_group.proofs.groups.Groups.groups_of.Given as goal
 
 abbrev pub invariant-loop-receiver : goal.invariant-loop-receiver

@@ -3,9 +3,8 @@ use Rattle.std.specs.Prelude.{◌==◌}
 use Rattle.std.specs.List.Sorted.{IsNonDecreasing}
 use Rattle.std.proofs.lemmas.List.{append-nil}
 use Rattle.am_names.specs.PeerGroups.{PeerGroups}
-use Rattle.am_group.specs.Invariant.{IsOrderly}
-use Rattle.am_group.specs.Changes.{is_among}
-use Rattle.am_group.specs.Scan.{is_one_of}
+use Rattle.am_group.specs.{IsOrderly, is_one_of}
+use Rattle.am_names.specs.{is_among}
 use Rattle.am_group.proofs.UnderLemmas.{before_ordered, next_under}
 use Rattle.am_group.proofs.groups.Groups.groups_under.Goals.{then-is_live_next+in_ok-push, else-is_live_next}
 use Rattle.am_group.proofs.groups.Groups.groups_under.Goals as goal

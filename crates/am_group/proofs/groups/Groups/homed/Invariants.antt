@@ -1,5 +1,5 @@
 use Rattle.std.proofs.Common.{◌≡◌, take}
-use Rattle.am_group.specs.Receivers.{under_these}
+use Rattle.am_group.specs.{under_these}
 use Rattle.am_group.proofs.groups.Groups.homed.Given as goal
 
 abbrev pub invariant-loop-row : goal.invariant-loop-row

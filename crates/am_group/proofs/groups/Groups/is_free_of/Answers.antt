@@ -1,11 +1,9 @@
 use Rattle.std.proofs.Common.{◌≡◌, List, ℕ, [], true, not, sym, ap, ◌∙◌}
 use Rattle.std.proofs.lemmas.Bool.{OnTrue_from}
 use Rattle.std.specs.List.{list_all}
-use Rattle.am_names.specs.declared.row.MemberRow.{MemberRow}
-use Rattle.am_names.specs.declared.row.GroupRow.{GroupRow}
+use Rattle.am_names.specs.{MemberRow, GroupRow, is_among}
 use Rattle.am_names.specs.PeerGroups.{PeerGroups}
-use Rattle.am_group.specs.Changes.{is_among, with_only}
-use Rattle.am_group.specs.Tables.{is_free_group, is_free_member, is_free_of}
+use Rattle.am_group.specs.{with_only, is_free_group, is_free_member, is_free_of}
 use Rattle.am_group.proofs.LostLemmas.{free_of_none, free_staying, none_of_length}
 use Rattle.am_group.proofs.groups.Groups.is_free_of.Goals as goal
 

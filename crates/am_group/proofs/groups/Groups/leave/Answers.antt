@@ -1,10 +1,8 @@
 use Rattle.std.proofs.Common.{◌≡◌, List, ℕ, true, not, sym, ap, subst, rules, ◌∙◌}
 use Rattle.std.specs.Prelude.{filter}
-use Rattle.am_names.specs.declared.row.GroupRow.{GroupRow}
+use Rattle.am_names.specs.{GroupRow, is_among}
 use Rattle.am_names.specs.PeerGroups.{PeerGroups}
-use Rattle.am_group.specs.Changes.{is_among, left, with_only}
-use Rattle.am_group.specs.Invariant.{IsOrderly, IsPeopled, AddsNoReceivers}
-use Rattle.am_group.specs.Tables.{is_free_of, without_groups}
+use Rattle.am_group.specs.{left, with_only, IsOrderly, IsPeopled, AddsNoReceivers, is_free_of, without_groups}
 use Rattle.am_group.proofs.ChangeLemmas.{only_orderly, without_orderly, without_keeps}
 use Rattle.am_group.proofs.LiftLemmas.{same_state}
 use Rattle.am_group.proofs.LostLemmas.{left_where}

@@ -1,7 +1,7 @@
 use Rattle.std.proofs.Common.{◌&&◌, List, ap, ◌∙◌}
-use Rattle.am_names.specs.declared.row.MemberRow.{MemberRow}
+use Rattle.am_names.specs.{MemberRow, is_among}
 use Rattle.am_names.specs.PeerGroups.{PeerGroups}
-use Rattle.am_group.specs.Changes.{has_members, is_among}
+use Rattle.am_group.specs.{has_members}
 use Rattle.am_group.proofs.AmongLemmas.{kept_where_none_goes}
 use Rattle.am_group.proofs.groups.Groups.live_among.Goals as goal
 

@@ -1,9 +1,8 @@
 use Rattle.std.proofs.Common.{◌≡◌, List, ℕ, [], refl, sym, subst, rules, ◌∙◌}
 use Rattle.std.specs.Prelude.{filter, not}
 use Rattle.am_names.specs.PeerGroups.{PeerGroups}
-use Rattle.am_group.specs.Changes.{is_among}
-use Rattle.am_group.specs.Invariant.{IsOrderly}
-use Rattle.am_group.specs.Tables.{AreLive, AreLiveAmong, AreOthers, AreLost}
+use Rattle.am_names.specs.{is_among}
+use Rattle.am_group.specs.{IsOrderly, AreLive, AreLiveAmong, AreOthers, AreLost}
 use Rattle.am_group.proofs.LostLemmas.{groups_that_go, lost_exact, none_of_length}
 use Rattle.am_group.proofs.groups.Groups.lost.Goals as goal
 

@@ -1,11 +1,9 @@
 use Rattle.std.proofs.Common.{◌≡◌, ◌+◌, ◌++◌, [], ◌∷◌, Some, None, ap, sym, subst, ◌∙◌}
 use Rattle.std.specs.Prelude.{map}
 use Rattle.am_names.proofs.Basics.{none_where_not_some}
-use Rattle.am_names.specs.declared.row.MemberRow.{MemberRow}
+use Rattle.am_names.specs.{MemberRow}
 use Rattle.am_names.specs.PeerGroups.{PeerGroups}
-use Rattle.am_group.specs.Propagation.{member_row}
-use Rattle.am_group.specs.Changes.{at_row, shared_row}
-use Rattle.am_group.specs.Invariant.{IsOrderly, IsPeopled, AddsNoReceivers}
+use Rattle.am_group.specs.{member_row, at_row, shared_row, IsOrderly, IsPeopled, AddsNoReceivers}
 use Rattle.am_group.proofs.LiftLemmas.{same_state}
 use Rattle.am_group.proofs.SharedLemmas.{shared_here, shared_orderly, made_shared_keeps}
 use Rattle.am_group.proofs.SpareLemmas.{shared_alone}

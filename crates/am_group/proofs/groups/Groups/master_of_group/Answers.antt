@@ -1,8 +1,7 @@
 use Rattle.std.proofs.Common.{◌≡◌, ◌<◌, ℕ, Option, Some, None, refl, ap, subst, ◌∙◌}
 use Rattle.std.specs.Prelude.{IfSome}
 use Rattle.am_names.specs.PeerGroups.{PeerGroups}
-use Rattle.am_group.specs.Propagation.{group_row, master_in}
-use Rattle.am_group.specs.Invariant.{IsOrderly}
+use Rattle.am_group.specs.{group_row, master_in, IsOrderly}
 use Rattle.am_group.proofs.groups.Groups.master_of_group.Goals as goal
 
 pub returns-in-Some-clause-lower : goal.returns-in-Some-clause-lower

@@ -2,10 +2,7 @@ use Rattle.std.proofs.Common.{◌≡◌, ◌↔◌, ℕ, List, Some, None, sym, 
 use Rattle.std.specs.List.{Contains}
 use Rattle.std.specs.List.Sorted.{IsNonDecreasing, IsStrictlyIncreasing}
 use Rattle.am_names.specs.PeerGroups.{PeerGroups}
-use Rattle.am_group.specs.Propagation.{group_of, Receives}
-use Rattle.am_group.specs.Invariant.{IsOrderly}
-use Rattle.am_group.specs.Receivers.{under_these, receivers_of}
-use Rattle.am_group.specs.Tables.{AreLiveAmong}
+use Rattle.am_group.specs.{group_of, Receives, IsOrderly, under_these, receivers_of, AreLiveAmong}
 use Rattle.am_group.proofs.EarlyLemmas.{none_exact, none_listed}
 use Rattle.am_group.proofs.UnderLemmas.{below_ordered, under_ordered, homed_listed, receivers_exact, receivers_rise}
 use Rattle.am_group.proofs.groups.Groups.receivers.Goals as goal

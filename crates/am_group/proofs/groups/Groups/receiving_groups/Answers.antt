@@ -1,9 +1,8 @@
 use Rattle.std.proofs.Common.{◌&&◌, Bool, List, ℕ, ap, ◌∙◌}
 use Rattle.std.specs.Prelude.{◌==◌, map, filter, not}
-use Rattle.am_names.specs.declared.row.GroupRow.{GroupRow}
+use Rattle.am_names.specs.{GroupRow, is_among}
 use Rattle.am_names.specs.PeerGroups.{PeerGroups}
-use Rattle.am_group.specs.Changes.{is_among}
-use Rattle.am_group.specs.Copies.{has_receiver}
+use Rattle.am_group.specs.{has_receiver}
 use Rattle.am_group.proofs.ScanLemmas.{kept_same}
 use Rattle.am_group.proofs.groups.Groups.receiving_groups.Goals as goal
 

@@ -1,12 +1,9 @@
 use Rattle.std.proofs.Common.{◌≡◌, List, ℕ, sym, ap, subst, ◌∙◌}
 use Rattle.std.specs.Prelude.{map, filter}
-use Rattle.am_names.specs.declared.row.MemberRow.{MemberRow}
-use Rattle.am_names.specs.declared.row.GroupRow.{GroupRow}
+use Rattle.am_names.specs.{MemberRow, GroupRow}
 use Rattle.am_names.specs.PeerGroups.{PeerGroups}
-use Rattle.am_group.specs.Changes.{lifted_member, lifted_group, left}
-use Rattle.am_group.specs.Invariant.{IsOrderly}
-use Rattle.am_group.specs.Inside.{view_of}
-use Rattle.am_group.specs.Tables.{state_of, AreLive, is_left}
+use Rattle.am_group.specs.{lifted_member, lifted_group, left, IsOrderly, state_of, AreLive, is_left}
+use Rattle.am_group.specs.View.{view_of}
 use Rattle.am_group.proofs.ChangeLemmas.{left_orderly}
 use Rattle.am_group.proofs.AmongLemmas.{left_together}
 use Rattle.am_group.proofs.groups.Groups.settle_left.Goals as goal

@@ -1,7 +1,6 @@
 use Rattle.std.proofs.Common.{◌≡◌, take}
 use Rattle.std.specs.Prelude.{map}
-use Rattle.am_group.specs.Changes.{at_row}
-use Rattle.am_group.specs.Tables.{row_of}
+use Rattle.am_group.specs.{at_row, row_of}
 use Rattle.am_group.proofs.groups.Groups.with_row.Given as goal
 
 abbrev pub invariant-loop-row : goal.invariant-loop-row

@@ -2,8 +2,7 @@ use Rattle.std.proofs.Common.{◌≡◌, List, ℕ, [], not, sym, ap, rules, tes
 use Rattle.std.specs.Prelude.{filter}
 use Rattle.std.proofs.lemmas.Fn.{filter_same}
 use Rattle.am_names.proofs.LeaveLemmas.{none_out}
-use Rattle.am_names.specs.declared.row.GroupRow.{GroupRow}
-use Rattle.am_group.specs.Changes.{is_among}
+use Rattle.am_names.specs.{GroupRow, is_among}
 use Rattle.am_group.proofs.LostLemmas.{none_of_length}
 use Rattle.am_group.proofs.groups.changes.drop_groups.Goals as goal
 

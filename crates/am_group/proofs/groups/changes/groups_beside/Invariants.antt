@@ -1,7 +1,7 @@
 use Rattle.std.proofs.Common.{take}
 use Rattle.std.specs.Prelude.{filter, not}
-use Rattle.am_group.specs.Changes.{is_among}
-use Rattle.am_group.specs.Tables.{AreLiveAmong}
+use Rattle.am_names.specs.{is_among}
+use Rattle.am_group.specs.{AreLiveAmong}
 use Rattle.am_group.proofs.groups.changes.groups_beside.Given as goal
 
 abbrev pub invariant-loop-row : goal.invariant-loop-row

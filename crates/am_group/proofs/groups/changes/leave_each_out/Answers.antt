@@ -1,8 +1,7 @@
 use Rattle.std.proofs.Common.{◌<◌, List, length, take, sym, ap, subst, ◌∙◌, rules}
 use Rattle.std.specs.Prelude.{not}
-use Rattle.am_names.specs.declared.row.MemberRow.{MemberRow}
-use Rattle.am_group.specs.Changes.{is_among}
-use Rattle.am_group.specs.Invariant.{RiseFrom}
+use Rattle.am_names.specs.{MemberRow, is_among}
+use Rattle.am_group.specs.{RiseFrom}
 use Rattle.am_group.proofs.LookupLemmas.{RiseFrom-filter}
 use Rattle.am_names.proofs.LeaveLemmas.{others, none_out, one_more_out}
 use Rattle.am_group.proofs.groups.changes.leave_each_out.Goals as goal

@@ -1,7 +1,7 @@
 use Rattle.std.proofs.Common.{◌≡◌, ◌++◌, List, suc, take, drop, sym, subst, ◌∙◌, rules}
 use Rattle.std.proofs.lemmas.List.Sorted.{answers_always}
-use Rattle.am_names.specs.declared.row.MemberRow.{MemberRow}
-use Rattle.am_group.specs.Invariant.{RiseFrom}
+use Rattle.am_names.specs.{MemberRow}
+use Rattle.am_group.specs.{RiseFrom}
 use Rattle.am_names.proofs.LeaveLemmas.{others}
 use Rattle.am_group.proofs.LeaveLemmas.{left_found, left_absent}
 use Rattle.am_group.proofs.groups.changes.leave_one_out.Goals as goal

@@ -2,9 +2,8 @@ use Rattle.std.proofs.Common.{◌≡◌, List, sym, subst, rules}
 use Rattle.std.specs.Prelude.{map}
 use Rattle.std.specs.List.{slice_set}
 use Rattle.std.proofs.lemmas.List.Sorted.{answers_always}
-use Rattle.am_names.specs.declared.row.MemberRow.{MemberRow}
-use Rattle.am_group.specs.Changes.{at_row}
-use Rattle.am_group.specs.Invariant.{RiseFrom}
+use Rattle.am_names.specs.{MemberRow}
+use Rattle.am_group.specs.{at_row, RiseFrom}
 use Rattle.am_group.proofs.SpareLemmas.{written_found, written_absent}
 use Rattle.am_group.proofs.groups.changes.write_row.Goals as goal
 

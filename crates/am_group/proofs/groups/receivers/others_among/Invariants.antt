@@ -1,6 +1,6 @@
 use Rattle.std.proofs.Common.{◌≡◌, ◌&&◌, take}
 use Rattle.std.specs.Prelude.{◌==◌, map, filter, not}
-use Rattle.am_group.specs.Changes.{is_among}
+use Rattle.am_names.specs.{is_among}
 use Rattle.am_group.proofs.groups.receivers.others_among.Given as goal
 
 abbrev pub invariant-loop-row : goal.invariant-loop-row

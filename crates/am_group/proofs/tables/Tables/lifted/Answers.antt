@@ -1,6 +1,5 @@
 use Rattle.std.proofs.Common.{◌≡◌, false, ap, sym, ◌∙◌}
-use Rattle.am_group.specs.Changes.{lifted}
-use Rattle.am_group.specs.Tables.{state_of, is_left}
+use Rattle.am_group.specs.{lifted, state_of, is_left}
 use Rattle.am_group.proofs.LiftLemmas.{lifted_step}
 use Rattle.am_group.proofs.tables.Tables.lifted.Goals as goal
 

@@ -1,7 +1,6 @@
 use Rattle.std.proofs.Common.{◌≡◌, take}
 use Rattle.std.specs.Prelude.{map}
-use Rattle.am_group.specs.Changes.{lifted_member}
-use Rattle.am_group.specs.Tables.{state_of, is_left}
+use Rattle.am_group.specs.{lifted_member, state_of, is_left}
 use Rattle.am_group.proofs.tables.Tables.settled_members.Given as goal
 
 abbrev pub invariant-loop-row : goal.invariant-loop-row

@@ -1,21 +1,19 @@
 use Rattle.std.proofs.Common.{Some, ap, ◌∙◌}
 use Rattle.std.specs.Prelude.{if◌then◌else◌}
-use Rattle.am_names.specs.Trigger.{same_trigger}
-use Rattle.am_names.specs.contracts.trigger.TriggerPartialEq.TheImpl.{eq-value}
-use Rattle.am_job.specs.Book.{with_record, record_of}
-use Rattle.am_job.specs.Inside.{rows_of}
-use Rattle.am_job.specs.Table.{BookTable}
-use Rattle.am_names.proofs.SameTriggers.{key_is}
+use Rattle.am_names.specs.{same_trigger, eq-value}
+use Rattle.am_job.specs.{with_record, record_of, BookTable}
+use Rattle.am_job.specs.View.{rows_of}
+use Rattle.am_names.proofs.SameTriggers.{key_is_same_trigger}
 use Rattle.am_job.proofs.BookLemmas.{insert_is, recorded_is}
 use Rattle.am_job.proofs.book.Book.put.Goals as goal
 
 pub returns-clause-ok : goal.returns-clause-ok
 returns-clause-ok c =
     ap rows_of c.in_ok-insert.ensures.ok
-    ∙ insert_is eq-value.it key_is c.args.trigger c.args.entry c.self.inside.records.entries c.insert.ensures.unique
+    ∙ insert_is eq-value.it key_is_same_trigger c.args.trigger c.args.entry c.self.inside.records.entries c.insert.ensures.unique
     ∙ ap (λ (t : BookTable). with_record c.args.trigger c.args.entry t.rows) c.self.view_is
 
 pub returns-clause-map : goal.returns-clause-map
 returns-clause-map c g =
-    recorded_is eq-value.it key_is c.args.trigger g (Some c.args.entry) c.self.inside.records.entries c.insert.new.self.entries (c.in_ok-insert.ensures.map g)
+    recorded_is eq-value.it key_is_same_trigger c.args.trigger g (Some c.args.entry) c.self.inside.records.entries c.insert.new.self.entries (c.in_ok-insert.ensures.map g)
     ∙ ap (λ (t : BookTable). if same_trigger c.args.trigger g then Some c.args.entry else record_of t.rows g) c.self.view_is

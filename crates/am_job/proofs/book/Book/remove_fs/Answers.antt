@@ -1,8 +1,7 @@
 use Rattle.std.proofs.Common.{◌==◌, Bool, List, not, ap, ◌∙◌}
-use Rattle.am_state.specs.declared.daemon_row.RecordRow.{RecordRow}
-use Rattle.am_job.specs.Book.{record_of, without_fs}
-use Rattle.am_job.specs.Inside.{rows_of}
-use Rattle.am_job.specs.Table.{BookTable}
+use Rattle.am_state.specs.{RecordRow}
+use Rattle.am_job.specs.{record_of, without_fs, BookTable}
+use Rattle.am_job.specs.View.{rows_of}
 use Rattle.am_job.proofs.BookLemmas.{rows_left, forgotten}
 use Rattle.am_job.proofs.book.Book.remove_fs.Goals as goal
 

@@ -1,11 +1,8 @@
 use Rattle.std.proofs.Common.{◌≡◌, sym, ap, subst, ◌∙◌}
 use Rattle.std.specs.Prelude.{IfSome}
 use Rattle.am_job.specs.declared.left.Left.{Left}
-use Rattle.am_job.specs.Job.{JobState, plan_of}
-use Rattle.am_job.specs.JobInside.{job_of}
-use Rattle.am_job.specs.Left.{plan_left}
-use Rattle.am_job.specs.Laws.{IsLawful, ClaimsFollow}
-use Rattle.am_job.specs.Plans.{Plan, next_of, rest_of, claims}
+use Rattle.am_job.specs.{JobState, plan_of, plan_left, IsLawful, ClaimsFollow, Plan, next_of, rest_of, claims}
+use Rattle.am_job.specs.JobView.{job_of}
 use Rattle.am_job.proofs.PlanLemmas.{rest_lawful, rest_claims}
 use Rattle.am_job.proofs.job.Job.done.Goals as goal
 

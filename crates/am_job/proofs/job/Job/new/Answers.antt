@@ -1,5 +1,5 @@
 use Rattle.std.proofs.Common.{sym, subst}
-use Rattle.am_job.specs.Laws.{IsLawful}
+use Rattle.am_job.specs.{IsLawful}
 use Rattle.am_job.proofs.PlanLemmas.{plan_lawful, plan_acknowledges, plan_records, plan_claims}
 use Rattle.am_job.proofs.job.Job.new.Goals as goal
 

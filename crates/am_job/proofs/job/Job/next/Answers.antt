@@ -1,6 +1,5 @@
 use Rattle.std.proofs.Common.{subst}
-use Rattle.am_job.specs.Job.{JobState, plan_of}
-use Rattle.am_job.specs.Laws.{IsLawful}
+use Rattle.am_job.specs.{JobState, plan_of, IsLawful}
 use Rattle.am_job.proofs.job.Job.next.Goals as goal
 
 pub returns-in-Next-clause-laws : goal.returns-in-Next-clause-laws

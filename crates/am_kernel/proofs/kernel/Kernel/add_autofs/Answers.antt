@@ -1,7 +1,6 @@
 use Rattle.std.proofs.Common.{◌≡◌, ◌≤◌, ◌+◌, ◌∷◌, ◌++◌, [], false, ℕ, List, refl, sym, ap, subst, ◌∙◌}
 use Rattle.std.specs.List.{All}
-use Rattle.am_trigger.specs.declared.autofs.Autofs.{Autofs}
-use Rattle.am_trigger.specs.Rows.{TriggerRows, add_refusal, with_autofs}
+use Rattle.am_trigger.specs.{Autofs, TriggerRows, add_refusal, with_autofs}
 use Rattle.am_kernel.proofs.MountLemmas.{next_is_new, next_is_sound}
 use Rattle.am_kernel.proofs.kernel.Kernel.add_autofs.Goals as goal
 

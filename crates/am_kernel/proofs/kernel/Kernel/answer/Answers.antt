@@ -1,6 +1,6 @@
 use Rattle.std.proofs.Common.{◌≡◌, ◌≤◌, ◌+◌, true, length, sym, subst, ◌∙◌, arith}
 use Rattle.std.specs.Prelude.{is_some}
-use Rattle.am_wait.specs.Rows.{WaitRows, token_of}
+use Rattle.am_wait.specs.{WaitRows, token_of}
 use Rattle.am_kernel.proofs.TokenLemmas.{one_fewer, mapped_some}
 use Rattle.am_kernel.proofs.kernel.Kernel.answer.Goals as goal
 

@@ -1,6 +1,6 @@
 use Rattle.std.proofs.Common.{ap, ◌∙◌}
-use Rattle.am_kernel.specs.Inside.{kernel_of}
-use Rattle.am_kernel.specs.Namespaces.{with_namespace}
+use Rattle.am_kernel.specs.View.{kernel_of}
+use Rattle.am_kernel.specs.{with_namespace}
 use Rattle.am_kernel.proofs.MountLemmas.{with_table}
 use Rattle.am_kernel.proofs.kernel.Kernel.ns_copy.Goals as goal
 

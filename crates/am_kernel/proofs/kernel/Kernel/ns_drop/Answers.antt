@@ -1,6 +1,6 @@
 use Rattle.std.proofs.Common.{ap, ◌∙◌}
-use Rattle.am_kernel.specs.Inside.{kernel_of}
-use Rattle.am_kernel.specs.Namespaces.{without_namespace}
+use Rattle.am_kernel.specs.View.{kernel_of}
+use Rattle.am_kernel.specs.{without_namespace}
 use Rattle.am_kernel.proofs.MountLemmas.{with_table}
 use Rattle.am_kernel.proofs.kernel.Kernel.ns_drop.Goals as goal
 

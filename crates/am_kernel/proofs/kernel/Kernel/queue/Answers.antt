@@ -1,17 +1,12 @@
 use Rattle.std.proofs.Common.{◌≡◌, ◌+◌, ◌++◌, ◌∷◌, [], ℕ, List, sym, ap, ◌∙◌, refl}
 use Rattle.am_names.specs.declared.trigger.Trigger.{Trigger}
-use Rattle.am_wire.specs.declared.packet.Packet.{Packet}
-use Rattle.am_state.specs.declared.obs.Obs.{Obs}
-use Rattle.am_state.specs.declared.kernel_row.QueuedRow.{QueuedRow}
-use Rattle.am_state.specs.Packets.{with_token}
+use Rattle.am_wire.specs.{Packet}
+use Rattle.am_state.specs.{Obs, QueuedRow, with_token}
 use Rattle.am_names.specs.declared.row.TokenKind.TheVariants.{Missing}
-use Rattle.am_trigger.specs.Rows.{used, all_used}
-use Rattle.am_wait.specs.Calls.{reopened}
-use Rattle.am_kernel.specs.declared.row.WalkRow.{WalkRow}
-use Rattle.am_kernel.specs.State.{KernelState}
-use Rattle.am_kernel.specs.Walks.{without_walk, with_walk, with_notified}
-use Rattle.am_kernel.specs.Inside.{kernel_of}
-use Rattle.am_kernel.specs.Waited.{expired_uses, forgotten_walks}
+use Rattle.am_trigger.specs.{used, all_used}
+use Rattle.am_wait.specs.{reopened}
+use Rattle.am_kernel.specs.{WalkRow, KernelState, without_walk, with_walk, with_notified, expired_uses, walks_ended}
+use Rattle.am_kernel.specs.View.{kernel_of}
 use Rattle.am_kernel.proofs.FreeLemmas.{put_again, without_wait}
 use Rattle.am_kernel.proofs.NotifyLemmas.{notified_as, shown_with, packet_of}
 use Rattle.am_kernel.proofs.kernel.Kernel.queue.Goals as goal
@@ -20,7 +15,7 @@ pub returns : goal.returns
 returns c =
     let k = c.args.self.now in
     let old = kernel_of c.self.inside in
-    let b = c.args.begin.now in
+    let b = c.args.attempt.now in
     let w = c.args.waited.now in
     let trigger = c.args.trigger.now in
     let attach = c.args.attach in
@@ -33,7 +28,7 @@ returns c =
     let triggers : c.touch_reserved.new.self.rows ≡ used trigger b.moment (all_used passed b.moment (expired_uses w b.moment old.triggers)) =
     c.touch_reserved.ensures.rows ∙ ap (used trigger b.moment) (c.touch_all_reserved.ensures.rows ∙ ap (all_used passed b.moment) (c.touch_expired.ensures.rows ∙ ap (expired_uses w b.moment) c.reserve_uses.ensures.rows)) in
     let waits : c.reopen.new.self ≡ reopened trigger Missing b.walker old.waits = c.in_ok-token.ensures.ok in
-    let walks : c.put.new.self.rows ≡ with_walk b (forgotten_walks w b.walker old.walks) =
+    let walks : c.put.new.self.rows ≡ with_walk b (walks_ended w b.walker old.walks) =
     c.put.ensures ∙ ap (λ (r : WalkRow). without_walk r.walker c.reserve-2.new.self.rows ++ r ∷ []) c.in_ok-row.ensures ∙ ap (with_walk b) c.reserve-2.ensures.rows ∙ sym (put_again w b old.walks) in
     let queue : c.push_reserved.new.self.items ≡ old.queue ++ row (old.waits.last_token + 1) (packet_of b trigger (old.waits.last_token + 1)) ∷ [] =
     c.push_reserved.ensures.items ∙ ap (λ (rows : List QueuedRow). rows ++ row c.in_ok-token.token c.to_packet.result ∷ []) c.reserve-3.ensures.items ∙ ap (λ (packet : Packet). old.queue ++ row c.in_ok-token.token packet ∷ []) packet ∙ ap (λ (token : ℕ). old.queue ++ row token (packet_of b trigger token) ∷ []) next in

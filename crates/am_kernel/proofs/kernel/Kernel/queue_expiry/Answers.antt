@@ -1,16 +1,12 @@
 use Rattle.std.proofs.Common.{◌≡◌, ◌+◌, ◌++◌, ◌∷◌, [], ℕ, List, ap, ◌∙◌, refl}
 use Rattle.am_names.specs.declared.trigger.Trigger.{Trigger}
-use Rattle.am_wire.specs.declared.packet.Packet.{Packet}
-use Rattle.am_state.specs.declared.obs.Obs.{Obs}
-use Rattle.am_state.specs.declared.kernel_row.QueuedRow.{QueuedRow}
-use Rattle.am_state.specs.Packets.{with_token}
+use Rattle.am_wire.specs.{Packet}
+use Rattle.am_state.specs.{Obs, QueuedRow, with_token}
 use Rattle.am_names.specs.declared.row.TokenKind.TheVariants.{Expire}
-use Rattle.am_wait.specs.Calls.{opened}
-use Rattle.am_kernel.specs.declared.begun.Begun.TheVariants.{Waits}
-use Rattle.am_kernel.specs.State.{KernelState}
-use Rattle.am_kernel.specs.Observations.{passes}
-use Rattle.am_kernel.specs.Inside.{kernel_of}
-use Rattle.am_kernel.specs.Expires.{with_expiring}
+use Rattle.am_wait.specs.{opened}
+use Rattle.am_kernel.specs.declared.progress.Progress.TheVariants.{Waits}
+use Rattle.am_kernel.specs.{KernelState, passes, with_expiring}
+use Rattle.am_kernel.specs.View.{kernel_of}
 use Rattle.am_kernel.proofs.ExpireLemmas.{shown_expiring, expiry_packet}
 use Rattle.am_kernel.proofs.kernel.Kernel.queue_expiry.Goals as goal
 

@@ -1,7 +1,6 @@
 use Rattle.std.proofs.Common.{◌≤◌, false, sym, subst, arith}
 use Rattle.std.specs.List.{All}
-use Rattle.am_trigger.specs.declared.autofs.Autofs.{Autofs}
-use Rattle.am_trigger.specs.Rows.{TriggerRows}
+use Rattle.am_trigger.specs.{Autofs, TriggerRows}
 use Rattle.am_kernel.proofs.WalkLemmas.{catatonic_within}
 use Rattle.am_kernel.proofs.kernel.Kernel.set_pipe.Goals as goal
 

@@ -2,8 +2,7 @@ use Rattle.std.proofs.Common.{◌≡◌, ◌∷◌, ◌++◌, [], ℕ, List, Opt
 use Rattle.std.specs.List.{flat_map}
 use Rattle.std.proofs.lemmas.List.{append-nil, take_all}
 use Rattle.am_names.specs.declared.trigger.Trigger.{Trigger}
-use Rattle.am_kernel.specs.State.{KernelState}
-use Rattle.am_kernel.specs.DaemonMounts.{trigger_under, standing_on, standing_row}
+use Rattle.am_kernel.specs.{KernelState, trigger_under, standing_on, standing_row}
 use Rattle.am_kernel.proofs.MountLemmas.{flat_one_more}
 use Rattle.am_kernel.proofs.kernel.Kernel.standing_of.Goals as goal
 use Rattle.am_kernel.proofs.kernel.Kernel.standing_of.Goals.{in-Some+in_ok-push, in_default}

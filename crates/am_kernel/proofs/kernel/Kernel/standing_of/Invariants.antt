@@ -1,6 +1,6 @@
 use Rattle.std.proofs.Common.{◌≡◌, take}
 use Rattle.std.specs.List.{flat_map}
-use Rattle.am_kernel.specs.DaemonMounts.{standing_row}
+use Rattle.am_kernel.specs.{standing_row}
 use Rattle.am_kernel.proofs.kernel.Kernel.standing_of.Given as goal
 
 abbrev pub invariant-loop-row : goal.invariant-loop-row

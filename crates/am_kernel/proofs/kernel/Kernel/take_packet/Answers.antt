@@ -1,9 +1,9 @@
 use Rattle.std.proofs.Common.{◌≡◌, ◌==◌, not, ap, ◌∙◌, rules, tests}
 use Rattle.std.specs.Prelude.{filter}
 use Rattle.std.proofs.lemmas.Fn.{filter_same}
-use Rattle.am_state.specs.declared.kernel_row.QueuedRow.{QueuedRow}
-use Rattle.am_kernel.specs.Inside.{kernel_of}
-use Rattle.am_kernel.specs.Requests.{without_packet}
+use Rattle.am_state.specs.{QueuedRow}
+use Rattle.am_kernel.specs.View.{kernel_of}
+use Rattle.am_kernel.specs.{without_packet}
 use Rattle.am_kernel.proofs.MountLemmas.{with_queue}
 use Rattle.am_kernel.proofs.kernel.Kernel.take_packet.Goals as goal
 

@@ -1,6 +1,6 @@
 use Rattle.std.proofs.Common.{◌≡◌, ℕ, Option, Some, subst, rules}
 use Rattle.std.specs.Prelude.{OnOk}
-use Rattle.am_kernel.specs.DaemonMounts.{gone_with, mounted_on, without_mounts}
+use Rattle.am_kernel.specs.{gone_with, mounted_on, without_mounts}
 use Rattle.am_kernel.proofs.kernel.Kernel.umount_from.Goals as goal
 
 pub returns-clause-ok : goal.returns-clause-ok

@@ -1,10 +1,9 @@
 use Rattle.std.proofs.Common.{◌≡◌, subst, ap}
 use Rattle.std.specs.Prelude.{IfOk, OnOk}
 use Rattle.std.proofs.lemmas.Result.{on_ok_weaker}
-use Rattle.am_propagate.specs.Removed.{unmounted}
-use Rattle.am_kernel.specs.Inside.{kernel_of}
-use Rattle.am_kernel.specs.State.{KernelState}
-use Rattle.am_kernel.specs.DaemonMounts.{without_mounts}
+use Rattle.am_propagate.specs.{unmounted}
+use Rattle.am_kernel.specs.View.{kernel_of}
+use Rattle.am_kernel.specs.{KernelState, without_mounts}
 use Rattle.am_kernel.proofs.MountLemmas.{with_table}
 use Rattle.am_kernel.proofs.kernel.Kernel.umount_mount.Goals as goal
 

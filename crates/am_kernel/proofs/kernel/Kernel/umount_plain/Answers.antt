@@ -1,7 +1,6 @@
 use Rattle.std.proofs.Common.{ℕ, List, ap, sym, ◌∙◌}
 use Rattle.std.proofs.lemmas.Result.{on_ok_weaker}
-use Rattle.am_kernel.specs.Administration.{gone_at}
-use Rattle.am_kernel.specs.DaemonMounts.{without_mounts}
+use Rattle.am_kernel.specs.{gone_at, without_mounts}
 use Rattle.am_kernel.proofs.kernel.Kernel.umount_plain.Goals as goal
 
 pub returns-clause-ok : goal.returns-clause-ok

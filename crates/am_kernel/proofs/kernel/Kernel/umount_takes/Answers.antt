@@ -1,10 +1,9 @@
 use Rattle.std.proofs.Common.{◌≡◌, sym, subst}
 use Rattle.std.specs.Prelude.{IfOk, Result}
 use Rattle.am_names.specs.declared.errno.Errno.{Errno}
-use Rattle.am_names.specs.declared.row.Position.{Position}
-use Rattle.am_propagate.specs.Removed.{unmounted}
-use Rattle.am_kernel.specs.State.{KernelState}
-use Rattle.am_kernel.specs.Administration.{gone_at}
+use Rattle.am_names.specs.{Position}
+use Rattle.am_propagate.specs.{unmounted}
+use Rattle.am_kernel.specs.{KernelState, gone_at}
 use Rattle.am_kernel.proofs.kernel.Kernel.umount_takes.Goals as goal
 
 pub returns-clause-ok : goal.returns-clause-ok

@@ -1,9 +1,8 @@
 use Rattle.std.proofs.Common.{◌≡◌, ◌==◌, true, cond, List, [], ◌∷◌, ◌++◌, None, sym, ap, subst, ◌∙◌, arith}
 use Rattle.std.specs.Prelude.{drop, is_some, length, vec_len}
 use Rattle.std.proofs.lemmas.List.{drop-append-le}
-use Rattle.am_kernel.specs.declared.row.WalkRow.{WalkRow}
-use Rattle.am_kernel.specs.Resumes.{walk_in}
-use Rattle.am_kernel.specs.WalkTable.{WalkTable, IsSingle}
+use Rattle.am_kernel.specs.{WalkRow, walk_in, IsSingle}
+use Rattle.am_kernel.specs.WalkTable.{WalkTable}
 use Rattle.am_kernel.proofs.WaitingLemmas.{single_put, has_last}
 use Rattle.am_kernel.proofs.walks.Walks.push.Goals as goal
 

@@ -1,6 +1,5 @@
 use Rattle.std.proofs.Common.{List, ap, ◌∙◌}
-use Rattle.am_kernel.specs.declared.row.WalkRow.{WalkRow}
-use Rattle.am_kernel.specs.Resumes.{walk_in}
+use Rattle.am_kernel.specs.{WalkRow, walk_in}
 use Rattle.am_kernel.proofs.WaitingLemmas.{none_left}
 use Rattle.am_kernel.proofs.walks.Walks.put.Goals as goal
 

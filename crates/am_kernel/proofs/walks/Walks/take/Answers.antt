@@ -1,9 +1,8 @@
 use Rattle.std.proofs.Common.{◌≡◌, ◌==◌, false, cond, List, sym, ap, subst, ◌∙◌}
 use Rattle.std.specs.Prelude.{drop, is_some}
 use Rattle.am_names.proofs.Basics.{none_where_not_some}
-use Rattle.am_kernel.specs.declared.row.WalkRow.{WalkRow}
-use Rattle.am_kernel.specs.Resumes.{walk_in}
-use Rattle.am_kernel.specs.WalkTable.{WalkTable, IsSingle}
+use Rattle.am_kernel.specs.{WalkRow, walk_in, IsSingle}
+use Rattle.am_kernel.specs.WalkTable.{WalkTable}
 use Rattle.am_kernel.proofs.WaitingLemmas.{none_taken, single_taken, has_others}
 use Rattle.am_kernel.proofs.walks.Walks.take.Goals as goal
 

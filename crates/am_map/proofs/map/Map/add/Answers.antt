@@ -1,8 +1,7 @@
 use Rattle.std.proofs.Common.{◌≡◌, List, [], ◌∷◌, ◌++◌, true, false, refl, sym, ap, ◌∙◌}
 use Rattle.std.specs.List.{list_any}
-use Rattle.am_map.specs.EntryText.{EntryText, Row}
-use Rattle.am_map.specs.LookUp.{has_key}
-use Rattle.am_map.specs.Stored.{rows_by}
+use Rattle.am_map.specs.EntryText.{EntryText}
+use Rattle.am_map.specs.{Row, has_key, rows_by}
 use Rattle.am_map.proofs.StoredLemmas.{found_is, insert_new, row_added-there, row_added-new}
 use Rattle.am_map.proofs.map.Map.add.Goals as goal
 

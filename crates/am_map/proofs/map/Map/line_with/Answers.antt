@@ -1,8 +1,8 @@
 use Rattle.std.proofs.Common.{ap, ◌∙◌, List}
 use Rattle.std.specs.Prelude.{find}
 use Rattle.std.specs.Option.{option_map}
-use Rattle.am_map.specs.EntryText.{EntryText, Row}
-use Rattle.am_map.specs.LookUp.{has_key}
+use Rattle.am_map.specs.EntryText.{EntryText}
+use Rattle.am_map.specs.{Row, has_key}
 use Rattle.am_map.proofs.StoredLemmas.{lookup_is}
 use Rattle.am_map.proofs.map.Map.line_with.Goals as goal
 

@@ -1,9 +1,7 @@
 use Rattle.std.proofs.Common.{◌≡◌, ◌+◌, ℕ, List, Ok, Err, sym, ◌∙◌, arith}
-use Rattle.am_lines.specs.Words.{Statement, statements, words_of, statement_of_words}
-use Rattle.am_lines.specs.Behind.{lines_behind}
+use Rattle.am_lines.specs.{Statement, statements, words_of, statement_of_words, lines_behind}
 use Rattle.am_lines.proofs.ReachedLemmas.{goes_on, reached}
-use Rattle.am_map.specs.Grammar.{rows_read, AreRows, map_read}
-use Rattle.am_map.specs.Stored.{line_added}
+use Rattle.am_map.specs.{rows_read, AreRows, map_read, line_added}
 use Rattle.am_map.proofs.FaultLemmas.{passed_on}
 use Rattle.am_map.proofs.ReadLemmas.{line_goes, line_stops, stay_good, read_is, finds_first}
 use Rattle.am_map.proofs.map.Map.read.Goals as goal

@@ -1,7 +1,7 @@
 use Rattle.std.proofs.Common.{◌≡◌, ◌≤◌, ◌+◌, [], length}
-use Rattle.am_lines.specs.Words.{statements, statements_from}
+use Rattle.am_lines.specs.{statements, statements_from}
 use Rattle.am_lines.proofs.ReachedLemmas.{HasCome}
-use Rattle.am_map.specs.Grammar.{rows_read, AreRows}
+use Rattle.am_map.specs.{rows_read, AreRows}
 use Rattle.am_map.proofs.ReadLemmas.{behind}
 use Rattle.am_map.proofs.map.Map.read.Given as goal
 

@@ -1,9 +1,7 @@
 use Rattle.std.proofs.Common.{◌≡◌, ◌+◌, length, Err, sym, ◌∙◌, arith}
-use Rattle.am_lines.specs.Words.{words_of, statement_of_words}
-use Rattle.am_lines.specs.Behind.{lines_behind}
+use Rattle.am_lines.specs.{words_of, statement_of_words, lines_behind}
 use Rattle.am_lines.proofs.ReachedLemmas.{goes_on, reached}
-use Rattle.am_master.specs.Grammar.{AreRows}
-use Rattle.am_master.specs.Stored.{line_added}
+use Rattle.am_master.specs.{AreRows, line_added}
 use Rattle.am_master.proofs.FaultLemmas.{passed_on}
 use Rattle.am_master.proofs.ReadLemmas.{line_goes, line_stops, line_stands, AreReadAs, are_rows, one_more}
 use Rattle.am_master.proofs.master.Master.read.Goals as goal

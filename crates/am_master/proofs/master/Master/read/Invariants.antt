@@ -1,7 +1,7 @@
 use Rattle.std.proofs.Common.{◌≡◌, ◌≤◌, ◌+◌, length}
-use Rattle.am_lines.specs.Words.{statements_from}
+use Rattle.am_lines.specs.{statements_from}
 use Rattle.am_lines.proofs.ReachedLemmas.{HasCome}
-use Rattle.am_master.specs.Grammar.{rows_read, master_read, StandWithin}
+use Rattle.am_master.specs.{rows_read, master_read, StandWithin}
 use Rattle.am_master.proofs.ReadLemmas.{AreReadAs}
 use Rattle.am_master.proofs.master.Master.read.Given as goal
 

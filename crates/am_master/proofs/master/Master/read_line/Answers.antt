@@ -1,12 +1,10 @@
 use Rattle.std.proofs.Common.{true, false, List, Ok, sym, ap, ◌∙◌}
 use Rattle.std.proofs.lemmas.Result.{err_from_is_err_and, on_ok_weaker}
-use Rattle.am_lines.specs.Words.{words_of}
-use Rattle.am_names.specs.Path.{text_of}
+use Rattle.am_lines.specs.{words_of}
+use Rattle.am_names.specs.{text_of}
 use Rattle.am_master.specs.declared.point.Point.TheVariants.{Indirect}
 use Rattle.am_master.specs.MasterRow.{MasterRow}
-use Rattle.am_master.specs.Grammar.{row_of}
-use Rattle.am_master.specs.Stored.{added}
-use Rattle.am_master.specs.Served.{served_of}
+use Rattle.am_master.specs.{row_of, added, served_of}
 use Rattle.am_master.proofs.FaultLemmas.{is_fault}
 use Rattle.am_master.proofs.PointLemmas.{line_is, taken_is, row_added}
 use Rattle.am_names.proofs.Basics.{holds_where_ok}

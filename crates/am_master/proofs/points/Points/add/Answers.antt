@@ -1,9 +1,8 @@
 use Rattle.std.proofs.Common.{◌≡◌, false, refl, List, ℕ, ◌∷◌, ◌++◌, [], sym, ap, ◌∙◌, map}
 use Rattle.std.specs.Str.{bytes_eq}
 use Rattle.std.specs.List.{list_any}
-use Rattle.am_names.specs.Path.{text_of}
-use Rattle.am_master.specs.declared.point.Point.{Point}
-use Rattle.am_master.specs.Points.{point_texts}
+use Rattle.am_names.specs.{text_of}
+use Rattle.am_master.specs.{Point, point_texts}
 use Rattle.am_master.proofs.TextLemmas.{insert_new}
 use Rattle.am_master.proofs.points.Points.add.Goals as goal
 

@@ -1,7 +1,7 @@
 use Rattle.std.proofs.Common.{◌≡◌, List, ◌∷◌, ◌++◌, sym, ap, subst, ◌∙◌, append_assoc, rules}
 use Rattle.std.specs.Vec.Iter.{into_iter_items}
-use Rattle.am_names.specs.declared.row.MountRow.{MountRow}
-use Rattle.am_mount.specs.Rows.{IsRising}
+use Rattle.am_names.specs.{MountRow}
+use Rattle.am_mount.specs.{IsRising}
 use Rattle.am_mount.proofs.IndexLemmas.{rises_first}
 use Rattle.am_mount.proofs.tree.Tree.add_all.Goals as goal
 

@@ -1,8 +1,8 @@
 use Rattle.std.proofs.Common.{◌≡◌, ◌↔◌, ◌++◌, ◌-◌, ℕ, List, length, sym, ap, subst, ◌∙◌}
 use Rattle.std.specs.Prelude.{option_map}
 use Rattle.std.specs.List.{slice_get}
-use Rattle.am_names.specs.declared.row.MountRow.{MountRow}
-use Rattle.am_mount.specs.Rows.{RiseFrom, IsRising, next_of}
+use Rattle.am_names.specs.{MountRow}
+use Rattle.am_mount.specs.{RiseFrom, IsRising, next_of}
 use Rattle.am_mount.proofs.RowLemmas.{next_after, rises_behind, next_of_last}
 use Rattle.am_mount.proofs.tree.Tree.can_add.Goals as goal
 

@@ -1,5 +1,5 @@
 use Rattle.std.proofs.Common.{◌↔◌, ◌++◌, drop}
-use Rattle.am_mount.specs.Rows.{RiseFrom, IsRising, next_of}
+use Rattle.am_mount.specs.{RiseFrom, IsRising, next_of}
 use Rattle.am_mount.proofs.tree.Tree.can_add.Given as goal
 
 abbrev pub invariant-loop-row : goal.invariant-loop-row

@@ -1,7 +1,7 @@
 use Rattle.std.proofs.Common.{ℕ, List, length, not, ap, ◌∙◌}
 use Rattle.std.specs.Prelude.{◌==◌}
 use Rattle.std.specs.List.{list_any}
-use Rattle.am_mount.specs.Rows.{is_in}
+use Rattle.am_mount.specs.{is_in}
 use Rattle.am_mount.proofs.IndexLemmas.{any_where}
 use Rattle.am_mount.proofs.tree.Tree.has_mounts.Goals as goal
 

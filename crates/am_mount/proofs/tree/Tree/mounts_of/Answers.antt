@@ -1,8 +1,8 @@
 use Rattle.std.proofs.Common.{◌≡◌, ◌↔◌, ℕ, List, sym, ap, subst, ◌∙◌}
 use Rattle.std.specs.List.{Contains}
 use Rattle.std.specs.List.Sorted.{IsStrictlyIncreasing}
-use Rattle.am_names.specs.declared.row.MountRow.{MountRow}
-use Rattle.am_mount.specs.Rows.{IsRising, mounts_where, is_in, HasRow, IsIn}
+use Rattle.am_names.specs.{MountRow}
+use Rattle.am_mount.specs.{IsRising, mounts_where, is_in, HasRow, IsIn}
 use Rattle.am_mount.proofs.RowLemmas.{in_every, where_rises}
 use Rattle.am_mount.proofs.IndexLemmas.{ok_copy}
 use Rattle.am_mount.proofs.tree.Tree.mounts_of.Goals as goal

@@ -1,8 +1,7 @@
 use Rattle.std.proofs.Common.{List, sym, ap, subst, ◌∙◌}
 use Rattle.std.specs.Prelude.{filter, not}
-use Rattle.am_names.specs.declared.row.MountRow.{MountRow}
-use Rattle.am_mount.specs.Index.{AreIndexed}
-use Rattle.am_mount.specs.Rows.{IsRising, is_among}
+use Rattle.am_names.specs.{MountRow, is_among}
+use Rattle.am_mount.specs.{AreIndexed, IsRising}
 use Rattle.am_mount.proofs.RowLemmas.{RiseFrom-filter}
 use Rattle.am_mount.proofs.tree.Tree.remove_all.Goals as goal
 

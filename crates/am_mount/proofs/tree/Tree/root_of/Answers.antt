@@ -1,8 +1,7 @@
 use Rattle.std.proofs.Common.{List, ap, ◌∙◌}
 use Rattle.std.specs.Prelude.{find}
-use Rattle.am_names.specs.declared.row.MountRow.{MountRow}
-use Rattle.am_mount.specs.Found.{stands_alone}
-use Rattle.am_mount.specs.Rows.{root_of}
+use Rattle.am_names.specs.{MountRow}
+use Rattle.am_mount.specs.{stands_alone, root_of}
 use Rattle.am_mount.proofs.IndexLemmas.{root_in_ns}
 use Rattle.am_mount.proofs.tree.Tree.root_of.Goals as goal
 

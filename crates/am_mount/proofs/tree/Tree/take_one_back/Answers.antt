@@ -1,8 +1,7 @@
 use Rattle.std.proofs.Common.{◌≡◌, List, [], ◌∷◌, ◌++◌, Option, sym, ap, subst, ◌∙◌}
 use Rattle.std.specs.Option.{option_to_list}
-use Rattle.am_names.specs.declared.row.MountRow.{MountRow}
-use Rattle.am_mount.specs.Index.{AreIndexed}
-use Rattle.am_mount.specs.Rows.{IsRising}
+use Rattle.am_names.specs.{MountRow}
+use Rattle.am_mount.specs.{AreIndexed, IsRising}
 use Rattle.am_mount.proofs.IndexLemmas.{indexed_back, lists_rise}
 use Rattle.am_mount.proofs.RowLemmas.{RiseFrom-take}
 use Rattle.am_mount.proofs.tree.Tree.take_one_back.Goals as goal

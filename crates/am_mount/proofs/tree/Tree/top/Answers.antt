@@ -1,10 +1,7 @@
 use Rattle.std.proofs.Common.{◌≡◌, ℕ, List, Option, sym, ap, subst, ◌∙◌}
 use Rattle.std.specs.Prelude.{filter}
-use Rattle.am_names.specs.Path.{names_of, text_of}
-use Rattle.am_names.specs.declared.row.MountRow.{MountRow}
-use Rattle.am_mount.specs.Buckets.{bucket, is_in_bucket}
-use Rattle.am_mount.specs.Found.{stands_at}
-use Rattle.am_mount.specs.Rows.{IsRising, mounts_where, last_of, top_of}
+use Rattle.am_names.specs.{names_of, text_of, MountRow}
+use Rattle.am_mount.specs.{bucket, is_in_bucket, stands_at, IsRising, mounts_where, last_of, top_of}
 use Rattle.am_mount.proofs.IndexLemmas.{top_in_bucket}
 use Rattle.am_mount.proofs.RowLemmas.{IsTopOf, top_is, some_greatest, none_free}
 use Rattle.am_mount.proofs.tree.Tree.top.Goals as goal

@@ -1,5 +1,5 @@
 use Rattle.std.proofs.Common.{take}
-use Rattle.am_mountinfo.specs.Paths.{ArePaths}
+use Rattle.am_mountinfo.specs.{ArePaths}
 use Rattle.am_mountinfo.proofs.paths.Paths.of.Given as goal
 
 abbrev pub invariant-loop-row : goal.invariant-loop-row

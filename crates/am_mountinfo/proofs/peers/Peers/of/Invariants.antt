@@ -1,5 +1,5 @@
 use Rattle.std.proofs.Common.{take}
-use Rattle.am_mountinfo.specs.Peers.{ArePeers}
+use Rattle.am_mountinfo.specs.{ArePeers}
 use Rattle.am_mountinfo.proofs.peers.Peers.of.Given as goal
 
 abbrev pub invariant-loop-row : goal.invariant-loop-row

@@ -1,5 +1,5 @@
 use Rattle.std.proofs.Common.{take}
-use Rattle.am_mountinfo.specs.Residents.{AreResidents}
+use Rattle.am_mountinfo.specs.{AreResidents}
 use Rattle.am_mountinfo.proofs.residents.Residents.of.Given as goal
 
 abbrev pub invariant-loop-row : goal.invariant-loop-row

@@ -1,6 +1,5 @@
 use Rattle.std.proofs.Common.{◌≡◌, ℕ, List, length}
-use Rattle.am_names.specs.Path.{names_of}
-use Rattle.am_names.specs.PathFaults.{AreNames}
+use Rattle.am_names.specs.{names_of, AreNames}
 use Rattle.am_names.proofs.path.AbsPath.split_first.Given as goal
 
 pub record Left (rest : List ℕ) (names : List (List ℕ)) : Type 0 where

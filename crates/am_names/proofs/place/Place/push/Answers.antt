@@ -1,7 +1,7 @@
 use Rattle.std.proofs.Common.{◌≡◌, ◌++◌, ◌∷◌, [], ℕ, List, sym, ap, subst, ◌∙◌, append_assoc, arith}
 use Rattle.std.specs.Prelude.{Result, Ok, Err, OnOk}
 use Rattle.std.specs.Result.{IsOk}
-use Rattle.am_names.specs.Path.{IsCanonical, names_of}
+use Rattle.am_names.specs.{IsCanonical, names_of}
 use Rattle.am_names.proofs.PathLemmas.{pushed}
 use Rattle.am_names.proofs.place.Place.push.Goals as goal
 

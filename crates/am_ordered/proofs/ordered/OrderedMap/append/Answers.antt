@@ -1,8 +1,8 @@
 use Rattle.std.proofs.Common.{◌≤◌, ℕ, [], ◌∷◌, ◌++◌, length, nat_lt, cond, sym, ap, ◌∙◌, arith}
 use Rattle.std.specs.Map.{lookup}
 use Rattle.indexmap.specs.IndexMap.{spare}
-use Rattle.am_ordered.specs.Order.{times}
-use Rattle.am_ordered.specs.Inside.{rows_of}
+use Rattle.am_ordered.specs.{times}
+use Rattle.am_ordered.specs.View.{rows_of}
 use Rattle.am_ordered.proofs.OrderLemmas.{one_more}
 use Rattle.am_ordered.proofs.RowLemmas.{inserted_last}
 use Rattle.am_ordered.proofs.SlotLemmas.{appended, no_slot, none_from, when_ok}

@@ -3,7 +3,7 @@ use Rattle.std.proofs.lemmas.Bool.{cases_lt, false≢true}
 use Rattle.std.proofs.lemmas.Option.{slice_get_read}
 use Rattle.std.specs.Map.Iter.{deref_pair}
 use Rattle.std.specs.VecDeque.{deque_len}
-use Rattle.am_ordered.specs.Inside.{row_of, rows_of}
+use Rattle.am_ordered.specs.View.{row_of, rows_of}
 use Rattle.am_ordered.proofs.SlotLemmas.{has_slot, row_listed, row_past}
 use Rattle.am_ordered.proofs.ordered.OrderedMap.get_index.Goals as goal
 

@@ -1,7 +1,7 @@
 use Rattle.std.proofs.Common.{length, sym, ap, ◌∙◌}
 use Rattle.am_ordered.proofs.RowLemmas.{length_rows}
 use Rattle.am_ordered.proofs.SlotLemmas.{all_stand}
-use Rattle.am_ordered.specs.Inside.{row_at}
+use Rattle.am_ordered.specs.View.{row_at}
 use Rattle.am_ordered.proofs.ordered.OrderedMap.len.Goals as goal
 
 pub returns-clause-exact : goal.returns-clause-exact

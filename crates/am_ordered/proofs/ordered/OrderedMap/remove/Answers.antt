@@ -4,7 +4,7 @@ use Rattle.std.specs.Map.{lookup, keys_of}
 use Rattle.std.specs.List.{IsDistinct}
 use Rattle.std.specs.Option.{option_map}
 use Rattle.indexmap.specs.IndexMap.{shift_remove_entry}
-use Rattle.am_ordered.specs.Inside.{row_of}
+use Rattle.am_ordered.specs.View.{row_of}
 use Rattle.am_ordered.proofs.SlotLemmas.{distinct, lookup_is, none_removed, key_removed, row_listed, key_passes}
 use Rattle.am_ordered.proofs.ordered.OrderedMap.remove.Goals as goal
 

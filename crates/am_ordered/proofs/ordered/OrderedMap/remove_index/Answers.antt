@@ -6,8 +6,8 @@ use Rattle.std.specs.List.{IsDistinct}
 use Rattle.std.specs.Option.{option_map}
 use Rattle.std.specs.VecDeque.{deque_len}
 use Rattle.indexmap.specs.IndexMap.{index_map_len}
-use Rattle.am_ordered.specs.Order.{times, renamed, IsOrderOf}
-use Rattle.am_ordered.specs.Inside.{rows_of, row_of}
+use Rattle.am_ordered.specs.{times, renamed, IsOrderOf}
+use Rattle.am_ordered.specs.View.{rows_of, row_of}
 use Rattle.am_ordered.proofs.OrderLemmas.{one_less, few_left}
 use Rattle.am_ordered.proofs.SlotLemmas.{distinct, has_slot, row_listed, row_past, none_past, removed}
 use Rattle.am_ordered.proofs.ordered.OrderedMap.remove_index.Goals as goal

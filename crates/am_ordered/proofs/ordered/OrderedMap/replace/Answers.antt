@@ -2,7 +2,7 @@ use Rattle.std.proofs.Common.{ℕ, length, nat_lt, cond, is_some, sym, ap, ◌�
 use Rattle.std.specs.Map.{lookup}
 use Rattle.std.proofs.lemmas.Option.{none-some}
 use Rattle.indexmap.specs.IndexMap.{insert_entry}
-use Rattle.am_ordered.specs.Inside.{rows_of}
+use Rattle.am_ordered.specs.View.{rows_of}
 use Rattle.am_ordered.proofs.SlotLemmas.{replaced, a_slot, when_ok, ok_unless}
 use Rattle.am_ordered.proofs.ordered.OrderedMap.replace.Goals as goal
 

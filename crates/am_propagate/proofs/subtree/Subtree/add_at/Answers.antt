@@ -1,12 +1,8 @@
 use Rattle.std.proofs.Common.{◌≡◌, ◌+◌, ◌++◌, ℕ, List, Some, add-one, ap, sym, subst, ◌∙◌}
 use Rattle.std.specs.List.{slice_get}
-use Rattle.am_group.specs.Invariant.{AddsNoReceivers}
-use Rattle.am_group.specs.Receivers.{receivers_of}
-use Rattle.am_propagate.specs.MountTable.{MountTable, all_mounts}
-use Rattle.am_propagate.specs.Invariant.{IsWhole}
-use Rattle.am_propagate.specs.Added.{numbers_after}
-use Rattle.am_propagate.specs.ReceiverCopies.{ComesWithCopies}
-use Rattle.am_propagate.specs.GroupsOfCopies.{Joins}
+use Rattle.am_group.specs.{AddsNoReceivers, receivers_of}
+use Rattle.am_propagate.specs.MountTable.{MountTable}
+use Rattle.am_propagate.specs.{all_mounts, IsWhole, numbers_after, ComesWithCopies, Joins}
 use Rattle.am_propagate.proofs.AdditionLemmas.{mounted_law}
 use Rattle.am_propagate.proofs.CameLemmas.{mounted_came, come_made}
 use Rattle.am_propagate.proofs.ReceiverCopyLemmas.{with_copies}

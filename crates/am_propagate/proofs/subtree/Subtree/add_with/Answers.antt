@@ -1,10 +1,8 @@
 use Rattle.std.proofs.Common.{rules, ◌≡◌, ◌<◌, ◌+◌, ◌∷◌, List, length, OnOk, arith, ap, sym, subst, ◌∙◌}
-use Rattle.am_names.specs.declared.row.MountRow.{MountRow}
-use Rattle.am_names.specs.declared.row.GroupRow.{GroupRow}
-use Rattle.am_group.specs.Propagation.{group_of}
+use Rattle.am_names.specs.{MountRow, GroupRow}
+use Rattle.am_group.specs.{group_of}
 use Rattle.am_propagate.specs.MountTable.{MountTable}
-use Rattle.am_propagate.specs.Invariant.{IsWhole}
-use Rattle.am_propagate.specs.Added.{groups_made}
+use Rattle.am_propagate.specs.{IsWhole, groups_made}
 use Rattle.am_propagate.proofs.AdditionLemmas.{length_rows, made_length, grown_is, mounted_whole}
 use Rattle.am_propagate.proofs.subtree.Subtree.add_with.Goals as goal
 

@@ -1,4 +1,4 @@
-use Rattle.am_propagate.specs.Inside.{table_of}
+use Rattle.am_propagate.specs.View.{table_of}
 use Rattle.am_propagate.proofs.KindLemmas.{changed_whole}
 use Rattle.am_propagate.proofs.subtree.Subtree.change.Goals as goal
 

@@ -1,13 +1,9 @@
 use Rattle.std.proofs.Common.{rules, ◌≡◌, ◌+◌, ◌++◌, length, ℕ, List, ap, sym, subst, ◌∙◌}
 use Rattle.std.specs.Prelude.{map, filter}
-use Rattle.am_group.specs.Invariant.{AddsNoReceivers}
-use Rattle.am_mount.specs.Rows.{is_among}
-use Rattle.am_propagate.specs.MountTable.{MountTable, all_mounts}
-use Rattle.am_propagate.specs.Invariant.{IsWhole}
-use Rattle.am_propagate.specs.Added.{numbers_after, new_mounts}
-use Rattle.am_propagate.specs.Removed.{mounts_in}
-use Rattle.am_propagate.specs.Namespaces.{copy_number, member_in, with_copy}
-use Rattle.am_propagate.specs.NamespaceCopies.{AreCopies}
+use Rattle.am_group.specs.{AddsNoReceivers}
+use Rattle.am_names.specs.{is_among}
+use Rattle.am_propagate.specs.MountTable.{MountTable}
+use Rattle.am_propagate.specs.{all_mounts, IsWhole, numbers_after, new_mounts, mounts_in, copy_number, member_in, with_copy, AreCopies}
 use Rattle.am_propagate.proofs.NamespaceLemmas.{with_copy_whole, with_copy_law, copy_grown}
 use Rattle.am_propagate.proofs.CameLemmas.{copied_came}
 use Rattle.am_propagate.proofs.NamespaceCopyLemmas.{copies_rise}

@@ -1,7 +1,6 @@
 use Rattle.std.proofs.Common.{◌≡◌, ℕ, List, ap, sym, subst, ◌∙◌}
 use Rattle.am_propagate.specs.MountTable.{MountTable}
-use Rattle.am_propagate.specs.Invariant.{IsWhole}
-use Rattle.am_propagate.specs.Removed.{mounts_in, removed, LeavesParents}
+use Rattle.am_propagate.specs.{IsWhole, mounts_in, removed, LeavesParents}
 use Rattle.am_propagate.proofs.RemovalLemmas.{dropped_leaves}
 use Rattle.am_propagate.proofs.subtree.Subtree.drop_namespace.Goals as goal
 

@@ -1,6 +1,6 @@
 use Rattle.std.proofs.Common.{◌≡◌, ◌++◌, ◌∷◌, [], ℕ, Bool, true, false, cond, List, ap, sym, subst, ◌∙◌}
-use Rattle.am_propagate.specs.MountTable.{MountTable, is_mount}
-use Rattle.am_propagate.specs.Invariant.{IsWhole}
+use Rattle.am_propagate.specs.MountTable.{MountTable}
+use Rattle.am_propagate.specs.{is_mount, IsWhole}
 use Rattle.am_propagate.proofs.RemovalLemmas.{itself_only}
 use Rattle.am_propagate.proofs.subtree.Subtree.itself.Goals as goal
 

@@ -1,12 +1,9 @@
 use Rattle.std.proofs.Common.{◌≡◌, ◌+◌, ◌<◌, ℕ, List, Option, Some, ap, sym, subst, ◌∙◌}
 use Rattle.std.specs.List.Sorted.{IsStrictlyIncreasing}
-use Rattle.am_group.specs.Propagation.{group_of}
+use Rattle.am_group.specs.{group_of, receiving_groups}
 use Rattle.am_group.proofs.UnderLemmas.{receiving_rise}
-use Rattle.am_group.specs.Copies.{receiving_groups}
 use Rattle.am_propagate.specs.MountTable.{MountTable}
-use Rattle.am_propagate.specs.Invariant.{IsWhole}
-use Rattle.am_propagate.specs.Added.{new_group, last_fresh, groups_made}
-use Rattle.am_propagate.specs.Joining.{others_of, AreNew}
+use Rattle.am_propagate.specs.{IsWhole, new_group, last_fresh, groups_made, others_of, AreNew}
 use Rattle.am_propagate.proofs.NumberLemmas.{members_are, rows_are}
 use Rattle.am_propagate.proofs.subtree.Subtree.joining.Goals as goal
 

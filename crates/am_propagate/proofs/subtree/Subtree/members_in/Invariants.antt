@@ -1,7 +1,7 @@
 use Rattle.std.proofs.Common.{◌≡◌, take}
 use Rattle.std.specs.Prelude.{map, filter}
-use Rattle.am_mount.specs.Rows.{is_among}
-use Rattle.am_propagate.specs.Namespaces.{copy_number, member_in}
+use Rattle.am_names.specs.{is_among}
+use Rattle.am_propagate.specs.{copy_number, member_in}
 use Rattle.am_propagate.proofs.subtree.Subtree.members_in.Given as goal
 
 abbrev pub invariant-loop-row : goal.invariant-loop-row

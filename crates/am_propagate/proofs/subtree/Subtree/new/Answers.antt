@@ -1,6 +1,6 @@
 use Rattle.std.proofs.Common.{rules, refl, sym, subst}
 use Rattle.am_names.specs.PeerGroups.{PeerGroups}
-use Rattle.am_group.specs.Invariant.{IsOrderly, IsPeopled}
+use Rattle.am_group.specs.{IsOrderly, IsPeopled}
 use Rattle.am_propagate.proofs.OpeningLemmas.{none_peopled}
 use Rattle.am_propagate.proofs.subtree.Subtree.new.Goals as goal
 

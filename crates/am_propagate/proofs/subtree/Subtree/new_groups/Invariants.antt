@@ -1,7 +1,7 @@
 use Rattle.std.proofs.Common.{◌≡◌, ◌++◌, take}
 use Rattle.std.specs.Option.{option_to_list}
-use Rattle.am_group.specs.Copies.{group_copies}
-use Rattle.am_propagate.specs.Joining.{stand_of}
+use Rattle.am_group.specs.{group_copies}
+use Rattle.am_propagate.specs.{stand_of}
 use Rattle.am_propagate.proofs.subtree.Subtree.new_groups.Given as goal
 
 abbrev pub invariant-loop-group : goal.invariant-loop-group

@@ -1,10 +1,10 @@
 use Rattle.std.proofs.Common.{◌≡◌, sym, subst}
 use Rattle.std.specs.Prelude.{filter, not}
-use Rattle.am_group.specs.Changes.{without}
-use Rattle.am_mount.specs.Rows.{is_among}
+use Rattle.am_group.specs.{without}
+use Rattle.am_names.specs.{is_among}
 use Rattle.am_propagate.specs.MountTable.{MountTable}
-use Rattle.am_propagate.specs.Removed.{LeavesParents}
-use Rattle.am_propagate.specs.Inside.{table_of}
+use Rattle.am_propagate.specs.{LeavesParents}
+use Rattle.am_propagate.specs.View.{table_of}
 use Rattle.am_propagate.proofs.RemovalLemmas.{removed_whole}
 use Rattle.am_propagate.proofs.subtree.Subtree.remove.Goals as goal
 

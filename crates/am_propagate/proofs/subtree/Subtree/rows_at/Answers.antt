@@ -1,6 +1,6 @@
 use Rattle.std.proofs.Common.{◌≡◌, ◌+◌, ◌∷◌, ◌++◌, [], List, take, arith, sym, ap, ◌∙◌}
-use Rattle.am_names.specs.declared.row.MountRow.{MountRow}
-use Rattle.am_propagate.specs.Added.{row_at, rows_at}
+use Rattle.am_names.specs.{MountRow}
+use Rattle.am_propagate.specs.{row_at, rows_at}
 use Rattle.am_propagate.proofs.LoopLemmas.{rows_more}
 use Rattle.am_propagate.proofs.subtree.Subtree.rows_at.Goals as goal
 

@@ -1,5 +1,5 @@
 use Rattle.std.proofs.Common.{◌≡◌, ◌+◌, ◌∷◌, take}
-use Rattle.am_propagate.specs.Added.{rows_at}
+use Rattle.am_propagate.specs.{rows_at}
 use Rattle.am_propagate.proofs.subtree.Subtree.rows_at.Given as goal
 
 abbrev pub invariant-loop-receiver : goal.invariant-loop-receiver

@@ -1,7 +1,7 @@
 use Rattle.std.proofs.Common.{◌≡◌, take}
 use Rattle.std.specs.Prelude.{map, filter}
-use Rattle.am_mount.specs.Rows.{is_in}
-use Rattle.am_propagate.specs.Namespaces.{copy_number, row_in}
+use Rattle.am_mount.specs.{is_in}
+use Rattle.am_propagate.specs.{copy_number, row_in}
 use Rattle.am_propagate.proofs.subtree.Subtree.rows_in.Given as goal
 
 abbrev pub invariant-loop-row : goal.invariant-loop-row

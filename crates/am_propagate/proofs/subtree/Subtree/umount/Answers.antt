@@ -1,5 +1,5 @@
 use Rattle.std.proofs.Common.{◌≡◌, ℕ, List, sym, subst, ◌∙◌}
-use Rattle.am_propagate.specs.Removed.{unmounted, LeavesParents}
+use Rattle.am_propagate.specs.{unmounted, LeavesParents}
 use Rattle.am_propagate.proofs.RemovalLemmas.{unmounted_leaves}
 use Rattle.am_propagate.proofs.subtree.Subtree.umount.Goals as goal
 

@@ -1,6 +1,6 @@
 use Rattle.std.proofs.Common.{◌∷◌, ◌++◌, ◌<◌, [], ℕ, List, length, sym, ap, rules, ◌∙◌}
-use Rattle.am_names.specs.Path.{names_of}
-use Rattle.am_propagate.specs.Removed.{bare_top}
+use Rattle.am_names.specs.{names_of}
+use Rattle.am_propagate.specs.{bare_top}
 use Rattle.am_propagate.proofs.LoopLemmas.{gives_more, gives_none}
 use Rattle.am_propagate.proofs.subtree.Subtree.with_bare_tops.Goals.{in-Some+in_ok-push-2, in_default}
 use Rattle.am_propagate.proofs.subtree.Subtree.with_bare_tops.Goals as goal

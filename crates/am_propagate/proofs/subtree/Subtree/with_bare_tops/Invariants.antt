@@ -1,7 +1,7 @@
 use Rattle.std.proofs.Common.{◌≡◌, ◌∷◌, take}
 use Rattle.std.specs.List.{filter_map}
-use Rattle.am_names.specs.Path.{names_of}
-use Rattle.am_propagate.specs.Removed.{bare_top}
+use Rattle.am_names.specs.{names_of}
+use Rattle.am_propagate.specs.{bare_top}
 use Rattle.am_propagate.proofs.subtree.Subtree.with_bare_tops.Given as goal
 
 abbrev pub invariant-loop-receiver : goal.invariant-loop-receiver

@@ -1,5 +1,5 @@
 use Rattle.std.proofs.Common.{◌≡◌, ◌+◌}
-use Rattle.am_propagate.specs.Added.{numbers_after}
+use Rattle.am_propagate.specs.{numbers_after}
 use Rattle.am_propagate.proofs.subtree.addition.numbers_after.Given as goal
 
 abbrev pub invariant-loop : goal.invariant-loop

@@ -6,7 +6,7 @@ use Rattle.std.proofs.lemmas.Fn.{always_returns_same}
 use Rattle.std.proofs.lemmas.List.Filters.{dedup_is}
 use Rattle.std.proofs.lemmas.List.Sorted.{list_any-IsPermutation}
 use Rattle.std.proofs.lemmas.Map.Keys.{IsStrictlyIncreasing-dedup}
-use Rattle.am_mount.specs.Rows.{is_among}
+use Rattle.am_names.specs.{is_among}
 use Rattle.am_propagate.proofs.UnmountLemmas.{dedup_among}
 use Rattle.am_propagate.proofs.subtree.removal.in_order.Goals as goal
 

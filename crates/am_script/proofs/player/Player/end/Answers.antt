@@ -1,7 +1,5 @@
 use Rattle.std.proofs.Common.{Option, length, ap, ◌∙◌, sym, subst}
-use Rattle.am_script.specs.declared.fault.ScriptFaultKind.{ScriptFaultKind}
-use Rattle.am_script.specs.Played.{end_of_head}
-use Rattle.am_script.specs.Script.{script_from}
+use Rattle.am_script.specs.{ScriptFaultKind, end_of_head, script_from}
 use Rattle.am_script.proofs.Answering.{EndsSo}
 use Rattle.am_script.proofs.PlayerLemmas.{head_is_ended, events_are_ended, events_are_broken, end_ok, end_err}
 use Rattle.am_script.proofs.player.Player.end.Goals as goal

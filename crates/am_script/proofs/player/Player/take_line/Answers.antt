@@ -1,9 +1,7 @@
 use Rattle.std.proofs.Common.{◌+◌, [], ◌∷◌, ◌++◌, Some, None, sym, subst}
-use Rattle.am_script.specs.declared.play.Summary.{Summary}
-use Rattle.am_script.specs.declared.player.Place.{Place}
-use Rattle.am_script.specs.Playing.{HeadTaken, EventsStand, PlaceStands}
+use Rattle.am_script.specs.{Summary, Place, HeadTaken, EventsStand, PlaceStands}
 use Rattle.am_script.proofs.PlayerLemmas.{head_line_taken, head_line_stops, event_line_taken, event_line_stops}
-use Rattle.am_world.specs.Table.{state_of}
+use Rattle.am_world.specs.Capacity.{state_of}
 use Rattle.am_script.proofs.player.Player.take_line.Goals as goal
 
 pub returns-in-Ok-None-clause-ok : goal.returns-in-Ok-None-clause-ok

@@ -1,6 +1,6 @@
 use Rattle.std.proofs.Common.{List, ℕ, subst}
 use Rattle.std.proofs.lemmas.Result.{err_from_is_err_and, IfErr-weaker, IfOk-weaker}
-use Rattle.am_script.specs.Playing.{TakesLine, StopsAtLine}
+use Rattle.am_script.specs.{TakesLine, StopsAtLine}
 use Rattle.am_script.proofs.ReadingLemmas.{last_stops, all_played, all_stopped}
 use Rattle.am_script.proofs.reading.Reading.end.Goals as goal
 

@@ -1,6 +1,6 @@
 use Rattle.std.proofs.Common.{◌≡◌, ◌≤◌, ◌*◌, List, [], ℕ}
 use Rattle.std.specs.Io.KnownBytes.{Consumes}
-use Rattle.am_script.specs.Reading.{ReadingStands}
+use Rattle.am_script.specs.{ReadingStands}
 use Rattle.am_script.proofs.reading.Reading.play.Given as goal
 
 -- each time the reader is asked, no answer is held back

@@ -1,5 +1,5 @@
 use Rattle.std.proofs.Common.{◌≡◌, ◌≤◌, ◌+◌, ℕ, List, ◌++◌, length, Option}
-use Rattle.am_script.specs.Reading.{ReadingStands}
+use Rattle.am_script.specs.{ReadingStands}
 use Rattle.am_script.proofs.reading.Reading.take_bytes.Given as goal
 
 abbrev pub invariant-loop-end : goal.invariant-loop-end

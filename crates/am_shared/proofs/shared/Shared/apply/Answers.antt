@@ -1,6 +1,6 @@
 use Rattle.std.proofs.Common.{◌≡◌, ◌≤◌, ◌+◌, ◌++◌, length, drop, rules, ap, ◌∙◌, arith}
 use Rattle.std.specs.VecDeque.{deque_len, deque_capacity}
-use Rattle.am_shared.specs.Notes.{notes_of}
+use Rattle.am_shared.specs.{notes_of}
 use Rattle.am_shared.proofs.ApplyLemmas.{trace_grows, one_note_at_most, kept_legal, kept_notes}
 use Rattle.am_shared.proofs.shared.Shared.apply.Goals as goal
 

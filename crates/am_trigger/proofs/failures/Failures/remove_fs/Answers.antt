@@ -1,6 +1,6 @@
 use Rattle.std.proofs.Common.{ap, ◌∙◌}
 use Rattle.am_trigger.specs.FailureTable.{FailureTable}
-use Rattle.am_trigger.specs.Failures.{FailureRows, failure_of, without_failures}
+use Rattle.am_trigger.specs.{FailureRows, failure_of, without_failures}
 use Rattle.am_trigger.proofs.FailureLemmas.{mended}
 use Rattle.am_trigger.proofs.failures.Failures.remove_fs.Goals as goal
 

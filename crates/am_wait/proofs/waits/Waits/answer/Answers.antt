@@ -2,12 +2,9 @@ use Rattle.std.proofs.Common.{◌≡◌, List, ℕ, cond, Option, Some, None, op
 use Rattle.std.specs.Prelude.{is_some}
 use Rattle.std.specs.Option.{option_map}
 use Rattle.am_names.specs.declared.errno.Errno.TheVariants.{EINVAL}
-use Rattle.am_names.specs.declared.row.OpenToken.{OpenToken}
-use Rattle.am_wait.specs.declared.held.HeldToken.{HeldToken}
+use Rattle.am_names.specs.{OpenToken}
+use Rattle.am_wait.specs.{HeldToken, WaitRows, token_of, answered, held_of, token_in}
 use Rattle.am_wait.specs.declared.waits.Waits.TheInside.{Inside}
-use Rattle.am_wait.specs.Rows.{WaitRows, token_of}
-use Rattle.am_wait.specs.Calls.{answered}
-use Rattle.am_wait.specs.Held.{held_of, token_in}
 use Rattle.am_wait.proofs.SeatLemmas.{SetsAll}
 use Rattle.am_wait.proofs.KeptLemmas.{token_found, answered_is, answered_kept}
 use Rattle.am_wait.proofs.ViewLemmas.{tokens_rise}

@@ -1,8 +1,7 @@
 use Rattle.std.proofs.Common.{◌≡◌, Some, refl, sym, ap, ◌∙◌}
 use Rattle.am_wait.specs.declared.waits.Waits.TheInside.{Inside}
-use Rattle.am_wait.specs.Rows.{WaitRows, wait_of}
-use Rattle.am_wait.specs.Calls.{collected}
-use Rattle.am_wait.specs.Inside.{rows_of}
+use Rattle.am_wait.specs.{WaitRows, wait_of, collected}
+use Rattle.am_wait.specs.View.{rows_of}
 use Rattle.am_wait.proofs.FreedLemmas.{collected_is, collected_kept}
 use Rattle.am_wait.proofs.waits.Waits.collect.Goals as goal
 

@@ -1,10 +1,7 @@
 use Rattle.std.proofs.Common.{◌≡◌, List, length, ap, ◌∙◌}
 use Rattle.std.specs.Prelude.{nat_le}
-use Rattle.am_wait.specs.declared.seats.Seat.{Seat}
-use Rattle.am_wait.specs.Rows.{WaitRows, without_wait}
-use Rattle.am_wait.specs.Calls.{is_full, collected}
-use Rattle.am_wait.specs.Seats.{without_seat}
-use Rattle.am_wait.specs.Inside.{rows_of}
+use Rattle.am_wait.specs.{Seat, WaitRows, without_wait, is_full, collected, without_seat}
+use Rattle.am_wait.specs.View.{rows_of}
 use Rattle.am_wait.proofs.ViewLemmas.{others_counted}
 use Rattle.am_wait.proofs.waits.Waits.is_full_for.Goals as goal
 

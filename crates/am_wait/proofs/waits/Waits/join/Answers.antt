@@ -1,10 +1,9 @@
 use Rattle.std.proofs.Common.{◌≡◌, Option, None, sym, ap, subst, ◌∙◌}
 use Rattle.std.specs.Prelude.{is_some, OnOk}
-use Rattle.am_names.specs.Errno.{RefusedAs}
+use Rattle.am_names.specs.{RefusedAs}
 use Rattle.am_names.specs.declared.errno.Errno.{Errno}
 use Rattle.am_names.proofs.Basics.{none_where_not_some}
-use Rattle.am_wait.specs.Rows.{WaitRows, wait_of}
-use Rattle.am_wait.specs.Calls.{joined}
+use Rattle.am_wait.specs.{WaitRows, wait_of, joined}
 use Rattle.am_wait.proofs.CallLemmas.{idle_joins, idle_collected}
 use Rattle.am_wait.proofs.waits.Waits.join.Goals as goal
 

@@ -1,7 +1,5 @@
 use Rattle.std.proofs.Common.{List, ap, ◌∙◌}
-use Rattle.am_wait.specs.declared.held.HeldToken.{HeldToken}
-use Rattle.am_wait.specs.Rows.{WaitRows, open_on}
-use Rattle.am_wait.specs.Held.{held_open_on}
+use Rattle.am_wait.specs.{HeldToken, WaitRows, open_on, held_open_on}
 use Rattle.am_wait.proofs.ViewLemmas.{held_open_on_is}
 use Rattle.am_wait.proofs.waits.Waits.open_on.Goals as goal
 

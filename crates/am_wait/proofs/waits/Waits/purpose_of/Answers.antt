@@ -1,9 +1,7 @@
 use Rattle.std.proofs.Common.{◌≡◌, List, Some, None, option_copied, sym, ap, ◌∙◌}
 use Rattle.std.specs.Option.{option_map}
-use Rattle.am_names.specs.declared.row.OpenToken.{OpenToken}
-use Rattle.am_wait.specs.declared.held.HeldToken.{HeldToken}
-use Rattle.am_wait.specs.Rows.{WaitRows, token_of}
-use Rattle.am_wait.specs.Held.{held_of}
+use Rattle.am_names.specs.{OpenToken}
+use Rattle.am_wait.specs.{HeldToken, WaitRows, token_of, held_of}
 use Rattle.am_wait.proofs.ViewLemmas.{tokens_rise, held_of_is}
 use Rattle.am_wait.proofs.waits.Waits.purpose_of.Goals as goal
 

@@ -1,15 +1,9 @@
 use Rattle.std.proofs.Common.{◌≡◌, List, true, false, not, ◌==◌, Some, None, option_copied, refl, sym, ap, subst, ◌∙◌}
-use Rattle.am_names.specs.declared.row.WaitRow.{WaitRow}
-use Rattle.am_wait.specs.declared.held.HeldToken.{HeldToken}
+use Rattle.am_names.specs.{WaitRow, RiseBy}
+use Rattle.am_wait.specs.{HeldToken, WaitRows, wait_of, token_of, is_full, waiting_on, still_waits, collected, rejoined, key_of, next_key, without_seat, Seat, held_of, token_in}
 use Rattle.am_wait.specs.declared.waits.Waits.TheInside.{Inside}
-use Rattle.am_wait.specs.Rows.{WaitRows, wait_of, token_of}
-use Rattle.am_wait.specs.Calls.{is_full, waiting_on, still_waits, collected, rejoined}
-use Rattle.am_wait.specs.Invariant.{RiseBy}
-use Rattle.am_wait.specs.Seats.{key_of, next_key, without_seat}
-use Rattle.am_wait.specs.declared.seats.Seat.{Seat}
 use Rattle.am_wait.proofs.RowLemmas.{rises_filter}
-use Rattle.am_wait.specs.Held.{held_of, token_in}
-use Rattle.am_wait.specs.Inside.{rows_of}
+use Rattle.am_wait.specs.View.{rows_of}
 use Rattle.am_wait.proofs.SameLemmas.{same_slots, same_kept}
 use Rattle.am_wait.proofs.RenewLemmas.{Renews, no_seat_left, rejoins}
 use Rattle.am_wait.proofs.ViewLemmas.{tokens_rise, held_of_is}

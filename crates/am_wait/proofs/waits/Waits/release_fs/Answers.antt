@@ -1,8 +1,6 @@
 use Rattle.std.proofs.Common.{List, refl, ap, subst, ◌∙◌}
-use Rattle.am_wait.specs.declared.seats.Seat.{Seat}
+use Rattle.am_wait.specs.{Seat, WaitRows, fs_released}
 use Rattle.am_wait.specs.declared.waits.Waits.TheInside.{Inside}
-use Rattle.am_wait.specs.Rows.{WaitRows}
-use Rattle.am_wait.specs.Calls.{fs_released}
 use Rattle.am_wait.proofs.FailLemmas.{FailsAll, failed_is, failed_kept}
 use Rattle.am_wait.proofs.waits.Waits.release_fs.Goals as goal
 

@@ -1,14 +1,9 @@
 use Rattle.std.proofs.Common.{◌≡◌, ◌+◌, ◌∷◌, ◌++◌, [], List, false, not, ◌==◌, refl, sym, ap, subst, ◌∙◌}
-use Rattle.am_names.specs.declared.row.WaitRow.{WaitRow}
+use Rattle.am_names.specs.{WaitRow, RiseBy}
 use Rattle.am_wait.specs.declared.waits.Waits.TheInside.{Inside}
-use Rattle.am_wait.specs.Rows.{WaitRows, wait_of}
-use Rattle.am_wait.specs.Calls.{waiting_on, still_waits, reopened}
-use Rattle.am_wait.specs.Invariant.{RiseBy}
-use Rattle.am_wait.specs.Seats.{key_of, next_key, without_seat}
-use Rattle.am_wait.specs.declared.seats.Seat.{Seat}
+use Rattle.am_wait.specs.{WaitRows, wait_of, waiting_on, still_waits, reopened, key_of, next_key, without_seat, Seat, held_row}
 use Rattle.am_wait.proofs.RowLemmas.{rises_filter}
-use Rattle.am_wait.specs.Held.{held_row}
-use Rattle.am_wait.specs.Inside.{rows_of}
+use Rattle.am_wait.specs.View.{rows_of}
 use Rattle.am_wait.proofs.CallLemmas.{free_walker}
 use Rattle.am_wait.proofs.SameLemmas.{same_slots, same_kept}
 use Rattle.am_wait.proofs.RenewLemmas.{Renews, no_seat_left, reopens}

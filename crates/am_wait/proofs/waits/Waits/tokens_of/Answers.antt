@@ -1,8 +1,6 @@
 use Rattle.std.proofs.Common.{◌≡◌, List, ℕ, ap, subst, ◌∙◌}
 use Rattle.std.specs.Prelude.{IfOk}
-use Rattle.am_wait.specs.declared.held.HeldToken.{HeldToken}
-use Rattle.am_wait.specs.Rows.{WaitRows, tokens_of}
-use Rattle.am_wait.specs.Held.{held_tokens_of}
+use Rattle.am_wait.specs.{HeldToken, WaitRows, tokens_of, held_tokens_of}
 use Rattle.am_wait.proofs.ViewLemmas.{tokens_named}
 use Rattle.am_wait.proofs.waits.Waits.tokens_of.Goals as goal
 

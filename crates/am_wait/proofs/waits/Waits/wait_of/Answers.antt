@@ -1,8 +1,6 @@
 use Rattle.std.proofs.Common.{◌≡◌, None, Some, sym, ap, ◌∙◌}
 use Rattle.std.specs.Option.{option_map}
-use Rattle.am_wait.specs.declared.seats.Seat.{Seat}
-use Rattle.am_wait.specs.Rows.{WaitRows, wait_of}
-use Rattle.am_wait.specs.Seats.{key_of, row_at}
+use Rattle.am_wait.specs.{Seat, WaitRows, wait_of, key_of, row_at}
 use Rattle.am_wait.proofs.SeatLemmas.{no_key}
 use Rattle.am_wait.proofs.KeptLemmas.{wait_found, wait_at}
 use Rattle.am_wait.proofs.waits.Waits.wait_of.Goals as goal

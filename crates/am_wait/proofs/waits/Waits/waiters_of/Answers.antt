@@ -1,10 +1,7 @@
 use Rattle.std.proofs.Common.{◌≡◌, [], List, ℕ, Some, None, option_copied, sym, ap, subst, ◌∙◌}
 use Rattle.std.specs.Prelude.{All, IsSome, IfOk}
 use Rattle.slab.specs.Slab.{get}
-use Rattle.am_wait.specs.declared.held.HeldToken.{HeldToken}
-use Rattle.am_wait.specs.Rows.{WaitRows, waiters_of, waiters_in}
-use Rattle.am_wait.specs.Seats.{walkers_at}
-use Rattle.am_wait.specs.Held.{held_of}
+use Rattle.am_wait.specs.{HeldToken, WaitRows, waiters_of, waiters_in, walkers_at, held_of}
 use Rattle.am_wait.proofs.ViewLemmas.{tokens_rise, its_waits, held_of_is}
 use Rattle.am_wait.proofs.waits.Waits.waiters_of.Goals as goal
 

@@ -1,5 +1,5 @@
 use Rattle.std.proofs.Common.{arith}
-use Rattle.am_walk.specs.Inside.{scene_in}
+use Rattle.am_walk.specs.View.{scene_in}
 use Rattle.am_walk.proofs.WalkLemmas.{rests, halts, enters, goes_past, ends}
 use Rattle.am_walk.proofs.scene.View.settle.Goals.{in-Enters, in-Passes+in_ok-push-in-Passes}
 use Rattle.am_walk.proofs.scene.View.settle.Goals as goal

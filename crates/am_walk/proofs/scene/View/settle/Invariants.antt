@@ -1,6 +1,6 @@
 use Rattle.std.proofs.Common.{◌≡◌, ◌-◌}
-use Rattle.am_walk.specs.Walks.{settled_within}
-use Rattle.am_walk.specs.Inside.{scene_in, settled_at}
+use Rattle.am_walk.specs.{settled_within}
+use Rattle.am_walk.specs.View.{scene_in, settled_at}
 use Rattle.am_walk.proofs.scene.View.settle.Given as goal
 
 abbrev pub invariant-loop-step : goal.invariant-loop-step

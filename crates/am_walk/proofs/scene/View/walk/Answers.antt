@@ -1,6 +1,6 @@
 use Rattle.std.proofs.Common.{◌≡◌, ℕ, List, [], None, sym, ap, ◌∙◌, arith, rules}
-use Rattle.am_walk.specs.Inside.{scene_in, left_of}
-use Rattle.am_walk.specs.Walks.{settled, onward, visit_of, Stops}
+use Rattle.am_walk.specs.View.{scene_in, left_of}
+use Rattle.am_walk.specs.{settled, onward, visit_of, Stops}
 use Rattle.am_walk.proofs.WalkLemmas.{along, begins, stopped, goes_on}
 use Rattle.am_walk.proofs.scene.View.walk.Goals as goal
 

@@ -1,6 +1,6 @@
 use Rattle.std.proofs.Common.{◌≡◌, length}
-use Rattle.am_walk.specs.Walks.{visit_of, Stands}
-use Rattle.am_walk.specs.Inside.{scene_in}
+use Rattle.am_walk.specs.{visit_of, Stands}
+use Rattle.am_walk.specs.View.{scene_in}
 use Rattle.am_walk.proofs.WalkLemmas.{along}
 use Rattle.am_walk.proofs.scene.View.walk.Given as goal
 

@@ -1,5 +1,5 @@
 use Rattle.std.proofs.Common.{refl, ◌∙◌}
-use Rattle.am_machine.specs.State.{Opening}
+use Rattle.am_machine.specs.{Setup}
 use Rattle.am_machine.proofs.Walks.Runs.{initial_named}
 use Rattle.am_machine.proofs.Consistent.{initial_consistent}
 use Rattle.am_world.proofs.TableLemmas.{state_is}
@@ -7,7 +7,7 @@ use Rattle.am_world.proofs.world.World.new.Goals as goal
 
 pub invariant_of-result : goal.invariant_of-result
 invariant_of-result c =
-    let opening : Opening = record { limits = c.args.limits; master = c.args.master; maps = c.args.maps.items } in
+    let opening : Setup = record { limits = c.args.limits; master = c.args.master; maps = c.args.maps.items } in
     record {
       consistent = rw (c.in_ok-kernel.ensures.ok, c.new-daemon.ensures, c.new-2.ensures.items) (initial_consistent opening);
       walks = rw (c.in_ok-kernel.ensures.ok) (initial_named opening);

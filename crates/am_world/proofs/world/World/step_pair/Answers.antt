@@ -2,21 +2,20 @@ use Rattle.std.proofs.Common.{◌≡◌, [], inl, refl, sym, ap, subst, ◌∙�
 use Rattle.am_names.specs.declared.errno.Errno.TheVariants.{NoMemory}
 use Rattle.am_machine.specs.declared.answer.Answer.TheVariants.{Refused}
 use Rattle.am_machine.specs.State.{State}
-use Rattle.am_machine.specs.Machine.{outcome_of}
+use Rattle.am_machine.specs.{outcome_of}
 use Rattle.am_machine.proofs.Histories.{step_goes_on}
-use Rattle.am_world.specs.Copies.{IsSpare}
-use Rattle.am_world.specs.Halves.{table_of, whole_state}
-use Rattle.am_world.specs.Table as table
+use Rattle.am_world.specs.{IsMadeAhead, table_of, whole_state}
+use Rattle.am_world.specs.Capacity as table
 use Rattle.am_world.proofs.TableLemmas.{state_is}
 use Rattle.am_world.proofs.SpareLemmas.{step_spares}
 use Rattle.am_world.proofs.world.World.step_pair.Goals as goal
 
-pub again-other-requires : goal.again-other-requires
-again-other-requires c =
+pub second_copy-other-requires : goal.second_copy-other-requires
+second_copy-other-requires c =
     let event = c.args.event.now in
-    let same : table.state_of c.args.self.now ≡ whole_state c.self.inside.halves = ap table.state_of (sym c.self.view_is) ∙ state_is (table_of c.self.inside.halves) in
-    step_spares (table.state_of c.args.self.now) event c.step-answer.result c.step-answer.ensures.0 _ c.in-Ok.spare
-    (subst (λ (s : State). IsSpare c.in-Ok.spare (outcome_of s event).answer) (sym same) c.in-Ok.ensures) c.step-answer.ensures.1
+    let same : table.state_of c.args.self.now ≡ whole_state c.self.inside.machine = ap table.state_of (sym c.self.view_is) ∙ state_is (table_of c.self.inside.machine) in
+    step_spares (table.state_of c.args.self.now) event c.step-answer.result c.step-answer.ensures.0 _ c.in-Ok.made_ahead
+    (subst (λ (s : State). IsMadeAhead c.in-Ok.made_ahead (outcome_of s event).answer) (sym same) c.in-Ok.ensures) c.step-answer.ensures.1
 
 pub returns-in_default-clause-legal : goal.returns-in_default-clause-legal
 returns-in_default-clause-legal c =

@@ -1,0 +1,32 @@
+-- What the fields stand for, and what they keep.
+use Rattle.std.specs.Prelude.{◌≤◌, length}
+use Rattle.std.specs.List.{All}
+use Rattle.am_trigger.specs.{Autofs}
+use Rattle.am_kernel.specs.State.{KernelState}
+use Rattle.am_kernel.specs.declared.kernel.Kernel.TheInside.{Inside}
+
+-- the state that these fields hold
+abbrev pub kernel_of : Inside → KernelState
+kernel_of k = record {
+  table = k.subtree;
+  triggers = k.triggers.rows;
+  failures = k.failures.rows;
+  waits = k.waits;
+  uses = k.uses;
+  attached = k.attached.items;
+  walks = k.walks.rows;
+  queue = k.queue.items;
+  last_fs = k.last_fs;
+  last_attach = k.last_attach;
+  latest = k.latest;
+  negative = k.negative;
+}
+
+-- the number of the next file system is no autofs' number
+abbrev pub IsSound : KernelState → Type 0
+IsSound k = All (λ (row : Autofs). row.fs ≤ k.last_fs) k.triggers.autofs
+
+-- and there is room for the failure of each open token, so that an acknowledgement takes no memory
+pub record IsKept (k : Inside) : Type 0 where
+  pub numbered : IsSound (kernel_of k)
+  pub room : length k.waits.tokens ≤ k.failures.room
