@@ -37,7 +37,7 @@ given_walkers = record {
   joined = λ k attempt token passed w d h. given_more k (walks.with_joined attempt token passed k) d refl refl refl (omega arith) h;
   notified = λ k attempt trigger attach passed w is d h. given_more k (walks.with_notified attempt trigger attach passed k) d refl refl refl (omega arith) h;
   expiring = λ k walker fs moment immediate trigger attach x d h. given_more k (with_expiring walker trigger attach k) d refl refl refl (omega arith) h;
-  closed = λ k fs d h. given_closed k d fs h;
+  made_catatonic = λ k fs d h. given_closed k d fs h;
   collected = λ k kind wait status moment shown made g later d h. later d (given_freed kind k wait moment d h);
 }
 
@@ -71,7 +71,7 @@ changes = record {
   walks = given_walkers;
   walked = λ s shown k moment h. record { keeps = λ planned tokens g. given_more k (with_latest moment k) s.daemon refl refl refl (omega arith) (h s.daemon g) };
   left = λ s walker mount is. more s _ _ refl refl refl (omega arith);
-  closed = λ s fs. record { keeps = λ planned tokens h. given_closed s.kernel s.daemon fs h };
+  made_catatonic = λ s fs. record { keeps = λ planned tokens h. given_closed s.kernel s.daemon fs h };
   timed = λ s fs timeout. record { keeps = λ planned tokens h. given_timeout s.kernel s.daemon fs timeout h };
   died = λ s. record {
     keeps = λ planned tokens h. record {

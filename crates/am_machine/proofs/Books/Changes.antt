@@ -38,7 +38,7 @@ walks = record {
   joined = λ k attempt token passed w. same_attachments k _ (λ fs. refl) (omega arith);
   notified = λ k attempt trigger attach passed w is. same_attachments k _ (λ fs. refl) (omega arith);
   expiring = λ k walker fs moment immediate trigger attach x. same_attachments k _ (λ fs. refl) (omega arith);
-  closed = closed_narrows;
+  made_catatonic = closed_narrows;
   collected = λ k kind wait status moment shown made g later. one_after_another k _ made (freed_narrows kind k wait moment) later;
 }
 
@@ -78,7 +78,7 @@ book = record {
   walks = walks;
   walked = λ s shown k moment n. narrows s shown (with_latest moment k) (narrows_latest s.kernel k moment n);
   left = λ s walker mount is. plain s _ _ (λ fs. refl) (omega arith);
-  closed = λ s fs. narrows s _ _ (closed_narrows s.kernel fs);
+  made_catatonic = λ s fs. narrows s _ _ (closed_narrows s.kernel fs);
   timed = λ s fs timeout. narrows s _ _ (timeout_narrows s.kernel fs timeout);
   died = λ s. record { book = λ given planned differ h. dead_kept s.kernel s.daemon h };
   reattached = λ s fs row is dead. record { book = λ given planned differ h. reattached_kept s.kernel s.daemon fs row is given h };

@@ -78,7 +78,7 @@ changes = record {
   walks = both AnyPath GivenBy AgreesBy given_walkers walkers;
   walked = λ s shown k moment agrees. record { keeps = λ n given planned h. same_agree k (with_latest moment k) s.daemon (record { tokens = refl; queue = refl; attached = refl; autofs = refl }) (agrees.0 s.daemon given) (agrees.1 s.daemon n given h) };
   left = λ s walker mount is. same s _ _ (record { tokens = refl; queue = refl; attached = refl; autofs = refl });
-  closed = λ s fs. record { keeps = λ n given planned h. closed_agree s.kernel s.daemon.jobs fs n.rise h };
+  made_catatonic = λ s fs. record { keeps = λ n given planned h. closed_agree s.kernel s.daemon.jobs fs n.rise h };
   timed = λ s fs timeout. record {
     keeps = λ n given planned h.
         stays_agree s.kernel (with_timeout fs timeout s.kernel) s.daemon.jobs (record { tokens = λ t. refl; queue = refl; grows = λ other. timeout_grows s.kernel fs timeout other }) (jobs_given s.kernel s.daemon given) h;

@@ -158,6 +158,6 @@ walkers = record {
   expiring = λ k walker fs moment immediate trigger attach x d n given h.
       let pick = picked (expires.expiry_of k fs moment immediate) trigger x.next in
       expiring_agrees k walker trigger attach (ap (attach_of k) pick.0 ∙ x.current) pick.1 d n h;
-  closed = λ k fs d n given h. closed_agree k d.jobs fs n.rise h;
+  made_catatonic = λ k fs d n given h. closed_agree k d.jobs fs n.rise h;
   collected = λ k kind wait status moment shown made g later. after_freed kind k wait moment shown made later;
 }

@@ -231,7 +231,7 @@ module _ (Fits : List (List ℕ) → Type 0) (Acts : ℕ → Type 0) (P : Kernel
       in_either_case s (not (is_some (fs_of_attach s.kernel attach))) _ _ (refuses s _) (in_either_case s (is_some (token_of s.kernel.waits.tokens token)) _ _ (refuses s _) (refuses s _))
 
   closes : (s : State) (fs : ℕ) → Leaves R s (with_kernel answers.Done (catatonic_observations fs s.kernel) (made_catatonic fs s.kernel) s)
-  closes s fs = record { well = keeps.closed s fs }
+  closes s fs = record { well = keeps.made_catatonic s fs }
 
   closes_if : (live : Bool) (s : State) (fs : ℕ) → Leaves R s (with_kernel answers.Done (if live then catatonic_observations fs s.kernel else []) (if live then made_catatonic fs s.kernel else s.kernel) s)
   closes_if true s fs = closes s fs

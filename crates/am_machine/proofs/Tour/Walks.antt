@@ -120,7 +120,7 @@ module _ (Fits : List (List ℕ) → Type 0) (P : KernelState → List Obs → K
   nothing k progress = record { well = keeps.nothing k }
 
   closes : (k : KernelState) (progress : Progress) (fs : ℕ) → Leaves P k (Proceeds progress (catatonic_observations fs k) (made_catatonic fs k))
-  closes k progress fs = record { well = keeps.closed k fs }
+  closes k progress fs = record { well = keeps.made_catatonic k fs }
 
   in_either_case : (k : KernelState) (b : Bool) (first second : CallOutcome) → Leaves P k first → Leaves P k second → Leaves P k (if b then first else second)
   in_either_case k true first second h g = h
@@ -261,7 +261,7 @@ both Fits P Q p q = record {
   joined = λ k attempt token passed w. (p.joined k attempt token passed w, q.joined k attempt token passed w);
   notified = λ k attempt trigger attach passed w is. (p.notified k attempt trigger attach passed w is, q.notified k attempt trigger attach passed w is);
   expiring = λ k walker fs moment immediate trigger attach x. (p.expiring k walker fs moment immediate trigger attach x, q.expiring k walker fs moment immediate trigger attach x);
-  made_catatonic = λ k fs. (p.closed k fs, q.closed k fs);
+  made_catatonic = λ k fs. (p.made_catatonic k fs, q.made_catatonic k fs);
   collected = λ k kind wait status moment shown made g later. (p.collected k kind wait status moment shown made g later.0, q.collected k kind wait status moment shown made g later.1);
 }
 

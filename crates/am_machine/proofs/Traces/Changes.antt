@@ -182,7 +182,7 @@ lawful = record {
     once = at_most_one (seen.Left walker mount ∷ []) 0 refl (omega arith);
     opening = refl;
   };
-  closed = λ s fs. let m = closes s.kernel fs in record { adds = λ h. m.adds s.daemon.jobs s.trace h; once = m.once; opening = ap (opening_with s) m.limits };
+  made_catatonic = λ s fs. let m = closes s.kernel fs in record { adds = λ h. m.adds s.daemon.jobs s.trace h; once = m.once; opening = ap (opening_with s) m.limits };
   timed = λ s fs timeout. plainly s _ _ nothing_plain refl refl;
   died = λ s. plainly s _ _ died_plain refl refl;
   reattached = λ s fs row is dead. plainly s _ _ (reattached_plain fs (s.kernel.last_attach + 1)) refl refl;

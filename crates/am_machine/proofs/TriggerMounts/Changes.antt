@@ -201,7 +201,7 @@ stand = record {
   walks = both AnyPath NarrowsBy KeepsBy books.walks places.walks;
   walked = λ s shown k moment two. quietly s shown (with_latest moment k) (narrows_latest s.kernel k moment two.0) (keeps_latest s.kernel k moment two.1);
   left = λ s walker mount is. quietly s _ _ (same_attachments s.kernel _ (λ fs. refl) (omega arith)) (record { table = refl; last_fs = refl; sites = λ fs. refl });
-  closed = λ s fs. quietly s _ _ (closed_narrows s.kernel fs) (closes s.kernel fs);
+  made_catatonic = λ s fs. quietly s _ _ (closed_narrows s.kernel fs) (closes s.kernel fs);
   timed = λ s fs timeout. quietly s _ _ (timeout_narrows s.kernel fs timeout) (record { table = refl; last_fs = refl; sites = λ g. refl });
   died = λ s. record { stands = λ w h. dead_stands s.kernel s.daemon h; sites = λ w. w.on };
   reattached = λ s fs row is dead. record { stands = λ w h. reattached_stands s.kernel s.daemon fs row is w.given w.places w.on h; sites = λ w. on_still s.kernel (with_pipe fs s.kernel) (pipe_still s.kernel fs) w.on };

@@ -36,7 +36,7 @@ walks = record {
   joined = λ k attempt token passed w h. joined_named k attempt token passed w.path (passed_named k attempt _ passed w) h;
   notified = λ k attempt trigger attach passed w is h. notified_named k attempt trigger attach passed w.path (stop_named k attempt _ passed w) (passed_named k attempt _ passed w) h;
   expiring = λ k walker fs moment immediate trigger attach x h. expiring_named k walker trigger attach (picked_use IsNamed (expiry_of k fs moment immediate) trigger x.next h.used) h;
-  closed = λ k fs h. closed_named fs k h;
+  made_catatonic = λ k fs h. closed_named fs k h;
   collected = λ k kind wait status moment shown made g later h.
       let own = all_found (λ (r : WaitRow). is_named r.trigger ≡ true) (λ (r : WaitRow). r.walker == wait.walker) k.waits.waits wait h.waits g.waits in
       later (freed_from_named kind wait moment k own h);
@@ -65,7 +65,7 @@ named = record {
   walks = walks;
   walked = λ s shown k moment stays. record { names = λ h. same_rows k (with_latest moment k) refl refl refl (stays h) };
   left = λ s walker mount is. same s _ _ refl refl refl;
-  closed = λ s fs. record { names = closed_named fs s.kernel };
+  made_catatonic = λ s fs. record { names = closed_named fs s.kernel };
   timed = λ s fs timeout. same s _ _ refl refl refl;
   died = λ s. record { names = λ h. h };
   reattached = λ s fs row is dead. same s _ _ refl refl refl;
