@@ -24,12 +24,12 @@ Gives granted shown made (Ok given) old new before after =
 Gives granted shown made (Err e) old new before after = IsAsBefore old new before after
 
 -- the same of an expiry, which tells how it goes on
-abbrev pub Goes : CallOutcome → Result Granted Errno → KernelState → KernelState → List Obs → List Obs
+abbrev pub Grants : CallOutcome → Result Granted Errno → KernelState → KernelState → List Obs → List Obs
     → Type 0
-Goes outcome (Ok Done) old new before after = ⊥
-Goes outcome (Ok (Progress progress)) old new before after = Yields outcome (Ok progress) old new before after
-Goes outcome (Ok (Attached attach)) old new before after = ⊥
-Goes outcome (Err e) old new before after = Yields outcome (Err e) old new before after
+Grants outcome (Ok Done) old new before after = ⊥
+Grants outcome (Ok (Progress progress)) old new before after = Yields outcome (Ok progress) old new before after
+Grants outcome (Ok (Attached attach)) old new before after = ⊥
+Grants outcome (Err e) old new before after = Yields outcome (Err e) old new before after
 
 -- by the request: the tests that may refuse it, what it gives, what is seen of it, and what it
 -- leaves
@@ -50,7 +50,7 @@ IsGranted (requests.SetTimeout attach fs timeout) result old new before after =
     RefusedOnlyAs (timeout_refusal old attach fs) result ×
     Gives Done [] (with_timeout fs timeout old) result old new before after
 IsGranted (requests.Expire walker fs now immediate pipe) result old new before after =
-    Goes (expire_outcome pipe old walker fs now immediate) result old new before after
+    Grants (expire_outcome pipe old walker fs now immediate) result old new before after
 IsGranted (requests.SetPipe fs) result old new before after =
     RefusedOnlyAs (pipe_refusal old fs) result ×
     Gives (Attached (old.last_attach + 1)) [] (with_pipe fs old) result old new before after

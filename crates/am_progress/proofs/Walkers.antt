@@ -35,9 +35,9 @@ use Rattle.am_progress.proofs.Worlds.{IsWorld, next_world, after_runs}
 
 -- ---- a walker that was released goes on
 
-abbrev Goes : kernel.CallOutcome → Type 0
-Goes (kernel.Proceeds progress shown made) = ⊤
-Goes (kernel.Fails e) = ⊥
+abbrev HasProceeded : kernel.CallOutcome → Type 0
+HasProceeded (kernel.Proceeds progress shown made) = ⊤
+HasProceeded (kernel.Fails e) = ⊥
 
 told_goes : (progress : Progress) → is_refused (answer_of progress) ≡ false
 told_goes (progress.Arrived at) = refl
@@ -45,48 +45,48 @@ told_goes (progress.Waits token) = refl
 told_goes (progress.Failed e) = refl
 told_goes progress.Expired = refl
 
-goes_done : (o : kernel.CallOutcome) (s : State) (moment : ℕ) → Goes o → is_refused (goes (kernel.at_moment moment o) s).answer ≡ false
+goes_done : (o : kernel.CallOutcome) (s : State) (moment : ℕ) → HasProceeded o → is_refused (goes (kernel.at_moment moment o) s).answer ≡ false
 goes_done (kernel.Proceeds progress shown made) s moment h = told_goes progress
 goes_done (kernel.Fails e) s moment h = absurd h
 
-or_failed : (o : kernel.CallOutcome) (k : KernelState) → Goes (resumes.or_failed o k)
+or_failed : (o : kernel.CallOutcome) (k : KernelState) → HasProceeded (resumes.or_failed o k)
 or_failed (kernel.Proceeds progress shown made) k = tt
 or_failed (kernel.Fails e) k = tt
 
-either_goes : (b : Bool) (first second : kernel.CallOutcome) → Goes first → Goes second → Goes (if b then first else second)
+either_goes : (b : Bool) (first second : kernel.CallOutcome) → HasProceeded first → HasProceeded second → HasProceeded (if b then first else second)
 either_goes true first second h g = h
 either_goes false first second h g = g
 
-again : (pipe : PipeState) (k base : KernelState) (row : WalkRow) (moment : ℕ) → Goes (resumes.retry pipe k base row moment)
+again : (pipe : PipeState) (k base : KernelState) (row : WalkRow) (moment : ℕ) → HasProceeded (resumes.retry pipe k base row moment)
 again pipe k base row moment =
     either_goes (nat_le resumes.max_attempts row.attempts) (resumes.failed ELOOP base) _ tt
     (or_failed (walks.attempted_with (walk_of (scene_of k moment) row.ns row.path) pipe base (resumes.next_attempt row moment)) base)
 
-resumed_as : (kind : TokenKind) (status : Status) (pipe : PipeState) (k : KernelState) (wait : WaitRow) (row : WalkRow) (moment : ℕ) → Goes (resumes.resumed_as kind status pipe k wait row moment)
+resumed_as : (kind : TokenKind) (status : Status) (pipe : PipeState) (k : KernelState) (wait : WaitRow) (row : WalkRow) (moment : ℕ) → HasProceeded (resumes.resumed_as kind status pipe k wait row moment)
 resumed_as Missing (Fail error) pipe k wait row moment = tt
 resumed_as Missing Ready pipe k wait row moment = again pipe k (resumes.wait_collected_from Missing wait moment k) row moment
 resumed_as Expire status pipe k wait row moment = again pipe k (resumes.wait_collected_from Expire wait moment k) row moment
 
-expired_as : (status : Status) (k : KernelState) → Goes (resumes.expired_as status k)
+expired_as : (status : Status) (k : KernelState) → HasProceeded (resumes.expired_as status k)
 expired_as Ready k = tt
 expired_as (Fail error) k = tt
 
 -- who has no walk asked for an expiry
-expiry_finished_as : (kind : TokenKind) (status : Status) (k : KernelState) (wait : WaitRow) (moment : ℕ) → (kind ≡ Missing → ⊥) → Goes (resumes.expiry_finished_as kind status k wait moment)
+expiry_finished_as : (kind : TokenKind) (status : Status) (k : KernelState) (wait : WaitRow) (moment : ℕ) → (kind ≡ Missing → ⊥) → HasProceeded (resumes.expiry_finished_as kind status k wait moment)
 expiry_finished_as Missing status k wait moment asked = absurd (asked refl)
 expiry_finished_as Expire status k wait moment asked = expired_as status (resumes.wait_collected_from Expire wait moment k)
 
-resumed_walk : (row : Option WalkRow) (status : Status) (pipe : PipeState) (k : KernelState) (wait : WaitRow) (moment : ℕ) → (wait.kind ≡ Missing → is_some row ≡ true) → Goes (resumes.resumed_walk row status pipe k wait moment)
+resumed_walk : (row : Option WalkRow) (status : Status) (pipe : PipeState) (k : KernelState) (wait : WaitRow) (moment : ℕ) → (wait.kind ≡ Missing → is_some row ≡ true) → HasProceeded (resumes.resumed_walk row status pipe k wait moment)
 resumed_walk None status pipe k wait moment walks = expiry_finished_as wait.kind status k wait moment (λ missing. let no : false ≡ true = walks missing in cc)
 resumed_walk (Some row) status pipe k wait moment walks = resumed_as wait.kind status pipe k wait row moment
 
-resumes_by_cases : (pipe : PipeState) (k : KernelState) (walker moment : ℕ) (row : WaitRow) (status : Status) → mount_of_walker k.uses walker ≡ None → wait_of k.waits.waits walker ≡ Some row → row.status ≡ Some status → (row.kind ≡ Missing → is_some (resumes.walk_in k.walks row.walker) ≡ true) → Goes (resumes.resume_at pipe k walker moment)
+resumes_by_cases : (pipe : PipeState) (k : KernelState) (walker moment : ℕ) (row : WaitRow) (status : Status) → mount_of_walker k.uses walker ≡ None → wait_of k.waits.waits walker ≡ Some row → row.status ≡ Some status → (row.kind ≡ Missing → is_some (resumes.walk_in k.walks row.walker) ≡ true) → HasProceeded (resumes.resume_at pipe k walker moment)
 resumes_by_cases pipe k walker moment row status out is its walks =
     let same : resumes.resume_at pipe k walker moment ≡ resumes.resumed_walk (resumes.walk_in k.walks row.walker) status pipe k row moment =
     ap (λ (o : Option ℕ). if is_some o then kernel.Fails EINVAL else resumes.resumed_at (wait_of k.waits.waits walker) pipe k moment) out
     ∙ ap (λ (o : Option WaitRow). resumes.resumed_at o pipe k moment) is
     ∙ ap (λ (o : Option Status). resumes.resumed_by o pipe k row moment) its in
-    subst Goes (sym same) (resumed_walk (resumes.walk_in k.walks row.walker) status pipe k row moment walks)
+    subst HasProceeded (sym same) (resumed_walk (resumes.walk_in k.walks row.walker) status pipe k row moment walks)
 
 wait_number : (w : List WaitRow) (walker : ℕ) (row : WaitRow) → wait_of w walker ≡ Some row → row.walker ≡ walker
 wait_number w walker row is = equal_by_test row.walker walker (found_passes (λ (r : WaitRow). r.walker == walker) w row is)

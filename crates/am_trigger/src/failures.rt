@@ -37,9 +37,9 @@ impl Model for Failures {
 
     ghost Value = { FailureTable };
 
-    ghost use Rattle.am_trigger.specs.FailureView.{table_of};
+    ghost use Rattle.am_trigger.specs.FailureView.{failure_table_of};
 
-    ghost view = { table_of };
+    ghost view = { failure_table_of };
 }
 
 /// The failures as a walk meets them at a moment, where they last so many seconds.
