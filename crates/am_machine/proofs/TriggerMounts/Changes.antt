@@ -1,7 +1,6 @@
 -- Each change leaves right what the daemon knows of the mounts, and so does each event.
 use Rattle.std.proofs.Common.{◌≡◌, ◌≢◌, ℕ, ◌+◌, ◌||◌, ◌==◌, Bool, true, false, not, List, [], ◌∷◌, map, Option, Some, None, refl, sym, ap, subst, ◌∙◌, inl, inr, arith}
 use Rattle.std.specs.Prelude.{is_some, is_none, Ok}
-use Rattle.std.proofs.lemmas.Bool.{eq-eqb}
 use Rattle.am_names.specs.{same_trigger, Position}
 use Rattle.am_names.specs.declared.trigger.Trigger.{Trigger}
 use Rattle.am_names.proofs.Basics.{none_where_not_some, true_where_not_false}
@@ -39,9 +38,7 @@ use Rattle.am_machine.proofs.TriggerMounts.Deliver.{taken_stands}
 use Rattle.am_machine.proofs.TriggerMounts.Attach.{attached_stands, attached_on_triggers, dead_stands}
 use Rattle.am_machine.proofs.TriggerMounts.Reattach.{pipe_still, reattached_stands}
 use Rattle.am_machine.proofs.Books.Changes as books
-use Rattle.am_machine.proofs.Books.Changes.{NarrowsBy, its_job}
 use Rattle.am_machine.proofs.Places.Changes as places
-use Rattle.am_machine.proofs.Places.Changes.{KeepsBy, closes, value_unless_none, not_namespace_0}
 use Rattle.am_machine.proofs.Tour.Walks.{AnyPath, Both, both}
 use Rattle.am_machine.proofs.Tour.Events as tours
 use Rattle.am_machine.proofs.Tour.Events.{with_half, going, attached, IsNext, IsTaken, IsUnmounted, any_event, AnyJob}
@@ -112,7 +109,7 @@ umount_at k at may p =
     let m = at.mount in
     let sited = others_passed (root_refusal at) _ may in
     let tests = test_passed (is_none (mountpoint_of k.table m)) _ _ (first_passed (site_refusal k m) _ sited) in
-    let mounted = value_unless_none (mountpoint_of k.table m) tests.0 in
+    let mounted = places.value_unless_none (mountpoint_of k.table m) tests.0 in
     let off = later_false (is_on_autofs k m) (is_parent_on_autofs k (mountpoint_of k.table m)) (is_any_on_autofs k (unmounted k.table m)) (test_passed (is_daemons k m) _ None tests.1).0 in
     plain_still k p m mounted.0 mounted.1 (ap (is_parent_on_autofs k) (sym mounted.1) ∙ off)
 
@@ -122,7 +119,7 @@ umount_at k at may p =
 plainly : (s : State) (shown : List Obs) (row : JobPlan) (outcome : job.Outcome) (k : KernelState) (a : Act) → IsNext AnyJob s row a → writes (Some a) ≡ None → MovesNothing (Some a) outcome → Narrows s.kernel k → SamePlaces s.kernel k → StaysKnown s shown (going row outcome k s)
 plainly s shown row outcome k a i none moves n keeps = record {
   sites = λ w. on_still s.kernel k (kept_still s.kernel k keeps) w.on;
-  stands = λ w h. goes_plainly s.kernel k s.daemon row outcome n (kept_still s.kernel k keeps) (its_job s row i.is w.planned w.differ) (ap writes i.next ∙ none) (subst (λ (o : Option Act). MovesNothing o outcome) (sym i.next) moves) w.book h;
+  stands = λ w h. goes_plainly s.kernel k s.daemon row outcome n (kept_still s.kernel k keeps) (books.its_job s row i.is w.planned w.differ) (ap writes i.next ∙ none) (subst (λ (o : Option Act). MovesNothing o outcome) (sym i.next) moves) w.book h;
 }
 
 mounts_on : (s : State) (row : JobPlan) (trigger : Trigger) (entry : EntryText) → IsNext AnyJob s row (act.Mount trigger entry) → mount_on_refusal s.kernel row.attach trigger ≡ None →
@@ -136,7 +133,7 @@ mounts_on s row trigger entry i may = record {
       mounted_on_triggers k w.places trigger b.0 b.1 (true_where_not_false (is_there k trigger) second.0) w.on;
   stands = λ w h.
       let k = s.kernel in
-      let j = its_job s row i.is w.planned w.differ in
+      let j = books.its_job s row i.is w.planned w.differ in
       let made = with_mount_on trigger k in
       let first = test_passed (not (is_current k trigger.fs row.attach)) _ _ may in
       let second = test_passed (not (is_there k trigger)) _ _ first.1 in
@@ -158,7 +155,7 @@ unmounts_from : (s : State) (row : JobPlan) (trigger : Trigger) (m : ℕ) → Is
     Knows (without_mounts (gone_with s.kernel (Some m)) s.kernel) (finished row.token came.Done s.daemon)
 unmounts_from s row trigger m i u w h =
     let k = s.kernel in
-    let j = its_job s row i.is w.planned w.differ in
+    let j = books.its_job s row i.is w.planned w.differ in
     let made = without_mounts (gone_with k (Some m)) k in
     let current : attach_of k trigger.fs ≡ Some row.attach = attach_from_current k trigger.fs row.attach w.given.rise u.current in
     let b = attached_autofs k trigger.fs row.attach current in
@@ -188,7 +185,7 @@ takes s token row taken =
 
 -- ---- events
 
-stand : tours.Keeps AnyPath AnyJob (Both NarrowsBy KeepsBy) StaysKnown
+stand : tours.Keeps AnyPath AnyJob (Both books.NarrowsBy places.KeepsBy) StaysKnown
 stand = record {
   same = λ s. record { stands = λ w h. h; sites = λ w. w.on };
   attached = λ s path point at is fresh may. attaches s path point.direct (line_timeout s.daemon point.entry) at is may;
@@ -197,11 +194,11 @@ stand = record {
   unmounted = λ s at may. still s _ _ (same_attachments s.kernel _ (λ fs. refl) (omega arith)) (umount_at s.kernel at may);
   changed = λ s change at may. still s _ _ (same_attachments s.kernel _ (λ fs. refl) (omega arith)) (λ p. record { still = λ g a is. refl; rows = λ fs a is m row place e on. e; sites = λ fs. refl });
   copied = λ s ns form may. still s _ _ (same_attachments s.kernel _ (λ fs. refl) (omega arith)) (λ p. copied_still s.kernel p ns form);
-  dropped = λ s ns may. still s _ _ (same_attachments s.kernel _ (λ fs. refl) (omega arith)) (λ p. dropped_still s.kernel p ns (not_namespace_0 ns (test_passed (ns == 0) _ _ may).0));
-  walks = both AnyPath NarrowsBy KeepsBy books.walks places.walks;
+  dropped = λ s ns may. still s _ _ (same_attachments s.kernel _ (λ fs. refl) (omega arith)) (λ p. dropped_still s.kernel p ns (places.not_namespace_0 ns (test_passed (ns == 0) _ _ may).0));
+  walks = both AnyPath books.NarrowsBy places.KeepsBy books.walks places.walks;
   walked = λ s shown k moment two. quietly s shown (with_latest moment k) (narrows_latest s.kernel k moment two.0) (keeps_latest s.kernel k moment two.1);
   left = λ s walker mount is. quietly s _ _ (same_attachments s.kernel _ (λ fs. refl) (omega arith)) (record { table = refl; last_fs = refl; sites = λ fs. refl });
-  made_catatonic = λ s fs. quietly s _ _ (closed_narrows s.kernel fs) (closes s.kernel fs);
+  made_catatonic = λ s fs. quietly s _ _ (closed_narrows s.kernel fs) (places.closes s.kernel fs);
   timed = λ s fs timeout. quietly s _ _ (timeout_narrows s.kernel fs timeout) (record { table = refl; last_fs = refl; sites = λ g. refl });
   died = λ s. record { stands = λ w h. dead_stands s.kernel s.daemon h; sites = λ w. w.on };
   reattached = λ s fs row is dead. record { stands = λ w h. reattached_stands s.kernel s.daemon fs row is w.given w.places w.on h; sites = λ w. on_still s.kernel (with_pipe fs s.kernel) (pipe_still s.kernel fs) w.on };
@@ -213,7 +210,7 @@ stand = record {
   unmounted_on = λ s row trigger mount i u. record { stands = λ w h. unmounts_from s row trigger mount i u w h; sites = λ w. unmounts_sites s row trigger mount u w };
   recorded = λ s row trigger entry i held. record {
     sites = λ w. w.on;
-    stands = λ w h. goes_written s.kernel s.daemon row came.Done trigger entry (its_job s row i.is w.planned w.differ) (record { next = i.next; holds = held }) (claims_record row.plan trigger entry i.next) w.book h;
+    stands = λ w h. goes_written s.kernel s.daemon row came.Done trigger entry (books.its_job s row i.is w.planned w.differ) (record { next = i.next; holds = held }) (claims_record row.plan trigger entry i.next) w.book h;
   };
   replied = λ s row status its i is. plainly s _ row came.Done _ (act.Reply status) i refl refl (same_attachments s.kernel _ (λ fs. refl) (omega arith)) (record { table = refl; last_fs = refl; sites = λ fs. refl });
 }
@@ -221,9 +218,9 @@ stand = record {
 -- an outcome leaves right what stands on the triggers
 pub outcome_stands : (s : State) (event : Event) → NumbersAreAllocated s.kernel s.daemon → TokensAgree s.kernel s.daemon.jobs → ArePlanned s.daemon.jobs → PlacesAgree s.kernel → BookAgrees s.kernel s.daemon → TriggerMountsAgree s.kernel s.daemon →
     TriggerMountsAgree (after s (outcome_of s event)).kernel (after s (outcome_of s event)).daemon
-outcome_stands s event given tokens planned places book h =
-    let keeps = (tours.outcome AnyPath AnyJob (Both NarrowsBy KeepsBy) StaysKnown stand s event (any_event s event)).well in
-    let others : Holds s = record { given = given; planned = planned; differ = tokens.numbers; places = places; book = book; on = h.on_triggers } in
+outcome_stands s event given tokens planned placed book h =
+    let keeps = (tours.outcome AnyPath AnyJob (Both books.NarrowsBy places.KeepsBy) StaysKnown stand s event (any_event s event)).well in
+    let others : Holds s = record { given = given; planned = planned; differ = tokens.numbers; places = placed; book = book; on = h.on_triggers } in
     let before : Knows s.kernel s.daemon = record { at_work = h.at_work; settled = h.settled } in
     let now = keeps.stands others before in
     record { at_work = now.at_work; settled = now.settled; on_triggers = keeps.sites others }
