@@ -1,12 +1,15 @@
 -- Walkers that have a walk, and those that have none.
-use Rattle.std.proofs.Common.{◌≡◌, ◌+◌, ℕ, suc, zero, Bool, true, false, cond, not, ◌==◌, List, [], ◌∷◌, ◌++◌, Option, Some, None, refl, sym, ap, subst, ◌∙◌, arith}
+use Rattle.std.proofs.Common.{◌≡◌, ◌≢◌, ◌+◌, ◌<◌, ℕ, suc, zero, Bool, true, false, cond, not, ◌==◌, List, [], ◌∷◌, ◌++◌, Option, Some, None, get_or, slice_get, Bor, refl, sym, ap, subst, ◌∙◌, arith}
 use Rattle.std.specs.Prelude.{is_some, drop, remove, position, nat_eq, nat_lt, length}
-use Rattle.std.specs.List.{list_any, position_or_len}
+use Rattle.std.specs.List.{position_or_len}
+use Rattle.std.specs.Option.{option_copied}
+use Rattle.std.specs.Slice.{IsItemAt}
+use Rattle.std.proofs.lemmas.Bool.{lt-ltb}
+use Rattle.std.proofs.lemmas.Option.{slice_get_past, slice_get_read}
 use Rattle.std.proofs.lemmas.Bool.Decides.{nat_tests, Decides-eqb}
 use Rattle.std.proofs.lemmas.List.{drop-drop}
 use Rattle.am_names.proofs.Basics.{equal_by_test, none_where_not_some}
 use Rattle.am_kernel.specs.{WalkRow, without_walk, walk_in, IsSingle}
-use Rattle.am_names.specs.{is_among}
 
 -- ---- a walker that has no walk
 
@@ -105,6 +108,10 @@ found_place : (b : Bool) (n place : ℕ) → cond b (Some n) None ≡ Some place
 found_place true n place e = cc
 found_place false n place e = absurd cc
 
+some_where_found : (b : Bool) (n place : ℕ) → cond b (Some n) None ≡ Some place → b ≡ true
+some_where_found true n place e = refl
+some_where_found false n place e = absurd cc
+
 pub taken_at : (w place : ℕ) (rows : List WalkRow) → IsSingle rows → position (λ row. row.walker == w) rows ≡ Some place → remove rows place ≡ without_walk w rows
 taken_at w place rows single e = subst (λ (n : ℕ). remove rows n ≡ without_walk w rows) (found_place _ _ place e) (removed_first w rows single)
 
@@ -141,18 +148,66 @@ false_where_none false n e = refl
 pub none_there : (w : ℕ) (rows : List WalkRow) → position (λ row. row.walker == w) rows ≡ None → without_walk w rows ≡ rows
 none_there w rows e = none_taken w rows (no_place w rows (false_where_none _ _ e))
 
--- ---- among the walkers
+-- ---- a place that was looked at
 
-nat_eq_the_other_way : (a b : ℕ) → nat_eq a b ≡ (b == a)
-nat_eq_the_other_way a b = grind (arith, nat_tests)
+there_is : (w at : ℕ) (rows : List WalkRow) (row : WalkRow) → at < length rows → row ≡ get_or rows at row → (row.walker == w) ≡ true → walk_in rows w ≢ None
+there_is w at [] row less e same none = absurd (omega (arith, less))
+there_is w zero (r ∷ rows) row less e same none = absurd (cc (sym (ap (λ (b : Bool). cond b (Some r) (walk_in rows w)) (ap (λ (x : WalkRow). x.walker == w) (sym e) ∙ same)) ∙ none))
+there_is w (suc at) (r ∷ rows) row less e same none = by_test (r.walker == w) none (there_is w at rows row (omega (arith, less)) e same)
+  where
+    by_test : (b : Bool) → cond b (Some r) (walk_in rows w) ≡ None → walk_in rows w ≢ None → ⊥
+    by_test true h later = absurd cc
+    by_test false h later = later h
 
-pub list_any_is_among : (w : ℕ) (walkers : List ℕ) → list_any (nat_eq w) walkers ≡ is_among walkers w
-list_any_is_among w [] = refl
-list_any_is_among w (other ∷ walkers) = rw (nat_eq_the_other_way w other, list_any_is_among w walkers) refl
+-- the walker's walk is at this place, since it has no other
+single_point : (w at : ℕ) (rows : List WalkRow) (row : WalkRow) → IsSingle rows → at < length rows → row ≡ get_or rows at row → (row.walker == w) ≡ true → position_or_len (λ (r : WalkRow). r.walker == w) rows ≡ at
+single_point w at [] row single less e same = absurd (omega (arith, less))
+single_point w zero (r ∷ rows) row single less e same = rw (ap (λ (x : WalkRow). x.walker == w) (sym e) ∙ same) refl
+single_point w (suc at) (r ∷ rows) row single less e same =
+    by_test (r.walker == w) refl (single_point w at rows row single.1 (omega (arith, less)) e same)
+  where
+    by_test : (b : Bool) → (r.walker == w) ≡ b → position_or_len (λ (x : WalkRow). x.walker == w) rows ≡ at → cond (not b) (1 + position_or_len (λ (x : WalkRow). x.walker == w) rows) 0 ≡ suc at
+    by_test true first later =
+        absurd (there_is w at rows row (omega (arith, less)) e same (ap (walk_in rows) (sym (equal_by_test r.walker w first)) ∙ single.0))
+    by_test false first later = omega (arith, later)
+
+pub single_place : (w at : ℕ) (rows : List WalkRow) (row : WalkRow) → IsSingle rows → at < length rows → row ≡ get_or rows at row → (row.walker == w) ≡ true → position (λ (r : WalkRow). r.walker == w) rows ≡ Some at
+single_place w at rows row single less e same =
+    let point = single_point w at rows row single less e same in
+    rw (point, lt-ltb at (length rows) less) refl
+
+-- what is at the place that was found
+pub walk_at_place : (w : ℕ) (rows : List WalkRow) (place : ℕ) → position (λ (r : WalkRow). r.walker == w) rows ≡ Some place → slice_get rows place ≡ walk_in rows w
+walk_at_place w rows place e = ap (slice_get rows) (sym (found_place _ _ place e)) ∙ at_point rows (some_where_found _ _ place e)
+  where
+    at_point : (rest : List WalkRow) → nat_lt (position_or_len (λ (r : WalkRow). r.walker == w) rest) (length rest) ≡ true → slice_get rest (position_or_len (λ (r : WalkRow). r.walker == w) rest) ≡ walk_in rest w
+    at_point [] h = absurd cc
+    at_point (r ∷ rest) h = by_test (r.walker == w) h (at_point rest)
+      where
+        by_test : (b : Bool) → nat_lt (cond (not b) (1 + position_or_len (λ (x : WalkRow). x.walker == w) rest) 0) (suc (length rest)) ≡ true →
+            (nat_lt (position_or_len (λ (x : WalkRow). x.walker == w) rest) (length rest) ≡ true → slice_get rest (position_or_len (λ (x : WalkRow). x.walker == w) rest) ≡ walk_in rest w) →
+            slice_get (r ∷ rest) (cond (not b) (1 + position_or_len (λ (x : WalkRow). x.walker == w) rest) 0) ≡ cond b (Some r) (walk_in rest w)
+        by_test true less later = refl
+        by_test false less later =
+            let further : 1 + position_or_len (λ (x : WalkRow). x.walker == w) rest ≡ suc (position_or_len (λ (x : WalkRow). x.walker == w) rest) = omega arith in
+            rw further (later (grind (arith, nat_tests, less)))
+
+-- where there is no place, there is no walk
+pub no_walk_where_no_place : (w : ℕ) (rows : List WalkRow) → position (λ row. row.walker == w) rows ≡ None → walk_in rows w ≡ None
+no_walk_where_no_place w rows e = no_place w rows (false_where_none _ _ e)
+
+-- what a look at a place tells
+pub copied_is : (rows : List WalkRow) (at : ℕ) (o : Option (Bor WalkRow)) → IsItemAt rows at o → option_copied o ≡ slice_get rows at
+copied_is rows at None item = sym (slice_get_past rows at item.3)
+copied_is rows at (Some row) item = sym (slice_get_read rows (length rows) at row.now refl item.3.0 item.1)
+
+-- ---- turns
 
 nat_eq_is_eqb : (a b : ℕ) → nat_eq a b ≡ (a == b)
 nat_eq_is_eqb a b = grind (arith, nat_tests)
 
-pub among_others : (w other : ℕ) (old new : List ℕ) → list_any (nat_eq other) new ≡ cond (nat_eq w other) false (list_any (nat_eq other) old) → is_among new other ≡ cond (w == other) false (is_among old other)
-among_others w other old new h =
-    sym (list_any_is_among other new) ∙ h ∙ ap (λ (b : Bool). cond b false (list_any (nat_eq other) old)) (nat_eq_is_eqb w other) ∙ ap (cond (w == other) false) (list_any_is_among other old)
+-- a walker has no turn any more, and others have theirs
+pub turn_taken : (w other : ℕ) (old new : Option ℕ) → new ≡ cond (nat_eq w other) None old → is_some new ≡ cond (w == other) false (is_some old)
+turn_taken w other old new h =
+    ap is_some (h ∙ ap (λ (b : Bool). cond b None old) (nat_eq_is_eqb w other))
+    ∙ (elim (w == other) as (λ b. is_some (cond b None old) ≡ cond b false (is_some old)) [ true ↦ refl | false ↦ refl ])

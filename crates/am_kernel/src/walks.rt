@@ -1,16 +1,15 @@
 //! The walks of those who wait.
 
-ghost use Rattle.std.specs.Prelude.{◌≡◌, ◌≤◌, ◌<◌, ◌+◌, ◌==◌, ◌∷◌, ◌++◌, [], ℕ, true, false, cond, drop, length, position, OnOk, vec_len, vec_capacity};
+ghost use Rattle.std.specs.Prelude.{◌≡◌, ◌≤◌, ◌<◌, ◌+◌, ◌==◌, ◌∷◌, ◌++◌, [], ℕ, true, false, cond, drop, length, position, is_some, OnOk, vec_len, vec_capacity};
 ghost use Rattle.std.specs.Option.{option_copied};
-ghost use Rattle.indexmap.specs.IndexSet.{spare};
-ghost use Rattle.am_names.specs.{is_among};
+ghost use Rattle.indexmap.specs.IndexMap.{spare};
 ghost use Rattle.am_kernel.specs.Walks.{without_walk};
 ghost use Rattle.am_kernel.specs.Resumes.{walk_in};
-ghost use Rattle.am_kernel.specs.WalkTable.{IsSingle};
+ghost use Rattle.am_kernel.specs.WalkTable.{IsSingle, has_turn};
 
 use crate::row::WalkRow;
 use am_names::WalkerId;
-use indexmap::IndexSet;
+use indexmap::IndexMap;
 use std::alloc::{AllocError, Global};
 use std::marker::Model;
 
@@ -22,8 +21,11 @@ pub struct Walks {
     rows: Vec<WalkRow>,
     /// How many are over.
     over: usize,
-    /// The walkers that wait.
-    walkers: IndexSet<u32>,
+    /// The walkers that wait, each with the turn in which it came: turns rise from row to row, and
+    /// so a row is found by halves.
+    turns: IndexMap<u32, u64>,
+    /// The turn of the next walk.
+    next: u64,
 }
 
 impl Model for Walks {
@@ -38,31 +40,31 @@ impl Model for Walks {
     ghost invariant = { KeepsWalks };
 }
 
-/// Whether the walker is one of these.
-fn is_among(walkers: &IndexSet<u32>, walker: WalkerId) -> bool
-    ensures { result ≡ is_among walkers.now.keys walker }
+/// The turn of a walker, if it is one of these.
+fn turn_of(turns: &IndexMap<u32, u64>, walker: WalkerId) -> Option<u64>
+    ensures { is_some result ≡ has_turn turns.now.entries walker }
 {
-    walkers.contains(&walker.0)
+    turns.get(&walker.0).copied()
 }
 
-/// The walker is among them, and there is room for it.
-fn add_walker(walkers: &mut IndexSet<u32>, walker: WalkerId)
-    requires { 0 < spare walkers.old }
+/// The walker is among them with this turn, and there is room for it.
+fn add_turn(turns: &mut IndexMap<u32, u64>, walker: WalkerId, turn: u64)
+    requires { 0 < spare turns.old }
     ensures { (other : ℕ) →
-        is_among walkers.new.keys other ≡
-        cond (walker == other) true (is_among walkers.old.keys other) }
+        has_turn turns.new.entries other ≡
+        cond (walker == other) true (has_turn turns.old.entries other) }
 {
-    let _added = walkers.insert(walker.0);
+    let _added = turns.insert(walker.0, turn);
 }
 
 /// The walker is among them no longer.
-fn take_walker(walkers: &mut IndexSet<u32>, walker: WalkerId)
+fn take_turn(turns: &mut IndexMap<u32, u64>, walker: WalkerId)
     ensures among { (other : ℕ) →
-        is_among walkers.new.keys other ≡
-        cond (walker == other) false (is_among walkers.old.keys other) }
-    ensures room { spare walkers.old ≤ spare walkers.new }
+        has_turn turns.new.entries other ≡
+        cond (walker == other) false (has_turn turns.old.entries other) }
+    ensures room { spare turns.old ≤ spare turns.new }
 {
-    let _taken = walkers.swap_remove(&walker.0);
+    let _taken = turns.swap_remove(&walker.0);
 }
 
 /// The rows behind those of walks that are over.
@@ -73,11 +75,55 @@ fn live(rows: &Vec<WalkRow>, over: usize) -> &[WalkRow]
     &rows[over..]
 }
 
-/// The place of the walker's walk.
-fn place_of(rows: &[WalkRow], walker: WalkerId) -> Option<usize>
+/// Whether the walker came before that turn.
+fn is_before(turns: &IndexMap<u32, u64>, walker: WalkerId, turn: u64) -> bool {
+    match turns.get(&walker.0) {
+        Some(other) => *other < turn,
+        None => false,
+    }
+}
+
+/// The place of the walker's walk, found by looking at each.
+fn scanned_place(rows: &[WalkRow], walker: WalkerId) -> Option<usize>
     ensures { result ≡ position (λ row. row.walker == walker) rows.now }
 {
     rows.iter().position(|row| row.walker == walker)
+}
+
+/// The place of the walker's walk, which came in that turn if there is one.
+fn place_of(
+    rows: &[WalkRow],
+    turns: &IndexMap<u32, u64>,
+    walker: WalkerId,
+    turn: u64,
+) -> Option<usize>
+    requires single { IsSingle rows.now }
+    ensures { result ≡ position (λ row. row.walker == walker) rows.now }
+{
+    let at = rows.partition_point(|row| is_before(turns, row.walker, turn));
+    if let Some(row) = rows.get(at) {
+        if row.walker == walker {
+            return Some(at);
+        }
+    }
+    // Turns begin anew after 2^64 of them.
+    scanned_place(rows, walker)
+}
+
+/// The walk of a walker, which came in that turn if there is one.
+fn row_of<'a>(
+    rows: &'a [WalkRow],
+    turns: &IndexMap<u32, u64>,
+    walker: WalkerId,
+    turn: u64,
+) -> Option<&'a WalkRow>
+    requires single { IsSingle rows.now }
+    ensures { option_copied result ≡ walk_in rows.now walker }
+{
+    let Some(place) = place_of(rows, turns, walker, turn) else {
+        return None;
+    };
+    rows.get(place)
 }
 
 /// The first rows go.
@@ -109,8 +155,14 @@ fn pass(rows: &mut Vec<WalkRow>, over: &mut usize)
     }
 }
 
-/// The walk of a walker is over.
-fn take_row(rows: &mut Vec<WalkRow>, over: &mut usize, walker: WalkerId)
+/// The walk of a walker, which came in that turn if there is one, is over.
+fn take_row(
+    rows: &mut Vec<WalkRow>,
+    over: &mut usize,
+    turns: &IndexMap<u32, u64>,
+    walker: WalkerId,
+    turn: u64,
+)
     requires within { over.old ≤ vec_len rows.old }
     requires single { IsSingle (drop over.old rows.old.items) }
     ensures rows { drop over.new rows.new.items ≡
@@ -119,7 +171,7 @@ fn take_row(rows: &mut Vec<WalkRow>, over: &mut usize, walker: WalkerId)
     ensures len { vec_len rows.new ≤ vec_len rows.old }
     ensures capacity { vec_capacity rows.new ≡ vec_capacity rows.old }
 {
-    let Some(place) = place_of(live(rows, *over), walker) else {
+    let Some(place) = place_of(live(rows, *over), turns, walker, turn) else {
         return;
     };
     if place == 0 {
@@ -137,7 +189,8 @@ impl Walks {
         Walks {
             rows: Vec::new(alloc),
             over: 0,
-            walkers: IndexSet::new(alloc),
+            turns: IndexMap::new(alloc),
+            next: 0,
         }
     }
 
@@ -152,10 +205,8 @@ impl Walks {
     pub fn get(&self, walker: WalkerId) -> Option<&WalkRow>
         ensures { option_copied result ≡ walk_in self.now.rows walker }
     {
-        if !is_among(&self.walkers, walker) {
-            return None;
-        }
-        self.as_slice().iter().find(|row| row.walker == walker)
+        let turn = turn_of(&self.turns, walker)?;
+        row_of(self.as_slice(), &self.turns, walker, turn)
     }
 
     /// Room for one more walk.
@@ -165,7 +216,7 @@ impl Walks {
         ensures seats { OnOk result (1 ≤ self.new.seats) }
     {
         self.rows.reserve(1)?;
-        self.walkers.reserve(1)?;
+        self.turns.reserve(1)?;
         Ok(())
     }
 
@@ -175,11 +226,11 @@ impl Walks {
         ensures room { self.old.room ≤ self.new.room }
         ensures seats { self.old.seats ≤ self.new.seats }
     {
-        if !is_among(&self.walkers, walker) {
+        let Some(turn) = turn_of(&self.turns, walker) else {
             return;
-        }
-        take_row(&mut self.rows, &mut self.over, walker);
-        take_walker(&mut self.walkers, walker);
+        };
+        take_row(&mut self.rows, &mut self.over, &self.turns, walker, turn);
+        take_turn(&mut self.turns, walker);
     }
 
     /// The walk of a walker that has none.
@@ -191,8 +242,10 @@ impl Walks {
     {
         // The checker wants it said that there are as many rows as the length.
         let _rows = self.rows.as_slice();
-        add_walker(&mut self.walkers, row.walker);
+        let turn = self.next;
+        add_turn(&mut self.turns, row.walker, turn);
         self.rows.push_reserved(row);
+        self.next = turn.wrapping_add(1);
     }
 
     /// The walk of a walker that waits, in place of the one that it had.

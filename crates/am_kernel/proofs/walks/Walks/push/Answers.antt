@@ -17,6 +17,6 @@ invariant_of-self c =
     record {
       within = omega (arith, c.self.invariant.within, c.push_reserved.ensures.len);
       single = subst IsSingle (sym items) (single_put rows row c.self.invariant.single none);
-      known = λ q. c.add_walker.ensures q ∙ ap (cond (row.walker == q) true) (c.self.invariant.known q) ∙ sym (has_last rows row q)
+      known = λ q. c.add_turn.ensures q ∙ ap (cond (row.walker == q) true) (c.self.invariant.known q) ∙ sym (has_last rows row q)
           ∙ ap (λ (all : List WalkRow). is_some (walk_in all q)) (sym items);
     }
