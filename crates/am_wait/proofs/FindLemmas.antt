@@ -93,10 +93,10 @@ module _ {X : Type 0} (key : X → ℕ) where
 pub wait_put : (row : WaitRow) (waits : List WaitRow) (k : ℕ) (b : Bool) → (row.walker == k) ≡ b → wait_of (with_wait row waits) k ≡ cond b (Some row) (wait_of waits k)
 wait_put row waits k b e = found_where_put (λ (r : WaitRow). r.walker) row waits k b e
 
-both_ways : (a n k : ℕ) → (a == k) ≡ true → (n == k) ≡ false → not (a == n) ≡ true
+pub both_ways : (a n k : ℕ) → (a == k) ≡ true → (n == k) ≡ false → not (a == n) ≡ true
 both_ways a n k e d = grind (arith, nat_tests, e, d)
 
-the_one : (a n k : ℕ) → (a == k) ≡ true → (n == k) ≡ true → not (a == n) ≡ false
+pub the_one : (a n k : ℕ) → (a == k) ≡ true → (n == k) ≡ true → not (a == n) ≡ false
 the_one a n k e d = grind (arith, nat_tests, e, d)
 
 -- the wait that is taken away is gone, and each other one is there as before

@@ -1,6 +1,6 @@
 -- No token has the key of a wait that was released.
 use Rattle.std.proofs.Common.{◌≡◌, ℕ, ◌+◌, Bool, true, false, cond, not, ◌==◌, ◌&&◌, ◌||◌, List, [], ◌∷◌, get_or, Option, Some, None, refl, sym, ap, subst, ◌∙◌, arith}
-use Rattle.std.specs.Prelude.{find, All, is_none}
+use Rattle.std.specs.Prelude.{All, is_none}
 use Rattle.std.specs.Option.{option_map}
 use Rattle.std.proofs.lemmas.Bool.Decides.{nat_tests, Decides-eqb}
 use Rattle.std.proofs.lemmas.List.Elements.{All-nil, All-cons, All-filter, All-weaker}
@@ -28,7 +28,7 @@ none_among (k ∷ keys) key h = by_test (k == key) refl h (none_among keys key)
     by_test true e f later = absurd cc
     by_test false e f later = All-cons (λ j. (j == key) ≡ false) k keys e (later f)
 
-module _ (i : Inside) (kept : IsKept i) (seat : Seat) (status : Status) (its : seat_of i.seats.items seat.walker ≡ Some seat) (released : (row_at i.slab seat.key).status ≡ Some status) where
+module _ (i : Inside) (kept : IsKept i) (seat : Seat) (status : Status) (its : seat_of i.seats.rows seat.walker ≡ Some seat) (released : (row_at i.slab seat.key).status ≡ Some status) where
   lacks_key_at : (row : HeldToken) (there : held_of i.tokens.items row.token ≡ Some row) (b : Bool) → among_keys row.keys seat.key ≡ b → b ≡ false
   lacks_key_at row there false e = refl
   lacks_key_at row there true e =
@@ -57,60 +57,60 @@ module _ (old new : Slab WaitRow) (key : ℕ) (freed : (k : ℕ) → get new k �
 pub record Frees (i j : Inside) (walker : ℕ) (row : WaitRow) (status : Status) : Type 0 where
   pub there : wait_of (rows_of i).waits walker ≡ Some row
   pub released : row.status ≡ Some status
-  pub seats : j.seats.items ≡ without_seat walker i.seats.items
-  pub freed : (k : ℕ) → get j.slab k ≡ cond (frees (key_of i.seats.items walker) k) None (get i.slab k)
+  pub seats : j.seats.rows ≡ without_seat walker i.seats.rows
+  pub freed : (k : ℕ) → get j.slab k ≡ cond (frees (key_of i.seats.rows walker) k) None (get i.slab k)
   pub tokens : j.tokens.items ≡ i.tokens.items
   pub last : j.last_token ≡ i.last_token
   pub waiters : j.most_waits ≡ i.most_waits
   pub numbers : j.most_tokens ≡ i.most_tokens
 
 module _ (i j : Inside) (walker : ℕ) (row : WaitRow) (status : Status) (kept : IsKept i) (h : Frees i j walker row status) where
-  collected_view_at : (o : Option Seat) → seat_of i.seats.items walker ≡ o → option_map (λ (s : Seat). row_at i.slab s.key) o ≡ Some row → rows_of j ≡ collected walker (rows_of i)
+  collected_view_at : (o : Option Seat) → seat_of i.seats.rows walker ≡ o → option_map (λ (s : Seat). row_at i.slab s.key) o ≡ Some row → rows_of j ≡ collected walker (rows_of i)
   collected_view_at None e f = absurd (none_is_not_some row f)
   collected_view_at (Some seat) e f =
-      let its : seat.walker ≡ walker = (Decides-eqb seat.walker walker).0 (found_passes (λ (s : Seat). s.walker == walker) i.seats.items seat e) in
-      let found : seat_of i.seats.items seat.walker ≡ Some seat = ap (seat_of i.seats.items) its ∙ e in
-      let is = all_find (IsSeat i.slab) (λ (s : Seat). s.walker == walker) i.seats.items seat kept.linked.seated e in
+      let its : seat.walker ≡ walker = (Decides-eqb seat.walker walker).0 (found_passes (λ (s : Seat). s.walker == walker) i.seats.rows seat e) in
+      let found : seat_of i.seats.rows seat.walker ≡ Some seat = ap (seat_of i.seats.rows) its ∙ e in
+      let is = all_find (IsSeat i.slab) (λ (s : Seat). s.walker == walker) i.seats.rows seat kept.linked.seated e in
       let at : row_at i.slab seat.key ≡ row = some_injective f in
       let done : (row_at i.slab seat.key).status ≡ Some status = ap (λ (r : WaitRow). r.status) at ∙ h.released in
       let freed : (k : ℕ) → get j.slab k ≡ cond (seat.key == k) None (get i.slab k) = λ k. h.freed k ∙ ap (λ (o : Option Seat). cond (frees (option_map (λ (s : Seat). s.key) o) k) None (get i.slab k)) e in
       let tokens : tokens_in j.slab j.tokens.items ≡ tokens_in i.slab i.tokens.items = ap (tokens_in j.slab) h.tokens ∙ collected_tokens i.slab j.slab seat.key freed i.tokens.items (tokens_lack_key i kept seat status found done) in
-      let waits : waits_in j.slab j.seats.items ≡ without_wait walker (waits_in i.slab i.seats.items) = ap (waits_in j.slab) h.seats ∙ collected_waits i.slab j.slab seat.key freed is.0 walker i.seats.items is.1 (is.2 ∙ its) kept.linked.seated in
+      let waits : waits_in j.slab j.seats.rows ≡ without_wait walker (waits_in i.slab i.seats.rows) = ap (waits_in j.slab) h.seats ∙ collected_waits i.slab j.slab seat.key freed is.0 walker i.seats.rows is.1 (is.2 ∙ its) kept.linked.seated in
       rw (tokens, waits, h.last, h.waiters, h.numbers) refl
 
   pub collected_is : rows_of j ≡ collected walker (rows_of i)
-  collected_is = collected_view_at (seat_of i.seats.items walker) refl (sym (wait_found i.slab i.seats.items walker kept.linked.seated) ∙ h.there)
+  collected_is = collected_view_at (seat_of i.seats.rows walker) refl (sym (wait_found i.slab i.seats.rows walker kept.linked.seated) ∙ h.there)
 
-  kept_seat : (w : ℕ) → (w == walker) ≡ false → key_of (without_seat walker i.seats.items) w ≡ key_of i.seats.items w
-  kept_seat w apart = ap (option_map (λ (s : Seat). s.key)) (find_kept (λ (s : Seat). s.walker == w) (λ (s : Seat). not (s.walker == walker)) (λ s t. grind (arith, nat_tests, t, apart)) i.seats.items)
+  kept_seat : (w : ℕ) → (w == walker) ≡ false → key_of (without_seat walker i.seats.rows) w ≡ key_of i.seats.rows w
+  kept_seat w apart = ap (option_map (λ (s : Seat). s.key)) (find_kept (λ (s : Seat). s.walker == w) (λ (s : Seat). not (s.walker == walker)) (λ s t. grind (arith, nat_tests, t, apart)) i.seats.rows)
 
-  other_walkers_apart : (key k w : ℕ) (b : Bool) → key_of i.seats.items walker ≡ Some key → key_of i.seats.items w ≡ Some k → (k == key) ≡ false → (w == walker) ≡ b → b ≡ false
+  other_walkers_apart : (key k w : ℕ) (b : Bool) → key_of i.seats.rows walker ≡ Some key → key_of i.seats.rows w ≡ Some k → (k == key) ≡ false → (w == walker) ≡ b → b ≡ false
   other_walkers_apart key k w false its e n f = refl
   other_walkers_apart key k w true its e n f =
-      let same : k ≡ key = some_injective (sym e ∙ ap (key_of i.seats.items) ((Decides-eqb w walker).0 f) ∙ its) in
+      let same : k ≡ key = some_injective (sym e ∙ ap (key_of i.seats.rows) ((Decides-eqb w walker).0 f) ∙ its) in
       absurd (cc (sym n ∙ (Decides-eqb k key).1 same))
 
-  kept_keys : (key : ℕ) → key_of i.seats.items walker ≡ Some key → ((k : ℕ) → get j.slab k ≡ cond (key == k) None (get i.slab k)) → (r : HeldToken) → HasKeys i.slab i.seats.items r → among_keys r.keys key ≡ false → HasKeys j.slab (without_seat walker i.seats.items) r
+  kept_keys : (key : ℕ) → key_of i.seats.rows walker ≡ Some key → ((k : ℕ) → get j.slab k ≡ cond (key == k) None (get i.slab k)) → (r : HeldToken) → HasKeys i.slab i.seats.rows r → among_keys r.keys key ≡ false → HasKeys j.slab (without_seat walker i.seats.rows) r
   kept_keys key its freed r has lacks n d less =
       let k : ℕ = get_or r.keys n d in
-      let was : key_of i.seats.items (row_at i.slab k).walker ≡ Some k = has n d less in
+      let was : key_of i.seats.rows (row_at i.slab k).walker ≡ Some k = has n d less in
       let other : (k == key) ≡ false = none_among r.keys key lacks n d less in
-      ap (λ (w : WaitRow). key_of (without_seat walker i.seats.items) w.walker) (same_row i.slab j.slab key freed k other)
+      ap (λ (w : WaitRow). key_of (without_seat walker i.seats.rows) w.walker) (same_row i.slab j.slab key freed k other)
       ∙ kept_seat (row_at i.slab k).walker (other_walkers_apart key k (row_at i.slab k).walker ((row_at i.slab k).walker == walker) its was other refl)
       ∙ was
 
-  linked_without_seat : (o : Option Seat) → seat_of i.seats.items walker ≡ o → option_map (λ (s : Seat). row_at i.slab s.key) o ≡ Some row → IsLinked j.slab (without_seat walker i.seats.items) i.tokens.items
+  linked_without_seat : (o : Option Seat) → seat_of i.seats.rows walker ≡ o → option_map (λ (s : Seat). row_at i.slab s.key) o ≡ Some row → IsLinked j.slab (without_seat walker i.seats.rows) i.tokens.items
   linked_without_seat None e f = absurd (none_is_not_some row f)
   linked_without_seat (Some seat) e f =
-      let its : seat.walker ≡ walker = (Decides-eqb seat.walker walker).0 (found_passes (λ (s : Seat). s.walker == walker) i.seats.items seat e) in
-      let found : seat_of i.seats.items seat.walker ≡ Some seat = ap (seat_of i.seats.items) its ∙ e in
-      let is = all_find (IsSeat i.slab) (λ (s : Seat). s.walker == walker) i.seats.items seat kept.linked.seated e in
+      let its : seat.walker ≡ walker = (Decides-eqb seat.walker walker).0 (found_passes (λ (s : Seat). s.walker == walker) i.seats.rows seat e) in
+      let found : seat_of i.seats.rows seat.walker ≡ Some seat = ap (seat_of i.seats.rows) its ∙ e in
+      let is = all_find (IsSeat i.slab) (λ (s : Seat). s.walker == walker) i.seats.rows seat kept.linked.seated e in
       let at : row_at i.slab seat.key ≡ row = some_injective f in
       let done : (row_at i.slab seat.key).status ≡ Some status = ap (λ (r : WaitRow). r.status) at ∙ h.released in
       let freed : (k : ℕ) → get j.slab k ≡ cond (seat.key == k) None (get i.slab k) = λ k. h.freed k ∙ ap (λ (o : Option Seat). cond (frees (option_map (λ (s : Seat). s.key) o) k) None (get i.slab k)) e in
       record {
-        rising = rises_filter (λ (s : Seat). s.walker) (λ s. not (s.walker == walker)) 0 i.seats.items kept.linked.rising;
-        seated = others_seated i.slab j.slab seat.key freed is.0 walker i.seats.items is.1 (is.2 ∙ its) kept.linked.seated;
+        rising = rises_filter (λ (s : Seat). s.walker) (λ s. not (s.walker == walker)) 0 i.seats.rows kept.linked.rising;
+        seated = others_seated i.slab j.slab seat.key freed is.0 walker i.seats.rows is.1 (is.2 ∙ its) kept.linked.seated;
         held = λ n d less. kept_keys seat.key (ap (option_map (λ (s : Seat). s.key)) e) freed (get_or i.tokens.items n d) (kept.linked.held n d less) (tokens_lack_key i kept seat status found done n d less);
       }
 
@@ -121,6 +121,6 @@ module _ (i j : Inside) (walker : ℕ) (row : WaitRow) (status : Status) (kept :
       record {
         sound = subst (λ (x : WaitRows). IsSound x) is (collected_sound w walker row status kept.sound h.there h.released);
         settled = subst (λ (x : WaitRows). All (IsSettled x) x.waits) is (All-filter (λ (r : WaitRow). not (r.walker == walker)) (IsSettled (collected walker w)) w.waits (All-weaker (IsSettled w) (IsSettled (collected walker w)) (λ r s. record { given = s.given; closed = s.closed }) w.waits kept.settled));
-        linked = subst (λ (seats : List Seat). IsLinked j.slab seats j.tokens.items) (sym h.seats) (subst (λ (tokens : List HeldToken). IsLinked j.slab (without_seat walker i.seats.items) tokens) (sym h.tokens)
-            (linked_without_seat (seat_of i.seats.items walker) refl (sym (wait_found i.slab i.seats.items walker kept.linked.seated) ∙ h.there)));
+        linked = subst (λ (seats : List Seat). IsLinked j.slab seats j.tokens.items) (sym h.seats) (subst (λ (tokens : List HeldToken). IsLinked j.slab (without_seat walker i.seats.rows) tokens) (sym h.tokens)
+            (linked_without_seat (seat_of i.seats.rows walker) refl (sym (wait_found i.slab i.seats.rows walker kept.linked.seated) ∙ h.there)));
       }

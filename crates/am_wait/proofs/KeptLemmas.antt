@@ -121,38 +121,38 @@ wait_at slab seats k key h e = by_seat (seat_of seats k) refl e ∙ sym (wait_fo
 -- ---- answer
 
 module _ (i : Inside) (kept : IsKept i) (t : ℕ) (its : HeldToken) (there : held_of i.tokens.items t ≡ Some its) where
-  pub its_keys : All (λ key. key_of i.seats.items (row_at i.slab key).walker ≡ Some key) its.keys
-  its_keys = all_find (HasKeys i.slab i.seats.items) (λ (r : HeldToken). r.token == t) i.tokens.items its kept.linked.held there
+  pub its_keys : All (λ key. key_of i.seats.rows (row_at i.slab key).walker ≡ Some key) its.keys
+  its_keys = all_find (HasKeys i.slab i.seats.rows) (λ (r : HeldToken). r.token == t) i.tokens.items its kept.linked.held there
 
   open_now : token_of (rows_of i).tokens t ≡ Some (token_in i.slab its)
   open_now = token_found i.slab i.tokens.items t ∙ ap (option_map (token_in i.slab)) there
 
-  its_wait : (seat : Seat) → seat_of i.seats.items seat.walker ≡ Some seat → wait_of (rows_of i).waits seat.walker ≡ Some (row_at i.slab seat.key)
-  its_wait seat e = wait_found i.slab i.seats.items seat.walker kept.linked.seated ∙ ap (option_map (λ (s : Seat). row_at i.slab s.key)) e
+  its_wait : (seat : Seat) → seat_of i.seats.rows seat.walker ≡ Some seat → wait_of (rows_of i).waits seat.walker ≡ Some (row_at i.slab seat.key)
+  its_wait seat e = wait_found i.slab i.seats.rows seat.walker kept.linked.seated ∙ ap (option_map (λ (s : Seat). row_at i.slab s.key)) e
 
-  its_walker : (seat : Seat) → seat_of i.seats.items seat.walker ≡ Some seat → (row_at i.slab seat.key).walker ≡ seat.walker
+  its_walker : (seat : Seat) → seat_of i.seats.rows seat.walker ≡ Some seat → (row_at i.slab seat.key).walker ≡ seat.walker
   its_walker seat e =
-      let is = all_find (IsSeat i.slab) (λ (s : Seat). s.walker == seat.walker) i.seats.items seat kept.linked.seated e in
+      let is = all_find (IsSeat i.slab) (λ (s : Seat). s.walker == seat.walker) i.seats.rows seat kept.linked.seated e in
       ap (λ (o : Option WaitRow). (row_in o).walker) is.1 ∙ is.2
 
-  pub agrees : (seat : Seat) → seat_of i.seats.items seat.walker ≡ Some seat → is_among (walkers_at i.slab its.keys) seat.walker ≡ is_waiting_on t (Some (row_at i.slab seat.key))
+  pub agrees : (seat : Seat) → seat_of i.seats.rows seat.walker ≡ Some seat → is_among (walkers_at i.slab its.keys) seat.walker ≡ is_waiting_on t (Some (row_at i.slab seat.key))
   agrees seat e =
       ap (λ (o : Option OpenToken). is_among (waiters_in o) seat.walker) (sym open_now) ∙ kept.sound.agree t seat.walker ∙ ap (is_waiting_on t) (its_wait seat e)
 
-  settled_at : (seat : Seat) → seat_of i.seats.items seat.walker ≡ Some seat → IsSettled (rows_of i) (row_at i.slab seat.key)
+  settled_at : (seat : Seat) → seat_of i.seats.rows seat.walker ≡ Some seat → IsSettled (rows_of i) (row_at i.slab seat.key)
   settled_at seat e = all_find (IsSettled (rows_of i)) (λ (r : WaitRow). r.walker == seat.walker) (rows_of i).waits (row_at i.slab seat.key) kept.settled (its_wait seat e)
 
-  pub here_too : (seat : Seat) → seat_of i.seats.items seat.walker ≡ Some seat → among_keys its.keys seat.key ≡ true → is_among (walkers_at i.slab its.keys) seat.walker ≡ true
+  pub here_too : (seat : Seat) → seat_of i.seats.rows seat.walker ≡ Some seat → among_keys its.keys seat.key ≡ true → is_among (walkers_at i.slab its.keys) seat.walker ≡ true
   here_too seat e h = subst (λ (w : ℕ). is_among (walkers_at i.slab its.keys) w ≡ true) (its_walker seat e) (among_mapped (λ key. (row_at i.slab key).walker) its.keys seat.key h)
 
-  and_here : (seat : Seat) → seat_of i.seats.items seat.walker ≡ Some seat → is_among (walkers_at i.slab its.keys) seat.walker ≡ true → among_keys its.keys seat.key ≡ true
+  and_here : (seat : Seat) → seat_of i.seats.rows seat.walker ≡ Some seat → is_among (walkers_at i.slab its.keys) seat.walker ≡ true → among_keys its.keys seat.key ≡ true
   and_here seat e h =
-      let found = among_from i.seats.items (λ key. (row_at i.slab key).walker) its.keys seat.walker its_keys h in
+      let found = among_from i.seats.rows (λ key. (row_at i.slab key).walker) its.keys seat.walker its_keys h in
       let same : found.0 ≡ seat.key = ap (λ o. or_this found.0 o) (sym found.2 ∙ ap (option_map (λ (s : Seat). s.key)) e) in
       subst (λ (key : ℕ). among_keys its.keys key ≡ true) same found.1
 
   -- the token's keys are those of the waits on it
-  decides : (seat : Seat) (e : seat_of i.seats.items seat.walker ≡ Some seat) (a b : Bool) (o : Option Status) → among_keys its.keys seat.key ≡ a → ((row_at i.slab seat.key).token == t) ≡ b → (row_at i.slab seat.key).status ≡ o → a ≡ b
+  decides : (seat : Seat) (e : seat_of i.seats.rows seat.walker ≡ Some seat) (a b : Bool) (o : Option Status) → among_keys its.keys seat.key ≡ a → ((row_at i.slab seat.key).token == t) ≡ b → (row_at i.slab seat.key).status ≡ o → a ≡ b
   decides seat e true true o f g s = refl
   decides seat e false false o f g s = refl
   decides seat e true false o f g s = absurd (cc (sym (here_too seat e f) ∙ agrees seat e ∙ ap (λ b. b && is_none (row_at i.slab seat.key).status) g))
@@ -164,7 +164,7 @@ module _ (i : Inside) (kept : IsKept i) (t : ℕ) (its : HeldToken) (there : hel
       let same : (row_at i.slab seat.key).token ≡ t = (Decides-eqb (row_at i.slab seat.key).token t).0 g in
       absurd (none_is_not_some (token_in i.slab its) (sym closed ∙ ap (token_of (rows_of i).tokens) same ∙ open_now))
 
-  pub by_keys : (seat : Seat) → seat_of i.seats.items seat.walker ≡ Some seat → among_keys its.keys seat.key ≡ ((row_at i.slab seat.key).token == t)
+  pub by_keys : (seat : Seat) → seat_of i.seats.rows seat.walker ≡ Some seat → among_keys its.keys seat.key ≡ ((row_at i.slab seat.key).token == t)
   by_keys seat e = decides seat e (among_keys its.keys seat.key) ((row_at i.slab seat.key).token == t) (row_at i.slab seat.key).status refl refl refl
 
 walker_kept : (status : Status) (b : Bool) (o : Option WaitRow) → (row_in (cond b (option_map (with_status status) o) o)).walker ≡ (row_in o).walker
@@ -201,12 +201,12 @@ module _ (old new : Slab WaitRow) (status : Status) (keys : List ℕ) (sets : Se
 
 -- the waits have the statuses that were set at the token's keys
 pub answered_waits : (i : Inside) (kept : IsKept i) (t : ℕ) (its : HeldToken) (there : held_of i.tokens.items t ≡ Some its) (new : Slab WaitRow) (status : Status) → SetsAll i.slab new status its.keys →
-    waits_in new i.seats.items ≡ map (released_row t status) (waits_in i.slab i.seats.items)
+    waits_in new i.seats.rows ≡ map (released_row t status) (waits_in i.slab i.seats.rows)
 answered_waits i kept t its there new status sets =
-    map_same (λ (s : Seat). row_at new s.key) (λ (s : Seat). released_row t status (row_at i.slab s.key)) i.seats.items
-    (all_found (λ (s : Seat). row_at new s.key ≡ released_row t status (row_at i.slab s.key)) (λ (s : Seat). s.walker) 0 i.seats.items kept.linked.rising
-    (λ seat e. row_set i.slab new status its.keys sets t seat (all_find (IsSeat i.slab) (λ (s : Seat). s.walker == seat.walker) i.seats.items seat kept.linked.seated e) (by_keys i kept t its there seat e)))
-    ∙ sym (map_twice (λ (s : Seat). row_at i.slab s.key) (released_row t status) i.seats.items)
+    map_same (λ (s : Seat). row_at new s.key) (λ (s : Seat). released_row t status (row_at i.slab s.key)) i.seats.rows
+    (all_found (λ (s : Seat). row_at new s.key ≡ released_row t status (row_at i.slab s.key)) (λ (s : Seat). s.walker) 0 i.seats.rows kept.linked.rising
+    (λ seat e. row_set i.slab new status its.keys sets t seat (all_find (IsSeat i.slab) (λ (s : Seat). s.walker == seat.walker) i.seats.rows seat kept.linked.seated e) (by_keys i kept t its there seat e)))
+    ∙ sym (map_twice (λ (s : Seat). row_at i.slab s.key) (released_row t status) i.seats.rows)
 
 settled_row : (w : WaitRows) (t : ℕ) (status : Status) (row : WaitRow) (b : Bool) → (row.token == t) ≡ b → IsSettled w row → IsSettled (answered t status w) (released_row t status row)
 settled_row w t status row true e h =
@@ -224,7 +224,7 @@ answered_settled w t status h =
 pub record Answers (i j : Inside) (t : ℕ) (status : Status) (its : HeldToken) : Type 0 where
   pub there : held_of i.tokens.items t ≡ Some its
   pub tokens : j.tokens.items ≡ without_held t i.tokens.items
-  pub seats : j.seats.items ≡ i.seats.items
+  pub seats : j.seats.rows ≡ i.seats.rows
   pub slab : SetsAll i.slab j.slab status its.keys
   pub last : j.last_token ≡ i.last_token
   pub waiters : j.most_waits ≡ i.most_waits
@@ -235,7 +235,7 @@ answered_is i j t status its kept h =
     let tokens : tokens_in j.slab j.tokens.items ≡ without_token t (tokens_in i.slab i.tokens.items) =
     ap (tokens_in j.slab) h.tokens ∙ same_tokens i.slab j.slab status its.keys h.slab (without_held t i.tokens.items)
     ∙ filter_mapped (token_in i.slab) (λ (r : HeldToken). not (r.token == t)) (λ (r : OpenToken). not (r.token == t)) i.tokens.items (λ k d less. refl) in
-    let waits : waits_in j.slab j.seats.items ≡ map (released_row t status) (waits_in i.slab i.seats.items) =
+    let waits : waits_in j.slab j.seats.rows ≡ map (released_row t status) (waits_in i.slab i.seats.rows) =
     ap (waits_in j.slab) h.seats ∙ answered_waits i kept t its h.there j.slab status h.slab in
     rw (tokens, waits, h.last, h.waiters, h.numbers) refl
 
@@ -247,8 +247,8 @@ answered_kept i j t status its kept h =
       settled = subst (λ (w : WaitRows). All (IsSettled w) w.waits) is (answered_settled (rows_of i) t status kept.settled);
       linked = record {
         rising = subst (λ (seats : List Seat). RiseBy (λ s. s.walker) 0 seats) (sym h.seats) kept.linked.rising;
-        seated = subst (λ (seats : List Seat). All (IsSeat j.slab) seats) (sym h.seats) (All-weaker (IsSeat i.slab) (IsSeat j.slab) (same_seat i.slab j.slab status its.keys h.slab) i.seats.items kept.linked.seated);
-        held = subst (λ (seats : List Seat). All (HasKeys j.slab seats) j.tokens.items) (sym h.seats) (subst (λ (tokens : List HeldToken). All (HasKeys j.slab i.seats.items) tokens) (sym h.tokens)
-            (All-filter (λ (r : HeldToken). not (r.token == t)) (HasKeys j.slab i.seats.items) i.tokens.items (All-weaker (HasKeys i.slab i.seats.items) (HasKeys j.slab i.seats.items) (same_keys i.slab j.slab status its.keys h.slab i.seats.items) i.tokens.items kept.linked.held)));
+        seated = subst (λ (seats : List Seat). All (IsSeat j.slab) seats) (sym h.seats) (All-weaker (IsSeat i.slab) (IsSeat j.slab) (same_seat i.slab j.slab status its.keys h.slab) i.seats.rows kept.linked.seated);
+        held = subst (λ (seats : List Seat). All (HasKeys j.slab seats) j.tokens.items) (sym h.seats) (subst (λ (tokens : List HeldToken). All (HasKeys j.slab i.seats.rows) tokens) (sym h.tokens)
+            (All-filter (λ (r : HeldToken). not (r.token == t)) (HasKeys j.slab i.seats.rows) i.tokens.items (All-weaker (HasKeys i.slab i.seats.rows) (HasKeys j.slab i.seats.rows) (same_keys i.slab j.slab status its.keys h.slab i.seats.rows) i.tokens.items kept.linked.held)));
       };
     }

@@ -5,6 +5,7 @@ pub mod FindLemmas
 pub mod AgreeLemmas
 pub mod RisingLemmas
 pub mod SeatLemmas
+pub mod SeatingLemmas
 pub mod KeptLemmas
 pub mod CollectLemmas
 pub mod FreedLemmas

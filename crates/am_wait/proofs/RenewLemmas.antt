@@ -20,15 +20,15 @@ use Rattle.am_wait.proofs.SettledLemmas.{opened_settled, joined_settled, joined_
 
 -- a wait is put at the key
 pub record Puts (j k : Inside) (wait : WaitRow) (key : ℕ) : Type 0 where
-  pub idle : key_of j.seats.items wait.walker ≡ None
+  pub idle : key_of j.seats.rows wait.walker ≡ None
   pub vacant : get j.slab key ≡ None
   pub put : (n : ℕ) → get k.slab n ≡ cond (key == n) (Some wait) (get j.slab n)
-  pub seats : k.seats.items ≡ with_seat (seat_at wait.walker key) j.seats.items
+  pub seats : k.seats.rows ≡ with_seat (seat_at wait.walker key) j.seats.rows
   pub waiters : k.most_waits ≡ j.most_waits
   pub numbers : k.most_tokens ≡ j.most_tokens
 
-idle_wait : (j : Inside) (walker : ℕ) → IsKept j → key_of j.seats.items walker ≡ None → wait_of (rows_of j).waits walker ≡ None
-idle_wait j walker kept idle = wait_found j.slab j.seats.items walker kept.linked.seated ∙ ap (option_map (λ (s : Seat). row_at j.slab s.key)) (no_key j.seats.items walker idle)
+idle_wait : (j : Inside) (walker : ℕ) → IsKept j → key_of j.seats.rows walker ≡ None → wait_of (rows_of j).waits walker ≡ None
+idle_wait j walker kept idle = wait_found j.slab j.seats.rows walker kept.linked.seated ∙ ap (option_map (λ (s : Seat). row_at j.slab s.key)) (no_key j.seats.rows walker idle)
 
 module _ (j k : Inside) (trigger : Trigger) (kind : TokenKind) (walker key : ℕ) (kept : IsKept j) (h : Puts j k (waiting_on (j.last_token + 1) trigger kind walker) key)
     (tokens : k.tokens.items ≡ j.tokens.items ++ held_row (j.last_token + 1) trigger kind key ∷ []) (last : k.last_token ≡ j.last_token + 1) where
@@ -40,28 +40,28 @@ module _ (j k : Inside) (trigger : Trigger) (kind : TokenKind) (walker key : ℕ
       let its : token_in k.slab row ≡ new = ap (λ (r : WaitRow). record { token = j.last_token + 1; trigger = trigger; kind = kind; waiters = r.walker ∷ [] }) (row_there j.slab k.slab key wait h.vacant h.put) in
       let all : tokens_in k.slab k.tokens.items ≡ tokens_in j.slab j.tokens.items ++ new ∷ [] =
       ap (tokens_in k.slab) tokens ∙ map_around (token_in k.slab) j.tokens.items row []
-      ∙ ap (λ (rows : List OpenToken). rows ++ token_in k.slab row ∷ []) (kept_tokens j.slab k.slab key wait h.vacant h.put j.seats.items kept.linked.seated j.tokens.items kept.linked.held)
+      ∙ ap (λ (rows : List OpenToken). rows ++ token_in k.slab row ∷ []) (kept_tokens j.slab k.slab key wait h.vacant h.put j.seats.rows kept.linked.seated j.tokens.items kept.linked.held)
       ∙ ap (λ (r : OpenToken). tokens_in j.slab j.tokens.items ++ r ∷ []) its in
-      let waits : waits_in k.slab k.seats.items ≡ with_wait wait (waits_in j.slab j.seats.items) = ap (waits_in k.slab) h.seats ∙ put_waits j.slab k.slab key wait h.vacant h.put j.seats.items kept.linked.seated in
+      let waits : waits_in k.slab k.seats.rows ≡ with_wait wait (waits_in j.slab j.seats.rows) = ap (waits_in k.slab) h.seats ∙ put_waits j.slab k.slab key wait h.vacant h.put j.seats.rows kept.linked.seated in
       rw (all, waits, last, h.waiters, h.numbers) refl
 
   pub opened_kept : IsKept k
   opened_kept =
       let wait = waiting_on (j.last_token + 1) trigger kind walker in
       let row = held_row (j.last_token + 1) trigger kind key in
-      let seats : List Seat = with_seat (seat_at walker key) j.seats.items in
+      let seats : List Seat = with_seat (seat_at walker key) j.seats.rows in
       let is : opened trigger kind walker (rows_of j) ≡ rows_of k = sym opened_is in
-      let its : HasKeys k.slab seats row = All-cons (λ n. key_of seats (row_at k.slab n).walker ≡ Some n) key [] (new_key j.slab k.slab key wait h.vacant h.put j.seats.items kept.linked.seated h.idle) (All-nil (λ n. key_of seats (row_at k.slab n).walker ≡ Some n)) in
+      let its : HasKeys k.slab seats row = All-cons (λ n. key_of seats (row_at k.slab n).walker ≡ Some n) key [] (new_key j.slab k.slab key wait h.vacant h.put j.seats.rows kept.linked.seated h.idle) (All-nil (λ n. key_of seats (row_at k.slab n).walker ≡ Some n)) in
       let held : All (HasKeys k.slab seats) (j.tokens.items ++ row ∷ []) =
       All-append (HasKeys k.slab seats) j.tokens.items (row ∷ [])
-      (All-weaker (HasKeys j.slab j.seats.items) (HasKeys k.slab seats) (kept_keys j.slab k.slab key wait h.vacant h.put j.seats.items kept.linked.seated h.idle) j.tokens.items kept.linked.held)
+      (All-weaker (HasKeys j.slab j.seats.rows) (HasKeys k.slab seats) (kept_keys j.slab k.slab key wait h.vacant h.put j.seats.rows kept.linked.seated h.idle) j.tokens.items kept.linked.held)
       (All-cons (HasKeys k.slab seats) row [] its (All-nil (HasKeys k.slab seats))) in
       record {
         sound = subst (λ (w : WaitRows). IsSound w) is (opened_sound (rows_of j) trigger kind walker kept.sound (idle_wait j walker kept h.idle));
         settled = subst (λ (w : WaitRows). All (IsSettled w) w.waits) is (opened_settled (rows_of j) trigger kind walker kept.settled);
         linked = record {
-          rising = subst (λ (rows : List Seat). RiseBy (λ s. s.walker) 0 rows) (sym h.seats) (rises_put (λ (s : Seat). s.walker) 0 (seat_at walker key) j.seats.items kept.linked.rising (omega arith));
-          seated = subst (λ (rows : List Seat). All (IsSeat k.slab) rows) (sym h.seats) (put_seated j.slab k.slab key wait h.vacant h.put j.seats.items kept.linked.seated);
+          rising = subst (λ (rows : List Seat). RiseBy (λ s. s.walker) 0 rows) (sym h.seats) (rises_put (λ (s : Seat). s.walker) 0 (seat_at walker key) j.seats.rows kept.linked.rising (omega arith));
+          seated = subst (λ (rows : List Seat). All (IsSeat k.slab) rows) (sym h.seats) (put_seated j.slab k.slab key wait h.vacant h.put j.seats.rows kept.linked.seated);
           held = subst (λ (rows : List Seat). All (HasKeys k.slab rows) k.tokens.items) (sym h.seats) (subst (λ (rows : List HeldToken). All (HasKeys k.slab seats) rows) (sym tokens) held);
         };
       }
@@ -75,8 +75,8 @@ module _ (j k : Inside) (t walker key : ℕ) (row : HeldToken) (kept : IsKept j)
   joins =
       let wait = waiting_on t row.trigger row.kind walker in
       let all : tokens_in k.slab k.tokens.items ≡ with_waiter t walker (tokens_in j.slab j.tokens.items) =
-      ap (tokens_in k.slab) tokens ∙ joined_tokens j.slab k.slab key wait h.vacant h.put j.seats.items kept.linked.seated t j.tokens.items kept.linked.held in
-      let waits : waits_in k.slab k.seats.items ≡ with_wait wait (waits_in j.slab j.seats.items) = ap (waits_in k.slab) h.seats ∙ put_waits j.slab k.slab key wait h.vacant h.put j.seats.items kept.linked.seated in
+      ap (tokens_in k.slab) tokens ∙ joined_tokens j.slab k.slab key wait h.vacant h.put j.seats.rows kept.linked.seated t j.tokens.items kept.linked.held in
+      let waits : waits_in k.slab k.seats.rows ≡ with_wait wait (waits_in j.slab j.seats.rows) = ap (waits_in k.slab) h.seats ∙ put_waits j.slab k.slab key wait h.vacant h.put j.seats.rows kept.linked.seated in
       rw (all, waits, last, h.waiters, h.numbers) refl
 
   pub joined_is : rows_of k ≡ joined t walker (rows_of j)
@@ -85,17 +85,17 @@ module _ (j k : Inside) (t walker key : ℕ) (row : HeldToken) (kept : IsKept j)
   pub joined_kept : IsKept k
   joined_kept =
       let wait = waiting_on t row.trigger row.kind walker in
-      let seats : List Seat = with_seat (seat_at walker key) j.seats.items in
+      let seats : List Seat = with_seat (seat_at walker key) j.seats.rows in
       let its = token_in j.slab row in
       let is : joined_rows (rows_of j) t walker its ≡ rows_of k = sym joins in
       record {
         sound = subst (λ (w : WaitRows). IsSound w) is (joined_sound (rows_of j) t walker its kept.sound (idle_wait j walker kept h.idle) its_open);
         settled = subst (λ (w : WaitRows). All (IsSettled w) w.waits) is (joined_settled (rows_of j) t walker its kept.sound its_open kept.settled);
         linked = record {
-          rising = subst (λ (rows : List Seat). RiseBy (λ s. s.walker) 0 rows) (sym h.seats) (rises_put (λ (s : Seat). s.walker) 0 (seat_at walker key) j.seats.items kept.linked.rising (omega arith));
-          seated = subst (λ (rows : List Seat). All (IsSeat k.slab) rows) (sym h.seats) (put_seated j.slab k.slab key wait h.vacant h.put j.seats.items kept.linked.seated);
+          rising = subst (λ (rows : List Seat). RiseBy (λ s. s.walker) 0 rows) (sym h.seats) (rises_put (λ (s : Seat). s.walker) 0 (seat_at walker key) j.seats.rows kept.linked.rising (omega arith));
+          seated = subst (λ (rows : List Seat). All (IsSeat k.slab) rows) (sym h.seats) (put_seated j.slab k.slab key wait h.vacant h.put j.seats.rows kept.linked.seated);
           held = subst (λ (rows : List Seat). All (HasKeys k.slab rows) k.tokens.items) (sym h.seats) (subst (λ (rows : List HeldToken). All (HasKeys k.slab seats) rows) (sym tokens)
-              (joined_keys j.slab k.slab key wait h.vacant h.put j.seats.items kept.linked.seated h.idle t j.tokens.items kept.linked.held));
+              (joined_keys j.slab k.slab key wait h.vacant h.put j.seats.rows kept.linked.seated h.idle t j.tokens.items kept.linked.held));
         };
       }
 
@@ -104,14 +104,14 @@ module _ (j k : Inside) (t walker key : ℕ) (row : HeldToken) (kept : IsKept j)
 -- the seats and the slab with room, and after the old wait was taken away and the new one put
 pub record Renews (i j k : Inside) (roomy : List Seat) (room : Slab WaitRow) (walker key : ℕ) (wait : WaitRow) : Type 0 where
   pub whose : wait.walker ≡ walker
-  pub first : key ≡ next_key i.seats.items i.slab walker
-  pub rows : roomy ≡ i.seats.items
+  pub first : key ≡ next_key i.seats.rows i.slab walker
+  pub rows : roomy ≡ i.seats.rows
   pub slots : room.slots ≡ i.slab.slots
   pub vacated : room.vacant_key ≡ i.slab.vacant_key
-  pub taken : j.seats.items ≡ without_seat walker roomy
+  pub taken : j.seats.rows ≡ without_seat walker roomy
   pub freed : (n : ℕ) → get j.slab n ≡ cond (frees (key_of roomy walker) n) None (get room n)
   pub next : j.slab.vacant_key ≡ next_key roomy room walker
-  pub seats : k.seats.items ≡ with_seat (seat_at wait.walker j.slab.vacant_key) j.seats.items
+  pub seats : k.seats.rows ≡ with_seat (seat_at wait.walker j.slab.vacant_key) j.seats.rows
   pub vacant : get j.slab j.slab.vacant_key ≡ None
   pub put : (n : ℕ) → get k.slab n ≡ cond (j.slab.vacant_key == n) (Some wait) (get j.slab n)
   pub tokens : j.tokens.items ≡ i.tokens.items
@@ -130,7 +130,7 @@ no_seat_left walker seats = ap (option_map (λ (s : Seat). s.key)) (find_gone (�
 
 module _ (i j k : Inside) (roomy : List Seat) (room : Slab WaitRow) (walker key : ℕ) (wait : WaitRow) (kept : IsKept i) (free : still_waits (wait_of (rows_of i).waits walker) ≡ false) (h : Renews i j k roomy room walker key wait) where
   same_key : j.slab.vacant_key ≡ key
-  same_key = h.next ∙ ap (λ (seats : List Seat). next_key seats room walker) h.rows ∙ same_next (key_of i.seats.items walker) room i.slab h.slots h.vacated ∙ sym h.first
+  same_key = h.next ∙ ap (λ (seats : List Seat). next_key seats room walker) h.rows ∙ same_next (key_of i.seats.rows walker) room i.slab h.slots h.vacated ∙ sym h.first
 
   frees_it : Freed i j walker
   frees_it = record {
@@ -147,12 +147,12 @@ module _ (i j k : Inside) (roomy : List Seat) (room : Slab WaitRow) (walker key 
 
   puts_it : Puts j k wait key
   puts_it =
-      let none : key_of j.seats.items walker ≡ None = ap (λ (seats : List Seat). key_of seats walker) h.taken ∙ no_seat_left walker roomy in
+      let none : key_of j.seats.rows walker ≡ None = ap (λ (seats : List Seat). key_of seats walker) h.taken ∙ no_seat_left walker roomy in
       record {
-        idle = ap (key_of j.seats.items) h.whose ∙ none;
+        idle = ap (key_of j.seats.rows) h.whose ∙ none;
         vacant = ap (get j.slab) (sym same_key) ∙ h.vacant;
         put = λ n. h.put n ∙ ap (λ (m : ℕ). cond (m == n) (Some wait) (get j.slab n)) same_key;
-        seats = h.seats ∙ ap (λ (m : ℕ). with_seat (seat_at wait.walker m) j.seats.items) same_key;
+        seats = h.seats ∙ ap (λ (m : ℕ). with_seat (seat_at wait.walker m) j.seats.rows) same_key;
         waiters = h.waiters_put;
         numbers = h.numbers_put;
       }

@@ -39,7 +39,7 @@ same_slots old new h k = rw h refl
 
 pub record Same (i j : Inside) : Type 0 where
   pub tokens : j.tokens.items ≡ i.tokens.items
-  pub seats : j.seats.items ≡ i.seats.items
+  pub seats : j.seats.rows ≡ i.seats.rows
   pub slab : (k : ℕ) → get j.slab k ≡ get i.slab k
   pub last : j.last_token ≡ i.last_token
   pub waiters : j.most_waits ≡ i.most_waits
@@ -48,7 +48,7 @@ pub record Same (i j : Inside) : Type 0 where
 pub same_rows : (i j : Inside) → Same i j → rows_of j ≡ rows_of i
 same_rows i j h =
     let tokens : tokens_in j.slab j.tokens.items ≡ tokens_in i.slab i.tokens.items = ap (tokens_in j.slab) h.tokens ∙ tokens_same i.slab j.slab h.slab i.tokens.items in
-    let waits : waits_in j.slab j.seats.items ≡ waits_in i.slab i.seats.items = ap (waits_in j.slab) h.seats ∙ waits_same i.slab j.slab h.slab i.seats.items in
+    let waits : waits_in j.slab j.seats.rows ≡ waits_in i.slab i.seats.rows = ap (waits_in j.slab) h.seats ∙ waits_same i.slab j.slab h.slab i.seats.rows in
     rw (tokens, waits, h.last, h.waiters, h.numbers) refl
 
 pub same_kept : (i j : Inside) → IsKept i → Same i j → IsKept j
@@ -59,25 +59,25 @@ same_kept i j kept h =
       settled = subst (λ (w : WaitRows). All (IsSettled w) w.waits) is kept.settled;
       linked = record {
         rising = subst (λ (seats : List Seat). RiseBy (λ s. s.walker) 0 seats) (sym h.seats) kept.linked.rising;
-        seated = subst (λ (seats : List Seat). All (IsSeat j.slab) seats) (sym h.seats) (All-weaker (IsSeat i.slab) (IsSeat j.slab) (seat_same i.slab j.slab h.slab) i.seats.items kept.linked.seated);
-        held = subst (λ (seats : List Seat). All (HasKeys j.slab seats) j.tokens.items) (sym h.seats) (subst (λ (tokens : List HeldToken). All (HasKeys j.slab i.seats.items) tokens) (sym h.tokens)
-            (All-weaker (HasKeys i.slab i.seats.items) (HasKeys j.slab i.seats.items) (keys_same i.slab j.slab h.slab i.seats.items) i.tokens.items kept.linked.held));
+        seated = subst (λ (seats : List Seat). All (IsSeat j.slab) seats) (sym h.seats) (All-weaker (IsSeat i.slab) (IsSeat j.slab) (seat_same i.slab j.slab h.slab) i.seats.rows kept.linked.seated);
+        held = subst (λ (seats : List Seat). All (HasKeys j.slab seats) j.tokens.items) (sym h.seats) (subst (λ (tokens : List HeldToken). All (HasKeys j.slab i.seats.rows) tokens) (sym h.tokens)
+            (All-weaker (HasKeys i.slab i.seats.rows) (HasKeys j.slab i.seats.rows) (keys_same i.slab j.slab h.slab i.seats.rows) i.tokens.items kept.linked.held));
       };
     }
 
 -- ---- the wait of a walker that waits no longer is taken away, if it has one
 
 pub record Freed (i j : Inside) (walker : ℕ) : Type 0 where
-  pub seats : j.seats.items ≡ without_seat walker i.seats.items
-  pub freed : (k : ℕ) → get j.slab k ≡ cond (frees (key_of i.seats.items walker) k) None (get i.slab k)
+  pub seats : j.seats.rows ≡ without_seat walker i.seats.rows
+  pub freed : (k : ℕ) → get j.slab k ≡ cond (frees (key_of i.seats.rows walker) k) None (get i.slab k)
   pub tokens : j.tokens.items ≡ i.tokens.items
   pub last : j.last_token ≡ i.last_token
   pub waiters : j.most_waits ≡ i.most_waits
   pub numbers : j.most_tokens ≡ i.most_tokens
 
 -- a walker that has no wait has no seat
-pub no_seat : (i : Inside) (walker : ℕ) → IsKept i → wait_of (rows_of i).waits walker ≡ None → seat_of i.seats.items walker ≡ None
-no_seat i walker kept h = none_where_mapped_none (λ (s : Seat). row_at i.slab s.key) (seat_of i.seats.items walker) (sym (wait_found i.slab i.seats.items walker kept.linked.seated) ∙ h)
+pub no_seat : (i : Inside) (walker : ℕ) → IsKept i → wait_of (rows_of i).waits walker ≡ None → seat_of i.seats.rows walker ≡ None
+no_seat i walker kept h = none_where_mapped_none (λ (s : Seat). row_at i.slab s.key) (seat_of i.seats.rows walker) (sym (wait_found i.slab i.seats.rows walker kept.linked.seated) ∙ h)
 
 module _ (i j : Inside) (walker : ℕ) (kept : IsKept i) (h : Freed i j walker) where
   freed_row : (row : WaitRow) (o : Option Status) → wait_of (rows_of i).waits walker ≡ Some row → row.status ≡ o → is_none o ≡ false → (rows_of j ≡ collected walker (rows_of i)) × IsKept j
@@ -91,7 +91,7 @@ module _ (i j : Inside) (walker : ℕ) (kept : IsKept i) (h : Freed i j walker) 
       let none = no_seat i walker kept there in
       let is : Same i j = record {
         tokens = h.tokens;
-        seats = h.seats ∙ all_kept (λ (s : Seat). s.walker == walker) i.seats.items none;
+        seats = h.seats ∙ all_kept (λ (s : Seat). s.walker == walker) i.seats.rows none;
         slab = λ k. h.freed k ∙ ap (λ (o : Option Seat). cond (frees (option_map (λ (s : Seat). s.key) o) k) None (get i.slab k)) none;
         last = h.last;
         waiters = h.waiters;

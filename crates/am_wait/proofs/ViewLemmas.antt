@@ -45,8 +45,8 @@ tokens_named slab tokens fs =
 -- at each key of an open token is a wait
 pub its_waits : (i : Inside) (kept : IsKept i) (t : ℕ) (its : HeldToken) → held_of i.tokens.items t ≡ Some its → All (λ key. IsSome (get i.slab key)) its.keys
 its_waits i kept t its there =
-    All-weaker (λ key. key_of i.seats.items (row_at i.slab key).walker ≡ Some key) (λ key. IsSome (get i.slab key))
-    (λ key e. let wait = has_wait i.slab i.seats.items (row_at i.slab key).walker key kept.linked.seated e in ap (λ (o : Option WaitRow). is_some o) wait.1)
+    All-weaker (λ key. key_of i.seats.rows (row_at i.slab key).walker ≡ Some key) (λ key. IsSome (get i.slab key))
+    (λ key e. let wait = has_wait i.slab i.seats.rows (row_at i.slab key).walker key kept.linked.seated e in ap (λ (o : Option WaitRow). is_some o) wait.1)
     its.keys (its_keys i kept t its there)
 
 -- what is found of a token

@@ -2,6 +2,7 @@ pub mod Rows
 pub mod Calls
 pub mod Invariant
 pub mod Seats
+pub mod Seating
 pub mod Held
 pub mod View
 -- what contracts cite, passed on from one place

@@ -14,7 +14,7 @@ use Rattle.am_wait.specs.declared.waits.Waits.TheInside.{Inside}
 abbrev pub rows_of : Inside → WaitRows
 rows_of w = record {
   tokens = tokens_in w.slab w.tokens.items;
-  waits = waits_in w.slab w.seats.items;
+  waits = waits_in w.slab w.seats.rows;
   last_token = w.last_token;
   most_waits = w.most_waits;
   most_tokens = w.most_tokens;
@@ -35,4 +35,4 @@ pub record IsLinked (slab : Slab WaitRow) (seats : List Seat) (tokens : List Hel
 pub record IsKept (w : Inside) : Type 0 where
   pub sound : IsSound (rows_of w)
   pub settled : All (IsSettled (rows_of w)) (rows_of w).waits
-  pub linked : IsLinked w.slab w.seats.items w.tokens.items
+  pub linked : IsLinked w.slab w.seats.rows w.tokens.items

@@ -4,6 +4,7 @@
 
 mod held;
 mod keys;
+mod seating;
 mod seats;
 pub mod waits;
 

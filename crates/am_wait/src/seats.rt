@@ -1,13 +1,13 @@
-//! Where in the slab the wait of each walker is.
+//! The waits in the slab, each at the key of its walker.
 
-ghost use Rattle.std.specs.Prelude.{ℕ, false, ◌≡◌, ◌<◌, ◌≤◌, ◌==◌, nat_le, length, map, None, Some, IsSome, All, IfOk, OnOk, vec_len, vec_capacity, if◌then◌else◌};
+ghost use Rattle.std.specs.Prelude.{ℕ, false, ◌≡◌, ◌≤◌, ◌==◌, length, None, Some, IsSome, All, IfOk, OnOk, if◌then◌else◌};
 ghost use Rattle.std.specs.Option.{option_map};
-ghost use Rattle.std.specs.List.{position_or_len};
 ghost use Rattle.slab.specs.Slab.{get, HasRoomFor};
 ghost use Rattle.am_names.specs.{RiseBy};
 ghost use Rattle.am_wait.specs.Calls.{failed_row};
-ghost use Rattle.am_wait.specs.Seats.{key_of, with_status, among_keys, with_seat, without_seat, frees, next_key, walkers_at, seat_at, sits_at};
+ghost use Rattle.am_wait.specs.Seats.{key_of, with_status, among_keys, with_seat, without_seat, frees, next_key, walkers_at, seat_at};
 
+use crate::seating::Seating;
 use am_names::{FailNo, FsId, Name, Status, TokenKind, Trigger, WaitRow, WalkerId};
 use slab::Slab;
 use std::alloc::{AllocError, Global};
@@ -19,46 +19,22 @@ pub struct Seat {
     pub key: usize,
 }
 
-/// How many seats stand before those of this walker and of greater ones.
-fn seats_below(seats: &[Seat], walker: WalkerId) -> usize
-    requires rising { RiseBy (λ seat. seat.walker) 0 seats.now }
-    ensures { result ≡ position_or_len (λ seat. nat_le walker seat.walker) seats.now }
-{
-    seats.partition_point(|seat| seat.walker < walker)
-}
-
-/// The key of the wait of a walker.
-pub fn key_of(seats: &[Seat], walker: WalkerId) -> Option<usize>
-    requires rising { RiseBy (λ seat. seat.walker) 0 seats.now }
-    ensures { result ≡ key_of seats.now walker }
-{
-    let at = seats_below(seats, walker);
-    let Some(seat) = seats.get(at) else {
-        return None;
-    };
-    if seat.walker != walker {
-        return None;
-    }
-    Some(seat.key)
-}
-
 /// How many waits other walkers have.
-pub fn waits_of_others(seats: &[Seat], walker: WalkerId) -> usize
-    requires rising { RiseBy (λ seat. seat.walker) 0 seats.now }
-    ensures { result ≡ length (without_seat walker seats.now) }
+pub fn waits_of_others(seats: &Seating, walker: WalkerId) -> usize
+    requires rising { RiseBy (λ seat. seat.walker) 0 seats.now.rows }
+    ensures { result ≡ length (without_seat walker seats.now.rows) }
 {
-    match key_of(seats, walker) {
+    match seats.key_of(walker) {
         Some(_) => seats.len() - 1,
         None => seats.len(),
     }
 }
 
 /// The key that the next wait of a walker gets, once the wait that it has is taken away.
-pub fn next_key(seats: &[Seat], slab: &Slab<WaitRow>, walker: WalkerId) -> usize
-    requires rising { RiseBy (λ seat. seat.walker) 0 seats.now }
-    ensures { result ≡ next_key seats.now slab.now walker }
+pub fn next_key(seats: &Seating, slab: &Slab<WaitRow>, walker: WalkerId) -> usize
+    ensures { result ≡ next_key seats.now.rows slab.now walker }
 {
-    let Some(key) = key_of(seats, walker) else {
+    let Some(key) = seats.key_of(walker) else {
         return slab.vacant_key();
     };
     match slab.get(key) {
@@ -86,15 +62,15 @@ pub fn walkers_at(
 }
 
 /// Room for one more wait.
-pub fn make_room(seats: &mut Vec<Seat>, slab: &mut Slab<WaitRow>) -> Result<(), AllocError>
-    ensures seats { seats.new.items ≡ seats.old.items }
+pub fn make_room(seats: &mut Seating, slab: &mut Slab<WaitRow>) -> Result<(), AllocError>
+    ensures seats { seats.new.rows ≡ seats.old.rows }
     ensures slots { slab.new.slots ≡ slab.old.slots }
     ensures next { slab.new.vacant_key ≡ slab.old.vacant_key }
-    ensures room { OnOk result (vec_len seats.new < vec_capacity seats.new) }
+    ensures room { OnOk result (1 ≤ seats.new.room) }
     ensures slab_room { OnOk result (HasRoomFor slab.new 1) }
 {
     slab.reserve(1)?;
-    seats.reserve(1)?;
+    seats.reserve()?;
     Ok(())
 }
 
@@ -133,7 +109,7 @@ fn failed_row(row: WaitRow, fs: FsId) -> WaitRow
 }
 
 /// The wait at a key fails, if it is on a token of the file system and was not released.
-fn fail_wait(slab: &mut Slab<WaitRow>, key: usize, fs: FsId)
+pub fn fail_wait(slab: &mut Slab<WaitRow>, key: usize, fs: FsId)
     ensures this { get slab.new key ≡ option_map (failed_row fs) (get slab.old key) }
     ensures others { (other : ℕ) → (other == key) ≡ false → get slab.new other ≡
         get slab.old other }
@@ -143,71 +119,28 @@ fn fail_wait(slab: &mut Slab<WaitRow>, key: usize, fs: FsId)
     }
 }
 
-/// Each wait on a token of a file system that was not released has the status FAIL.
-pub fn fail_waits_of(slab: &mut Slab<WaitRow>, seats: &[Seat], fs: FsId)
-    ensures { (key : ℕ) → get slab.new key ≡ (if sits_at seats.now key
-        then option_map (failed_row fs) (get slab.old key) else get slab.old key) }
-{
-    for seat in seats.iter() {
-        fail_wait(slab, seat.key, fs);
-    }
-}
-
-/// The seat of a walker that has none.
-fn put_seat(seats: &mut Vec<Seat>, seat: Seat)
-    requires room { vec_len seats.old < vec_capacity seats.old }
-    requires rising { RiseBy (λ seat. seat.walker) 0 seats.old.items }
-    requires none { key_of seats.old.items seat.walker ≡ None }
-    ensures { seats.new.items ≡ with_seat seat seats.old.items }
-{
-    let at = seats_below(seats, seat.walker);
-    // There is room for it.
-    let _put = seats.insert(at, seat);
-}
-
-/// The seat of a walker goes.
-fn take_seat(seats: &mut Vec<Seat>, walker: WalkerId)
-    requires rising { RiseBy (λ seat. seat.walker) 0 seats.old.items }
-    ensures seats { seats.new.items ≡ without_seat walker seats.old.items }
-    ensures len { vec_len seats.new ≤ vec_len seats.old }
-    ensures capacity { vec_capacity seats.new ≡ vec_capacity seats.old }
-{
-    let at = seats_below(seats, walker);
-    let Some(seat) = seats.get(at) else {
-        return;
-    };
-    if seat.walker != walker {
-        return;
-    }
-    let _seat = seats.remove(at);
-}
-
 /// The wait of a walker goes, and its key is free.
-pub fn take_wait(seats: &mut Vec<Seat>, slab: &mut Slab<WaitRow>, walker: WalkerId)
-    requires rising { RiseBy (λ seat. seat.walker) 0 seats.old.items }
-    ensures seats { seats.new.items ≡ without_seat walker seats.old.items }
-    ensures len { vec_len seats.new ≤ vec_len seats.old }
-    ensures capacity { vec_capacity seats.new ≡ vec_capacity seats.old }
-    ensures room { HasRoomFor slab.old 1 → HasRoomFor slab.new 1 }
-    ensures next { slab.new.vacant_key ≡ next_key seats.old.items slab.old walker }
-    ensures freed { (key : ℕ) → get slab.new key ≡ (if frees (key_of seats.old.items walker) key
+pub fn take_wait(seats: &mut Seating, slab: &mut Slab<WaitRow>, walker: WalkerId)
+    ensures seats { seats.new.rows ≡ without_seat walker seats.old.rows }
+    ensures room { seats.old.room ≤ seats.new.room }
+    ensures slab_room { HasRoomFor slab.old 1 → HasRoomFor slab.new 1 }
+    ensures next { slab.new.vacant_key ≡ next_key seats.old.rows slab.old walker }
+    ensures freed { (key : ℕ) → get slab.new key ≡ (if frees (key_of seats.old.rows walker) key
         then None else get slab.old key) }
 {
-    let Some(key) = key_of(seats, walker) else {
+    let Some(key) = seats.key_of(walker) else {
         return;
     };
     let _row = slab.try_remove(key);
-    take_seat(seats, walker);
+    seats.take(walker);
 }
 
 /// A walker that has no wait has this one.
-pub fn put_wait(seats: &mut Vec<Seat>, slab: &mut Slab<WaitRow>, wait: WaitRow)
-    requires room { vec_len seats.old < vec_capacity seats.old }
+pub fn put_wait(seats: &mut Seating, slab: &mut Slab<WaitRow>, wait: WaitRow)
+    requires room { 1 ≤ seats.old.room }
     requires slab_room { HasRoomFor slab.old 1 }
-    requires rising { RiseBy (λ seat. seat.walker) 0 seats.old.items }
-    requires none { key_of seats.old.items wait.walker ≡ None }
-    ensures seats { seats.new.items ≡ with_seat (seat_at wait.walker slab.old.vacant_key)
-        seats.old.items }
+    ensures seats { seats.new.rows ≡ with_seat (seat_at wait.walker slab.old.vacant_key)
+        seats.old.rows }
     ensures vacant { get slab.old slab.old.vacant_key ≡ None }
     ensures put { (key : ℕ) → get slab.new key ≡ (if slab.old.vacant_key == key then Some wait
         else get slab.old key) }
@@ -219,5 +152,5 @@ pub fn put_wait(seats: &mut Vec<Seat>, slab: &mut Slab<WaitRow>, wait: WaitRow)
     let _kind: Option<TokenKind> = None;
     let _status: Option<Status> = None;
     let key = slab.insert_reserved(wait);
-    put_seat(seats, Seat { walker, key });
+    seats.put(Seat { walker, key });
 }

@@ -9,7 +9,8 @@ ghost use Rattle.am_wait.specs.Calls.{is_exhausted, is_full, open_refusal, waiti
 
 use crate::held;
 use crate::held::{HeldToken, held_of, take_token, take_tokens_of};
-use crate::seats::{Seat, fail_waits_of, key_of, set_statuses, take_wait, walkers_at};
+use crate::seating::Seating;
+use crate::seats::{set_statuses, take_wait, walkers_at};
 use am_names::{Errno, FsId, Status, Token, TokenKind, Trigger, WaitRow, WalkerId};
 use slab::Slab;
 use std::alloc::{AllocError, Global};
@@ -22,7 +23,7 @@ mod again;
 #[derive(Debug, Drop)]
 pub struct Waits {
     tokens: Vec<HeldToken>,
-    seats: Vec<Seat>,
+    seats: Seating,
     slab: Slab<WaitRow>,
     last_token: u32,
     most_waits: u32,
@@ -61,7 +62,7 @@ impl Waits {
     {
         Waits {
             tokens: Vec::new(alloc),
-            seats: Vec::new(alloc),
+            seats: Seating::new(alloc),
             slab: Slab::new(alloc),
             last_token: 0,
             most_waits: waiters,
@@ -112,7 +113,7 @@ impl Waits {
     {
         // The checker wants the tokens named, which `sound` speaks of.
         let _tokens = &self.tokens;
-        let Some(key) = key_of(&self.seats, walker) else {
+        let Some(key) = self.seats.key_of(walker) else {
             return None;
         };
         self.slab.get(key).copied()
@@ -213,7 +214,7 @@ impl Waits {
     pub fn release_fs(&mut self, fs: FsId)
         ensures { self.new ≡ fs_released fs self.old }
     {
-        fail_waits_of(&mut self.slab, &self.seats, fs);
+        self.seats.fail_waits_of(&mut self.slab, fs);
         take_tokens_of(&mut self.tokens, fs);
     }
 

@@ -6,6 +6,6 @@ use Rattle.am_wait.proofs.seats.take_wait.Goals as goal
 
 pub returns-in_default-clause-seats : goal.returns-in_default-clause-seats
 returns-in_default-clause-seats c =
-    let seats = c.args.seats.now.items in
-    let none : key_of seats c.args.walker ≡ None = rw c.deref.ensures.value at (sym c.key_of.ensures ∙ c.in_default.is) in
+    let seats = c.args.seats.now.rows in
+    let none : key_of seats c.args.walker ≡ None = sym c.key_of.ensures ∙ c.in_default.is in
     sym (all_kept (λ (s : Seat). s.walker == c.args.walker) seats (no_key seats c.args.walker none))

@@ -1,11 +1,10 @@
-use Rattle.std.proofs.Common.{◌≡◌, List, true, false, not, ◌==◌, Some, None, option_copied, refl, sym, ap, subst, ◌∙◌}
-use Rattle.am_names.specs.{WaitRow, RiseBy}
-use Rattle.am_wait.specs.{HeldToken, WaitRows, wait_of, token_of, is_full, waiting_on, still_waits, collected, rejoined, key_of, next_key, without_seat, Seat, held_of, token_in}
+use Rattle.std.proofs.Common.{◌≡◌, List, true, false, Some, None, option_copied, refl, sym, ap, ◌∙◌}
+use Rattle.am_names.specs.{WaitRow}
+use Rattle.am_wait.specs.{HeldToken, WaitRows, wait_of, token_of, is_full, waiting_on, still_waits, collected, rejoined, next_key, held_of, token_in}
 use Rattle.am_wait.specs.declared.waits.Waits.TheInside.{Inside}
-use Rattle.am_wait.proofs.RowLemmas.{rises_filter}
 use Rattle.am_wait.specs.View.{rows_of}
 use Rattle.am_wait.proofs.SameLemmas.{same_slots, same_kept}
-use Rattle.am_wait.proofs.RenewLemmas.{Renews, no_seat_left, rejoins}
+use Rattle.am_wait.proofs.RenewLemmas.{Renews, rejoins}
 use Rattle.am_wait.proofs.ViewLemmas.{tokens_rise, held_of_is}
 use Rattle.am_wait.proofs.waits.Waits.rejoin.Goals as goal
 
@@ -55,17 +54,6 @@ invariant_of-self-in_err-add_key c =
     let j : Inside = record { tokens = c.add_key.new.tokens; seats = c.make_room.new.seats; slab = c.make_room.new.slab; last_token = i.last_token; most_waits = i.most_waits; most_tokens = i.most_tokens } in
     same_kept i j c.self.invariant (record { tokens = c.in_err-add_key.ensures.err; seats = c.make_room.ensures.seats; slab = same_slots i.slab c.make_room.new.slab c.make_room.ensures.slots; last = refl; waiters = refl; numbers = refl })
 
-pub put_wait-requires-clause-rising : goal.put_wait-requires-clause-rising
-put_wait-requires-clause-rising c =
-    let i = c.self.inside in
-    subst (λ (seats : List Seat). RiseBy (λ s. s.walker) 0 seats) (sym (c.take_wait.ensures.seats ∙ ap (without_seat c.args.walker) c.make_room.ensures.seats))
-    (rises_filter (λ (s : Seat). s.walker) (λ s. not (s.walker == c.args.walker)) 0 i.seats.items c.self.invariant.linked.rising)
-
-pub put_wait-requires-clause-none : goal.put_wait-requires-clause-none
-put_wait-requires-clause-none c =
-    ap (λ (w : WaitRow). key_of c.take_wait.new.seats.items w.walker) c.waiting_on-wait.ensures
-    ∙ ap (λ (seats : List Seat). key_of seats c.args.walker) c.take_wait.ensures.seats ∙ no_seat_left c.args.walker c.make_room.new.seats.items
-
 pub invariant_of-self-2 : goal.invariant_of-self-2
 invariant_of-self-2 c =
     let i = c.self.inside in
@@ -77,8 +65,8 @@ invariant_of-self-2 c =
     let there : held_of i.tokens.items c.args.token ≡ Some its = ap (λ (tokens : List HeldToken). held_of tokens c.args.token) (sym c.deref.ensures.value) ∙ sym c.held_of.ensures ∙ ap (λ o. option_copied o) c.in-Some.is in
     let is : wait ≡ waiting_on c.args.token its.trigger its.kind c.args.walker = c.waiting_on-wait.ensures in
     let free : still_waits (wait_of (rows_of i).waits c.args.walker) ≡ false = ap (λ (x : WaitRows). still_waits (wait_of x.waits c.args.walker)) c.self.view_is ∙ sym c.still_waits.ensures ∙ c.if-still_waits.false in
-    let first : key ≡ next_key i.seats.items i.slab c.args.walker = rw c.deref-2.ensures.value at c.next_key-key.ensures in
-    let renews : Renews i j k c.make_room.new.seats.items c.make_room.new.slab c.args.walker key wait = record {
+    let first : key ≡ next_key i.seats.rows i.slab c.args.walker = c.next_key-key.ensures in
+    let renews : Renews i j k c.make_room.new.seats.rows c.make_room.new.slab c.args.walker key wait = record {
       whose = ap (λ (w : WaitRow). w.walker) is;
       first = first;
       rows = c.make_room.ensures.seats;
@@ -97,7 +85,7 @@ invariant_of-self-2 c =
       waiters_put = refl;
       numbers_put = refl;
     } in
-    (rejoins i j k c.make_room.new.seats.items c.make_room.new.slab c.args.walker key wait c.self.invariant free renews c.args.token its there is c.in_ok-add_key.ensures.ok refl).1
+    (rejoins i j k c.make_room.new.seats.rows c.make_room.new.slab c.args.walker key wait c.self.invariant free renews c.args.token its there is c.in_ok-add_key.ensures.ok refl).1
 
 pub returns-clause-ok : goal.returns-clause-ok
 returns-clause-ok c =
@@ -110,8 +98,8 @@ returns-clause-ok c =
     let there : held_of i.tokens.items c.args.token ≡ Some its = ap (λ (tokens : List HeldToken). held_of tokens c.args.token) (sym c.deref.ensures.value) ∙ sym c.held_of.ensures ∙ ap (λ o. option_copied o) c.in-Some.is in
     let is : wait ≡ waiting_on c.args.token its.trigger its.kind c.args.walker = c.waiting_on-wait.ensures in
     let free : still_waits (wait_of (rows_of i).waits c.args.walker) ≡ false = ap (λ (x : WaitRows). still_waits (wait_of x.waits c.args.walker)) c.self.view_is ∙ sym c.still_waits.ensures ∙ c.if-still_waits.false in
-    let first : key ≡ next_key i.seats.items i.slab c.args.walker = rw c.deref-2.ensures.value at c.next_key-key.ensures in
-    let renews : Renews i j k c.make_room.new.seats.items c.make_room.new.slab c.args.walker key wait = record {
+    let first : key ≡ next_key i.seats.rows i.slab c.args.walker = c.next_key-key.ensures in
+    let renews : Renews i j k c.make_room.new.seats.rows c.make_room.new.slab c.args.walker key wait = record {
       whose = ap (λ (w : WaitRow). w.walker) is;
       first = first;
       rows = c.make_room.ensures.seats;
@@ -130,4 +118,4 @@ returns-clause-ok c =
       waiters_put = refl;
       numbers_put = refl;
     } in
-    (rejoins i j k c.make_room.new.seats.items c.make_room.new.slab c.args.walker key wait c.self.invariant free renews c.args.token its there is c.in_ok-add_key.ensures.ok refl).0 ∙ ap (rejoined c.args.token c.args.walker) c.self.view_is
+    (rejoins i j k c.make_room.new.seats.rows c.make_room.new.slab c.args.walker key wait c.self.invariant free renews c.args.token its there is c.in_ok-add_key.ensures.ok refl).0 ∙ ap (rejoined c.args.token c.args.walker) c.self.view_is

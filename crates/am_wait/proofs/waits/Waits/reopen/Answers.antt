@@ -1,12 +1,11 @@
-use Rattle.std.proofs.Common.{◌≡◌, ◌+◌, ◌∷◌, ◌++◌, [], List, false, not, ◌==◌, refl, sym, ap, subst, ◌∙◌}
-use Rattle.am_names.specs.{WaitRow, RiseBy}
+use Rattle.std.proofs.Common.{◌≡◌, ◌+◌, ◌∷◌, ◌++◌, [], false, refl, sym, ap, ◌∙◌}
+use Rattle.am_names.specs.{WaitRow}
 use Rattle.am_wait.specs.declared.waits.Waits.TheInside.{Inside}
-use Rattle.am_wait.specs.{WaitRows, wait_of, waiting_on, still_waits, reopened, key_of, next_key, without_seat, Seat, held_row}
-use Rattle.am_wait.proofs.RowLemmas.{rises_filter}
+use Rattle.am_wait.specs.{WaitRows, wait_of, waiting_on, still_waits, reopened, next_key, held_row}
 use Rattle.am_wait.specs.View.{rows_of}
 use Rattle.am_wait.proofs.CallLemmas.{free_walker}
 use Rattle.am_wait.proofs.SameLemmas.{same_slots, same_kept}
-use Rattle.am_wait.proofs.RenewLemmas.{Renews, no_seat_left, reopens}
+use Rattle.am_wait.proofs.RenewLemmas.{Renews, reopens}
 use Rattle.am_wait.proofs.waits.Waits.reopen.Goals as goal
 
 pub invariant_of-self : goal.invariant_of-self
@@ -21,17 +20,6 @@ invariant_of-self-in_err-open_token c =
     let j : Inside = record { tokens = c.open_token.new.tokens; seats = c.make_room.new.seats; slab = c.make_room.new.slab; last_token = i.last_token; most_waits = i.most_waits; most_tokens = i.most_tokens } in
     same_kept i j c.self.invariant (record { tokens = c.in_err-open_token.ensures.err; seats = c.make_room.ensures.seats; slab = same_slots i.slab c.make_room.new.slab c.make_room.ensures.slots; last = refl; waiters = refl; numbers = refl })
 
-pub put_wait-requires-clause-rising : goal.put_wait-requires-clause-rising
-put_wait-requires-clause-rising c =
-    let i = c.self.inside in
-    subst (λ (seats : List Seat). RiseBy (λ s. s.walker) 0 seats) (sym (c.take_wait.ensures.seats ∙ ap (without_seat c.args.walker) c.make_room.ensures.seats))
-    (rises_filter (λ (s : Seat). s.walker) (λ s. not (s.walker == c.args.walker)) 0 i.seats.items c.self.invariant.linked.rising)
-
-pub put_wait-requires-clause-none : goal.put_wait-requires-clause-none
-put_wait-requires-clause-none c =
-    ap (λ (w : WaitRow). key_of c.take_wait.new.seats.items w.walker) c.waiting_on-wait.ensures
-    ∙ ap (λ (seats : List Seat). key_of seats c.args.walker) c.take_wait.ensures.seats ∙ no_seat_left c.args.walker c.make_room.new.seats.items
-
 pub invariant_of-self-2 : goal.invariant_of-self-2
 invariant_of-self-2 c =
     let i = c.self.inside in
@@ -41,8 +29,8 @@ invariant_of-self-2 c =
     let key = c.next_key-key.result in
     let is : wait ≡ waiting_on (i.last_token + 1) c.args.trigger c.args.kind c.args.walker = c.waiting_on-wait.ensures in
     let free : still_waits (wait_of (rows_of i).waits c.args.walker) ≡ false = ap (λ (x : WaitRows). still_waits (wait_of x.waits c.args.walker)) c.self.view_is ∙ free_walker c.args.walker c.args.self.now (sym c.reopen_refusal.ensures ∙ c.in_default.is) in
-    let first : key ≡ next_key i.seats.items i.slab c.args.walker = rw c.deref.ensures.value at c.next_key-key.ensures in
-    let renews : Renews i j k c.make_room.new.seats.items c.make_room.new.slab c.args.walker key wait = record {
+    let first : key ≡ next_key i.seats.rows i.slab c.args.walker = c.next_key-key.ensures in
+    let renews : Renews i j k c.make_room.new.seats.rows c.make_room.new.slab c.args.walker key wait = record {
       whose = ap (λ (w : WaitRow). w.walker) is;
       first = first;
       rows = c.make_room.ensures.seats;
@@ -62,7 +50,7 @@ invariant_of-self-2 c =
       numbers_put = refl;
     } in
     let tokens : c.open_token.new.tokens.items ≡ i.tokens.items ++ held_row (i.last_token + 1) c.args.trigger c.args.kind key ∷ [] = c.in_ok-open_token.ensures.ok ∙ ap (λ (w : WaitRow). i.tokens.items ++ held_row w.token w.trigger w.kind key ∷ []) is in
-    (reopens i j k c.make_room.new.seats.items c.make_room.new.slab c.args.walker key wait c.self.invariant free renews c.args.trigger c.args.kind (i.last_token + 1) refl is tokens refl).1
+    (reopens i j k c.make_room.new.seats.rows c.make_room.new.slab c.args.walker key wait c.self.invariant free renews c.args.trigger c.args.kind (i.last_token + 1) refl is tokens refl).1
 
 pub returns-clause-ok : goal.returns-clause-ok
 returns-clause-ok c =
@@ -73,8 +61,8 @@ returns-clause-ok c =
     let key = c.next_key-key.result in
     let is : wait ≡ waiting_on (i.last_token + 1) c.args.trigger c.args.kind c.args.walker = c.waiting_on-wait.ensures in
     let free : still_waits (wait_of (rows_of i).waits c.args.walker) ≡ false = ap (λ (x : WaitRows). still_waits (wait_of x.waits c.args.walker)) c.self.view_is ∙ free_walker c.args.walker c.args.self.now (sym c.reopen_refusal.ensures ∙ c.in_default.is) in
-    let first : key ≡ next_key i.seats.items i.slab c.args.walker = rw c.deref.ensures.value at c.next_key-key.ensures in
-    let renews : Renews i j k c.make_room.new.seats.items c.make_room.new.slab c.args.walker key wait = record {
+    let first : key ≡ next_key i.seats.rows i.slab c.args.walker = c.next_key-key.ensures in
+    let renews : Renews i j k c.make_room.new.seats.rows c.make_room.new.slab c.args.walker key wait = record {
       whose = ap (λ (w : WaitRow). w.walker) is;
       first = first;
       rows = c.make_room.ensures.seats;
@@ -94,4 +82,4 @@ returns-clause-ok c =
       numbers_put = refl;
     } in
     let tokens : c.open_token.new.tokens.items ≡ i.tokens.items ++ held_row (i.last_token + 1) c.args.trigger c.args.kind key ∷ [] = c.in_ok-open_token.ensures.ok ∙ ap (λ (w : WaitRow). i.tokens.items ++ held_row w.token w.trigger w.kind key ∷ []) is in
-    (reopens i j k c.make_room.new.seats.items c.make_room.new.slab c.args.walker key wait c.self.invariant free renews c.args.trigger c.args.kind (i.last_token + 1) refl is tokens refl).0 ∙ ap (reopened c.args.trigger c.args.kind c.args.walker) c.self.view_is
+    (reopens i j k c.make_room.new.seats.rows c.make_room.new.slab c.args.walker key wait c.self.invariant free renews c.args.trigger c.args.kind (i.last_token + 1) refl is tokens refl).0 ∙ ap (reopened c.args.trigger c.args.kind c.args.walker) c.self.view_is
