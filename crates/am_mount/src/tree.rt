@@ -1,6 +1,6 @@
 //! The rows of all mounts.
 
-ghost use Rattle.std.specs.Prelude.{◌≡◌, ◌≤◌, ◌-◌, ◌++◌, ◌↔◌, ℕ, [], take, length, filter, not, option_map, find, ◌∷◌, IsTrue, IfOk, IfSome, IfNone, OnOk, OnErr};
+ghost use Rattle.std.specs.Prelude.{◌≡◌, ◌≤◌, ◌-◌, ◌++◌, ◌↔◌, ℕ, [], take, length, filter, not, option_map, find, ◌∷◌, IsTrue, Some, IfOk, IfSome, IfNone, OnOk, OnErr};
 ghost use Rattle.std.specs.List.{Contains, slice_get};
 ghost use Rattle.std.specs.List.Sorted.{IsStrictlyIncreasing};
 ghost use Rattle.std.specs.Option.{option_copied};
@@ -64,8 +64,21 @@ fn is_above(mount: MountId, last: &Option<MountId>) -> bool
     }
 }
 
+/// The mount's row, where it stands at the place of its number. Mounts are numbered from 1 on, so
+/// that those below which none was removed do.
+fn row_in_place(rows: &[MountRow], mount: MountId) -> Option<&MountRow>
+    requires { IsRising rows.now }
+    ensures { IfSome result (λ row. mount_row rows.now mount ≡ Some row.now) }
+{
+    let place = (mount.0 as usize).saturating_sub(1);
+    match rows.get(place) {
+        Some(row) if row.mount == mount => Some(row),
+        Some(_) | None => None,
+    }
+}
+
 /// The mount's row. The rows rise by number, so that halves of them are left out at a time.
-fn mount_row(rows: &[MountRow], mount: MountId) -> Option<&MountRow>
+fn row_by_halves(rows: &[MountRow], mount: MountId) -> Option<&MountRow>
     requires { IsRising rows.now }
     ensures { option_copied result ≡ mount_row rows.now mount }
 {
@@ -73,6 +86,17 @@ fn mount_row(rows: &[MountRow], mount: MountId) -> Option<&MountRow>
     match rows.binary_search_by_key(&number, |row| row.mount.0) {
         Ok(at) => Some(&rows[at]),
         Err(_) => None,
+    }
+}
+
+/// The mount's row, which is looked for at the place of its number first.
+fn mount_row(rows: &[MountRow], mount: MountId) -> Option<&MountRow>
+    requires { IsRising rows.now }
+    ensures { option_copied result ≡ mount_row rows.now mount }
+{
+    match row_in_place(rows, mount) {
+        Some(row) => Some(row),
+        None => row_by_halves(rows, mount),
     }
 }
 
