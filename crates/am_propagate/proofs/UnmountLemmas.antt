@@ -97,7 +97,7 @@ mapped_of h (x ∷ rs) m e = go (h x) refl e (mapped_of h rs m)
         (λ rest. later (ih rest))
         (or_cases (n == m) (is_among (filter_map h rs) m) e)
 
-found_number : (rows : List MountRow) (m : ℕ) (row : MountRow) → mount_row rows m ≡ Some row → row.mount ≡ m
+pub found_number : (rows : List MountRow) (m : ℕ) (row : MountRow) → mount_row rows m ≡ Some row → row.mount ≡ m
 found_number [] m row e = absurd cc
 found_number (r ∷ rows) m row e = go (r.mount == m) refl e (found_number rows m row)
   where

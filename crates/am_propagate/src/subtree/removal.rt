@@ -15,18 +15,6 @@ use crate::subtree::Subtree;
 use am_names::{Errno, MountId, MountRow, NsId, Position};
 use std::alloc::{AllocError, Global};
 
-/// Whether the mount is one of these, which rise: halves of them are left out at a time.
-pub fn is_among(mount: MountId, mounts: &[MountId]) -> bool
-    requires { IsStrictlyIncreasing mounts.now }
-    ensures { result ≡ is_among mounts.now mount }
-{
-    let number = mount.0;
-    match mounts.binary_search_by_key(&number, |other| other.0) {
-        Ok(_) => true,
-        Err(_) => false,
-    }
-}
-
 /// The same mounts in rising order, each once.
 fn in_order(mut mounts: Vec<MountId>) -> Vec<MountId>
     ensures rising { IsStrictlyIncreasing result.items }
@@ -72,7 +60,7 @@ impl Subtree {
         ensures { IfOk result (λ v. v.items ≡
             mount ∷ filter_map (bare_top self.now (names_of place.now)) receivers.now) }
     {
-        let mut going = Vec::new(alloc);
+        let mut going = Vec::with_capacity(alloc, receivers.len() + 1)?;
         going.push(mount)?;
         for receiver in receivers {
             if let Some(top) = self.bare_top(*receiver, place) {
