@@ -120,22 +120,22 @@ impl Kernel {
         self.is_any_on_autofs(gone)
     }
 
-    /// Why an unmount of this mount would be refused for what it is mounted on, if it would.
-    fn site_refusal(&self, alloc: Global, mount: MountId) -> Result<Option<Errno>, Errno>
-        ensures refusal { RefusedAs None result }
-        ensures ok { IfOk result (λ first. first ≡ site_refusal self.now mount) }
+    /// Why an unmount of this mount, with these that would go, would be refused for what it is
+    /// mounted on, if it would.
+    fn site_refusal(&self, mount: MountId, gone: &[MountId]) -> Option<Errno>
+        requires { gone.now ≡ unmounted self.now.table mount }
+        ensures { result ≡ site_refusal self.now mount }
     {
-        let gone = self.subtree.umount_takes(alloc, mount)?;
         let Some(row) = self.subtree.tree().row(mount) else {
-            return Ok(Some(Errno::EBUSY));
+            return Some(Errno::EBUSY);
         };
         if row.mountpoint.is_none() {
-            return Ok(Some(Errno::EBUSY));
+            return Some(Errno::EBUSY);
         }
-        if self.is_daemons(mount, &row.mountpoint, gone.as_slice()) {
-            return Ok(Some(Errno::EPERM));
+        if self.is_daemons(mount, &row.mountpoint, gone) {
+            return Some(Errno::EPERM);
         }
-        Ok(None)
+        None
     }
 
     /// Unmounts the mount to which the path leads, and what was mounted with it
@@ -159,10 +159,11 @@ impl Kernel {
         if !is_root(&at.place) {
             return Err(Errno::EINVAL);
         }
-        if let Some(errno) = self.site_refusal(alloc, at.mount)? {
+        let gone = self.subtree.umount_takes(alloc, at.mount)?;
+        if let Some(errno) = self.site_refusal(at.mount, gone.as_slice()) {
             return Err(errno);
         }
-        self.umount_mount(alloc, at.mount, seen)
+        self.umount_mount(alloc, at.mount, gone, seen)
     }
 
     /// Changes the state of the mount to which the path leads (sharedsubtree.rst, 5a).

@@ -16,14 +16,17 @@ use am_state::Obs;
 use am_trigger::{Autofs, place_of};
 use std::alloc::{AllocError, Global};
 
-/// Unmounts a mount with what was mounted with it, and tells all that went.
+/// Unmounts a mount with what was mounted with it, of which the caller has a list, and tells all
+/// that went.
 fn umount_of(
     subtree: &mut Subtree,
     uses: &Uses,
     alloc: Global,
     mount: MountId,
+    gone: Vec<MountId>,
     seen: &mut Vec<Obs>,
 ) -> Result<Vec<MountId>, Errno>
+    requires { gone.items ≡ unmounted subtree.old mount }
     ensures refusal { RefusedAs (umount_refusal (is_used uses.now) mount subtree.old) result }
     ensures gone { IfOk result (λ v. v.items ≡ unmounted subtree.old mount) }
     ensures ok { OnOk result (subtree.new ≡ removed (unmounted subtree.old mount) subtree.old) }
@@ -33,8 +36,8 @@ fn umount_of(
     ensures unseen { OnErr result (seen.new.items ≡ seen.old.items) }
 {
     seen.reserve(1)?;
-    let mounts = MountIds::of(subtree.umount_takes(alloc, mount)?);
-    let gone = subtree.umount(alloc, mount, uses)?;
+    let mounts = MountIds::of(Vec::from_slice(alloc, gone.as_slice())?);
+    subtree.umount_listed(alloc, mount, gone.as_slice(), uses)?;
     seen.push_reserved(Obs::Unmounted { mounts });
     Ok(gone)
 }
@@ -122,16 +125,20 @@ impl Kernel {
         let Some(mount) = self.mounted_on(alloc, trigger)? else {
             return Err(Errno::ENOENT);
         };
-        self.umount_mount(alloc, mount, seen)
+        let gone = self.subtree.umount_takes(alloc, mount)?;
+        self.umount_mount(alloc, mount, gone, seen)
     }
 
-    /// Unmounts a mount with what was mounted with it, and tells all that went.
+    /// Unmounts a mount with what was mounted with it, of which the caller has a list, and tells
+    /// all that went.
     pub(crate) fn umount_mount(
         &mut self,
         alloc: Global,
         mount: MountId,
+        gone: Vec<MountId>,
         seen: &mut Vec<Obs>,
     ) -> Result<Vec<MountId>, Errno>
+        requires { gone.items ≡ unmounted self.old.table mount }
         ensures refusal { RefusedAs (umount_refusal (is_used self.old.uses) mount self.old.table)
             result }
         ensures gone { IfOk result (λ v. v.items ≡ unmounted self.old.table mount) }
@@ -142,7 +149,7 @@ impl Kernel {
         ensures err { OnErr result (self.new ≡ self.old) }
         ensures unseen { OnErr result (seen.new.items ≡ seen.old.items) }
     {
-        umount_of(&mut self.subtree, &self.uses, alloc, mount, seen)
+        umount_of(&mut self.subtree, &self.uses, alloc, mount, gone, seen)
     }
 
     /// Whether the row is the top at its place of this mount.

@@ -1,5 +1,5 @@
 -- What a search by halves finds in rows that rise.
-use Rattle.std.proofs.Common.{◌≡◌, ◌≢◌, ◌≤◌, ◌<◌, ◌+◌, ℕ, zero, suc, List, [], ◌∷◌, length, get_or, Some, None, Ok, Err, refl, sym, ap, arith}
+use Rattle.std.proofs.Common.{◌≡◌, ◌≢◌, ◌≤◌, ◌<◌, ◌+◌, ℕ, zero, suc, List, [], ◌∷◌, length, get_or, Some, None, Ok, Err, refl, sym, ap, ◌∙◌, arith}
 use Rattle.std.specs.List.Sorted.{IsBinarySearchResult, IsNonDecreasingBy}
 use Rattle.std.specs.Ordering.{nat_cmp, ordering_index}
 use Rattle.std.proofs.lemmas.Cmp.{ranked}
@@ -48,6 +48,15 @@ found_at low (row ∷ rows) rises (suc i) m d h e =
     let rest : next ≤ mount_at rows i d = at_least next rows rises.1 i d (omega arith) in
     rw (ne_eqb row.mount m (λ same. omega arith))
     (found_at next rows rises.1 i m d (omega arith) e)
+
+-- a row that stands somewhere is that of its number
+pub found_in_place :
+    (rows : List MountRow) → IsRising rows →
+    (i m : ℕ) (row : MountRow) → i < length rows → row ≡ get_or rows i row → row.mount ≡ m →
+    mount_row rows m ≡ Some row
+found_in_place rows rises i m row h is at =
+    found_at 0 rows rises i m row h (ap (λ (r : MountRow). r.mount) (sym is) ∙ at) ∙
+    ap Some (sym is)
 
 none_at :
     (rows : List MountRow) (m : ℕ) →

@@ -1,6 +1,7 @@
 //! The rows of all mounts.
 
-ghost use Rattle.std.specs.Prelude.{◌≡◌, ◌≤◌, ◌-◌, ◌++◌, ◌↔◌, ℕ, [], take, length, filter, not, option_map, find, ◌∷◌, IsTrue, IfOk, IfSome, IfNone, OnOk, OnErr};
+ghost use Rattle.std.specs.Prelude.{◌≡◌, ◌≤◌, ◌-◌, ◌++◌, ◌↔◌, ℕ, [], take, length, filter, not, option_map, find, ◌∷◌, IsTrue, Some, IfOk, IfSome, IfNone, OnOk, OnErr};
+ghost use Rattle.std.specs.Bool.{OnTrue};
 ghost use Rattle.std.specs.List.{Contains, slice_get};
 ghost use Rattle.std.specs.List.Sorted.{IsStrictlyIncreasing};
 ghost use Rattle.std.specs.Option.{option_copied};
@@ -64,8 +65,21 @@ fn is_above(mount: MountId, last: &Option<MountId>) -> bool
     }
 }
 
+/// The mount's row, where it stands at the place of its number. Mounts are numbered from 1 on, so
+/// that those below which none was removed do.
+fn row_in_place(rows: &[MountRow], mount: MountId) -> Option<&MountRow>
+    requires { IsRising rows.now }
+    ensures { IfSome result (λ row. mount_row rows.now mount ≡ Some row.now) }
+{
+    let place = (mount.0 as usize).saturating_sub(1);
+    match rows.get(place) {
+        Some(row) if row.mount == mount => Some(row),
+        Some(_) | None => None,
+    }
+}
+
 /// The mount's row. The rows rise by number, so that halves of them are left out at a time.
-fn mount_row(rows: &[MountRow], mount: MountId) -> Option<&MountRow>
+fn row_by_halves(rows: &[MountRow], mount: MountId) -> Option<&MountRow>
     requires { IsRising rows.now }
     ensures { option_copied result ≡ mount_row rows.now mount }
 {
@@ -73,6 +87,17 @@ fn mount_row(rows: &[MountRow], mount: MountId) -> Option<&MountRow>
     match rows.binary_search_by_key(&number, |row| row.mount.0) {
         Ok(at) => Some(&rows[at]),
         Err(_) => None,
+    }
+}
+
+/// The mount's row, which is looked for at the place of its number first.
+fn mount_row(rows: &[MountRow], mount: MountId) -> Option<&MountRow>
+    requires { IsRising rows.now }
+    ensures { option_copied result ≡ mount_row rows.now mount }
+{
+    match row_in_place(rows, mount) {
+        Some(row) => Some(row),
+        None => row_by_halves(rows, mount),
     }
 }
 
@@ -233,12 +258,49 @@ impl Tree {
         }
     }
 
-    /// Removes these mounts. Of the numbers that are no mount's, nothing comes.
-    pub fn remove_all(&mut self, gone: &[MountId])
+    /// Whether the mount is the newest.
+    fn is_newest(&self, mount: MountId) -> bool
+        ensures newest { OnTrue result
+            (option_map (λ row. row.mount) (slice_get self.now (length self.now - 1)) ≡
+            Some mount) }
+        ensures rising { IsRising self.now }
+    {
+        last_of(self.rows.as_slice()) == Some(mount)
+    }
+
+    /// Removes these mounts from the last of them on, as long as they are the newest. The answer
+    /// tells how many of them are left.
+    fn take_newest_back(&mut self, gone: &[MountId]) -> usize
+        ensures within { result ≤ length gone.now }
+        ensures same { filter (λ row. not (is_among (take result gone.now) row.mount)) self.new ≡
+            filter (λ row. not (is_among gone.now row.mount)) self.old }
+    {
+        let mut count = gone.len();
+        while count > 0 {
+            let before = count - 1;
+            if !self.is_newest(gone[before]) {
+                return count;
+            }
+            self.take_one_back();
+            count = before;
+        }
+        count
+    }
+
+    /// Removes these mounts, whichever they are.
+    fn remove_each(&mut self, gone: &[MountId])
         ensures { self.new ≡ filter (λ row. not (is_among gone.now row.mount)) self.old }
     {
         unlist(self.rows.as_slice(), &mut self.indexes, gone);
         leave_out(&mut self.rows, gone);
+    }
+
+    /// Removes these mounts. Of the numbers that are no mount's, nothing comes.
+    pub fn remove_all(&mut self, gone: &[MountId])
+        ensures { self.new ≡ filter (λ row. not (is_among gone.now row.mount)) self.old }
+    {
+        let left = self.take_newest_back(gone);
+        self.remove_each(&gone[..left]);
     }
 
     /// The top at a place of the mount: of the mounts there the most recently mounted. The

@@ -72,7 +72,7 @@ numbers_more last i number at =
     ap (λ (n : ℕ). numbers_after last i ++ n ∷ []) (sym at)
 
 -- what one more of them gives, if it gives something
-module _ (h : ℕ → Option ℕ) (xs : List ℕ) (i x : ℕ) (within : i < length xs) (is : x ≡ get_or xs i x) where
+module _ {B : Type 0} (h : ℕ → Option B) (xs : List ℕ) (i x : ℕ) (within : i < length xs) (is : x ≡ get_or xs i x) where
   one_more : filter_map h (take (i + 1) xs) ≡ filter_map h (take i xs) ++ filter_map h (x ∷ [])
   one_more =
       ap (λ (k : ℕ). filter_map h (take k xs)) (add-one i) ∙
@@ -80,8 +80,8 @@ module _ (h : ℕ → Option ℕ) (xs : List ℕ) (i x : ℕ) (within : i < leng
       filter_map-append h (take i xs) (get_or xs i x ∷ []) ∙
       ap (λ (y : ℕ). filter_map h (take i xs) ++ filter_map h (y ∷ [])) (sym is)
 
-  pub gives_more : (y : ℕ) → h x ≡ Some y → filter_map h (take (i + 1) xs) ≡ filter_map h (take i xs) ++ y ∷ []
-  gives_more y e = one_more ∙ ap (λ (o : Option ℕ). filter_map h (take i xs) ++ cons_option o []) e
+  pub gives_more : (y : B) → h x ≡ Some y → filter_map h (take (i + 1) xs) ≡ filter_map h (take i xs) ++ y ∷ []
+  gives_more y e = one_more ∙ ap (λ (o : Option B). filter_map h (take i xs) ++ cons_option o []) e
 
   pub gives_none : h x ≡ None → filter_map h (take (i + 1) xs) ≡ filter_map h (take i xs)
-  gives_none e = one_more ∙ ap (λ (o : Option ℕ). filter_map h (take i xs) ++ cons_option o []) e ∙ append-nil (filter_map h (take i xs))
+  gives_none e = one_more ∙ ap (λ (o : Option B). filter_map h (take i xs) ++ cons_option o []) e ∙ append-nil (filter_map h (take i xs))

@@ -1,6 +1,6 @@
 -- A copied namespace keeps the invariant.
 use Rattle.std.proofs.Common.{◌≡◌, ◌≢◌, ◌≤◌, ◌<◌, ◌+◌, ◌⊎◌, ℕ, Bool, true, false, cond, eqb, ◌||◌, List, [], ◌∷◌, ◌++◌, length, Option, Some, None, refl, sym, ap, subst, inl, inr, ⊎_elim, ◌∙◌, arith}
-use Rattle.std.specs.Prelude.{filter, find, map, nat_lt, nat_le, option_map, is_some, ◌==◌}
+use Rattle.std.specs.Prelude.{filter, filter_map, find, map, nat_lt, nat_le, option_map, is_some, ◌==◌}
 use Rattle.std.proofs.lemmas.List.{length-map}
 use Rattle.std.proofs.lemmas.List.Folds.{find-append}
 use Rattle.std.proofs.lemmas.Bool.{eqb-true, eq-eqb, ne_eqb, or_cases, cases_eq, ltb-true, ltb-false}
@@ -173,12 +173,37 @@ numbers_rise number mounts strict (x ∷ xs) sub low rises c least = (
         (λ rest. let first : lo ≤ y = rise.0 in let up : y + 1 ≤ m = bound (y + 1) ys rise.1 m rest in omega arith)
         (or_cases (eqb m y) (has m ys) h)
 
+-- what is looked up for each that is kept is that one
+looked_up : {R : Type 0} (key : R → ℕ) (f : R → R) (keep : R → Bool) (h : ℕ → Option R) (low : ℕ) (rows : List R) → RiseOn low (map key rows) → ((m : ℕ) → low ≤ m → h m ≡ look key rows m) → filter_map (λ m. option_map f (h m)) (map key (filter keep rows)) ≡ map f (filter keep rows)
+looked_up key f keep h low [] rises at = refl
+looked_up {R} key f keep h low (x ∷ rows) rises at = go (keep x) (looked_up key f keep h (key x + 1) rows rises.1 later)
+  where
+    here : h (key x) ≡ Some x
+    here = at (key x) rises.0 ∙ rw (eq-eqb (key x) (key x) refl) refl
+
+    later : (m : ℕ) → key x + 1 ≤ m → h m ≡ look key rows m
+    later m le =
+        let first : low ≤ key x = rises.0 in
+        at m (omega arith) ∙ rw (ne_eqb (key x) m (λ same. omega arith)) refl
+
+    go : (b : Bool) → filter_map (λ m. option_map f (h m)) (map key (filter keep rows)) ≡ map f (filter keep rows) → filter_map (λ m. option_map f (h m)) (map key (cond b (x ∷ filter keep rows) (filter keep rows))) ≡ map f (cond b (x ∷ filter keep rows) (filter keep rows))
+    go true ih = rw here (ap (λ (rs : List R). f x ∷ rs) ih)
+    go false ih = ih
+
 map_keys : {R : Type 0} (key : R → ℕ) (f : R → R) (number : ℕ → ℕ) → ((x : R) → key (f x) ≡ number (key x)) → (xs : List R) → map key (map f xs) ≡ map number (map key xs)
 map_keys key f number named [] = refl
 map_keys key f number named (x ∷ xs) = rw (named x) (ap (λ (ys : List ℕ). number (key x) ∷ ys) (map_keys key f number named xs))
 
 row_same : {x y : MountRow} → Some x ≡ Some y → x ≡ y
 row_same e = cc
+
+abbrev pub with_mount : ℕ → MemberRow → MemberRow
+with_mount n row = record row { mount = n }
+
+-- a copy of a row that was looked up has the number of that mount's copy
+pub member_numbered : (form : CopyForm) (number : ℕ → ℕ) (members : List MemberRow) (m n : ℕ) (row : MemberRow) → member_row members m ≡ Some row → n ≡ number m → with_mount n (in_form form row) ≡ member_in form number row
+member_numbered form number members m n row found is =
+    ap (λ (k : ℕ). with_mount k (in_form form row)) (is ∙ ap number (sym (eqb-true row.mount m (found_passes (λ (r : MemberRow). r.mount == m) members row found))))
 
 -- a copy is in no peer group that its source isn't in
 form_group : (form : CopyForm) (x : MemberRow) (g : ℕ) → (in_form form x).group ≡ Some g → x.group ≡ Some g
@@ -413,6 +438,22 @@ module _ (t : MountTable) (whole : IsWhole t) (ns : ℕ) (form : CopyForm) where
   pub with_copy_law : AddsNoReceivers t.groups (with_copy form ns t).groups
   with_copy_law = added_law t.groups members [] (t.groups.last_group + length {A = GroupRow} []) whole.sound
 
-  -- rows that are just those, whatever they are called
-  pub copy_grown : (xs : List ℕ) (to : ℕ) (new_rows : List MountRow) (new_members : List MemberRow) (groups : List GroupRow) → xs ≡ mounts_in t ns → to ≡ t.last_ns + 1 → new_rows ≡ map (row_in (copy_number t.last_mount xs) to) (filter (is_in ns) t.rows) → new_members ≡ map (member_in form (copy_number t.last_mount xs)) (filter (λ row. is_among xs row.mount) t.groups.members) → groups ≡ [] → grown new_rows new_members groups to t ≡ with_copy form ns t
-  copy_grown xs to new_rows new_members groups xs_is to_is rows_are members_are groups_are = rw (rows_are, members_are, groups_are, xs_is, to_is) copy_is
+  rows_looked_up : (f : MountRow → MountRow) → filter_map (λ m. option_map f (mount_row t.rows m)) (mounts_in t ns) ≡ map f (filter (is_in ns) t.rows)
+  rows_looked_up f = looked_up (λ (r : MountRow). r.mount) f (is_in ns) (mount_row t.rows) 0 t.rows (rises_rows 0 t.rows whole.rising) (λ m le. refl)
+
+  members_looked_up : (f : MemberRow → MemberRow) → filter_map (λ m. option_map f (member_row t.groups.members m)) (mounts_in t ns) ≡ map f kept
+  members_looked_up f =
+      ap (filter_map (λ m. option_map f (member_row t.groups.members m))) (sym kept_keys) ∙
+      looked_up (λ (r : MemberRow). r.mount) f (λ r. is_among (mounts_in t ns) r.mount) (member_row t.groups.members) 0 t.groups.members (rises_members 0 t.groups.members whole.sound.orderly.rising) (λ m le. refl)
+
+  -- there are as many as mounts
+  pub rows_long : (f : MountRow → MountRow) (xs : List ℕ) (new_rows : List MountRow) → xs ≡ mounts_in t ns → new_rows ≡ filter_map (λ m. option_map f (mount_row t.rows m)) xs → length new_rows ≡ length xs
+  rows_long f xs new_rows xs_is rows_are =
+      rw (rows_are, xs_is, rows_looked_up f)
+      (length-map (filter (is_in ns) t.rows) f ∙ sym (length-map (filter (is_in ns) t.rows) (λ (r : MountRow). r.mount)))
+
+  -- rows that are just those that are looked up, whatever they are called
+  pub copy_grown : (xs : List ℕ) (to : ℕ) (new_rows : List MountRow) (new_members : List MemberRow) (groups : List GroupRow) → xs ≡ mounts_in t ns → to ≡ t.last_ns + 1 → new_rows ≡ filter_map (λ m. option_map (row_in (copy_number t.last_mount xs) to) (mount_row t.rows m)) xs → new_members ≡ filter_map (λ m. option_map (member_in form (copy_number t.last_mount xs)) (member_row t.groups.members m)) xs → groups ≡ [] → grown new_rows new_members groups to t ≡ with_copy form ns t
+  copy_grown xs to new_rows new_members groups xs_is to_is rows_are members_are groups_are =
+      rw (rows_are, members_are, groups_are, xs_is, to_is)
+      (rw (rows_looked_up (row_in (copy_number t.last_mount (mounts_in t ns)) (t.last_ns + 1)), members_looked_up (member_in form (copy_number t.last_mount (mounts_in t ns)))) copy_is)

@@ -1,12 +1,14 @@
 -- Mounts that go: what is left keeps the invariant.
-use Rattle.std.proofs.Common.{◌≡◌, ◌≢◌, ◌≤◌, ◌<◌, ◌+◌, ℕ, Bool, true, false, cond, eqb, ◌||◌, List, [], ◌∷◌, Option, Some, None, refl, sym, ap, subst, inl, inr, ⊎_elim, ◌∙◌, arith}
+use Rattle.std.proofs.Common.{◌≡◌, ◌≢◌, ◌≤◌, ◌<◌, ◌+◌, ℕ, Bool, true, false, cond, eqb, ◌||◌, List, [], ◌∷◌, Option, Some, None, Result, Err, refl, sym, ap, subst, inl, inr, ⊎_elim, ◌∙◌, arith}
 use Rattle.std.specs.Prelude.{◌⊎◌, map, filter, find, not, is_some, ◌==◌}
 use Rattle.std.specs.List.{list_any, Contains}
 use Rattle.std.proofs.lemmas.Bool.{eqb-true, eq-eqb, ne_eqb, or_cases, and_parts}
 use Rattle.std.proofs.lemmas.Map.Views.{Contains-from_any, list_any-from_Contains}
 use Rattle.std.proofs.lemmas.Cmp.{nat_eq_equiv}
 use Rattle.am_names.proofs.Basics.{false_unless_true}
-use Rattle.am_names.specs.{MountRow, MemberRow, Position, is_among}
+use Rattle.am_names.specs.declared.errno.Errno.{Errno}
+use Rattle.am_names.specs.declared.errno.Errno.TheVariants.{NoMemory}
+use Rattle.am_names.specs.{MountRow, MemberRow, Position, RefusedAs, is_among}
 use Rattle.am_names.specs.PeerGroups.{PeerGroups}
 use Rattle.am_group.specs.{member_row, group_in, slave_in, master_where, PropagatesTo, PropagatesBy, Receives, is_kept, lifted_member, with_only, AddsNoReceivers, receivers_of, numbers}
 use Rattle.am_group.proofs.LookupLemmas.{find_filter}
@@ -151,6 +153,14 @@ unmounted_leaves t m bare c p row e on stays = false_unless_true (is_among (unmo
     let child : list_any (is_child p) t.rows ≡ true = found_any c (is_child p) t.rows row e (on_child p row on) in
     let no : not true ≡ true = rw child at free in
     cc)
+
+-- the first test that fails refuses the call
+refused_with : (T : Type 0) (first : Option Errno) (e : Errno) → first ≡ Some e → RefusedAs {T = T} first (Err e)
+refused_with T first NoMemory is = tt
+refused_with T first _ is = is
+
+pub refused_as : (T : Type 0) (first : Option Errno) (r : Result T Errno) (e : Errno) → r ≡ Err e → first ≡ Some e → RefusedAs first r
+refused_as T first r e told is = subst (λ (x : Result T Errno). RefusedAs first x) (sym told) (refused_with T first e is)
 
 eqb_swap : (a b : ℕ) → eqb a b ≡ eqb b a
 eqb_swap a b = grind arith

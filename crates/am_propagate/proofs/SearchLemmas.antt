@@ -1,16 +1,14 @@
 -- What a search by halves tells of mounts that rise.
-use Rattle.std.proofs.Common.{◌≡◌, ◌≢◌, ◌≤◌, ◌<◌, ◌+◌, ℕ, zero, suc, Bool, true, false, ◌||◌, List, [], ◌∷◌, length, get_or, eqb, Ok, Err, refl, sym, ap, ◌∙◌, arith, add-one}
+use Rattle.std.proofs.Common.{◌≡◌, ◌≤◌, ◌<◌, ◌+◌, ℕ, zero, suc, Bool, true, false, List, [], ◌∷◌, length, get_or, Ok, Err, refl, sym, ap, ◌∙◌, arith, add-one}
 use Rattle.std.specs.Prelude.{filter, nat_le, nat_lt}
 use Rattle.std.specs.List.Sorted.{IsBinarySearchResult, IsNonDecreasingBy, IsStrictlyIncreasing}
 use Rattle.std.specs.Ordering.{nat_cmp, ordering_index}
 use Rattle.std.proofs.lemmas.Cmp.{ranked}
-use Rattle.std.proofs.lemmas.Bool.{eq-eqb, ne_eqb}
+use Rattle.std.proofs.lemmas.List.{get_or_default}
 use Rattle.std.proofs.lemmas.Bool.Decides.{nat_tests}
-use Rattle.am_names.proofs.Basics.{or_true}
 use Rattle.am_group.specs.{rank}
-use Rattle.am_names.specs.{is_among}
 use Rattle.am_mount.proofs.RowLemmas.{RiseOn, RiseOn-lower}
-use Rattle.am_propagate.specs.{count_up_to}
+use Rattle.am_propagate.specs.{count_up_to, copy_number}
 
 rise_from : (n : ℕ) (xs : List ℕ) → IsStrictlyIncreasing (n ∷ xs) → RiseOn n (n ∷ xs)
 rise_from n [] steps = (omega arith, tt)
@@ -43,18 +41,6 @@ pairs_rise low (n ∷ xs) rises zero (suc j) d less h =
     omega arith
 pairs_rise low (n ∷ xs) rises (suc i) (suc j) d less h =
     pairs_rise (n + 1) xs rises.1 i j d (omega arith) (omega arith)
-
-among_at : (xs : List ℕ) (i m : ℕ) → i < length xs → get_or xs i 0 ≡ m → is_among xs m ≡ true
-among_at [] i m h e = absurd (omega arith)
-among_at (x ∷ xs) zero m h e = rw (eq-eqb x m e) refl
-among_at (x ∷ xs) (suc i) m h e =
-    ap (λ (b : Bool). (eqb x m) || b) (among_at xs i m (omega arith) e) ∙ or_true (eqb x m)
-
-among_none :
-    (xs : List ℕ) (m : ℕ) → ((i : ℕ) → i < length xs → get_or xs i 0 ≢ m) → is_among xs m ≡ false
-among_none [] m others = refl
-among_none (x ∷ xs) m others =
-    rw (ne_eqb x m (others 0 (omega arith))) (among_none xs m (λ i h. others (suc i) (omega arith)))
 
 -- as many pass as stand before the first that doesn't, where none behind it passes
 count_split :
@@ -97,13 +83,6 @@ module _ (xs : List ℕ) (steps : IsStrictlyIncreasing xs) (m : ℕ) where
   after : (i : ℕ) → IsBinarySearchResult (λ (x : ℕ). nat_cmp x m) xs (Err i) → (j : ℕ) → j < length xs → i ≤ j → m < get_or xs j 0
   after i parted j h le = ranked _ m _ (sym ((parted comparisons_rise).1 j 0 le h))
 
-  pub among_found :
-      (i : ℕ) → i < length xs → IsBinarySearchResult (λ (x : ℕ). nat_cmp x m) xs (Ok i) → is_among xs m ≡ true
-  among_found i h equal = among_at xs i m h (here i equal)
-
-  pub among_absent : (i : ℕ) → IsBinarySearchResult (λ (x : ℕ). nat_cmp x m) xs (Err i) → is_among xs m ≡ false
-  among_absent i parted = among_none xs m (λ j h same. grind (arith, before i parted j h, after i parted j h))
-
   rise : RiseOn 0 xs
   rise = rise_all xs steps
 
@@ -120,13 +99,10 @@ module _ (xs : List ℕ) (steps : IsStrictlyIncreasing xs) (m : ℕ) where
       let up : get_or xs i 0 < get_or xs j 0 = pairs_rise 0 xs rise i j 0 lt k in
       omega arith
 
-  pub count_found :
-      (i : ℕ) → i < length xs → IsBinarySearchResult (λ (x : ℕ). nat_cmp x m) xs (Ok i) → count_up_to m xs ≡ i + 1
-  count_found i h equal = count_split (λ x. nat_le x m) xs (i + 1) (omega arith) low high
+  -- so many have no higher number as stand up to its own place
+  count_here : (i : ℕ) → i < length xs → get_or xs i 0 ≡ m → count_up_to m xs ≡ i + 1
+  count_here i h own = count_split (λ x. nat_le x m) xs (i + 1) (omega arith) low high
     where
-      own : get_or xs i 0 ≡ m
-      own = here i equal
-
       low : (j : ℕ) → j < i + 1 → nat_le (get_or xs j 0) m ≡ true
       low j lt =
           let less = lower_before i h own j in
@@ -134,6 +110,13 @@ module _ (xs : List ℕ) (steps : IsStrictlyIncreasing xs) (m : ℕ) where
 
       high : (j : ℕ) → i + 1 ≤ j → j < length xs → nat_le (get_or xs j 0) m ≡ false
       high j le k = up_to_high (get_or xs j 0) m (higher_behind i own j (omega arith) k)
+
+  pub count_at : (i : ℕ) → i < length xs → m ≡ get_or xs i m → count_up_to m xs ≡ i + 1
+  count_at i h is = count_here i h (get_or_default xs i 0 m h ∙ sym is)
+
+  pub count_found :
+      (i : ℕ) → i < length xs → IsBinarySearchResult (λ (x : ℕ). nat_cmp x m) xs (Ok i) → count_up_to m xs ≡ i + 1
+  count_found i h equal = count_here i h (here i equal)
 
   pub count_absent :
       (i : ℕ) → i ≤ length xs → IsBinarySearchResult (λ (x : ℕ). nat_cmp x m) xs (Err i) → count_up_to m xs ≡ i
@@ -173,3 +156,11 @@ module _ (xs : List ℕ) (steps : IsStrictlyIncreasing xs) (m : ℕ) where
       high j le k =
           let more : m < get_or xs j 0 = after i parted j k le in
           below_high (get_or xs j 0) m (omega arith)
+
+-- the copies are numbered in order of the mounts
+pub counted_at :
+    (last : ℕ) (xs : List ℕ) → IsStrictlyIncreasing xs → (i m n : ℕ) → i < length xs → m ≡ get_or xs i m →
+    n ≡ last + i → n + 1 ≡ copy_number last xs m
+counted_at last xs steps i m n h is at =
+    let count : count_up_to m xs ≡ i + 1 = count_at xs steps m i h is in
+    omega arith

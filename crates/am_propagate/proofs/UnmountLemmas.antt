@@ -1,7 +1,7 @@
 -- What an unmount removes: the mount itself, and the bare tops at the same place of the receivers.
-use Rattle.std.proofs.Common.{◌≡◌, ◌≢◌, ◌≤◌, ◌<◌, ◌+◌, ℕ, Bool, true, false, cond, ◌||◌, List, [], ◌∷◌, Option, Some, None, eqb, refl, sym, ap, subst, ⊎_elim, ◌∙◌, arith}
-use Rattle.std.specs.Prelude.{◌==◌, ◌&&◌, filter_map, if◌then◌else◌}
-use Rattle.std.specs.List.{list_any, Contains, dedup, cons_option}
+use Rattle.std.proofs.Common.{◌≡◌, ◌≤◌, ◌<◌, ◌+◌, ℕ, Bool, true, false, cond, List, [], ◌∷◌, Option, Some, None, eqb, refl, sym, ap, subst, ⊎_elim, ◌∙◌, arith}
+use Rattle.std.specs.Prelude.{◌==◌, filter_map}
+use Rattle.std.specs.List.{dedup, cons_option}
 use Rattle.std.specs.List.Sorted.{IsStrictlyIncreasing}
 use Rattle.std.proofs.lemmas.Bool.{eqb-true, eq-eqb, ne_eqb, or_cases, and_parts, and_from}
 use Rattle.std.proofs.lemmas.List.Kept.{Contains-dedup_nat, Contains-from_dedup}
@@ -9,7 +9,7 @@ use Rattle.am_group.proofs.ScanLemmas.{just_same}
 use Rattle.am_names.proofs.Basics.{or_right, same_test}
 use Rattle.am_names.specs.{MountRow, Position, is_among}
 use Rattle.am_group.specs.{is_just, receivers_of}
-use Rattle.am_mount.specs.{mount_row, mounts_where, top_of, last_of, HasRow, IsAt, IsTop}
+use Rattle.am_mount.specs.{mount_row, mounts_where, top_of, HasRow, IsAt, IsTop}
 use Rattle.am_mount.proofs.RowLemmas.{where_every, where_rises, top_is, IsTopOf, RiseOn}
 use Rattle.am_propagate.specs.MountTable.{MountTable}
 use Rattle.am_propagate.specs.{mountpoint_in, mountpoint_of, IsWhole, is_bare, is_top_at, if_bare, bare_top, goes_with}
@@ -97,7 +97,7 @@ mapped_of h (x ∷ rs) m e = go (h x) refl e (mapped_of h rs m)
         (λ rest. later (ih rest))
         (or_cases (n == m) (is_among (filter_map h rs) m) e)
 
-found_number : (rows : List MountRow) (m : ℕ) (row : MountRow) → mount_row rows m ≡ Some row → row.mount ≡ m
+pub found_number : (rows : List MountRow) (m : ℕ) (row : MountRow) → mount_row rows m ≡ Some row → row.mount ≡ m
 found_number [] m row e = absurd cc
 found_number (r ∷ rows) m row e = go (r.mount == m) refl e (found_number rows m row)
   where

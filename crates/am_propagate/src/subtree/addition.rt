@@ -51,7 +51,7 @@ pub fn numbers_after(alloc: Global, last: u64, count: usize) -> Result<Vec<Mount
     requires { last + count < 2 ^ 64 }
     ensures { IfOk result (λ v. v.items ≡ numbers_after last count) }
 {
-    let mut mounts = Vec::new(alloc);
+    let mut mounts = Vec::with_capacity(alloc, count)?;
     let mut number = last;
     for _ in 0..count {
         number += 1;
@@ -115,7 +115,7 @@ impl Subtree {
         ensures { IfOk result (λ v. v.items ≡
             rows_at self.now at.now.place fs mount mount (at.now.mount ∷ receivers.now)) }
     {
-        let mut rows = Vec::new(alloc);
+        let mut rows = Vec::with_capacity(alloc, receivers.len() + 1)?;
         rows.push(self.row_at(alloc, &at.place, at.mount, fs, mount, mount)?)?;
         let mut number = mount.0;
         for receiver in receivers {

@@ -78,7 +78,7 @@ impl Subtree {
         ensures { IfOk result (λ v. v.items ≡ row_with (InGroup stands.now.new) mount ∷
             copies_from (stand_of stands.now) self.now.groups (mount + 1) receivers.now) }
     {
-        let mut members = Vec::new(alloc);
+        let mut members = Vec::with_capacity(alloc, receivers.len() + 1)?;
         let first = Membership::InGroup(stands.new).row(mount);
         // For the checker, which is to know the type.
         let _group: Option<GroupId> = first.group;

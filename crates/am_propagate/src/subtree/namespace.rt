@@ -1,10 +1,11 @@
 //! Copies of namespaces.
 
-ghost use Rattle.std.specs.Prelude.{◌≡◌, ◌+◌, ◌^◌, ◌<◌, ◌≤◌, ◌++◌, map, filter, length, IfOk, OnOk, OnErr};
+ghost use Rattle.std.specs.Prelude.{◌≡◌, ◌+◌, ◌^◌, ◌<◌, ◌≤◌, ◌++◌, length, option_map, IfOk, OnOk, OnErr};
+ghost use Rattle.std.specs.List.{filter_map};
 ghost use Rattle.std.specs.List.Sorted.{IsStrictlyIncreasing};
-ghost use Rattle.am_names.specs.{RefusedAs, is_among};
-ghost use Rattle.am_group.specs.{AddsNoReceivers};
-ghost use Rattle.am_mount.specs.{is_in};
+ghost use Rattle.am_names.specs.{RefusedAs};
+ghost use Rattle.am_group.specs.{AddsNoReceivers, member_row};
+ghost use Rattle.am_mount.specs.{mount_row};
 ghost use Rattle.am_propagate.specs.MountTable.{all_mounts};
 ghost use Rattle.am_propagate.specs.Added.{new_mounts};
 ghost use Rattle.am_propagate.specs.Removed.{mounts_in};
@@ -14,7 +15,6 @@ ghost use Rattle.am_propagate.specs.Namespaces.{count_up_to, copy_number, row_in
 use crate::subtree::Subtree;
 use crate::subtree::addition::numbers_after;
 use crate::subtree::joining::Joining;
-use crate::subtree::removal::is_among;
 use am_names::{Errno, MemberRow, MountId, MountRow, NsId, Position};
 use std::alloc::{AllocError, Global};
 
@@ -75,37 +75,42 @@ fn copy_number(last: u64, mounts: &[MountId], mount: MountId) -> MountId
 }
 
 impl Subtree {
+    /// Copies of the rows of these mounts, which have the next numbers.
     fn rows_in(
         &self,
         alloc: Global,
         mounts: &[MountId],
-        ns: NsId,
         to: NsId,
     ) -> Result<Vec<MountRow>, AllocError>
         requires numbers { self.now.last_mount + length mounts.now < 2 ^ 64 }
         requires rising { IsStrictlyIncreasing mounts.now }
-        ensures { IfOk result (λ v. v.items ≡
-            map (row_in (copy_number self.now.last_mount mounts.now) to)
-            (filter (is_in ns) self.now.rows)) }
+        ensures { IfOk result (λ v. v.items ≡ filter_map
+            (λ m. option_map (row_in (copy_number self.now.last_mount mounts.now) to)
+            (mount_row self.now.rows m)) mounts.now) }
     {
-        let mut rows = Vec::new(alloc);
-        for row in self.tree.rows() {
-            if row.ns == ns {
-                rows.push(self.row_in(alloc, mounts, row, to)?)?;
+        let mut rows = Vec::with_capacity(alloc, mounts.len())?;
+        let mut number = self.last_mount;
+        for mount in mounts {
+            number += 1;
+            if let Some(row) = self.tree.row(*mount) {
+                rows.push(self.row_in(alloc, mounts, row, MountId(number), to)?)?;
             }
         }
         Ok(rows)
     }
 
+    /// A copy of the row, which has this number.
     fn row_in(
         &self,
         alloc: Global,
         mounts: &[MountId],
         row: &MountRow,
+        number: MountId,
         to: NsId,
     ) -> Result<MountRow, AllocError>
         requires numbers { self.now.last_mount + length mounts.now < 2 ^ 64 }
         requires rising { IsStrictlyIncreasing mounts.now }
+        requires number { number ≡ copy_number self.now.last_mount mounts.now row.now.mount }
         ensures { IfOk result (λ copy. copy ≡
             row_in (copy_number self.now.last_mount mounts.now) to row.now) }
     {
@@ -117,7 +122,7 @@ impl Subtree {
             None => None,
         };
         Ok(MountRow {
-            mount: copy_number(self.last_mount, mounts, row.mount),
+            mount: number,
             ns: to,
             mountpoint,
             fs: row.fs,
@@ -125,6 +130,7 @@ impl Subtree {
         })
     }
 
+    /// The propagation of copies of these mounts, which have the next numbers.
     fn members_in(
         &self,
         alloc: Global,
@@ -133,17 +139,18 @@ impl Subtree {
     ) -> Result<Vec<MemberRow>, AllocError>
         requires numbers { self.now.last_mount + length mounts.now < 2 ^ 64 }
         requires rising { IsStrictlyIncreasing mounts.now }
-        ensures { IfOk result (λ v. v.items ≡
-            map (member_in form (copy_number self.now.last_mount mounts.now))
-            (filter (λ row. is_among mounts.now row.mount) self.now.groups.members)) }
+        ensures { IfOk result (λ v. v.items ≡ filter_map
+            (λ m. option_map (member_in form (copy_number self.now.last_mount mounts.now))
+            (member_row self.now.groups.members m)) mounts.now) }
     {
-        let mut members = Vec::new(alloc);
-        for row in self.groups.members() {
-            if is_among(row.mount, mounts) {
-                let mount = copy_number(self.last_mount, mounts, row.mount);
+        let mut members = Vec::with_capacity(alloc, mounts.len())?;
+        let mut number = self.last_mount;
+        for mount in mounts {
+            number += 1;
+            if let Some(row) = self.groups.member(*mount) {
                 members.push(MemberRow {
-                    mount,
-                    ..form.of(*row)
+                    mount: MountId(number),
+                    ..form.of(row)
                 })?;
             }
         }
@@ -181,7 +188,7 @@ impl Subtree {
         }
         let to = NsId(self.last_ns + 1);
         let copies = numbers_after(alloc, self.last_mount, mounts.len())?;
-        let rows = self.rows_in(alloc, mounts.as_slice(), ns, to)?;
+        let rows = self.rows_in(alloc, mounts.as_slice(), to)?;
         let members = self.members_in(alloc, mounts.as_slice(), form)?;
         let joining = Joining {
             members,

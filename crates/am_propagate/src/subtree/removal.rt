@@ -1,6 +1,6 @@
 //! Unmounts, and namespaces that are dropped.
 
-ghost use Rattle.std.specs.Prelude.{◌≡◌, ◌||◌, ◌==◌, ◌∷◌, ℕ, true, false, Some, None, IfOk, OnOk, OnErr};
+ghost use Rattle.std.specs.Prelude.{◌≡◌, ◌||◌, ◌==◌, ◌∷◌, ℕ, Bool, true, false, Some, None, IfOk, IfErr, OnOk, OnErr};
 ghost use Rattle.std.specs.List.{list_any, filter_map};
 ghost use Rattle.std.specs.List.Sorted.{IsStrictlyIncreasing};
 ghost use Rattle.std.specs.Option.{option_copied};
@@ -14,18 +14,6 @@ use crate::in_use::{InUse, is_used};
 use crate::subtree::Subtree;
 use am_names::{Errno, MountId, MountRow, NsId, Position};
 use std::alloc::{AllocError, Global};
-
-/// Whether the mount is one of these, which rise: halves of them are left out at a time.
-pub fn is_among(mount: MountId, mounts: &[MountId]) -> bool
-    requires { IsStrictlyIncreasing mounts.now }
-    ensures { result ≡ is_among mounts.now mount }
-{
-    let number = mount.0;
-    match mounts.binary_search_by_key(&number, |other| other.0) {
-        Ok(_) => true,
-        Err(_) => false,
-    }
-}
 
 /// The same mounts in rising order, each once.
 fn in_order(mut mounts: Vec<MountId>) -> Vec<MountId>
@@ -72,7 +60,7 @@ impl Subtree {
         ensures { IfOk result (λ v. v.items ≡
             mount ∷ filter_map (bare_top self.now (names_of place.now)) receivers.now) }
     {
-        let mut going = Vec::new(alloc);
+        let mut going = Vec::with_capacity(alloc, receivers.len() + 1)?;
         going.push(mount)?;
         for receiver in receivers {
             if let Some(top) = self.bare_top(*receiver, place) {
@@ -149,6 +137,26 @@ impl Subtree {
         Ok(())
     }
 
+    /// Where the mount is mounted, if nothing is mounted on it.
+    fn bare_position(&self, mount: MountId) -> Result<&Position, Errno>
+        ensures refusal { IfErr result (λ e. (uses : ℕ → Bool) →
+            umount_refusal uses mount self.now ≡ Some e) }
+        ensures here { IfOk result (λ position.
+            mountpoint_of self.now mount ≡ Some position.now) }
+        ensures bare { OnOk result (is_bare self.now mount ≡ true) }
+    {
+        let Some(row) = self.tree.row(mount) else {
+            return Err(Errno::EINVAL);
+        };
+        let Some(position) = &row.mountpoint else {
+            return Err(Errno::EBUSY);
+        };
+        if !self.is_bare(mount) {
+            return Err(Errno::EBUSY);
+        }
+        Ok(position)
+    }
+
     /// What an unmount of the mount removes, where `umount` would not refuse it.
     fn removable<U: InUse>(
         &self,
@@ -161,15 +169,7 @@ impl Subtree {
         ensures rising { IfOk result (λ v. IsStrictlyIncreasing v.items) }
         ensures bare { OnOk result (is_bare self.now mount ≡ true) }
     {
-        let Some(row) = self.tree.row(mount) else {
-            return Err(Errno::EINVAL);
-        };
-        let Some(position) = &row.mountpoint else {
-            return Err(Errno::EBUSY);
-        };
-        if !self.is_bare(mount) {
-            return Err(Errno::EBUSY);
-        }
+        let position = self.bare_position(mount)?;
         let gone = self.unmounted(alloc, mount, position)?;
         if is_used(in_use, gone.as_slice()) {
             return Err(Errno::EBUSY);
@@ -213,6 +213,27 @@ impl Subtree {
         let gone = self.removable(alloc, mount, in_use)?;
         self.remove(alloc, gone.as_slice())?;
         Ok(gone)
+    }
+
+    /// Unmounts as `umount` does, for a caller who has asked `umount_takes` what goes.
+    pub fn umount_listed<U: InUse>(
+        &mut self,
+        alloc: Global,
+        mount: MountId,
+        gone: &[MountId],
+        in_use: &U,
+    ) -> Result<(), Errno>
+        requires gone { gone.now ≡ unmounted self.old mount }
+        ensures refusal { RefusedAs (umount_refusal (U.uses in_use.now) mount self.old) result }
+        ensures ok { OnOk result (self.new ≡ removed (unmounted self.old mount) self.old) }
+        ensures err { OnErr result (self.new ≡ self.old) }
+        ensures law { AddsNoReceivers self.old.groups self.new.groups }
+    {
+        let _position = self.bare_position(mount)?;
+        if is_used(in_use, gone) {
+            return Err(Errno::EBUSY);
+        }
+        self.remove(alloc, gone)
     }
 
     /// Whether the namespace is there: it is as long as it has mounts.

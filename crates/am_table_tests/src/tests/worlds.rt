@@ -231,6 +231,18 @@ fn draw(subtree: &Subtree, random: &mut Random) -> Drawn {
     }
 }
 
+/// Unmounts the mount, with a list of what goes, and answers as `umount` does.
+fn unmounted_by_list(
+    alloc: Global,
+    subtree: &mut Subtree,
+    mount: MountId,
+    inside: &Inside,
+) -> Result<Vec<MountId>, Errno> {
+    let gone = subtree.umount_takes(alloc, mount)?;
+    subtree.umount_listed(alloc, mount, gone.as_slice(), inside)?;
+    Ok(gone)
+}
+
 impl Total {
     fn mounts_on(&mut self, alloc: Global, subtree: &mut Subtree, by: Drawn) -> Result<(), Errno> {
         let at = position(alloc, by.first, by.path)?;
@@ -252,7 +264,10 @@ impl Total {
         let inside = used_by(by.second);
         self.mounts(subtree.umount_takes(alloc, mount))?;
         self.refusal(subtree.umount_refusal(alloc, mount, &inside)?);
-        self.mounts(subtree.umount(alloc, mount, &inside))
+        self.mounts(match by.number {
+            0 | 1 => subtree.umount(alloc, mount, &inside),
+            _ => unmounted_by_list(alloc, subtree, mount, &inside),
+        })
     }
 
     fn namespaces(&mut self, alloc: Global, subtree: &mut Subtree, by: Drawn) -> Result<(), Errno> {

@@ -1,8 +1,12 @@
-use Rattle.std.proofs.Common.{◌≡◌, take}
-use Rattle.std.specs.Prelude.{map, filter}
-use Rattle.am_names.specs.{is_among}
+use Rattle.std.proofs.Common.{◌≡◌, ◌+◌, take}
+use Rattle.std.specs.Prelude.{option_map}
+use Rattle.std.specs.List.{filter_map}
+use Rattle.am_group.specs.{member_row}
 use Rattle.am_propagate.specs.{copy_number, member_in}
 use Rattle.am_propagate.proofs.subtree.Subtree.members_in.Given as goal
 
-abbrev pub invariant-loop-row : goal.invariant-loop-row
-invariant-loop-row l = l.members.items ≡ map (member_in l.fn.form (copy_number l.fn.self.last_mount l.fn.mounts)) (filter (λ row. is_among l.fn.mounts row.mount) (take l.row-index l.fn.self.groups.members))
+abbrev pub invariant-loop-mount : goal.invariant-loop-mount
+invariant-loop-mount l = record {
+  number : l.number ≡ l.fn.self.last_mount + l.mount-index;
+  rows : l.members.items ≡ filter_map (λ m. option_map (member_in l.fn.form (copy_number l.fn.self.last_mount l.fn.mounts)) (member_row l.fn.self.groups.members m)) (take l.mount-index l.fn.mounts);
+}

@@ -1,8 +1,7 @@
-use Rattle.std.proofs.Common.{◌≡◌, ◌∷◌, ℕ, List, sym, ap, subst, rules, ◌∙◌}
-use Rattle.std.specs.Prelude.{filter_map}
+use Rattle.std.proofs.Common.{◌≡◌, ℕ, List, sym, ap, subst, rules, ◌∙◌}
 use Rattle.am_names.specs.{is_among}
 use Rattle.am_propagate.specs.MountTable.{MountTable}
-use Rattle.am_propagate.specs.{IsWhole, bare_top}
+use Rattle.am_propagate.specs.{IsWhole}
 use Rattle.am_propagate.proofs.UnmountLemmas.{going, rising_same, goes_is, goes_rise}
 use Rattle.am_propagate.proofs.subtree.Subtree.unmounted.Goals as goal
 

@@ -3,7 +3,7 @@ use Rattle.std.proofs.lemmas.List.Sorted.{answers_always}
 use Rattle.am_names.specs.{MountRow}
 use Rattle.am_mount.specs.{mount_row}
 use Rattle.am_mount.proofs.FindLemmas.{found, absent}
-use Rattle.am_mount.proofs.tree.mount_row.Goals as goal
+use Rattle.am_mount.proofs.tree.row_by_halves.Goals as goal
 
 pub returns-in-Ok : goal.returns-in-Ok
 returns-in-Ok c =

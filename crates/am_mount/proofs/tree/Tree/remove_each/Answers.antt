@@ -3,7 +3,7 @@ use Rattle.std.specs.Prelude.{filter, not}
 use Rattle.am_names.specs.{MountRow, is_among}
 use Rattle.am_mount.specs.{AreIndexed, IsRising}
 use Rattle.am_mount.proofs.RowLemmas.{RiseFrom-filter}
-use Rattle.am_mount.proofs.tree.Tree.remove_all.Goals as goal
+use Rattle.am_mount.proofs.tree.Tree.remove_each.Goals as goal
 
 pub invariant_of-self : goal.invariant_of-self
 invariant_of-self c =
