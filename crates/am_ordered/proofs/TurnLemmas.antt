@@ -82,11 +82,11 @@ module _ {X : Type 0} where
   turned xs ts place within e =
       let there : Around xs place = around xs place within in
       let first : take (place + 1) xs ≡ there.before ++ there.here ∷ [] =
-        ap (λ (l : List X). take (place + 1) l) there.whole ∙ ap (λ (n : ℕ). take (n + 1) (there.before ++ there.here ∷ there.behind)) (sym there.count) ∙ taken there.before there.here there.behind in
+      ap (λ (l : List X). take (place + 1) l) there.whole ∙ ap (λ (n : ℕ). take (n + 1) (there.before ++ there.here ∷ there.behind)) (sym there.count) ∙ taken there.before there.here there.behind in
       let behind : drop (place + 1) xs ≡ there.behind =
-        ap (λ (l : List X). drop (place + 1) l) there.whole ∙ ap (λ (n : ℕ). drop (n + 1) (there.before ++ there.here ∷ there.behind)) (sym there.count) ∙ left there.before there.here there.behind in
+      ap (λ (l : List X). drop (place + 1) l) there.whole ∙ ap (λ (n : ℕ). drop (n + 1) (there.before ++ there.here ∷ there.behind)) (sym there.count) ∙ left there.before there.here there.behind in
       let gone : remove xs place ≡ there.before ++ there.behind =
-        ap (λ (l : List X). remove l place) there.whole ∙ ap (λ (n : ℕ). remove (there.before ++ there.here ∷ there.behind) n) (sym there.count) ∙ removed there.before there.here there.behind in
+      ap (λ (l : List X). remove l place) there.whole ∙ ap (λ (n : ℕ). remove (there.before ++ there.here ∷ there.behind) n) (sym there.count) ∙ removed there.before there.here there.behind in
       rw (e ∙ turned_rows there.before there.here (take (place + 1) xs) first, behind) (sym gone)
 
   -- ---- rows that were written behind the first ones
@@ -98,7 +98,7 @@ module _ {X : Type 0} where
   -- the rows behind the first ones, as a write through them leaves them
   pub written_behind : (xs ts : List X) (gone : ℕ) → gone ≤ length xs → length ts ≡ length xs - gone →
       drop (gone + 1) (take (length xs) ((take gone xs ++ (ts ++ drop (length xs - gone) (drop gone xs)))
-        ++ drop (length (take gone xs ++ (ts ++ drop (length xs - gone) (drop gone xs)))) xs)) ≡ drop 1 ts
+      ++ drop (length (take gone xs ++ (ts ++ drop (length xs - gone) (drop gone xs)))) xs)) ≡ drop 1 ts
   written_behind xs ts gone within count =
       let none : drop (length xs - gone) (drop gone xs) ≡ [] = drop_of_length-le (drop gone xs) (subst (λ (n : ℕ). n ≤ length xs - gone) (sym (length-drop gone xs)) (omega arith)) in
       let before : length (take gone xs) ≡ gone = length-take-le gone xs within in
@@ -113,7 +113,7 @@ module _ {X : Type 0} where
       length ts ≡ length (take (length vs - gone) (drop gone vs)) →
       drop 1 ts ≡ remove (take (length vs - gone) (drop gone vs)) index →
       drop (gone + 1) (take (length vs) ((take gone vs ++ (ts ++ drop (length vs - gone) (drop gone vs)))
-        ++ drop (length (take gone vs ++ (ts ++ drop (length vs - gone) (drop gone vs)))) vs)) ≡ remove (drop gone vs) index
+      ++ drop (length (take gone vs ++ (ts ++ drop (length vs - gone) (drop gone vs)))) vs)) ≡ remove (drop gone vs) index
   brought_in vs ts gone index within count e =
       written_behind vs ts gone (grind (arith, within)) (count ∙ ap (λ (l : List X). length l) (take_rest vs gone) ∙ length-drop gone vs)
       ∙ e ∙ ap (λ (l : List X). remove l index) (take_rest vs gone)
@@ -123,10 +123,10 @@ module _ {X : Type 0} where
       length ts ≡ length (take (length vs - gone) (drop gone vs)) →
       drop 1 ts ≡ remove (take (length vs - gone) (drop gone vs)) index →
       drop (gone + 1) (take n ((take gone vs ++ (ts ++ drop (length vs - gone) (drop gone vs)))
-        ++ drop (length (take gone vs ++ (ts ++ drop (length vs - gone) (drop gone vs)))) xs)) ≡ remove (drop gone xs) index
+      ++ drop (length (take gone vs ++ (ts ++ drop (length vs - gone) (drop gone vs)))) xs)) ≡ remove (drop gone xs) index
   brought xs vs ts gone index n same len within count e =
       subst (λ (l : List X). drop (gone + 1) (take n ((take gone vs ++ (ts ++ drop (length vs - gone) (drop gone vs)))
-        ++ drop (length (take gone vs ++ (ts ++ drop (length vs - gone) (drop gone vs)))) l)) ≡ remove (drop gone l) index) same
+      ++ drop (length (take gone vs ++ (ts ++ drop (length vs - gone) (drop gone vs)))) l)) ≡ remove (drop gone l) index) same
       (subst (λ (k : ℕ). drop (gone + 1) (take k ((take gone vs ++ (ts ++ drop (length vs - gone) (drop gone vs)))
-        ++ drop (length (take gone vs ++ (ts ++ drop (length vs - gone) (drop gone vs)))) vs)) ≡ remove (drop gone vs) index) len
+      ++ drop (length (take gone vs ++ (ts ++ drop (length vs - gone) (drop gone vs)))) vs)) ≡ remove (drop gone vs) index) len
       (brought_in vs ts gone index (subst (λ (k : ℕ). gone + index < k) (sym len) within) count e))

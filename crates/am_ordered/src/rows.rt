@@ -1,6 +1,6 @@
 //! Rows side by side, of which the shorter side moves where one is taken out.
 
-ghost use Rattle.std.specs.Prelude.{◌≡◌, ◌≤◌, ◌<◌, ◌+◌, ◌-◌, ◌^◌, ◌++◌, ◌∷◌, [], length, remove, drop, take, slice_get, slice_set, OnOk, vec_len, vec_capacity};
+ghost use Rattle.std.specs.Prelude.{◌≡◌, ◌≤◌, ◌<◌, ◌+◌, ◌-◌, ◌^◌, ◌++◌, ◌∷◌, [], length, remove, drop, take, slice_set, option_to_list, OnOk, vec_len, vec_capacity};
 ghost use Rattle.std.specs.Fn.{CalledAt};
 ghost use Rattle.std.specs.List.Retain.{IsFiltered};
 
@@ -102,7 +102,8 @@ impl<T> Rows<T> {
 
     /// The rows.
     pub fn as_slice(&self) -> &[T]
-        ensures { result.now ≡ self.now.rows }
+        ensures value { result.now ≡ self.now.rows }
+        ensures len { length result.now ≡ length self.now.rows }
     {
         &self.slots[self.gone..]
     }
@@ -127,8 +128,8 @@ impl<T> Rows<T> {
 
     /// The last row goes.
     pub fn pop(&mut self) -> Option<T>
-        ensures last { result ≡ slice_get self.old.rows (length self.old.rows - 1) }
-        ensures rows { self.new.rows ≡ take (length self.old.rows - 1) self.old.rows }
+        ensures rows { self.old.rows ≡ self.new.rows ++ option_to_list result }
+        ensures rest { self.new.rows ≡ take (length self.old.rows - 1) self.old.rows }
         ensures room { self.old.room ≤ self.new.room }
     {
         if self.slots.len() == self.gone {
