@@ -1,5 +1,5 @@
 -- What is left of rows where one goes that a search by halves looked for.
-use Rattle.std.proofs.Common.{◌≡◌, ◌<◌, ◌+◌, ◌-◌, ◌++◌, ℕ, suc, Bool, true, false, ◌&&◌, List, length, take, drop, get_or, Option, Some, None, Ok, Err, refl, sym, ap, ◌∙◌, arith}
+use Rattle.std.proofs.Common.{◌≡◌, ◌<◌, ◌+◌, ◌-◌, ◌++◌, ◌∷◌, [], ℕ, suc, Bool, true, false, ◌&&◌, List, length, take, drop, get_or, Option, Some, None, Ok, Err, refl, sym, ap, ◌∙◌, arith}
 use Rattle.std.specs.Prelude.{filter, not, option_map, ◌==◌}
 use Rattle.std.specs.List.{slice_get}
 use Rattle.std.specs.List.Sorted.{IsBinarySearchResult}
@@ -12,13 +12,18 @@ use Rattle.am_names.specs.{MountRow, is_among}
 use Rattle.am_mount.specs.{IsRising}
 use Rattle.am_mount.proofs.FindLemmas.{rows_rise, index_found, all_differ}
 
+-- a row of a list that has one at this place
+a_row : (i : ℕ) (rows : List MountRow) → i < length rows → MountRow
+a_row i [] less = absurd (grind (arith, less))
+a_row i (row ∷ rows) less = row
+
 module _ (rows : List MountRow) (rises : IsRising rows) (m : ℕ) where
   -- where the search finds the row, it is left out
   pub left_found :
       (i : ℕ) → i < length rows →
       IsBinarySearchResult (λ (row : MountRow). nat_cmp row.mount m) rows (Ok i) →
-      (d : MountRow) → others (λ (row : MountRow). row.mount) m rows ≡ take i rows ++ drop (suc i) rows
-  left_found i less equal d = others_at (λ (row : MountRow). row.mount) rows (rows_rise 0 rows rises) i m d less (index_found rows rises m i less equal d)
+      others (λ (row : MountRow). row.mount) m rows ≡ take i rows ++ drop (suc i) rows
+  left_found i less equal = let d : MountRow = a_row i rows less in others_at (λ (row : MountRow). row.mount) rows (rows_rise 0 rows rises) i m d less (index_found rows rises m i less equal d)
 
   -- where it finds none, all are left
   pub left_absent :

@@ -5,5 +5,5 @@ use Rattle.am_mount.specs.Index.{AreIndexed}
 
 -- the rows rise, and are indexed
 pub record IsOrdered (t : Inside) : Type 0 where
-  pub rising : IsRising t.rows.items
-  pub indexed : AreIndexed t.rows.items t.indexes
+  pub rising : IsRising t.rows.rows
+  pub indexed : AreIndexed t.rows.rows t.indexes

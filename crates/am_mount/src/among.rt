@@ -5,22 +5,26 @@ ghost use Rattle.am_names.specs.{is_among};
 ghost use Rattle.am_mount.specs.Rows.{IsRising};
 
 use am_names::{MountId, MountRow, are_ordered, is_among, is_found};
+use am_ordered::Rows;
 
 /// Leaves out the mount's row, which is found by halves.
-fn leave_one_out(rows: &mut Vec<MountRow>, mount: MountId)
-    requires { IsRising rows.old.items }
-    ensures { rows.new.items ≡ filter (λ row. not (row.mount == mount)) rows.old.items }
+fn leave_one_out(rows: &mut Rows<MountRow>, mount: MountId)
+    requires { IsRising rows.old.rows }
+    ensures { rows.new.rows ≡ filter (λ row. not (row.mount == mount)) rows.old.rows }
 {
     let number = mount.0;
-    if let Ok(at) = rows.binary_search_by_key(&number, |row| row.mount.0) {
-        let _row = rows.remove(at);
+    if let Ok(at) = rows
+        .as_slice()
+        .binary_search_by_key(&number, |row| row.mount.0)
+    {
+        rows.take_out(at);
     }
 }
 
 /// Leaves out the rows of these mounts, one after another.
-fn leave_each_out(rows: &mut Vec<MountRow>, gone: &[MountId])
-    requires { IsRising rows.old.items }
-    ensures { rows.new.items ≡ filter (λ row. not (is_among gone.now row.mount)) rows.old.items }
+fn leave_each_out(rows: &mut Rows<MountRow>, gone: &[MountId])
+    requires { IsRising rows.old.rows }
+    ensures { rows.new.rows ≡ filter (λ row. not (is_among gone.now row.mount)) rows.old.rows }
 {
     for mount in gone {
         leave_one_out(rows, *mount);
@@ -31,9 +35,9 @@ fn leave_each_out(rows: &mut Vec<MountRow>, gone: &[MountId])
 const FEW: usize = 4;
 
 /// Leaves out the rows of these mounts. In mounts that stand in order it looks by halves.
-pub fn leave_out(rows: &mut Vec<MountRow>, gone: &[MountId])
-    requires { IsRising rows.old.items }
-    ensures { rows.new.items ≡ filter (λ row. not (is_among gone.now row.mount)) rows.old.items }
+pub fn leave_out(rows: &mut Rows<MountRow>, gone: &[MountId])
+    requires { IsRising rows.old.rows }
+    ensures { rows.new.rows ≡ filter (λ row. not (is_among gone.now row.mount)) rows.old.rows }
 {
     if gone.len() <= FEW {
         leave_each_out(rows, gone);

@@ -15,13 +15,14 @@ use crate::among::leave_out;
 use crate::buckets::bucket;
 use crate::indexes::Indexes;
 use am_names::{MountId, MountRow, NsId};
+use am_ordered::Rows;
 use std::alloc::{AllocError, Global};
 use std::marker::Model;
 
 /// A set of mount rows, no two with the same number (Linux: the mounts of all namespaces).
 #[derive(Drop)]
 pub struct Tree {
-    rows: Vec<MountRow>,
+    rows: Rows<MountRow>,
     indexes: Indexes,
 }
 
@@ -32,7 +33,7 @@ impl Model for Tree {
 
     ghost Value = { List MountRow };
 
-    ghost view = { λ t. t.rows.items };
+    ghost view = { λ t. t.rows.rows };
 
     ghost invariant = { IsOrdered };
 }
@@ -175,7 +176,7 @@ impl Tree {
         ensures { result ≡ [] }
     {
         Tree {
-            rows: Vec::new(alloc),
+            rows: Rows::new(alloc),
             indexes: Indexes::new(alloc),
         }
     }

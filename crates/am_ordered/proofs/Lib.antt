@@ -1,3 +1,4 @@
 pub mod OrderLemmas
 pub mod RowLemmas
 pub mod SlotLemmas
+pub mod TurnLemmas

@@ -3,8 +3,10 @@
 
 mod order;
 pub mod ordered;
+pub mod rows;
 
 pub use ordered::OrderedMap;
+pub use rows::Rows;
 // A crate can name a map in a contract only if the types of its fields are exported.
 #[doc(hidden)]
 pub use ordered::Slot;

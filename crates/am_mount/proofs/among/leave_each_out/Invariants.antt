@@ -4,4 +4,4 @@ use Rattle.am_names.specs.{is_among}
 use Rattle.am_mount.proofs.among.leave_each_out.Given as goal
 
 abbrev pub invariant-loop-mount : goal.invariant-loop-mount
-invariant-loop-mount l = l.rows.items ≡ filter (λ row. not (is_among (take l.mount-index l.fn.gone) row.mount)) l.initial.rows.items
+invariant-loop-mount l = l.rows.rows ≡ filter (λ row. not (is_among (take l.mount-index l.fn.gone) row.mount)) l.initial.rows.rows

@@ -8,22 +8,22 @@ use Rattle.am_mount.proofs.among.leave_one_out.Goals as goal
 
 pub returns-in-Ok : goal.returns-in-Ok
 returns-in-Ok c =
-    let slice = c.deref.result.now in
+    let slice = c.as_slice.result.now in
     let number = c.mount.inside.0 in
-    let own : slice ≡ c.args.rows.now.items = c.deref.ensures.value in
+    let own : slice ≡ c.args.rows.now.rows = c.as_slice.ensures.value in
     let up : IsRising slice = subst (λ (xs : List MountRow). IsRising xs) (sym own) c.requires in
     let by_number = c.in-Ok.ensures.position (λ (r : MountRow). r.mount)
     (answers_always _ _ _ (λ f a r g called. search rules)) in
     let found : others (λ (row : MountRow). row.mount) number slice ≡ take c.in-Ok.at slice ++ drop (suc c.in-Ok.at) slice =
-    left_found slice up number c.in-Ok.at c.in-Ok.ensures.bound by_number c.remove-row.result in
-    rw (← c.mount.view_is) (c.remove-row.ensures.items ∙
+    left_found slice up number c.in-Ok.at c.in-Ok.ensures.bound by_number in
+    rw (← c.mount.view_is) (c.take_out.ensures.rows ∙
     sym (subst (λ (xs : List MountRow). others (λ (row : MountRow). row.mount) number xs ≡ take c.in-Ok.at xs ++ drop (suc c.in-Ok.at) xs) own found))
 
 pub returns-in_default : goal.returns-in_default
 returns-in_default c =
-    let slice = c.deref.result.now in
+    let slice = c.as_slice.result.now in
     let number = c.mount.inside.0 in
-    let own : slice ≡ c.args.rows.now.items = c.deref.ensures.value in
+    let own : slice ≡ c.args.rows.now.rows = c.as_slice.ensures.value in
     let up : IsRising slice = subst (λ (xs : List MountRow). IsRising xs) (sym own) c.requires in
     let by_number = c.in_default.ensures.position (λ (r : MountRow). r.mount)
     (answers_always _ _ _ (λ f a r g called. search rules)) in

@@ -12,7 +12,7 @@ returns-clause-exact c =
     let rows = c.args.self.now in
     let listed : c.list.result.now ≡ mounts_where (is_child c.args.mount) rows =
     c.list.ensures ∙ c.self.invariant.indexed.by_parent c.mount.inside.0 ∙
-    ap (λ (n : ℕ). mounts_where (is_child n) c.self.inside.rows.items) c.mount.view_is ∙
+    ap (λ (n : ℕ). mounts_where (is_child n) c.self.inside.rows.rows) c.mount.view_is ∙
     ap (mounts_where (is_child c.args.mount)) c.self.view_is in
     ok_copy (λ ys. ys ≡ mounts_where (is_child c.args.mount) rows) c.list.result.now c.from_slice.result
     (listed)
@@ -23,7 +23,7 @@ returns-clause-every c =
     let rows = c.args.self.now in
     let listed : c.list.result.now ≡ mounts_where (is_child c.args.mount) rows =
     c.list.ensures ∙ c.self.invariant.indexed.by_parent c.mount.inside.0 ∙
-    ap (λ (n : ℕ). mounts_where (is_child n) c.self.inside.rows.items) c.mount.view_is ∙
+    ap (λ (n : ℕ). mounts_where (is_child n) c.self.inside.rows.rows) c.mount.view_is ∙
     ap (mounts_where (is_child c.args.mount)) c.self.view_is in
     let rises : IsRising rows = subst (λ (xs : List MountRow). IsRising xs) c.self.view_is c.self.invariant.rising in
     ok_copy (λ ys. (m : ℕ) → Contains ys m ↔ HasRow (IsOn c.args.mount) rows m) c.list.result.now c.from_slice.result
@@ -35,7 +35,7 @@ returns-clause-rising c =
     let rows = c.args.self.now in
     let listed : c.list.result.now ≡ mounts_where (is_child c.args.mount) rows =
     c.list.ensures ∙ c.self.invariant.indexed.by_parent c.mount.inside.0 ∙
-    ap (λ (n : ℕ). mounts_where (is_child n) c.self.inside.rows.items) c.mount.view_is ∙
+    ap (λ (n : ℕ). mounts_where (is_child n) c.self.inside.rows.rows) c.mount.view_is ∙
     ap (mounts_where (is_child c.args.mount)) c.self.view_is in
     let rises : IsRising rows = subst (λ (xs : List MountRow). IsRising xs) c.self.view_is c.self.invariant.rising in
     ok_copy (λ ys. IsStrictlyIncreasing ys) c.list.result.now c.from_slice.result

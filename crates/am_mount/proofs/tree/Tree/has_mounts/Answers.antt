@@ -8,7 +8,7 @@ use Rattle.am_mount.proofs.tree.Tree.has_mounts.Goals as goal
 pub returns : goal.returns
 returns c =
     let number = c.ns.inside.0 in
-    let rows = c.self.inside.rows.items in
+    let rows = c.self.inside.rows.rows in
     ap not c.is_empty.ensures ∙
     ap (λ (xs : List ℕ). not (length xs == 0)) (c.list.ensures ∙ c.self.invariant.indexed.by_ns number) ∙
     any_where (is_in number) rows ∙

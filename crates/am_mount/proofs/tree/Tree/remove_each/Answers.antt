@@ -9,7 +9,7 @@ pub invariant_of-self : goal.invariant_of-self
 invariant_of-self c =
     let left = c.leave_out.ensures in
     record {
-      rising = subst (λ (rows : List MountRow). IsRising rows) (sym left) (RiseFrom-filter (λ row. not (is_among c.args.gone.now row.mount)) 0 c.self.inside.rows.items c.self.invariant.rising);
+      rising = subst (λ (rows : List MountRow). IsRising rows) (sym left) (RiseFrom-filter (λ row. not (is_among c.args.gone.now row.mount)) 0 c.self.inside.rows.rows c.self.invariant.rising);
       indexed = subst (λ (rows : List MountRow). AreIndexed rows c.unlist.new.indexes) (ap (filter (λ row. not (is_among c.args.gone.now row.mount))) c.as_slice.ensures.value ∙ sym left) c.unlist.ensures;
     }
 

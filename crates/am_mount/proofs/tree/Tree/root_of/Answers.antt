@@ -7,7 +7,7 @@ use Rattle.am_mount.proofs.tree.Tree.root_of.Goals as goal
 
 pub returns : goal.returns
 returns c =
-    let rows = c.self.inside.rows.items in
+    let rows = c.self.inside.rows.rows in
     let number = c.ns.inside.0 in
     c.first_alone.ensures ∙
     ap (λ (xs : List MountRow). find (λ m. stands_alone xs m) c.list.result.now) c.as_slice.ensures.value ∙

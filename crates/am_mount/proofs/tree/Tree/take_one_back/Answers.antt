@@ -9,12 +9,12 @@ use Rattle.am_mount.proofs.tree.Tree.take_one_back.Goals as goal
 pub invariant_of-self : goal.invariant_of-self
 invariant_of-self c =
     let row = c.in-Some.row in
-    let all : c.self.inside.rows.items ≡ c.pop.new.self.items ++ row ∷ [] =
-    c.pop.ensures.items ∙ ap (λ (o : Option MountRow). c.pop.new.self.items ++ option_to_list o) c.in-Some.is in
+    let all : c.self.inside.rows.rows ≡ c.pop.new.self.rows ++ row ∷ [] =
+    c.pop.ensures.rows ∙ ap (λ (o : Option MountRow). c.pop.new.self.rows ++ option_to_list o) c.in-Some.is in
     record {
       rising = subst (λ (rows : List MountRow). IsRising rows) (sym c.pop.ensures.rest)
-          (RiseFrom-take _ 0 c.self.inside.rows.items c.self.invariant.rising);
-      indexed = indexed_back c.pop.new.self.items row c.self.inside.indexes c.remove.new.self
+          (RiseFrom-take _ 0 c.self.inside.rows.rows c.self.invariant.rising);
+      indexed = indexed_back c.pop.new.self.rows row c.self.inside.indexes c.remove.new.self
           (subst (λ (rows : List MountRow). IsRising rows) all c.self.invariant.rising)
           c.remove.ensures
           (subst (λ (rows : List MountRow). AreIndexed rows c.self.inside.indexes) all c.self.invariant.indexed);
@@ -23,12 +23,12 @@ invariant_of-self c =
 pub invariant_of-self-in-Some-2 : goal.invariant_of-self-in-Some-2
 invariant_of-self-in-Some-2 c =
     let row = c.in-Some.row in
-    let all : c.self.inside.rows.items ≡ c.pop.new.self.items ++ row ∷ [] =
-    c.pop.ensures.items ∙ ap (λ (o : Option MountRow). c.pop.new.self.items ++ option_to_list o) c.in-Some.is in
+    let all : c.self.inside.rows.rows ≡ c.pop.new.self.rows ++ row ∷ [] =
+    c.pop.ensures.rows ∙ ap (λ (o : Option MountRow). c.pop.new.self.rows ++ option_to_list o) c.in-Some.is in
     record {
       rising = subst (λ (rows : List MountRow). IsRising rows) (sym c.pop.ensures.rest)
-          (RiseFrom-take _ 0 c.self.inside.rows.items c.self.invariant.rising);
-      indexed = indexed_back c.pop.new.self.items row c.self.inside.indexes c.remove.new.self
+          (RiseFrom-take _ 0 c.self.inside.rows.rows c.self.invariant.rising);
+      indexed = indexed_back c.pop.new.self.rows row c.self.inside.indexes c.remove.new.self
           (subst (λ (rows : List MountRow). IsRising rows) all c.self.invariant.rising)
           c.remove.ensures
           (subst (λ (rows : List MountRow). AreIndexed rows c.self.inside.indexes) all c.self.invariant.indexed);
@@ -36,4 +36,4 @@ invariant_of-self-in-Some-2 c =
 
 pub remove-requires : goal.remove-requires
 remove-requires c =
-    lists_rise c.self.inside.rows.items c.self.inside.indexes c.self.invariant.rising c.self.invariant.indexed
+    lists_rise c.self.inside.rows.rows c.self.inside.indexes c.self.invariant.rising c.self.invariant.indexed

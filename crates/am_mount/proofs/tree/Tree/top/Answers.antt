@@ -8,7 +8,7 @@ use Rattle.am_mount.proofs.tree.Tree.top.Goals as goal
 
 pub returns-clause-exact : goal.returns-clause-exact
 returns-clause-exact c =
-    let rows = c.self.inside.rows.items in
+    let rows = c.self.inside.rows.rows in
     let place = names_of c.args.place.now in
     let mount = c.args.mount in
     let mounts = c.list-mounts.result.now in
@@ -25,7 +25,7 @@ returns-clause-exact c =
 
 pub returns-clause-greatest : goal.returns-clause-greatest
 returns-clause-greatest c =
-    let rows = c.self.inside.rows.items in
+    let rows = c.self.inside.rows.rows in
     let place = names_of c.args.place.now in
     let mount = c.args.mount in
     let mounts = c.list-mounts.result.now in
@@ -45,7 +45,7 @@ returns-clause-greatest c =
 
 pub returns-clause-free : goal.returns-clause-free
 returns-clause-free c =
-    let rows = c.self.inside.rows.items in
+    let rows = c.self.inside.rows.rows in
     let place = names_of c.args.place.now in
     let mount = c.args.mount in
     let mounts = c.list-mounts.result.now in

@@ -1,0 +1,191 @@
+//! Rows side by side, of which the shorter side moves where one is taken out.
+
+ghost use Rattle.std.specs.Prelude.{◌≡◌, ◌≤◌, ◌<◌, ◌+◌, ◌-◌, ◌^◌, ◌++◌, ◌∷◌, [], length, remove, drop, take, slice_set, option_to_list, OnOk, vec_len, vec_capacity};
+ghost use Rattle.std.specs.Fn.{CalledAt};
+ghost use Rattle.std.specs.List.Retain.{IsFiltered};
+
+use std::alloc::{AllocError, Global};
+use std::marker::Model;
+
+/// Rows that lie side by side. One that is taken out near the first moves those before it, and
+/// another one those behind it.
+#[derive(Drop)]
+pub struct Rows<T> {
+    // Rows that went, and behind them those that are there. What went stays until there is more of
+    // it than of the others: so of many rows the first go one after another at no cost.
+    slots: Vec<T>,
+    // How many went.
+    gone: usize,
+}
+
+impl<T> Model for Rows<T> {
+    ghost use Rattle.am_ordered.specs.RowTable.{RowTable, table_code};
+
+    ghost Value = { RowTable T };
+
+    ghost coded = { table_code T.code };
+
+    ghost use Rattle.am_ordered.specs.RowView.{table_of, IsWithin};
+
+    ghost view = { λ r. table_of r.slots r.gone };
+
+    // As many went as there are slots at most.
+    ghost invariant = { λ r. IsWithin r.slots r.gone };
+}
+
+/// The first slots go.
+fn cut<T: Drop>(slots: &mut Vec<T>, count: usize)
+    requires { count ≤ vec_len slots.old }
+    ensures items { slots.new.items ≡ drop count slots.old.items }
+    ensures len { vec_len slots.new ≤ vec_len slots.old }
+    ensures capacity { vec_capacity slots.new ≡ vec_capacity slots.old }
+{
+    let left = slots.len() - count;
+    slots.rotate_left(count);
+    slots.truncate(left);
+}
+
+/// One more slot goes, the first of those that are there.
+fn pass<T: Drop>(slots: &mut Vec<T>, gone: &mut usize)
+    requires { gone.old < vec_len slots.old }
+    ensures rows { drop gone.new slots.new.items ≡ drop (gone.old + 1) slots.old.items }
+    ensures within { gone.new ≤ vec_len slots.new }
+    ensures len { vec_len slots.new ≤ vec_len slots.old }
+    ensures capacity { vec_capacity slots.new ≡ vec_capacity slots.old }
+{
+    let passed = *gone + 1;
+    if slots.len() - passed < passed {
+        cut(slots, passed);
+        *gone = 0;
+    } else {
+        *gone = passed;
+    }
+}
+
+/// The row at this index comes before all others, which keep their order.
+fn turn<T>(rows: &mut [T], index: usize)
+    requires { index < length rows.old }
+    ensures rows { drop 1 rows.new ≡ remove rows.old index }
+    ensures len { length rows.new ≡ length rows.old }
+{
+    rows[..index + 1].rotate_right(1);
+}
+
+/// The row at this index comes before all others that are there, which keep their order.
+fn bring_first<T>(slots: &mut Vec<T>, gone: usize, index: usize)
+    requires { gone + index < vec_len slots.old }
+    ensures rows { drop (gone + 1) slots.new.items ≡ remove (drop gone slots.old.items) index }
+    ensures len { vec_len slots.new ≡ vec_len slots.old }
+    ensures capacity { vec_capacity slots.new ≡ vec_capacity slots.old }
+{
+    turn(&mut slots[gone..], index);
+}
+
+impl<T> Rows<T> {
+    /// No row.
+    pub fn new(alloc: Global) -> Rows<T>
+        ensures { result.rows ≡ [] }
+    {
+        Rows {
+            slots: Vec::new(alloc),
+            gone: 0,
+        }
+    }
+
+    /// How many rows there are.
+    pub fn len(&self) -> usize
+        ensures exact { result ≡ length self.now.rows }
+        ensures bound { result < 2 ^ 63 }
+    {
+        self.slots.len() - self.gone
+    }
+
+    /// The rows.
+    pub fn as_slice(&self) -> &[T]
+        ensures value { result.now ≡ self.now.rows }
+        ensures len { length result.now ≡ length self.now.rows }
+    {
+        &self.slots[self.gone..]
+    }
+
+    /// Makes room for so many more rows.
+    pub fn reserve(&mut self, count: usize) -> Result<(), AllocError>
+        ensures rows { self.new.rows ≡ self.old.rows }
+        ensures room { self.old.room ≤ self.new.room }
+        ensures ok { OnOk result (count ≤ self.new.room) }
+    {
+        self.slots.reserve(count)
+    }
+
+    /// A row behind the others, for which there is room.
+    pub fn push_reserved(&mut self, row: T)
+        requires { 1 ≤ self.old.room }
+        ensures rows { self.new.rows ≡ self.old.rows ++ row ∷ [] }
+        ensures room { self.old.room ≤ self.new.room + 1 }
+    {
+        self.slots.push_reserved(row);
+    }
+
+    /// The last row goes.
+    pub fn pop(&mut self) -> Option<T>
+        ensures rows { self.old.rows ≡ self.new.rows ++ option_to_list result }
+        ensures rest { self.new.rows ≡ take (length self.old.rows - 1) self.old.rows }
+        ensures room { self.old.room ≤ self.new.room }
+    {
+        if self.slots.len() == self.gone {
+            return None;
+        }
+        self.slots.pop()
+    }
+
+    /// The row at this index goes. Those behind it move up by one, and no memory is taken.
+    pub fn take_out(&mut self, index: usize)
+    where
+        T: Drop,
+        requires { index < length self.old.rows }
+        ensures rows { self.new.rows ≡ remove self.old.rows index }
+        ensures room { self.old.room ≤ self.new.room }
+    {
+        let behind = self.slots.len() - self.gone - index;
+        if index < behind {
+            bring_first(&mut self.slots, self.gone, index);
+            pass(&mut self.slots, &mut self.gone);
+        } else {
+            let _row = self.slots.remove(self.gone + index);
+        }
+    }
+
+    /// These rows.
+    pub fn of(rows: Vec<T>) -> Rows<T>
+        ensures { result.rows ≡ rows.items }
+    {
+        Rows {
+            slots: rows,
+            gone: 0,
+        }
+    }
+
+    /// The row at this index is this one from now on.
+    pub fn set(&mut self, index: usize, row: T)
+    where
+        T: Drop,
+        requires { index < length self.old.rows }
+        ensures rows { self.new.rows ≡ slice_set self.old.rows index row }
+        ensures room { self.new.room ≡ self.old.room }
+    {
+        self.slots[self.gone + index] = row;
+    }
+
+    /// Only those rows stay that are to be kept, in their order. No memory is taken.
+    pub fn retain<F: FnMut(&T) -> bool>(&mut self, keeps: F)
+    where
+        T: Drop,
+        requires { F.IsAlwaysCallable keeps }
+        ensures filtered { IsFiltered (CalledAt F.FnMut) keeps self.old.rows self.new.rows }
+        ensures room { self.old.room ≤ self.new.room }
+    {
+        cut(&mut self.slots, self.gone);
+        self.gone = 0;
+        self.slots.retain(keeps);
+    }
+}
