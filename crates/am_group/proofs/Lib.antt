@@ -22,3 +22,4 @@ pub mod TableLemmas
 pub mod ReceiverLemmas
 pub mod EarlyLemmas
 pub mod UnderLemmas
+pub mod IndexedLemmas
