@@ -78,7 +78,7 @@ pub record IsWithoutGroup (row : GroupRow) (old new : Indexes) : Type 0 where
 pub record AreMoved (row after : MemberRow) (old new : Indexes) : Type 0 where
   pub members : Moves row.group after.group row.mount old.members new.members
   pub slaves : Moves row.master after.master row.mount old.slaves new.slaves
-  pub below : SameLists old.below new.below
+  pub below : new.below ≡ old.below
 
 -- these mounts stand last in their lists
 pub record AreAdded (rows : List MemberRow) (old new : Indexes) : Type 0 where
@@ -104,8 +104,15 @@ pub record AllRise (t : Indexes) : Type 0 where
   pub slaves : ListsRise t.slaves
   pub below : ListsRise t.below
 
--- for each peer group its members, the mounts that are slaves of it, and the groups below it
-pub record AreIndexed (s : PeerGroups) (t : Indexes) : Type 0 where
-  pub members : IsIndexOf (λ (row : MemberRow). row.mount) is_in s.members t.members
-  pub slaves : IsIndexOf (λ (row : MemberRow). row.mount) has_master s.members t.slaves
-  pub below : IsIndexOf (λ (row : GroupRow). row.group) is_below_it s.groups t.below
+-- for each peer group its members, and the mounts that are slaves of it
+pub record ListMembers (rows : List MemberRow) (t : Indexes) : Type 0 where
+  pub members : IsIndexOf (λ (row : MemberRow). row.mount) is_in rows t.members
+  pub slaves : IsIndexOf (λ (row : MemberRow). row.mount) has_master rows t.slaves
+
+-- for each peer group the groups below it
+abbrev pub ListGroups : List GroupRow → Indexes → Type 0
+ListGroups rows t = IsIndexOf (λ (row : GroupRow). row.group) is_below_it rows t.below
+
+-- both
+abbrev pub AreIndexed : PeerGroups → Indexes → Type 0
+AreIndexed s t = ListMembers s.members t × ListGroups s.groups t

@@ -12,7 +12,7 @@ pub mod Receivers
 -- what contracts cite, passed on from one place
 pub use Changes.{at_row, changed, cleared, has_members, is_just, is_kept, left, lifted, lifted_group, lifted_member, made_private, made_shared, made_slave, made_unbindable, private_row, settled, shared_from, shared_row, shared_where, slave_from, slave_row, unbindable_row, up, up_within, with_group, with_only, with_row, without}
 pub use Copies.{AreOfReceivers, added, all_added, copied, copies_from, copy_row, group_copies, has_receiver, rank, receiving_groups, stand_in}
-pub use Indexed.{AllAreAdded, AllRise, AreAdded, AreIndexed, AreMoved, AreWith, AreWithout, GroupsAreAdded, HasGroupRoom, HaveRoom, HaveSameLists, IsWithGroup, IsWithoutGroup, Moves, RoomFor, groups_where, has_master, is_below_it, is_in, mounts_where}
+pub use Indexed.{AllAreAdded, AllRise, AreAdded, AreIndexed, AreMoved, AreWith, AreWithout, GroupsAreAdded, HasGroupRoom, HaveRoom, HaveSameLists, IsWithGroup, IsWithoutGroup, ListGroups, ListMembers, Moves, RoomFor, groups_where, has_master, is_below_it, is_in, mounts_where}
 pub use Invariant.{AddsNoReceivers, HasMembers, IsGroup, IsMaster, IsOrderly, IsPeopled, IsSound, RiseFrom}
 pub use Members.{above, below, change_refusal, has_peopled_master, is_group, may_be_master, may_have, no_mounts, row_with, with_member}
 pub use MountStates.{FollowsTable, alone_in, has_others, is_alone, kind_after, kind_of, kind_of_row, kind_where, lone_kind, shared_kind}

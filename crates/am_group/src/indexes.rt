@@ -1,10 +1,10 @@
 //! The mounts and the peer groups by the groups that they name.
 
-ghost use Rattle.std.specs.Prelude.{◌≡◌, ◌≤◌, length, take, OnOk, OnErr};
+ghost use Rattle.std.specs.Prelude.{◌≡◌, ◌≤◌, length, take, IfOk, OnOk, OnErr};
 ghost use Rattle.am_index.specs.{AddsTo, DropsLast, ListsRise, SameLists, TakesFrom};
 ghost use Rattle.am_group.specs.declared.indexes.Indexes.{Indexes};
 ghost use Rattle.am_group.specs.Changes.{is_just};
-ghost use Rattle.am_group.specs.Indexed.{RoomFor, Moves, HaveSameLists, HaveRoom, AreWith, AreWithout, AreMoved, AreAdded, HasGroupRoom, IsWithGroup, IsWithoutGroup, GroupsAreAdded, AreIndexed, AllRise, AllAreAdded};
+ghost use Rattle.am_group.specs.Indexed.{RoomFor, Moves, HaveSameLists, HaveRoom, AreWith, AreWithout, AreMoved, AreAdded, HasGroupRoom, IsWithGroup, IsWithoutGroup, GroupsAreAdded, AreIndexed, AllAreAdded, ListMembers, ListGroups};
 ghost use Rattle.am_group.specs.Members.{no_mounts};
 
 use am_index::Index;
@@ -108,6 +108,16 @@ impl Indexes {
         room_for(&mut self.below, row.master)
     }
 
+    /// Makes room for both.
+    pub fn make_all_room(&mut self, row: &MemberRow, group: &GroupRow) -> Result<(), AllocError>
+        ensures same { HaveSameLists self.old self.new }
+        ensures ok { OnOk result (HaveRoom row.now self.new) }
+        ensures group { OnOk result (HasGroupRoom group.now self.new) }
+    {
+        self.make_room(row)?;
+        room_for(&mut self.below, group.master)
+    }
+
     /// Adds the mount, for which there is room, as the last.
     fn add(&mut self, row: &MemberRow)
         requires { HaveRoom row.now self.old }
@@ -127,7 +137,8 @@ impl Indexes {
 
     /// Takes the mount out.
     pub fn remove(&mut self, row: &MemberRow)
-        requires { AllRise self.old }
+        requires members { ListsRise self.old.members }
+        requires slaves { ListsRise self.old.slaves }
         ensures { AreWithout row.now self.old self.new }
     {
         take_from(&mut self.members, row.group, row.mount.0);
@@ -136,7 +147,7 @@ impl Indexes {
 
     /// Takes the peer group out.
     pub fn remove_group(&mut self, row: &GroupRow)
-        requires { AllRise self.old }
+        requires { ListsRise self.old.below }
         ensures { IsWithoutGroup row.now self.old self.new }
     {
         take_from(&mut self.below, row.master, row.group.0);
@@ -144,7 +155,8 @@ impl Indexes {
 
     /// The mount's row becomes another, for which there is room.
     pub fn replace(&mut self, row: &MemberRow, new: &MemberRow)
-        requires rising { AllRise self.old }
+        requires members { ListsRise self.old.members }
+        requires slaves { ListsRise self.old.slaves }
         requires room { HaveRoom new.now self.old }
         ensures { AreMoved row.now new.now self.old self.new }
     {
@@ -224,5 +236,18 @@ impl Indexes {
             return Err(error);
         }
         Ok(())
+    }
+
+    /// Those of these rows.
+    pub fn of(
+        alloc: Global,
+        members: &[MemberRow],
+        groups: &[GroupRow],
+    ) -> Result<Indexes, AllocError>
+        ensures { IfOk result (λ t. ListMembers members.now t × ListGroups groups.now t) }
+    {
+        let mut indexes = Indexes::new(alloc);
+        indexes.add_all(members, groups)?;
+        Ok(indexes)
     }
 }

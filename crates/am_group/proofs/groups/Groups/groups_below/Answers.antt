@@ -11,7 +11,7 @@ use Rattle.am_group.proofs.groups.Groups.groups_below.Goals as goal
 pub is_next-requires : goal.is_next-requires
 is_next-requires c =
     let s = c.args.self.now in
-    let orderly : IsOrderly s = subst (λ (v : PeerGroups). IsOrderly v) c.self.view_is c.self.invariant in
+    let orderly : IsOrderly s = subst (λ (v : PeerGroups). IsOrderly v) c.self.view_is c.self.invariant.orderly in
     subst (λ (xs : List ℕ). IsNonDecreasing xs) (sym (c.as_slice.ensures.value ∙ c.loop-row.invariant))
     (below_before_ordered s orderly c.args.own c.loop-row.row-index)
 
@@ -22,7 +22,7 @@ loop-row-preserved c =
     let row = c.row-item.result in
     let index = c.loop-row.row-index in
     let before = c.loop-row.below.items in
-    let orderly : IsOrderly s = subst (λ (v : PeerGroups). IsOrderly v) c.self.view_is c.self.invariant in
+    let orderly : IsOrderly s = subst (λ (v : PeerGroups). IsOrderly v) c.self.view_is c.self.invariant.orderly in
     let long = ap (λ (v : PeerGroups). length v.groups) c.self.view_is in
     let within : index < length s.groups = omega arith in
     let at : get_or s.groups index row ≡ row = cc (ap (λ (v : PeerGroups). v.groups) c.self.view_is) in

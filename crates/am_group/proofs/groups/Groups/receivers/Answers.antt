@@ -23,7 +23,7 @@ returns-in_default-clause-listed c =
 pub live_among-requires : goal.live_among-requires
 live_among-requires c =
     let s = c.args.self.now in
-    let orderly : IsOrderly s = subst (λ (v : PeerGroups). IsOrderly v) c.self.view_is c.self.invariant in
+    let orderly : IsOrderly s = subst (λ (v : PeerGroups). IsOrderly v) c.self.view_is c.self.invariant.orderly in
     subst (λ (xs : List ℕ). IsNonDecreasing xs) (sym (c.as_slice.ensures.value ∙ c.in_ok-below.ensures))
     (below_ordered s orderly c.in-Some.own)
 
@@ -38,7 +38,7 @@ groups_under-requires-clause-exact c =
 pub homed-requires : goal.homed-requires
 homed-requires c =
     let s = c.args.self.now in
-    let orderly : IsOrderly s = subst (λ (v : PeerGroups). IsOrderly v) c.self.view_is c.self.invariant in
+    let orderly : IsOrderly s = subst (λ (v : PeerGroups). IsOrderly v) c.self.view_is c.self.invariant.orderly in
     subst (λ (xs : List ℕ). IsNonDecreasing xs) (sym (c.as_slice-3.ensures.value ∙ c.in_ok-under.ensures))
     (under_ordered s orderly c.in-Some.own)
 
@@ -47,7 +47,7 @@ returns-clause-exact c =
     let s = c.args.self.now in
     let mount = c.args.mount in
     let own = c.in-Some.own in
-    let orderly : IsOrderly s = subst (λ (v : PeerGroups). IsOrderly v) c.self.view_is c.self.invariant in
+    let orderly : IsOrderly s = subst (λ (v : PeerGroups). IsOrderly v) c.self.view_is c.self.invariant.orderly in
     let in_own : group_of s mount ≡ Some own = sym c.group_of.ensures ∙ c.in-Some.is in
     let listed : c.in_ok-homed.homed.items ≡ receivers_of s mount =
     c.in_ok-homed.ensures ∙
@@ -61,7 +61,7 @@ returns-clause-rising c =
     let s = c.args.self.now in
     let mount = c.args.mount in
     let own = c.in-Some.own in
-    let orderly : IsOrderly s = subst (λ (v : PeerGroups). IsOrderly v) c.self.view_is c.self.invariant in
+    let orderly : IsOrderly s = subst (λ (v : PeerGroups). IsOrderly v) c.self.view_is c.self.invariant.orderly in
     let in_own : group_of s mount ≡ Some own = sym c.group_of.ensures ∙ c.in-Some.is in
     let listed : c.in_ok-homed.homed.items ≡ receivers_of s mount =
     c.in_ok-homed.ensures ∙
@@ -74,7 +74,7 @@ returns-clause-listed c =
     let s = c.args.self.now in
     let mount = c.args.mount in
     let own = c.in-Some.own in
-    let orderly : IsOrderly s = subst (λ (v : PeerGroups). IsOrderly v) c.self.view_is c.self.invariant in
+    let orderly : IsOrderly s = subst (λ (v : PeerGroups). IsOrderly v) c.self.view_is c.self.invariant.orderly in
     let in_own : group_of s mount ≡ Some own = sym c.group_of.ensures ∙ c.in-Some.is in
     c.in_ok-homed.ensures ∙
     ap (λ (xs : List ℕ). under_these xs mount s.members) (c.as_slice-3.ensures.value ∙ c.in_ok-under.ensures) ∙
