@@ -23,3 +23,7 @@ pub mod ReceiverLemmas
 pub mod EarlyLemmas
 pub mod UnderLemmas
 pub mod IndexedLemmas
+pub mod CountLemmas
+pub mod WalkLemmas
+pub mod HomeLemmas
+pub mod TurnLemmas
