@@ -22,3 +22,8 @@ pub mod TableLemmas
 pub mod ReceiverLemmas
 pub mod EarlyLemmas
 pub mod UnderLemmas
+pub mod IndexedLemmas
+pub mod CountLemmas
+pub mod WalkLemmas
+pub mod HomeLemmas
+pub mod TurnLemmas

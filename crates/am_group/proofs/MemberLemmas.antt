@@ -113,7 +113,7 @@ between_or row rows new m =
 
 -- a mount that is added so keeps the invariant and the law
 module _ (s : PeerGroups) (orderly : IsOrderly s) (m : ℕ) (membership : Membership) (new : member_row s.members m ≡ None) where
-  row_mount : (k : Membership) → (row_with k m).mount ≡ m
+  pub row_mount : (k : Membership) → (row_with k m).mount ≡ m
   row_mount (InGroup g) = refl
   row_mount (SlaveOf g) = refl
   row_mount Private = refl

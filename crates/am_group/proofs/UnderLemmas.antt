@@ -179,7 +179,7 @@ below_step : (s : PeerGroups) → IsOrderly s → (own g : ℕ) → is_below s o
 below_step s orderly own g = ap (λ (xs : List ℕ). g == own || is_among xs own) (up_master s orderly g)
 
 -- a chain as far as its groups have members: that of its start, and of the start's master
-up_step : (s : PeerGroups) → IsOrderly s → (own g : ℕ) → is_at_or_under s own g ≡ ((g == own || is_among (peopled_up s (master_of_group s g)) own) && has_members s.members g)
+pub up_step : (s : PeerGroups) → IsOrderly s → (own g : ℕ) → is_at_or_under s own g ≡ ((g == own || is_among (peopled_up s (master_of_group s g)) own) && has_members s.members g)
 up_step s orderly own g =
     among_step (has_members s.members) own g (up_within g s (master_of_group s g)) ∙
     ap (λ (xs : List ℕ). has_members s.members g && (g == own || is_among (take_while (has_members s.members) xs) own)) (up_master s orderly g) ∙
@@ -399,7 +399,7 @@ module _ (s : PeerGroups) (orderly : IsOrderly s) (b own : ℕ) (in_own : group_
 
 -- ---- the list of receivers
 
-has_home : (s : PeerGroups) (c m : ℕ) → home_group s c ≡ Some m → has c (numbers s.members) ≡ true
+pub has_home : (s : PeerGroups) (c m : ℕ) → home_group s c ≡ Some m → has c (numbers s.members) ≡ true
 has_home s c m e = go (member_row s.members c) refl e
   where
     go :

@@ -9,6 +9,7 @@ ghost use Rattle.am_group.specs.Invariant.{AddsNoReceivers, IsOrderly, IsPeopled
 ghost use Rattle.am_group.specs.MountStates.{kind_of_row, kind_of};
 ghost use Rattle.am_group.specs.Members.{no_mounts, below, row_with, with_member, is_exhausted, is_group, may_be_master, may_have, KeepsPeopled, fresh_refusal, add_refusal};
 
+use crate::indexes::Indexes;
 use crate::membership::Membership;
 use crate::mount_state::MountState;
 use crate::tables::{group_row, member_row};
@@ -26,6 +27,7 @@ pub struct Groups {
     members: Vec<MemberRow>,
     groups: Vec<GroupRow>,
     last_group: u64,
+    indexes: Indexes,
 }
 
 impl Model for Groups {
@@ -33,12 +35,11 @@ impl Model for Groups {
 
     ghost Value = { PeerGroups };
 
-    ghost use Rattle.am_group.specs.Invariant.{IsOrderly};
-    ghost use Rattle.am_group.specs.View.{view_of};
+    ghost use Rattle.am_group.specs.View.{view_of, IsKept};
 
     ghost view = { view_of };
 
-    ghost invariant = { λ g. IsOrderly (view_of g) };
+    ghost invariant = { IsKept };
 }
 
 impl Groups {
@@ -50,6 +51,7 @@ impl Groups {
             members: Vec::new(alloc),
             groups: Vec::new(alloc),
             last_group: 0,
+            indexes: Indexes::new(alloc),
         }
     }
 
@@ -177,7 +179,9 @@ impl Groups {
         }
         let group = GroupId(self.last_group + 1);
         let row = GroupRow { group, master };
+        self.indexes.make_group_room(&row)?;
         self.groups.push(row)?;
+        self.indexes.add_group(&row);
         self.last_group = group.0;
         Ok(group)
     }
@@ -200,7 +204,10 @@ impl Groups {
         // For the checker, which is to know the type.
         let _group: Option<GroupId> = row.group;
         let index = self.rank(mount);
+        self.indexes.make_room(&row)?;
         self.members.insert(index, row)?;
+        // Before it came it was in no list, as a private mount is.
+        self.indexes.replace(&Membership::Private.row(mount), &row);
         Ok(())
     }
 
@@ -222,6 +229,9 @@ impl Groups {
     {
         let count = groups.len();
         self.members.reserve(members.len())?;
+        self.groups.reserve(count)?;
+        self.indexes
+            .add_all(members.as_slice(), groups.as_slice())?;
         self.groups.append(&mut groups)?;
         self.members.append(&mut members)?;
         self.last_group += count as u64;

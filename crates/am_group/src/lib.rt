@@ -3,6 +3,7 @@
 #![tactic(auto)]
 
 pub mod groups;
+mod indexes;
 pub mod membership;
 pub mod mount_state;
 mod tables;

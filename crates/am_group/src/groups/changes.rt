@@ -6,15 +6,19 @@ ghost use Rattle.std.specs.List.{list_all, list_any};
 ghost use Rattle.std.specs.List.Sorted.{IsNonDecreasing};
 ghost use Rattle.am_names.specs.{RefusedAs, is_among};
 ghost use Rattle.am_group.specs.Changes.{left, at_row, with_row, made_shared, made_slave, made_private, made_unbindable, changed, with_only, without};
-ghost use Rattle.am_group.specs.Invariant.{RiseFrom, IsOrderly, IsPeopled, AddsNoReceivers};
+ghost use Rattle.am_group.specs.Indexed.{ListMembers, ListGroups};
+ghost use Rattle.am_index.specs.{SameLists};
+ghost use Rattle.am_group.specs.Invariant.{RiseFrom, GroupsRise, IsOrderly, IsPeopled, AddsNoReceivers};
 ghost use Rattle.am_group.specs.MountStates.{FollowsTable};
 ghost use Rattle.am_group.specs.Members.{change_refusal};
 ghost use Rattle.am_group.specs.Tables.{state_of, AreLiveAmong, AreLost, is_free_member, is_free_of, is_other_in, is_not_alone, row_of, gives_up};
 
 use crate::groups::Groups;
+use crate::indexes::Indexes;
 use crate::mount_state::{Change, asked, row_as};
 use crate::tables::{
-    Tables, are_groups_free, clear, is_among as is_live, is_one_of, live_groups, without_these,
+    Tables, are_groups_free, clear, group_row, is_among as is_live, is_one_of, live_groups,
+    member_row, without_these,
 };
 use am_names::{Errno, GroupId, GroupRow, MemberRow, MountId, are_ordered, is_among, is_found};
 use std::alloc::{AllocError, Global};
@@ -166,6 +170,42 @@ fn drop_groups(groups: &mut Vec<GroupRow>, lost: &[GroupId])
     }
 }
 
+/// Takes the rows of these mounts out of the indexes, the last first: the newest mounts stand at
+/// the ends of their lists.
+fn unlist(members: &[MemberRow], indexes: &mut Indexes, gone: &[MountId])
+    requires rising { RiseFrom 0 members.now }
+    requires indexed { ListMembers members.now indexes.old }
+    ensures members { ListMembers
+        (filter (λ row. not (is_among gone.now row.mount)) members.now) indexes.new }
+    ensures below { SameLists indexes.old.below indexes.new.below }
+{
+    let mut left = gone.len();
+    while left > 0 {
+        left -= 1;
+        if let Some(row) = member_row(members, gone[left]) {
+            indexes.remove(&row);
+        }
+    }
+}
+
+/// Takes the rows of these peer groups out of the indexes.
+fn unlist_groups(groups: &[GroupRow], indexes: &mut Indexes, lost: &[GroupId])
+    requires rising { GroupsRise groups.now }
+    requires indexed { ListGroups groups.now indexes.old }
+    ensures members { SameLists indexes.old.members indexes.new.members }
+    ensures slaves { SameLists indexes.old.slaves indexes.new.slaves }
+    ensures below { ListGroups
+        (filter (λ row. not (is_among lost.now row.group)) groups.now) indexes.new }
+{
+    let mut left = lost.len();
+    while left > 0 {
+        left -= 1;
+        if let Some(row) = group_row(groups, lost[left]) {
+            indexes.remove_group(&row);
+        }
+    }
+}
+
 impl Groups {
     fn changed_row(&self, change: Change, fresh: GroupId, row: MemberRow) -> MemberRow
         ensures { result ≡ row_of change fresh row }
@@ -222,9 +262,11 @@ impl Groups {
         let members = raw.settled_members(alloc, old.as_slice(), live.as_slice())?;
         let mut groups = raw.settled_groups(alloc, old.as_slice(), live.as_slice())?;
         clear(&mut groups, old.as_slice(), live.as_slice());
+        let indexes = Indexes::of(alloc, members.as_slice(), groups.as_slice())?;
         self.members = members;
         self.groups = groups;
         self.last_group = raw.last_group;
+        self.indexes = indexes;
         Ok(())
     }
 
@@ -242,6 +284,8 @@ impl Groups {
         };
         if self.is_not_alone(&row) {
             let changed = self.changed_row(change, GroupId(0), row);
+            self.indexes.make_room(&changed)?;
+            self.indexes.replace(&row, &changed);
             write_row(&mut self.members, mount, changed);
             return Ok(());
         }
@@ -270,10 +314,14 @@ impl Groups {
         }
         let group = GroupId(self.last_group + 1);
         let changed = self.changed_row(Change::MakeShared, group, row);
-        self.groups.push(GroupRow {
+        let fresh = GroupRow {
             group,
             master: row.master,
-        })?;
+        };
+        self.indexes.make_all_room(&changed, &fresh)?;
+        self.groups.push(fresh)?;
+        self.indexes.replace(&row, &changed);
+        self.indexes.add_group(&fresh);
         write_row(&mut self.members, mount, changed);
         self.last_group = group.0;
         Ok(())
@@ -376,9 +424,12 @@ impl Groups {
         // For the checker: what the groups keep is known where a field is named.
         let _members = &self.members;
         let lost = self.lost(alloc, gone)?;
-        if self.is_free_of(gone, lost.as_slice()) {
+        let lost = lost.as_slice();
+        if self.is_free_of(gone, lost) {
+            unlist(self.members.as_slice(), &mut self.indexes, gone);
+            unlist_groups(self.groups.as_slice(), &mut self.indexes, lost);
             leave_out(&mut self.members, gone);
-            drop_groups(&mut self.groups, lost.as_slice());
+            drop_groups(&mut self.groups, lost);
             return Ok(());
         }
         let raw = self.with_only(alloc, gone)?;

@@ -1,56 +1,20 @@
 //! Which mounts receive propagation from another: the members and slaves of its peer group and of
 //! the groups under that one.
 
-ghost use Rattle.std.specs.Prelude.{◌≡◌, ◌↔◌, ◌==◌, ◌||◌, ◌&&◌, ℕ, not, map, filter, None, IfOk};
+ghost use Rattle.std.specs.Prelude.{◌≡◌, ◌↔◌, ◌==◌, ◌&&◌, ◌++◌, ℕ, true, not, map, filter, flat_map, None, IfOk, OnOk};
 ghost use Rattle.std.specs.List.{Contains};
 ghost use Rattle.std.specs.List.Sorted.{IsStrictlyIncreasing, IsNonDecreasing};
 ghost use Rattle.am_names.specs.{RefusedAs, is_among};
+ghost use Rattle.am_group.specs.Changes.{has_members};
 ghost use Rattle.am_group.specs.Copies.{AreOfReceivers, receiving_groups};
 ghost use Rattle.am_group.specs.Propagation.{Receives};
-ghost use Rattle.am_group.specs.Scan.{is_one_of};
-ghost use Rattle.am_group.specs.Tables.{AreLiveAmong};
-ghost use Rattle.am_group.specs.Receivers.{home_in, groups_below, groups_under, under_these, receivers_of};
+ghost use Rattle.am_group.specs.Receivers.{groups_under, under_these, receivers_of};
+ghost use Rattle.am_group.specs.Walk.{AreMet, homed_at, live_below, turns_of};
 
 use crate::groups::Groups;
-use crate::groups::changes::still_live;
-use crate::tables::{is_among, is_one_of};
-use am_names::{Errno, GroupId, GroupRow, MemberRow, MountId};
+use crate::tables::is_among;
+use am_names::{Errno, GroupId, GroupRow, MountId};
 use std::alloc::{AllocError, Global};
-
-/// The peer group of the mount, else the one of which it is a slave.
-fn home(row: &MemberRow) -> Option<GroupId>
-    ensures { result ≡ home_in row.now }
-{
-    match row.group {
-        Some(group) => Some(group),
-        None => row.master,
-    }
-}
-
-/// Whether the row is that of the peer group, or its master is one of those under it.
-fn is_next(row: &GroupRow, own: GroupId, under: &[GroupId]) -> bool
-    requires { IsNonDecreasing under.now }
-    ensures { result ≡ ((row.now.group == own) || is_one_of under.now row.now.master) }
-{
-    if row.group == own {
-        return true;
-    }
-    is_one_of(row.master, under)
-}
-
-/// Whether it is next, and has members.
-fn is_live_next(row: &GroupRow, own: GroupId, under: &[GroupId], live: &[GroupId]) -> bool
-    requires under { IsNonDecreasing under.now }
-    requires live { IsNonDecreasing live.now }
-    ensures { result ≡
-        (((row.now.group == own) || is_one_of under.now row.now.master) &&
-        is_among live.now row.now.group) }
-{
-    if !is_next(row, own, under) {
-        return false;
-    }
-    is_among(live, row.group)
-}
 
 /// Those of the peer groups, without the mount's own, that are among these, which stand in order
 /// of number.
@@ -73,65 +37,93 @@ fn others_among(
     Ok(others)
 }
 
-/// Whether it is another mount, and its home is one of these peer groups.
-fn is_under(row: &MemberRow, mount: MountId, groups: &[GroupId]) -> bool
-    requires { IsNonDecreasing groups.now }
-    ensures { result ≡ (not (row.now.mount == mount) && is_one_of groups.now (home_in row.now)) }
+/// All of these but the mount itself.
+fn others(alloc: Global, numbers: &[u64], mount: MountId) -> Result<Vec<MountId>, AllocError>
+    ensures { IfOk result (λ v. v.items ≡ filter (λ x. not (x == mount)) numbers.now) }
 {
-    if row.mount == mount {
-        return false;
+    let mut others = Vec::new(alloc);
+    for number in numbers {
+        if *number != mount.0 {
+            others.push(MountId(*number))?;
+        }
     }
-    is_one_of(home(row), groups)
+    Ok(others)
 }
 
 impl Groups {
-    /// The peer group and all that have it up their chain of masters, in rising order. A master
-    /// has a lower number than its groups, so that one look is enough.
-    fn groups_below(&self, alloc: Global, own: GroupId) -> Result<Vec<GroupId>, AllocError>
-        ensures { IfOk result (λ v. v.items ≡ groups_below self.now own) }
+    /// Whether the peer group has members.
+    fn has_members(&self, group: u64) -> bool
+        ensures { result ≡ has_members self.now.members group }
+    {
+        !self.indexes.members.list(group).is_empty()
+    }
+
+    /// Adds those peer groups below this one that have members.
+    fn add_below(&self, pending: &mut Vec<u64>, group: u64) -> Result<(), AllocError>
+        ensures { OnOk result (pending.new.items ≡
+            pending.old.items ++ live_below self.now group) }
+    {
+        for below in self.indexes.below.list(group) {
+            if self.has_members(*below) {
+                pending.push(*below)?;
+            }
+        }
+        Ok(())
+    }
+
+    /// The peer group, which has members, and those under it, without those that have none, and
+    /// what is under those alone. Each has one master, so that none is met twice.
+    fn met(&self, alloc: Global, own: GroupId) -> Result<Vec<u64>, AllocError>
+        requires { has_members self.now.members own ≡ true }
+        ensures { IfOk result (λ v. AreMet self.now own v.items) }
     {
         // For the checker: what the groups keep is known where a field is named.
         let _members = &self.members;
-        let mut below = Vec::new(alloc);
-        for row in self.groups.iter() {
-            if is_next(row, own, below.as_slice()) {
-                below.push(row.group)?;
-            }
+        let mut met = Vec::new(alloc);
+        let mut pending = Vec::new(alloc);
+        pending.push(own.0)?;
+        while let Some(group) = pending.pop() {
+            self.add_below(&mut pending, group)?;
+            met.push(group)?;
         }
-        Ok(below)
+        Ok(met)
     }
 
-    /// Those of these peer groups that have members, in order of number.
-    fn live_among(&self, alloc: Global, groups: &[GroupId]) -> Result<Vec<GroupId>, AllocError>
-        requires { IsNonDecreasing groups.now }
-        ensures ordered { IfOk result (λ v. IsNonDecreasing v.items) }
-        ensures exact { IfOk result (λ v. AreLiveAmong groups.now self.now.members v.items) }
-    {
-        let live = still_live(alloc, groups, self.members.as_slice(), &[])?;
-        Ok(live)
-    }
-
-    /// The peer group and those under it, in rising order, without those that have no members, and
-    /// what is under those alone.
-    fn groups_under(
-        &self,
-        alloc: Global,
-        own: GroupId,
-        live: &[GroupId],
-    ) -> Result<Vec<GroupId>, AllocError>
-        requires ordered { IsNonDecreasing live.now }
-        requires exact { AreLiveAmong (groups_below self.now own) self.now.members live.now }
+    /// The same in rising order.
+    fn groups_under(&self, alloc: Global, own: GroupId) -> Result<Vec<u64>, AllocError>
+        requires { has_members self.now.members own ≡ true }
         ensures { IfOk result (λ v. v.items ≡ groups_under self.now own) }
     {
         // For the checker: what the groups keep is known where a field is named.
         let _members = &self.members;
-        let mut under = Vec::new(alloc);
-        for row in self.groups.iter() {
-            if is_live_next(row, own, under.as_slice(), live) {
-                under.push(row.group)?;
+        let mut under = self.met(alloc, own)?;
+        under.sort_unstable();
+        Ok(under)
+    }
+
+    /// Adds the mounts whose home is the peer group: its members, and the slaves of it that are in
+    /// none.
+    fn add_home(&self, found: &mut Vec<u64>, group: u64) -> Result<(), AllocError>
+        ensures { OnOk result (found.new.items ≡ found.old.items ++ homed_at self.now group) }
+    {
+        found.extend_from_slice(self.indexes.members.list(group))?;
+        for slave in self.indexes.slaves.list(group) {
+            if self.group_of(MountId(*slave)).is_none() {
+                found.push(*slave)?;
             }
         }
-        Ok(under)
+        Ok(())
+    }
+
+    /// The mounts whose home is one of these peer groups.
+    fn homes(&self, alloc: Global, groups: &[u64]) -> Result<Vec<u64>, AllocError>
+        ensures { IfOk result (λ v. v.items ≡ flat_map (homed_at self.now) groups.now) }
+    {
+        let mut found = Vec::new(alloc);
+        for group in groups {
+            self.add_home(&mut found, *group)?;
+        }
+        Ok(found)
     }
 
     /// The other mounts whose home is one of these peer groups.
@@ -139,18 +131,41 @@ impl Groups {
         &self,
         alloc: Global,
         mount: MountId,
-        groups: &[GroupId],
+        groups: &[u64],
     ) -> Result<Vec<MountId>, AllocError>
-        requires { IsNonDecreasing groups.now }
+        requires { IsStrictlyIncreasing groups.now }
         ensures { IfOk result (λ v. v.items ≡ under_these groups.now mount self.now.members) }
     {
-        let mut homed = Vec::new(alloc);
-        for row in self.members.iter() {
-            if is_under(row, mount, groups) {
-                homed.push(row.mount)?;
-            }
-        }
-        Ok(homed)
+        // For the checker: what the groups keep is known where a field is named.
+        let _members = &self.members;
+        let mut found = self.homes(alloc, groups)?;
+        found.sort_unstable();
+        let others = others(alloc, found.as_slice(), mount)?;
+        Ok(others)
+    }
+
+    /// The mounts that receive propagation from this one (sharedsubtree.rst, 5a), and how many
+    /// peer groups were met to find them.
+    pub fn receivers_counted(
+        &self,
+        alloc: Global,
+        mount: MountId,
+    ) -> Result<(Vec<MountId>, usize), Errno>
+        ensures refusal { RefusedAs None result }
+        ensures exact { IfOk result (λ r. (c : ℕ) →
+            Contains r.0.items c ↔ Receives self.now mount c) }
+        ensures rising { IfOk result (λ r. IsStrictlyIncreasing r.0.items) }
+        ensures listed { IfOk result (λ r. r.0.items ≡ receivers_of self.now mount) }
+        ensures turns { IfOk result (λ r. r.1 ≡ turns_of self.now mount) }
+    {
+        // For the checker: what the groups keep is known where a field is named.
+        let _members = &self.members;
+        let Some(own) = self.group_of(mount) else {
+            return Ok((Vec::new(alloc), 0));
+        };
+        let under = self.groups_under(alloc, own)?;
+        let homed = self.homed(alloc, mount, under.as_slice())?;
+        Ok((homed, under.len()))
     }
 
     /// The mounts that receive propagation from this one (sharedsubtree.rst, 5a).
@@ -161,16 +176,8 @@ impl Groups {
         ensures rising { IfOk result (λ v. IsStrictlyIncreasing v.items) }
         ensures listed { IfOk result (λ v. v.items ≡ receivers_of self.now mount) }
     {
-        // For the checker: what the groups keep is known where a field is named.
-        let _members = &self.members;
-        let Some(own) = self.group_of(mount) else {
-            return Ok(Vec::new(alloc));
-        };
-        let below = self.groups_below(alloc, own)?;
-        let live = self.live_among(alloc, below.as_slice())?;
-        let under = self.groups_under(alloc, own, live.as_slice())?;
-        let homed = self.homed(alloc, mount, under.as_slice())?;
-        Ok(homed)
+        let (receivers, _) = self.receivers_counted(alloc, mount)?;
+        Ok(receivers)
     }
 
     fn groups_of(&self, alloc: Global, receivers: &[MountId]) -> Result<Vec<GroupId>, AllocError>

@@ -3,6 +3,8 @@ use Rattle.std.specs.Prelude.{map}
 use Rattle.am_names.specs.{MemberRow}
 use Rattle.am_names.specs.PeerGroups.{PeerGroups}
 use Rattle.am_group.specs.{member_row, left, at_row, with_row, IsOrderly, IsPeopled, AddsNoReceivers, row_of, is_not_alone}
+use Rattle.am_group.specs.View.{view_of}
+use Rattle.am_group.proofs.IndexedLemmas.{turned_indexed, kept_rise, turned_number}
 use Rattle.am_group.proofs.ChangeLemmas.{left_orderly}
 use Rattle.am_group.proofs.KindLemmas.{change_orderly, change_law, change_peopled}
 use Rattle.am_group.proofs.SpareLemmas.{changed_alone}
@@ -10,28 +12,28 @@ use Rattle.am_group.proofs.groups.Groups.give_up.Goals as goal
 
 pub settle_left-requires : goal.settle_left-requires
 settle_left-requires c =
-    let orderly = subst (λ (x : PeerGroups). IsOrderly x) c.self.view_is c.self.invariant in
+    let orderly = subst (λ (x : PeerGroups). IsOrderly x) c.self.view_is c.self.invariant.orderly in
     subst (λ (x : PeerGroups). IsOrderly x) (sym c.in_ok-raw.ensures) (change_orderly c.args.change 0 c.requires c.args.mount c.args.self.now orderly)
 
 pub returns-clause-law : goal.returns-clause-law
 returns-clause-law c = λ peopled.
-    let orderly = subst (λ (x : PeerGroups). IsOrderly x) c.self.view_is c.self.invariant in
+    let orderly = subst (λ (x : PeerGroups). IsOrderly x) c.self.view_is c.self.invariant.orderly in
     subst (λ (x : PeerGroups). AddsNoReceivers c.args.self.now x) (sym (c.in_ok-settle_left.ensures.ok ∙ ap (left c.args.self.now) c.in_ok-raw.ensures)) (change_law c.args.change 0 c.requires c.args.mount c.args.self.now orderly peopled)
 
 pub returns-clause-peopled : goal.returns-clause-peopled
 returns-clause-peopled c = λ peopled.
-    let orderly = subst (λ (x : PeerGroups). IsOrderly x) c.self.view_is c.self.invariant in
+    let orderly = subst (λ (x : PeerGroups). IsOrderly x) c.self.view_is c.self.invariant.orderly in
     subst (λ (x : PeerGroups). IsPeopled x) (sym (c.in_ok-settle_left.ensures.ok ∙ ap (left c.args.self.now) c.in_ok-raw.ensures)) (change_peopled c.args.change 0 c.requires c.args.mount c.args.self.now orderly peopled)
 
 pub returns-in_err-settle_left-clause-peopled : goal.returns-in_err-settle_left-clause-peopled
 returns-in_err-settle_left-clause-peopled c = λ peopled.
     subst (λ (x : PeerGroups). IsPeopled x) (sym c.in_err-settle_left.ensures.err) peopled
 
-pub invariant_of-self : goal.invariant_of-self
-invariant_of-self c =
+pub invariant_of-self-then-is_not_alone : goal.invariant_of-self-then-is_not_alone
+invariant_of-self-then-is_not_alone c =
     let s = c.args.self.now in
     let change = row_of c.args.change 0 in
-    let orderly = subst (λ (x : PeerGroups). IsOrderly x) c.self.view_is c.self.invariant in
+    let orderly = subst (λ (x : PeerGroups). IsOrderly x) c.self.view_is c.self.invariant.orderly in
     let row = c.in-Some.row in
     let found : member_row s.members c.args.mount ≡ Some row = sym c.member.ensures ∙ c.in-Some.is in
     let spared : is_not_alone s row ≡ true = sym c.is_not_alone.ensures ∙ c.if-is_not_alone.true in
@@ -41,13 +43,35 @@ invariant_of-self c =
     ap (λ (x : PeerGroups). map (at_row (λ r. change row) c.args.mount) x.members) c.self.view_is in
     let made = changed_alone change c.args.mount s orderly.rising row found spared c.write_row.new.members.items rows
     c.self.inside.groups.items (ap (λ (x : PeerGroups). x.groups) c.self.view_is) c.self.inside.last_group (ap (λ (x : PeerGroups). x.last_group) c.self.view_is) in
-    subst (λ (x : PeerGroups). IsOrderly x) (sym made) (left_orderly s (with_row change c.args.mount s) (change_orderly c.args.change 0 c.requires c.args.mount s orderly))
+    record {
+      orderly = subst (λ (x : PeerGroups). IsOrderly x) (sym made) (left_orderly s (with_row change c.args.mount s) (change_orderly c.args.change 0 c.requires c.args.mount s orderly));
+      indexed = turned_indexed (view_of c.self.inside) c.self.invariant.orderly c.args.mount row c.changed_row-changed.result
+          (ap (λ (x : PeerGroups). member_row x.members c.args.mount) c.self.view_is ∙ found)
+          (ap (λ (r : MemberRow). r.mount) c.changed_row-changed.ensures ∙ turned_number c.args.change 0 row)
+          c.self.inside.indexes c.make_room.new.self c.replace.new.self
+          c.make_room.ensures.same c.replace.ensures c.self.invariant.indexed
+          c.write_row.new.members.items c.write_row.ensures;
+    }
+
+pub returns-in_err-make_room-clause-peopled : goal.returns-in_err-make_room-clause-peopled
+returns-in_err-make_room-clause-peopled c = λ peopled.
+    subst (λ (x : PeerGroups). IsPeopled x) (sym c.self.view_is) peopled
+
+pub replace-requires-clause-members : goal.replace-requires-clause-members
+replace-requires-clause-members c =
+    (kept_rise (view_of c.self.inside) c.self.invariant.orderly c.self.inside.indexes c.make_room.new.self
+    c.self.invariant.indexed c.make_room.ensures.same).members
+
+pub replace-requires-clause-slaves : goal.replace-requires-clause-slaves
+replace-requires-clause-slaves c =
+    (kept_rise (view_of c.self.inside) c.self.invariant.orderly c.self.inside.indexes c.make_room.new.self
+    c.self.invariant.indexed c.make_room.ensures.same).slaves
 
 pub returns-then-is_not_alone-clause-ok : goal.returns-then-is_not_alone-clause-ok
 returns-then-is_not_alone-clause-ok c =
     let s = c.args.self.now in
     let change = row_of c.args.change 0 in
-    let orderly = subst (λ (x : PeerGroups). IsOrderly x) c.self.view_is c.self.invariant in
+    let orderly = subst (λ (x : PeerGroups). IsOrderly x) c.self.view_is c.self.invariant.orderly in
     let row = c.in-Some.row in
     let found : member_row s.members c.args.mount ≡ Some row = sym c.member.ensures ∙ c.in-Some.is in
     let spared : is_not_alone s row ≡ true = sym c.is_not_alone.ensures ∙ c.if-is_not_alone.true in
@@ -63,7 +87,7 @@ pub returns-then-is_not_alone-clause-law : goal.returns-then-is_not_alone-clause
 returns-then-is_not_alone-clause-law c = λ peopled.
     let s = c.args.self.now in
     let change = row_of c.args.change 0 in
-    let orderly = subst (λ (x : PeerGroups). IsOrderly x) c.self.view_is c.self.invariant in
+    let orderly = subst (λ (x : PeerGroups). IsOrderly x) c.self.view_is c.self.invariant.orderly in
     let row = c.in-Some.row in
     let found : member_row s.members c.args.mount ≡ Some row = sym c.member.ensures ∙ c.in-Some.is in
     let spared : is_not_alone s row ≡ true = sym c.is_not_alone.ensures ∙ c.if-is_not_alone.true in
@@ -79,7 +103,7 @@ pub returns-then-is_not_alone-clause-peopled : goal.returns-then-is_not_alone-cl
 returns-then-is_not_alone-clause-peopled c = λ peopled.
     let s = c.args.self.now in
     let change = row_of c.args.change 0 in
-    let orderly = subst (λ (x : PeerGroups). IsOrderly x) c.self.view_is c.self.invariant in
+    let orderly = subst (λ (x : PeerGroups). IsOrderly x) c.self.view_is c.self.invariant.orderly in
     let row = c.in-Some.row in
     let found : member_row s.members c.args.mount ≡ Some row = sym c.member.ensures ∙ c.in-Some.is in
     let spared : is_not_alone s row ≡ true = sym c.is_not_alone.ensures ∙ c.if-is_not_alone.true in

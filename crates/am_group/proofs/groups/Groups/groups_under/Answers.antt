@@ -1,41 +1,15 @@
-use Rattle.std.proofs.Common.{◌≡◌, ◌<◌, ◌||◌, ◌&&◌, ◌++◌, [], ◌∷◌, Bool, cond, List, ℕ, length, get_or, sym, ap, subst, ◌∙◌, arith}
-use Rattle.std.specs.Prelude.{◌==◌}
-use Rattle.std.specs.List.Sorted.{IsNonDecreasing}
-use Rattle.std.proofs.lemmas.List.{append-nil}
+use Rattle.std.proofs.Common.{ℕ, subst, sym, ◌∙◌}
+use Rattle.std.proofs.lemmas.List.Sorted.{IsNonDecreasingBy-from_sort}
 use Rattle.am_names.specs.PeerGroups.{PeerGroups}
-use Rattle.am_group.specs.{IsOrderly, is_one_of}
-use Rattle.am_names.specs.{is_among}
-use Rattle.am_group.proofs.UnderLemmas.{before_ordered, next_under}
-use Rattle.am_group.proofs.groups.Groups.groups_under.Goals.{then-is_live_next+in_ok-push, else-is_live_next}
+use Rattle.am_group.specs.{IsOrderly}
+use Rattle.am_group.proofs.HomeLemmas.{met_sorted}
+use Rattle.am_group.proofs.WalkLemmas.{under_stands}
 use Rattle.am_group.proofs.groups.Groups.groups_under.Goals as goal
 
-pub is_live_next-requires-clause-under : goal.is_live_next-requires-clause-under
-is_live_next-requires-clause-under c =
+pub returns : goal.returns
+returns c =
     let s = c.args.self.now in
-    let orderly : IsOrderly s = subst (λ (v : PeerGroups). IsOrderly v) c.self.view_is c.self.invariant in
-    subst (λ (xs : List ℕ). IsNonDecreasing xs) (sym (c.as_slice.ensures.value ∙ c.loop-row.invariant))
-    (before_ordered s orderly c.args.own c.loop-row.row-index)
-
-pub loop-row-preserved : goal.loop-row-preserved
-loop-row-preserved c =
-    let s = c.args.self.now in
-    let own = c.args.own in
-    let row = c.row-item.result in
-    let index = c.loop-row.row-index in
-    let before = c.loop-row.under.items in
-    let orderly : IsOrderly s = subst (λ (v : PeerGroups). IsOrderly v) c.self.view_is c.self.invariant in
-    let long = ap (λ (v : PeerGroups). length v.groups) c.self.view_is in
-    let within : index < length s.groups = omega arith in
-    let at : get_or s.groups index row ≡ row = cc (ap (λ (v : PeerGroups). v.groups) c.self.view_is) in
-    let after : c.if-is_live_next.under.items ≡ before ++ cond c.is_live_next.result (row.group ∷ []) [] =
-    elim c.if-is_live_next.branch [
-      | then-is_live_next+in_ok-push w ↦
-          rw (w.under-is) (w.in_ok-push.ensures.items ∙
-          ap (λ (b : Bool). before ++ cond b (row.group ∷ []) []) (sym w.if-is_live_next.true))
-      | else-is_live_next w ↦
-          rw (w.under-is) (sym (append-nil before) ∙
-          ap (λ (b : Bool). before ++ cond b (row.group ∷ []) []) (sym w.if-is_live_next.false))
-    ] in
-    next_under s orderly own index row within at before c.if-is_live_next.under.items c.loop-row.invariant c.args.live.now c.requires.exact c.is_live_next.result
-    (c.is_live_next.ensures ∙ ap (λ (xs : List ℕ). (row.group == own || is_one_of xs row.master) && is_among c.args.live.now row.group) c.as_slice.ensures.value)
-    after
+    let orderly = subst (λ (x : PeerGroups). IsOrderly x) c.self.view_is c.self.invariant.orderly in
+    met_sorted s orderly c.args.own c.in_ok-under.under.items c.sort_unstable.new.self.items c.in_ok-under.ensures
+    c.sort_unstable.ensures.permutation (IsNonDecreasingBy-from_sort (λ (x : ℕ). x) _ c.sort_unstable.ensures.sorted)
+    (under_stands s orderly c.args.own c.requires)

@@ -10,7 +10,7 @@ pub returns-clause-exact : goal.returns-clause-exact
 returns-clause-exact c =
     let gone = c.args.gone.now in
     let s = c.args.self.now in
-    let orderly : IsOrderly s = subst (λ (x : PeerGroups). IsOrderly x) c.self.view_is c.self.invariant in
+    let orderly : IsOrderly s = subst (λ (x : PeerGroups). IsOrderly x) c.self.view_is c.self.invariant.orderly in
     let left = c.in_ok-left.left.items in
     let still = c.in_ok-still.still.items in
     let lost = c.in_ok-lost.lost.items in
@@ -26,7 +26,7 @@ returns-then-is_empty-clause-exact c =
     let s = c.args.self.now in
     let left = c.in_ok-left.left.items in
     let none : left ≡ [] = sym c.as_slice.ensures.value ∙ none_of_length _ (sym c.is_empty.ensures ∙ c.if-is_empty.true) in
-    let orderly : IsOrderly s = subst (λ (x : PeerGroups). IsOrderly x) c.self.view_is c.self.invariant in
+    let orderly : IsOrderly s = subst (λ (x : PeerGroups). IsOrderly x) c.self.view_is c.self.invariant.orderly in
     let are_left = groups_that_go s orderly.rising gone left c.in_ok-left.ensures.exact in
     let are_none : AreLive (filter (λ row. is_among gone row.mount) s.members) [] =
     subst (λ (xs : List ℕ). AreLive (filter (λ row. is_among gone row.mount) s.members) xs) none are_left in

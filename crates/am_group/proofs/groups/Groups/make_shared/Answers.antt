@@ -4,6 +4,11 @@ use Rattle.am_names.proofs.Basics.{none_where_not_some}
 use Rattle.am_names.specs.{MemberRow}
 use Rattle.am_names.specs.PeerGroups.{PeerGroups}
 use Rattle.am_group.specs.{member_row, at_row, shared_row, IsOrderly, IsPeopled, AddsNoReceivers}
+use Rattle.am_index.specs.{Index}
+use Rattle.am_group.specs.declared.mount_state.Change.TheVariants.{MakeShared}
+use Rattle.am_group.specs.{RoomFor}
+use Rattle.am_group.specs.View.{view_of}
+use Rattle.am_group.proofs.IndexedLemmas.{shared_indexed, kept_rise, turned_number}
 use Rattle.am_group.proofs.LiftLemmas.{same_state}
 use Rattle.am_group.proofs.SharedLemmas.{shared_here, shared_orderly, made_shared_keeps}
 use Rattle.am_group.proofs.SpareLemmas.{shared_alone}
@@ -12,7 +17,7 @@ use Rattle.am_group.proofs.groups.Groups.make_shared.Goals as goal
 pub invariant_of-self-2 : goal.invariant_of-self-2
 invariant_of-self-2 c =
     let s = c.args.self.now in
-    let orderly = subst (λ (x : PeerGroups). IsOrderly x) c.self.view_is c.self.invariant in
+    let orderly = subst (λ (x : PeerGroups). IsOrderly x) c.self.view_is c.self.invariant.orderly in
     let row = c.in-Some.row in
     let n = c.self.inside.last_group + 1 in
     let found : member_row s.members c.args.mount ≡ Some row = cc in
@@ -25,12 +30,38 @@ invariant_of-self-2 c =
     let groups : c.push.new.self.items ≡ s.groups ++ (record { group = n; master = row.master }) ∷ [] =
     c.in_ok-push.ensures.items ∙ ap (λ (x : PeerGroups). x.groups ++ (record { group = n; master = row.master }) ∷ []) c.self.view_is in
     let made = shared_alone s orderly c.args.mount row found n number c.write_row.new.members.items members c.push.new.self.items groups c.group.inside.0 c.group.view_is in
-    subst (λ (x : PeerGroups). IsOrderly x) (sym made) (shared_orderly s orderly c.args.mount row found alone)
+    record {
+      orderly = subst (λ (x : PeerGroups). IsOrderly x) (sym made) (shared_orderly s orderly c.args.mount row found alone);
+      indexed = shared_indexed (view_of c.self.inside) c.self.invariant.orderly c.args.mount row c.changed_row-changed.result
+          (ap (λ (x : PeerGroups). member_row x.members c.args.mount) c.self.view_is ∙ found)
+          (ap (λ (r : MemberRow). r.mount) c.changed_row-changed.ensures ∙ turned_number MakeShared n row)
+          (record { group = n; master = row.master }) c.self.inside.indexes c.make_all_room.new.self c.replace.new.self c.add_group.new.self
+          c.make_all_room.ensures.same c.replace.ensures c.add_group.ensures c.self.invariant.indexed
+          c.write_row.new.members.items c.write_row.ensures c.push.new.self.items c.in_ok-push.ensures.items;
+    }
+
+pub returns-in_err-make_all_room-clause-peopled : goal.returns-in_err-make_all_room-clause-peopled
+returns-in_err-make_all_room-clause-peopled c = λ peopled.
+    subst (λ (x : PeerGroups). IsPeopled x) (sym c.self.view_is) peopled
+
+pub replace-requires-clause-members : goal.replace-requires-clause-members
+replace-requires-clause-members c =
+    (kept_rise (view_of c.self.inside) c.self.invariant.orderly c.self.inside.indexes c.make_all_room.new.self
+    c.self.invariant.indexed c.make_all_room.ensures.same).members
+
+pub replace-requires-clause-slaves : goal.replace-requires-clause-slaves
+replace-requires-clause-slaves c =
+    (kept_rise (view_of c.self.inside) c.self.invariant.orderly c.self.inside.indexes c.make_all_room.new.self
+    c.self.invariant.indexed c.make_all_room.ensures.same).slaves
+
+pub add_group-requires : goal.add_group-requires
+add_group-requires c =
+    subst (λ (t : Index). RoomFor c.in-Some.row.master t) (sym c.replace.ensures.below) c.in_ok-make_all_room.ensures.group
 
 pub returns-clause-ok : goal.returns-clause-ok
 returns-clause-ok c =
     let s = c.args.self.now in
-    let orderly = subst (λ (x : PeerGroups). IsOrderly x) c.self.view_is c.self.invariant in
+    let orderly = subst (λ (x : PeerGroups). IsOrderly x) c.self.view_is c.self.invariant.orderly in
     let row = c.in-Some.row in
     let n = c.self.inside.last_group + 1 in
     let found : member_row s.members c.args.mount ≡ Some row = cc in
@@ -48,7 +79,7 @@ returns-clause-ok c =
 pub returns-clause-law : goal.returns-clause-law
 returns-clause-law c = λ peopled.
     let s = c.args.self.now in
-    let orderly = subst (λ (x : PeerGroups). IsOrderly x) c.self.view_is c.self.invariant in
+    let orderly = subst (λ (x : PeerGroups). IsOrderly x) c.self.view_is c.self.invariant.orderly in
     let row = c.in-Some.row in
     let n = c.self.inside.last_group + 1 in
     let found : member_row s.members c.args.mount ≡ Some row = cc in
@@ -67,7 +98,7 @@ returns-clause-law c = λ peopled.
 pub returns-clause-peopled : goal.returns-clause-peopled
 returns-clause-peopled c = λ peopled.
     let s = c.args.self.now in
-    let orderly = subst (λ (x : PeerGroups). IsOrderly x) c.self.view_is c.self.invariant in
+    let orderly = subst (λ (x : PeerGroups). IsOrderly x) c.self.view_is c.self.invariant.orderly in
     let row = c.in-Some.row in
     let n = c.self.inside.last_group + 1 in
     let found : member_row s.members c.args.mount ≡ Some row = cc in

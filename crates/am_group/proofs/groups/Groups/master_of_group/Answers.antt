@@ -8,7 +8,7 @@ pub returns-in-Some-clause-lower : goal.returns-in-Some-clause-lower
 returns-in-Some-clause-lower c = lower c.in-Some.row.master refl
   where
     orderly : IsOrderly c.args.self.now
-    orderly = subst (λ (x : PeerGroups). IsOrderly x) c.self.view_is c.self.invariant
+    orderly = subst (λ (x : PeerGroups). IsOrderly x) c.self.view_is c.self.invariant.orderly
 
     lower : (o : Option ℕ) → c.in-Some.row.master ≡ o → IfSome o (λ master. master < c.args.group)
     lower None e = tt

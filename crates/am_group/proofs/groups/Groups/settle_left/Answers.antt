@@ -1,4 +1,4 @@
-use Rattle.std.proofs.Common.{◌≡◌, List, ℕ, sym, ap, subst, ◌∙◌}
+use Rattle.std.proofs.Common.{rules, ◌≡◌, List, ℕ, sym, ap, subst, ◌∙◌}
 use Rattle.std.specs.Prelude.{map, filter}
 use Rattle.am_names.specs.{MemberRow, GroupRow}
 use Rattle.am_names.specs.PeerGroups.{PeerGroups}
@@ -33,7 +33,10 @@ invariant_of-self c =
     ap (λ (xs : List ℕ). filter (λ (row : GroupRow). is_left xs c.as_slice-8.result.now row.group) groups) c.as_slice-7.ensures.value ∙
     ap (λ (xs : List ℕ). filter (λ (row : GroupRow). is_left before xs row.group) groups) c.as_slice-8.ensures.value in
     let made = left_together old raw before live were are members groups c.clear.new.groups.items mounts masters kept in
-    subst (λ (x : PeerGroups). IsOrderly x) (sym made) (left_orderly old raw c.requires)
+    record {
+      orderly = subst (λ (x : PeerGroups). IsOrderly x) (sym made) (left_orderly old raw c.requires);
+      indexed = search rules;
+    }
 
 pub returns-clause-ok : goal.returns-clause-ok
 returns-clause-ok c =

@@ -1,0 +1,140 @@
+//! The numbers that share a number.
+
+ghost use Rattle.std.specs.Prelude.{◌≡◌, ◌<◌, ℕ, nat_eq, [], OnOk};
+ghost use Rattle.std.specs.Vec.{vec_len, vec_capacity};
+ghost use Rattle.std.specs.List.Sorted.{IsStrictlyIncreasing};
+ghost use Rattle.am_index.specs.Lists.{listed, but, with, HasRoom, SameLists, AddsTo, PutsInto, TakesFrom, DropsLast};
+
+use indexmap::IndexMap;
+use std::alloc::{AllocError, Global};
+
+/// For each number those that have it, in rising order.
+#[derive(Drop)]
+pub struct Index {
+    alloc: Global,
+    lists: IndexMap<u64, Vec<u64>>,
+}
+
+/// Takes it out of a list that rises, in which it is found by halves.
+fn take_out(list: &mut Vec<u64>, item: u64)
+    requires { IsStrictlyIncreasing list.old.items }
+    ensures { list.new.items ≡ but item list.old.items }
+{
+    if let Ok(at) = list.binary_search(&item) {
+        let _item = list.remove(at);
+    }
+}
+
+/// Puts it at its place of a list that rises, which is found by halves.
+fn put_in(list: &mut Vec<u64>, item: u64)
+    requires rising { IsStrictlyIncreasing list.old.items }
+    requires room { vec_len list.old < vec_capacity list.old }
+    ensures { list.new.items ≡ with item list.old.items }
+{
+    if let Err(at) = list.binary_search(&item) {
+        let _put = list.insert(at, item);
+    }
+}
+
+impl Index {
+    /// No number.
+    pub fn new(alloc: Global) -> Index
+        ensures { (n : ℕ) → listed result n ≡ [] }
+    {
+        Index {
+            alloc,
+            lists: IndexMap::new(alloc),
+        }
+    }
+
+    /// Those that have the number.
+    pub fn list(&self, number: u64) -> &[u64]
+        ensures { result.now ≡ listed self.now number }
+    {
+        match self.lists.get(&number) {
+            Some(list) => list.as_slice(),
+            None => &[],
+        }
+    }
+
+    /// Begins the list of a number that has none.
+    fn begin(&mut self, number: u64) -> Result<(), AllocError>
+        requires { listed self.old number ≡ [] }
+        ensures same { SameLists self.old self.new }
+        ensures ok { OnOk result (HasRoom self.new number) }
+    {
+        let mut list = Vec::new(self.alloc);
+        list.reserve(1)?;
+        self.lists.insert(number, list)?;
+        Ok(())
+    }
+
+    /// Makes room for one more that has the number.
+    pub fn make_room(&mut self, number: u64) -> Result<(), AllocError>
+        ensures same { SameLists self.old self.new }
+        ensures ok { OnOk result (HasRoom self.new number) }
+    {
+        if let Some(list) = self.lists.get_mut(&number) {
+            return list.reserve(1);
+        }
+        self.begin(number)
+    }
+
+    /// Adds the last that has the number. There is room for it.
+    pub fn add(&mut self, number: u64, item: u64)
+        requires { HasRoom self.old number }
+        ensures { AddsTo (λ n. nat_eq number n) item self.old self.new }
+    {
+        if let Some(list) = self.lists.get_mut(&number) {
+            list.push_reserved(item);
+        }
+    }
+
+    /// Puts one among those that have the number, whose list rises. There is room for it.
+    pub fn put(&mut self, number: u64, item: u64)
+        requires rising { IsStrictlyIncreasing (listed self.old number) }
+        requires room { HasRoom self.old number }
+        ensures { PutsInto (λ n. nat_eq number n) item self.old self.new }
+    {
+        if let Some(list) = self.lists.get_mut(&number) {
+            put_in(list, item);
+        }
+    }
+
+    /// Takes the last out of the list of the number, where there is one.
+    pub fn drop_last(&mut self, number: u64)
+        ensures { DropsLast (λ n. nat_eq number n) self.old self.new }
+    {
+        if let Some(list) = self.lists.get_mut(&number) {
+            let _last = list.pop();
+        }
+    }
+
+    /// Takes it out of the list of the number.
+    fn shorten(&mut self, number: u64, item: u64)
+        requires { IsStrictlyIncreasing (listed self.old number) }
+        ensures { TakesFrom (λ n. nat_eq number n) item self.old self.new }
+    {
+        if let Some(list) = self.lists.get_mut(&number) {
+            take_out(list, item);
+        }
+    }
+
+    /// Gives the list of the number up, where it is empty.
+    fn tidy(&mut self, number: u64)
+        ensures { SameLists self.old self.new }
+    {
+        if self.list(number).is_empty() {
+            let _list = self.lists.swap_remove(&number);
+        }
+    }
+
+    /// Takes out one that has the number, whose list rises.
+    pub fn remove(&mut self, number: u64, item: u64)
+        requires { IsStrictlyIncreasing (listed self.old number) }
+        ensures { TakesFrom (λ n. nat_eq number n) item self.old self.new }
+    {
+        self.shorten(number, item);
+        self.tidy(number);
+    }
+}
