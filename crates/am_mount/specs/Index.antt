@@ -1,6 +1,6 @@
 -- The mounts that share a number: a namespace, a parent, or a bucket of places. Own choice.
-use Rattle.std.specs.Prelude.{◌≡◌, ◌<◌, ◌==◌, ℕ, Bool, nat_eq, not, List, [], ◌∷◌, ◌++◌, filter, Option, Some, None, Vec, if◌then◌else◌}
-use Rattle.std.specs.Vec.{vec_len, vec_capacity}
+use Rattle.std.specs.Prelude.{◌≡◌, ◌≤◌, ◌==◌, ℕ, Bool, nat_eq, not, List, [], ◌∷◌, ◌++◌, filter, Option, Some, None, if◌then◌else◌}
+use Rattle.am_ordered.specs.RowTable.{RowTable}
 use Rattle.std.specs.List.Sorted.{IsStrictlyIncreasing}
 use Rattle.indexmap.specs.IndexMap.{get}
 use Rattle.am_names.specs.{MountRow, Position, text_of}
@@ -10,18 +10,18 @@ use Rattle.am_mount.specs.Rows.{mounts_where, is_in, is_child}
 use Rattle.am_mount.specs.Buckets.{bucket, is_in_bucket}
 
 -- the mounts of a list that was looked up, none where there is no list
-abbrev pub listed_in : {Z : Type 0} → Option (Vec ℕ Z) → List ℕ
+abbrev pub listed_in : Option (RowTable ℕ) → List ℕ
 listed_in None = []
-listed_in (Some list) = list.items
+listed_in (Some list) = list.rows
 
 -- the mounts that have the number
 abbrev pub listed : Index → ℕ → List ℕ
 listed index n = listed_in (get nat_eq index.lists n)
 
 -- there is a list, with room for one more mount
-abbrev pub RoomIn : {Z : Type 0} → Option (Vec ℕ Z) → Type 0
+abbrev pub RoomIn : Option (RowTable ℕ) → Type 0
 RoomIn None = ⊥
-RoomIn (Some list) = vec_len list < vec_capacity list
+RoomIn (Some list) = 1 ≤ list.room
 
 -- there is room for one more mount that has the number
 abbrev pub HasRoom : Index → ℕ → Type 0

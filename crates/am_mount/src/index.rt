@@ -5,6 +5,7 @@ ghost use Rattle.std.specs.List.Sorted.{IsStrictlyIncreasing};
 ghost use Rattle.am_mount.specs.Index.{listed, but, HasRoom, SameLists, AddsTo, TakesFrom};
 
 use am_names::MountId;
+use am_ordered::Rows;
 use indexmap::IndexMap;
 use std::alloc::{AllocError, Global};
 
@@ -12,17 +13,20 @@ use std::alloc::{AllocError, Global};
 #[derive(Drop)]
 pub struct Index {
     alloc: Global,
-    lists: IndexMap<u64, Vec<MountId>>,
+    lists: IndexMap<u64, Rows<MountId>>,
 }
 
 /// Takes the mount out of a list that rises, in which it is found by halves.
-fn take_out(mounts: &mut Vec<MountId>, mount: MountId)
-    requires { IsStrictlyIncreasing mounts.old.items }
-    ensures { mounts.new.items ≡ but mount mounts.old.items }
+fn take_out(mounts: &mut Rows<MountId>, mount: MountId)
+    requires { IsStrictlyIncreasing mounts.old.rows }
+    ensures { mounts.new.rows ≡ but mount mounts.old.rows }
 {
     let number = mount.0;
-    if let Ok(at) = mounts.binary_search_by_key(&number, |other| other.0) {
-        let _mount = mounts.remove(at);
+    let found = mounts
+        .as_slice()
+        .binary_search_by_key(&number, |other| other.0);
+    if let Ok(at) = found {
+        mounts.take_out(at);
     }
 }
 
@@ -53,7 +57,7 @@ impl Index {
         ensures same { SameLists self.old self.new }
         ensures ok { OnOk result (HasRoom self.new number) }
     {
-        let mut list = Vec::new(self.alloc);
+        let mut list = Rows::new(self.alloc);
         list.reserve(1)?;
         self.lists.insert(number, list)?;
         Ok(())
