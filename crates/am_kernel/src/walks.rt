@@ -1,6 +1,6 @@
 //! The walks of those who wait.
 
-ghost use Rattle.std.specs.Prelude.{◌≡◌, ◌≤◌, ◌<◌, ◌+◌, ◌==◌, ◌∷◌, ◌++◌, [], ℕ, true, false, cond, drop, length, position, is_some, OnOk, vec_len, vec_capacity};
+ghost use Rattle.std.specs.Prelude.{◌≡◌, ◌≤◌, ◌<◌, ◌+◌, ◌==◌, ◌∷◌, ◌++◌, [], ℕ, true, false, Some, cond, drop, length, position, is_some, OnOk, vec_len, vec_capacity};
 ghost use Rattle.std.specs.Option.{option_copied};
 ghost use Rattle.indexmap.specs.IndexMap.{spare};
 ghost use Rattle.am_kernel.specs.Walks.{without_walk};
@@ -90,7 +90,28 @@ fn scanned_place(rows: &[WalkRow], walker: WalkerId) -> Option<usize>
     rows.iter().position(|row| row.walker == walker)
 }
 
-/// The place of the walker's walk, which came in that turn if there is one.
+/// Where the walk of that turn stands, if each that came before it and is over was among the first.
+fn counted_place(rows: &[WalkRow], turns: &IndexMap<u32, u64>, turn: u64) -> usize {
+    let Some(row) = rows.first() else {
+        return 0;
+    };
+    let first = turn_of(turns, row.walker).unwrap_or(turn);
+    turn.wrapping_sub(first) as usize
+}
+
+/// Whether the walker's walk is at this place.
+fn is_at(rows: &[WalkRow], place: usize, walker: WalkerId) -> bool
+    requires single { IsSingle rows.now }
+    ensures { result ≡ true → position (λ row. row.walker == walker) rows.now ≡ Some place }
+{
+    let Some(row) = rows.get(place) else {
+        return false;
+    };
+    row.walker == walker
+}
+
+/// The place of the walker's walk, which came in that turn if there is one: by its count from the
+/// first, or by halves where walks between them are over.
 fn place_of(
     rows: &[WalkRow],
     turns: &IndexMap<u32, u64>,
@@ -100,11 +121,13 @@ fn place_of(
     requires single { IsSingle rows.now }
     ensures { result ≡ position (λ row. row.walker == walker) rows.now }
 {
-    let at = rows.partition_point(|row| is_before(turns, row.walker, turn));
-    if let Some(row) = rows.get(at) {
-        if row.walker == walker {
-            return Some(at);
-        }
+    let counted = counted_place(rows, turns, turn);
+    if is_at(rows, counted, walker) {
+        return Some(counted);
+    }
+    let halved = rows.partition_point(|row| is_before(turns, row.walker, turn));
+    if is_at(rows, halved, walker) {
+        return Some(halved);
     }
     // Turns begin anew after 2^64 of them.
     scanned_place(rows, walker)
