@@ -1,6 +1,6 @@
 -- A script that is played line by line, in its head and behind it.
-use Rattle.std.proofs.Common.{◌≡◌, ◌+◌, ℕ, Bool, true, List, [], ◌∷◌, ◌++◌, length, Option, Some, None, Result, Ok, Err, IfOk, IfErr, refl, sym, subst}
-use Rattle.am_script.specs.{ScriptFault, ScriptFaultKind, Output, Summary, Place, Player, fault_at, HeadSoFar, no_lines, first_open, IsLeft, is_long, Settles, HaltsIn, end_of_head, Ending, with_next, script_behind, HeadStands, EventsStand, PlaceStands, PlayerStands, place_after, HeadTaken, HeadStops, EndsPlayed, EndsStopped, line_read, script_from, TurnDone, TurnStopped, Closes, counted}
+use Rattle.std.proofs.Common.{◌≡◌, ◌+◌, ℕ, Bool, true, List, [], ◌∷◌, ◌++◌, length, Option, Some, None, Result, Ok, Err, IfOk, IfErr, OnOk, refl, sym, subst}
+use Rattle.am_script.specs.{ScriptFault, ScriptFaultKind, Output, Summary, Place, Player, fault_at, HeadSoFar, no_lines, first_open, IsLeft, is_long, Settles, HaltsIn, end_of_head, Ending, with_next, script_behind, HeadStands, EventsStand, PlaceStands, PlayerStands, TakesInHead, StopsInHead, EndsPlayed, EndsStopped, line_read, script_from, TurnDone, TurnStopped, Closes, counted}
 use Rattle.am_script.specs.declared.fault.ScriptFaultKind.TheVariants.{LongLine, WriteFailed}
 use Rattle.am_script.specs.declared.player.Place.TheVariants as places
 use Rattle.am_script.proofs.Answering.{EndsSo, events_more, events_stop, events_long, events_lost, events_flush, events_end, events_broke}
@@ -22,15 +22,25 @@ new_stands heading output start e f g k = record {
 
 -- ---- one line more
 
-pub head_line_taken : (place : Place) (heading next : HeadSoFar) (world : Option WorldTable) (number : ℕ) (summary : Summary) (output : Output) (front : List (List ℕ)) (line : List ℕ) (start held : Option (List ℕ)) → place ≡ places.Head heading →
-    HeadTaken heading (number + 1) line next world → PlaceStands place number summary output front start held → PlaceStands (place_after next world) (number + 1) summary output (front ++ line ∷ []) start held
-head_line_taken place heading next world number summary output front line start held e taken h =
-    head_takes heading next world number summary output front line start held (subst (λ (p : Place). PlaceStands p number summary output front start held) e h) taken
+pub on_ok : {T E : Type 0} (r : Result T E) (P Q : Type 0) → (P → Q) → OnOk r P → OnOk r Q
+on_ok (Ok value) P Q f h = f h
+on_ok (Err e) P Q f h = tt
+
+pub if_err : {T E : Type 0} (r : Result T E) (P Q : E → Type 0) → ((e : E) → P e → Q e) → IfErr r P → IfErr r Q
+if_err (Ok value) P Q f h = tt
+if_err (Err e) P Q f h = f e h
+
+pub head_line_taken : (place next : Place) (heading : HeadSoFar) (number : ℕ) (summary : Summary) (output : Output) (front : List (List ℕ)) (line : List ℕ) (start held : Option (List ℕ)) → place ≡ places.Head heading →
+    TakesInHead place (number + 1) line next → PlaceStands place number summary output front start held → PlaceStands next (number + 1) summary output (front ++ line ∷ []) start held
+head_line_taken place next heading number summary output front line start held e taken h =
+    let t = subst (λ (p : Place). TakesInHead p (number + 1) line next) e taken in
+    subst (λ (p : Place). PlaceStands p (number + 1) summary output (front ++ line ∷ []) start held) (sym t.3)
+    (head_takes heading t.0 t.1 number summary output front line start held (subst (λ (p : Place). PlaceStands p number summary output front start held) e h) t.2)
 
 pub head_line_stops : (place : Place) (heading : HeadSoFar) (number : ℕ) (summary : Summary) (output : Output) (front : List (List ℕ)) (line : List ℕ) (start held : Option (List ℕ)) (fault : ScriptFault) → place ≡ places.Head heading →
-    HeadStops heading (number + 1) line fault → PlaceStands place number summary output front start held → (ending : Ending) → HaltsIn (script_behind front (with_next line ending)) (length front + 1) start held fault
+    StopsInHead place (number + 1) line fault → PlaceStands place number summary output front start held → (ending : Ending) → HaltsIn (script_behind front (with_next line ending)) (length front + 1) start held fault
 head_line_stops place heading number summary output front line start held fault e stops h =
-    head_stops heading number summary output front line start held fault (subst (λ (p : Place). PlaceStands p number summary output front start held) e h) stops
+    head_stops heading number summary output front line start held fault (subst (λ (p : Place). PlaceStands p number summary output front start held) e h) (subst (λ (p : Place). StopsInHead p (number + 1) line fault) e stops)
 
 pub event_line_taken : (place : Place) (world next : WorldTable) (number : ℕ) (summary : Summary) (kept keeps : Output) (front : List (List ℕ)) (line : List ℕ) (start held holds : Option (List ℕ)) (played : Option Bool) → place ≡ places.Events world →
     TurnDone (state_of world) (line_read line) (state_of next) (number + 1) kept keeps held holds played → PlaceStands place number summary kept front start held → EventsStand (state_of next) (number + 1) (counted summary played) keeps (front ++ line ∷ []) start holds

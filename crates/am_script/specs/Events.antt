@@ -1,6 +1,6 @@
 -- The event that a line spells by its words, if it spells one: own choice (docs/FORMATS.md,
 -- "Events").
-use Rattle.std.specs.Prelude.{◌≡◌, ℕ, true, is_some, List, [], ◌∷◌, codes, bytes_eq, Option, None, Result, Ok, Err, if◌then◌else◌}
+use Rattle.std.specs.Prelude.{◌≡◌, ℕ, true, false, is_some, List, [], ◌∷◌, codes, bytes_eq, Option, None, Result, Ok, Err, if◌then◌else◌}
 use Rattle.am_machine.specs.{Event}
 use Rattle.am_script.specs.AdministratorLines.{mount_read, bind_read, umount_read, change_line_read, kind_read, nscopy_read, nsdrop_read, admincat_read}
 use Rattle.am_script.specs.WalkerLines.{walk_read, resume_read, leave_read, expire_read}
@@ -31,6 +31,19 @@ event_by_word word words =
     else if bytes_eq word (codes "reattach") then reattach_read words
     else if bytes_eq word (codes "record") then record_read words
     else None
+
+-- the word is none of that table's up to `walk`, the last whose event can take memory
+abbrev pub IsLater : List ℕ → Type 0
+IsLater word =
+    (bytes_eq word (codes "attach") ≡ false)
+    × (bytes_eq word (codes "mount") ≡ false)
+    × (bytes_eq word (codes "bind") ≡ false)
+    × (bytes_eq word (codes "umount") ≡ false)
+    × (bytes_eq word (codes "change") ≡ false)
+    × (bytes_eq word (codes "kind") ≡ false)
+    × (bytes_eq word (codes "nscopy") ≡ false)
+    × (bytes_eq word (codes "nsdrop") ≡ false)
+    × (bytes_eq word (codes "walk") ≡ false)
 
 -- the event of a line with these words
 abbrev pub event_read : List (List ℕ) → Option Event

@@ -39,7 +39,7 @@ pub use Numbers.{is_numeral, number_read}
 pub use Opened.{IsOpened, NoNext, NoRoom, NoRoomFor, NotOpened, OpenedAs}
 pub use Outputs.{IsLost, IsOwed, Owed, Puts, PutsOut, Settles, Stands, StandsBy, StandsOf, bytes_of, line_at, line_of, lost_behind, owed_by, owed_from}
 pub use Played.{BreaksOff, Halts, HaltsAt, HaltsIn, IsPlayed, NothingPlayed, PlaysInput, StopsAtEvent, StopsInput, end_of_head, lines_for}
-pub use Playing.{Answered, Ending, EndsPlayed, EndsStopped, EventsStand, Flushes, HeadStands, HeadStops, HeadTaken, LosesAnswer, PlaceStands, PlayerStands, StopsAtLine, StopsAtLong, TakesLine, answers_in, asked_in, behind, owed_for, place_after, script_behind, with_next}
+pub use Playing.{Answered, Ending, EndsPlayed, EndsStopped, EventsStand, Flushes, HeadStands, HeadStops, HeadTaken, LosesAnswer, PlaceStands, PlayerStands, StopsAtLine, StopsAtLong, StopsInHead, TakesInHead, TakesLine, answers_in, asked_in, behind, owed_for, place_after, script_behind, with_next}
 pub use Read.{IsReadFault, WasRead, broken, cut_kind, cut_line, last_of, played}
 pub use Reading.{BreaksRead, EndsRead, ReadingStands, StopsInBytes, StopsRead, TakesBytes}
 pub use Script.{Numbered, Told, begun_by, events_from, events_in, head_ends, line_read, only_fault, script_by, script_from, script_of, told_by, without_world}

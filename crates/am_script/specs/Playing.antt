@@ -115,6 +115,18 @@ HeadStops old number line fault =
     StopsAt number (after_line old number line) fault
     ⊎ ((whole : HeadSoFar) × (after_line old number line ≡ EventsBegin whole) × IsFaultOr number fault (opening_read whole.said))
 
+-- a line of a head is taken, and the player is there then; behind a head nothing is done
+abbrev pub TakesInHead : Place → ℕ → List ℕ → Place → Type 0
+TakesInHead (places.Head heading) number line new =
+    (next : HeadSoFar) × (world : Option WorldTable) × HeadTaken heading number line next world
+    × (new ≡ place_after next world)
+TakesInHead (places.Events world) number line new = new ≡ places.Events world
+
+-- the line stops the head
+abbrev pub StopsInHead : Place → ℕ → List ℕ → ScriptFault → Type 0
+StopsInHead (places.Head heading) number line fault = HeadStops heading number line fault
+StopsInHead (places.Events world) number line fault = ⊥
+
 -- the line is played, whatever came before
 abbrev pub TakesLine : Player → Player → List ℕ → Option (List ℕ) → Option (List ℕ) → Type 0
 TakesLine old new line held holds =

@@ -1,7 +1,8 @@
 //! The events that lines spell.
 
+ghost use Rattle.std.specs.Prelude.{◌≡◌};
 ghost use Rattle.am_lines.specs.{words_of};
-ghost use Rattle.am_script.specs.Events.{event_by_word, event_read, ReadAs};
+ghost use Rattle.am_script.specs.Events.{event_by_word, event_read, IsLater, ReadAs};
 
 use crate::administrator_line::{
     read_admincat, read_bind, read_change_line, read_kind, read_mount, read_nscopy, read_nsdrop,
@@ -33,19 +34,30 @@ fn read_by_word(alloc: Global, word: &[u8], words: &[u8]) -> Result<Option<Event
         _ if is_word(word, b"nscopy") => Ok(read_nscopy(words)),
         _ if is_word(word, b"nsdrop") => Ok(read_nsdrop(words)),
         _ if is_word(word, b"walk") => read_walk(alloc, words),
-        _ if is_word(word, b"resume") => Ok(read_resume(words)),
-        _ if is_word(word, b"leave") => Ok(read_leave(words)),
-        _ if is_word(word, b"expire") => Ok(read_expire(words)),
-        _ if is_word(word, b"deliver") => Ok(read_deliver(words)),
-        _ if is_word(word, b"act") => Ok(read_act(words)),
-        _ if is_word(word, b"repeat") => Ok(read_repeat(words)),
-        _ if is_word(word, b"catatonic") => Ok(read_catatonic(words)),
-        _ if is_word(word, b"admincat") => Ok(read_admincat(words)),
-        _ if is_word(word, b"timeout") => Ok(read_timeout(words)),
-        _ if is_word(word, b"die") => Ok(read_die(words)),
-        _ if is_word(word, b"reattach") => Ok(read_reattach(words)),
-        _ if is_word(word, b"record") => Ok(read_record(words)),
-        _ => Ok(None),
+        _ => Ok(read_plain(word, words)),
+    }
+}
+
+/// The event of a line that takes no memory, by the later words of that table.
+#[tactic(auto, unfolding(crate::specs::Events::event_by_word))]
+fn read_plain(word: &[u8], words: &[u8]) -> Option<Event>
+    requires { IsLater word.now }
+    ensures { result ≡ event_by_word word.now (words_of words.now) }
+{
+    match word {
+        _ if is_word(word, b"resume") => read_resume(words),
+        _ if is_word(word, b"leave") => read_leave(words),
+        _ if is_word(word, b"expire") => read_expire(words),
+        _ if is_word(word, b"deliver") => read_deliver(words),
+        _ if is_word(word, b"act") => read_act(words),
+        _ if is_word(word, b"repeat") => read_repeat(words),
+        _ if is_word(word, b"catatonic") => read_catatonic(words),
+        _ if is_word(word, b"admincat") => read_admincat(words),
+        _ if is_word(word, b"timeout") => read_timeout(words),
+        _ if is_word(word, b"die") => read_die(words),
+        _ if is_word(word, b"reattach") => read_reattach(words),
+        _ if is_word(word, b"record") => read_record(words),
+        _ => None,
     }
 }
 

@@ -23,6 +23,31 @@ pub(crate) enum Place {
     Events(World),
 }
 
+impl Place {
+    ghost use Rattle.am_script.specs.Playing.{TakesInHead, StopsInHead};
+
+    /// Takes a line of a head, and begins the world if the head ends with it. A function pays at
+    /// entry for the size of its locals: a line of events isn't to pay for a world.
+    fn take_in_head(&mut self, alloc: Global, number: u64, line: &[u8]) -> Result<(), ScriptFault>
+        requires { number ≤ 2 ^ 62 }
+        ensures ok { OnOk result (TakesInHead self.old number line.now self.new) }
+        ensures err { IfErr result (StopsInHead self.old number line.now) }
+    {
+        match self {
+            Place::Head(heading) => match take_head_line(alloc, heading, number, line) {
+                Ok(None) => Ok(()),
+                Ok(Some(world)) => {
+                    // What was there goes by a call, which is cheaper to check.
+                    drop(mem::replace(self, Place::Events(world)));
+                    Ok(())
+                }
+                Err(fault) => Err(fault),
+            },
+            Place::Events(_) => Ok(()),
+        }
+    }
+}
+
 /// A script as far as its lines were played. Their answers may be on their way to the writer.
 #[derive(Drop)]
 pub(crate) struct Player {
@@ -75,15 +100,7 @@ impl Player {
         self.number += 1;
         let number = self.number;
         match &mut self.place {
-            Place::Head(heading) => match take_head_line(alloc, heading, number, line) {
-                Ok(None) => Ok(()),
-                Ok(Some(world)) => {
-                    // What was there goes by a call, which is cheaper to check.
-                    drop(mem::replace(&mut self.place, Place::Events(world)));
-                    Ok(())
-                }
-                Err(fault) => Err(fault),
-            },
+            Place::Head(_) => self.place.take_in_head(alloc, number, line),
             Place::Events(world) => {
                 match play_line(alloc, world, number, line, &mut self.output, writer) {
                     Ok(played) => {

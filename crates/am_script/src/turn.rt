@@ -50,20 +50,19 @@ fn answer_event(
 ) -> Result<Option<Answer>, ScriptFaultKind>
     ensures { LineAnswered (state_of world.old) (line_read line.now) (state_of world.new) result }
 {
-    match read_line(alloc, line) {
+    let read = read_line(alloc, line);
+    let answered = match &read {
         Ok(None) => Ok(None),
-        Ok(Some(event)) => {
-            let answer = world.step(alloc, &event);
-            // It goes by a call, which is cheaper to check.
-            drop(event);
-            Ok(Some(answer))
-        }
+        Ok(Some(event)) => Ok(Some(world.step(alloc, event))),
         // The event finds no memory before its step: it is refused, as a step refuses it.
         Err(ScriptFaultKind::NoMemory) => Ok(Some(Answer::Refused {
             errno: Errno::NoMemory,
         })),
-        Err(kind) => Err(kind),
-    }
+        Err(kind) => Err(*kind),
+    };
+    // It goes by a call, which is cheaper to check.
+    drop(read);
+    answered
 }
 
 /// The event of a line, or none where the line is skipped.
