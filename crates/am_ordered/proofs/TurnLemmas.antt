@@ -1,5 +1,5 @@
 -- Lists behind a place, and lists of which one row comes before the others.
-use Rattle.std.proofs.Common.{◌≡◌, ◌<◌, ◌≤◌, ◌+◌, ◌-◌, ℕ, zero, suc, List, [], ◌∷◌, ◌++◌, length, remove, drop, take, slice_set, refl, sym, ap, subst, ◌∙◌, arith}
+use Rattle.std.proofs.Common.{◌≡◌, ◌<◌, ◌≤◌, ◌+◌, ◌-◌, ℕ, zero, suc, List, [], ◌∷◌, ◌++◌, length, remove, drop, take, refl, sym, ap, subst, ◌∙◌, arith}
 use Rattle.std.proofs.Math.ListN.{drop_of_length-le}
 use Rattle.std.proofs.Math.Seq.{take-append_seam}
 use Rattle.std.proofs.lemmas.List.{length-drop, length-take-le, length-append, append-nil, take_rest}
@@ -14,12 +14,6 @@ module _ {X : Type 0} where
   removed_behind zero place xs = let e : 0 + place ≡ place = omega arith in rw e refl
   removed_behind (suc gone) place [] = let e : suc gone + place ≡ suc (gone + place) = omega arith in rw e (sym (none_removed place))
   removed_behind (suc gone) place (x ∷ xs) = let e : suc gone + place ≡ suc (gone + place) = omega arith in rw e (removed_behind gone place xs)
-
-  -- a row that is written behind the first rows is written among the others
-  pub set_behind : (gone place : ℕ) (xs : List X) (x : X) → drop gone (slice_set xs (gone + place) x) ≡ slice_set (drop gone xs) place x
-  set_behind zero place xs x = let e : 0 + place ≡ place = omega arith in rw e refl
-  set_behind (suc gone) place [] x = refl
-  set_behind (suc gone) place (y ∷ xs) x = let e : suc gone + place ≡ suc (gone + place) = omega arith in rw e (set_behind gone place xs x)
 
   -- ---- around a row
 

@@ -1,6 +1,6 @@
 //! Rows side by side, of which the shorter side moves where one is taken out.
 
-ghost use Rattle.std.specs.Prelude.{◌≡◌, ◌≤◌, ◌<◌, ◌+◌, ◌-◌, ◌^◌, ◌++◌, ◌∷◌, [], length, remove, drop, take, slice_set, option_to_list, OnOk, vec_len, vec_capacity};
+ghost use Rattle.std.specs.Prelude.{◌≡◌, ◌≤◌, ◌<◌, ◌+◌, ◌-◌, ◌^◌, ◌++◌, ◌∷◌, [], length, remove, drop, take, option_to_list, OnOk, vec_len, vec_capacity};
 ghost use Rattle.std.specs.Fn.{CalledAt};
 ghost use Rattle.std.specs.List.Retain.{IsFiltered};
 
@@ -86,8 +86,15 @@ impl<T> Rows<T> {
     pub fn new(alloc: Global) -> Rows<T>
         ensures { result.rows ≡ [] }
     {
+        Rows::of(Vec::new(alloc))
+    }
+
+    /// These rows.
+    pub fn of(rows: Vec<T>) -> Rows<T>
+        ensures { result.rows ≡ rows.items }
+    {
         Rows {
-            slots: Vec::new(alloc),
+            slots: rows,
             gone: 0,
         }
     }
@@ -153,27 +160,6 @@ impl<T> Rows<T> {
         } else {
             let _row = self.slots.remove(self.gone + index);
         }
-    }
-
-    /// These rows.
-    pub fn of(rows: Vec<T>) -> Rows<T>
-        ensures { result.rows ≡ rows.items }
-    {
-        Rows {
-            slots: rows,
-            gone: 0,
-        }
-    }
-
-    /// The row at this index is this one from now on.
-    pub fn set(&mut self, index: usize, row: T)
-    where
-        T: Drop,
-        requires { index < length self.old.rows }
-        ensures rows { self.new.rows ≡ slice_set self.old.rows index row }
-        ensures room { self.new.room ≡ self.old.room }
-    {
-        self.slots[self.gone + index] = row;
     }
 
     /// Only those rows stay that are to be kept, in their order. No memory is taken.

@@ -1,4 +1,4 @@
-use Rattle.std.proofs.Common.{◌≡◌, Some, ap, ◌∙◌}
+use Rattle.std.proofs.Common.{ap, ◌∙◌}
 use Rattle.std.specs.Map.{lookup}
 use Rattle.am_ordered.proofs.RowLemmas.{inserted_lookup}
 use Rattle.am_ordered.proofs.ordered.OrderedMap.insert_reserved.Goals as goal
