@@ -1,15 +1,13 @@
 -- The mounts whose home is one of some peer groups, and the groups that are met to find them.
-use Rattle.std.proofs.Common.{◌≡◌, ◌≤◌, ◌<◌, ◌+◌, ◌⊎◌, ℕ, zero, suc, Bool, true, false, cond, ◌&&◌, ◌||◌, List, [], ◌∷◌, ◌++◌, length, get_or, Option, Some, None, refl, sym, ap, subst, inl, inr, ⊎_elim, ◌∙◌, arith}
+use Rattle.std.proofs.Common.{◌≡◌, ◌+◌, ℕ, zero, suc, Bool, true, false, cond, ◌&&◌, List, [], ◌∷◌, get_or, Option, Some, None, refl, sym, ap, ◌∙◌, arith}
 use Rattle.std.specs.Prelude.{◌==◌, filter, flat_map, is_none, is_some, not}
 use Rattle.std.specs.Option.{option_or}
-use Rattle.std.specs.List.{list_any}
 use Rattle.std.specs.List.Sorted.{IsNonDecreasing, IsPermutation, IsStrictlyIncreasing}
-use Rattle.std.proofs.lemmas.Bool.{eqb-true, eq-eqb, and_parts}
 use Rattle.std.proofs.lemmas.List.Kept.{IsNonDecreasingBy-filter, AllPairs-from_increasing}
-use Rattle.am_names.specs.{MemberRow, GroupRow, is_among}
+use Rattle.am_names.specs.{MemberRow, GroupRow}
 use Rattle.am_names.specs.PeerGroups.{PeerGroups}
 use Rattle.am_index.proofs.RowLemmas.{number_found}
-use Rattle.am_group.specs.{AreMet, IsOrderly, count, group_in, group_numbers, group_of, group_row, groups_under, has_master, has_members, home_in, homed_at, is_at_or_under, is_in, is_just, is_one_of, member_row, mounts_where, numbers, under_these}
+use Rattle.am_group.specs.{AreMet, IsOrderly, count, group_in, group_of, group_row, groups_under, has_master, home_in, homed_at, is_at_or_under, is_in, is_just, is_one_of, member_row, mounts_where, under_these}
 use Rattle.am_group.proofs.CountLemmas.{count-append, count-filter, count_among, count_permuted, numbered_counted, same_counts, tally}
 use Rattle.am_group.proofs.IndexedLemmas.{where_rises}
 

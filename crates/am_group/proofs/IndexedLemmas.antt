@@ -5,7 +5,7 @@ use Rattle.std.specs.List.Sorted.{IsStrictlyIncreasing}
 use Rattle.std.proofs.lemmas.List.{drop_more}
 use Rattle.am_names.specs.{MemberRow, GroupRow, RiseBy, is_among}
 use Rattle.am_names.specs.PeerGroups.{PeerGroups}
-use Rattle.am_index.specs.{AddsTo, DropsLast, Index, ListsRise, SameLists, but, listed, moved, numbered}
+use Rattle.am_index.specs.{DropsLast, Index, ListsRise, SameLists, but, listed, moved, numbered}
 use Rattle.am_index.proofs.RowLemmas.{added_more, added_less, none_less, number_found, numbered_append, numbered_changed, numbered_more, numbered_put, some_less}
 use Rattle.am_group.specs.Invariant.{GroupsRise}
 use Rattle.am_group.specs.declared.mount_state.Change.TheVariants.{MakeShared, MakeSlave, MakePrivate, MakeUnbindable}

@@ -1,5 +1,5 @@
 -- A mount that is added, between those with lower and those with higher numbers.
-use Rattle.std.proofs.Common.{◌≡◌, ◌≤◌, ◌<◌, ◌+◌, ℕ, Bool, true, false, cond, List, [], ◌∷◌, ◌++◌, length, take, drop, Option, Some, None, refl, sym, ap, subst, ◌∙◌, arith}
+use Rattle.std.proofs.Common.{◌≡◌, ◌≤◌, ◌<◌, ◌+◌, ℕ, Bool, true, false, cond, List, [], ◌∷◌, ◌++◌, length, take, drop, Option, Some, None, refl, sym, ap, subst, ⊎_elim, ◌∙◌, arith}
 use Rattle.std.specs.Prelude.{nat_lt, ◌==◌}
 use Rattle.std.specs.List.{insert}
 use Rattle.std.proofs.lemmas.Bool.Decides.{nat_tests}
@@ -8,7 +8,7 @@ use Rattle.std.proofs.lemmas.List.Folds.{find-append}
 use Rattle.std.proofs.lemmas.Bool.{eqb-true, ltb-true, ltb-false}
 use Rattle.am_names.specs.{MemberRow, GroupRow}
 use Rattle.am_names.specs.PeerGroups.{PeerGroups}
-use Rattle.am_group.specs.{Membership, member_row, group_row, has_members, row_with, below, above, with_member, is_group, may_have, has_peopled_master, RiseFrom, IsGroup, IsOrderly, IsPeopled, IsSound, AddsNoReceivers}
+use Rattle.am_group.specs.{Membership, member_row, group_row, has_members, row_with, below, above, with_member, is_group, may_have, no_mounts, has_peopled_master, RiseFrom, IsGroup, IsOrderly, IsPeopled, IsSound, AddsNoReceivers}
 use Rattle.am_group.specs.declared.membership.Membership.TheVariants.{InGroup, SlaveOf, Private, Unbindable}
 use Rattle.am_group.proofs.LookupLemmas.{find_filter, RiseFrom-lower, members_from_test}
 use Rattle.am_group.proofs.ChangeLemmas.{KeepsLaw}
@@ -205,3 +205,14 @@ member_keeps s sound m membership new names = record {
     has (SlaveOf g) e = e
     has Private e = refl
     has Unbindable e = refl
+
+-- no mount and no peer group is orderly
+pub none_orderly : IsOrderly no_mounts
+none_orderly = record {
+  rising = tt;
+  groups_rising = tt;
+  group_named = λ m g e. absurd cc;
+  master_named = λ g e. ⊎_elim (λ m. let bad : None ≡ Some g = m.1 in absurd cc) (λ h. let bad : None ≡ Some g = h.1 in absurd cc) e;
+  down = λ h g e. absurd cc;
+  fresh = λ g e. absurd cc;
+}

@@ -1,5 +1,5 @@
 -- The peer groups that a walk meets are those with a member among the mount and its receivers.
-use Rattle.std.proofs.Common.{◌≡◌, ◌⊎◌, ℕ, suc, Bool, true, false, cond, ◌&&◌, ◌||◌, List, [], ◌∷◌, length, Option, Some, None, refl, sym, ap, subst, ⊎_elim, ◌∙◌}
+use Rattle.std.proofs.Common.{◌≡◌, ℕ, suc, Bool, true, false, cond, ◌||◌, List, [], ◌∷◌, length, Option, Some, refl, sym, ap, subst, ⊎_elim, ◌∙◌}
 use Rattle.std.specs.Prelude.{◌==◌, filter, not}
 use Rattle.std.specs.Option.{option_or}
 use Rattle.std.specs.List.{list_any}
@@ -7,10 +7,10 @@ use Rattle.std.proofs.lemmas.Bool.{eqb-true, eq-eqb, and_from, and_parts, or_cas
 use Rattle.am_names.proofs.Basics.{or_left, or_right}
 use Rattle.am_names.specs.{GroupRow, is_among}
 use Rattle.am_names.specs.PeerGroups.{PeerGroups}
-use Rattle.am_group.specs.{IsOrderly, HasMembers, group_in, group_of, groups_under, group_numbers, has_members, has_receiver, home_group, is_at_or_under, is_just, is_under, master_of_group, member_row, numbers, peopled_up, reached, receives, receivers_of, slave_in, turns_of, turns_where}
+use Rattle.am_group.specs.{IsOrderly, HasMembers, group_of, groups_under, group_numbers, has_members, has_receiver, home_group, is_at_or_under, is_just, is_under, master_of_group, member_row, numbers, peopled_up, receives, receivers_of, slave_in, turns_of, turns_where}
 use Rattle.am_group.proofs.ClearLemmas.{test_from_member}
 use Rattle.am_group.proofs.LookupLemmas.{members_from_test}
-use Rattle.am_group.proofs.ScanLemmas.{any_has, has, has-filter, has-from_filter, has_any, just_same, just_self}
+use Rattle.am_group.proofs.ScanLemmas.{any_has, has-filter, has-from_filter, has_any, just_same, just_self}
 use Rattle.am_group.proofs.UnderLemmas.{has_home, up_step}
 
 module _ (s : PeerGroups) (orderly : IsOrderly s) (b own : ℕ) (in_own : group_of s b ≡ Some own) where

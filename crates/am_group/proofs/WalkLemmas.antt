@@ -3,10 +3,9 @@
 use Rattle.std.proofs.Common.{◌≡◌, ◌≤◌, ◌<◌, ◌+◌, ◌⊎◌, ℕ, zero, suc, Bool, true, false, cond, ◌&&◌, ◌||◌, List, [], ◌∷◌, ◌++◌, Option, Some, None, refl, sym, ap, subst, inl, inr, ⊎_elim, ◌∙◌, arith}
 use Rattle.std.specs.Prelude.{◌==◌, is_some}
 use Rattle.std.proofs.lemmas.Bool.{eqb-true, eq-eqb, and_parts, or_cases}
-use Rattle.am_names.proofs.Basics.{or_left, or_right}
 use Rattle.am_names.specs.{GroupRow, is_among}
 use Rattle.am_names.specs.PeerGroups.{PeerGroups}
-use Rattle.am_group.specs.{AreMet, HasMembers, IsOrderly, count, group_numbers, group_row, groups_where, has_members, is_at_or_under, is_below_it, is_just, live_below, master_in, master_of_group, peopled_up}
+use Rattle.am_group.specs.{AreMet, IsOrderly, count, group_numbers, group_row, groups_where, has_members, is_at_or_under, is_below_it, is_just, live_below, master_in, master_of_group, peopled_up}
 use Rattle.am_group.proofs.CountLemmas.{count-append, count-filter, count_one, count_self, numbered_counted, tally}
 use Rattle.am_group.proofs.LookupLemmas.{members_from_test}
 use Rattle.am_group.proofs.ScanLemmas.{just_same, just_self}

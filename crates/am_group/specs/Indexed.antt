@@ -1,9 +1,9 @@
 -- The mounts and the peer groups by the groups that they name: own choice (Linux: mnt_share,
 -- mnt_slave_list).
-use Rattle.std.specs.Prelude.{◌≡◌, ◌==◌, ◌||◌, ◌&&◌, ◌++◌, ℕ, Bool, true, false, not, List, Option, Some, None}
+use Rattle.std.specs.Prelude.{◌≡◌, ◌++◌, ℕ, Bool, List, Option, Some, None}
 use Rattle.am_names.specs.{MemberRow, GroupRow}
 use Rattle.am_names.specs.PeerGroups.{PeerGroups}
-use Rattle.am_index.specs.{AddsTo, DropsLast, HasRoom, Index, IsIndexOf, ListsRise, SameLists, TakesFrom, listed, moved, numbered}
+use Rattle.am_index.specs.{AddsTo, HasRoom, Index, IsIndexOf, ListsRise, SameLists, TakesFrom, listed, moved, numbered}
 use Rattle.am_group.specs.declared.indexes.Indexes.{Indexes}
 use Rattle.am_group.specs.Changes.{is_just}
 

@@ -1,6 +1,5 @@
 -- What a walk over the peer groups under another meets (sharedsubtree.rst, 5a).
-use Rattle.std.specs.Prelude.{◌≡◌, ◌==◌, ◌++◌, ℕ, suc, Bool, is_none, List, [], ◌∷◌, filter, length, Option, Some, None, if◌then◌else◌}
-use Rattle.am_names.specs.{MemberRow, GroupRow}
+use Rattle.std.specs.Prelude.{◌≡◌, ◌==◌, ◌++◌, ℕ, suc, is_none, List, [], ◌∷◌, filter, length, Option, Some, None, if◌then◌else◌}
 use Rattle.am_names.specs.PeerGroups.{PeerGroups}
 use Rattle.am_group.specs.Propagation.{group_of}
 use Rattle.am_group.specs.Changes.{has_members}

@@ -22,12 +22,27 @@ mod receivers;
 
 /// Mounts in rising order of number, and peer groups with their masters (sharedsubtree.rst, 5a).
 /// A master has a lower number than the groups under it.
-#[derive(Drop)]
 pub struct Groups {
     members: Vec<MemberRow>,
     groups: Vec<GroupRow>,
     last_group: u64,
     indexes: Indexes,
+}
+
+// Written by hand, it is proved here once: a derived one is proved field by field in each function
+// of the crates above that lets the groups go at an early return.
+impl Drop for Groups {
+    fn drop(self) {
+        let Groups {
+            members,
+            groups,
+            last_group: _,
+            indexes,
+        } = self;
+        drop(members);
+        drop(groups);
+        drop(indexes);
+    }
 }
 
 impl Model for Groups {

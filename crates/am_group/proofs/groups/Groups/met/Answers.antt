@@ -1,7 +1,7 @@
 use Rattle.std.proofs.Common.{◌≡◌, ◌≤◌, ◌<◌, ◌+◌, ◌++◌, ℕ, List, [], ◌∷◌, sym, ap, subst, ◌∙◌, arith}
 use Rattle.std.proofs.lemmas.List.{nil_from_length}
 use Rattle.am_names.specs.PeerGroups.{PeerGroups}
-use Rattle.am_group.specs.{IsOrderly, count, group_numbers, is_at_or_under, live_below}
+use Rattle.am_group.specs.{IsOrderly, count, group_numbers, is_at_or_under}
 use Rattle.am_group.proofs.CountLemmas.{count-append, count_self}
 use Rattle.am_group.proofs.WalkLemmas.{IsWalk, left, left_less, live_master, met_end, met_next, met_stands}
 use Rattle.am_group.proofs.groups.Groups.met.Goals as goal

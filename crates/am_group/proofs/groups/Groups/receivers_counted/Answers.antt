@@ -1,8 +1,8 @@
-use Rattle.std.proofs.Common.{◌≡◌, ◌↔◌, ℕ, List, length, Option, Some, None, true, sym, ap, subst, ◌∙◌, rules}
+use Rattle.std.proofs.Common.{◌≡◌, ◌↔◌, ℕ, List, Option, Some, None, sym, ap, subst, ◌∙◌, rules}
 use Rattle.std.specs.List.{Contains}
 use Rattle.std.specs.List.Sorted.{IsStrictlyIncreasing}
 use Rattle.am_names.specs.PeerGroups.{PeerGroups}
-use Rattle.am_group.specs.{group_of, Receives, IsOrderly, has_members, under_these, receivers_of, turns_where}
+use Rattle.am_group.specs.{group_of, Receives, IsOrderly, under_these, receivers_of, turns_where}
 use Rattle.am_group.proofs.ClearLemmas.{test_from_member}
 use Rattle.am_group.proofs.EarlyLemmas.{none_exact, none_listed}
 use Rattle.am_group.proofs.HomeLemmas.{under_rises}

@@ -1,4 +1,4 @@
-use Rattle.std.proofs.Common.{◌≡◌, List, length, take, sym, subst, ap, ◌∙◌, arith}
+use Rattle.std.proofs.Common.{List, sym, subst}
 use Rattle.std.proofs.Math.Seq.{take-length}
 use Rattle.am_names.specs.{MemberRow}
 use Rattle.am_group.specs.{AreAdded}

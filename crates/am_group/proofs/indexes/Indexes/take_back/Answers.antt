@@ -1,6 +1,4 @@
-use Rattle.std.proofs.Common.{◌≡◌, ◌≤◌, ◌<◌, ℕ, [], take, refl, subst, arith}
-use Rattle.am_names.specs.{MemberRow}
-use Rattle.std.proofs.Common.{List}
+use Rattle.std.proofs.Common.{◌≡◌, ◌≤◌, ◌<◌, ℕ, take, refl, subst, arith}
 use Rattle.am_group.specs.{AreAdded}
 use Rattle.am_group.proofs.IndexedLemmas.{added_none, one_back}
 use Rattle.am_group.proofs.indexes.Indexes.take_back.Goals as goal

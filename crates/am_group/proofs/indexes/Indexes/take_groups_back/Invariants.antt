@@ -1,4 +1,4 @@
-use Rattle.std.proofs.Common.{◌≤◌, length, take}
+use Rattle.std.proofs.Common.{◌≤◌, take}
 use Rattle.am_group.specs.{GroupsAreAdded, Indexes}
 use Rattle.am_group.proofs.indexes.Indexes.take_groups_back.Given as goal
 
