@@ -34,7 +34,8 @@ RoomFor (Some g) index = HasRoom index g
 
 -- the number goes from the list of the one group to that of the other
 abbrev pub Moves : Option ℕ → Option ℕ → ℕ → Index → Index → Type 0
-Moves from to m old new = (n : ℕ) → listed new n ≡ moved (is_just n from) (is_just n to) m (listed old n)
+Moves from to m old new =
+    (n : ℕ) → listed new n ≡ moved (is_just n from) (is_just n to) m (listed old n)
 
 -- all three have the same lists
 pub record HaveSameLists (old new : Indexes) : Type 0 where

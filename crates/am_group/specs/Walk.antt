@@ -28,7 +28,8 @@ homed_at s g =
 
 -- how many peer groups have a member among the mount and its receivers
 abbrev pub reached : PeerGroups → ℕ → ℕ
-reached s mount = length (filter (λ row. has_receiver s (mount ∷ receivers_of s mount) row.group) s.groups)
+reached s mount =
+    length (filter (λ row. has_receiver s (mount ∷ receivers_of s mount) row.group) s.groups)
 
 -- none where the mount is in no peer group
 abbrev pub turns_where : Option ℕ → PeerGroups → ℕ → ℕ

@@ -245,8 +245,7 @@ impl Groups {
         let count = groups.len();
         self.members.reserve(members.len())?;
         self.groups.reserve(count)?;
-        self.indexes
-            .add_all(members.as_slice(), groups.as_slice())?;
+        self.indexes.add_all(members.as_slice(), groups.as_slice())?;
         self.groups.append(&mut groups)?;
         self.members.append(&mut members)?;
         self.last_group += count as u64;

@@ -112,8 +112,10 @@ module _ (m : ℕ) (xs : List ℕ) (up : IsStrictlyIncreasing xs) where
       (i : ℕ) → IsBinarySearchResult (λ y. nat_cmp y m) xs (Err i) → with m xs ≡ take i xs ++ m ∷ drop i xs
   with_unfound i position =
       let none = searched xs m (Err i) position rises in
-      rw (lower_front m xs i none.0 none.1 (λ k le lt. let more : m < get_or xs k 0 = none.2 k le lt in omega arith),
-      higher_behind m xs i none.0 (λ k lt. let less : get_or xs k 0 < m = none.1 k lt in omega arith) none.2) refl
+      rw (
+        lower_front m xs i none.0 none.1 (λ k le lt. let more : m < get_or xs k 0 = none.2 k le lt in omega arith),
+        higher_behind m xs i none.0 (λ k lt. let less : get_or xs k 0 < m = none.1 k lt in omega arith) none.2,
+      ) refl
 
   -- one that is there is so already
   pub with_found : (i : ℕ) → IsBinarySearchResult (λ y. nat_cmp y m) xs (Ok i) → with m xs ≡ xs

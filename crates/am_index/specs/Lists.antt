@@ -48,19 +48,23 @@ SameLists old new = (n : ℕ) → listed new n ≡ listed old n
 
 -- it stands last in the lists of the numbers that it has
 abbrev pub AddsTo : (ℕ → Bool) → ℕ → Index → Index → Type 0
-AddsTo has m old new = (n : ℕ) → listed new n ≡ (if has n then listed old n ++ m ∷ [] else listed old n)
+AddsTo has m old new =
+    (n : ℕ) → listed new n ≡ (if has n then listed old n ++ m ∷ [] else listed old n)
 
 -- it stands at its place in the lists of the numbers that it has
 abbrev pub PutsInto : (ℕ → Bool) → ℕ → Index → Index → Type 0
-PutsInto has m old new = (n : ℕ) → listed new n ≡ (if has n then with m (listed old n) else listed old n)
+PutsInto has m old new =
+    (n : ℕ) → listed new n ≡ (if has n then with m (listed old n) else listed old n)
 
 -- it is in no list of the numbers that it has
 abbrev pub TakesFrom : (ℕ → Bool) → ℕ → Index → Index → Type 0
-TakesFrom has m old new = (n : ℕ) → listed new n ≡ (if has n then but m (listed old n) else listed old n)
+TakesFrom has m old new =
+    (n : ℕ) → listed new n ≡ (if has n then but m (listed old n) else listed old n)
 
 -- the last is in no list of the numbers that it has
 abbrev pub DropsLast : (ℕ → Bool) → Index → Index → Type 0
-DropsLast has old new = (n : ℕ) → listed new n ≡ (if has n then front (listed old n) else listed old n)
+DropsLast has old new =
+    (n : ℕ) → listed new n ≡ (if has n then front (listed old n) else listed old n)
 
 -- each of its lists rises
 abbrev pub ListsRise : Index → Type 0
