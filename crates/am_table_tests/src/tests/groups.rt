@@ -48,6 +48,12 @@ enum Call {
     HasState(u64, Option<MountState>),
     /// The mounts that receive from this one.
     Receive(u64, &'static [u64]),
+    /// The same, and how many peer groups are met.
+    Counts(u64, &'static [u64], usize),
+    /// Begins anew with so many peer groups, each under the one before, of one mount each.
+    Chain(u64),
+    /// All mounts between these two receive from the first, and so many peer groups are met.
+    CountsUpTo(u64, u64, usize),
     LastGroup(u64),
     AreGroups(&'static [u64]),
     Members(usize),
@@ -107,6 +113,58 @@ fn receive(alloc: Global, groups: &Groups, mount: u64, expected: &[u64]) -> Resu
     )
 }
 
+fn count(
+    alloc: Global,
+    groups: &Groups,
+    mount: u64,
+    expected: &[u64],
+    turns: usize,
+) -> Result<bool, Errno> {
+    let (receivers, met) = groups.receivers_counted(alloc, MountId(mount))?;
+    if met != turns {
+        return Ok(false);
+    }
+    Ok(
+        receivers
+            .iter()
+            .map(|receiver| receiver.0)
+            .eq(expected.iter().copied()),
+    )
+}
+
+fn chain(alloc: Global, count: u64) -> Result<Groups, Errno> {
+    let mut groups = Groups::new(alloc);
+    for above in 0..count {
+        let master = if above == 0 {
+            None
+        } else {
+            Some(GroupId(above))
+        };
+        let group = groups.fresh(master)?;
+        groups.add(MountId(group.0), Membership::InGroup(group))?;
+    }
+    Ok(groups)
+}
+
+fn count_up_to(
+    alloc: Global,
+    groups: &Groups,
+    mount: u64,
+    last: u64,
+    turns: usize,
+) -> Result<bool, Errno> {
+    let (receivers, met) = groups.receivers_counted(alloc, MountId(mount))?;
+    if met != turns || mount > last {
+        return Ok(false);
+    }
+    Ok(
+        receivers
+            .iter()
+            .map(|receiver| receiver.0)
+            .eq((mount..last).map(|number| number + 1)),
+    )
+}
+
 fn are_groups(groups: &Groups, expected: &[u64]) -> bool {
     groups
         .groups()
@@ -122,6 +180,11 @@ struct Table(Groups);
 impl Table {
     fn add_all(&mut self, alloc: Global, mount: u64) -> Result<bool, Errno> {
         self.0 = of_all(alloc, mount)?;
+        Ok(true)
+    }
+
+    fn chain(&mut self, alloc: Global, count: u64) -> Result<bool, Errno> {
+        self.0 = chain(alloc, count)?;
         Ok(true)
     }
 }
@@ -144,6 +207,13 @@ impl Stage for Table {
             Call::Leaves(mount) => leave(alloc, &mut self.0, mount),
             Call::HasState(mount, state) => Ok(self.0.kind(MountId(mount)) == state),
             Call::Receive(mount, expected) => receive(alloc, &self.0, mount, expected),
+            Call::Counts(mount, expected, turns) => {
+                count(alloc, &self.0, mount, expected, turns)
+            }
+            Call::Chain(count) => self.chain(alloc, count),
+            Call::CountsUpTo(mount, last, turns) => {
+                count_up_to(alloc, &self.0, mount, last, turns)
+            }
             Call::LastGroup(group) => Ok(self.0.last_group() == GroupId(group)),
             Call::AreGroups(expected) => Ok(are_groups(&self.0, expected)),
             Call::Members(count) => Ok(self.0.members().len() == count),
@@ -255,12 +325,29 @@ const NUMBERS: &[Step<Call>] = &[
     Step::Does(Call::Makes(1, Change::MakeSlave)),
 ];
 
-static EXAMPLES: [(&str, &[&[Step<Call>]]); 5] = [
+/// Group 1 of the mounts 2 and 3, and under it group 2 of 4 and 5; then a chain of 200 groups.
+const TURNS: &[Step<Call>] = &[
+    Step::Does(Call::Fresh(FIRST)),
+    Step::Does(Call::FreshUnder(FIRST, SECOND)),
+    Step::Does(Call::Adds(2, Part::InGroup(FIRST))),
+    Step::Does(Call::Adds(3, Part::InGroup(FIRST))),
+    Step::Does(Call::Adds(4, Part::InGroup(SECOND))),
+    Step::Does(Call::Adds(5, Part::InGroup(SECOND))),
+    Step::Does(Call::Counts(2, &[3, 4, 5], 2)),
+    Step::Does(Call::Adds(6, Part::Private)),
+    Step::Does(Call::Counts(6, &[], 0)),
+    Step::Does(Call::Chain(200)),
+    Step::Does(Call::CountsUpTo(1, 200, 200)),
+    Step::Does(Call::CountsUpTo(200, 200, 1)),
+];
+
+static EXAMPLES: [(&str, &[&[Step<Call>]]); 6] = [
     ("each call tests in order", &[TESTS_IN_ORDER]),
     ("groups are there before their members", &[GROUPS_FIRST]),
     ("a group without members hands nothing on", &[MEMBERS_LAST]),
     ("mounts added all together", &[ALL_TOGETHER]),
     ("numbers go up with each group that is made", &[NUMBERS]),
+    ("each peer group is met once", &[TURNS]),
 ];
 
 #[test]
