@@ -1,6 +1,6 @@
 //! What a run came to.
 
-ghost use Rattle.std.specs.Prelude.{◌≡◌, IfSome, IsTrue};
+ghost use Rattle.std.specs.Prelude.{◌≡◌, is_some, IfSome};
 ghost use Rattle.std.specs.List.{count_by};
 ghost use Rattle.am_machine.specs.declared.answer.Answer.TheVariants.{Refused};
 ghost use Rattle.am_runner.specs.Runs.{is_out_of_memory, is_walk, is_round, is_entered, is_left, IsTallyOf};
@@ -106,10 +106,10 @@ fn left_in(trace: &[Obs]) -> usize
     left
 }
 
-/// The tally of a world, where the receipts of all callers match its history.
+/// The tally of a world; none where the receipts of the callers don't match its history.
 pub fn tally_of(shared: &Shared, is_matched: bool) -> Option<Tally>
     ensures tally { IfSome result (λ tally. IsTallyOf tally shared.now) }
-    ensures matched { IfSome result (λ _. IsTrue is_matched) }
+    ensures matched { is_some result ≡ is_matched }
 {
     if !is_matched {
         return None;
