@@ -1,6 +1,7 @@
 -- Lists behind a place, and lists of which one row comes before the others.
 use Rattle.std.proofs.Common.{◌≡◌, ◌<◌, ◌≤◌, ◌+◌, ◌-◌, ℕ, zero, suc, List, [], ◌∷◌, ◌++◌, length, remove, drop, take, refl, sym, ap, subst, ◌∙◌, arith}
 use Rattle.std.proofs.Math.ListN.{drop_of_length-le}
+use Rattle.std.specs.List.{insert}
 use Rattle.std.proofs.Math.Seq.{take-append_seam}
 use Rattle.std.proofs.lemmas.List.{length-drop, length-take-le, length-append, append-nil, take_rest}
 
@@ -124,3 +125,11 @@ module _ {X : Type 0} where
       (subst (λ (k : ℕ). drop (gone + 1) (take k ((take gone vs ++ (ts ++ drop (length vs - gone) (drop gone vs)))
       ++ drop (length (take gone vs ++ (ts ++ drop (length vs - gone) (drop gone vs)))) vs)) ≡ remove (drop gone vs) index) len
       (brought_in vs ts gone index (subst (λ (k : ℕ). gone + index < k) (sym len) within) count e))
+
+  -- a row that comes among those behind the first ones
+  pub inserted_behind : (gone place : ℕ) (xs : List X) (x : X) → gone ≤ length xs → drop gone (insert xs (gone + place) x) ≡ insert (drop gone xs) place x
+  inserted_behind zero place xs x within = let e : 0 + place ≡ place = omega arith in rw e refl
+  inserted_behind (suc gone) place [] x within = absurd (omega arith)
+  inserted_behind (suc gone) place (y ∷ xs) x within =
+      let e : suc gone + place ≡ suc (gone + place) = omega arith in
+      rw e (inserted_behind gone place xs x (omega arith))

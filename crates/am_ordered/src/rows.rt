@@ -2,6 +2,7 @@
 
 ghost use Rattle.std.specs.Prelude.{◌≡◌, ◌≤◌, ◌<◌, ◌+◌, ◌-◌, ◌^◌, ◌++◌, ◌∷◌, [], length, remove, drop, take, option_to_list, OnOk, vec_len, vec_capacity};
 ghost use Rattle.std.specs.Fn.{CalledAt};
+ghost use Rattle.std.specs.List.{insert, slice_set};
 ghost use Rattle.std.specs.List.Retain.{IsFiltered};
 
 use std::alloc::{AllocError, Global};
@@ -131,6 +132,40 @@ impl<T> Rows<T> {
         ensures room { self.old.room ≤ self.new.room + 1 }
     {
         self.slots.push_reserved(row);
+    }
+
+    /// These rows behind the others, for which there is room.
+    pub fn append_reserved(&mut self, mut rows: Vec<T>)
+    where
+        T: Drop,
+        requires { length rows.items ≤ self.old.room }
+        ensures rows { self.new.rows ≡ self.old.rows ++ rows.items }
+        ensures room { self.old.room ≤ self.new.room + length rows.items }
+    {
+        let _added = self.slots.append(&mut rows);
+    }
+
+    /// A row at this index, for which there is room. Those from there on move down by one.
+    pub fn insert_reserved(&mut self, index: usize, row: T)
+    where
+        T: Drop,
+        requires within { index ≤ length self.old.rows }
+        requires room { 1 ≤ self.old.room }
+        ensures rows { self.new.rows ≡ insert self.old.rows index row }
+        ensures room { self.old.room ≤ self.new.room + 1 }
+    {
+        let _put = self.slots.insert(self.gone + index, row);
+    }
+
+    /// The row at this index becomes another.
+    pub fn set(&mut self, index: usize, row: T)
+    where
+        T: Drop,
+        requires { index < length self.old.rows }
+        ensures rows { self.new.rows ≡ slice_set self.old.rows index row }
+        ensures room { self.old.room ≤ self.new.room }
+    {
+        self.slots[self.gone + index] = row;
     }
 
     /// The last row goes.
