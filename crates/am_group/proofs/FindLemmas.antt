@@ -1,5 +1,5 @@
 -- What a search by halves finds in rows that rise by their number.
-use Rattle.std.proofs.Common.{◌≡◌, ◌≢◌, ◌≤◌, ◌<◌, ◌+◌, ℕ, zero, suc, List, [], ◌∷◌, length, get_or, Option, Some, None, Ok, Err, refl, sym, ap, arith}
+use Rattle.std.proofs.Common.{◌≡◌, ◌≢◌, ◌≤◌, ◌<◌, ◌+◌, ℕ, zero, suc, List, [], ◌∷◌, length, get_or, Option, Some, None, Ok, Err, refl, sym, ap, ◌∙◌, arith}
 use Rattle.std.specs.Prelude.{find, ◌==◌}
 use Rattle.std.specs.List.Sorted.{IsBinarySearchResult, IsNonDecreasingBy}
 use Rattle.std.specs.Ordering.{nat_cmp, ordering_index}
@@ -41,6 +41,12 @@ module _ {R : Type 0} (number : R → ℕ) where
   rows_rise low (row ∷ rows) rises (suc i) (suc j) d less h =
       rows_rise (number row + 1) rows rises.1 i j d (omega arith) (omega arith)
 
+  -- their numbers don't fall
+  pub numbers_ordered : (rows : List R) → RiseBy number 0 rows → IsNonDecreasingBy number rows
+  numbers_ordered rows rises i j d le h =
+      let up = rows_rise 0 rows rises i j d in
+      grind (arith, up, λ (same : i ≡ j). ap (λ (k : ℕ). number_at rows k d) same)
+
   -- the row with the number is the one that is looked up
   pub found_at :
       (low : ℕ) (rows : List R) → RiseBy number low rows →
@@ -53,6 +59,14 @@ module _ {R : Type 0} (number : R → ℕ) where
       let rest : next ≤ number_at rows i d = at_least next rows rises.1 i d (omega arith) in
       rw (ne_eqb (number row) n (λ same. omega arith))
       (found_at next rows rises.1 i n d (omega arith) e)
+
+  -- a row that stands somewhere is that of its number
+  pub found_in_place :
+      (rows : List R) → RiseBy number 0 rows →
+      (i n : ℕ) (row : R) → i < length rows → row ≡ get_or rows i row → number row ≡ n →
+      row_of rows n ≡ Some row
+  found_in_place rows rises i n row h is at =
+      found_at 0 rows rises i n row h (ap number (sym is) ∙ at) ∙ ap Some (sym is)
 
   none_at :
       (rows : List R) (n : ℕ) →

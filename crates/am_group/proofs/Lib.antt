@@ -15,6 +15,9 @@ pub mod KindLemmas
 pub mod ClearLemmas
 pub mod AmongLemmas
 pub mod LostLemmas
+pub mod GoneLemmas
+pub mod LoneLemmas
+pub mod OrderedLemmas
 pub mod JoinLemmas
 pub mod GrowLemmas
 pub mod MemberLemmas

@@ -1,5 +1,5 @@
 -- The lift, a step at a time.
-use Rattle.std.proofs.Common.{◌≡◌, ◌<◌, ℕ, zero, suc, Bool, true, false, List, [], ◌∷◌, Option, Some, None, refl, sym, ap, ◌∙◌, arith}
+use Rattle.std.proofs.Common.{◌≡◌, ◌<◌, ℕ, zero, suc, Bool, true, false, List, [], ◌∷◌, ◌++◌, Option, Some, None, refl, sym, ap, ◌∙◌, arith}
 use Rattle.std.specs.Prelude.{find}
 use Rattle.am_names.specs.{MemberRow, GroupRow}
 use Rattle.am_names.specs.PeerGroups.{PeerGroups}
@@ -45,3 +45,7 @@ height_falls s orderly g = go (master_of_group s g) refl
 -- rows that are those of a state
 pub same_state : (s : PeerGroups) (members : List MemberRow) (groups : List GroupRow) (last : ℕ) → members ≡ s.members → groups ≡ s.groups → last ≡ s.last_group → (record { members = members; groups = groups; last_group = last }) ≡ s
 same_state s members groups last a b d = rw (a, b, d) refl
+
+-- a row behind those that a reserve left as they were
+pub pushed : (xs ys zs : List GroupRow) (row : GroupRow) → zs ≡ ys ++ row ∷ [] → ys ≡ xs → zs ≡ xs ++ row ∷ []
+pushed xs ys zs row more same = more ∙ ap (λ (rows : List GroupRow). rows ++ row ∷ []) same

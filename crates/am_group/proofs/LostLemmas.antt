@@ -6,7 +6,7 @@ use Rattle.std.specs.List.{list_all}
 use Rattle.am_names.proofs.Basics.{false_where_not, left_of_and, right_of_and, or_assoc}
 use Rattle.am_names.specs.{MemberRow, GroupRow, is_among}
 use Rattle.am_names.specs.PeerGroups.{PeerGroups}
-use Rattle.am_group.specs.{is_just, has_members, is_kept, lifted, lifted_member, lifted_group, settled, cleared, with_only, left, without, has_receiver, AreOfReceivers, RiseFrom, member_row, group_in, group_of, is_one_of, AreLive, AreLiveAmong, AreOthers, AreLost, is_free_group, is_free_member, is_free_of, without_groups}
+use Rattle.am_group.specs.{is_just, has_members, is_kept, lifted, lifted_member, lifted_group, settled, cleared, with_only, left, without, has_receiver, AreOfReceivers, RiseFrom, member_row, group_in, group_of, is_one_of, AreLive, AreLost, is_free_group, is_free_member, is_free_of, without_groups}
 use Rattle.am_group.proofs.LiftLemmas.{lifted_here, same_state}
 
 or_swap : (a b c : Bool) → (a || (b || c)) ≡ (b || (a || c))
@@ -15,7 +15,7 @@ or_swap true false c = refl
 or_swap false b c = refl
 
 -- of the members those that a test keeps and the others
-has_split :
+pub has_split :
     (gone : ℕ → Bool) (rows : List MemberRow) (g : ℕ) →
     has_members rows g ≡
     (has_members (filter (λ row. not (gone row.mount)) rows) g || has_members (filter (λ row. gone row.mount) rows) g)
@@ -39,27 +39,6 @@ has_split gone (r ∷ rows) g = go (gone r.mount) (has_split gone rows g)
         ap (λ (x : Bool). is_just g r.group || x) ih ∙
         or_assoc (is_just g r.group) (has_members stay g) (has_members leave g)
 
--- the peer groups of what leaves, without those that still have members, are those that are lost
-lost_where : (left kept : Bool) → (left && not (left && kept)) ≡ ((kept || left) && not kept)
-lost_where true true = refl
-lost_where true false = refl
-lost_where false true = refl
-lost_where false false = refl
-
-pub lost_exact :
-    (gone : ℕ → Bool) (rows : List MemberRow) (left still lost : List ℕ) →
-    AreLive (filter (λ row. gone row.mount) rows) left →
-    AreLiveAmong left (filter (λ row. not (gone row.mount)) rows) still →
-    AreOthers left still lost → AreLost rows (filter (λ row. not (gone row.mount)) rows) lost
-lost_exact gone rows left still lost are_left are_still are_lost g =
-    let kept = has_members (filter (λ row. not (gone row.mount)) rows) g in
-    let leaves = has_members (filter (λ row. gone row.mount) rows) g in
-    are_lost g ∙
-    ap (λ (x : Bool). is_among left g && not x) (are_still g) ∙
-    ap (λ (x : Bool). x && not (x && kept)) (are_left g) ∙
-    lost_where leaves kept ∙
-    ap (λ (x : Bool). x && not kept) (sym (has_split gone rows g))
-
 module _ (old : List MemberRow) (raw : PeerGroups) (lost : List ℕ) (are_lost : AreLost old raw.members lost) where
   abbrev stays : ℕ → Bool
   stays = is_kept old raw.members
@@ -71,11 +50,11 @@ module _ (old : List MemberRow) (raw : PeerGroups) (lost : List ℕ) (are_lost :
   kept_where false false = refl
 
   -- a group stays where it isn't lost
-  stays_is : (g : ℕ) → stays g ≡ not (is_among lost g)
+  pub stays_is : (g : ℕ) → stays g ≡ not (is_among lost g)
   stays_is g = kept_where (has_members raw.members g) (has_members old g) ∙ ap not (sym (are_lost g))
 
   -- a master that isn't lost is not lifted
-  master_stays : (o : Option ℕ) → is_one_of lost o ≡ false → lifted stays raw o ≡ o
+  pub master_stays : (o : Option ℕ) → is_one_of lost o ≡ false → lifted stays raw o ≡ o
   master_stays None free = refl
   master_stays (Some g) free = lifted_here stays raw g (stays_is g ∙ ap not free)
 
@@ -88,7 +67,7 @@ module _ (old : List MemberRow) (raw : PeerGroups) (lost : List ℕ) (are_lost :
       ap (λ (o : Option ℕ). (record r { master = o }) ∷ rows) (sym (master_stays r.master here)) ∙
       ap (λ (xs : List MemberRow). lifted_member stays raw r ∷ xs) (members_stay rows (right_of_and _ _ free))
 
-  groups_stay :
+  pub groups_stay :
       (rows : List GroupRow) → list_all (is_free_group lost) rows ≡ true →
       filter (λ row. not (is_among lost row.group)) rows ≡
       filter (λ row. stays row.group) (map (lifted_group stays raw) rows)

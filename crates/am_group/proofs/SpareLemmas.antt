@@ -53,7 +53,7 @@ found_above low (r ∷ rows) rises m row e = go (r.mount == m) refl e (found_abo
     go true f e ih = let first : low ≤ r.mount = rises.0 in let same : r.mount ≡ m = eqb-true r.mount m f in omega arith
     go false f e ih = let first : low ≤ r.mount = rises.0 in let later : r.mount + 1 ≤ m = ih e in omega arith
 
-found_number : (rows : List MemberRow) (m : ℕ) (row : MemberRow) → member_row rows m ≡ Some row → row.mount ≡ m
+pub found_number : (rows : List MemberRow) (m : ℕ) (row : MemberRow) → member_row rows m ≡ Some row → row.mount ≡ m
 found_number [] m row e = absurd cc
 found_number (r ∷ rows) m row e = go (r.mount == m) refl e (found_number rows m row)
   where
@@ -68,7 +68,7 @@ none_found f low m (r ∷ rows) rises below =
     rw (ne_eqb r.mount m (λ same. omega arith)) (ap (λ (xs : List MemberRow). r ∷ xs) (none_found f (r.mount + 1) m rows rises.1 (omega arith)))
 
 -- what a change makes of the row that is found, it makes of the mount's
-same_change : (f : MemberRow → MemberRow) (low m : ℕ) (rows : List MemberRow) → RiseFrom low rows → (row : MemberRow) → member_row rows m ≡ Some row → map (at_row (λ r. f row) m) rows ≡ map (at_row f m) rows
+pub same_change : (f : MemberRow → MemberRow) (low m : ℕ) (rows : List MemberRow) → RiseFrom low rows → (row : MemberRow) → member_row rows m ≡ Some row → map (at_row (λ r. f row) m) rows ≡ map (at_row f m) rows
 same_change f low m [] rises row e = refl
 same_change f low m (r ∷ rows) rises row e = go (r.mount == m) refl e (same_change f (r.mount + 1) m rows rises.1 row)
   where
@@ -84,7 +84,7 @@ same_change f low m (r ∷ rows) rises row e = go (r.mount == m) refl e (same_ch
 
 module _ (f : MemberRow → MemberRow) (m : ℕ) where
   -- the others of a group stay in it
-  others_stay : (rows : List MemberRow) (g : ℕ) → list_any (is_other_in m g) rows ≡ true → has_members (map (at_row f m) rows) g ≡ true
+  pub others_stay : (rows : List MemberRow) (g : ℕ) → list_any (is_other_in m g) rows ≡ true → has_members (map (at_row f m) rows) g ≡ true
   others_stay [] g e = absurd cc
   others_stay (r ∷ rows) g e = ⊎_elim
       (λ here.
@@ -94,7 +94,7 @@ module _ (f : MemberRow → MemberRow) (m : ℕ) where
       (λ later. or_right _ _ (others_stay rows g later))
       (or_cases (is_other_in m g r) (list_any (is_other_in m g) rows) e)
 
-  abbrev HasOther : List MemberRow → MemberRow → ℕ → Type 0
+  abbrev pub HasOther : List MemberRow → MemberRow → ℕ → Type 0
   HasOther rows row g = (list_any (is_other_in m g) rows ≡ true) ⊎ (is_just g row.group ≡ true)
 
   more : (r row : MemberRow) (rows : List MemberRow) (g : ℕ) → HasOther rows row g → HasOther (r ∷ rows) row g
@@ -102,7 +102,7 @@ module _ (f : MemberRow → MemberRow) (m : ℕ) where
   more r row rows g (inr h) = inr h
 
   -- a peer group with members has others, or is the mount's own
-  has_other : (low : ℕ) (rows : List MemberRow) → RiseFrom low rows → (row : MemberRow) (g : ℕ) → ((r : MemberRow) → member_row rows m ≡ Some r → r ≡ row) → has_members rows g ≡ true → HasOther rows row g
+  pub has_other : (low : ℕ) (rows : List MemberRow) → RiseFrom low rows → (row : MemberRow) (g : ℕ) → ((r : MemberRow) → member_row rows m ≡ Some r → r ≡ row) → has_members rows g ≡ true → HasOther rows row g
   has_other low [] rises row g only e = absurd cc
   has_other low (r ∷ rows) rises row g only e = go (r.mount == m) refl (or_cases (is_just g r.group) (has_members rows g) e) (has_other (r.mount + 1) rows rises.1 row g)
     where

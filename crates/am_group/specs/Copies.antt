@@ -63,6 +63,7 @@ abbrev pub copied : ℕ → List ℕ → ℕ → ℕ → PeerGroups → PeerGrou
 copied own receivers number new s =
     let groups = receiving_groups s receivers own in
     let stand = stand_in own new s.last_group groups in
-    let first : MemberRow = record { mount = number; group = Some new; master = None; unbindable = false } in
+    let first : MemberRow =
+    record { mount = number; group = Some new; master = None; unbindable = false } in
     let last = s.last_group + length groups in
     added (first ∷ copies_from stand s (number + 1) receivers) (group_copies stand s groups) last s

@@ -84,7 +84,8 @@ pub record AreMoved (row after : MemberRow) (old new : Indexes) : Type 0 where
 -- these mounts stand last in their lists
 pub record AreAdded (rows : List MemberRow) (old new : Indexes) : Type 0 where
   pub members : (n : ℕ) → listed new.members n ≡ listed old.members n ++ mounts_where (is_in n) rows
-  pub slaves : (n : ℕ) → listed new.slaves n ≡ listed old.slaves n ++ mounts_where (has_master n) rows
+  pub slaves :
+      (n : ℕ) → listed new.slaves n ≡ listed old.slaves n ++ mounts_where (has_master n) rows
   pub below : SameLists old.below new.below
 
 -- these peer groups stand last in their lists
@@ -94,10 +95,13 @@ pub record GroupsAreAdded (rows : List GroupRow) (old new : Indexes) : Type 0 wh
   pub below : (n : ℕ) → listed new.below n ≡ listed old.below n ++ groups_where (is_below_it n) rows
 
 -- both
-pub record AllAreAdded (rows : List MemberRow) (groups : List GroupRow) (old new : Indexes) : Type 0 where
+pub record AllAreAdded (rows : List MemberRow) (groups : List GroupRow) (old new : Indexes) :
+    Type 0 where
   pub members : (n : ℕ) → listed new.members n ≡ listed old.members n ++ mounts_where (is_in n) rows
-  pub slaves : (n : ℕ) → listed new.slaves n ≡ listed old.slaves n ++ mounts_where (has_master n) rows
-  pub below : (n : ℕ) → listed new.below n ≡ listed old.below n ++ groups_where (is_below_it n) groups
+  pub slaves :
+      (n : ℕ) → listed new.slaves n ≡ listed old.slaves n ++ mounts_where (has_master n) rows
+  pub below :
+      (n : ℕ) → listed new.below n ≡ listed old.below n ++ groups_where (is_below_it n) groups
 
 -- the lists of all three rise
 pub record AllRise (t : Indexes) : Type 0 where

@@ -19,7 +19,8 @@ IsGroup s g = is_some (group_row s.groups g) ≡ true
 -- a mount or a peer group has this master
 abbrev pub IsMaster : PeerGroups → ℕ → Type 0
 IsMaster s g =
-    ((m : ℕ) × (slave_in (member_row s.members m) ≡ Some g)) ⊎ ((h : ℕ) × (master_of_group s h ≡ Some g))
+    ((m : ℕ) × (slave_in (member_row s.members m) ≡ Some g)) ⊎
+    ((h : ℕ) × (master_of_group s h ≡ Some g))
 
 -- a mount is in the peer group
 abbrev pub HasMembers : PeerGroups → ℕ → Type 0
@@ -47,5 +48,5 @@ pub record IsSound (s : PeerGroups) : Type 0 where
 -- unless it did already
 abbrev pub AddsNoReceivers : PeerGroups → PeerGroups → Type 0
 AddsNoReceivers old new =
-    (b c : ℕ) → is_some (member_row old.members b) ≡ true → is_some (member_row old.members c) ≡ true →
-    Receives new b c → Receives old b c
+    (b c : ℕ) → is_some (member_row old.members b) ≡ true →
+    is_some (member_row old.members c) ≡ true → Receives new b c → Receives old b c

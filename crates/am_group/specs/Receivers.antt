@@ -38,10 +38,6 @@ receivers_of s b = filter (receives s b) (numbers s.members)
 
 -- ---- the same by the peer groups under the sender's
 
--- the group is this one, or this one is up its chain of masters
-abbrev pub is_below : PeerGroups → ℕ → ℕ → Bool
-is_below s own g = is_among (up s (Some g)) own
-
 -- the group is this one, or this one is up its chain of masters, and all of these have members
 abbrev pub is_at_or_under : PeerGroups → ℕ → ℕ → Bool
 is_at_or_under s own g = is_among (peopled_up s (Some g)) own
@@ -49,10 +45,6 @@ is_at_or_under s own g = is_among (peopled_up s (Some g)) own
 -- the numbers of these peer groups
 abbrev pub group_numbers : List GroupRow → List ℕ
 group_numbers groups = map (λ row. row.group) groups
-
--- the peer group and all that have it up their chain of masters, in rising order
-abbrev pub groups_below : PeerGroups → ℕ → List ℕ
-groups_below s own = group_numbers (filter (λ row. is_below s own row.group) s.groups)
 
 -- the peer group and those under it, in rising order
 abbrev pub groups_under : PeerGroups → ℕ → List ℕ

@@ -1,6 +1,6 @@
 -- The rows of a change before masters are lifted: own choice (docs/DECISIONS.md, "A group without
 -- members is gone").
-use Rattle.std.specs.Prelude.{◌≡◌, ◌||◌, ◌&&◌, ◌==◌, ℕ, Bool, true, false, not, List, filter, Option, Some, None}
+use Rattle.std.specs.Prelude.{◌≡◌, ◌||◌, ◌&&◌, ◌==◌, ℕ, Bool, true, false, not, List, filter, Option, Some, None, if◌then◌else◌}
 use Rattle.std.specs.List.{list_all, list_any}
 use Rattle.am_names.specs.{MemberRow, GroupRow, is_among}
 use Rattle.am_names.specs.PeerGroups.{PeerGroups}
@@ -9,26 +9,22 @@ use Rattle.am_group.specs.declared.mount_state.MountState.{MountState}
 use Rattle.am_group.specs.declared.mount_state.MountState.TheVariants.{Shared, Slave, SharedSlave, Private, Unbindable}
 use Rattle.am_group.specs.declared.mount_state.Change.{Change}
 use Rattle.am_group.specs.declared.mount_state.Change.TheVariants.{MakeShared, MakeSlave, MakePrivate, MakeUnbindable}
+use Rattle.am_group.specs.Propagation.{master_of_group}
 use Rattle.am_group.specs.Scan.{is_one_of}
+use Rattle.am_group.specs.Indexed.{is_in, has_master, is_below_it, mounts_where, groups_where}
 use Rattle.am_group.specs.Changes.{is_just, has_members, shared_row, slave_row, private_row, unbindable_row}
 
 -- the rows, seen as peer groups
 abbrev pub state_of : Tables → PeerGroups
-state_of t = record { members = t.members.items; groups = t.groups.items; last_group = t.last_group }
+state_of t = record {
+  members = t.members.items;
+  groups = t.groups.items;
+  last_group = t.last_group;
+}
 
 -- these are the peer groups that have members
 abbrev pub AreLive : List MemberRow → List ℕ → Type 0
 AreLive members live = (g : ℕ) → is_among live g ≡ has_members members g
-
--- these are those of some peer groups that have members
-abbrev pub AreLiveAmong : List ℕ → List MemberRow → List ℕ → Type 0
-AreLiveAmong groups members live =
-    (g : ℕ) → is_among live g ≡ (is_among groups g && has_members members g)
-
--- these are some peer groups without others
-abbrev pub AreOthers : List ℕ → List ℕ → List ℕ → Type 0
-AreOthers groups these others =
-    (g : ℕ) → is_among others g ≡ (is_among groups g && not (is_among these g))
 
 -- these are the peer groups that had members, and have none among the new rows
 abbrev pub AreLost : List MemberRow → List MemberRow → List ℕ → Type 0
@@ -42,6 +38,16 @@ is_free_group lost row = is_among lost row.group || not (is_one_of lost row.mast
 -- the mount goes, or its master isn't lost
 abbrev pub is_free_member : List ℕ → List ℕ → MemberRow → Bool
 is_free_member gone lost row = not (is_one_of lost row.master) || is_among gone row.mount
+
+-- each member of the peer group is one of these mounts
+abbrev pub goes_whole : List MemberRow → List ℕ → ℕ → Bool
+goes_whole members gone g = list_all (is_among gone) (mounts_where (is_in g) members)
+
+-- each slave of the peer group goes, and each group below it is lost
+abbrev pub has_none_left : List ℕ → List ℕ → PeerGroups → ℕ → Bool
+has_none_left gone lost s g =
+    list_all (is_among gone) (mounts_where (has_master g) s.members) &&
+    list_all (is_among lost) (groups_where (is_below_it g) s.groups)
 
 -- no mount's master is lost, and none of a peer group that stays
 abbrev pub is_free_of : List ℕ → PeerGroups → Bool
@@ -70,6 +76,14 @@ not_alone_in s m (Some g) = list_any (is_other_in m g) s.members
 -- the mount of the row is in no peer group, or in one with others
 abbrev pub is_not_alone : PeerGroups → MemberRow → Bool
 is_not_alone s row = not_alone_in s row.mount row.group
+
+-- a mount or a peer group has this one as its master
+abbrev pub has_followers : PeerGroups → ℕ → Bool
+has_followers s g = list_any (has_master g) s.members || list_any (is_below_it g) s.groups
+
+-- in place of this peer group as a master its own
+abbrev pub past : PeerGroups → ℕ → Option ℕ → Option ℕ
+past s g master = if is_just g master then master_of_group s g else master
 
 -- what a change makes of a row
 abbrev pub row_of : Change → ℕ → MemberRow → MemberRow

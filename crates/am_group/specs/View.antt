@@ -6,7 +6,7 @@ use Rattle.am_group.specs.Indexed.{AreIndexed}
 
 -- the mounts, their peer groups, and the greatest number that one had
 abbrev pub view_of : Inside → PeerGroups
-view_of g = record { members = g.members.items; groups = g.groups.items; last_group = g.last_group }
+view_of g = record { members = g.members.rows; groups = g.groups.rows; last_group = g.last_group }
 
 -- the peer groups are orderly, and are indexed
 pub record IsKept (g : Inside) : Type 0 where

@@ -14,17 +14,19 @@ use crate::membership::Membership;
 use crate::mount_state::MountState;
 use crate::tables::{group_row, member_row};
 use am_names::{Errno, GroupId, GroupRow, MemberRow, MountId};
+use am_ordered::Rows;
 use std::alloc::{AllocError, Global};
 use std::marker::Model;
 
 mod changes;
+mod leaving;
 mod receivers;
 
 /// Mounts in rising order of number, and peer groups with their masters (sharedsubtree.rst, 5a).
 /// A master has a lower number than the groups under it.
 pub struct Groups {
-    members: Vec<MemberRow>,
-    groups: Vec<GroupRow>,
+    members: Rows<MemberRow>,
+    groups: Rows<GroupRow>,
     last_group: u64,
     indexes: Indexes,
 }
@@ -63,8 +65,8 @@ impl Groups {
         ensures { result ≡ no_mounts }
     {
         Groups {
-            members: Vec::new(alloc),
-            groups: Vec::new(alloc),
+            members: Rows::new(alloc),
+            groups: Rows::new(alloc),
             last_group: 0,
             indexes: Indexes::new(alloc),
         }
@@ -195,7 +197,8 @@ impl Groups {
         let group = GroupId(self.last_group + 1);
         let row = GroupRow { group, master };
         self.indexes.make_group_room(&row)?;
-        self.groups.push(row)?;
+        self.groups.reserve(1)?;
+        self.groups.push_reserved(row);
         self.indexes.add_group(&row);
         self.last_group = group.0;
         Ok(group)
@@ -220,7 +223,8 @@ impl Groups {
         let _group: Option<GroupId> = row.group;
         let index = self.rank(mount);
         self.indexes.make_room(&row)?;
-        self.members.insert(index, row)?;
+        self.members.reserve(1)?;
+        self.members.insert_reserved(index, row);
         // Before it came it was in no list, as a private mount is.
         self.indexes.replace(&Membership::Private.row(mount), &row);
         Ok(())
@@ -232,8 +236,8 @@ impl Groups {
     /// named is there, a master with a lower number and with members.
     pub fn add_all(
         &mut self,
-        mut members: Vec<MemberRow>,
-        mut groups: Vec<GroupRow>,
+        members: Vec<MemberRow>,
+        groups: Vec<GroupRow>,
     ) -> Result<(), AllocError>
         requires numbers { self.old.last_group + length groups.items < 2 ^ 64 }
         requires sound { IsSound (all_added members.items groups.items self.old) }
@@ -246,17 +250,19 @@ impl Groups {
         self.members.reserve(members.len())?;
         self.groups.reserve(count)?;
         self.indexes.add_all(members.as_slice(), groups.as_slice())?;
-        self.groups.append(&mut groups)?;
-        self.members.append(&mut members)?;
+        self.groups.append_reserved(groups);
+        self.members.append_reserved(members);
         self.last_group += count as u64;
         Ok(())
     }
 
-    /// How many mounts have lower numbers.
+    /// How many mounts have lower numbers, by halves.
     fn rank(&self, mount: MountId) -> usize
         ensures rank { result ≡ length (below mount self.now.members) }
         ensures within { result ≤ length self.now.members }
     {
-        self.members.iter().filter(|row| row.mount < mount).count()
+        self.members
+            .as_slice()
+            .partition_point(|row| row.mount < mount)
     }
 }

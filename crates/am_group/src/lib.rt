@@ -4,6 +4,7 @@
 
 pub mod groups;
 mod indexes;
+mod left_out;
 pub mod membership;
 pub mod mount_state;
 mod tables;

@@ -42,12 +42,17 @@ macro_rules! table {
             Unbindable  Shared       Unbindable  Private       Unbindable,
         )
     };
-    ($change:ident, $kind:ident; $($from:ident $shared:ident $slave:ident $private:ident $unbindable:ident,)*) => {
+    (
+        $change:ident, $kind:ident;
+        $($from:ident $shared:ident $slave:ident $private:ident $unbindable:ident,)*
+    ) => {
         match $change {
             Change::MakeShared => match $kind { $(MountState::$from => MountState::$shared,)* },
             Change::MakeSlave => match $kind { $(MountState::$from => MountState::$slave,)* },
             Change::MakePrivate => match $kind { $(MountState::$from => MountState::$private,)* },
-            Change::MakeUnbindable => match $kind { $(MountState::$from => MountState::$unbindable,)* },
+            Change::MakeUnbindable => match $kind {
+                $(MountState::$from => MountState::$unbindable,)*
+            },
         }
     };
 }

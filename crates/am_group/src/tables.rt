@@ -1,15 +1,13 @@
 //! The rows of a change before masters are lifted.
 
-ghost use Rattle.std.specs.List.{list_all};
 ghost use Rattle.std.specs.List.Sorted.{IsNonDecreasing};
 ghost use Rattle.std.specs.Bool.{OnTrue};
-ghost use Rattle.std.specs.Prelude.{◌≡◌, false, not, map, filter, IfOk};
+ghost use Rattle.std.specs.Prelude.{◌≡◌, Some, false, map, filter, IfOk, IfSome};
 ghost use Rattle.am_group.specs.Propagation.{member_row, group_row, master_of_group};
 ghost use Rattle.am_names.specs.{is_among};
 ghost use Rattle.am_group.specs.Changes.{lifted, lifted_member, lifted_group};
 ghost use Rattle.am_group.specs.Invariant.{RiseFrom, GroupsRise, IsOrderly};
-ghost use Rattle.am_group.specs.Scan.{is_one_of};
-ghost use Rattle.am_group.specs.Tables.{state_of, AreLive, AreOthers, is_left, is_free_group};
+ghost use Rattle.am_group.specs.Tables.{state_of, AreLive, is_left};
 
 use am_names::{GroupId, GroupRow, MemberRow, MountId};
 use std::alloc::{AllocError, Global};
@@ -22,8 +20,33 @@ pub struct Tables {
     pub last_group: u64,
 }
 
+/// The mount's row, where it stands at the place of its number. Mounts are numbered from 1 on, so
+/// that those below which none was removed do.
+fn row_in_place(members: &[MemberRow], mount: MountId) -> Option<MemberRow>
+    requires { RiseFrom 0 members.now }
+    ensures { IfSome result (λ row. member_row members.now mount ≡ Some row) }
+{
+    let place = (mount.0 as usize).saturating_sub(1);
+    match members.get(place) {
+        Some(row) if row.mount == mount => Some(*row),
+        Some(_) | None => None,
+    }
+}
+
+/// The mount's row, where none went of the mounts from it to the newest.
+fn row_from_end(members: &[MemberRow], mount: MountId) -> Option<MemberRow>
+    requires { RiseFrom 0 members.now }
+    ensures { IfSome result (λ row. member_row members.now mount ≡ Some row) }
+{
+    let newest = members.last()?;
+    let newer = newest.mount.0.saturating_sub(mount.0) as usize;
+    let place = (members.len() - 1).saturating_sub(newer);
+    let row = members.get(place)?;
+    if row.mount == mount { Some(*row) } else { None }
+}
+
 /// The mount's row. The rows rise by number, so that halves of them are left out at a time.
-pub fn member_row(members: &[MemberRow], mount: MountId) -> Option<MemberRow>
+fn row_by_halves(members: &[MemberRow], mount: MountId) -> Option<MemberRow>
     requires { RiseFrom 0 members.now }
     ensures { result ≡ member_row members.now mount }
 {
@@ -32,6 +55,21 @@ pub fn member_row(members: &[MemberRow], mount: MountId) -> Option<MemberRow>
         Ok(at) => Some(members[at]),
         Err(_) => None,
     }
+}
+
+/// The mount's row, which is looked for at its place from the newest, and at that of its number,
+/// first.
+pub fn member_row(members: &[MemberRow], mount: MountId) -> Option<MemberRow>
+    requires { RiseFrom 0 members.now }
+    ensures { result ≡ member_row members.now mount }
+{
+    if let Some(row) = row_from_end(members, mount) {
+        return Some(row);
+    }
+    if let Some(row) = row_in_place(members, mount) {
+        return Some(row);
+    }
+    row_by_halves(members, mount)
 }
 
 /// The peer groups of these mounts.
@@ -89,53 +127,6 @@ pub fn is_among(groups: &[GroupId], group: GroupId) -> bool
         .is_ok()
 }
 
-/// Whether there is a peer group, and it is one of these, which stand in order of number.
-pub fn is_one_of(group: Option<GroupId>, groups: &[GroupId]) -> bool
-    requires { IsNonDecreasing groups.now }
-    ensures { result ≡ is_one_of groups.now group }
-{
-    match group {
-        Some(group) => is_among(groups, group),
-        None => false,
-    }
-}
-
-fn others(alloc: Global, groups: &[GroupId], these: &[GroupId]) -> Result<Vec<GroupId>, AllocError>
-    requires { IsNonDecreasing these.now }
-    ensures { IfOk result (λ v. AreOthers groups.now these.now v.items) }
-{
-    let mut others = Vec::new(alloc);
-    for group in groups {
-        if !is_among(these, *group) {
-            others.push(*group)?;
-        }
-    }
-    Ok(others)
-}
-
-/// The peer groups without these, in order of number.
-pub fn without_these(
-    alloc: Global,
-    groups: &[GroupId],
-    these: &[GroupId],
-) -> Result<Vec<GroupId>, AllocError>
-    requires { IsNonDecreasing these.now }
-    ensures ordered { IfOk result (λ v. IsNonDecreasing v.items) }
-    ensures exact { IfOk result (λ v. AreOthers groups.now these.now v.items) }
-{
-    let mut others = others(alloc, groups, these)?;
-    others.sort_unstable_by_key(|group| group.0);
-    Ok(others)
-}
-
-/// Whether the peer group goes, or its master isn't one of these.
-fn is_free_group(row: &GroupRow, lost: &[GroupId]) -> bool
-    requires { IsNonDecreasing lost.now }
-    ensures { result ≡ is_free_group lost.now row.now }
-{
-    is_among(lost, row.group) || !is_one_of(row.master, lost)
-}
-
 /// Whether the peer group stays: it has members, or it had none before.
 fn is_kept(old: &[GroupId], new: &[GroupId], group: GroupId) -> bool
     requires old { IsNonDecreasing old.now }
@@ -168,13 +159,6 @@ pub fn group_row(groups: &[GroupRow], group: GroupId) -> Option<GroupRow>
         Ok(at) => Some(groups[at]),
         Err(_) => None,
     }
-}
-
-pub fn are_groups_free(groups: &[GroupRow], lost: &[GroupId]) -> bool
-    requires { IsNonDecreasing lost.now }
-    ensures { result ≡ list_all (is_free_group lost.now) groups.now }
-{
-    groups.iter().all(|row| is_free_group(row, lost))
 }
 
 impl Tables {

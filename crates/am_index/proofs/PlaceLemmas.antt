@@ -1,5 +1,5 @@
 -- Where a number stands among numbers that rise.
-use Rattle.std.proofs.Common.{◌≡◌, ◌≢◌, ◌≤◌, ◌<◌, ℕ, zero, suc, Bool, true, false, List, [], ◌∷◌, ◌++◌, length, take, drop, get_or, Ok, Err, refl, sym, ap, ◌∙◌, arith}
+use Rattle.std.proofs.Common.{◌≡◌, ◌≢◌, ◌≤◌, ◌<◌, ◌+◌, ◌-◌, ℕ, zero, suc, true, false, List, [], ◌∷◌, ◌++◌, length, take, drop, get_or, slice_get, Some, Ok, Err, refl, sym, ap, ◌∙◌, arith}
 use Rattle.std.specs.Prelude.{filter, nat_lt}
 use Rattle.std.specs.Ordering.{nat_cmp}
 use Rattle.std.specs.List.{AllPairs}
@@ -7,6 +7,9 @@ use Rattle.std.specs.List.Sorted.{IsBinarySearchResult, IsStrictlyIncreasing}
 use Rattle.std.proofs.lemmas.List.Kept.{AllPairs-from_increasing}
 use Rattle.std.proofs.lemmas.List.Sorted.{searched}
 use Rattle.std.proofs.lemmas.Bool.{eq-eqb, ne_eqb}
+use Rattle.std.proofs.lemmas.Option.{get_or_from_slice_get, none-some}
+use Rattle.std.proofs.lemmas.List.{append-nil}
+use Rattle.std.proofs.Math.ListN.{drop_of_length-le}
 use Rattle.std.proofs.lemmas.Bool.Decides.{nat_tests}
 use Rattle.am_index.specs.{but, with}
 
@@ -130,3 +133,20 @@ module _ (m : ℕ) (xs : List ℕ) (up : IsStrictlyIncreasing xs) where
       (λ k lt. let less : get_or xs k 0 ≤ get_or xs i 0 = rises k i (omega arith) within in omega arith)
       (λ k le lt. let more : get_or xs i 0 < get_or xs k 0 = climbs i k (omega arith) lt in omega arith) in
       rw (front, behind) (ap (λ (x : ℕ). take i xs ++ x ∷ drop (suc i) xs) (sym here) ∙ sym (split_at xs i within))
+
+greatest_at :
+    (m : ℕ) (xs : List ℕ) → IsStrictlyIncreasing xs → (i : ℕ) → i + 1 ≡ length xs → get_or xs i 0 ≡ m →
+    but m xs ≡ take i xs
+greatest_at m xs up i end found =
+    but_at m xs (AllPairs-from_increasing xs up) i (omega arith) found ∙
+    ap (λ (ys : List ℕ). take i xs ++ ys) (drop_of_length-le xs {i = suc i} (omega arith)) ∙
+    append-nil (take i xs)
+
+-- the greatest stands at the end
+pub but_greatest :
+    (m : ℕ) (xs : List ℕ) → IsStrictlyIncreasing xs → slice_get xs (length xs - 1) ≡ Some m →
+    but m xs ≡ take (length xs - 1) xs
+but_greatest m [] up e = absurd (none-some m e)
+but_greatest m (x ∷ xs) up e =
+    let at = length (x ∷ xs) - 1 in
+    greatest_at m (x ∷ xs) up at (omega arith) (get_or_from_slice_get (x ∷ xs) at m 0 e)

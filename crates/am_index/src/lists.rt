@@ -16,13 +16,25 @@ pub struct Index {
 }
 
 /// Takes it out of a list that rises, in which it is found by halves.
-fn take_out(list: &mut Vec<u64>, item: u64)
+fn take_out_by_halves(list: &mut Vec<u64>, item: u64)
     requires { IsStrictlyIncreasing list.old.items }
     ensures { list.new.items ≡ but item list.old.items }
 {
     if let Ok(at) = list.binary_search(&item) {
         let _item = list.remove(at);
     }
+}
+
+/// Takes it out of a list that rises, at whose end the greatest stands.
+fn take_out(list: &mut Vec<u64>, item: u64)
+    requires { IsStrictlyIncreasing list.old.items }
+    ensures { list.new.items ≡ but item list.old.items }
+{
+    if list.last().copied() == Some(item) {
+        let _greatest = list.pop();
+        return;
+    }
+    take_out_by_halves(list, item);
 }
 
 /// Puts it at its place of a list that rises, which is found by halves.

@@ -1,209 +1,43 @@
-//! The changes of a mount's state, and mounts that leave.
+//! The changes of a mount's state.
 
-ghost use Rattle.std.specs.Prelude.{◌≡◌, ◌==◌, true, false, not, map, filter, None, IfOk, OnOk, OnErr};
-ghost use Rattle.std.specs.Bool.{OnTrue};
-ghost use Rattle.std.specs.List.{list_all, list_any};
-ghost use Rattle.std.specs.List.Sorted.{IsNonDecreasing};
-ghost use Rattle.am_names.specs.{RefusedAs, is_among};
-ghost use Rattle.am_group.specs.Changes.{left, at_row, with_row, made_shared, made_slave, made_private, made_unbindable, changed, with_only, without};
-ghost use Rattle.am_group.specs.Indexed.{ListMembers, ListGroups};
-ghost use Rattle.am_index.specs.{SameLists};
-ghost use Rattle.am_group.specs.Invariant.{RiseFrom, GroupsRise, IsOrderly, IsPeopled, AddsNoReceivers};
+ghost use Rattle.std.specs.Prelude.{◌≡◌, ◌==◌, true, false, not, map, Some, IfOk, OnOk, OnErr};
+ghost use Rattle.std.specs.List.{list_any};
+ghost use Rattle.am_names.specs.{RefusedAs};
+ghost use Rattle.am_group.specs.Changes.{left, at_row, with_row, made_shared, made_slave, made_private, made_unbindable, changed};
+ghost use Rattle.am_group.specs.Invariant.{RiseFrom, IsOrderly, IsPeopled, AddsNoReceivers};
+ghost use Rattle.am_group.specs.Propagation.{member_row};
 ghost use Rattle.am_group.specs.MountStates.{FollowsTable};
 ghost use Rattle.am_group.specs.Members.{change_refusal};
-ghost use Rattle.am_group.specs.Tables.{state_of, AreLiveAmong, AreLost, is_free_member, is_free_of, is_other_in, is_not_alone, row_of, gives_up};
+ghost use Rattle.am_group.specs.Tables.{state_of, has_followers, is_not_alone, past, row_of, gives_up};
 
 use crate::groups::Groups;
+use crate::groups::leaving::drop_group;
 use crate::indexes::Indexes;
 use crate::mount_state::{Change, asked, row_as};
-use crate::tables::{
-    Tables, are_groups_free, clear, group_row, is_among as is_live, is_one_of, live_groups,
-    member_row, without_these,
-};
-use am_names::{Errno, GroupId, GroupRow, MemberRow, MountId, are_ordered, is_among, is_found};
+use crate::tables::{Tables, clear, live_groups};
+use am_names::{Errno, GroupId, GroupRow, MemberRow, MountId};
+use am_ordered::Rows;
 use std::alloc::{AllocError, Global};
 
-/// Leaves out the mount's row, which is found by halves.
-fn leave_one_out(members: &mut Vec<MemberRow>, mount: MountId)
-    requires { RiseFrom 0 members.old.items }
-    ensures { members.new.items ≡ filter (λ row. not (row.mount == mount)) members.old.items }
-{
-    let number = mount.0;
-    if let Ok(at) = members.binary_search_by_key(&number, |row| row.mount.0) {
-        let _row = members.remove(at);
-    }
-}
-
-/// Leaves out the rows of these mounts, one after another.
-fn leave_each_out(members: &mut Vec<MemberRow>, gone: &[MountId])
-    requires { RiseFrom 0 members.old.items }
-    ensures { members.new.items ≡
-        filter (λ row. not (is_among gone.now row.mount)) members.old.items }
-{
-    for mount in gone {
-        leave_one_out(members, *mount);
-    }
-}
-
 /// Writes the row in place of that of the mount, which is found by halves.
-fn write_row(members: &mut Vec<MemberRow>, mount: MountId, row: MemberRow)
-    requires { RiseFrom 0 members.old.items }
-    ensures { members.new.items ≡ map (at_row (λ _. row) mount) members.old.items }
+fn write_row(members: &mut Rows<MemberRow>, mount: MountId, row: MemberRow)
+    requires { RiseFrom 0 members.old.rows }
+    ensures { members.new.rows ≡ map (at_row (λ _. row) mount) members.old.rows }
 {
     let number = mount.0;
-    if let Ok(at) = members.binary_search_by_key(&number, |other| other.mount.0) {
-        members[at] = row;
+    if let Ok(at) = members
+        .as_slice()
+        .binary_search_by_key(&number, |other| other.mount.0)
+    {
+        members.set(at, row);
     }
 }
 
-/// Whether another mount than this one is in the peer group.
-fn is_other_in(row: &MemberRow, mount: MountId, group: GroupId) -> bool
-    ensures { result ≡ is_other_in mount group row.now }
+/// Whether one of these mounts is another than this one.
+fn has_other(mounts: &[u64], mount: MountId) -> bool
+    ensures { result ≡ list_any (λ m. not (m == mount)) mounts.now }
 {
-    row.group == Some(group) && row.mount != mount
-}
-
-/// Whether one of the rows is of another mount in the peer group.
-fn has_other_in(members: &[MemberRow], mount: MountId, group: GroupId) -> bool
-    ensures { result ≡ list_any (is_other_in mount group) members.now }
-{
-    members.iter().any(|row| is_other_in(row, mount, group))
-}
-
-/// So few mounts are looked for one by one, and of more all rows are gone through.
-const FEW: usize = 4;
-
-/// Leaves out the rows of these mounts. In mounts that stand in order it looks by halves.
-fn leave_out(members: &mut Vec<MemberRow>, gone: &[MountId])
-    requires { RiseFrom 0 members.old.items }
-    ensures { members.new.items ≡
-        filter (λ row. not (is_among gone.now row.mount)) members.old.items }
-{
-    if gone.len() <= FEW {
-        leave_each_out(members, gone);
-    } else if are_ordered(gone) {
-        members.retain(|row| !is_found(row.mount, gone));
-    } else {
-        members.retain(|row| !is_among(row.mount, gone));
-    }
-}
-
-/// Whether the mount is one of these, by halves where they stand in order.
-fn is_one(mount: MountId, mounts: &[MountId], ordered: bool) -> bool
-    requires { OnTrue ordered (IsNonDecreasing mounts.now) }
-    ensures { result ≡ is_among mounts.now mount }
-{
-    if ordered {
-        is_found(mount, mounts)
-    } else {
-        is_among(mount, mounts)
-    }
-}
-
-/// Whether the mount goes, or its master isn't one of these.
-fn is_free_member(row: &MemberRow, gone: &[MountId], ordered: bool, lost: &[GroupId]) -> bool
-    requires ordered { OnTrue ordered (IsNonDecreasing gone.now) }
-    requires lost { IsNonDecreasing lost.now }
-    ensures { result ≡ is_free_member gone.now lost.now row.now }
-{
-    !is_one_of(row.master, lost) || is_one(row.mount, gone, ordered)
-}
-
-fn are_members_free(members: &[MemberRow], gone: &[MountId], lost: &[GroupId]) -> bool
-    requires { IsNonDecreasing lost.now }
-    ensures { result ≡ list_all (is_free_member gone.now lost.now) members.now }
-{
-    let ordered = are_ordered(gone);
-    members
-        .iter()
-        .all(|row| is_free_member(row, gone, ordered, lost))
-}
-
-/// Those of these peer groups that have other members than the mounts that go, in no order.
-fn groups_beside(
-    alloc: Global,
-    groups: &[GroupId],
-    members: &[MemberRow],
-    gone: &[MountId],
-) -> Result<Vec<GroupId>, AllocError>
-    requires { IsNonDecreasing groups.now }
-    ensures { IfOk result (λ v. AreLiveAmong groups.now
-        (filter (λ row. not (is_among gone.now row.mount)) members.now) v.items) }
-{
-    let ordered = are_ordered(gone);
-    let mut beside = Vec::new(alloc);
-    for row in members {
-        if let Some(group) = row.group {
-            if is_live(groups, group) && !is_one(row.mount, gone, ordered) {
-                beside.push(group)?;
-            }
-        }
-    }
-    Ok(beside)
-}
-
-/// The same, in order of number.
-pub fn still_live(
-    alloc: Global,
-    groups: &[GroupId],
-    members: &[MemberRow],
-    gone: &[MountId],
-) -> Result<Vec<GroupId>, AllocError>
-    requires { IsNonDecreasing groups.now }
-    ensures ordered { IfOk result (λ v. IsNonDecreasing v.items) }
-    ensures exact { IfOk result (λ v. AreLiveAmong groups.now
-        (filter (λ row. not (is_among gone.now row.mount)) members.now) v.items) }
-{
-    let mut live = groups_beside(alloc, groups, members, gone)?;
-    live.sort_unstable_by_key(|group| group.0);
-    Ok(live)
-}
-
-/// These peer groups go.
-fn drop_groups(groups: &mut Vec<GroupRow>, lost: &[GroupId])
-    requires { IsNonDecreasing lost.now }
-    ensures { groups.new.items ≡
-        filter (λ row. not (is_among lost.now row.group)) groups.old.items }
-{
-    if !lost.is_empty() {
-        groups.retain(|row| !is_live(lost, row.group));
-    }
-}
-
-/// Takes the rows of these mounts out of the indexes, the last first: the newest mounts stand at
-/// the ends of their lists.
-fn unlist(members: &[MemberRow], indexes: &mut Indexes, gone: &[MountId])
-    requires rising { RiseFrom 0 members.now }
-    requires indexed { ListMembers members.now indexes.old }
-    ensures members { ListMembers
-        (filter (λ row. not (is_among gone.now row.mount)) members.now) indexes.new }
-    ensures below { SameLists indexes.old.below indexes.new.below }
-{
-    let mut left = gone.len();
-    while left > 0 {
-        left -= 1;
-        if let Some(row) = member_row(members, gone[left]) {
-            indexes.remove(&row);
-        }
-    }
-}
-
-/// Takes the rows of these peer groups out of the indexes.
-fn unlist_groups(groups: &[GroupRow], indexes: &mut Indexes, lost: &[GroupId])
-    requires rising { GroupsRise groups.now }
-    requires indexed { ListGroups groups.now indexes.old }
-    ensures members { SameLists indexes.old.members indexes.new.members }
-    ensures slaves { SameLists indexes.old.slaves indexes.new.slaves }
-    ensures below { ListGroups
-        (filter (λ row. not (is_among lost.now row.group)) groups.now) indexes.new }
-{
-    let mut left = lost.len();
-    while left > 0 {
-        left -= 1;
-        if let Some(row) = group_row(groups, lost[left]) {
-            indexes.remove_group(&row);
-        }
-    }
+    mounts.iter().any(|other| *other != mount.0)
 }
 
 impl Groups {
@@ -219,7 +53,7 @@ impl Groups {
         ensures { result ≡ is_not_alone self.now row.now }
     {
         match row.group {
-            Some(group) => has_other_in(self.members.as_slice(), row.mount, group),
+            Some(group) => has_other(self.indexes.members.list(group.0), row.mount),
             None => true,
         }
     }
@@ -234,7 +68,7 @@ impl Groups {
         ensures { IfOk result (λ t. state_of t ≡ with_row (row_of change fresh) mount self.now) }
     {
         let mut members = Vec::new(alloc);
-        for row in self.members.iter() {
+        for row in self.members.as_slice() {
             let row = if row.mount == mount {
                 self.changed_row(change, fresh, *row)
             } else {
@@ -252,7 +86,7 @@ impl Groups {
 
     /// Takes these rows. The peer groups that lose their last member go, and their slaves get the
     /// first master up the chain that stays.
-    fn settle_left(&mut self, alloc: Global, raw: Tables) -> Result<(), AllocError>
+    pub(crate) fn settle_left(&mut self, alloc: Global, raw: Tables) -> Result<(), AllocError>
         requires { IsOrderly (state_of raw) }
         ensures ok { OnOk result (self.new ≡ left self.old (state_of raw)) }
         ensures err { OnErr result (self.new ≡ self.old) }
@@ -263,10 +97,56 @@ impl Groups {
         let mut groups = raw.settled_groups(alloc, old.as_slice(), live.as_slice())?;
         clear(&mut groups, old.as_slice(), live.as_slice());
         let indexes = Indexes::of(alloc, members.as_slice(), groups.as_slice())?;
-        self.members = members;
-        self.groups = groups;
+        self.members = Rows::of(members);
+        self.groups = Rows::of(groups);
         self.last_group = raw.last_group;
         self.indexes = indexes;
+        Ok(())
+    }
+
+    /// Whether a mount or a peer group has this one as its master.
+    fn has_followers(&self, group: GroupId) -> bool
+        ensures { result ≡ has_followers self.now group }
+    {
+        !self.indexes.slaves.list(group.0).is_empty()
+            || !self.indexes.below.list(group.0).is_empty()
+    }
+
+    /// In place of the peer group as a master its own.
+    fn past(&self, group: GroupId, master: Option<GroupId>) -> Option<GroupId>
+        ensures { result ≡ past self.now group master }
+    {
+        if master == Some(group) {
+            self.master_of_group(group)
+        } else {
+            master
+        }
+    }
+
+    /// The mount gives up the peer group in which it is alone, and which has no followers.
+    fn give_up_lone(
+        &mut self,
+        change: Change,
+        mount: MountId,
+        row: MemberRow,
+        group: GroupId,
+    ) -> Result<(), AllocError>
+        requires gives_up { gives_up change ≡ true }
+        requires found { member_row self.old.members mount ≡ Some row }
+        requires own { row.group ≡ Some group }
+        requires alone { is_not_alone self.old row ≡ false }
+        requires free { has_followers self.old group ≡ false }
+        ensures ok { OnOk result (self.new ≡
+            left self.old (with_row (row_of change 0) mount self.old)) }
+        ensures err { OnErr result (self.new ≡ self.old) }
+    {
+        let changed = self.changed_row(change, GroupId(0), row);
+        let master = self.past(group, changed.master);
+        let after = MemberRow { master, ..changed };
+        self.indexes.make_room(&after)?;
+        self.indexes.replace(&row, &after);
+        drop_group(&mut self.groups, &mut self.indexes, group);
+        write_row(&mut self.members, mount, after);
         Ok(())
     }
 
@@ -288,6 +168,12 @@ impl Groups {
             self.indexes.replace(&row, &changed);
             write_row(&mut self.members, mount, changed);
             return Ok(());
+        }
+        if let Some(group) = row.group {
+            if !self.has_followers(group) {
+                self.give_up_lone(change, mount, row, group)?;
+                return Ok(());
+            }
         }
         let raw = self.with_row(alloc, change, GroupId(0), mount)?;
         self.settle_left(alloc, raw)?;
@@ -319,7 +205,8 @@ impl Groups {
             master: row.master,
         };
         self.indexes.make_all_room(&changed, &fresh)?;
-        self.groups.push(fresh)?;
+        self.groups.reserve(1)?;
+        self.groups.push_reserved(fresh);
         self.indexes.replace(&row, &changed);
         self.indexes.add_group(&fresh);
         write_row(&mut self.members, mount, changed);
@@ -379,75 +266,5 @@ impl Groups {
             Change::MakePrivate => self.make_private(alloc, mount),
             Change::MakeUnbindable => self.make_unbindable(alloc, mount),
         }
-    }
-
-    /// The peer groups that lose their last member where these mounts go.
-    fn lost(&self, alloc: Global, gone: &[MountId]) -> Result<Vec<GroupId>, AllocError>
-        ensures ordered { IfOk result (λ v. IsNonDecreasing v.items) }
-        ensures exact { IfOk result (λ v. AreLost self.now.members
-            (filter (λ row. not (is_among gone.now row.mount)) self.now.members) v.items) }
-    {
-        // For the checker: what the groups keep is known where a field is named.
-        let _members = &self.members;
-        let left = self.groups_in_order(alloc, gone)?;
-        if left.as_slice().is_empty() {
-            return Ok(left);
-        }
-        let still = still_live(alloc, left.as_slice(), self.members.as_slice(), gone)?;
-        let lost = without_these(alloc, left.as_slice(), still.as_slice())?;
-        Ok(lost)
-    }
-
-    /// Whether none of the other mounts, and no peer group but one of these, has one of these as
-    /// its master.
-    fn is_free_of(&self, gone: &[MountId], lost: &[GroupId]) -> bool
-        requires { IsNonDecreasing lost.now }
-        ensures { OnTrue result
-            (is_free_of lost.now (with_only (λ m. not (is_among gone.now m)) self.now) ≡ true) }
-    {
-        // For the checker: what the groups keep is known where a field is named.
-        let _members = &self.members;
-        lost.is_empty()
-            || (are_members_free(self.members.as_slice(), gone, lost)
-                && are_groups_free(self.groups.as_slice(), lost))
-    }
-
-    /// Takes these mounts away, as an unmount does. Of the numbers that are no mount's, nothing
-    /// comes. The peer groups that lose their last member go once, at the end.
-    pub fn leave(&mut self, alloc: Global, gone: &[MountId]) -> Result<(), Errno>
-        ensures refusal { RefusedAs None result }
-        ensures ok { OnOk result (self.new ≡ without (is_among gone.now) self.old) }
-        ensures err { OnErr result (self.new ≡ self.old) }
-        ensures law { IsPeopled self.old → AddsNoReceivers self.old self.new }
-        ensures peopled { IsPeopled self.old → IsPeopled self.new }
-    {
-        // For the checker: what the groups keep is known where a field is named.
-        let _members = &self.members;
-        let lost = self.lost(alloc, gone)?;
-        let lost = lost.as_slice();
-        if self.is_free_of(gone, lost) {
-            unlist(self.members.as_slice(), &mut self.indexes, gone);
-            unlist_groups(self.groups.as_slice(), &mut self.indexes, lost);
-            leave_out(&mut self.members, gone);
-            drop_groups(&mut self.groups, lost);
-            return Ok(());
-        }
-        let raw = self.with_only(alloc, gone)?;
-        self.settle_left(alloc, raw)?;
-        Ok(())
-    }
-
-    fn with_only(&self, alloc: Global, gone: &[MountId]) -> Result<Tables, AllocError>
-        ensures { IfOk result (λ t. state_of t ≡
-            with_only (λ m. not (is_among gone.now m)) self.now) }
-    {
-        let mut members = Vec::from_slice(alloc, self.members.as_slice())?;
-        leave_out(&mut members, gone);
-        let groups = Vec::from_slice(alloc, self.groups.as_slice())?;
-        Ok(Tables {
-            members,
-            groups,
-            last_group: self.last_group,
-        })
     }
 }

@@ -1,9 +1,9 @@
 //! Which mounts receive propagation from another: the members and slaves of its peer group and of
 //! the groups under that one.
 
-ghost use Rattle.std.specs.Prelude.{◌≡◌, ◌↔◌, ◌==◌, ◌&&◌, ◌++◌, ℕ, true, not, map, filter, flat_map, None, IfOk, OnOk};
+ghost use Rattle.std.specs.Prelude.{◌≡◌, ◌↔◌, ◌==◌, ◌++◌, ℕ, true, not, filter, flat_map, None, IfOk, OnOk};
 ghost use Rattle.std.specs.List.{Contains};
-ghost use Rattle.std.specs.List.Sorted.{IsStrictlyIncreasing, IsNonDecreasing};
+ghost use Rattle.std.specs.List.Sorted.{IsStrictlyIncreasing};
 ghost use Rattle.am_names.specs.{RefusedAs, is_among};
 ghost use Rattle.am_group.specs.Changes.{has_members};
 ghost use Rattle.am_group.specs.Copies.{AreOfReceivers, receiving_groups};
@@ -12,29 +12,30 @@ ghost use Rattle.am_group.specs.Receivers.{groups_under, under_these, receivers_
 ghost use Rattle.am_group.specs.Walk.{AreMet, homed_at, live_below, turns_of};
 
 use crate::groups::Groups;
-use crate::tables::is_among;
-use am_names::{Errno, GroupId, GroupRow, MountId};
+use am_names::{Errno, GroupId, MountId};
 use std::alloc::{AllocError, Global};
 
-/// Those of the peer groups, without the mount's own, that are among these, which stand in order
-/// of number.
-fn others_among(
-    alloc: Global,
-    rows: &[GroupRow],
-    own: GroupId,
-    groups: &[GroupId],
-) -> Result<Vec<GroupId>, AllocError>
-    requires { IsNonDecreasing groups.now }
-    ensures { IfOk result (λ v. v.items ≡
-        filter (λ g. not (g == own) && is_among groups.now g) (map (λ row. row.group) rows.now)) }
+/// The peer groups without the mount's own.
+fn without_own(alloc: Global, groups: &[GroupId], own: GroupId) -> Result<Vec<GroupId>, AllocError>
+    ensures { IfOk result (λ v. v.items ≡ filter (λ g. not (g == own)) groups.now) }
 {
     let mut others = Vec::new(alloc);
-    for row in rows {
-        if row.group != own && is_among(groups, row.group) {
-            others.push(row.group)?;
+    for group in groups {
+        if *group != own {
+            others.push(*group)?;
         }
     }
     Ok(others)
+}
+
+/// The same peer groups in order of number, each once.
+fn in_order(mut groups: Vec<GroupId>) -> Vec<GroupId>
+    ensures rising { IsStrictlyIncreasing result.items }
+    ensures same { (g : ℕ) → is_among result.items g ≡ is_among groups.items g }
+{
+    groups.sort_unstable_by_key(|group| group.0);
+    groups.dedup();
+    groups
 }
 
 /// All of these but the mount itself.
@@ -194,20 +195,19 @@ impl Groups {
         Ok(groups)
     }
 
-    /// The peer groups that the receivers are in, in order of number, for `others_among`.
+    /// The peer groups that the receivers are in, in order of number, each once.
     pub(crate) fn groups_in_order(
         &self,
         alloc: Global,
         receivers: &[MountId],
     ) -> Result<Vec<GroupId>, AllocError>
-        ensures ordered { IfOk result (λ v. IsNonDecreasing v.items) }
+        ensures rising { IfOk result (λ v. IsStrictlyIncreasing v.items) }
         ensures exact { IfOk result (λ v. AreOfReceivers self.now receivers.now v.items) }
     {
         // For the checker: what the groups keep is known where a field is named.
         let _members = &self.members;
-        let mut groups = self.groups_of(alloc, receivers)?;
-        groups.sort_unstable_by_key(|group| group.0);
-        Ok(groups)
+        let groups = self.groups_of(alloc, receivers)?;
+        Ok(in_order(groups))
     }
 
     /// The peer groups that these mounts, receivers of one, are in, without that one's own, in
@@ -220,8 +220,10 @@ impl Groups {
     ) -> Result<Vec<GroupId>, AllocError>
         ensures { IfOk result (λ v. v.items ≡ receiving_groups self.now receivers.now own) }
     {
+        // For the checker: what the groups keep is known where a field is named.
+        let _members = &self.members;
         let receiving = self.groups_in_order(alloc, receivers)?;
-        let others = others_among(alloc, self.groups.as_slice(), own, receiving.as_slice())?;
+        let others = without_own(alloc, receiving.as_slice(), own)?;
         Ok(others)
     }
 }

@@ -37,12 +37,12 @@ invariant_of-self-then-is_not_alone c =
     let row = c.in-Some.row in
     let found : member_row s.members c.args.mount ≡ Some row = sym c.member.ensures ∙ c.in-Some.is in
     let spared : is_not_alone s row ≡ true = sym c.is_not_alone.ensures ∙ c.if-is_not_alone.true in
-    let rows : c.write_row.new.members.items ≡ map (at_row (λ r. change row) c.args.mount) s.members =
+    let rows : c.write_row.new.members.rows ≡ map (at_row (λ r. change row) c.args.mount) s.members =
     c.write_row.ensures ∙
-    ap (λ (x : MemberRow). map (at_row (λ r. x) c.args.mount) c.self.inside.members.items) c.changed_row-changed.ensures ∙
+    ap (λ (x : MemberRow). map (at_row (λ r. x) c.args.mount) c.self.inside.members.rows) c.changed_row-changed.ensures ∙
     ap (λ (x : PeerGroups). map (at_row (λ r. change row) c.args.mount) x.members) c.self.view_is in
-    let made = changed_alone change c.args.mount s orderly.rising row found spared c.write_row.new.members.items rows
-    c.self.inside.groups.items (ap (λ (x : PeerGroups). x.groups) c.self.view_is) c.self.inside.last_group (ap (λ (x : PeerGroups). x.last_group) c.self.view_is) in
+    let made = changed_alone change c.args.mount s orderly.rising row found spared c.write_row.new.members.rows rows
+    c.self.inside.groups.rows (ap (λ (x : PeerGroups). x.groups) c.self.view_is) c.self.inside.last_group (ap (λ (x : PeerGroups). x.last_group) c.self.view_is) in
     record {
       orderly = subst (λ (x : PeerGroups). IsOrderly x) (sym made) (left_orderly s (with_row change c.args.mount s) (change_orderly c.args.change 0 c.requires c.args.mount s orderly));
       indexed = turned_indexed (view_of c.self.inside) c.self.invariant.orderly c.args.mount row c.changed_row-changed.result
@@ -50,7 +50,7 @@ invariant_of-self-then-is_not_alone c =
           (ap (λ (r : MemberRow). r.mount) c.changed_row-changed.ensures ∙ turned_number c.args.change 0 row)
           c.self.inside.indexes c.make_room.new.self c.replace.new.self
           c.make_room.ensures.same c.replace.ensures c.self.invariant.indexed
-          c.write_row.new.members.items c.write_row.ensures;
+          c.write_row.new.members.rows c.write_row.ensures;
     }
 
 pub returns-in_err-make_room-clause-peopled : goal.returns-in_err-make_room-clause-peopled
@@ -75,12 +75,12 @@ returns-then-is_not_alone-clause-ok c =
     let row = c.in-Some.row in
     let found : member_row s.members c.args.mount ≡ Some row = sym c.member.ensures ∙ c.in-Some.is in
     let spared : is_not_alone s row ≡ true = sym c.is_not_alone.ensures ∙ c.if-is_not_alone.true in
-    let rows : c.write_row.new.members.items ≡ map (at_row (λ r. change row) c.args.mount) s.members =
+    let rows : c.write_row.new.members.rows ≡ map (at_row (λ r. change row) c.args.mount) s.members =
     c.write_row.ensures ∙
-    ap (λ (x : MemberRow). map (at_row (λ r. x) c.args.mount) c.self.inside.members.items) c.changed_row-changed.ensures ∙
+    ap (λ (x : MemberRow). map (at_row (λ r. x) c.args.mount) c.self.inside.members.rows) c.changed_row-changed.ensures ∙
     ap (λ (x : PeerGroups). map (at_row (λ r. change row) c.args.mount) x.members) c.self.view_is in
-    let made = changed_alone change c.args.mount s orderly.rising row found spared c.write_row.new.members.items rows
-    c.self.inside.groups.items (ap (λ (x : PeerGroups). x.groups) c.self.view_is) c.self.inside.last_group (ap (λ (x : PeerGroups). x.last_group) c.self.view_is) in
+    let made = changed_alone change c.args.mount s orderly.rising row found spared c.write_row.new.members.rows rows
+    c.self.inside.groups.rows (ap (λ (x : PeerGroups). x.groups) c.self.view_is) c.self.inside.last_group (ap (λ (x : PeerGroups). x.last_group) c.self.view_is) in
     made
 
 pub returns-then-is_not_alone-clause-law : goal.returns-then-is_not_alone-clause-law
@@ -91,12 +91,12 @@ returns-then-is_not_alone-clause-law c = λ peopled.
     let row = c.in-Some.row in
     let found : member_row s.members c.args.mount ≡ Some row = sym c.member.ensures ∙ c.in-Some.is in
     let spared : is_not_alone s row ≡ true = sym c.is_not_alone.ensures ∙ c.if-is_not_alone.true in
-    let rows : c.write_row.new.members.items ≡ map (at_row (λ r. change row) c.args.mount) s.members =
+    let rows : c.write_row.new.members.rows ≡ map (at_row (λ r. change row) c.args.mount) s.members =
     c.write_row.ensures ∙
-    ap (λ (x : MemberRow). map (at_row (λ r. x) c.args.mount) c.self.inside.members.items) c.changed_row-changed.ensures ∙
+    ap (λ (x : MemberRow). map (at_row (λ r. x) c.args.mount) c.self.inside.members.rows) c.changed_row-changed.ensures ∙
     ap (λ (x : PeerGroups). map (at_row (λ r. change row) c.args.mount) x.members) c.self.view_is in
-    let made = changed_alone change c.args.mount s orderly.rising row found spared c.write_row.new.members.items rows
-    c.self.inside.groups.items (ap (λ (x : PeerGroups). x.groups) c.self.view_is) c.self.inside.last_group (ap (λ (x : PeerGroups). x.last_group) c.self.view_is) in
+    let made = changed_alone change c.args.mount s orderly.rising row found spared c.write_row.new.members.rows rows
+    c.self.inside.groups.rows (ap (λ (x : PeerGroups). x.groups) c.self.view_is) c.self.inside.last_group (ap (λ (x : PeerGroups). x.last_group) c.self.view_is) in
     subst (λ (x : PeerGroups). AddsNoReceivers s x) (sym made) (change_law c.args.change 0 c.requires c.args.mount s orderly peopled)
 
 pub returns-then-is_not_alone-clause-peopled : goal.returns-then-is_not_alone-clause-peopled
@@ -107,10 +107,26 @@ returns-then-is_not_alone-clause-peopled c = λ peopled.
     let row = c.in-Some.row in
     let found : member_row s.members c.args.mount ≡ Some row = sym c.member.ensures ∙ c.in-Some.is in
     let spared : is_not_alone s row ≡ true = sym c.is_not_alone.ensures ∙ c.if-is_not_alone.true in
-    let rows : c.write_row.new.members.items ≡ map (at_row (λ r. change row) c.args.mount) s.members =
+    let rows : c.write_row.new.members.rows ≡ map (at_row (λ r. change row) c.args.mount) s.members =
     c.write_row.ensures ∙
-    ap (λ (x : MemberRow). map (at_row (λ r. x) c.args.mount) c.self.inside.members.items) c.changed_row-changed.ensures ∙
+    ap (λ (x : MemberRow). map (at_row (λ r. x) c.args.mount) c.self.inside.members.rows) c.changed_row-changed.ensures ∙
     ap (λ (x : PeerGroups). map (at_row (λ r. change row) c.args.mount) x.members) c.self.view_is in
-    let made = changed_alone change c.args.mount s orderly.rising row found spared c.write_row.new.members.items rows
-    c.self.inside.groups.items (ap (λ (x : PeerGroups). x.groups) c.self.view_is) c.self.inside.last_group (ap (λ (x : PeerGroups). x.last_group) c.self.view_is) in
+    let made = changed_alone change c.args.mount s orderly.rising row found spared c.write_row.new.members.rows rows
+    c.self.inside.groups.rows (ap (λ (x : PeerGroups). x.groups) c.self.view_is) c.self.inside.last_group (ap (λ (x : PeerGroups). x.last_group) c.self.view_is) in
     subst (λ (x : PeerGroups). IsPeopled x) (sym made) (change_peopled c.args.change 0 c.requires c.args.mount s orderly peopled)
+
+pub returns-in_err-give_up_lone-clause-peopled : goal.returns-in_err-give_up_lone-clause-peopled
+returns-in_err-give_up_lone-clause-peopled c = λ peopled.
+    subst (λ (x : PeerGroups). IsPeopled x) (sym c.in_err-give_up_lone.ensures.err) peopled
+
+pub returns-then-not-has_followers-clause-law : goal.returns-then-not-has_followers-clause-law
+returns-then-not-has_followers-clause-law c = λ peopled.
+    let orderly = subst (λ (x : PeerGroups). IsOrderly x) c.self.view_is c.self.invariant.orderly in
+    subst (λ (x : PeerGroups). AddsNoReceivers c.args.self.now x) (sym c.in_ok-give_up_lone.ensures.ok)
+    (change_law c.args.change 0 c.requires c.args.mount c.args.self.now orderly peopled)
+
+pub returns-then-not-has_followers-clause-peopled : goal.returns-then-not-has_followers-clause-peopled
+returns-then-not-has_followers-clause-peopled c = λ peopled.
+    let orderly = subst (λ (x : PeerGroups). IsOrderly x) c.self.view_is c.self.invariant.orderly in
+    subst (λ (x : PeerGroups). IsPeopled x) (sym c.in_ok-give_up_lone.ensures.ok)
+    (change_peopled c.args.change 0 c.requires c.args.mount c.args.self.now orderly peopled)

@@ -10,5 +10,5 @@ pub returns : goal.returns
 returns c =
     ap not c.is_empty.ensures ∙
     ap (λ (xs : List ℕ). not (length xs == 0)) (c.list.ensures ∙ c.self.invariant.indexed.0.members c.args.group) ∙
-    any_numbered (λ (row : MemberRow). row.mount) (is_in c.args.group) c.self.inside.members.items ∙
+    any_numbered (λ (row : MemberRow). row.mount) (is_in c.args.group) c.self.inside.members.rows ∙
     ap (λ (x : PeerGroups). has_members x.members c.args.group) c.self.view_is

@@ -33,27 +33,27 @@ invariant_of-self c =
     let lost = c.in_ok-lost.lost.items in
     let orderly = subst (λ (x : PeerGroups). IsOrderly x) c.self.view_is c.self.invariant.orderly in
     let free : is_free_of lost (with_only (λ m. not (is_among gone m)) s) ≡ true = search rules in
-    let members : c.leave_out.new.members.items ≡ (with_only (λ m. not (is_among gone m)) s).members =
+    let members : c.leave_out.new.members.rows ≡ (with_only (λ m. not (is_among gone m)) s).members =
     c.leave_out.ensures ∙ ap (λ (x : PeerGroups). (with_only (λ m. not (is_among gone m)) x).members) c.self.view_is in
-    let groups : c.drop_groups.new.groups.items ≡ filter (λ row. not (is_among lost row.group)) s.groups =
+    let groups : c.drop_groups.new.groups.rows ≡ filter (λ row. not (is_among lost row.group)) s.groups =
     c.drop_groups.ensures ∙
-    ap (λ (xs : List ℕ). filter (λ (row : GroupRow). not (is_among xs row.group)) c.self.inside.groups.items) c.as_slice-lost.ensures.value ∙
+    ap (λ (xs : List ℕ). filter (λ (row : GroupRow). not (is_among xs row.group)) c.self.inside.groups.rows) c.as_slice-lost.ensures.value ∙
     ap (λ (x : PeerGroups). filter (λ (row : GroupRow). not (is_among lost row.group)) x.groups) c.self.view_is in
     let made =
-    same_state (without_groups lost (with_only (λ m. not (is_among gone m)) s)) c.leave_out.new.members.items c.drop_groups.new.groups.items c.self.inside.last_group
+    same_state (without_groups lost (with_only (λ m. not (is_among gone m)) s)) c.leave_out.new.members.rows c.drop_groups.new.groups.rows c.self.inside.last_group
     members groups (ap (λ (x : PeerGroups). x.last_group) c.self.view_is) ∙
     left_where (is_among gone) s lost c.in_ok-lost.ensures.exact free in
-    let rows : ListMembers c.leave_out.new.members.items c.unlist.new.indexes =
+    let rows : ListMembers c.leave_out.new.members.rows c.unlist.new.indexes =
     subst (λ (rows : List MemberRow). ListMembers rows c.unlist.new.indexes)
     (ap (λ (rows : List MemberRow). filter (λ (row : MemberRow). not (is_among gone row.mount)) rows) c.as_slice.ensures.value ∙ sym c.leave_out.ensures)
     c.unlist.ensures.members in
-    let others : ListGroups c.drop_groups.new.groups.items c.unlist_groups.new.indexes =
+    let others : ListGroups c.drop_groups.new.groups.rows c.unlist_groups.new.indexes =
     subst (λ (rows : List GroupRow). ListGroups rows c.unlist_groups.new.indexes)
     (ap (λ (rows : List GroupRow). filter (λ (row : GroupRow). not (is_among c.as_slice-lost.result.now row.group)) rows) c.as_slice-then-is_free_of.ensures.value ∙ sym c.drop_groups.ensures)
     c.unlist_groups.ensures.below in
     record {
       orderly = subst (λ (x : PeerGroups). IsOrderly x) (sym made) (without_orderly (is_among gone) s orderly);
-      indexed = left_indexed c.leave_out.new.members.items c.drop_groups.new.groups.items c.unlist.new.indexes c.unlist_groups.new.indexes
+      indexed = left_indexed c.leave_out.new.members.rows c.drop_groups.new.groups.rows c.unlist.new.indexes c.unlist_groups.new.indexes
           rows c.unlist_groups.ensures.members c.unlist_groups.ensures.slaves others;
     }
 
@@ -64,14 +64,14 @@ returns-then-is_free_of-clause-ok c =
     let lost = c.in_ok-lost.lost.items in
     let orderly = subst (λ (x : PeerGroups). IsOrderly x) c.self.view_is c.self.invariant.orderly in
     let free : is_free_of lost (with_only (λ m. not (is_among gone m)) s) ≡ true = search rules in
-    let members : c.leave_out.new.members.items ≡ (with_only (λ m. not (is_among gone m)) s).members =
+    let members : c.leave_out.new.members.rows ≡ (with_only (λ m. not (is_among gone m)) s).members =
     c.leave_out.ensures ∙ ap (λ (x : PeerGroups). (with_only (λ m. not (is_among gone m)) x).members) c.self.view_is in
-    let groups : c.drop_groups.new.groups.items ≡ filter (λ row. not (is_among lost row.group)) s.groups =
+    let groups : c.drop_groups.new.groups.rows ≡ filter (λ row. not (is_among lost row.group)) s.groups =
     c.drop_groups.ensures ∙
-    ap (λ (xs : List ℕ). filter (λ (row : GroupRow). not (is_among xs row.group)) c.self.inside.groups.items) c.as_slice-lost.ensures.value ∙
+    ap (λ (xs : List ℕ). filter (λ (row : GroupRow). not (is_among xs row.group)) c.self.inside.groups.rows) c.as_slice-lost.ensures.value ∙
     ap (λ (x : PeerGroups). filter (λ (row : GroupRow). not (is_among lost row.group)) x.groups) c.self.view_is in
     let made =
-    same_state (without_groups lost (with_only (λ m. not (is_among gone m)) s)) c.leave_out.new.members.items c.drop_groups.new.groups.items c.self.inside.last_group
+    same_state (without_groups lost (with_only (λ m. not (is_among gone m)) s)) c.leave_out.new.members.rows c.drop_groups.new.groups.rows c.self.inside.last_group
     members groups (ap (λ (x : PeerGroups). x.last_group) c.self.view_is) ∙
     left_where (is_among gone) s lost c.in_ok-lost.ensures.exact free in
     made
@@ -83,14 +83,14 @@ returns-then-is_free_of-clause-law c = λ peopled.
     let lost = c.in_ok-lost.lost.items in
     let orderly = subst (λ (x : PeerGroups). IsOrderly x) c.self.view_is c.self.invariant.orderly in
     let free : is_free_of lost (with_only (λ m. not (is_among gone m)) s) ≡ true = search rules in
-    let members : c.leave_out.new.members.items ≡ (with_only (λ m. not (is_among gone m)) s).members =
+    let members : c.leave_out.new.members.rows ≡ (with_only (λ m. not (is_among gone m)) s).members =
     c.leave_out.ensures ∙ ap (λ (x : PeerGroups). (with_only (λ m. not (is_among gone m)) x).members) c.self.view_is in
-    let groups : c.drop_groups.new.groups.items ≡ filter (λ row. not (is_among lost row.group)) s.groups =
+    let groups : c.drop_groups.new.groups.rows ≡ filter (λ row. not (is_among lost row.group)) s.groups =
     c.drop_groups.ensures ∙
-    ap (λ (xs : List ℕ). filter (λ (row : GroupRow). not (is_among xs row.group)) c.self.inside.groups.items) c.as_slice-lost.ensures.value ∙
+    ap (λ (xs : List ℕ). filter (λ (row : GroupRow). not (is_among xs row.group)) c.self.inside.groups.rows) c.as_slice-lost.ensures.value ∙
     ap (λ (x : PeerGroups). filter (λ (row : GroupRow). not (is_among lost row.group)) x.groups) c.self.view_is in
     let made =
-    same_state (without_groups lost (with_only (λ m. not (is_among gone m)) s)) c.leave_out.new.members.items c.drop_groups.new.groups.items c.self.inside.last_group
+    same_state (without_groups lost (with_only (λ m. not (is_among gone m)) s)) c.leave_out.new.members.rows c.drop_groups.new.groups.rows c.self.inside.last_group
     members groups (ap (λ (x : PeerGroups). x.last_group) c.self.view_is) ∙
     left_where (is_among gone) s lost c.in_ok-lost.ensures.exact free in
     subst (λ (x : PeerGroups). AddsNoReceivers s x) (sym made) (without_keeps (is_among gone) s (record { orderly = orderly; peopled = peopled })).law
@@ -102,14 +102,14 @@ returns-then-is_free_of-clause-peopled c = λ peopled.
     let lost = c.in_ok-lost.lost.items in
     let orderly = subst (λ (x : PeerGroups). IsOrderly x) c.self.view_is c.self.invariant.orderly in
     let free : is_free_of lost (with_only (λ m. not (is_among gone m)) s) ≡ true = search rules in
-    let members : c.leave_out.new.members.items ≡ (with_only (λ m. not (is_among gone m)) s).members =
+    let members : c.leave_out.new.members.rows ≡ (with_only (λ m. not (is_among gone m)) s).members =
     c.leave_out.ensures ∙ ap (λ (x : PeerGroups). (with_only (λ m. not (is_among gone m)) x).members) c.self.view_is in
-    let groups : c.drop_groups.new.groups.items ≡ filter (λ row. not (is_among lost row.group)) s.groups =
+    let groups : c.drop_groups.new.groups.rows ≡ filter (λ row. not (is_among lost row.group)) s.groups =
     c.drop_groups.ensures ∙
-    ap (λ (xs : List ℕ). filter (λ (row : GroupRow). not (is_among xs row.group)) c.self.inside.groups.items) c.as_slice-lost.ensures.value ∙
+    ap (λ (xs : List ℕ). filter (λ (row : GroupRow). not (is_among xs row.group)) c.self.inside.groups.rows) c.as_slice-lost.ensures.value ∙
     ap (λ (x : PeerGroups). filter (λ (row : GroupRow). not (is_among lost row.group)) x.groups) c.self.view_is in
     let made =
-    same_state (without_groups lost (with_only (λ m. not (is_among gone m)) s)) c.leave_out.new.members.items c.drop_groups.new.groups.items c.self.inside.last_group
+    same_state (without_groups lost (with_only (λ m. not (is_among gone m)) s)) c.leave_out.new.members.rows c.drop_groups.new.groups.rows c.self.inside.last_group
     members groups (ap (λ (x : PeerGroups). x.last_group) c.self.view_is) ∙
     left_where (is_among gone) s lost c.in_ok-lost.ensures.exact free in
     subst (λ (x : PeerGroups). IsPeopled x) (sym made) (without_keeps (is_among gone) s (record { orderly = orderly; peopled = peopled })).sound.peopled

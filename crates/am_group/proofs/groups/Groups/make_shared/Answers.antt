@@ -9,7 +9,7 @@ use Rattle.am_group.specs.declared.mount_state.Change.TheVariants.{MakeShared}
 use Rattle.am_group.specs.{RoomFor}
 use Rattle.am_group.specs.View.{view_of}
 use Rattle.am_group.proofs.IndexedLemmas.{shared_indexed, kept_rise, turned_number}
-use Rattle.am_group.proofs.LiftLemmas.{same_state}
+use Rattle.am_group.proofs.LiftLemmas.{pushed, same_state}
 use Rattle.am_group.proofs.SharedLemmas.{shared_here, shared_orderly, made_shared_keeps}
 use Rattle.am_group.proofs.SpareLemmas.{shared_alone}
 use Rattle.am_group.proofs.groups.Groups.make_shared.Goals as goal
@@ -23,13 +23,13 @@ invariant_of-self-2 c =
     let found : member_row s.members c.args.mount ≡ Some row = cc in
     let alone : row.group ≡ None = none_where_not_some row.group (cc) in
     let number : n ≡ s.last_group + 1 = ap (λ (x : PeerGroups). x.last_group + 1) c.self.view_is in
-    let members : c.write_row.new.members.items ≡ map (at_row (λ r. shared_row n row) c.args.mount) s.members =
+    let members : c.write_row.new.members.rows ≡ map (at_row (λ r. shared_row n row) c.args.mount) s.members =
     c.write_row.ensures ∙
-    ap (λ (x : MemberRow). map (at_row (λ r. x) c.args.mount) c.self.inside.members.items) c.changed_row-changed.ensures ∙
+    ap (λ (x : MemberRow). map (at_row (λ r. x) c.args.mount) c.self.inside.members.rows) c.changed_row-changed.ensures ∙
     ap (λ (x : PeerGroups). map (at_row (λ r. shared_row n row) c.args.mount) x.members) c.self.view_is in
-    let groups : c.push.new.self.items ≡ s.groups ++ (record { group = n; master = row.master }) ∷ [] =
-    c.in_ok-push.ensures.items ∙ ap (λ (x : PeerGroups). x.groups ++ (record { group = n; master = row.master }) ∷ []) c.self.view_is in
-    let made = shared_alone s orderly c.args.mount row found n number c.write_row.new.members.items members c.push.new.self.items groups c.group.inside.0 c.group.view_is in
+    let groups : c.push_reserved.new.self.rows ≡ s.groups ++ (record { group = n; master = row.master }) ∷ [] =
+    pushed _ _ _ _ c.push_reserved.ensures.rows c.reserve.ensures.rows ∙ ap (λ (x : PeerGroups). x.groups ++ (record { group = n; master = row.master }) ∷ []) c.self.view_is in
+    let made = shared_alone s orderly c.args.mount row found n number c.write_row.new.members.rows members c.push_reserved.new.self.rows groups c.group.inside.0 c.group.view_is in
     record {
       orderly = subst (λ (x : PeerGroups). IsOrderly x) (sym made) (shared_orderly s orderly c.args.mount row found alone);
       indexed = shared_indexed (view_of c.self.inside) c.self.invariant.orderly c.args.mount row c.changed_row-changed.result
@@ -37,7 +37,7 @@ invariant_of-self-2 c =
           (ap (λ (r : MemberRow). r.mount) c.changed_row-changed.ensures ∙ turned_number MakeShared n row)
           (record { group = n; master = row.master }) c.self.inside.indexes c.make_all_room.new.self c.replace.new.self c.add_group.new.self
           c.make_all_room.ensures.same c.replace.ensures c.add_group.ensures c.self.invariant.indexed
-          c.write_row.new.members.items c.write_row.ensures c.push.new.self.items c.in_ok-push.ensures.items;
+          c.write_row.new.members.rows c.write_row.ensures c.push_reserved.new.self.rows (pushed _ _ _ _ c.push_reserved.ensures.rows c.reserve.ensures.rows);
     }
 
 pub returns-in_err-make_all_room-clause-peopled : goal.returns-in_err-make_all_room-clause-peopled
@@ -67,13 +67,13 @@ returns-clause-ok c =
     let found : member_row s.members c.args.mount ≡ Some row = cc in
     let alone : row.group ≡ None = none_where_not_some row.group (cc) in
     let number : n ≡ s.last_group + 1 = ap (λ (x : PeerGroups). x.last_group + 1) c.self.view_is in
-    let members : c.write_row.new.members.items ≡ map (at_row (λ r. shared_row n row) c.args.mount) s.members =
+    let members : c.write_row.new.members.rows ≡ map (at_row (λ r. shared_row n row) c.args.mount) s.members =
     c.write_row.ensures ∙
-    ap (λ (x : MemberRow). map (at_row (λ r. x) c.args.mount) c.self.inside.members.items) c.changed_row-changed.ensures ∙
+    ap (λ (x : MemberRow). map (at_row (λ r. x) c.args.mount) c.self.inside.members.rows) c.changed_row-changed.ensures ∙
     ap (λ (x : PeerGroups). map (at_row (λ r. shared_row n row) c.args.mount) x.members) c.self.view_is in
-    let groups : c.push.new.self.items ≡ s.groups ++ (record { group = n; master = row.master }) ∷ [] =
-    c.in_ok-push.ensures.items ∙ ap (λ (x : PeerGroups). x.groups ++ (record { group = n; master = row.master }) ∷ []) c.self.view_is in
-    let made = shared_alone s orderly c.args.mount row found n number c.write_row.new.members.items members c.push.new.self.items groups c.group.inside.0 c.group.view_is in
+    let groups : c.push_reserved.new.self.rows ≡ s.groups ++ (record { group = n; master = row.master }) ∷ [] =
+    pushed _ _ _ _ c.push_reserved.ensures.rows c.reserve.ensures.rows ∙ ap (λ (x : PeerGroups). x.groups ++ (record { group = n; master = row.master }) ∷ []) c.self.view_is in
+    let made = shared_alone s orderly c.args.mount row found n number c.write_row.new.members.rows members c.push_reserved.new.self.rows groups c.group.inside.0 c.group.view_is in
     made ∙ sym (shared_here s c.args.mount row found alone)
 
 pub returns-clause-law : goal.returns-clause-law
@@ -85,13 +85,13 @@ returns-clause-law c = λ peopled.
     let found : member_row s.members c.args.mount ≡ Some row = cc in
     let alone : row.group ≡ None = none_where_not_some row.group (cc) in
     let number : n ≡ s.last_group + 1 = ap (λ (x : PeerGroups). x.last_group + 1) c.self.view_is in
-    let members : c.write_row.new.members.items ≡ map (at_row (λ r. shared_row n row) c.args.mount) s.members =
+    let members : c.write_row.new.members.rows ≡ map (at_row (λ r. shared_row n row) c.args.mount) s.members =
     c.write_row.ensures ∙
-    ap (λ (x : MemberRow). map (at_row (λ r. x) c.args.mount) c.self.inside.members.items) c.changed_row-changed.ensures ∙
+    ap (λ (x : MemberRow). map (at_row (λ r. x) c.args.mount) c.self.inside.members.rows) c.changed_row-changed.ensures ∙
     ap (λ (x : PeerGroups). map (at_row (λ r. shared_row n row) c.args.mount) x.members) c.self.view_is in
-    let groups : c.push.new.self.items ≡ s.groups ++ (record { group = n; master = row.master }) ∷ [] =
-    c.in_ok-push.ensures.items ∙ ap (λ (x : PeerGroups). x.groups ++ (record { group = n; master = row.master }) ∷ []) c.self.view_is in
-    let made = shared_alone s orderly c.args.mount row found n number c.write_row.new.members.items members c.push.new.self.items groups c.group.inside.0 c.group.view_is in
+    let groups : c.push_reserved.new.self.rows ≡ s.groups ++ (record { group = n; master = row.master }) ∷ [] =
+    pushed _ _ _ _ c.push_reserved.ensures.rows c.reserve.ensures.rows ∙ ap (λ (x : PeerGroups). x.groups ++ (record { group = n; master = row.master }) ∷ []) c.self.view_is in
+    let made = shared_alone s orderly c.args.mount row found n number c.write_row.new.members.rows members c.push_reserved.new.self.rows groups c.group.inside.0 c.group.view_is in
     let here = shared_here s c.args.mount row found alone in
     subst (λ (x : PeerGroups). AddsNoReceivers s x) (sym (made ∙ sym here)) (made_shared_keeps c.args.mount s (record { orderly = orderly; peopled = peopled })).law
 
@@ -104,20 +104,20 @@ returns-clause-peopled c = λ peopled.
     let found : member_row s.members c.args.mount ≡ Some row = cc in
     let alone : row.group ≡ None = none_where_not_some row.group (cc) in
     let number : n ≡ s.last_group + 1 = ap (λ (x : PeerGroups). x.last_group + 1) c.self.view_is in
-    let members : c.write_row.new.members.items ≡ map (at_row (λ r. shared_row n row) c.args.mount) s.members =
+    let members : c.write_row.new.members.rows ≡ map (at_row (λ r. shared_row n row) c.args.mount) s.members =
     c.write_row.ensures ∙
-    ap (λ (x : MemberRow). map (at_row (λ r. x) c.args.mount) c.self.inside.members.items) c.changed_row-changed.ensures ∙
+    ap (λ (x : MemberRow). map (at_row (λ r. x) c.args.mount) c.self.inside.members.rows) c.changed_row-changed.ensures ∙
     ap (λ (x : PeerGroups). map (at_row (λ r. shared_row n row) c.args.mount) x.members) c.self.view_is in
-    let groups : c.push.new.self.items ≡ s.groups ++ (record { group = n; master = row.master }) ∷ [] =
-    c.in_ok-push.ensures.items ∙ ap (λ (x : PeerGroups). x.groups ++ (record { group = n; master = row.master }) ∷ []) c.self.view_is in
-    let made = shared_alone s orderly c.args.mount row found n number c.write_row.new.members.items members c.push.new.self.items groups c.group.inside.0 c.group.view_is in
+    let groups : c.push_reserved.new.self.rows ≡ s.groups ++ (record { group = n; master = row.master }) ∷ [] =
+    pushed _ _ _ _ c.push_reserved.ensures.rows c.reserve.ensures.rows ∙ ap (λ (x : PeerGroups). x.groups ++ (record { group = n; master = row.master }) ∷ []) c.self.view_is in
+    let made = shared_alone s orderly c.args.mount row found n number c.write_row.new.members.rows members c.push_reserved.new.self.rows groups c.group.inside.0 c.group.view_is in
     let here = shared_here s c.args.mount row found alone in
     subst (λ (x : PeerGroups). IsPeopled x) (sym (made ∙ sym here)) (made_shared_keeps c.args.mount s (record { orderly = orderly; peopled = peopled })).sound.peopled
 
-pub returns-in_err-push-clause-peopled : goal.returns-in_err-push-clause-peopled
-returns-in_err-push-clause-peopled c = λ peopled.
-    let same = same_state c.args.self.now c.self.inside.members.items c.push.new.self.items c.self.inside.last_group
+pub returns-in_err-reserve-clause-peopled : goal.returns-in_err-reserve-clause-peopled
+returns-in_err-reserve-clause-peopled c = λ peopled.
+    let same = same_state c.args.self.now c.self.inside.members.rows c.reserve.new.self.rows c.self.inside.last_group
     (ap (λ (x : PeerGroups). x.members) c.self.view_is)
-    (c.in_err-push.ensures.items ∙ ap (λ (x : PeerGroups). x.groups) c.self.view_is)
+    (c.reserve.ensures.rows ∙ ap (λ (x : PeerGroups). x.groups) c.self.view_is)
     (ap (λ (x : PeerGroups). x.last_group) c.self.view_is) in
     subst (λ (x : PeerGroups). IsPeopled x) (sym same) peopled

@@ -32,7 +32,8 @@ invariant_of-self c =
     c.clear.ensures ∙
     ap (λ (xs : List ℕ). filter (λ (row : GroupRow). is_left xs c.as_slice-8.result.now row.group) groups) c.as_slice-7.ensures.value ∙
     ap (λ (xs : List ℕ). filter (λ (row : GroupRow). is_left before xs row.group) groups) c.as_slice-8.ensures.value in
-    let made = left_together old raw before live were are members groups c.clear.new.groups.items mounts masters kept in
+    let made = left_together old raw before live were are c.of-2.result.rows groups c.of-3.result.rows
+    (c.of-2.ensures ∙ mounts) masters (c.of-3.ensures ∙ kept) in
     record {
       orderly = subst (λ (x : PeerGroups). IsOrderly x) (sym made) (left_orderly old raw c.requires);
       indexed = search rules;
@@ -62,5 +63,6 @@ returns-clause-ok c =
     c.clear.ensures ∙
     ap (λ (xs : List ℕ). filter (λ (row : GroupRow). is_left xs c.as_slice-8.result.now row.group) groups) c.as_slice-7.ensures.value ∙
     ap (λ (xs : List ℕ). filter (λ (row : GroupRow). is_left before xs row.group) groups) c.as_slice-8.ensures.value in
-    let made = left_together old raw before live were are members groups c.clear.new.groups.items mounts masters kept in
+    let made = left_together old raw before live were are c.of-2.result.rows groups c.of-3.result.rows
+    (c.of-2.ensures ∙ mounts) masters (c.of-3.ensures ∙ kept) in
     made ∙ ap (λ (x : PeerGroups). left x raw) c.self.view_is

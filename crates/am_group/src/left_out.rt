@@ -1,0 +1,212 @@
+//! Rows of mounts and of peer groups that are left out: what goes is found by its number.
+
+ghost use Rattle.std.specs.Prelude.{◌≡◌, ◌≤◌, ◌-◌, ◌==◌, Some, filter, not, length, take, option_map, IfOk};
+ghost use Rattle.std.specs.Bool.{OnTrue};
+ghost use Rattle.std.specs.List.{slice_get};
+ghost use Rattle.std.specs.List.Sorted.{IsNonDecreasing};
+ghost use Rattle.am_names.specs.{is_among};
+ghost use Rattle.am_group.specs.Invariant.{RiseFrom, GroupsRise};
+
+use crate::tables::is_among as is_live;
+use am_names::{GroupId, GroupRow, MemberRow, MountId, are_ordered, is_among, is_found};
+use am_ordered::Rows;
+use std::alloc::{AllocError, Global};
+
+/// So few are looked for one by one, and of more all rows are gone through.
+const FEW: usize = 4;
+
+/// Leaves out the mount's row, which is found by halves.
+fn leave_one_out(members: &mut Rows<MemberRow>, mount: MountId)
+    requires { RiseFrom 0 members.old.rows }
+    ensures { members.new.rows ≡ filter (λ row. not (row.mount == mount)) members.old.rows }
+{
+    let number = mount.0;
+    if let Ok(at) = members
+        .as_slice()
+        .binary_search_by_key(&number, |row| row.mount.0)
+    {
+        members.take_out(at);
+    }
+}
+
+/// Leaves out the rows of these mounts, one after another.
+fn leave_each_out(members: &mut Rows<MemberRow>, gone: &[MountId])
+    requires { RiseFrom 0 members.old.rows }
+    ensures { members.new.rows ≡
+        filter (λ row. not (is_among gone.now row.mount)) members.old.rows }
+{
+    for mount in gone {
+        leave_one_out(members, *mount);
+    }
+}
+
+/// Whether the mount is the newest of these, which stands last.
+fn is_newest(members: &[MemberRow], mount: MountId) -> bool
+    ensures { OnTrue result
+        (option_map (λ row. row.mount) (slice_get members.now (length members.now - 1)) ≡
+        Some mount) }
+{
+    match members.last() {
+        Some(row) => row.mount == mount,
+        None => false,
+    }
+}
+
+/// Leaves out the rows of these mounts from the last of them on, as long as they are the newest.
+/// The answer tells how many of them are left.
+fn take_newest_out(members: &mut Rows<MemberRow>, gone: &[MountId]) -> usize
+    requires { RiseFrom 0 members.old.rows }
+    ensures rising { RiseFrom 0 members.new.rows }
+    ensures within { result ≤ length gone.now }
+    ensures same { filter (λ r. not (is_among (take result gone.now) r.mount)) members.new.rows ≡
+        filter (λ row. not (is_among gone.now row.mount)) members.old.rows }
+{
+    let mut count = gone.len();
+    while count > 0 {
+        let before = count - 1;
+        if !is_newest(members.as_slice(), gone[before]) {
+            return count;
+        }
+        let _row = members.pop();
+        count = before;
+    }
+    count
+}
+
+/// Leaves out the rows of these mounts, wherever they stand.
+fn leave_these_out(members: &mut Rows<MemberRow>, gone: &[MountId])
+    requires { RiseFrom 0 members.old.rows }
+    ensures { members.new.rows ≡
+        filter (λ row. not (is_among gone.now row.mount)) members.old.rows }
+{
+    if gone.len() <= FEW {
+        leave_each_out(members, gone);
+    } else if are_ordered(gone) {
+        members.retain(|row| !is_found(row.mount, gone));
+    } else {
+        members.retain(|row| !is_among(row.mount, gone));
+    }
+}
+
+/// Leaves out the rows of these mounts, the newest first.
+pub fn leave_out(members: &mut Rows<MemberRow>, gone: &[MountId])
+    requires { RiseFrom 0 members.old.rows }
+    ensures { members.new.rows ≡
+        filter (λ row. not (is_among gone.now row.mount)) members.old.rows }
+{
+    let left = take_newest_out(members, gone);
+    leave_these_out(members, &gone[..left]);
+}
+
+/// Whether the mount is one of these, by halves where they stand in order.
+pub fn is_one(mount: MountId, mounts: &[MountId], ordered: bool) -> bool
+    requires { OnTrue ordered (IsNonDecreasing mounts.now) }
+    ensures { result ≡ is_among mounts.now mount }
+{
+    if ordered {
+        is_found(mount, mounts)
+    } else {
+        is_among(mount, mounts)
+    }
+}
+
+/// The rows of the mounts but these.
+pub fn rows_without(
+    alloc: Global,
+    members: &[MemberRow],
+    gone: &[MountId],
+) -> Result<Vec<MemberRow>, AllocError>
+    ensures { IfOk result (λ v. v.items ≡
+        filter (λ row. not (is_among gone.now row.mount)) members.now) }
+{
+    let ordered = are_ordered(gone);
+    let mut rows = Vec::new(alloc);
+    for row in members {
+        if !is_one(row.mount, gone, ordered) {
+            rows.push(*row)?;
+        }
+    }
+    Ok(rows)
+}
+
+/// Leaves out the peer group's row, which is found by halves.
+fn drop_one(groups: &mut Rows<GroupRow>, group: GroupId)
+    requires { GroupsRise groups.old.rows }
+    ensures { groups.new.rows ≡ filter (λ row. not (row.group == group)) groups.old.rows }
+{
+    let number = group.0;
+    if let Ok(at) = groups
+        .as_slice()
+        .binary_search_by_key(&number, |row| row.group.0)
+    {
+        groups.take_out(at);
+    }
+}
+
+/// Leaves out the rows of these peer groups, one after another.
+fn drop_each(groups: &mut Rows<GroupRow>, lost: &[GroupId])
+    requires { GroupsRise groups.old.rows }
+    ensures { groups.new.rows ≡
+        filter (λ row. not (is_among lost.now row.group)) groups.old.rows }
+{
+    for group in lost {
+        drop_one(groups, *group);
+    }
+}
+
+/// Whether the peer group is the newest of these, which stands last.
+fn is_newest_group(groups: &[GroupRow], group: GroupId) -> bool
+    ensures { OnTrue result
+        (option_map (λ row. row.group) (slice_get groups.now (length groups.now - 1)) ≡
+        Some group) }
+{
+    match groups.last() {
+        Some(row) => row.group == group,
+        None => false,
+    }
+}
+
+/// Leaves out the rows of these peer groups from the last of them on, as long as they are the
+/// newest. The answer tells how many of them are left.
+fn drop_newest(groups: &mut Rows<GroupRow>, lost: &[GroupId]) -> usize
+    requires { GroupsRise groups.old.rows }
+    ensures rising { GroupsRise groups.new.rows }
+    ensures within { result ≤ length lost.now }
+    ensures same { filter (λ row. not (is_among (take result lost.now) row.group)) groups.new.rows ≡
+        filter (λ row. not (is_among lost.now row.group)) groups.old.rows }
+{
+    let mut count = lost.len();
+    while count > 0 {
+        let before = count - 1;
+        if !is_newest_group(groups.as_slice(), lost[before]) {
+            return count;
+        }
+        let _row = groups.pop();
+        count = before;
+    }
+    count
+}
+
+/// Leaves out the rows of these peer groups in one look over all.
+fn drop_many(groups: &mut Rows<GroupRow>, lost: &[GroupId])
+    requires { IsNonDecreasing lost.now }
+    ensures { groups.new.rows ≡
+        filter (λ row. not (is_among lost.now row.group)) groups.old.rows }
+{
+    groups.retain(|row| !is_live(lost, row.group));
+}
+
+/// Leaves out the rows of these peer groups, the newest first, and few of the others one by one.
+pub fn drop_groups(groups: &mut Rows<GroupRow>, lost: &[GroupId])
+    requires rising { GroupsRise groups.old.rows }
+    requires ordered { IsNonDecreasing lost.now }
+    ensures { groups.new.rows ≡
+        filter (λ row. not (is_among lost.now row.group)) groups.old.rows }
+{
+    let left = drop_newest(groups, lost);
+    if left <= FEW {
+        drop_each(groups, &lost[..left]);
+    } else {
+        drop_many(groups, &lost[..left]);
+    }
+}
