@@ -1,12 +1,14 @@
 -- What a search by halves finds in rows that rise.
-use Rattle.std.proofs.Common.{◌≡◌, ◌≢◌, ◌≤◌, ◌<◌, ◌+◌, ℕ, zero, suc, List, [], ◌∷◌, length, get_or, Some, None, Ok, Err, refl, sym, ap, ◌∙◌, arith}
-use Rattle.std.specs.List.Sorted.{IsBinarySearchResult, IsNonDecreasingBy}
+use Rattle.std.proofs.Common.{◌≡◌, true, false, ltb, ◌≢◌, ◌≤◌, ◌<◌, ◌+◌, ℕ, zero, suc, List, [], ◌∷◌, length, get_or, Some, None, Ok, Err, refl, sym, ap, ◌∙◌, arith}
+use Rattle.std.specs.Prelude.{nat_le}
+use Rattle.std.specs.List.Sorted.{IsBinarySearchResult, IsNonDecreasingBy, IsPartitionPoint}
 use Rattle.std.specs.Ordering.{nat_cmp, ordering_index}
 use Rattle.std.proofs.lemmas.Cmp.{ranked}
+use Rattle.std.proofs.lemmas.List.Sums.{position_or_len_is}
 use Rattle.std.proofs.lemmas.Bool.{eq-eqb, ne_eqb}
 use Rattle.std.proofs.lemmas.Bool.Decides.{nat_tests}
 use Rattle.am_names.specs.{MountRow}
-use Rattle.am_mount.specs.{RiseFrom, IsRising, mount_row}
+use Rattle.am_mount.specs.{RiseFrom, IsRising, mount_row, rows_below}
 
 -- the number of the mount at this index
 abbrev mount_at : List MountRow → ℕ → MountRow → ℕ
@@ -101,3 +103,21 @@ module _ (rows : List MountRow) (rises : IsRising rows) (m : ℕ) where
       (i : ℕ) → IsBinarySearchResult (λ (row : MountRow). nat_cmp row.mount m) rows (Err i) →
       mount_row rows m ≡ None
   absent i parted = none_at rows m (all_differ i parted)
+
+-- a number stands no lower than those in front of it
+pub rows_on : (rows : List MountRow) → IsRising rows → IsNonDecreasingBy (λ (row : MountRow). row.mount) rows
+rows_on rows rises i j d le h =
+    let up = rows_rise 0 rows rises i j d in
+    grind (arith, up, λ (same : i ≡ j). ap (λ (k : ℕ). mount_at rows k d) same)
+
+-- the place between the lower numbers and the others is that of the first that isn't lower
+pub point_is :
+    (m i : ℕ) (rows : List MountRow) → i ≤ length rows →
+    IsPartitionPoint (λ (row : MountRow). ltb row.mount m ≡ true) (λ row. ltb row.mount m ≡ false) rows i →
+    i ≡ rows_below rows m
+point_is m i [] le h = omega arith
+point_is m i (row ∷ rows) le h =
+    sym
+    (position_or_len_is (λ (r : MountRow). nat_le m r.mount) (row ∷ rows) i row le
+    (λ j less. grind (arith, nat_tests, h.0 j row (omega arith) less))
+    (λ less. grind (arith, nat_tests, h.1 i row (omega arith) less)))

@@ -8,7 +8,7 @@ use Rattle.std.proofs.lemmas.Bool.Decides.{nat_tests}
 use Rattle.std.proofs.lemmas.List.{take_more, drop_more, take-take, length-take-le}
 use Rattle.am_names.proofs.Basics.{and_false}
 use Rattle.am_names.specs.{text_of, MountRow, is_among}
-use Rattle.am_mount.specs.{RiseFrom, IsRising, mount_row, mounts_where, is_in, is_child, is_at, last_of, top_of, root_of, bucket, is_position_in, is_in_bucket, passes, stands_at, stands_alone, listed, but, AreWith, AreWithout, HaveSameLists, AreIndexed, AllRise, Indexes}
+use Rattle.am_mount.specs.{RiseFrom, IsRising, mount_row, mounts_where, has_fs, is_in, is_child, is_at, last_of, top_of, root_of, bucket, is_position_in, is_in_bucket, passes, stands_at, stands_alone, listed, but, AreWith, AreWithout, HaveSameLists, AreIndexed, AllRise, Indexes}
 use Rattle.am_mount.proofs.RowLemmas.{found_above, at_decides, last_of_append, where_rises}
 
 and_true : (b : Bool) → (b && true) ≡ b
@@ -221,11 +221,12 @@ number_found (r ∷ rows) x row e = go (r.mount == x) refl e (number_found rows 
         ap (λ (y : MountRow). y.mount) (sym same) ∙ eqb-true r.mount x f
     go false f e ih = ih e
 
--- the three indexes
+-- the four indexes
 pub indexed_same :
     (rows : List MountRow) (old new : Indexes) → HaveSameLists old new → AreIndexed rows old → AreIndexed rows new
 indexed_same rows old new same o = record {
   by_ns = λ n. same.by_ns n ∙ o.by_ns n;
+  by_fs = λ n. same.by_fs n ∙ o.by_fs n;
   by_parent = λ n. same.by_parent n ∙ o.by_parent n;
   by_place = λ n. same.by_place n ∙ o.by_place n;
 }
@@ -235,6 +236,7 @@ pub indexed_more :
     AreWith row old new → AreIndexed rows old → AreIndexed (rows ++ row ∷ []) new
 indexed_more rows row old new more o = record {
   by_ns = λ n. more.by_ns n ∙ next (is_in n) (listed old.by_ns n) (o.by_ns n);
+  by_fs = λ n. more.by_fs n ∙ next (has_fs n) (listed old.by_fs n) (o.by_fs n);
   by_parent = λ n. more.by_parent n ∙ next (is_child n) (listed old.by_parent n) (o.by_parent n);
   by_place = λ n. more.by_place n ∙ next (is_in_bucket n) (listed old.by_place n) (o.by_place n);
 }
@@ -250,6 +252,7 @@ module _ (x : ℕ) (k l : MountRow → Bool) (less : (r : MountRow) → l r ≡ 
       (t : Indexes) → mount_row rows x ≡ None → AreIndexed (filter k rows) t → AreIndexed (filter l rows) t
   indexed_none t e o = record {
     by_ns = λ n. o.by_ns n ∙ sym (none_less x k l (is_in n) less rows e);
+    by_fs = λ n. o.by_fs n ∙ sym (none_less x k l (has_fs n) less rows e);
     by_parent = λ n. o.by_parent n ∙ sym (none_less x k l (is_child n) less rows e);
     by_place = λ n. o.by_place n ∙ sym (none_less x k l (is_in_bucket n) less rows e);
   }
@@ -259,6 +262,7 @@ module _ (x : ℕ) (k l : MountRow → Bool) (less : (r : MountRow) → l r ≡ 
       AreWithout row old new → AreIndexed (filter k rows) old → AreIndexed (filter l rows) new
   indexed_less rises row old new e w o = record {
     by_ns = λ n. w.by_ns n ∙ next (is_in n) (listed old.by_ns n) (o.by_ns n);
+    by_fs = λ n. w.by_fs n ∙ next (has_fs n) (listed old.by_fs n) (o.by_fs n);
     by_parent = λ n. w.by_parent n ∙ next (is_child n) (listed old.by_parent n) (o.by_parent n);
     by_place = λ n. w.by_place n ∙ next (is_in_bucket n) (listed old.by_place n) (o.by_place n);
   }
@@ -300,6 +304,7 @@ pub indexed_back :
     AreWithout row old new → AreIndexed (rows ++ row ∷ []) old → AreIndexed rows new
 indexed_back rows row old new rises w o = record {
   by_ns = λ n. w.by_ns n ∙ next (is_in n) (listed old.by_ns n) (o.by_ns n);
+  by_fs = λ n. w.by_fs n ∙ next (has_fs n) (listed old.by_fs n) (o.by_fs n);
   by_parent = λ n. w.by_parent n ∙ next (is_child n) (listed old.by_parent n) (o.by_parent n);
   by_place = λ n. w.by_place n ∙ next (is_in_bucket n) (listed old.by_place n) (o.by_place n);
 }
@@ -501,6 +506,7 @@ none_gone gone rows =
 pub lists_rise : (rows : List MountRow) (t : Indexes) → IsRising rows → AreIndexed rows t → AllRise t
 lists_rise rows t rises o = record {
   by_ns = λ n. subst (λ (xs : List ℕ). IsStrictlyIncreasing xs) (sym (o.by_ns n)) (where_rises (is_in n) rows rises);
+  by_fs = λ n. subst (λ (xs : List ℕ). IsStrictlyIncreasing xs) (sym (o.by_fs n)) (where_rises (has_fs n) rows rises);
   by_parent = λ n.
       subst (λ (xs : List ℕ). IsStrictlyIncreasing xs) (sym (o.by_parent n)) (where_rises (is_child n) rows rises);
   by_place = λ n.

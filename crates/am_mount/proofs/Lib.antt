@@ -1,5 +1,6 @@
 pub mod FindLemmas
 pub mod IndexLemmas
 pub mod LeaveLemmas
+pub mod ListLemmas
 pub mod RowLemmas
 pub mod TakeLemmas

@@ -1,11 +1,14 @@
 -- What is taken out of numbers that rise.
-use Rattle.std.proofs.Common.{◌≡◌, ◌≢◌, ◌≤◌, ◌<◌, ℕ, zero, suc, List, [], ◌∷◌, ◌++◌, length, take, drop, get_or, Ok, Err, refl, ap, arith}
+use Rattle.std.proofs.Common.{◌≡◌, ◌≢◌, ◌≤◌, ◌<◌, ◌+◌, ◌-◌, ℕ, zero, suc, List, [], ◌∷◌, ◌++◌, length, take, drop, get_or, slice_get, Some, Ok, Err, refl, ap, ◌∙◌, arith}
 use Rattle.std.specs.Ordering.{nat_cmp}
 use Rattle.std.specs.List.{AllPairs}
 use Rattle.std.specs.List.Sorted.{IsBinarySearchResult, IsStrictlyIncreasing}
 use Rattle.std.proofs.lemmas.List.Kept.{AllPairs-from_increasing}
 use Rattle.std.proofs.lemmas.List.Sorted.{searched}
 use Rattle.std.proofs.lemmas.Bool.{eq-eqb, ne_eqb}
+use Rattle.std.proofs.lemmas.Option.{get_or_from_slice_get, none-some}
+use Rattle.std.proofs.lemmas.List.{append-nil}
+use Rattle.std.proofs.Math.ListN.{drop_of_length-le}
 use Rattle.am_mount.specs.{but}
 
 but_absent :
@@ -51,3 +54,20 @@ module _ (m : ℕ) (xs : List ℕ) (up : IsStrictlyIncreasing xs) where
       let before : k < i → get_or xs k 0 < m = none.1 k in
       let after : i ≤ k → m < get_or xs k 0 = λ le. none.2 k le within in
       grind (arith, before, after))
+
+greatest_at :
+    (m : ℕ) (xs : List ℕ) → IsStrictlyIncreasing xs → (i : ℕ) → i + 1 ≡ length xs → get_or xs i 0 ≡ m →
+    but m xs ≡ take i xs
+greatest_at m xs up i end found =
+    but_at m xs (AllPairs-from_increasing xs up) i (omega arith) found ∙
+    ap (λ (ys : List ℕ). take i xs ++ ys) (drop_of_length-le xs {i = suc i} (omega arith)) ∙
+    append-nil (take i xs)
+
+-- the greatest stands at the end
+pub but_greatest :
+    (m : ℕ) (xs : List ℕ) → IsStrictlyIncreasing xs → slice_get xs (length xs - 1) ≡ Some m →
+    but m xs ≡ take (length xs - 1) xs
+but_greatest m [] up e = absurd (none-some m e)
+but_greatest m (x ∷ xs) up e =
+    let at = length (x ∷ xs) - 1 in
+    greatest_at m (x ∷ xs) up at (omega arith) (get_or_from_slice_get (x ∷ xs) at m 0 e)

@@ -1,8 +1,8 @@
 //! The mounts that share a number.
 
-ghost use Rattle.std.specs.Prelude.{◌≡◌, ◌++◌, ◌∷◌, ◌==◌, ℕ, nat_eq, [], length, OnOk};
+ghost use Rattle.std.specs.Prelude.{◌≡◌, ℕ, nat_eq, [], Some, IfOk};
 ghost use Rattle.std.specs.List.Sorted.{IsStrictlyIncreasing};
-ghost use Rattle.am_mount.specs.Index.{listed, but, HasRoom, SameLists, AddsTo, TakesFrom};
+ghost use Rattle.am_mount.specs.Index.{listed, but, number_at, HasRoom, HasRoomAt, SameLists, AddsTo, TakesFrom};
 
 use am_names::MountId;
 use am_ordered::Rows;
@@ -17,7 +17,7 @@ pub struct Index {
 }
 
 /// Takes the mount out of a list that rises, in which it is found by halves.
-fn take_out(mounts: &mut Rows<MountId>, mount: MountId)
+fn take_out_by_halves(mounts: &mut Rows<MountId>, mount: MountId)
     requires { IsStrictlyIncreasing mounts.old.rows }
     ensures { mounts.new.rows ≡ but mount mounts.old.rows }
 {
@@ -28,6 +28,18 @@ fn take_out(mounts: &mut Rows<MountId>, mount: MountId)
     if let Ok(at) = found {
         mounts.take_out(at);
     }
+}
+
+/// Takes the mount out of a list that rises, at whose end the newest stands.
+fn take_out(mounts: &mut Rows<MountId>, mount: MountId)
+    requires { IsStrictlyIncreasing mounts.old.rows }
+    ensures { mounts.new.rows ≡ but mount mounts.old.rows }
+{
+    if mounts.as_slice().last().copied() == Some(mount) {
+        let _newest = mounts.pop();
+        return;
+    }
+    take_out_by_halves(mounts, mount);
 }
 
 impl Index {
@@ -51,64 +63,54 @@ impl Index {
         }
     }
 
-    /// Begins the list of a number that has none.
-    fn begin(&mut self, number: u64) -> Result<(), AllocError>
+    /// Begins the list of a number that has none. The answer is the list's place.
+    fn begin(&mut self, number: u64) -> Result<usize, AllocError>
         requires { listed self.old number ≡ [] }
         ensures same { SameLists self.old self.new }
-        ensures ok { OnOk result (HasRoom self.new number) }
+        ensures ok { IfOk result (HasRoom self.new number) }
     {
         let mut list = Rows::new(self.alloc);
         list.reserve(1)?;
-        self.lists.insert(number, list)?;
-        Ok(())
+        let (place, _) = self.lists.insert_full(number, list)?;
+        Ok(place)
     }
 
-    /// Makes room for one more mount that has the number.
-    pub fn make_room(&mut self, number: u64) -> Result<(), AllocError>
+    /// Makes room for one more mount that has the number. The answer is the place of its list, at
+    /// which it stands until a mount is taken out.
+    pub fn make_room(&mut self, number: u64) -> Result<usize, AllocError>
         ensures same { SameLists self.old self.new }
-        ensures ok { OnOk result (HasRoom self.new number) }
+        ensures ok { IfOk result (HasRoom self.new number) }
     {
-        if let Some(list) = self.lists.get_mut(&number) {
-            return list.reserve(1);
-        }
-        self.begin(number)
+        let Some(place) = self.lists.get_index_of(&number) else {
+            return self.begin(number);
+        };
+        self.lists[place].reserve(1)?;
+        Ok(place)
     }
 
-    /// Adds a mount that has the number. There is room for it.
-    pub fn add(&mut self, number: u64, mount: MountId)
-        requires { HasRoom self.old number }
-        ensures { AddsTo (λ n. nat_eq number n) mount self.old self.new }
+    /// Adds a mount to the list at this place, where there is room for it.
+    pub fn add(&mut self, place: usize, mount: MountId)
+        requires { HasRoomAt self.old place }
+        ensures { (n : ℕ) → number_at self.old place ≡ Some n →
+            AddsTo (λ k. nat_eq n k) mount self.old self.new }
     {
-        if let Some(list) = self.lists.get_mut(&number) {
+        if let Some(list) = self.lists.get_index_mut(place) {
             list.push_reserved(mount);
         }
     }
 
-    /// Takes the mount out of the list of the number.
-    fn shorten(&mut self, number: u64, mount: MountId)
-        requires { IsStrictlyIncreasing (listed self.old number) }
-        ensures { TakesFrom (λ n. nat_eq number n) mount self.old self.new }
-    {
-        if let Some(list) = self.lists.get_mut(&number) {
-            take_out(list, mount);
-        }
-    }
-
-    /// Gives the list of the number up, where it is empty.
-    fn tidy(&mut self, number: u64)
-        ensures { SameLists self.old self.new }
-    {
-        if self.list(number).is_empty() {
-            let _list = self.lists.swap_remove(&number);
-        }
-    }
-
-    /// Takes out a mount that has the number, whose list rises.
+    /// Takes out a mount that has the number, whose list rises. A list that is empty then goes.
     pub fn remove(&mut self, number: u64, mount: MountId)
         requires { IsStrictlyIncreasing (listed self.old number) }
         ensures { TakesFrom (λ n. nat_eq number n) mount self.old self.new }
     {
-        self.shorten(number, mount);
-        self.tidy(number);
+        let Some(place) = self.lists.get_index_of(&number) else {
+            return;
+        };
+        let list = &mut self.lists[place];
+        take_out(list, mount);
+        if list.as_slice().is_empty() {
+            let _gone = self.lists.swap_remove_index(place);
+        }
     }
 }

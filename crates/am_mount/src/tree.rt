@@ -9,21 +9,30 @@ ghost use Rattle.std.specs.List.{list_any};
 ghost use Rattle.am_names.specs.{IsCanonical, names_of, is_among};
 ghost use Rattle.am_mount.specs.Found.{stands_at, stands_alone};
 ghost use Rattle.am_mount.specs.Index.{AreIndexed};
-ghost use Rattle.am_mount.specs.Rows.{last_of, IsRising, next_of, mount_row, mounts_where, is_in, is_child, is_at, top_of, root_of, HasRow, IsIn, IsOn, IsTop, HasNoMountAt};
+ghost use Rattle.am_mount.specs.Rows.{last_of, IsRising, next_of, mount_row, mounts_where, is_in, is_child, has_fs, is_at, top_of, root_of, HasRow, IsIn, IsOn, IsTop, HasNoMountAt};
 
 use crate::among::leave_out;
 use crate::buckets::bucket;
 use crate::indexes::Indexes;
-use am_names::{MountId, MountRow, NsId};
+use am_names::{FsId, MountId, MountRow, NsId};
 use am_ordered::Rows;
 use std::alloc::{AllocError, Global};
 use std::marker::Model;
 
 /// A set of mount rows, no two with the same number (Linux: the mounts of all namespaces).
-#[derive(Drop)]
 pub struct Tree {
     rows: Rows<MountRow>,
     indexes: Indexes,
+}
+
+// Written by hand, it is proved here once: a derived one is proved field by field in each function
+// of the crates above that lets the rows go at an early return.
+impl Drop for Tree {
+    fn drop(self) {
+        let Tree { rows, indexes } = self;
+        drop(rows);
+        drop(indexes);
+    }
 }
 
 impl Model for Tree {
@@ -79,6 +88,20 @@ fn row_in_place(rows: &[MountRow], mount: MountId) -> Option<&MountRow>
     }
 }
 
+/// The mount's row, where none went of the mounts from it to the newest.
+fn row_from_end(rows: &[MountRow], mount: MountId) -> Option<&MountRow>
+    requires { IsRising rows.now }
+    ensures { IfSome result (λ row. mount_row rows.now mount ≡ Some row.now) }
+{
+    let newest = rows.last()?;
+    let newer = newest.mount.0.saturating_sub(mount.0) as usize;
+    let place = (rows.len() - 1).saturating_sub(newer);
+    match rows.get(place) {
+        Some(row) if row.mount == mount => Some(row),
+        Some(_) | None => None,
+    }
+}
+
 /// The mount's row. The rows rise by number, so that halves of them are left out at a time.
 fn row_by_halves(rows: &[MountRow], mount: MountId) -> Option<&MountRow>
     requires { IsRising rows.now }
@@ -91,15 +114,19 @@ fn row_by_halves(rows: &[MountRow], mount: MountId) -> Option<&MountRow>
     }
 }
 
-/// The mount's row, which is looked for at the place of its number first.
+/// The mount's row, which is looked for at its place from the newest, and at that of its number,
+/// first.
 fn mount_row(rows: &[MountRow], mount: MountId) -> Option<&MountRow>
     requires { IsRising rows.now }
     ensures { option_copied result ≡ mount_row rows.now mount }
 {
-    match row_in_place(rows, mount) {
-        Some(row) => Some(row),
-        None => row_by_halves(rows, mount),
+    if let Some(row) = row_from_end(rows, mount) {
+        return Some(row);
     }
+    if let Some(row) = row_in_place(rows, mount) {
+        return Some(row);
+    }
+    row_by_halves(rows, mount)
 }
 
 /// Whether the mount is mounted at this place of that one.
@@ -217,8 +244,8 @@ impl Tree {
         ensures err { OnErr result (self.new ≡ self.old) }
     {
         self.rows.reserve(1)?;
-        self.indexes.make_room(&row)?;
-        self.indexes.add(&row);
+        let places = self.indexes.make_room(&row)?;
+        self.indexes.add(&row, places);
         self.rows.push_reserved(row);
         Ok(())
     }
@@ -335,6 +362,20 @@ impl Tree {
         ensures { result ≡ list_any (is_in ns) self.now }
     {
         !self.indexes.by_ns.list(ns.0 as u64).is_empty()
+    }
+
+    /// The mounts that are mounted on this one, at any place, in rising order.
+    pub fn mounts_on(&self, mount: MountId) -> &[MountId]
+        ensures { result.now ≡ mounts_where (is_child mount) self.now }
+    {
+        self.indexes.by_parent.list(mount.0)
+    }
+
+    /// The mounts that show the file system, in rising order.
+    pub fn mounts_with(&self, fs: FsId) -> &[MountId]
+        ensures { result.now ≡ mounts_where (has_fs fs) self.now }
+    {
+        self.indexes.by_fs.list(fs.0 as u64)
     }
 
     /// The mounts that are mounted on this one, at any place.

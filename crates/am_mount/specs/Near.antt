@@ -1,0 +1,15 @@
+-- How many rows move where mounts are taken out one after another: own choice.
+use Rattle.std.specs.Prelude.{◌-◌, ℕ, nat_le, min, List, length}
+use Rattle.std.specs.List.{position_or_len, slice_index}
+use Rattle.am_names.specs.{MountRow}
+
+-- how many rows stand in front of that of this number and those of greater ones
+abbrev pub rows_below : List MountRow → ℕ → ℕ
+rows_below rows m = position_or_len (λ row. nat_le m row.mount) rows
+
+-- so many rows move at most where one of these mounts is taken out, which stand in order of
+-- number: those in front of the last of them that stay, or those from the first on
+abbrev pub most_moved : List MountRow → List ℕ → ℕ
+most_moved rows gone =
+    min (rows_below rows (slice_index gone (length gone - 1)) - (length gone - 1))
+    (length rows - rows_below rows (slice_index gone 0))
