@@ -1,3 +1,4 @@
 pub mod KeyLemmas
 pub mod TriggerLemmas
 mod FailureLemmas
+mod FileSystemLemmas

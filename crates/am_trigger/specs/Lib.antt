@@ -5,6 +5,8 @@ pub mod View
 pub mod Failures
 pub mod FailureTable
 pub mod FailureView
+pub mod FileSystemTable
+pub mod FileSystemView
 -- what contracts cite, passed on from one place
 pub use Capacity.{KeepsRoom, TriggerTable}
 pub use Failures.{FailureRows, error_while, failing, failure_of, with_failure, without_failure, without_failures}

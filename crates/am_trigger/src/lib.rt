@@ -5,6 +5,7 @@
 
 pub mod autofs;
 pub mod failures;
+mod file_systems;
 pub mod triggers;
 
 pub use autofs::{Autofs, place_of};

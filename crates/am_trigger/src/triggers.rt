@@ -1,12 +1,13 @@
 //! The triggers of all autofs file systems.
 
-ghost use Rattle.std.specs.Prelude.{◌≡◌, ◌<◌, ◌≤◌, ◌+◌, length, None, map, IfOk, OnOk, OnErr};
+ghost use Rattle.std.specs.Prelude.{◌≡◌, ◌<◌, ◌≤◌, ◌+◌, length, None, IfOk, OnOk, OnErr};
 ghost use Rattle.am_names.specs.{RefusedAs, RefusedOnlyAs};
-ghost use Rattle.am_trigger.specs.Rows.{no_triggers, autofs_of, add_refusal, with_autofs, catatonic_refusal, catatonic_row, with_catatonic, is_made, mkdir_refusal, with_directory, IsMadeToo, rmdir_refusal, without_directory, IsMadeNoMore, last_use_of, used_in, used, all_used_in, all_used, IsUsedAt};
+ghost use Rattle.am_trigger.specs.Rows.{no_triggers, autofs_of, add_refusal, with_autofs, catatonic_refusal, with_catatonic, is_made, mkdir_refusal, with_directory, IsMadeToo, rmdir_refusal, without_directory, IsMadeNoMore, last_use_of, used_in, used, all_used_in, all_used, IsUsedAt};
 ghost use Rattle.am_trigger.specs.Capacity.{KeepsRoom};
 ghost use Rattle.indexmap.specs.IndexMap.{spare};
 
 use crate::autofs::Autofs;
+use crate::file_systems::FileSystems;
 use am_names::{Errno, FsId, MountId, Name, Seconds, Trigger};
 use am_ordered::OrderedMap;
 use indexmap::IndexMap;
@@ -19,7 +20,7 @@ mod last_uses;
 /// (autofs.rst, "Content" and "Mountpoint expiry").
 #[derive(Drop)]
 pub struct Triggers {
-    autofs: Vec<Autofs>,
+    autofs: FileSystems,
     made: OrderedMap<Trigger, ()>,
     uses: IndexMap<Trigger, Seconds>,
 }
@@ -32,24 +33,6 @@ impl Model for Triggers {
     ghost use Rattle.am_trigger.specs.View.{table_of};
 
     ghost view = { table_of };
-}
-
-fn catatonic_row(row: Autofs, fs: FsId, catatonic: bool) -> Autofs
-    ensures { result ≡ catatonic_row fs catatonic row }
-{
-    if row.fs == fs {
-        Autofs { catatonic, ..row }
-    } else {
-        row
-    }
-}
-
-fn set_catatonic(rows: &mut [Autofs], fs: FsId, catatonic: bool)
-    ensures { rows.new ≡ map (catatonic_row fs catatonic) rows.old }
-{
-    for row in rows.iter_mut() {
-        *row = catatonic_row(*row, fs, catatonic);
-    }
 }
 
 fn use_reserved(uses: &mut IndexMap<Trigger, Seconds>, trigger: &Trigger, moment: Seconds)
@@ -79,7 +62,7 @@ impl Triggers {
         ensures { result.rows ≡ no_triggers }
     {
         Triggers {
-            autofs: Vec::new(alloc),
+            autofs: FileSystems::new(alloc),
             made: OrderedMap::new(alloc),
             uses: IndexMap::new(alloc),
         }
@@ -89,7 +72,7 @@ impl Triggers {
     pub fn autofs(&self, fs: FsId) -> Option<Autofs>
         ensures { result ≡ autofs_of self.now.rows fs }
     {
-        self.autofs.iter().copied().find(|row| row.fs == fs)
+        self.autofs.get(fs)
     }
 
     /// A new autofs, with the daemon's mount of it. It is not catatonic.
@@ -113,7 +96,7 @@ impl Triggers {
         ensures room { KeepsRoom self.old self.new }
         ensures ok { OnOk result (1 ≤ self.new.autofs_room) }
     {
-        self.autofs.reserve(1)?;
+        self.autofs.reserve()?;
         Ok(())
     }
 
@@ -143,7 +126,7 @@ impl Triggers {
         if self.autofs(fs).is_none() {
             return Err(Errno::EINVAL);
         }
-        set_catatonic(&mut self.autofs, fs, catatonic);
+        self.autofs.set_catatonic(fs, catatonic);
         Ok(())
     }
 

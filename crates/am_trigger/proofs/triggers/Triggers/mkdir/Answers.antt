@@ -16,7 +16,7 @@ returns-clause-ok c =
     let none : list_any (λ row. same_trigger row trigger) (keys_of rows) ≡ false =
     ap (λ (t : TriggerTable). is_made t.rows trigger) c.self.view_is ∙ sym c.made.ensures ∙ c.if-made.false in
     let made : keys_of c.insert.new.self.entries ≡ keys_of rows ++ trigger ∷ [] = ap keys_of c.in_ok-insert.ensures.ok ∙ key_last eq-value.it key_is_same_trigger trigger tt rows none in
-    ap (λ (ks : List Trigger). record { autofs = c.self.inside.autofs.items; made = ks; uses = c.self.inside.uses.entries }) made
+    ap (λ (ks : List Trigger). record { autofs = c.self.inside.autofs.rows; made = ks; uses = c.self.inside.uses.entries }) made
     ∙ ap (λ (t : TriggerTable). with_directory trigger t.rows) c.self.view_is
 
 pub returns-clause-set : goal.returns-clause-set

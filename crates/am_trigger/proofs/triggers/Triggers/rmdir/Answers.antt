@@ -14,7 +14,7 @@ returns-clause-ok c =
     let rows = c.self.inside.made.entries in
     let left : keys_of c.remove-gone.new.self.entries ≡ filter (λ (row : Trigger). not (same_trigger row c.args.trigger.now)) (keys_of rows) =
     ap keys_of c.remove-gone.ensures.entries ∙ key_gone eq-value.it key_is_same_trigger c.args.trigger.now rows c.remove-gone.ensures.unique in
-    ap (λ (ks : List Trigger). record { autofs = c.self.inside.autofs.items; made = ks; uses = c.self.inside.uses.entries }) left
+    ap (λ (ks : List Trigger). record { autofs = c.self.inside.autofs.rows; made = ks; uses = c.self.inside.uses.entries }) left
     ∙ ap (λ (t : TriggerTable). without_directory c.args.trigger.now t.rows) c.self.view_is
 
 pub returns-clause-set : goal.returns-clause-set

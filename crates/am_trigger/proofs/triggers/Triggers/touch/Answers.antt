@@ -12,7 +12,7 @@ pub returns-clause-ok : goal.returns-clause-ok
 returns-clause-ok c =
     let entries : c.insert.new.self.entries ≡ used_in c.args.trigger c.args.moment c.self.inside.uses.entries =
     c.in_ok-insert.ensures.entries ∙ insert_is eq-value.it key_is_same_trigger c.args.trigger c.args.moment c.self.inside.uses.entries in
-    ap (λ (es : List (Trigger × ℕ)). record { autofs = c.self.inside.autofs.items; made = keys_of c.self.inside.made.entries; uses = es }) entries
+    ap (λ (es : List (Trigger × ℕ)). record { autofs = c.self.inside.autofs.rows; made = keys_of c.self.inside.made.entries; uses = es }) entries
     ∙ ap (λ (t : TriggerTable). used c.args.trigger c.args.moment t.rows) c.self.view_is
 
 pub returns-clause-map : goal.returns-clause-map
