@@ -15,3 +15,4 @@ pub mod SettledLemmas
 pub mod RenewLemmas
 pub mod FailLemmas
 pub mod ViewLemmas
+mod OpeningLemmas

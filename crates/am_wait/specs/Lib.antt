@@ -4,6 +4,9 @@ pub mod Invariant
 pub mod Seats
 pub mod Seating
 pub mod Held
+pub mod HeldTable
+pub mod HeldView
+pub mod Openings
 pub mod View
 -- what contracts cite, passed on from one place
 pub use Calls.{answered, collect_refusal, collected, failed_row, fs_released, is_exhausted, is_full, join_refusal, joined, joined_on, open_refusal, opened, rejoin_refusal, rejoined, released_row, reopen_refusal, reopened, status_refusal, still_waits, wait_refusal, waiting_on}

@@ -1,16 +1,16 @@
-//! The open tokens, each with the keys of those that wait on it.
+//! The rows of the open tokens, each with the keys of those that wait on it.
 
-ghost use Rattle.std.specs.Prelude.{◌≡◌, ◌<◌, ◌==◌, ◌∷◌, ◌++◌, [], None, nat_le, find, filter, position, set, get_or, not, vec_len, option_copied, IfOk, OnOk, OnErr};
+ghost use Rattle.std.specs.Prelude.{◌≡◌, ◌<◌, ◌==◌, ◌∷◌, ◌++◌, [], nat_le, filter, position, set, get_or, not, option_copied, IfOk, OnOk, OnErr};
 ghost use Rattle.std.specs.List.{position_or_len};
-ghost use Rattle.am_names.specs.declared.row.TokenKind.{TokenKind as Kind};
-ghost use Rattle.am_names.specs.{same_trigger, RiseBy};
+ghost use Rattle.std.specs.VecDeque.{deque_len};
+ghost use Rattle.am_names.specs.{RiseBy};
 ghost use Rattle.am_wait.specs.declared.held.HeldToken.{HeldToken as Held};
-ghost use Rattle.am_wait.specs.Rows.{same_kind};
-ghost use Rattle.am_wait.specs.Held.{held_of, without_held, is_held_on, joined_key, with_key, held_row, held_open_on, held_tokens_of};
+ghost use Rattle.am_wait.specs.Held.{held_of, without_held, joined_key, with_key, held_tokens_of};
 
 use crate::keys::Keys;
-use am_names::{FsId, Token, TokenKind, Trigger, WaitRow};
+use am_names::{FsId, Token, TokenKind, Trigger};
 use std::alloc::{AllocError, Global};
+use std::collections::VecDeque;
 
 /// An open token. The keys are those of its waiters, in the order in which they joined.
 #[derive(Debug, Drop)]
@@ -21,57 +21,44 @@ pub struct HeldToken {
     pub keys: Keys,
 }
 
-/// The open token of this kind for a trigger.
-pub fn open_on(tokens: &[HeldToken], kind: TokenKind, trigger: &Trigger) -> Option<Token>
-    ensures { result ≡ held_open_on tokens.now kind trigger.now }
+/// The token is the last of those found, if it is of the file system.
+fn find_token(found: &mut Vec<Token>, row: &HeldToken, fs: FsId) -> Result<(), AllocError>
+    ensures { OnOk result (found.new.items
+        ≡ found.old.items ++ held_tokens_of (row.now ∷ []) fs) }
 {
-    tokens
-        .iter()
-        .find(|row| is_held_on(row, kind, trigger))
-        .map(|row| row.token)
+    if row.trigger.fs == fs {
+        found.push(row.token)?;
+    }
+    Ok(())
 }
 
 /// The open tokens of a file system, in rising order.
-pub fn tokens_of(alloc: Global, tokens: &[HeldToken], fs: FsId) -> Result<Vec<Token>, AllocError>
-    ensures { IfOk result (λ v. v.items ≡ held_tokens_of tokens.now fs) }
+pub fn tokens_of(
+    alloc: Global,
+    tokens: &VecDeque<HeldToken>,
+    fs: FsId,
+) -> Result<Vec<Token>, AllocError>
+    ensures { IfOk result (λ v. v.items ≡ held_tokens_of tokens.now.items fs) }
 {
     let mut found = Vec::new(alloc);
     for row in tokens.iter() {
-        if row.trigger.fs == fs {
-            found.push(row.token)?;
-        }
+        find_token(&mut found, row, fs)?;
     }
     Ok(found)
 }
 
-fn same_kind(one: TokenKind, other: TokenKind) -> bool
-    ensures { result ≡ same_kind one other }
-{
-    match (one, other) {
-        (TokenKind::Missing, TokenKind::Missing) | (TokenKind::Expire, TokenKind::Expire) => true,
-        (TokenKind::Missing, TokenKind::Expire) | (TokenKind::Expire, TokenKind::Missing) => false,
-    }
-}
-
-/// Whether a token is of this kind and for this trigger.
-fn is_held_on(row: &HeldToken, kind: TokenKind, trigger: &Trigger) -> bool
-    ensures { result ≡ is_held_on kind trigger.now row.now }
-{
-    row.trigger.is_same(trigger) && same_kind(row.kind, kind)
-}
-
 /// How many rows stand before that of this token and those of greater ones.
-fn tokens_below(tokens: &[HeldToken], token: Token) -> usize
-    requires rising { RiseBy (λ row. row.token) 0 tokens.now }
-    ensures { result ≡ position_or_len (λ row. nat_le token row.token) tokens.now }
+fn tokens_below(tokens: &VecDeque<HeldToken>, token: Token) -> usize
+    requires rising { RiseBy (λ row. row.token) 0 tokens.now.items }
+    ensures { result ≡ position_or_len (λ row. nat_le token row.token) tokens.now.items }
 {
     tokens.partition_point(|row| row.token.0 < token.0)
 }
 
 /// The row of a token, if it is open.
-pub fn held_of(tokens: &[HeldToken], token: Token) -> Option<&HeldToken>
-    requires rising { RiseBy (λ row. row.token) 0 tokens.now }
-    ensures { option_copied result ≡ held_of tokens.now token }
+pub fn held_of(tokens: &VecDeque<HeldToken>, token: Token) -> Option<&HeldToken>
+    requires rising { RiseBy (λ row. row.token) 0 tokens.now.items }
+    ensures { option_copied result ≡ held_of tokens.now.items token }
 {
     let at = tokens_below(tokens, token);
     let Some(row) = tokens.get(at) else {
@@ -84,9 +71,9 @@ pub fn held_of(tokens: &[HeldToken], token: Token) -> Option<&HeldToken>
 }
 
 /// Where the row of a token stands.
-fn held_place(tokens: &[HeldToken], token: Token) -> Option<usize>
-    requires rising { RiseBy (λ row. row.token) 0 tokens.now }
-    ensures { result ≡ position (λ row. row.token == token) tokens.now }
+fn held_place(tokens: &VecDeque<HeldToken>, token: Token) -> Option<usize>
+    requires rising { RiseBy (λ row. row.token) 0 tokens.now.items }
+    ensures { result ≡ position (λ row. row.token == token) tokens.now.items }
 {
     let at = tokens_below(tokens, token);
     let Some(row) = tokens.get(at) else {
@@ -99,8 +86,8 @@ fn held_place(tokens: &[HeldToken], token: Token) -> Option<usize>
 }
 
 /// The key is the last of those of the token at this place.
-fn join_at(tokens: &mut Vec<HeldToken>, at: usize, key: usize) -> Result<(), AllocError>
-    requires { at < vec_len tokens.old }
+fn join_at(tokens: &mut VecDeque<HeldToken>, at: usize, key: usize) -> Result<(), AllocError>
+    requires { at < deque_len tokens.old }
     ensures ok { OnOk result ((d : Held) → tokens.new.items ≡
         set tokens.old.items at (joined_key (get_or tokens.old.items at d) key)) }
     ensures err { OnErr result (tokens.new.items ≡ tokens.old.items) }
@@ -110,7 +97,7 @@ fn join_at(tokens: &mut Vec<HeldToken>, at: usize, key: usize) -> Result<(), All
 }
 
 /// The key is the last of those of a token.
-pub fn add_key(tokens: &mut Vec<HeldToken>, token: Token, key: usize) -> Result<(), AllocError>
+pub fn add_key(tokens: &mut VecDeque<HeldToken>, token: Token, key: usize) -> Result<(), AllocError>
     requires rising { RiseBy (λ row. row.token) 0 tokens.old.items }
     ensures ok { OnOk result (tokens.new.items ≡ with_key token key tokens.old.items) }
     ensures err { OnErr result (tokens.new.items ≡ tokens.old.items) }
@@ -122,29 +109,8 @@ pub fn add_key(tokens: &mut Vec<HeldToken>, token: Token, key: usize) -> Result<
     Ok(())
 }
 
-/// The token on which this wait is opens, the greatest of all; this key is the first of those of
-/// its waiters.
-pub fn open_token(
-    alloc: Global,
-    tokens: &mut Vec<HeldToken>,
-    wait: &WaitRow,
-    key: usize,
-) -> Result<(), AllocError>
-    ensures ok { OnOk result (tokens.new.items ≡ tokens.old.items
-        ++ held_row wait.now.token wait.now.trigger wait.now.kind key ∷ []) }
-    ensures err { OnErr result (tokens.new.items ≡ tokens.old.items) }
-{
-    tokens.push(HeldToken {
-        token: wait.token,
-        trigger: wait.trigger,
-        kind: wait.kind,
-        keys: Keys::one(alloc, key)?,
-    })?;
-    Ok(())
-}
-
 /// A token closes.
-pub fn take_token(tokens: &mut Vec<HeldToken>, token: Token)
+pub fn take_token(tokens: &mut VecDeque<HeldToken>, token: Token)
     requires rising { RiseBy (λ row. row.token) 0 tokens.old.items }
     ensures { tokens.new.items ≡ without_held token tokens.old.items }
 {
@@ -159,7 +125,7 @@ pub fn take_token(tokens: &mut Vec<HeldToken>, token: Token)
 }
 
 /// All tokens of a file system close.
-pub fn take_tokens_of(tokens: &mut Vec<HeldToken>, fs: FsId)
+pub fn take_tokens_of(tokens: &mut VecDeque<HeldToken>, fs: FsId)
     ensures { tokens.new.items ≡ filter (λ row. not (row.trigger.fs == fs)) tokens.old.items }
 {
     tokens.retain(|row| row.trigger.fs != fs);

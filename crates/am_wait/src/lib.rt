@@ -4,8 +4,10 @@
 
 mod held;
 mod keys;
+mod openings;
 mod seating;
 mod seats;
+mod tokens;
 pub mod waits;
 
 pub use waits::Waits;

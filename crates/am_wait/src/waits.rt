@@ -8,9 +8,10 @@ ghost use Rattle.am_wait.specs.Invariant.{IsSound};
 ghost use Rattle.am_wait.specs.Calls.{is_exhausted, is_full, open_refusal, waiting_on, opened, join_refusal, joined, answer_refusal, answered, fs_released, collect_refusal, status_of, collected};
 
 use crate::held;
-use crate::held::{HeldToken, held_of, take_token, take_tokens_of};
+use crate::held::held_of;
 use crate::seating::Seating;
 use crate::seats::{set_statuses, take_wait, walkers_at};
+use crate::tokens::HeldTokens;
 use am_names::{Errno, FsId, Status, Token, TokenKind, Trigger, WaitRow, WalkerId};
 use slab::Slab;
 use std::alloc::{AllocError, Global};
@@ -22,7 +23,7 @@ mod again;
 /// status yet, its wait (Linux: the wait queues of an autofs).
 #[derive(Debug, Drop)]
 pub struct Waits {
-    tokens: Vec<HeldToken>,
+    tokens: HeldTokens,
     seats: Seating,
     slab: Slab<WaitRow>,
     last_token: u32,
@@ -61,7 +62,7 @@ impl Waits {
         ensures { result ≡ no_waits waiters tokens }
     {
         Waits {
-            tokens: Vec::new(alloc),
+            tokens: HeldTokens::new(alloc),
             seats: Seating::new(alloc),
             slab: Slab::new(alloc),
             last_token: 0,
@@ -74,14 +75,14 @@ impl Waits {
     pub fn open_on(&self, kind: TokenKind, trigger: &Trigger) -> Option<Token>
         ensures { result ≡ open_on self.now.tokens kind trigger.now }
     {
-        held::open_on(&self.tokens, kind, trigger)
+        self.tokens.open_on(kind, trigger)
     }
 
     /// The trigger of a token; none if it isn't open.
     pub fn trigger_of(&self, token: Token) -> Option<Trigger>
         ensures { result ≡ option_map (λ row. row.trigger) (token_of self.now.tokens token) }
     {
-        match held_of(&self.tokens, token) {
+        match held_of(self.tokens.rows(), token) {
             Some(row) => Some(row.trigger),
             None => None,
         }
@@ -92,7 +93,7 @@ impl Waits {
         ensures { result ≡ option_map (λ row. (row.kind, row.trigger))
             (token_of self.now.tokens token) }
     {
-        match held_of(&self.tokens, token) {
+        match held_of(self.tokens.rows(), token) {
             Some(row) => Some((row.kind, row.trigger)),
             None => None,
         }
@@ -123,7 +124,7 @@ impl Waits {
     pub fn waiters_of(&self, alloc: Global, token: Token) -> Result<Vec<WalkerId>, AllocError>
         ensures { IfOk result (λ v. v.items ≡ waiters_of self.now.tokens token) }
     {
-        match held_of(&self.tokens, token) {
+        match held_of(self.tokens.rows(), token) {
             Some(row) => walkers_at(alloc, &self.slab, row.keys.as_slice()),
             None => Ok(Vec::new(alloc)),
         }
@@ -133,7 +134,7 @@ impl Waits {
     pub fn tokens_of(&self, alloc: Global, fs: FsId) -> Result<Vec<Token>, AllocError>
         ensures { IfOk result (λ v. v.items ≡ tokens_of self.now.tokens fs) }
     {
-        held::tokens_of(alloc, &self.tokens, fs)
+        held::tokens_of(alloc, self.tokens.rows(), fs)
     }
 
     fn is_exhausted(&self) -> bool
@@ -201,11 +202,11 @@ impl Waits {
         ensures ok { OnOk result (self.new ≡ answered token status self.old) }
         ensures err { OnErr result (self.new ≡ self.old) }
     {
-        let Some(row) = held_of(&self.tokens, token) else {
+        let Some(row) = held_of(self.tokens.rows(), token) else {
             return Err(Errno::EINVAL);
         };
         set_statuses(&mut self.slab, row.keys.as_slice(), status);
-        take_token(&mut self.tokens, token);
+        self.tokens.take_token(token);
         Ok(())
     }
 
@@ -215,7 +216,7 @@ impl Waits {
         ensures { self.new ≡ fs_released fs self.old }
     {
         self.seats.fail_waits_of(&mut self.slab, fs);
-        take_tokens_of(&mut self.tokens, fs);
+        self.tokens.take_tokens_of(fs);
     }
 
     /// The status with which the walker was released. Its wait counts no more.

@@ -5,7 +5,7 @@ ghost use Rattle.am_names.specs.{RefusedAs};
 ghost use Rattle.am_wait.specs.Rows.{wait_of};
 ghost use Rattle.am_wait.specs.Calls.{is_full, collected, still_waits, reopen_refusal, reopened, rejoin_refusal, rejoined};
 
-use crate::held::{add_key, held_of, open_token};
+use crate::held::held_of;
 use crate::seats::{make_room, next_key, put_wait, take_wait, waits_of_others};
 use crate::waits::{Waits, waiting_on};
 use am_names::{Errno, Token, TokenKind, Trigger, WalkerId};
@@ -66,7 +66,7 @@ impl Waits {
         let wait = waiting_on(token, trigger, kind, walker);
         let key = next_key(&self.seats, &self.slab, walker);
         make_room(&mut self.seats, &mut self.slab)?;
-        open_token(alloc, &mut self.tokens, &wait, key)?;
+        self.tokens.open_token(alloc, &wait, key)?;
         take_wait(&mut self.seats, &mut self.slab, walker);
         put_wait(&mut self.seats, &mut self.slab, wait);
         self.last_token = number;
@@ -83,7 +83,7 @@ impl Waits {
         if self.still_waits(walker) {
             return Err(Errno::EINVAL);
         }
-        let Some(row) = held_of(&self.tokens, token) else {
+        let Some(row) = held_of(self.tokens.rows(), token) else {
             return Err(Errno::EINVAL);
         };
         let wait = waiting_on(token, row.trigger, row.kind, walker);
@@ -92,7 +92,7 @@ impl Waits {
         }
         let key = next_key(&self.seats, &self.slab, walker);
         make_room(&mut self.seats, &mut self.slab)?;
-        add_key(&mut self.tokens, token, key)?;
+        self.tokens.add_key(token, key)?;
         take_wait(&mut self.seats, &mut self.slab, walker);
         put_wait(&mut self.seats, &mut self.slab, wait);
         Ok(())

@@ -17,14 +17,14 @@ invariant_of-self c =
 pub invariant_of-self-in_err-open_token : goal.invariant_of-self-in_err-open_token
 invariant_of-self-in_err-open_token c =
     let i = c.self.inside in
-    let j : Inside = record { tokens = c.open_token.new.tokens; seats = c.make_room.new.seats; slab = c.make_room.new.slab; last_token = i.last_token; most_waits = i.most_waits; most_tokens = i.most_tokens } in
+    let j : Inside = record { tokens = c.open_token.new.self; seats = c.make_room.new.seats; slab = c.make_room.new.slab; last_token = i.last_token; most_waits = i.most_waits; most_tokens = i.most_tokens } in
     same_kept i j c.self.invariant (record { tokens = c.in_err-open_token.ensures.err; seats = c.make_room.ensures.seats; slab = same_slots i.slab c.make_room.new.slab c.make_room.ensures.slots; last = refl; waiters = refl; numbers = refl })
 
 pub invariant_of-self-2 : goal.invariant_of-self-2
 invariant_of-self-2 c =
     let i = c.self.inside in
     let j : Inside = record { tokens = i.tokens; seats = c.take_wait.new.seats; slab = c.take_wait.new.slab; last_token = i.last_token; most_waits = i.most_waits; most_tokens = i.most_tokens } in
-    let k : Inside = record { tokens = c.open_token.new.tokens; seats = c.put_wait.new.seats; slab = c.put_wait.new.slab; last_token = i.last_token + 1; most_waits = i.most_waits; most_tokens = i.most_tokens } in
+    let k : Inside = record { tokens = c.open_token.new.self; seats = c.put_wait.new.seats; slab = c.put_wait.new.slab; last_token = i.last_token + 1; most_waits = i.most_waits; most_tokens = i.most_tokens } in
     let wait = c.waiting_on-wait.result in
     let key = c.next_key-key.result in
     let is : wait ≡ waiting_on (i.last_token + 1) c.args.trigger c.args.kind c.args.walker = c.waiting_on-wait.ensures in
@@ -49,14 +49,14 @@ invariant_of-self-2 c =
       waiters_put = refl;
       numbers_put = refl;
     } in
-    let tokens : c.open_token.new.tokens.items ≡ i.tokens.items ++ held_row (i.last_token + 1) c.args.trigger c.args.kind key ∷ [] = c.in_ok-open_token.ensures.ok ∙ ap (λ (w : WaitRow). i.tokens.items ++ held_row w.token w.trigger w.kind key ∷ []) is in
+    let tokens : c.open_token.new.self.items ≡ i.tokens.items ++ held_row (i.last_token + 1) c.args.trigger c.args.kind key ∷ [] = c.in_ok-open_token.ensures.ok ∙ ap (λ (w : WaitRow). i.tokens.items ++ held_row w.token w.trigger w.kind key ∷ []) is in
     (reopens i j k c.make_room.new.seats.rows c.make_room.new.slab c.args.walker key wait c.self.invariant free renews c.args.trigger c.args.kind (i.last_token + 1) refl is tokens refl).1
 
 pub returns-clause-ok : goal.returns-clause-ok
 returns-clause-ok c =
     let i = c.self.inside in
     let j : Inside = record { tokens = i.tokens; seats = c.take_wait.new.seats; slab = c.take_wait.new.slab; last_token = i.last_token; most_waits = i.most_waits; most_tokens = i.most_tokens } in
-    let k : Inside = record { tokens = c.open_token.new.tokens; seats = c.put_wait.new.seats; slab = c.put_wait.new.slab; last_token = i.last_token + 1; most_waits = i.most_waits; most_tokens = i.most_tokens } in
+    let k : Inside = record { tokens = c.open_token.new.self; seats = c.put_wait.new.seats; slab = c.put_wait.new.slab; last_token = i.last_token + 1; most_waits = i.most_waits; most_tokens = i.most_tokens } in
     let wait = c.waiting_on-wait.result in
     let key = c.next_key-key.result in
     let is : wait ≡ waiting_on (i.last_token + 1) c.args.trigger c.args.kind c.args.walker = c.waiting_on-wait.ensures in
@@ -81,5 +81,5 @@ returns-clause-ok c =
       waiters_put = refl;
       numbers_put = refl;
     } in
-    let tokens : c.open_token.new.tokens.items ≡ i.tokens.items ++ held_row (i.last_token + 1) c.args.trigger c.args.kind key ∷ [] = c.in_ok-open_token.ensures.ok ∙ ap (λ (w : WaitRow). i.tokens.items ++ held_row w.token w.trigger w.kind key ∷ []) is in
+    let tokens : c.open_token.new.self.items ≡ i.tokens.items ++ held_row (i.last_token + 1) c.args.trigger c.args.kind key ∷ [] = c.in_ok-open_token.ensures.ok ∙ ap (λ (w : WaitRow). i.tokens.items ++ held_row w.token w.trigger w.kind key ∷ []) is in
     (reopens i j k c.make_room.new.seats.rows c.make_room.new.slab c.args.walker key wait c.self.invariant free renews c.args.trigger c.args.kind (i.last_token + 1) refl is tokens refl).0 ∙ ap (reopened c.args.trigger c.args.kind c.args.walker) c.self.view_is
