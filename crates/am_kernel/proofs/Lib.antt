@@ -1,6 +1,9 @@
+pub mod AttachmentLemmas
 pub mod RetryLemmas
+pub mod RisingLemmas
 pub mod ExpireLemmas
 pub mod FreeLemmas
+pub mod ListedLemmas
 pub mod MomentLemmas
 pub mod MountLemmas
 pub mod NotifyLemmas

@@ -2,9 +2,11 @@
 use Rattle.std.proofs.Common.{◌≡◌, ◌≤◌, ◌+◌, ◌==◌, ℕ, Bool, true, false, cond, not, List, [], ◌∷◌, length, Option, Some, None, refl, arith}
 use Rattle.std.specs.Prelude.{filter, is_some}
 use Rattle.std.specs.Option.{option_map}
-use Rattle.am_names.specs.{OpenToken}
+use Rattle.std.proofs.lemmas.List.{length-append}
+use Rattle.am_names.specs.{OpenToken, TokenKind}
+use Rattle.am_names.specs.declared.trigger.Trigger.{Trigger}
 use Rattle.am_trigger.specs.{TriggerRows}
-use Rattle.am_wait.specs.{WaitRows, token_of, joined_row, with_waiter, without_token, fs_released, collected, joined_on, rejoined}
+use Rattle.am_wait.specs.{WaitRows, token_of, joined_row, with_waiter, without_token, fs_released, collected, joined_on, rejoined, reopened}
 use Rattle.am_kernel.specs.declared.waited.Waited.{Waited}
 use Rattle.am_kernel.specs.declared.waited.Waited.TheVariants.{Idle, OnMount, OnExpiry}
 use Rattle.am_kernel.specs.{expired_uses}
@@ -45,6 +47,18 @@ joined_on_length (Some row) token walker w = joined_length token walker w.tokens
 -- who joins opens no token
 pub as_many_rejoined : (token walker : ℕ) (w : WaitRows) → length (rejoined token walker w).tokens ≡ length w.tokens
 as_many_rejoined token walker w = joined_on_length (token_of w.tokens token) token walker (collected walker w)
+
+-- whose wait is reopened opens one token
+pub one_more_reopened : (trigger : Trigger) (kind : TokenKind) (walker : ℕ) (w : WaitRows) → length (reopened trigger kind walker w).tokens ≡ length w.tokens + 1
+one_more_reopened trigger kind walker w = length-append w.tokens _
+
+-- who joins is given no token
+joined_on_last : (o : Option OpenToken) (token walker : ℕ) (w : WaitRows) → (joined_on o token walker w).last_token ≡ w.last_token
+joined_on_last None token walker w = refl
+joined_on_last (Some row) token walker w = refl
+
+pub last_rejoined : (token walker : ℕ) (w : WaitRows) → (rejoined token walker w).last_token ≡ w.last_token
+last_rejoined token walker w = joined_on_last (token_of w.tokens token) token walker (collected walker w)
 
 pub mapped_some : {X Y : Type 0} (f : X → Y) (o : Option X) (y : Y) → option_map f o ≡ Some y → is_some o ≡ true
 mapped_some f (Some x) y h = refl

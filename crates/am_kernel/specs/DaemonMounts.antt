@@ -10,7 +10,7 @@ use Rattle.am_state.specs.{Obs}
 use Rattle.am_state.specs.declared.obs.Obs.TheVariants as seen
 use Rattle.am_group.specs.declared.membership.Membership.TheVariants.{Private}
 use Rattle.am_group.specs.{is_just}
-use Rattle.am_mount.specs.{top_of}
+use Rattle.am_mount.specs.{mount_row, top_of}
 use Rattle.am_propagate.specs.MountTable.{MountTable}
 use Rattle.am_propagate.specs.Added as added
 use Rattle.am_propagate.specs.{umount_refusal, unmounted, removed}
@@ -174,6 +174,15 @@ abbrev pub trigger_under : KernelState → Autofs → MountRow → Option Trigge
 trigger_under k autofs row =
     if is_top_at k autofs.location row then trigger_at autofs row.mountpoint else None
 
+-- the same of a row that may be missing
+abbrev pub trigger_under_row : KernelState → Autofs → Option MountRow → Option Trigger
+trigger_under_row k autofs None = None
+trigger_under_row k autofs (Some row) = trigger_under k autofs row
+
+-- the trigger on which the mount is mounted, if it is the top there at the daemon's mount
+abbrev pub trigger_under_mount : KernelState → Autofs → ℕ → Option Trigger
+trigger_under_mount k autofs mount = trigger_under_row k autofs (mount_row k.table.rows mount)
+
 -- the trigger with the mount on it, if there is one
 abbrev pub standing_on : Option Trigger → ℕ → List (Trigger × ℕ)
 standing_on None mount = []
@@ -182,6 +191,10 @@ standing_on (Some trigger) mount = (trigger, mount) ∷ []
 -- the trigger on which the row is mounted, with its mount
 abbrev pub standing_row : KernelState → Autofs → MountRow → List (Trigger × ℕ)
 standing_row k autofs row = standing_on (trigger_under k autofs row) row.mount
+
+-- the trigger on which the mount is mounted, with the mount
+abbrev pub standing_mount : KernelState → Autofs → ℕ → List (Trigger × ℕ)
+standing_mount k autofs mount = standing_on (trigger_under_mount k autofs mount) mount
 
 -- the triggers of the autofs on which something is mounted, with their mounts
 abbrev pub standing_of : KernelState → Autofs → List (Trigger × ℕ)

@@ -1,6 +1,6 @@
 -- The directories of an indirect autofs, which its daemon makes and removes (autofs.rst,
 -- "Content").
-use Rattle.std.specs.Prelude.{ℕ, ◌==◌, Bool, false, ◌&&◌, not, is_some, Option, Some, None, if◌then◌else◌}
+use Rattle.std.specs.Prelude.{ℕ, ◌==◌, Bool, false, ◌&&◌, not, is_some, List, Option, Some, None, if◌then◌else◌}
 use Rattle.std.specs.List.{list_any}
 use Rattle.am_names.specs.declared.errno.Errno.{Errno}
 use Rattle.am_names.specs.declared.errno.Errno.TheVariants.{EPERM, EINVAL, EBUSY}
@@ -36,6 +36,10 @@ mkdir_refusal k attach trigger =
 -- the daemon has made the directory
 abbrev pub with_directory : Trigger → KernelState → KernelState
 with_directory trigger k = record k { triggers = triggers.with_directory trigger k.triggers }
+
+-- something is mounted at this place of one of these mounts
+abbrev pub is_any_mounted_on : List MountRow → List (List ℕ) → List ℕ → Bool
+is_any_mounted_on rows place mounts = list_any (λ m. is_some (top_of rows m place)) mounts
 
 -- the row is a mount of the trigger's file system, and something is mounted on the trigger there
 abbrev pub is_mounted_on : KernelState → Trigger → MountRow → Bool

@@ -1,35 +1,14 @@
 //! A daemon that attaches again to an autofs.
 
-ghost use Rattle.std.specs.Prelude.{◌≡◌, ◌+◌, false, map, IfOk, OnOk, OnErr};
+ghost use Rattle.std.specs.Prelude.{◌≡◌, ◌+◌, false, IfOk, OnOk, OnErr};
 ghost use Rattle.am_names.specs.{RefusedOnlyAs};
 ghost use Rattle.am_trigger.specs.{with_catatonic};
-ghost use Rattle.am_kernel.specs.Attachments.{pipe_refusal, reattached_row, with_pipe};
+ghost use Rattle.am_kernel.specs.Attachments.{pipe_refusal, with_pipe};
 
 use crate::kernel::Kernel;
-use crate::row::Attached;
 use crate::table::{finish_expiry, refuse, table};
 use am_expire::OrderedTriggers;
 use am_names::{Attach, Errno, FsId};
-
-/// The row with this attachment, if it is one of the file system.
-fn reattached_row(row: Attached, fs: FsId, attach: Attach) -> Attached
-    ensures { result ≡ reattached_row fs attach row }
-{
-    if row.fs == fs {
-        Attached { attach, ..row }
-    } else {
-        row
-    }
-}
-
-/// This attachment is the latest of the file system.
-fn set_attach(rows: &mut [Attached], fs: FsId, attach: Attach)
-    ensures { rows.new ≡ map (reattached_row fs attach) rows.old }
-{
-    for row in rows.iter_mut() {
-        *row = reattached_row(*row, fs, attach);
-    }
-}
 
 /// The file system is catatonic no longer; one that isn't known stays so.
 fn make_live(triggers: &mut OrderedTriggers, fs: FsId)
@@ -61,7 +40,7 @@ impl Kernel {
         let attach = Attach(self.last_attach + 1);
         make_live(&mut self.triggers, fs);
         self.failures.remove_fs(fs);
-        set_attach(&mut self.attached, fs, attach);
+        self.attached.set_attach(fs, attach);
         self.last_attach = attach.0;
         Ok(attach)
     }

@@ -127,7 +127,7 @@ impl Kernel {
         seen.reserve(passed.len() + 2)?;
         self.triggers.reserve_uses(passed.len() + 2)?;
         self.walks.reserve()?;
-        self.queue.reserve(1)?;
+        self.queue.reserve()?;
         reserve_failure(&mut self.failures, &self.waits)?;
         let row = attempt.to_row(alloc)?;
         let kept = keep_triggers(alloc, passed)?;

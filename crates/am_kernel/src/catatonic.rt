@@ -54,7 +54,7 @@ impl Kernel {
         make_catatonic(&mut self.triggers, fs);
         self.failures.remove_fs(fs);
         self.waits.release_fs(fs);
-        self.queue.retain(|row| row.packet.dev != fs);
+        self.queue.take_fs(fs);
     }
 
     /// What will be seen of `admin_catatonic`, and of `catatonic` where it isn't refused: they take

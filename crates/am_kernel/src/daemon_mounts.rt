@@ -5,7 +5,7 @@ ghost use Rattle.am_names.specs.{RefusedAs};
 ghost use Rattle.am_state.specs.declared.obs.Obs.TheVariants.{Mounted, Unmounted};
 ghost use Rattle.am_propagate.specs.{umount_refusal, unmounted, removed};
 ghost use Rattle.am_expire.specs.{is_used};
-ghost use Rattle.am_kernel.specs.DaemonMounts.{coming, is_there, location_of, mounted_on, mount_on_refusal, with_mount_on, umount_from_refusal, gone_from, without_mounts, is_top_at, trigger_under, standing_of, standing};
+ghost use Rattle.am_kernel.specs.DaemonMounts.{coming, is_there, location_of, mounted_on, mount_on_refusal, with_mount_on, umount_from_refusal, gone_from, without_mounts, is_top_at, trigger_under, trigger_under_mount, standing_of, standing};
 
 use crate::kernel::Kernel;
 use crate::table::{refuse, table};
@@ -177,7 +177,18 @@ impl Kernel {
         }
     }
 
-    /// The triggers of the autofs on which something is mounted, with their mounts.
+    /// The trigger on which the mount is mounted, if it is the top there at the daemon's mount.
+    fn trigger_under_mount(&self, autofs: &Autofs, mount: MountId) -> Option<Trigger>
+        ensures { result ≡ trigger_under_mount self.now autofs.now mount }
+    {
+        match self.subtree.tree().row(mount) {
+            Some(row) => self.trigger_under(autofs, row),
+            None => None,
+        }
+    }
+
+    /// The triggers of the autofs on which something is mounted, with their mounts: it looks at
+    /// what is mounted on the daemon's mount.
     fn standing_of(
         &self,
         alloc: Global,
@@ -186,11 +197,11 @@ impl Kernel {
         ensures { IfOk result (λ v. v.items ≡ standing_of self.now autofs.now) }
     {
         let mut standing = Vec::new(alloc);
-        for row in self.subtree.tree().rows() {
-            if let Some(trigger) = self.trigger_under(autofs, row) {
+        for mount in self.subtree.tree().mounts_on(autofs.location) {
+            if let Some(trigger) = self.trigger_under_mount(autofs, *mount) {
                 // The checker wants the type of its name said too.
                 let _name: Option<Name> = trigger.name;
-                standing.push((trigger, row.mount))?;
+                standing.push((trigger, *mount))?;
             }
         }
         Ok(standing)

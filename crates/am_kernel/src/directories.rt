@@ -3,13 +3,25 @@
 ghost use Rattle.std.specs.Prelude.{◌≡◌, OnOk, OnErr};
 ghost use Rattle.am_names.specs.{RefusedAs, RefusedOnlyAs, IsCanonical, names_of};
 ghost use Rattle.am_trigger.specs.{place_of};
-ghost use Rattle.am_kernel.specs.Directories.{is_indirect, mkdir_refusal, with_directory, is_mountpoint, rmdir_refusal, without_directory};
+ghost use Rattle.am_kernel.specs.Directories.{is_indirect, mkdir_refusal, with_directory, is_any_mounted_on, is_mountpoint, rmdir_refusal, without_directory};
 
 use crate::kernel::Kernel;
 use crate::table::{refuse, table};
-use am_names::{Attach, Errno, Name, Place, Trigger};
+use am_mount::Tree;
+use am_names::{Attach, Errno, MountId, Name, Place, Trigger};
 use am_trigger::place_of;
 use std::alloc::Global;
+
+/// Whether something is mounted at this place of one of these mounts.
+fn is_any_mounted_on(tree: &Tree, mounts: &[MountId], place: &[u8]) -> bool
+    requires { IsCanonical place.now }
+    ensures { result ≡ is_any_mounted_on tree.now (names_of place.now) mounts.now }
+{
+    mounts
+        .iter()
+        .copied()
+        .any(|mount| tree.top(mount, place).is_some())
+}
 
 impl Kernel {
     /// Whether the trigger is a name in an indirect autofs.
@@ -40,7 +52,7 @@ impl Kernel {
         ensures { result ≡ is_mountpoint self.now trigger.now }
     {
         let tree = self.subtree.tree();
-        tree.rows().iter().any(|row| row.fs == trigger.fs && tree.top(row.mount, place).is_some())
+        is_any_mounted_on(tree, tree.mounts_with(trigger.fs), place)
     }
 
     /// Removes a directory on which nothing is mounted.

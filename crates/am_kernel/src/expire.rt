@@ -28,7 +28,7 @@ impl Kernel {
     fn attached_of(&self, fs: FsId) -> Option<Attached>
         ensures { result ≡ attached_of self.now fs }
     {
-        self.attached.iter().copied().find(|row| row.fs == fs)
+        self.attached.get(fs)
     }
 
     /// The timeout of the file system, in seconds.
@@ -80,7 +80,7 @@ impl Kernel {
             result self.old self.new seen.old.items seen.new.items }
     {
         seen.reserve(2)?;
-        self.queue.reserve(1)?;
+        self.queue.reserve()?;
         reserve_failure(&mut self.failures, &self.waits)?;
         let unnumbered = packet_for(TokenKind::Expire, Token(0), walker, trigger);
         let mut packet = KeptPacket::new(alloc, &unnumbered)?;

@@ -5,6 +5,8 @@ ghost use Rattle.am_names.specs.{RefusedAs};
 ghost use Rattle.am_kernel.specs.State.{initial};
 ghost use Rattle.am_kernel.specs.CallOutcome.{moment_of};
 
+use crate::attachment_table::AttachmentTable;
+use crate::packet_queue::PacketQueue;
 use crate::row::{Attached, WalkRow};
 use crate::walks::Walks;
 use am_expire::{OrderedTriggers, Uses};
@@ -25,9 +27,9 @@ pub struct Kernel {
     pub(crate) failures: Failures,
     pub(crate) waits: Waits,
     pub(crate) uses: Uses,
-    pub(crate) attached: Vec<Attached>,
+    pub(crate) attached: AttachmentTable,
     pub(crate) walks: Walks,
-    pub(crate) queue: Vec<QueuedRow>,
+    pub(crate) queue: PacketQueue,
     pub(crate) last_fs: u32,
     pub(crate) last_attach: u32,
     pub(crate) latest: Seconds,
@@ -65,9 +67,9 @@ impl Kernel {
             failures: Failures::new(alloc),
             waits: Waits::new(alloc, limits.waiters, limits.tokens),
             uses: Uses::new(alloc),
-            attached: Vec::new(alloc),
+            attached: AttachmentTable::new(alloc),
             walks: Walks::new(alloc),
-            queue: Vec::new(alloc),
+            queue: PacketQueue::new(alloc),
             last_fs: 1,
             last_attach: 0,
             latest: Seconds(0),

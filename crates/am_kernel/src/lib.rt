@@ -3,6 +3,7 @@
 #![tactic(auto)]
 
 mod administration;
+mod attachment_table;
 mod attachments;
 mod attempt;
 mod catatonic;
@@ -15,6 +16,7 @@ mod namespaces;
 mod new_fs;
 mod observations;
 mod packet;
+mod packet_queue;
 mod previews;
 pub mod progress;
 pub mod request;

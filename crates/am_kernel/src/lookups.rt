@@ -4,9 +4,10 @@ ghost use Rattle.std.specs.Prelude.{◌≡◌, is_some, IfOk, Ok};
 ghost use Rattle.am_names.specs.{RefusedAs};
 ghost use Rattle.am_trigger.specs.{autofs_of};
 ghost use Rattle.am_walk.specs.{fault_of};
-ghost use Rattle.am_kernel.specs.Lookups.{is_live, latest_attach, attach_of, fs_of_attach, is_current, is_busy, position_at, is_on_autofs, is_root, is_trigger};
+ghost use Rattle.am_kernel.specs.Lookups.{is_live, latest_attach, attach_of, fs_of_attach, is_attached_by, is_current, is_busy, position_at, is_on_autofs, is_root, is_trigger};
 
 use crate::kernel::Kernel;
+use crate::row::Attached;
 use am_names::{
     AbsPath, Attach, Errno, FsId, MountId, NsId, Place, Position, Trigger, WalkerId,
     split_first_name,
@@ -36,7 +37,7 @@ impl Kernel {
     fn latest_attach(&self, fs: FsId) -> Option<Attach>
         ensures { result ≡ latest_attach self.now.attached fs }
     {
-        let row = self.attached.iter().find(|row| row.fs == fs)?;
+        let row = self.attached.get(fs)?;
         Some(row.attach)
     }
 
@@ -51,12 +52,20 @@ impl Kernel {
         }
     }
 
+    /// Whether the row is of this attachment, and a daemon is attached.
+    fn is_attached_by(&self, attach: Attach, row: Attached) -> bool
+        ensures { result ≡ is_attached_by self.now attach row }
+    {
+        row.attach == attach && self.is_live(row.fs)
+    }
+
     /// The file system of which this is the current attachment.
     pub fn fs_of_attach(&self, attach: Attach) -> Option<FsId>
         ensures { result ≡ fs_of_attach self.now attach }
     {
         let row = self
             .attached
+            .as_slice()
             .iter()
             .find(|row| row.attach == attach && self.is_live(row.fs))?;
         Some(row.fs)
@@ -66,7 +75,10 @@ impl Kernel {
     pub fn is_current(&self, fs: FsId, attach: Attach) -> bool
         ensures { result ≡ is_current self.now fs attach }
     {
-        self.attached.iter().any(|row| row.fs == fs && row.attach == attach && self.is_live(row.fs))
+        match self.attached.get(fs) {
+            Some(row) => self.is_attached_by(attach, row),
+            None => false,
+        }
     }
 
     /// Whether the walker waits, or is inside a mount.

@@ -109,7 +109,7 @@ impl Kernel {
         let fs = FsId(self.last_fs + 1);
         let attach = Attach(self.last_attach + 1);
         self.triggers.reserve_fs()?;
-        self.attached.reserve(1)?;
+        self.attached.reserve()?;
         let mount = mount_fs(&mut self.subtree, alloc, at, fs, seen)?;
         self.triggers.add_fs_reserved(fs, direct, mount);
         self.attached.push_reserved(Attached {

@@ -1,13 +1,12 @@
 //! What the daemon asks of an attached file system, packets that are read, and walkers that leave.
 
-ghost use Rattle.std.specs.Prelude.{◌≡◌, ◌≤◌, ◌+◌, ◌++◌, Some, map, IfOk, OnOk, OnErr};
+ghost use Rattle.std.specs.Prelude.{◌≡◌, ◌≤◌, ◌+◌, ◌++◌, Some, IfOk, OnOk, OnErr};
 ghost use Rattle.am_names.specs.{RefusedAs, RefusedOnlyAs};
 ghost use Rattle.am_expire.specs.{leave_refusal, mount_of_walker};
-ghost use Rattle.am_kernel.specs.Requests.{token_fs, answer_refusal, settled, acknowledged, answering, timeout_refusal, timeout_row, with_timeout, queued_of, without_packet, leave_seen, without_use};
+ghost use Rattle.am_kernel.specs.Requests.{token_fs, answer_refusal, settled, acknowledged, answering, timeout_refusal, with_timeout, queued_of, without_packet, leave_seen, without_use};
 
 use crate::kernel::Kernel;
 use crate::observations::tell_releases;
-use crate::row::Attached;
 use crate::table::{refuse, table};
 use am_names::{
     Attach, Errno, FsId, MountId, Name, Seconds, Status, Token, TokenKind, Trigger, WalkerId,
@@ -15,26 +14,6 @@ use am_names::{
 use am_state::{Obs, QueuedRow};
 use am_trigger::{Failure, Failures};
 use std::alloc::{AllocError, Global};
-
-/// The row with this timeout, if it is one of the file system.
-fn timeout_row(row: Attached, fs: FsId, timeout: u32) -> Attached
-    ensures { result ≡ timeout_row fs timeout row }
-{
-    if row.fs == fs {
-        Attached { timeout, ..row }
-    } else {
-        row
-    }
-}
-
-/// The file system has this timeout.
-fn set_timeout(rows: &mut [Attached], fs: FsId, timeout: u32)
-    ensures { rows.new ≡ map (timeout_row fs timeout) rows.old }
-{
-    for row in rows.iter_mut() {
-        *row = timeout_row(*row, fs, timeout);
-    }
-}
 
 /// What comes of an acknowledgement for the trigger: a mount that failed lasts from this moment on,
 /// and READY makes it good.
@@ -108,7 +87,7 @@ impl Kernel {
         ensures err { OnErr result (self.new ≡ self.old) }
     {
         table!(refuse; set_timeout(self, attach, fs));
-        set_timeout(&mut self.attached, fs, timeout);
+        self.attached.set_timeout(fs, timeout);
         Ok(())
     }
 
@@ -116,14 +95,14 @@ impl Kernel {
     pub fn queued(&self, token: Token) -> Option<QueuedRow>
         ensures { result ≡ queued_of self.now.queue token }
     {
-        self.queue.iter().copied().find(|row| row.token == token)
+        self.queue.get(token)
     }
 
     /// The packet of this token has been read, and is in no pipe any more.
     pub fn take_packet(&mut self, token: Token)
         ensures { self.new ≡ without_packet token self.old }
     {
-        self.queue.retain(|row| row.token != token);
+        self.queue.take(token);
     }
 
     /// The walker leaves the mount that it is inside of.

@@ -47,6 +47,7 @@ pub fn collect_wait(waits: &mut Waits, waited: &Waited, walker: WalkerId)
     requires { HasNoOpenWait waited.now walker waits.old }
     ensures waits { waits.new ≡ waits_collected waited.now walker waits.old }
     ensures tokens { length waits.new.tokens ≡ length waits.old.tokens }
+    ensures last { waits.new.last_token ≡ waits.old.last_token }
 {
     match waited {
         Waited::Idle => {}

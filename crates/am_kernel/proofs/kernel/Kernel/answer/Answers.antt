@@ -1,6 +1,7 @@
 use Rattle.std.proofs.Common.{◌≡◌, ◌≤◌, ◌+◌, true, length, sym, subst, ◌∙◌, arith}
 use Rattle.std.specs.Prelude.{is_some}
 use Rattle.am_wait.specs.{WaitRows, token_of}
+use Rattle.am_kernel.specs.View.{AreOpened}
 use Rattle.am_kernel.proofs.TokenLemmas.{one_fewer, mapped_some}
 use Rattle.am_kernel.proofs.kernel.Kernel.answer.Goals as goal
 
@@ -13,4 +14,6 @@ invariant_of-self-2 c =
     record {
       numbered = c.self.invariant.numbered;
       room = omega (arith, c.self.invariant.room, c.settle.ensures.room, fewer);
+      given = c.self.invariant.given;
+      opened = subst (λ (w : WaitRows). AreOpened w.last_token c.self.inside.queue.rows) (sym c.in_ok-answer.ensures.ok) c.self.invariant.opened;
     }

@@ -1,10 +1,11 @@
-use Rattle.std.proofs.Common.{◌≤◌, true, eqb, length, sym, ap, subst, rules, tests, arith}
+use Rattle.std.proofs.Common.{◌≤◌, List, true, length, sym, ap, subst, arith}
 use Rattle.std.specs.Prelude.{not}
 use Rattle.std.specs.List.{All}
-use Rattle.std.proofs.lemmas.Fn.{filter_same}
+use Rattle.std.proofs.lemmas.List.Elements.{All-filter}
 use Rattle.am_state.specs.{QueuedRow}
 use Rattle.am_trigger.specs.{Autofs, TriggerRows}
-use Rattle.am_kernel.specs.{made_catatonic}
+use Rattle.am_kernel.specs.{is_packet_of, made_catatonic}
+use Rattle.am_kernel.specs.View.{AreOpened}
 use Rattle.am_wait.specs.{WaitRows}
 use Rattle.am_kernel.proofs.TokenLemmas.{fewer_released}
 use Rattle.am_kernel.proofs.WalkLemmas.{catatonic_within}
@@ -18,9 +19,13 @@ invariant_of-self c =
           (catatonic_within c.self.inside.last_fs c.args.fs true c.self.inside.triggers.rows.autofs c.self.invariant.numbered);
       room =
           omega (arith, c.self.invariant.room, c.remove_fs.ensures.room, ap (λ (w : WaitRows). length w.tokens) c.release_fs.ensures, fewer_released c.args.fs c.self.inside.waits);
+      given = c.self.invariant.given;
+      opened =
+          subst (λ (w : WaitRows). AreOpened w.last_token c.take_fs.new.self.rows) (sym c.release_fs.ensures)
+          (subst (λ (rows : List QueuedRow). AreOpened c.self.inside.waits.last_token rows) (sym c.take_fs.ensures)
+          (All-filter (λ (row : QueuedRow). not (is_packet_of c.args.fs row)) (λ (row : QueuedRow). row.token ≤ c.self.inside.waits.last_token) c.self.inside.queue.rows c.self.invariant.opened));
     }
 
 pub returns : goal.returns
 returns c =
-    let queue = filter_same _ (λ (row : QueuedRow). not (eqb row.packet.dev c.args.fs)) _ (λ x b q k. search (rules, tests)) _ _ c.retain.ensures.filtered in
-    rw (c.make_catatonic.ensures, c.remove_fs.ensures.rows, c.release_fs.ensures, queue) (ap (made_catatonic c.args.fs) c.self.view_is)
+    rw (c.make_catatonic.ensures, c.remove_fs.ensures.rows, c.release_fs.ensures, c.take_fs.ensures) (ap (made_catatonic c.args.fs) c.self.view_is)

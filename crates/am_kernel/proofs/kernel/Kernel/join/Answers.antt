@@ -1,4 +1,4 @@
-use Rattle.std.proofs.Common.{◌≡◌, ◌≤◌, ◌++◌, ◌∷◌, [], false, List, length, sym, ap, subst, ◌∙◌, refl, arith}
+use Rattle.std.proofs.Common.{◌≡◌, ◌≤◌, ◌++◌, ◌∷◌, [], ℕ, false, List, length, sym, ap, subst, ◌∙◌, refl, arith}
 use Rattle.std.specs.List.{All}
 use Rattle.std.specs.Prelude.{⊤}
 use Rattle.std.proofs.lemmas.Result.{err_from_is_err_and}
@@ -8,8 +8,8 @@ use Rattle.am_state.specs.declared.obs.Obs.TheVariants as seen
 use Rattle.am_trigger.specs.{Autofs, TriggerRows, all_used}
 use Rattle.am_wait.specs.{WaitRows, is_full, collected, rejoined}
 use Rattle.am_kernel.specs.{WalkRow, KernelState, without_walk, with_walk, with_joined, passes, expired_uses, walks_ended}
-use Rattle.am_kernel.specs.View.{kernel_of}
-use Rattle.am_kernel.proofs.TokenLemmas.{expired_autofs, as_many_rejoined}
+use Rattle.am_kernel.specs.View.{kernel_of, AreOpened}
+use Rattle.am_kernel.proofs.TokenLemmas.{expired_autofs, as_many_rejoined, last_rejoined}
 use Rattle.am_kernel.proofs.FreeLemmas.{joins_full, joins_as, joins_wants, put_again, without_wait}
 use Rattle.am_kernel.proofs.kernel.Kernel.join.Goals as goal
 
@@ -42,6 +42,8 @@ invariant_of-self-2 c =
     record {
       numbered = subst (λ (rows : List Autofs). All (λ (row : Autofs). row.fs ≤ c.self.inside.last_fs) rows) (sym autofs) c.self.invariant.numbered;
       room = omega (arith, c.self.invariant.room, ap (λ (x : WaitRows). length x.tokens) waits, as_many_rejoined c.args.token b.walker old.waits);
+      given = c.self.invariant.given;
+      opened = subst (λ (n : ℕ). AreOpened n c.self.inside.queue.rows) (sym (ap (λ (x : WaitRows). x.last_token) waits ∙ last_rejoined c.args.token b.walker old.waits)) c.self.invariant.opened;
     }
 
 pub returns : goal.returns

@@ -1,4 +1,5 @@
-use Rattle.std.proofs.Common.{◌≡◌, ◌+◌, ◌++◌, ◌∷◌, [], ℕ, List, ap, ◌∙◌, refl}
+use Rattle.std.proofs.Common.{◌≡◌, ◌<◌, ◌+◌, ◌++◌, ◌∷◌, [], ℕ, List, sym, ap, subst, ◌∙◌, refl}
+use Rattle.std.specs.List.{All}
 use Rattle.am_names.specs.declared.trigger.Trigger.{Trigger}
 use Rattle.am_wire.specs.{Packet}
 use Rattle.am_state.specs.{Obs, QueuedRow, with_token}
@@ -8,7 +9,15 @@ use Rattle.am_kernel.specs.declared.progress.Progress.TheVariants.{Waits}
 use Rattle.am_kernel.specs.{KernelState, passes, with_expiring}
 use Rattle.am_kernel.specs.View.{kernel_of}
 use Rattle.am_kernel.proofs.ExpireLemmas.{shown_expiring, expiry_packet}
+use Rattle.am_kernel.proofs.RisingLemmas.{below_next}
 use Rattle.am_kernel.proofs.kernel.Kernel.queue_expiry.Goals as goal
+
+pub push_reserved-requires-clause-above : goal.push_reserved-requires-clause-above
+push_reserved-requires-clause-above c =
+    let last : ℕ = c.self.inside.waits.last_token in
+    let token : ℕ = c.in_ok-token.token in
+    subst (λ (rows : List QueuedRow). All (λ (r : QueuedRow). r.token < token) rows) (sym c.reserve-2.ensures.rows)
+    (below_next (λ (r : QueuedRow). r.token) last token c.self.inside.queue.rows c.in_ok-token.ensures.token c.self.invariant.opened)
 
 pub returns : goal.returns
 returns c =
@@ -23,8 +32,8 @@ returns c =
     let packet : c.to_packet.result ≡ expiry_packet n trigger c.in_ok-token.token = c.to_packet.ensures ∙ kept in
     let next : c.in_ok-token.token ≡ old.waits.last_token + 1 = c.in_ok-token.ensures.token in
     let waits : c.open.new.self ≡ opened trigger Expire n old.waits = c.in_ok-token.ensures.ok in
-    let queue : c.push_reserved.new.self.items ≡ old.queue ++ row (old.waits.last_token + 1) (expiry_packet n trigger (old.waits.last_token + 1)) ∷ [] =
-    c.push_reserved.ensures.items ∙ ap (λ (rows : List QueuedRow). rows ++ row c.in_ok-token.token c.to_packet.result ∷ []) c.reserve-2.ensures.items ∙ ap (λ (packet : Packet). old.queue ++ row c.in_ok-token.token packet ∷ []) packet ∙ ap (λ (token : ℕ). old.queue ++ row token (expiry_packet n trigger token) ∷ []) next in
+    let queue : c.push_reserved.new.self.rows ≡ old.queue ++ row (old.waits.last_token + 1) (expiry_packet n trigger (old.waits.last_token + 1)) ∷ [] =
+    c.push_reserved.ensures ∙ ap (λ (rows : List QueuedRow). rows ++ row c.in_ok-token.token c.to_packet.result ∷ []) c.reserve-2.ensures.rows ∙ ap (λ (packet : Packet). old.queue ++ row c.in_ok-token.token packet ∷ []) packet ∙ ap (λ (token : ℕ). old.queue ++ row token (expiry_packet n trigger token) ∷ []) next in
     let next_now : c.in_ok-token.token ≡ k.waits.last_token + 1 = next ∙ ap (λ (s : KernelState). s.waits.last_token + 1) c.self.view_is in (
       ap (λ (t : ℕ). Waits t) next_now,
       record {

@@ -1,6 +1,9 @@
-use Rattle.std.proofs.Common.{◌≤◌, false, sym, subst, arith}
+use Rattle.std.proofs.Common.{◌≤◌, List, false, sym, subst, arith}
 use Rattle.std.specs.List.{All}
 use Rattle.am_trigger.specs.{Autofs, TriggerRows}
+use Rattle.am_kernel.specs.{Attached}
+use Rattle.am_kernel.specs.View.{AreGiven}
+use Rattle.am_kernel.proofs.AttachmentLemmas.{reattached_given}
 use Rattle.am_kernel.proofs.WalkLemmas.{catatonic_within}
 use Rattle.am_kernel.proofs.kernel.Kernel.set_pipe.Goals as goal
 
@@ -11,4 +14,8 @@ invariant_of-self c =
           subst (λ (t : TriggerRows). All (λ (row : Autofs). row.fs ≤ c.self.inside.last_fs) t.autofs) (sym c.make_live.ensures)
           (catatonic_within c.self.inside.last_fs c.args.fs false c.self.inside.triggers.rows.autofs c.self.invariant.numbered);
       room = omega (arith, c.self.invariant.room, c.remove_fs.ensures.room);
+      given =
+          subst (λ (rows : List Attached). AreGiven c.self.inside.last_fs rows) (sym c.set_attach.ensures)
+          (reattached_given c.self.inside.last_fs c.args.fs _ c.self.inside.attached.rows c.self.invariant.given);
+      opened = c.self.invariant.opened;
     }

@@ -1,14 +1,20 @@
-use Rattle.std.proofs.Common.{◌≡◌, ◌==◌, not, ap, ◌∙◌, rules, tests}
-use Rattle.std.specs.Prelude.{filter}
-use Rattle.std.proofs.lemmas.Fn.{filter_same}
+use Rattle.std.proofs.Common.{◌≤◌, ◌==◌, not, List, ap, sym, subst, ◌∙◌}
+use Rattle.std.proofs.lemmas.List.Elements.{All-filter}
 use Rattle.am_state.specs.{QueuedRow}
-use Rattle.am_kernel.specs.View.{kernel_of}
+use Rattle.am_kernel.specs.View.{kernel_of, AreOpened}
 use Rattle.am_kernel.specs.{without_packet}
 use Rattle.am_kernel.proofs.MountLemmas.{with_queue}
 use Rattle.am_kernel.proofs.kernel.Kernel.take_packet.Goals as goal
 
+pub invariant_of-self : goal.invariant_of-self
+invariant_of-self c = record {
+  numbered = c.self.invariant.numbered;
+  room = c.self.invariant.room;
+  given = c.self.invariant.given;
+  opened =
+      subst (λ (rows : List QueuedRow). AreOpened c.self.inside.waits.last_token rows) (sym c.take.ensures)
+      (All-filter (λ (row : QueuedRow). not (row.token == c.args.token)) (λ (row : QueuedRow). row.token ≤ c.self.inside.waits.last_token) c.self.inside.queue.rows c.self.invariant.opened);
+}
+
 pub returns : goal.returns
-returns c =
-    let left : c.retain.new.self.items ≡ filter (λ (row : QueuedRow). not (row.token == c.args.token)) c.self.inside.queue.items =
-    filter_same _ (λ (row : QueuedRow). not (row.token == c.args.token)) _ (λ x b q k. search (rules, tests)) _ _ c.retain.ensures.filtered in
-    ap (with_queue (kernel_of c.self.inside)) left ∙ ap (without_packet c.args.token) c.self.view_is
+returns c = ap (with_queue (kernel_of c.self.inside)) c.take.ensures ∙ ap (without_packet c.args.token) c.self.view_is

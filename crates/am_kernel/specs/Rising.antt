@@ -1,0 +1,13 @@
+-- Rows that rise by their numbers: own choice, a new number is above all that were given.
+use Rattle.am_names.specs.{RiseBy}
+use Rattle.std.specs.Prelude.{List}
+use Rattle.am_state.specs.{QueuedRow}
+use Rattle.am_kernel.specs.declared.row.Attached.{Attached}
+
+-- the rows stand in rising order of file system, and each file system has one
+abbrev pub RiseByFs : List Attached → Type 0
+RiseByFs rows = RiseBy (λ (row : Attached). row.fs) 0 rows
+
+-- the packets stand in rising order of token, and each token has one
+abbrev pub RiseByToken : List QueuedRow → Type 0
+RiseByToken rows = RiseBy (λ (row : QueuedRow). row.token) 0 rows

@@ -1,0 +1,123 @@
+//! The attachments of all autofs file systems, as a table.
+
+ghost use Rattle.std.specs.Prelude.{◌≡◌, ◌<◌, ◌≤◌, ◌==◌, ◌++◌, ◌∷◌, [], map, find, OnOk};
+ghost use Rattle.std.specs.List.{All};
+ghost use Rattle.am_kernel.specs.Rising.{RiseByFs};
+ghost use Rattle.am_kernel.specs.Requests.{timeout_row};
+ghost use Rattle.am_kernel.specs.Attachments.{reattached_row};
+
+use crate::row::Attached;
+use am_names::{Attach, FsId};
+use std::alloc::{AllocError, Global};
+use std::marker::Model;
+
+/// The latest attachment of each autofs, in order of attaching. File systems are numbered in that
+/// order, so that the rows rise by file system, and one is found by halves.
+#[derive(Drop)]
+pub struct AttachmentTable {
+    rows: Vec<Attached>,
+}
+
+impl Model for AttachmentTable {
+    ghost use Rattle.am_ordered.specs.RowTable.{RowTable};
+    ghost use Rattle.am_kernel.specs.declared.row.Attached.{Attached};
+
+    ghost Value = { RowTable Attached };
+
+    ghost use Rattle.am_kernel.specs.AttachmentTable.{table_of, AreOrdered};
+
+    ghost view = { table_of };
+
+    ghost invariant = { AreOrdered };
+}
+
+/// The row of the file system.
+fn row_of(rows: &[Attached], fs: FsId) -> Option<Attached>
+    requires { RiseByFs rows.now }
+    ensures { result ≡ find (λ row. row.fs == fs) rows.now }
+{
+    let number = fs.0;
+    match rows.binary_search_by_key(&number, |row| row.fs.0) {
+        Ok(at) => Some(rows[at]),
+        Err(_) => None,
+    }
+}
+
+/// The file system has this timeout.
+fn set_timeout(rows: &mut Vec<Attached>, fs: FsId, timeout: u32)
+    requires { RiseByFs rows.old.items }
+    ensures { rows.new.items ≡ map (timeout_row fs timeout) rows.old.items }
+{
+    let number = fs.0;
+    if let Ok(at) = rows.binary_search_by_key(&number, |row| row.fs.0) {
+        rows[at].timeout = timeout;
+    }
+}
+
+/// This attachment is the latest of the file system.
+fn set_attach(rows: &mut Vec<Attached>, fs: FsId, attach: Attach)
+    requires { RiseByFs rows.old.items }
+    ensures { rows.new.items ≡ map (reattached_row fs attach) rows.old.items }
+{
+    let number = fs.0;
+    if let Ok(at) = rows.binary_search_by_key(&number, |row| row.fs.0) {
+        rows[at].attach = attach;
+    }
+}
+
+impl AttachmentTable {
+    /// No autofs.
+    pub fn new(alloc: Global) -> AttachmentTable
+        ensures { result.rows ≡ [] }
+    {
+        AttachmentTable {
+            rows: Vec::new(alloc),
+        }
+    }
+
+    /// The rows, in order of attaching.
+    pub fn as_slice(&self) -> &[Attached]
+        ensures { result.now ≡ self.now.rows }
+    {
+        self.rows.as_slice()
+    }
+
+    /// The latest attachment of the file system.
+    pub fn get(&self, fs: FsId) -> Option<Attached>
+        ensures row { result ≡ find (λ row. row.fs == fs) self.now.rows }
+        ensures rising { RiseByFs self.now.rows }
+    {
+        row_of(self.rows.as_slice(), fs)
+    }
+
+    /// Makes room for one more autofs.
+    pub fn reserve(&mut self) -> Result<(), AllocError>
+        ensures rows { self.new.rows ≡ self.old.rows }
+        ensures room { OnOk result (1 ≤ self.new.room) }
+    {
+        self.rows.reserve(1)
+    }
+
+    /// The first attachment of an autofs whose number is above all that are there.
+    pub fn push_reserved(&mut self, row: Attached)
+        requires room { 1 ≤ self.old.room }
+        requires above { All (λ (other : Attached). other.fs < row.fs) self.old.rows }
+        ensures { self.new.rows ≡ self.old.rows ++ row ∷ [] }
+    {
+        self.rows.push_reserved(row);
+    }
+
+    /// The file system has this timeout.
+    pub fn set_timeout(&mut self, fs: FsId, timeout: u32)
+        ensures { self.new.rows ≡ map (timeout_row fs timeout) self.old.rows }
+    {
+        set_timeout(&mut self.rows, fs, timeout);
+    }
+
+    /// This attachment is the latest of the file system.
+    pub fn set_attach(&mut self, fs: FsId, attach: Attach)
+        ensures { self.new.rows ≡ map (reattached_row fs attach) self.old.rows }
+    {
+        set_attach(&mut self.rows, fs, attach);
+    }
+}
