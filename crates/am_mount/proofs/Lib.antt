@@ -1,3 +1,4 @@
+pub mod BlockLemmas
 pub mod FindLemmas
 pub mod IndexLemmas
 pub mod LeaveLemmas

@@ -10,7 +10,8 @@ use Rattle.std.proofs.lemmas.Option.{slice_get-get_or}
 use Rattle.std.proofs.lemmas.Map.Entries.{hash_map_get_place}
 use Rattle.indexmap.specs.IndexMap.{IndexMap, get, keys, values, insert_entry, set_value_at, with_value_at, IsUnique, Updates}
 use Rattle.indexmap.proofs.CallerLemmas.{keys-with_value_at, updates-with_value_at}
-use Rattle.am_ordered.specs.RowTable.{RowTable}
+use Rattle.am_mount.specs.declared.few.Few.{Few}
+use Rattle.am_mount.specs.Few.{mounts_in}
 use Rattle.am_mount.specs.Index.{listed_in}
 
 -- a number that is found stands where it is found
@@ -70,9 +71,15 @@ module _ {V : Type 0} where
           let next : 1 + place ≡ suc place = omega arith in
           ap (slice_get (e ∷ others)) next ∙ ih
 
+-- maps that are the same have the same lists
+pub same_lists :
+    {S : Type 0} {m o : IndexMap ℕ Few S} → m ≡ o → (k : ℕ) →
+    listed_in (get nat_eq m k) ≡ listed_in (get nat_eq o k)
+same_lists {S} same k = ap (λ (m : IndexMap ℕ Few S). listed_in (get nat_eq m k)) same
+
 -- the list of the number stands at the place
-module _ {S : Type 0} (m : IndexMap ℕ (RowTable ℕ) S) (unique : IsUnique nat_eq m) (i n : ℕ)
-    (list : RowTable ℕ) (key : slice_get (keys m) i ≡ Some n)
+module _ {S : Type 0} (m : IndexMap ℕ Few S) (unique : IsUnique nat_eq m) (i n : ℕ)
+    (list : Few) (key : slice_get (keys m) i ≡ Some n)
     (value : slice_get (values m) i ≡ Some list) where
   here : slice_get m.entries i ≡ Some (n, list)
   here = entry_of m.entries i n list key value
@@ -82,16 +89,16 @@ module _ {S : Type 0} (m : IndexMap ℕ (RowTable ℕ) S) (unique : IsUnique nat
   before k = listed_in (get nat_eq m k)
 
   -- the lists, once the one at the place is this
-  abbrev after : RowTable ℕ → ℕ → List ℕ
+  abbrev after : Few → ℕ → List ℕ
   after w k = listed_in (get nat_eq (with_value_at m i w) k)
 
   -- the number has the list at the place
-  stood : before n ≡ list.rows
+  pub stood : listed_in (get nat_eq m n) ≡ mounts_in list
   stood = ap listed_in (hash_map_get_place nat_eq_equiv m i n list unique here)
 
   -- what is done to the list at the place is done to that of the number
   pub changed :
-      (f : List ℕ → List ℕ) (w : RowTable ℕ) → w.rows ≡ f list.rows → (k : ℕ) →
+      (f : List ℕ → List ℕ) (w : Few) → mounts_in w ≡ f (mounts_in list) → (k : ℕ) →
       listed_in (get nat_eq (with_value_at m i w) k) ≡
       (if nat_eq n k then f (listed_in (get nat_eq m k)) else listed_in (get nat_eq m k))
   changed f w e k =
@@ -102,12 +109,12 @@ module _ {S : Type 0} (m : IndexMap ℕ (RowTable ℕ) S) (unique : IsUnique nat
           (b : Bool) → nat_eq n k ≡ b →
           listed_in (cond b (Some w) (get nat_eq m k)) ≡ cond b (f (before k)) (before k)
       go true same =
-          e ∙ ap f (sym (subst (λ (x : ℕ). before x ≡ list.rows) (eqb-true n k same) stood))
+          e ∙ ap f (sym (subst (λ (x : ℕ). before x ≡ mounts_in list) (eqb-true n k same) stood))
       go false other = refl
 
   -- a list that keeps its mounts changes no list
   pub kept :
-      (w : RowTable ℕ) → w.rows ≡ list.rows → (k : ℕ) →
+      (w : Few) → mounts_in w ≡ mounts_in list → (k : ℕ) →
       listed_in (get nat_eq (with_value_at m i w) k) ≡ listed_in (get nat_eq m k)
   kept w e k = changed (λ (xs : List ℕ). xs) w e k ∙ go (nat_eq n k)
     where
@@ -117,8 +124,8 @@ module _ {S : Type 0} (m : IndexMap ℕ (RowTable ℕ) S) (unique : IsUnique nat
 
   -- a list without mounts that goes changes no list
   pub tidied :
-      (w : RowTable ℕ) → w.rows ≡ [] →
-      (gone : Option (ℕ × RowTable ℕ)) (new : IndexMap ℕ (RowTable ℕ) S) →
+      (w : Few) → mounts_in w ≡ [] →
+      (gone : Option (ℕ × Few)) (new : IndexMap ℕ Few S) →
       gone ≡ slice_get (with_value_at m i w).entries i →
       IfSome gone (λ e. Updates nat_eq (with_value_at m i w) new e.0 None) → (k : ℕ) →
       listed_in (get nat_eq new k) ≡ listed_in (get nat_eq (with_value_at m i w) k)
@@ -133,7 +140,7 @@ module _ {S : Type 0} (m : IndexMap ℕ (RowTable ℕ) S) (unique : IsUnique nat
           entry_of (with_value_at m i w).entries i n w key_there
           (value_set m.entries i list w value)
 
-      IsLess : Option (ℕ × RowTable ℕ) → Type 0
+      IsLess : Option (ℕ × Few) → Type 0
       IsLess o = IfSome o (λ p. Updates nat_eq (with_value_at m i w) new p.0 None)
 
       less : Updates nat_eq (with_value_at m i w) new n None

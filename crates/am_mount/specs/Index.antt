@@ -1,30 +1,31 @@
 -- The mounts that share a number: a namespace, a parent, a file system, or a bucket of places. Own
 -- choice.
-use Rattle.std.specs.Prelude.{◌≡◌, ◌≤◌, ◌==◌, ℕ, Bool, nat_eq, not, List, [], ◌∷◌, ◌++◌, filter, Option, Some, None, slice_get, if◌then◌else◌}
-use Rattle.am_ordered.specs.RowTable.{RowTable}
+use Rattle.std.specs.Prelude.{◌≡◌, ℕ, Bool, nat_eq, List, [], ◌∷◌, ◌++◌, Option, Some, None, slice_get, if◌then◌else◌}
 use Rattle.std.specs.List.Sorted.{IsStrictlyIncreasing}
 use Rattle.indexmap.specs.IndexMap.{get, keys, values}
 use Rattle.am_names.specs.{MountRow, Position, text_of}
+use Rattle.am_mount.specs.declared.few.Few.{Few}
 use Rattle.am_mount.specs.declared.index.Index.{Index}
 use Rattle.am_mount.specs.declared.indexes.Indexes.{Indexes}
 use Rattle.am_mount.specs.declared.indexes.Places.{Places}
 use Rattle.am_mount.specs.declared.indexes.PlacesAt.{PlacesAt}
 use Rattle.am_mount.specs.Rows.{mounts_where, is_in, is_child, has_fs}
 use Rattle.am_mount.specs.Buckets.{bucket, is_in_bucket}
+use Rattle.am_mount.specs.Few.{mounts_in, HasRoomIn, but}
 
 -- the mounts of a list that was looked up, none where there is no list
-abbrev pub listed_in : Option (RowTable ℕ) → List ℕ
+abbrev pub listed_in : Option Few → List ℕ
 listed_in None = []
-listed_in (Some list) = list.rows
+listed_in (Some list) = mounts_in list
 
 -- the mounts that have the number
 abbrev pub listed : Index → ℕ → List ℕ
 listed index n = listed_in (get nat_eq index.lists n)
 
 -- there is a list, with room for one more mount
-abbrev pub RoomIn : Option (RowTable ℕ) → Type 0
+abbrev pub RoomIn : Option Few → Type 0
 RoomIn None = ⊥
-RoomIn (Some list) = 1 ≤ list.room
+RoomIn (Some list) = HasRoomIn list
 
 -- the number whose list stands at this place
 abbrev pub number_at : Index → ℕ → Option ℕ
@@ -37,10 +38,6 @@ HasRoomAt index place = RoomIn (slice_get (values index.lists) place)
 -- it is the list of the number that stands at this place, with room for one more mount
 abbrev pub HasRoom : Index → ℕ → ℕ → Type 0
 HasRoom index n place = (number_at index place ≡ Some n) × HasRoomAt index place
-
--- the mounts but for this one
-abbrev pub but : ℕ → List ℕ → List ℕ
-but m mounts = filter (λ x. not (x == m)) mounts
 
 -- both have the same lists
 abbrev pub SameLists : Index → Index → Type 0

@@ -1,11 +1,13 @@
 //! The mounts that share a number.
 
-ghost use Rattle.std.specs.Prelude.{◌≡◌, ℕ, nat_eq, [], Some, IfOk};
+ghost use Rattle.std.specs.Prelude.{◌≡◌, ◌<◌, ℕ, nat_eq, [], Some, IfOk, IfSome, IfNone};
+ghost use Rattle.std.specs.Bool.{OnTrue};
 ghost use Rattle.std.specs.List.Sorted.{IsStrictlyIncreasing};
-ghost use Rattle.am_mount.specs.Index.{listed, but, number_at, HasRoom, HasRoomAt, SameLists, AddsTo, TakesFrom};
+ghost use Rattle.indexmap.specs.IndexMap.{IsUnique, index_map_len};
+ghost use Rattle.am_mount.specs.Index.{listed, number_at, HasRoom, HasRoomAt, SameLists, AddsTo, TakesFrom};
 
+use crate::few::Few;
 use am_names::MountId;
-use am_ordered::Rows;
 use indexmap::IndexMap;
 use std::alloc::{AllocError, Global};
 
@@ -13,33 +15,9 @@ use std::alloc::{AllocError, Global};
 #[derive(Drop)]
 pub struct Index {
     alloc: Global,
-    lists: IndexMap<u64, Rows<MountId>>,
-}
-
-/// Takes the mount out of a list that rises, in which it is found by halves.
-fn take_out_by_halves(mounts: &mut Rows<MountId>, mount: MountId)
-    requires { IsStrictlyIncreasing mounts.old.rows }
-    ensures { mounts.new.rows ≡ but mount mounts.old.rows }
-{
-    let number = mount.0;
-    let found = mounts
-        .as_slice()
-        .binary_search_by_key(&number, |other| other.0);
-    if let Ok(at) = found {
-        mounts.take_out(at);
-    }
-}
-
-/// Takes the mount out of a list that rises, at whose end the newest stands.
-fn take_out(mounts: &mut Rows<MountId>, mount: MountId)
-    requires { IsStrictlyIncreasing mounts.old.rows }
-    ensures { mounts.new.rows ≡ but mount mounts.old.rows }
-{
-    if mounts.as_slice().last().copied() == Some(mount) {
-        let _newest = mounts.pop();
-        return;
-    }
-    take_out_by_halves(mounts, mount);
+    lists: IndexMap<u64, Few>,
+    // Where the list stood that was looked up last.
+    latest: usize,
 }
 
 impl Index {
@@ -50,6 +28,7 @@ impl Index {
         Index {
             alloc,
             lists: IndexMap::new(alloc),
+            latest: 0,
         }
     }
 
@@ -63,15 +42,42 @@ impl Index {
         }
     }
 
+    /// Whether the list that was looked up last is that of the number.
+    fn is_latest(&self, number: u64) -> bool
+        ensures unique { IsUnique nat_eq self.now.lists }
+        ensures there { OnTrue result (number_at self.now self.now.latest ≡ Some number) }
+    {
+        match self.lists.as_slice().get_index(self.latest) {
+            Some((key, _list)) => *key == number,
+            None => false,
+        }
+    }
+
+    /// The place of the number's list, if it has one. That of the list that was looked up last is
+    /// tried first.
+    fn place_of(&mut self, number: u64) -> Option<usize>
+        ensures lists { self.new.lists ≡ self.old.lists }
+        ensures unique { IsUnique nat_eq self.new.lists }
+        ensures within { IfSome result (λ place. place < index_map_len self.new.lists) }
+        ensures there { IfSome result (λ place. number_at self.new place ≡ Some number) }
+        ensures none { IfNone result (listed self.new number ≡ []) }
+    {
+        if self.is_latest(number) {
+            return Some(self.latest);
+        }
+        let place = self.lists.get_index_of(&number)?;
+        self.latest = place;
+        Some(place)
+    }
+
     /// Begins the list of a number that has none. The answer is the list's place.
     fn begin(&mut self, number: u64) -> Result<usize, AllocError>
         requires { listed self.old number ≡ [] }
         ensures same { SameLists self.old self.new }
         ensures ok { IfOk result (HasRoom self.new number) }
     {
-        let mut list = Rows::new(self.alloc);
-        list.reserve(1)?;
-        let (place, _) = self.lists.insert_full(number, list)?;
+        let (place, _) = self.lists.insert_full(number, Few::One(None))?;
+        self.latest = place;
         Ok(place)
     }
 
@@ -81,10 +87,10 @@ impl Index {
         ensures same { SameLists self.old self.new }
         ensures ok { IfOk result (HasRoom self.new number) }
     {
-        let Some(place) = self.lists.get_index_of(&number) else {
+        let Some(place) = self.place_of(number) else {
             return self.begin(number);
         };
-        self.lists[place].reserve(1)?;
+        self.lists[place].make_room(self.alloc)?;
         Ok(place)
     }
 
@@ -104,11 +110,11 @@ impl Index {
         requires { IsStrictlyIncreasing (listed self.old number) }
         ensures { TakesFrom (λ n. nat_eq number n) mount self.old self.new }
     {
-        let Some(place) = self.lists.get_index_of(&number) else {
+        let Some(place) = self.place_of(number) else {
             return;
         };
         let list = &mut self.lists[place];
-        take_out(list, mount);
+        list.take_out(mount);
         if list.as_slice().is_empty() {
             let _gone = self.lists.swap_remove_index(place);
         }

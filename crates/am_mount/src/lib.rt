@@ -3,6 +3,7 @@
 
 mod among;
 mod buckets;
+mod few;
 mod index;
 mod indexes;
 pub mod tree;

@@ -10,4 +10,4 @@ returns-in-Some c =
     sym c.in-Some.ensures.value in
     λ n stands.
     changed lists c.in-Some.ensures.unique c.args.place n c.in-Some.list.now stands here
-    (λ mounts. mounts ++ c.args.mount ∷ []) c.push_reserved.new.self c.push_reserved.ensures.rows
+    (λ mounts. mounts ++ c.args.mount ∷ []) c.push_reserved.new.self c.push_reserved.ensures

@@ -3,7 +3,7 @@ use Rattle.std.specs.List.Sorted.{IsStrictlyIncreasing}
 use Rattle.std.proofs.lemmas.List.Sorted.{answers_always}
 use Rattle.am_mount.specs.{but}
 use Rattle.am_mount.proofs.TakeLemmas.{but_found, but_unfound}
-use Rattle.am_mount.proofs.index.take_out_by_halves.Goals as goal
+use Rattle.am_mount.proofs.few.take_out_by_halves.Goals as goal
 
 pub returns-in-Ok : goal.returns-in-Ok
 returns-in-Ok c =

@@ -1,6 +1,6 @@
 use Rattle.std.proofs.Common.{◌≡◌, ◌-◌, ℕ, List, length, slice_get, Some, sym, subst, ◌∙◌, rules}
 use Rattle.am_mount.proofs.TakeLemmas.{but_greatest}
-use Rattle.am_mount.proofs.index.take_out.Goals as goal
+use Rattle.am_mount.proofs.few.take_out.Goals as goal
 
 pub returns-then-eq : goal.returns-then-eq
 returns-then-eq c =
