@@ -13,7 +13,6 @@ pub mod SpareLemmas
 pub mod LiftLemmas
 pub mod KindLemmas
 pub mod ClearLemmas
-pub mod AmongLemmas
 pub mod LostLemmas
 pub mod GoneLemmas
 pub mod LoneLemmas
@@ -30,3 +29,5 @@ pub mod CountLemmas
 pub mod WalkLemmas
 pub mod HomeLemmas
 pub mod TurnLemmas
+pub mod LiftingLemmas
+pub mod LiftedLemmas

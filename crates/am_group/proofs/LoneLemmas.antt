@@ -1,52 +1,18 @@
 -- A mount that gives up the peer group in which it is alone, and which is no master.
-use Rattle.std.proofs.Common.{◌≡◌, ◌<◌, ℕ, Bool, true, false, cond, ◌||◌, ◌&&◌, List, [], ◌∷◌, Option, Some, None, ⊎_elim, refl, sym, ap, subst, ◌∙◌, arith}
+use Rattle.std.proofs.Common.{◌≡◌, ◌<◌, ℕ, zero, suc, Bool, true, false, cond, ◌||◌, ◌&&◌, List, [], ◌∷◌, get_or, Option, Some, None, ⊎_elim, refl, sym, ap, subst, ◌∙◌, arith}
 use Rattle.std.specs.Prelude.{map, filter, not, ◌==◌}
-use Rattle.std.specs.List.{list_all, list_any}
+use Rattle.std.specs.List.{list_any}
 use Rattle.std.proofs.lemmas.Bool.{eqb-true, eq-eqb, ne_eqb}
-use Rattle.am_names.proofs.Basics.{equal_either_way, left_of_and, or_false, or_right, right_of_and, false_where_not}
+use Rattle.am_names.proofs.Basics.{equal_either_way, or_false}
 use Rattle.am_names.specs.{MemberRow, GroupRow, is_among}
 use Rattle.am_names.specs.PeerGroups.{PeerGroups}
-use Rattle.am_group.specs.{Change, AreLost, IsOrderly, at_row, cleared, gives_up, group_in, has_followers, has_master, has_members, is_below_it, is_free_group, is_just, is_kept, is_not_alone, is_one_of, is_other_in, left, lifted, lifted_member, master_of_group, member_row, not_alone_in, past, row_of, settled, slave_from, with_row}
+use Rattle.am_group.specs.{AreLifts, AreLost, Change, IsOrderly, at_row, cleared, gives_up, group_in, has_members, is_just, is_kept, is_not_alone, is_one_of, is_other_in, left, lift_in, lifted, lifted_group, lifted_member, master_of_group, member_row, not_alone_in, past, past_group, past_member, row_of, settled, slave_from, with_row}
 use Rattle.am_group.specs.declared.mount_state.Change.TheVariants.{MakeShared, MakeSlave, MakePrivate, MakeUnbindable}
 use Rattle.am_group.proofs.ClearLemmas.{test_from_member}
 use Rattle.am_group.proofs.LiftLemmas.{lifted_here, lifted_step, same_state}
-use Rattle.am_group.proofs.LostLemmas.{groups_stay, master_stays, stays_is}
+use Rattle.am_group.proofs.LostLemmas.{stays_is}
 use Rattle.am_group.proofs.ScanLemmas.{just_same}
 use Rattle.am_group.proofs.SpareLemmas.{found_number, has_other, others_stay, same_change}
-
-one_of_one : (g : ℕ) (o : Option ℕ) → is_one_of (g ∷ []) o ≡ is_just g o
-one_of_one g None = refl
-one_of_one g (Some h) = or_false (g == h) ∙ equal_either_way g h
-
--- where no row has the group as its master, none is one of it alone
-free_members :
-    (g : ℕ) (rows : List MemberRow) → list_any (has_master g) rows ≡ false →
-    list_all (λ row. not (is_one_of (g ∷ []) row.master)) rows ≡ true
-free_members g [] none = refl
-free_members g (r ∷ rows) none = go (is_just g r.master) refl none (free_members g rows)
-  where
-    go :
-        (b : Bool) → is_just g r.master ≡ b → (b || list_any (has_master g) rows) ≡ false →
-        (list_any (has_master g) rows ≡ false → list_all (λ row. not (is_one_of (g ∷ []) row.master)) rows ≡ true) →
-        (not (is_one_of (g ∷ []) r.master) && list_all (λ row. not (is_one_of (g ∷ []) row.master)) rows) ≡ true
-    go true e none ih = absurd cc
-    go false e none ih = rw (one_of_one g r.master, e) (ih none)
-
-free_groups :
-    (g : ℕ) (rows : List GroupRow) → list_any (is_below_it g) rows ≡ false →
-    list_all (is_free_group (g ∷ [])) rows ≡ true
-free_groups g [] none = refl
-free_groups g (r ∷ rows) none = go (is_just g r.master) refl none (free_groups g rows)
-  where
-    own : is_just g r.master ≡ false → is_free_group (g ∷ []) r ≡ true
-    own e = or_right (is_among (g ∷ []) r.group) _ (rw (one_of_one g r.master, e) refl)
-
-    go :
-        (b : Bool) → is_just g r.master ≡ b → (b || list_any (is_below_it g) rows) ≡ false →
-        (list_any (is_below_it g) rows ≡ false → list_all (is_free_group (g ∷ [])) rows ≡ true) →
-        (is_free_group (g ∷ []) r && list_all (is_free_group (g ∷ [])) rows) ≡ true
-    go true e none ih = absurd cc
-    go false e none ih = rw (own e) (ih none)
 
 -- neither of two
 first_not : (a b : Bool) → (a || b) ≡ false → a ≡ false
@@ -151,46 +117,88 @@ module _ (s : PeerGroups) (orderly : IsOrderly s) (m : ℕ) (row : MemberRow) (f
           ap (λ (n : ℕ). lifted stays raw (Some n)) (sym same)
       go false e = sym (lifted_here stays raw h (stays_not h ∙ ap not (or_false (g == h) ∙ equal_either_way g h ∙ e)))
 
-  -- of rows of which none is under the group the mount's alone is lifted
-  lifted_rows :
-      (new : MemberRow) (rows : List MemberRow) → list_all (λ r. not (is_one_of (g ∷ []) r.master)) rows ≡ true →
-      map (lifted_member stays raw) (map (at_row (λ r. new) m) rows) ≡ map (at_row (λ r. lifted_member stays raw new) m) rows
-  lifted_rows new [] free = refl
-  lifted_rows new (r ∷ rows) free =
-      go (r.mount == m) (lifted_rows new rows (right_of_and _ _ free))
+  -- ---- the followers of the group get its master
+
+  followed_rows :
+      IsOrderly raw → (new : MemberRow) (rows : List MemberRow) →
+      map (at_row (λ r. lifted_member stays raw new) m) (map (past_member s g) rows) ≡ map (lifted_member stays raw) (map (at_row (λ r. new) m) rows)
+  followed_rows raw_orderly new [] = refl
+  followed_rows raw_orderly new (r ∷ rows) =
+      go (r.mount == m) (followed_rows raw_orderly new rows)
     where
-      here : is_one_of (g ∷ []) r.master ≡ false
-      here = false_where_not (is_one_of (g ∷ []) r.master) (left_of_and _ _ free)
+      these : List MemberRow
+      these = map (at_row (λ r. lifted_member stays raw new) m) (map (past_member s g) rows)
 
       go :
-          (b : Bool) → map (lifted_member stays raw) (map (at_row (λ x. new) m) rows) ≡ map (at_row (λ x. lifted_member stays raw new) m) rows →
-          lifted_member stays raw (cond b new r) ∷ map (lifted_member stays raw) (map (at_row (λ x. new) m) rows) ≡
-          cond b (lifted_member stays raw new) r ∷ map (at_row (λ x. lifted_member stays raw new) m) rows
+          (b : Bool) → these ≡ map (lifted_member stays raw) (map (at_row (λ r. new) m) rows) →
+          cond b (lifted_member stays raw new) (past_member s g r) ∷ these ≡
+          lifted_member stays raw (cond b new r) ∷ map (lifted_member stays raw) (map (at_row (λ r. new) m) rows)
       go true ih = ap (λ (xs : List MemberRow). lifted_member stays raw new ∷ xs) ih
       go false ih =
-          ap (λ (o : Option ℕ). (record r { master = o }) ∷ map (lifted_member stays raw) (map (at_row (λ x. new) m) rows))
-          (master_stays s.members raw (g ∷ []) lone_lost r.master here) ∙
-          ap (λ (xs : List MemberRow). r ∷ xs) ih
+          ap (λ (o : Option ℕ). (record r { master = o }) ∷ these) (past_is raw_orderly r.master) ∙
+          ap (λ (xs : List MemberRow). lifted_member stays raw r ∷ xs) ih
 
-  -- the mount's row changes, with its master lifted, and the group goes
-  pub lone_left :
-      IsOrderly raw → has_followers s g ≡ false → (after : MemberRow) →
-      after ≡ (record (f row) { master = past s g (f row).master }) → (rows : List MemberRow) →
-      rows ≡ map (at_row (λ r. after) m) s.members → (groups : List GroupRow) →
-      groups ≡ filter (λ r. not (is_among (g ∷ []) r.group)) s.groups → (last : ℕ) → last ≡ s.last_group →
+  followed_groups :
+      IsOrderly raw → (rows : List GroupRow) →
+      filter (λ r. not (is_among (g ∷ []) r.group)) (map (past_group s g) rows) ≡
+      filter (λ r. stays r.group) (map (lifted_group stays raw) rows)
+  followed_groups raw_orderly [] = refl
+  followed_groups raw_orderly (r ∷ rows) =
+      ap (λ (b : Bool). cond b (past_group s g r ∷ these) these) (sym (stays_not r.group)) ∙
+      ap (λ (o : Option ℕ). cond (stays r.group) ((record r { master = o }) ∷ these) these) (past_is raw_orderly r.master) ∙
+      ap (λ (xs : List GroupRow). cond (stays r.group) (lifted_group stays raw r ∷ xs) xs) (followed_groups raw_orderly rows)
+    where
+      these : List GroupRow
+      these = filter (λ x. not (is_among (g ∷ []) x.group)) (map (past_group s g) rows)
+
+  -- the mount's row changes, the followers and it have the group's master in its place, and the group goes
+  pub followed_left :
+      IsOrderly raw → (after : MemberRow) → after ≡ (record (f row) { master = past s g (f row).master }) →
+      (rows : List MemberRow) → rows ≡ map (at_row (λ r. after) m) (map (past_member s g) s.members) → (groups : List GroupRow) →
+      groups ≡ filter (λ r. not (is_among (g ∷ []) r.group)) (map (past_group s g) s.groups) → (last : ℕ) → last ≡ s.last_group →
       (record { members = rows; groups = groups; last_group = last }) ≡ left s raw
-  lone_left raw_orderly free after is rows mounts groups masters last number =
-      let slaves = first_not (list_any (has_master g) s.members) (list_any (is_below_it g) s.groups) free in
-      let below = second_not (list_any (has_master g) s.members) (list_any (is_below_it g) s.groups) free in
+  followed_left raw_orderly after is rows mounts groups masters last number =
       let lifts : after ≡ lifted_member stays raw (f row) =
       is ∙ ap (λ (o : Option ℕ). record (f row) { master = o }) (past_is raw_orderly (f row).master) in
       same_state (cleared stays (settled stays raw)) rows groups last
       (mounts ∙
-      ap (λ (x : MemberRow). map (at_row (λ r. x) m) s.members) lifts ∙
-      sym (lifted_rows (f row) s.members (free_members g s.members slaves)) ∙
+      ap (λ (x : MemberRow). map (at_row (λ r. x) m) (map (past_member s g) s.members)) lifts ∙
+      followed_rows raw_orderly (f row) s.members ∙
       ap (map (lifted_member stays raw)) (same_change f 0 m s.members orderly.rising row found))
-      (masters ∙ groups_stay s.members raw (g ∷ []) lone_lost s.groups (free_groups g s.groups below))
+      (masters ∙ followed_groups raw_orderly s.groups)
       number
+
+-- the group with its master, which its followers get
+pub lone_lift :
+    (s : PeerGroups) → IsOrderly s → (g : ℕ) → AreLifts ((record { group = g; master = master_of_group s g }) ∷ [])
+lone_lift s orderly g = record {
+  clear = ap (λ (b : Bool). not b && true) (other (master_of_group s g) refl);
+  same = at;
+}
+  where
+    other : (o : Option ℕ) → master_of_group s g ≡ o → is_one_of (g ∷ []) o ≡ false
+    other None e = refl
+    other (Some t) e = let lower : t < g = orderly.down g t e in or_false (g == t) ∙ ne_eqb g t (λ same. omega arith)
+
+    at :
+        (i : ℕ) (d : GroupRow) → i < 1 →
+        (get_or ((record { group = g; master = master_of_group s g }) ∷ []) i d).master ≡
+        lift_in ((record { group = g; master = master_of_group s g }) ∷ []) (Some (get_or ((record { group = g; master = master_of_group s g }) ∷ []) i d).group)
+    at zero d within = sym (ap (λ (b : Bool). cond b (master_of_group s g) (Some g)) (eq-eqb g g refl))
+    at (suc i) d within = absurd (omega arith)
+
+-- what stands in place of the group is another
+pub past_other : (s : PeerGroups) → IsOrderly s → (g : ℕ) (o : Option ℕ) → is_one_of (g ∷ []) (past s g o) ≡ false
+past_other s orderly g None = refl
+past_other s orderly g (Some h) = go (h == g) refl
+  where
+    other : (o : Option ℕ) → master_of_group s g ≡ o → is_one_of (g ∷ []) o ≡ false
+    other None e = refl
+    other (Some t) e = let lower : t < g = orderly.down g t e in or_false (g == t) ∙ ne_eqb g t (λ same. omega arith)
+
+    go : (b : Bool) → (h == g) ≡ b → is_one_of (g ∷ []) (cond b (master_of_group s g) (Some h)) ≡ false
+    go true e = other (master_of_group s g) refl
+    go false e = or_false (g == h) ∙ equal_either_way g h ∙ e
 
 -- a change that gives a peer group up leaves the mount in none
 pub out_of_group :

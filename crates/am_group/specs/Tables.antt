@@ -4,7 +4,6 @@ use Rattle.std.specs.Prelude.{◌≡◌, ◌||◌, ◌&&◌, ◌==◌, ℕ, Bool
 use Rattle.std.specs.List.{list_all, list_any}
 use Rattle.am_names.specs.{MemberRow, GroupRow, is_among}
 use Rattle.am_names.specs.PeerGroups.{PeerGroups}
-use Rattle.am_group.specs.declared.tables.Tables.{Tables}
 use Rattle.am_group.specs.declared.mount_state.MountState.{MountState}
 use Rattle.am_group.specs.declared.mount_state.MountState.TheVariants.{Shared, Slave, SharedSlave, Private, Unbindable}
 use Rattle.am_group.specs.declared.mount_state.Change.{Change}
@@ -13,14 +12,6 @@ use Rattle.am_group.specs.Propagation.{master_of_group}
 use Rattle.am_group.specs.Scan.{is_one_of}
 use Rattle.am_group.specs.Indexed.{is_in, has_master, is_below_it, mounts_where, groups_where}
 use Rattle.am_group.specs.Changes.{is_just, has_members, shared_row, slave_row, private_row, unbindable_row}
-
--- the rows, seen as peer groups
-abbrev pub state_of : Tables → PeerGroups
-state_of t = record {
-  members = t.members.items;
-  groups = t.groups.items;
-  last_group = t.last_group;
-}
 
 -- these are the peer groups that have members
 abbrev pub AreLive : List MemberRow → List ℕ → Type 0
@@ -60,10 +51,6 @@ abbrev pub without_groups : List ℕ → PeerGroups → PeerGroups
 without_groups lost s =
     record s { groups = filter (λ row. not (is_among lost row.group)) s.groups }
 
--- the peer group is among the new ones, or isn't among the old
-abbrev pub is_left : List ℕ → List ℕ → ℕ → Bool
-is_left old new g = is_among new g || not (is_among old g)
-
 -- another mount than this one is in the peer group
 abbrev pub is_other_in : ℕ → ℕ → MemberRow → Bool
 is_other_in m g row = is_just g row.group && not (row.mount == m)
@@ -77,13 +64,17 @@ not_alone_in s m (Some g) = list_any (is_other_in m g) s.members
 abbrev pub is_not_alone : PeerGroups → MemberRow → Bool
 is_not_alone s row = not_alone_in s row.mount row.group
 
--- a mount or a peer group has this one as its master
-abbrev pub has_followers : PeerGroups → ℕ → Bool
-has_followers s g = list_any (has_master g) s.members || list_any (is_below_it g) s.groups
-
 -- in place of this peer group as a master its own
 abbrev pub past : PeerGroups → ℕ → Option ℕ → Option ℕ
 past s g master = if is_just g master then master_of_group s g else master
+
+-- the same of a mount's master
+abbrev pub past_member : PeerGroups → ℕ → MemberRow → MemberRow
+past_member s g row = record row { master = past s g row.master }
+
+-- and of a peer group's
+abbrev pub past_group : PeerGroups → ℕ → GroupRow → GroupRow
+past_group s g row = record row { master = past s g row.master }
 
 -- what a change makes of a row
 abbrev pub row_of : Change → ℕ → MemberRow → MemberRow

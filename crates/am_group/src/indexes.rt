@@ -1,10 +1,10 @@
 //! The mounts and the peer groups by the groups that they name.
 
-ghost use Rattle.std.specs.Prelude.{◌≡◌, ◌≤◌, length, take, IfOk, OnOk, OnErr};
+ghost use Rattle.std.specs.Prelude.{◌≡◌, ◌≤◌, length, take, OnOk, OnErr};
 ghost use Rattle.am_index.specs.{AddsTo, DropsLast, ListsRise, SameLists, TakesFrom};
 ghost use Rattle.am_group.specs.declared.indexes.Indexes.{Indexes};
 ghost use Rattle.am_group.specs.Changes.{is_just};
-ghost use Rattle.am_group.specs.Indexed.{RoomFor, Moves, HaveSameLists, HaveRoom, AreWith, AreWithout, AreMoved, AreAdded, HasGroupRoom, IsWithGroup, IsWithoutGroup, GroupsAreAdded, AreIndexed, AllAreAdded, ListMembers, ListGroups};
+ghost use Rattle.am_group.specs.Indexed.{RoomFor, Moves, HaveSameLists, HaveRoom, AreWith, AreWithout, AreMoved, AreAdded, HasGroupRoom, IsWithGroup, IsWithoutGroup, GroupsAreAdded, AreIndexed, AllAreAdded};
 ghost use Rattle.am_group.specs.Members.{no_mounts};
 
 use am_index::Index;
@@ -12,7 +12,7 @@ use am_names::{GroupId, GroupRow, MemberRow};
 use std::alloc::{AllocError, Global};
 
 /// Makes room in the list of the group, if there is one.
-fn room_for(index: &mut Index, group: Option<GroupId>) -> Result<(), AllocError>
+pub fn room_for(index: &mut Index, group: Option<GroupId>) -> Result<(), AllocError>
     ensures same { SameLists index.old index.new }
     ensures ok { OnOk result (RoomFor group index.new) }
 {
@@ -236,18 +236,5 @@ impl Indexes {
             return Err(error);
         }
         Ok(())
-    }
-
-    /// Those of these rows.
-    pub fn of(
-        alloc: Global,
-        members: &[MemberRow],
-        groups: &[GroupRow],
-    ) -> Result<Indexes, AllocError>
-        ensures { IfOk result (λ t. ListMembers members.now t × ListGroups groups.now t) }
-    {
-        let mut indexes = Indexes::new(alloc);
-        indexes.add_all(members, groups)?;
-        Ok(indexes)
     }
 }

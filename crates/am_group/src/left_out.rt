@@ -1,6 +1,6 @@
 //! Rows of mounts and of peer groups that are left out: what goes is found by its number.
 
-ghost use Rattle.std.specs.Prelude.{◌≡◌, ◌≤◌, ◌-◌, ◌==◌, Some, filter, not, length, take, option_map, IfOk};
+ghost use Rattle.std.specs.Prelude.{◌≡◌, ◌≤◌, ◌-◌, ◌==◌, Some, filter, not, length, take, option_map};
 ghost use Rattle.std.specs.Bool.{OnTrue};
 ghost use Rattle.std.specs.List.{slice_get};
 ghost use Rattle.std.specs.List.Sorted.{IsNonDecreasing};
@@ -10,7 +10,6 @@ ghost use Rattle.am_group.specs.Invariant.{RiseFrom, GroupsRise};
 use crate::tables::is_among as is_live;
 use am_names::{GroupId, GroupRow, MemberRow, MountId, are_ordered, is_among, is_found};
 use am_ordered::Rows;
-use std::alloc::{AllocError, Global};
 
 /// So few are looked for one by one, and of more all rows are gone through.
 const FEW: usize = 4;
@@ -108,25 +107,6 @@ pub fn is_one(mount: MountId, mounts: &[MountId], ordered: bool) -> bool
     } else {
         is_among(mount, mounts)
     }
-}
-
-/// The rows of the mounts but these.
-pub fn rows_without(
-    alloc: Global,
-    members: &[MemberRow],
-    gone: &[MountId],
-) -> Result<Vec<MemberRow>, AllocError>
-    ensures { IfOk result (λ v. v.items ≡
-        filter (λ row. not (is_among gone.now row.mount)) members.now) }
-{
-    let ordered = are_ordered(gone);
-    let mut rows = Vec::new(alloc);
-    for row in members {
-        if !is_one(row.mount, gone, ordered) {
-            rows.push(*row)?;
-        }
-    }
-    Ok(rows)
 }
 
 /// Leaves out the peer group's row, which is found by halves.

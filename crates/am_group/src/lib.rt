@@ -5,6 +5,7 @@
 pub mod groups;
 mod indexes;
 mod left_out;
+mod lifting;
 pub mod membership;
 pub mod mount_state;
 mod tables;

@@ -1,2 +1,4 @@
+pub mod JoinLemmas
 pub mod PlaceLemmas
 pub mod RowLemmas
+pub mod SetLemmas

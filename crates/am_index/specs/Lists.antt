@@ -1,8 +1,9 @@
 -- Numbers by a number that they share. Own choice.
-use Rattle.std.specs.Prelude.{◌≡◌, ◌<◌, ◌==◌, ℕ, Bool, true, false, nat_eq, nat_lt, not, List, [], ◌∷◌, ◌++◌, ◌-◌, length, take, map, filter, Option, Some, None, Vec, if◌then◌else◌}
+use Rattle.std.specs.Prelude.{◌≡◌, ◌<◌, ◌==◌, ◌&&◌, ◌||◌, ℕ, Bool, true, false, nat_eq, nat_lt, not, List, [], ◌∷◌, ◌++◌, ◌-◌, length, take, map, filter, Option, Some, None, Vec, if◌then◌else◌}
 use Rattle.std.specs.Vec.{vec_len, vec_capacity}
 use Rattle.std.specs.List.Sorted.{IsStrictlyIncreasing}
 use Rattle.indexmap.specs.IndexMap.{get}
+use Rattle.am_names.specs.{is_among}
 use Rattle.am_index.specs.declared.lists.Index.{Index}
 
 -- the numbers of a list that was looked up, none where there is no list
@@ -69,6 +70,30 @@ DropsLast has old new =
 -- each of its lists rises
 abbrev pub ListsRise : Index → Type 0
 ListsRise index = (n : ℕ) → IsStrictlyIncreasing (listed index n)
+
+-- whether it has the number
+abbrev pub has : Index → ℕ → ℕ → Bool
+has index n x = is_among (listed index n) x
+
+-- those that have the one number have the other too
+pub record Joins (from to : ℕ) (old new : Index) : Type 0 where
+  pub rising : ListsRise new
+  pub has : (n x : ℕ) → has new n x ≡ (has old n x || (to == n && has old from x))
+
+-- those that have the one number have not the other
+pub record Parts (from to : ℕ) (old new : Index) : Type 0 where
+  pub rising : ListsRise new
+  pub has : (n x : ℕ) → has new n x ≡ (has old n x && not (to == n && has old from x))
+
+-- none has the number
+abbrev pub Drops : ℕ → Index → Index → Type 0
+Drops number old new =
+    (n : ℕ) → listed new n ≡ (if nat_eq number n then [] else listed old n)
+
+-- there is still room for one more that has another number
+abbrev pub KeepsOtherRoom : ℕ → Index → Index → Type 0
+KeepsOtherRoom number old new =
+    (n : ℕ) → nat_eq number n ≡ false → HasRoom old n → HasRoom new n
 
 -- the numbers of the rows that pass the test
 abbrev pub numbered : {R : Type 0} → (R → ℕ) → (R → Bool) → List R → List ℕ

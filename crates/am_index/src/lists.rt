@@ -1,9 +1,9 @@
 //! The numbers that share a number.
 
-ghost use Rattle.std.specs.Prelude.{◌≡◌, ◌<◌, ℕ, nat_eq, [], OnOk};
+ghost use Rattle.std.specs.Prelude.{◌≡◌, ◌<◌, ◌==◌, ℕ, false, nat_eq, [], OnOk, OnErr};
 ghost use Rattle.std.specs.Vec.{vec_len, vec_capacity};
 ghost use Rattle.std.specs.List.Sorted.{IsStrictlyIncreasing};
-ghost use Rattle.am_index.specs.Lists.{listed, but, with, HasRoom, SameLists, AddsTo, PutsInto, TakesFrom, DropsLast};
+ghost use Rattle.am_index.specs.Lists.{listed, but, with, HasRoom, ListsRise, SameLists, AddsTo, PutsInto, TakesFrom, DropsLast, Joins, Parts, Drops, KeepsOtherRoom};
 
 use indexmap::IndexMap;
 use std::alloc::{AllocError, Global};
@@ -148,5 +148,48 @@ impl Index {
     {
         self.shorten(number, item);
         self.tidy(number);
+    }
+
+    /// Takes those that have the one number out of the list of the other, the last first: the
+    /// newest stand at the ends of their lists.
+    pub fn part(&mut self, from: u64, to: u64)
+        requires rising { ListsRise self.old }
+        requires others { (to == from) ≡ false }
+        ensures { Parts from to self.old self.new }
+    {
+        let mut left = self.list(from).len();
+        while left > 0 {
+            left -= 1;
+            let item = self.list(from)[left];
+            self.remove(to, item);
+        }
+    }
+
+    /// Puts those that have the one number into the list of the other too. Where there is no room
+    /// for one of them, none is in it.
+    pub fn join(&mut self, from: u64, to: u64) -> Result<(), AllocError>
+        requires rising { ListsRise self.old }
+        requires others { (to == from) ≡ false }
+        ensures ok { OnOk result (Joins from to self.old self.new) }
+        ensures err { OnErr result (Parts from to self.old self.new) }
+    {
+        let count = self.list(from).len();
+        for at in 0..count {
+            let item = self.list(from)[at];
+            if let Err(error) = self.make_room(to) {
+                self.part(from, to);
+                return Err(error);
+            }
+            self.put(to, item);
+        }
+        Ok(())
+    }
+
+    /// Gives the list of the number up.
+    pub fn drop_list(&mut self, number: u64)
+        ensures lists { Drops number self.old self.new }
+        ensures room { KeepsOtherRoom number self.old self.new }
+    {
+        let _given_up = self.lists.swap_remove(&number);
     }
 }

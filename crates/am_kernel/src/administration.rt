@@ -182,7 +182,7 @@ impl Kernel {
         if !is_root(&target.place) {
             return Err(Errno::EINVAL);
         }
-        self.subtree.change(alloc, change, target.mount)
+        self.subtree.change(change, target.mount)
     }
 
     /// The state of the mount to which the path leads.

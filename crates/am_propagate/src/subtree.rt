@@ -96,14 +96,14 @@ impl Subtree {
     }
 
     /// Changes the mount's state (sharedsubtree.rst, 5a).
-    pub fn change(&mut self, alloc: Global, change: Change, mount: MountId) -> Result<(), Errno>
+    pub fn change(&mut self, change: Change, mount: MountId) -> Result<(), Errno>
         ensures refusal { RefusedAs (change_refusal change mount self.old.groups) result }
         ensures ok { OnOk result (self.new ≡ with_change change mount self.old) }
         ensures table { OnOk result (FollowsTable change mount self.old.groups self.new.groups) }
         ensures err { OnErr result (self.new ≡ self.old) }
         ensures law { AddsNoReceivers self.old.groups self.new.groups }
     {
-        self.groups.change(alloc, change, mount)?;
+        self.groups.change(change, mount)?;
         Ok(())
     }
 

@@ -26,7 +26,7 @@ impl InUse for Inside {
 /// what is mounted on one arrives on the other.
 fn two_namespaces(alloc: Global) -> Result<Subtree, Errno> {
     let mut subtree = Subtree::new(alloc, 1_000)?;
-    subtree.change(alloc, Change::MakeShared, MountId(1))?;
+    subtree.change(Change::MakeShared, MountId(1))?;
     subtree.copy_namespace(alloc, NsId(0), CopyForm::Full)?;
     Ok(subtree)
 }

@@ -1,20 +1,22 @@
 //! Mounts that leave, and the peer groups that lose their last member.
 
-ghost use Rattle.std.specs.Prelude.{◌≡◌, ◌==◌, ◌∷◌, [], true, not, filter, None, IfOk, OnOk, OnErr};
+ghost use Rattle.std.specs.Prelude.{◌≡◌, ◌==◌, ◌∷◌, [], true, not, map, filter, None, IfOk, OnOk, OnErr};
 ghost use Rattle.std.specs.Bool.{OnTrue};
 ghost use Rattle.std.specs.List.{list_all};
 ghost use Rattle.std.specs.List.Sorted.{IsNonDecreasing};
 ghost use Rattle.am_names.specs.{RefusedAs, is_among};
-ghost use Rattle.am_group.specs.Changes.{with_only, without};
+ghost use Rattle.am_group.specs.Changes.{lifted, settled, with_only, without};
 ghost use Rattle.am_group.specs.Indexed.{ListMembers, ListGroups};
 ghost use Rattle.am_index.specs.{SameLists};
-ghost use Rattle.am_group.specs.Invariant.{RiseFrom, GroupsRise, IsPeopled, AddsNoReceivers};
-ghost use Rattle.am_group.specs.Tables.{state_of, AreLost, goes_whole, has_none_left, is_free_of};
+ghost use Rattle.am_group.specs.Invariant.{RiseFrom, GroupsRise, IsOrderly, IsPeopled, AddsNoReceivers};
+ghost use Rattle.am_group.specs.Lifting.{is_other_than, lift_of};
+ghost use Rattle.am_group.specs.Tables.{AreLost, goes_whole, has_none_left, is_free_of, without_groups};
 
 use crate::groups::Groups;
 use crate::indexes::Indexes;
-use crate::left_out::{drop_groups, is_one, leave_out, rows_without};
-use crate::tables::{Tables, group_row, is_among as is_live, member_row};
+use crate::left_out::{drop_groups, is_one, leave_out};
+use crate::lifting::lift_followers;
+use crate::tables::{group_row, is_among as is_live, member_row};
 use am_names::{Errno, GroupId, GroupRow, MemberRow, MountId, are_ordered};
 use am_ordered::Rows;
 use std::alloc::{AllocError, Global};
@@ -162,8 +164,76 @@ impl Groups {
         true
     }
 
+    /// The first peer group up the chain of masters that isn't lost.
+    fn lifted(&self, lost: &[GroupId], master: Option<GroupId>) -> Option<GroupId>
+        requires { IsNonDecreasing lost.now }
+        ensures { result ≡ lifted (is_other_than lost.now) self.now master }
+    {
+        // For the checker: what the groups keep is known where a field is named.
+        let _members = &self.members;
+        let mut current = master;
+        while let Some(group) = current {
+            if !is_live(lost, group) {
+                return Some(group);
+            }
+            current = self.master_of_group(group);
+        }
+        None
+    }
+
+    /// These peer groups, each with the master that its followers get.
+    fn lifts(&self, alloc: Global, lost: &[GroupId]) -> Result<Vec<GroupRow>, AllocError>
+        requires { IsNonDecreasing lost.now }
+        ensures { IfOk result (λ v. v.items ≡ map (lift_of lost.now self.now) lost.now) }
+    {
+        let mut lifts = Vec::new(alloc);
+        for group in lost {
+            let master = self.lifted(lost, Some(*group));
+            lifts.push(GroupRow {
+                group: *group,
+                master,
+            })?;
+        }
+        Ok(lifts)
+    }
+
+    /// The followers of these peer groups get the first master up the chain that is none of them.
+    fn lift_lost(&mut self, alloc: Global, lost: &[GroupId]) -> Result<(), AllocError>
+        requires { IsNonDecreasing lost.now }
+        ensures ok { OnOk result (self.new ≡ settled (is_other_than lost.now) self.old) }
+        ensures err { OnErr result (self.new ≡ self.old) }
+    {
+        // For the checker: what the groups keep is known where a field is named.
+        let _members = &self.members;
+        let lifts = self.lifts(alloc, lost)?;
+        lift_followers(
+            &mut self.members,
+            &mut self.groups,
+            &mut self.indexes,
+            lifts.as_slice(),
+            None,
+        )?;
+        Ok(())
+    }
+
+    /// Takes these mounts and these peer groups away, and nothing else.
+    fn take_out(&mut self, gone: &[MountId], lost: &[GroupId])
+        requires lost { IsNonDecreasing lost.now }
+        requires orderly { IsOrderly (without_groups lost.now
+            (with_only (λ m. not (is_among gone.now m)) self.old)) }
+        ensures { self.new ≡
+            without_groups lost.now (with_only (λ m. not (is_among gone.now m)) self.old) }
+    {
+        unlist(self.members.as_slice(), &mut self.indexes, gone);
+        unlist_groups(self.groups.as_slice(), &mut self.indexes, lost);
+        leave_out(&mut self.members, gone);
+        drop_groups(&mut self.groups, lost);
+    }
+
     /// Takes these mounts away, as an unmount does. Of the numbers that are no mount's, nothing
-    /// comes. The peer groups that lose their last member go once, at the end.
+    /// comes. The peer groups that lose their last member go once, at the end, and their followers
+    /// that stay get the first master up the chain that stays. It costs what goes, what it follows
+    /// and what follows it.
     pub fn leave(&mut self, alloc: Global, gone: &[MountId]) -> Result<(), Errno>
         ensures refusal { RefusedAs None result }
         ensures ok { OnOk result (self.new ≡ without (is_among gone.now) self.old) }
@@ -176,27 +246,11 @@ impl Groups {
         let lost = self.lost(alloc, gone)?;
         let lost = lost.as_slice();
         if self.is_free_of(gone, lost) {
-            unlist(self.members.as_slice(), &mut self.indexes, gone);
-            unlist_groups(self.groups.as_slice(), &mut self.indexes, lost);
-            leave_out(&mut self.members, gone);
-            drop_groups(&mut self.groups, lost);
+            self.take_out(gone, lost);
             return Ok(());
         }
-        let raw = self.with_only(alloc, gone)?;
-        self.settle_left(alloc, raw)?;
+        self.lift_lost(alloc, lost)?;
+        self.take_out(gone, lost);
         Ok(())
-    }
-
-    fn with_only(&self, alloc: Global, gone: &[MountId]) -> Result<Tables, AllocError>
-        ensures { IfOk result (λ t. state_of t ≡
-            with_only (λ m. not (is_among gone.now m)) self.now) }
-    {
-        let members = rows_without(alloc, self.members.as_slice(), gone)?;
-        let groups = Vec::from_slice(alloc, self.groups.as_slice())?;
-        Ok(Tables {
-            members,
-            groups,
-            last_group: self.last_group,
-        })
     }
 }

@@ -83,18 +83,18 @@ fn of_all(alloc: Global, mount: u64) -> Result<Groups, Errno> {
     Ok(groups)
 }
 
-fn make(alloc: Global, groups: &mut Groups, mount: u64, change: Change) -> Result<bool, Errno> {
+fn make(groups: &mut Groups, mount: u64, change: Change) -> Result<bool, Errno> {
     match change {
         Change::MakeShared => groups.make_shared(MountId(mount))?,
-        Change::MakeSlave => groups.make_slave(alloc, MountId(mount))?,
-        Change::MakePrivate => groups.make_private(alloc, MountId(mount))?,
-        Change::MakeUnbindable => groups.make_unbindable(alloc, MountId(mount))?,
+        Change::MakeSlave => groups.make_slave(MountId(mount))?,
+        Change::MakePrivate => groups.make_private(MountId(mount))?,
+        Change::MakeUnbindable => groups.make_unbindable(MountId(mount))?,
     }
     Ok(true)
 }
 
-fn change(alloc: Global, groups: &mut Groups, mount: u64, change: Change) -> Result<bool, Errno> {
-    groups.change(alloc, change, MountId(mount))?;
+fn change(groups: &mut Groups, mount: u64, change: Change) -> Result<bool, Errno> {
+    groups.change(change, MountId(mount))?;
     Ok(true)
 }
 
@@ -202,8 +202,8 @@ impl Stage for Table {
             Call::FreshUnder(master, group) => fresh_under(&mut self.0, master, group),
             Call::Adds(mount, part) => add(&mut self.0, mount, part),
             Call::AddsAll(mount) => self.add_all(alloc, mount),
-            Call::Makes(mount, to) => make(alloc, &mut self.0, mount, to),
-            Call::Changes(mount, to) => change(alloc, &mut self.0, mount, to),
+            Call::Makes(mount, to) => make(&mut self.0, mount, to),
+            Call::Changes(mount, to) => change(&mut self.0, mount, to),
             Call::Leaves(mount) => leave(alloc, &mut self.0, mount),
             Call::HasState(mount, state) => Ok(self.0.kind(MountId(mount)) == state),
             Call::Receive(mount, expected) => receive(alloc, &self.0, mount, expected),

@@ -195,9 +195,8 @@ impl Parts {
         Ok(true)
     }
 
-    fn share(&mut self, alloc: Global, mount: u64) -> Result<bool, Errno> {
-        self.subtree
-            .change(alloc, Change::MakeShared, MountId(mount))?;
+    fn share(&mut self, mount: u64) -> Result<bool, Errno> {
+        self.subtree.change(Change::MakeShared, MountId(mount))?;
         Ok(true)
     }
 
@@ -506,7 +505,7 @@ impl Stage for Parts {
             }
             Call::Indirect(parent, path, fs) => self.autofs(alloc, parent, path, fs, false),
             Call::Direct(parent, path, fs) => self.autofs(alloc, parent, path, fs, true),
-            Call::Share(mount) => self.share(alloc, mount),
+            Call::Share(mount) => self.share(mount),
             Call::Copy => self.copy(alloc),
             Call::Expires(walker, trap) => self.open(alloc, walker, TokenKind::Expire, trap),
             Call::IsPending(walker, trap) => self.open(alloc, walker, TokenKind::Missing, trap),

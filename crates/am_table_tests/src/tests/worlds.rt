@@ -254,8 +254,8 @@ impl Total {
         self.mounts(subtree.bind(alloc, MountId(by.first), &at))
     }
 
-    fn changes(&mut self, alloc: Global, subtree: &mut Subtree, by: Drawn) -> Result<(), Errno> {
-        self.changed(subtree.change(alloc, change_of(by.number), MountId(by.first)))
+    fn changes(&mut self, subtree: &mut Subtree, by: Drawn) -> Result<(), Errno> {
+        self.changed(subtree.change(change_of(by.number), MountId(by.first)))
     }
 
     /// What would go, whether it may, and what goes.
@@ -284,7 +284,7 @@ impl Total {
         match by.call {
             0 | 1 => self.mounts_on(alloc, subtree, by)?,
             2 | 3 => self.binds(alloc, subtree, by)?,
-            4 | 5 => self.changes(alloc, subtree, by)?,
+            4 | 5 => self.changes(subtree, by)?,
             6 => self.unmounts(alloc, subtree, by)?,
             _ => self.namespaces(alloc, subtree, by)?,
         }

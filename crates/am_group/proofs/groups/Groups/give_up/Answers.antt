@@ -2,32 +2,13 @@ use Rattle.std.proofs.Common.{◌≡◌, Some, true, sym, ap, subst, ◌∙◌}
 use Rattle.std.specs.Prelude.{map}
 use Rattle.am_names.specs.{MemberRow}
 use Rattle.am_names.specs.PeerGroups.{PeerGroups}
-use Rattle.am_group.specs.{member_row, left, at_row, with_row, IsOrderly, IsPeopled, AddsNoReceivers, row_of, is_not_alone}
+use Rattle.am_group.specs.{member_row, at_row, with_row, IsOrderly, IsPeopled, AddsNoReceivers, row_of, is_not_alone}
 use Rattle.am_group.specs.View.{view_of}
 use Rattle.am_group.proofs.IndexedLemmas.{turned_indexed, kept_rise, turned_number}
 use Rattle.am_group.proofs.ChangeLemmas.{left_orderly}
 use Rattle.am_group.proofs.KindLemmas.{change_orderly, change_law, change_peopled}
 use Rattle.am_group.proofs.SpareLemmas.{changed_alone}
 use Rattle.am_group.proofs.groups.Groups.give_up.Goals as goal
-
-pub settle_left-requires : goal.settle_left-requires
-settle_left-requires c =
-    let orderly = subst (λ (x : PeerGroups). IsOrderly x) c.self.view_is c.self.invariant.orderly in
-    subst (λ (x : PeerGroups). IsOrderly x) (sym c.in_ok-raw.ensures) (change_orderly c.args.change 0 c.requires c.args.mount c.args.self.now orderly)
-
-pub returns-clause-law : goal.returns-clause-law
-returns-clause-law c = λ peopled.
-    let orderly = subst (λ (x : PeerGroups). IsOrderly x) c.self.view_is c.self.invariant.orderly in
-    subst (λ (x : PeerGroups). AddsNoReceivers c.args.self.now x) (sym (c.in_ok-settle_left.ensures.ok ∙ ap (left c.args.self.now) c.in_ok-raw.ensures)) (change_law c.args.change 0 c.requires c.args.mount c.args.self.now orderly peopled)
-
-pub returns-clause-peopled : goal.returns-clause-peopled
-returns-clause-peopled c = λ peopled.
-    let orderly = subst (λ (x : PeerGroups). IsOrderly x) c.self.view_is c.self.invariant.orderly in
-    subst (λ (x : PeerGroups). IsPeopled x) (sym (c.in_ok-settle_left.ensures.ok ∙ ap (left c.args.self.now) c.in_ok-raw.ensures)) (change_peopled c.args.change 0 c.requires c.args.mount c.args.self.now orderly peopled)
-
-pub returns-in_err-settle_left-clause-peopled : goal.returns-in_err-settle_left-clause-peopled
-returns-in_err-settle_left-clause-peopled c = λ peopled.
-    subst (λ (x : PeerGroups). IsPeopled x) (sym c.in_err-settle_left.ensures.err) peopled
 
 pub invariant_of-self-then-is_not_alone : goal.invariant_of-self-then-is_not_alone
 invariant_of-self-then-is_not_alone c =
@@ -115,18 +96,18 @@ returns-then-is_not_alone-clause-peopled c = λ peopled.
     c.self.inside.groups.rows (ap (λ (x : PeerGroups). x.groups) c.self.view_is) c.self.inside.last_group (ap (λ (x : PeerGroups). x.last_group) c.self.view_is) in
     subst (λ (x : PeerGroups). IsPeopled x) (sym made) (change_peopled c.args.change 0 c.requires c.args.mount s orderly peopled)
 
-pub returns-in_err-give_up_lone-clause-peopled : goal.returns-in_err-give_up_lone-clause-peopled
-returns-in_err-give_up_lone-clause-peopled c = λ peopled.
-    subst (λ (x : PeerGroups). IsPeopled x) (sym c.in_err-give_up_lone.ensures.err) peopled
+pub returns-in_err-give_up_last-clause-peopled : goal.returns-in_err-give_up_last-clause-peopled
+returns-in_err-give_up_last-clause-peopled c = λ peopled.
+    subst (λ (x : PeerGroups). IsPeopled x) (sym c.in_err-give_up_last.ensures.err) peopled
 
-pub returns-then-not-has_followers-clause-law : goal.returns-then-not-has_followers-clause-law
-returns-then-not-has_followers-clause-law c = λ peopled.
+pub returns-clause-law : goal.returns-clause-law
+returns-clause-law c = λ peopled.
     let orderly = subst (λ (x : PeerGroups). IsOrderly x) c.self.view_is c.self.invariant.orderly in
-    subst (λ (x : PeerGroups). AddsNoReceivers c.args.self.now x) (sym c.in_ok-give_up_lone.ensures.ok)
+    subst (λ (x : PeerGroups). AddsNoReceivers c.args.self.now x) (sym c.in_ok-give_up_last.ensures.ok)
     (change_law c.args.change 0 c.requires c.args.mount c.args.self.now orderly peopled)
 
-pub returns-then-not-has_followers-clause-peopled : goal.returns-then-not-has_followers-clause-peopled
-returns-then-not-has_followers-clause-peopled c = λ peopled.
+pub returns-clause-peopled : goal.returns-clause-peopled
+returns-clause-peopled c = λ peopled.
     let orderly = subst (λ (x : PeerGroups). IsOrderly x) c.self.view_is c.self.invariant.orderly in
-    subst (λ (x : PeerGroups). IsPeopled x) (sym c.in_ok-give_up_lone.ensures.ok)
+    subst (λ (x : PeerGroups). IsPeopled x) (sym c.in_ok-give_up_last.ensures.ok)
     (change_peopled c.args.change 0 c.requires c.args.mount c.args.self.now orderly peopled)
