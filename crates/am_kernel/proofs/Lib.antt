@@ -1,4 +1,5 @@
 pub mod AttachmentLemmas
+pub mod HolderLemmas
 pub mod RetryLemmas
 pub mod RisingLemmas
 pub mod ExpireLemmas

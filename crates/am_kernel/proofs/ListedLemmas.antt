@@ -9,7 +9,7 @@ use Rattle.am_names.specs.declared.trigger.Trigger.{Trigger}
 use Rattle.am_mount.specs.{IsRising, mount_row, mounts_where, is_child, is_position_on, has_fs}
 use Rattle.am_mount.proofs.FindLemmas.{found_in_place}
 use Rattle.am_trigger.specs.{Autofs}
-use Rattle.am_kernel.specs.{KernelState, is_top_of, trigger_at, trigger_under, trigger_under_row, standing_on, standing_row, standing_mount}
+use Rattle.am_kernel.specs.{KernelState, is_top_of, trigger_at, trigger_under_row, standing_on, standing_row, standing_mount}
 
 -- ---- the mounts of a file system
 

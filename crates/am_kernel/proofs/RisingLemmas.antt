@@ -4,8 +4,8 @@ use Rattle.std.specs.Prelude.{find}
 use Rattle.std.specs.List.{All, list_any, slice_set}
 use Rattle.std.specs.List.Sorted.{IsBinarySearchResult}
 use Rattle.std.specs.Ordering.{nat_cmp}
-use Rattle.std.proofs.lemmas.Bool.{eqb-true, eq-eqb, ne_eqb}
-use Rattle.std.proofs.lemmas.List.Elements.{All-push, All-weaker, All-map, All-filter, All-head, All-tail}
+use Rattle.std.proofs.lemmas.Bool.{eqb-true, ne_eqb}
+use Rattle.std.proofs.lemmas.List.Elements.{All-push, All-weaker, All-map, All-head, All-tail}
 use Rattle.am_names.proofs.Basics.{or_false}
 use Rattle.am_names.proofs.LeaveLemmas.{Rise, others, others_at, others_none}
 use Rattle.am_names.specs.{RiseBy}

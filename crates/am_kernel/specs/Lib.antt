@@ -17,6 +17,7 @@ pub mod Administration
 pub mod Namespaces
 pub mod WalkTable
 pub mod Rising
+pub mod Holders
 pub mod AttachmentTable
 pub mod View
 -- what contracts cite, passed on from one place
@@ -27,17 +28,19 @@ pub use Catatonic.{admin_catatonic_refusal, catatonic_observations, catatonic_ob
 pub use DaemonMounts.{attach_tests, attached_at, attached_row, attaching, attaching_at, autofs_refusal, coming, gone_from, gone_with, is_there, is_there_in, is_top_at, is_top_of, location_in, location_of, mount_on_refusal, mounted_on, new_fs_refusal, standing, standing_in, standing_mount, standing_of, standing_on, standing_row, trigger_at, trigger_position, trigger_under, trigger_under_mount, trigger_under_row, umount_from_refusal, with_attached, with_mount, with_mount_on, without_mounts}
 pub use Directories.{directory_refusal, is_any_mounted_on, is_indirect, is_mountpoint, mkdir_refusal, names_directory, rmdir_refusal, with_directory, without_directory}
 pub use Expires.{expire_at, expire_outcome, expires_by, expires_next, expiry_of, with_expiring}
+pub use Holders.{AreHeld, holder_of, is_attached, is_held}
 pub use Lookups.{attach_of, attach_refusal, from_position, fs_of_attach, fs_refusal, is_attached_by, is_busy, is_current, is_live, is_live_row, is_on_autofs, is_trigger, is_trigger_of, latest_attach, open_scene, or_else, position_at, root_refusal, scene_of, tested}
 pub use Namespaces.{with_namespace, without_namespace}
 pub use Observations.{passes, releases}
 pub use Previews.{arrival_again_of, arrival_in, arrival_of, arrived_at}
 pub use Requests.{acknowledged, answer_refusal, answer_tests, answering, is_number, leave_seen, leaving, queued_of, settled_by, timeout_refusal, timeout_row, token_fs, with_timeout, without_packet, without_use}
 pub use Resumes.{expired_as, expiry_finished_as, failed, max_attempts, next_attempt, or_failed, resume_at, resumed_as, resumed_at, resumed_by, resumed_walk, retry, retry_failed, retry_for, wait_collected, wait_collected_from, walk_in}
-pub use Rising.{RiseByFs, RiseByToken}
+pub use Rising.{RiseByAttach, RiseByFs, RiseByToken}
 pub use State.{KernelState, initial}
 pub use Waited.{HasNoOpenWait, expired_uses, wait_collected_as, waited_for, waited_on, waits_collected, walks_ended}
 pub use WalkTable.{IsSingle}
 pub use Walks.{arrived, attempted_with, first_attempt, joins, notified, notifies, notifies_by, packet_for, walk_at, walk_outcome, walk_row, with_joined, with_notified, with_walk, without_walk}
+pub use declared.holder.Holder.{Holder}
 pub use declared.progress.Attempt.{Attempt}
 pub use declared.progress.Progress.{Progress}
 pub use declared.row.Attached.{Attached}

@@ -32,6 +32,10 @@ IsSound k = All (λ (row : Autofs). row.fs ≤ k.last_fs) k.triggers.autofs
 abbrev pub AreGiven : ℕ → List Attached → Type 0
 AreGiven last rows = All (λ (row : Attached). row.fs ≤ last) rows
 
+-- the attachments have numbers that were given
+abbrev pub AreAttached : ℕ → List Attached → Type 0
+AreAttached last rows = All (λ (row : Attached). row.attach ≤ last) rows
+
 -- the packets are of tokens that were given
 abbrev pub AreOpened : ℕ → List QueuedRow → Type 0
 AreOpened last rows = All (λ (row : QueuedRow). row.token ≤ last) rows
@@ -42,4 +46,5 @@ pub record IsKept (k : Inside) : Type 0 where
   pub numbered : IsSound (kernel_of k)
   pub room : length k.waits.tokens ≤ k.failures.room
   pub given : AreGiven k.last_fs k.attached.rows
+  pub attached : AreAttached k.last_attach k.attached.rows
   pub opened : AreOpened k.waits.last_token k.queue.rows

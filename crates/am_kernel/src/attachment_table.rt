@@ -1,14 +1,17 @@
 //! The attachments of all autofs file systems, as a table.
 
-ghost use Rattle.std.specs.Prelude.{◌≡◌, ◌<◌, ◌≤◌, ◌==◌, ◌++◌, ◌∷◌, [], map, find, OnOk};
+ghost use Rattle.std.specs.Prelude.{◌≡◌, ◌<◌, ◌≤◌, ◌==◌, ◌++◌, ◌∷◌, [], map, find, Some, OnOk};
 ghost use Rattle.std.specs.List.{All};
+ghost use Rattle.std.specs.Option.{option_map};
 ghost use Rattle.am_kernel.specs.Rising.{RiseByFs};
 ghost use Rattle.am_kernel.specs.Requests.{timeout_row};
 ghost use Rattle.am_kernel.specs.Attachments.{reattached_row};
 
+use crate::holder::{Holder, holder_of, renew};
 use crate::row::Attached;
 use am_names::{Attach, FsId};
 use std::alloc::{AllocError, Global};
+use std::collections::VecDeque;
 use std::marker::Model;
 
 /// The latest attachment of each autofs, in order of attaching. File systems are numbered in that
@@ -16,6 +19,8 @@ use std::marker::Model;
 #[derive(Drop)]
 pub struct AttachmentTable {
     rows: Vec<Attached>,
+    // The same attachments in the order of their numbers, so that one is found by halves.
+    holders: VecDeque<Holder>,
 }
 
 impl Model for AttachmentTable {
@@ -24,11 +29,11 @@ impl Model for AttachmentTable {
 
     ghost Value = { RowTable Attached };
 
-    ghost use Rattle.am_kernel.specs.AttachmentTable.{table_of, AreOrdered};
+    ghost use Rattle.am_kernel.specs.AttachmentTable.{table_of, IsIndexed};
 
     ghost view = { table_of };
 
-    ghost invariant = { AreOrdered };
+    ghost invariant = { IsIndexed };
 }
 
 /// The row of the file system.
@@ -72,6 +77,7 @@ impl AttachmentTable {
     {
         AttachmentTable {
             rows: Vec::new(alloc),
+            holders: VecDeque::new(alloc),
         }
     }
 
@@ -90,20 +96,36 @@ impl AttachmentTable {
         row_of(self.rows.as_slice(), fs)
     }
 
+    /// The file system whose latest attachment this is. There is one at most.
+    pub fn holder(&self, attach: Attach) -> Option<FsId>
+        ensures holder { result
+            ≡ option_map (λ row. row.fs) (find (λ row. row.attach == attach) self.now.rows) }
+        ensures alone { All (λ (row : Attached). row.attach ≡ attach → result ≡ Some row.fs)
+            self.now.rows }
+    {
+        holder_of(&self.holders, attach)
+    }
+
     /// Makes room for one more autofs.
     pub fn reserve(&mut self) -> Result<(), AllocError>
         ensures rows { self.new.rows ≡ self.old.rows }
         ensures room { OnOk result (1 ≤ self.new.room) }
     {
-        self.rows.reserve(1)
+        self.rows.reserve(1)?;
+        self.holders.reserve(1)
     }
 
-    /// The first attachment of an autofs whose number is above all that are there.
+    /// The first attachment of an autofs. Both numbers are above all that are there.
     pub fn push_reserved(&mut self, row: Attached)
         requires room { 1 ≤ self.old.room }
         requires above { All (λ (other : Attached). other.fs < row.fs) self.old.rows }
+        requires latest { All (λ (other : Attached). other.attach < row.attach) self.old.rows }
         ensures { self.new.rows ≡ self.old.rows ++ row ∷ [] }
     {
+        self.holders.push_back_reserved(Holder {
+            attach: row.attach,
+            fs: row.fs,
+        });
         self.rows.push_reserved(row);
     }
 
@@ -114,10 +136,15 @@ impl AttachmentTable {
         set_timeout(&mut self.rows, fs, timeout);
     }
 
-    /// This attachment is the latest of the file system.
+    /// This attachment is the latest of the file system. Its number is above all that are there,
+    /// and no memory is taken.
     pub fn set_attach(&mut self, fs: FsId, attach: Attach)
+        requires { All (λ (row : Attached). row.attach < attach) self.old.rows }
         ensures { self.new.rows ≡ map (reattached_row fs attach) self.old.rows }
     {
+        if let Some(row) = row_of(self.rows.as_slice(), fs) {
+            renew(&mut self.holders, row.attach, Holder { attach, fs });
+        }
         set_attach(&mut self.rows, fs, attach);
     }
 }

@@ -10,6 +10,7 @@ mod catatonic;
 mod daemon_mounts;
 mod directories;
 mod expire;
+mod holder;
 pub mod kernel;
 mod lookups;
 mod namespaces;

@@ -63,12 +63,11 @@ impl Kernel {
     pub fn fs_of_attach(&self, attach: Attach) -> Option<FsId>
         ensures { result ≡ fs_of_attach self.now attach }
     {
-        let row = self
-            .attached
-            .as_slice()
-            .iter()
-            .find(|row| row.attach == attach && self.is_live(row.fs))?;
-        Some(row.fs)
+        let fs = self.attached.holder(attach)?;
+        if !self.is_live(fs) {
+            return None;
+        }
+        Some(fs)
     }
 
     /// Whether this is the current attachment of this file system.

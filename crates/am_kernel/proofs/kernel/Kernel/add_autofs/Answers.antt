@@ -2,7 +2,7 @@ use Rattle.std.proofs.Common.{◌≡◌, ◌≤◌, ◌<◌, ◌+◌, ◌∷◌,
 use Rattle.std.specs.List.{All}
 use Rattle.am_trigger.specs.{Autofs, TriggerRows, add_refusal, with_autofs}
 use Rattle.am_kernel.specs.{Attached}
-use Rattle.am_kernel.specs.View.{AreGiven}
+use Rattle.am_kernel.specs.View.{AreAttached, AreGiven}
 use Rattle.am_kernel.proofs.MountLemmas.{next_is_new, next_is_sound}
 use Rattle.am_kernel.proofs.RisingLemmas.{below_next, given_next}
 use Rattle.am_kernel.proofs.kernel.Kernel.add_autofs.Goals as goal
@@ -16,6 +16,12 @@ push_reserved-requires-clause-above c =
     let last : ℕ = c.self.inside.last_fs in
     subst (λ (rows : List Attached). All (λ (r : Attached). r.fs < last + 1) rows) (sym c.reserve.ensures.rows)
     (below_next (λ (r : Attached). r.fs) last (last + 1) c.self.inside.attached.rows refl c.self.invariant.given)
+
+pub push_reserved-requires-clause-latest : goal.push_reserved-requires-clause-latest
+push_reserved-requires-clause-latest c =
+    let last : ℕ = c.self.inside.last_attach in
+    subst (λ (rows : List Attached). All (λ (r : Attached). r.attach < last + 1) rows) (sym c.reserve.ensures.rows)
+    (below_next (λ (r : Attached). r.attach) last (last + 1) c.self.inside.attached.rows refl c.self.invariant.attached)
 
 pub invariant_of-self-2 : goal.invariant_of-self-2
 invariant_of-self-2 c =
@@ -36,5 +42,9 @@ invariant_of-self-2 c =
           subst (λ (n : ℕ). AreGiven n c.push_reserved.new.self.rows) (sym c.fs.view_is)
           (subst (λ (rs : List Attached). AreGiven (last + 1) rs) (sym attached)
           (given_next (λ (r : Attached). r.fs) last c.self.inside.attached.rows new refl c.self.invariant.given));
+      attached =
+          subst (λ (n : ℕ). AreAttached n c.push_reserved.new.self.rows) (sym c.attach.view_is)
+          (subst (λ (rs : List Attached). AreAttached (c.self.inside.last_attach + 1) rs) (sym attached)
+          (given_next (λ (r : Attached). r.attach) c.self.inside.last_attach c.self.inside.attached.rows new refl c.self.invariant.attached));
       opened = c.self.invariant.opened;
     }

@@ -15,5 +15,6 @@ invariant_of-self-2 c =
       numbered = c.self.invariant.numbered;
       room = omega (arith, c.self.invariant.room, c.settle.ensures.room, fewer);
       given = c.self.invariant.given;
+      attached = c.self.invariant.attached;
       opened = subst (λ (w : WaitRows). AreOpened w.last_token c.self.inside.queue.rows) (sym c.in_ok-answer.ensures.ok) c.self.invariant.opened;
     }

@@ -20,6 +20,7 @@ invariant_of-self c =
       room =
           omega (arith, c.self.invariant.room, c.remove_fs.ensures.room, ap (λ (w : WaitRows). length w.tokens) c.release_fs.ensures, fewer_released c.args.fs c.self.inside.waits);
       given = c.self.invariant.given;
+      attached = c.self.invariant.attached;
       opened =
           subst (λ (w : WaitRows). AreOpened w.last_token c.take_fs.new.self.rows) (sym c.release_fs.ensures)
           (subst (λ (rows : List QueuedRow). AreOpened c.self.inside.waits.last_token rows) (sym c.take_fs.ensures)

@@ -1,7 +1,6 @@
-use Rattle.std.proofs.Common.{◌≡◌, ◌==◌, ◌&&◌, Option, sym, ap, subst, ◌∙◌}
+use Rattle.std.proofs.Common.{◌≡◌, ◌==◌, sym, ap, subst, ◌∙◌}
 use Rattle.std.specs.Prelude.{find}
-use Rattle.std.specs.List.{list_any}
-use Rattle.am_kernel.specs.{Attached, KernelState, RiseByFs, is_attached_by, is_current}
+use Rattle.am_kernel.specs.{Attached, KernelState, RiseByFs, is_attached_by}
 use Rattle.am_kernel.proofs.RisingLemmas.{passes, any_is_found}
 use Rattle.am_kernel.proofs.kernel.Kernel.is_current.Goals as goal
 

@@ -43,6 +43,7 @@ invariant_of-self-2 c =
       numbered = subst (λ (rows : List Autofs). All (λ (row : Autofs). row.fs ≤ c.self.inside.last_fs) rows) (sym autofs) c.self.invariant.numbered;
       room = omega (arith, c.self.invariant.room, ap (λ (x : WaitRows). length x.tokens) waits, as_many_rejoined c.args.token b.walker old.waits);
       given = c.self.invariant.given;
+      attached = c.self.invariant.attached;
       opened = subst (λ (n : ℕ). AreOpened n c.self.inside.queue.rows) (sym (ap (λ (x : WaitRows). x.last_token) waits ∙ last_rejoined c.args.token b.walker old.waits)) c.self.invariant.opened;
     }
 

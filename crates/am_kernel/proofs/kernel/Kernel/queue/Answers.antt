@@ -32,6 +32,7 @@ invariant_of-self-2 c =
       numbered = search rules;
       room = omega (arith, c.in_ok-reserve_failure.ensures.ok, ap (λ (w : WaitRows). length w.tokens) waits, one_more_reopened trigger Missing c.args.attempt.now.walker old.waits);
       given = c.self.invariant.given;
+      attached = c.self.invariant.attached;
       opened =
           subst (λ (w : WaitRows). AreOpened w.last_token c.push_reserved.new.self.rows) (sym waits)
           (subst (λ (rows : List QueuedRow). AreOpened (old.waits.last_token + 1) rows) (sym queue)

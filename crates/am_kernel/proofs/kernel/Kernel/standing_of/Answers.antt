@@ -1,7 +1,6 @@
 use Rattle.std.proofs.Common.{◌≡◌, ◌∷◌, ◌++◌, [], ℕ, List, Option, Some, None, take, sym, ap, subst, ◌∙◌}
 use Rattle.std.specs.List.{flat_map}
 use Rattle.std.proofs.lemmas.List.{append-nil, take_all}
-use Rattle.am_names.specs.{MountRow}
 use Rattle.am_names.specs.declared.trigger.Trigger.{Trigger}
 use Rattle.am_mount.specs.{IsRising, mounts_where, is_child}
 use Rattle.am_kernel.specs.{KernelState, trigger_under_mount, standing_on, standing_mount}

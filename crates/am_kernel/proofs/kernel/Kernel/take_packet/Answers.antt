@@ -11,6 +11,7 @@ invariant_of-self c = record {
   numbered = c.self.invariant.numbered;
   room = c.self.invariant.room;
   given = c.self.invariant.given;
+  attached = c.self.invariant.attached;
   opened =
       subst (λ (rows : List QueuedRow). AreOpened c.self.inside.waits.last_token rows) (sym c.take.ensures)
       (All-filter (λ (row : QueuedRow). not (row.token == c.args.token)) (λ (row : QueuedRow). row.token ≤ c.self.inside.waits.last_token) c.self.inside.queue.rows c.self.invariant.opened);
