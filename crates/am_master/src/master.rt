@@ -5,7 +5,8 @@ ghost use Rattle.std.specs.Str.{bytes_eq};
 ghost use Rattle.std.specs.List.{list_any};
 ghost use Rattle.am_lines.specs.{words_of, statement_of_words, IsReached};
 ghost use Rattle.am_master.specs.Fault.{IsFaultOr};
-ghost use Rattle.am_master.specs.Points.{texts_of};
+ghost use Rattle.am_names.specs.{IsCanonical, names_of};
+ghost use Rattle.am_master.specs.Points.{line_at, texts_of};
 ghost use Rattle.am_master.specs.declared.fault.MasterFaultKind.TheVariants.{NoMemory};
 ghost use Rattle.am_master.specs.Grammar.{master_read, AreRows, ReadAs, is_taken, StandWithin};
 ghost use Rattle.am_master.specs.Stored.{line_added};
@@ -27,15 +28,15 @@ pub struct Master {
 }
 
 impl Model for Master {
-    ghost use Rattle.std.specs.Prelude.{◌≡◌, List};
+    ghost use Rattle.std.specs.Prelude.{List};
     ghost use Rattle.am_master.specs.MasterRow.{MasterRow};
-    ghost use Rattle.am_master.specs.Points.{texts_of};
+    ghost use Rattle.am_master.specs.Places.{ArePoints};
 
     ghost Value = { List MasterRow };
 
     ghost view = { λ m. m.entries.items };
 
-    ghost invariant = { λ m. m.points ≡ texts_of m.entries.items };
+    ghost invariant = { λ m. ArePoints m.points m.entries.items };
 }
 
 impl Master {
@@ -73,6 +74,15 @@ impl Master {
         ensures { result.now ≡ self.now }
     {
         self.entries.as_slice()
+    }
+
+    /// The place, from 0, of the line whose point is the path of this canonical text. It is found
+    /// by hash.
+    pub fn line_at(&self, text: &[u8]) -> Option<usize>
+        requires { IsCanonical text.now }
+        ensures { result ≡ line_at self.now (names_of text.now) }
+    {
+        self.points.line_at(text)
     }
 
     /// No lines.
@@ -141,7 +151,7 @@ impl Master {
     {
         let map = Vec::from_slice(alloc, served.map)?;
         self.entries.reserve(1)?;
-        self.points.add(alloc, &point)?;
+        self.points.add(alloc, &point, self.entries.len())?;
         self.entries.push_reserved(MasterEntry {
             point,
             map,

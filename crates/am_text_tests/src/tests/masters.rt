@@ -3,7 +3,7 @@
 
 use crate::tests::table::{Row, hold, joined, push_digits};
 use am_master::{Master, MasterEntry, MasterFault, MasterFaultKind, Point};
-use am_names::Errno;
+use am_names::{AbsPath, Errno};
 use std::alloc::Global;
 
 /// The text of a point, none for `/-`, with the map, the timeout and the line.
@@ -27,6 +27,8 @@ enum Text {
     Cut(&'static [u8], usize, usize, &'static [Said], usize),
     /// A text has so many entries.
     Counts(&'static [u8], usize),
+    /// The place of the line of a text whose point is this path, if there is one.
+    LineAt(&'static [u8], &'static [u8], Option<usize>),
     /// A text of so many lines has as many entries; the fault with one more line behind them.
     Big(u32, usize, &'static [u8], At),
     Number(MasterFaultKind, u8, &'static str),
@@ -144,6 +146,19 @@ fn counts(alloc: Global, text: &[u8], count: usize) -> Result<bool, Errno> {
     }
 }
 
+fn has_line_at(
+    alloc: Global,
+    text: &[u8],
+    path: &[u8],
+    place: Option<usize>,
+) -> Result<bool, Errno> {
+    let path = AbsPath::read(path)?.to_place(alloc)?;
+    match read(alloc, text)? {
+        Ok(master) => Ok(master.line_at(path.text()) == place),
+        Err(_) => Ok(false),
+    }
+}
+
 /// A master map of lines `/mnt/k000 auto.map --timeout=10` and on.
 fn big_text(alloc: Global, lines: u32) -> Result<Vec<u8>, Errno> {
     let mut text = Vec::new(alloc);
@@ -192,6 +207,7 @@ impl Row for Text {
                 is_cut_at_each(alloc, text, *from, *to, said, *next)
             }
             Text::Counts(text, count) => counts(alloc, text, *count),
+            Text::LineAt(text, path, place) => has_line_at(alloc, text, path, *place),
             Text::Big(lines, count, behind, expected) => {
                 is_big(alloc, *lines, *count, behind, *expected)
             }
@@ -314,6 +330,20 @@ static TWO_LINES: [Text; 8] = [
     Text::TwiceAt(b"/a a\n/a/a a\n/aa a\n/A a", None),
 ];
 
+const POINTS: &[u8] = b"/- a\n/b/b b\n# x\n/- c\n/b/ d\n//a e";
+
+/// A line is found by its point; what is below it, or a direct map, is no point of a line.
+static LINES_AT: [Text; 8] = [
+    Text::LineAt(POINTS, b"/b/b", Some(1)),
+    Text::LineAt(POINTS, b"//b/b/", Some(1)),
+    Text::LineAt(POINTS, b"/b", Some(3)),
+    Text::LineAt(POINTS, b"/a", Some(4)),
+    Text::LineAt(POINTS, b"/a/a", None),
+    Text::LineAt(POINTS, b"/-", None),
+    Text::LineAt(POINTS, b"/", None),
+    Text::LineAt(b"", b"/a", None),
+];
+
 static FAULTS_AMONG_LINES: [Text; 4] = [
     Text::FaultAmong(b"/.. a", MasterFaultKind::BadPoint),
     Text::FaultAmong(b"/au\\\nto", MasterFaultKind::NoMap),
@@ -381,6 +411,7 @@ fn texts_of_master_maps(rt: HostRuntime) {
         &FAULTY_LINES,
     );
     hold(&rt, rt.alloc(), "a point on two lines", &TWO_LINES);
+    hold(&rt, rt.alloc(), "a line is found by its point", &LINES_AT);
     hold(
         &rt,
         rt.alloc(),
