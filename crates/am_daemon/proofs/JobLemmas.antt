@@ -1,9 +1,8 @@
 -- The job of a number, and where it stands.
-use Rattle.std.proofs.Common.{◌≡◌, ℕ, zero, suc, ◌+◌, ◌<◌, Bool, true, false, cond, not, ◌==◌, List, [], ◌∷◌, ◌++◌, length, take, drop, map, Option, Some, None, set, get_or, ltb, refl, ap, sym, subst, ◌∙◌, arith}
+use Rattle.std.proofs.Common.{◌≡◌, ℕ, zero, suc, ◌+◌, ◌<◌, Bool, true, false, cond, not, ◌==◌, List, [], ◌∷◌, length, map, Option, Some, None, set, get_or, ltb, refl, ap, sym, subst, ◌∙◌, arith}
 use Rattle.std.specs.Prelude.{find, position, remove}
 use Rattle.std.specs.List.{position_or_len}
 use Rattle.std.specs.Option.{option_map}
-use Rattle.std.proofs.Math.Seq.{take-append_seam}
 use Rattle.std.proofs.lemmas.Bool.{ltb-true, le-ltb}
 use Rattle.std.proofs.lemmas.Option.{cond_some}
 use Rattle.am_names.proofs.Basics.{equal_by_test, differ_the_other_way}
@@ -98,10 +97,6 @@ pub walked_is : (old new : JobState) (outcome : Outcome) → plan_of new ≡ res
 walked_is old new outcome plan kept =
     let make : ℕ → ℕ → Trigger → Plan → JobPlan = λ token attach trigger p. record { token = token; attach = attach; trigger = trigger; plan = p } in
     ap (λ (job : JobState). make job.token job.attach job.trigger (plan_of new)) kept ∙ ap (make old.token old.attach old.trigger) plan
-
--- a list that was lent and written as long as it was is the whole
-pub written_back : {A : Type 0} (new old : List A) (len : ℕ) → length new ≡ len → take len (new ++ drop (length new) old) ≡ new
-written_back {A} new old len e = ap (λ (n : ℕ). take n (new ++ drop (length new) old)) (sym e) ∙ take-append_seam new (drop (length new) old)
 
 -- ---- the other jobs
 

@@ -1,3 +1,6 @@
+pub mod LineLemmas
 pub mod JobLemmas
+pub mod JobTableLemmas
 pub mod DeliveryLemmas
 pub mod OnceLemmas
+pub mod ByFsLemmas

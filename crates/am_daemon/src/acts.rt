@@ -1,12 +1,12 @@
 //! The daemon's jobs go on, act by act.
 
-ghost use Rattle.std.specs.Prelude.{◌≡◌, ◌==◌, ◌<◌, false, map, set, get_or, find, position, length, IsOk, IfSome, OnOk, OnErr, None, Some};
+ghost use Rattle.std.specs.Prelude.{◌≡◌, false, IsOk, IfSome, OnOk, OnErr, None, Some};
 ghost use Rattle.std.specs.Option.{option_map, option_copied};
 ghost use Rattle.am_names.specs.{RefusedAs, RefusedOnlyAs};
 ghost use Rattle.am_job.specs.{IsRecorded};
-ghost use Rattle.am_daemon.specs.State.{JobPlan, job_plan, rows_of};
+ghost use Rattle.am_daemon.specs.State.{job_plan, rows_of};
 ghost use Rattle.am_daemon.specs.Deliveries.{job_of};
-ghost use Rattle.am_daemon.specs.Acts.{next_act_of, writes, writing_of, takes_memory, finish_refusal, book_after, walked, is_ended, finished_in, finished, OthersStay};
+ghost use Rattle.am_daemon.specs.Acts.{next_act_of, writes, writing_of, takes_memory, finish_refusal, book_after, finished, OthersStay};
 
 use crate::daemon::Daemon;
 use am_job::{Act, Book, Job, Outcome};
@@ -52,49 +52,12 @@ fn write_down(book: &mut Book, writing: &Writing) -> Result<(), Errno>
     }
 }
 
-fn place_of(jobs: &[Job], job: JobId) -> Option<usize>
-    ensures { result ≡ position (λ row. row.token == job) jobs.now }
-{
-    jobs.iter().position(|row| row.job() == job)
-}
-
-/// The job at this place has left what comes after its next act. Tells whether that is nothing.
-fn done_at(jobs: &mut [Job], at: usize, outcome: Outcome) -> bool
-    requires { at < length jobs.old }
-    ensures rows { (d : JobPlan) → map job_plan jobs.new
-        ≡ set (map job_plan jobs.old) at (walked outcome (get_or (map job_plan jobs.old) at d)) }
-    ensures ended { (d : JobPlan) → result
-        ≡ is_ended (walked outcome (get_or (map job_plan jobs.old) at d)) }
-{
-    let row = &mut jobs[at];
-    row.done(outcome);
-    row.next().is_none()
-}
-
-/// The job has left what comes after its next act; it is gone where that is nothing.
-fn go_on(jobs: &mut Vec<Job>, job: JobId, outcome: Outcome)
-    ensures { map job_plan jobs.new.items ≡ finished_in job outcome (map job_plan jobs.old.items) }
-{
-    let Some(at) = place_of(jobs, job) else {
-        return;
-    };
-    if done_at(jobs, at, outcome) {
-        let _ended = jobs.remove(at);
-    }
-}
-
-fn find_job(jobs: &[Job], job: JobId) -> Option<&Job>
-    ensures { option_copied result ≡ find (λ row. row.token == job) jobs.now }
-{
-    jobs.iter().find(|row| row.job() == job)
-}
-
 impl Daemon {
     /// A job that has not ended.
     pub fn job(&self, job: JobId) -> Option<&Job>
         ensures { option_map job_plan (option_copied result) ≡ job_of (rows_of self.now).jobs job }
     {
-        find_job(&self.jobs, job)
+        self.jobs.get(job)
     }
 
     /// The act of a job that comes next; none where there is no such job.
@@ -143,7 +106,7 @@ impl Daemon {
         if let Some(writing) = self.writing(job) {
             write_down(&mut self.book, &writing)?;
         }
-        go_on(&mut self.jobs, job, outcome);
+        self.jobs.go_on(job, outcome);
         Ok(())
     }
 }

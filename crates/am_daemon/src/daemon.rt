@@ -4,25 +4,48 @@ ghost use Rattle.std.specs.Prelude.{◌≡◌};
 ghost use Rattle.am_job.specs.{record_of};
 ghost use Rattle.am_daemon.specs.State.{initial, rows_of};
 
+use crate::held::HeldTable;
+use crate::job_table::JobTable;
+use crate::known::KnownTable;
 use am_job::{Book, Job};
 use am_map::Map;
 use am_master::Master;
 use am_names::Trigger;
-use am_state::{HeldRow, KnownRow, Record};
+use am_state::Record;
 use std::alloc::Global;
 use std::marker::Model;
 
 /// The automount daemon: its maps, the file systems that it is attached to, what is mounted on
 /// each trigger, and its jobs.
-#[derive(Drop)]
 pub struct Daemon {
     pub(crate) master: Master,
     /// The maps of the master's lines, in their order.
     pub(crate) maps: Vec<Map>,
-    pub(crate) known: Vec<KnownRow>,
-    pub(crate) held: Vec<HeldRow>,
+    pub(crate) known: KnownTable,
+    pub(crate) held: HeldTable,
     pub(crate) book: Book,
-    pub(crate) jobs: Vec<Job>,
+    pub(crate) jobs: JobTable,
+}
+
+// Written by hand, it is proved here once: a derived one is proved field by field in each function
+// of the crates above that lets the daemon go at an early return.
+impl Drop for Daemon {
+    fn drop(self) {
+        let Daemon {
+            master,
+            maps,
+            known,
+            held,
+            book,
+            jobs,
+        } = self;
+        drop(master);
+        drop(maps);
+        drop(known);
+        drop(held);
+        drop(book);
+        drop(jobs);
+    }
 }
 
 impl Model for Daemon {
@@ -30,12 +53,9 @@ impl Model for Daemon {
 
     ghost Value = { DaemonTable };
 
-    ghost use Rattle.am_daemon.specs.View.{table_of, IsDaemon};
+    ghost use Rattle.am_daemon.specs.View.{table_of};
 
     ghost view = { table_of };
-
-    // One path and one attachment of a file system.
-    ghost invariant = { IsDaemon };
 }
 
 impl Daemon {
@@ -46,10 +66,10 @@ impl Daemon {
         Daemon {
             master,
             maps,
-            known: Vec::new(alloc),
-            held: Vec::new(alloc),
+            known: KnownTable::new(alloc),
+            held: HeldTable::new(alloc),
             book: Book::new(alloc),
-            jobs: Vec::new(alloc),
+            jobs: JobTable::new(alloc),
         }
     }
 

@@ -1,6 +1,6 @@
 //! The daemon takes packets from the pipe.
 
-ghost use Rattle.std.specs.Prelude.{◌≡◌, ◌≤◌, ◌⊎◌, ◌∷◌, ◌++◌, [], false, IsTrue, None, IfOk, OnOk, OnErr};
+ghost use Rattle.std.specs.Prelude.{◌≡◌, ◌≤◌, ◌⊎◌, ◌∷◌, ◌++◌, ◌==◌, [], false, find, IsTrue, None, IfOk, OnOk, OnErr};
 ghost use Rattle.am_names.specs.{RefusedAs};
 ghost use Rattle.am_job.specs.{IsRecorded, plan_of, AcknowledgesLast, RecordsFirst, is_reply};
 ghost use Rattle.am_daemon.specs.State.{job_plan, rows_of};
@@ -10,6 +10,7 @@ ghost use Rattle.am_daemon.specs.Deliveries.{is_busy, delivery_fault, told, job_
 
 use crate::daemon::Daemon;
 use crate::fault::DaemonFault;
+use crate::job_table::JobTable;
 use crate::packets::{is_pending, mounted_in, pending, trigger_of};
 use am_job::{Book, Job};
 use am_names::{Attach, Errno, JobId, MountId};
@@ -37,21 +38,22 @@ fn tell(book: &mut Book, job: &Job, pending: Option<Record>)
 /// A job begins, the last, and the book says so.
 fn begin(
     book: &mut Book,
-    jobs: &mut Vec<Job>,
+    jobs: &mut JobTable,
     job: Job,
     pending: Option<Record>,
 ) -> Result<(), Errno>
+    requires fresh { find (λ row. row.token == job.token) jobs.old.rows ≡ None }
     ensures refusal { RefusedAs None result }
     ensures ok { OnOk result (book.new.rows
         ≡ told (plan_of job) job.trigger pending book.old.rows) }
     ensures map { OnOk result (is_reply (plan_of job) ≡ false →
         IsRecorded job.trigger pending book.old.rows book.new.rows) }
-    ensures last { OnOk result (jobs.new.items ≡ jobs.old.items ++ job ∷ []) }
+    ensures last { OnOk result (jobs.new.rows ≡ jobs.old.rows ++ job ∷ []) }
     ensures err { OnErr result (book.new.rows ≡ book.old.rows) }
-    ensures same { OnErr result (jobs.new.items ≡ jobs.old.items) }
+    ensures same { OnErr result (jobs.new.rows ≡ jobs.old.rows) }
 {
     book.reserve(1)?;
-    jobs.reserve(1)?;
+    jobs.reserve()?;
     tell(book, &job, pending);
     jobs.push_reserved(job);
     Ok(())

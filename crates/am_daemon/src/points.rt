@@ -1,7 +1,7 @@
 //! The points of the master map, at which an autofs may be attached, and the maps that serve them.
 
-ghost use Rattle.std.specs.Prelude.{◌≡◌, ◌==◌, [], Some, IfOk, IfSome, find};
-ghost use Rattle.std.specs.Option.{option_map, option_map_or, option_copied};
+ghost use Rattle.std.specs.Prelude.{◌≡◌, [], Some, IfOk, IfSome, find};
+ghost use Rattle.std.specs.Option.{option_map, option_map_or};
 ghost use Rattle.am_names.specs.{IsCanonical, names_of};
 ghost use Rattle.am_map.specs.{entry_for};
 ghost use Rattle.am_daemon.specs.Points.{is_direct, has_point, has_key, lines_of, line_for, point_of, line_timeout, rows_at, path_of, key_of, entry_at, entry_of};
@@ -13,19 +13,7 @@ use crate::served::Point;
 use am_map::{Entry, Map, key_text};
 use am_master::{MasterEntry, Point as LinePoint};
 use am_names::{FsId, Name, Place, Trigger};
-use am_state::KnownRow;
 use std::alloc::{AllocError, Global};
-
-/// Whether the point of the line is this path.
-fn has_point(path: &[u8], line: &MasterEntry) -> bool
-    requires { IsCanonical path.now }
-    ensures { result ≡ has_point (names_of path.now) line.now.point }
-{
-    match &line.point {
-        LinePoint::Direct => false,
-        LinePoint::Indirect(place) => place.is_at(path),
-    }
-}
 
 /// Whether the line is of a direct map that has this path as a key.
 fn has_key(path: &[u8], line: &MasterEntry, map: &Map) -> bool
@@ -46,13 +34,6 @@ fn is_direct(point: &LinePoint) -> bool
         LinePoint::Direct => true,
         LinePoint::Indirect(_) => false,
     }
-}
-
-/// The file system's row.
-fn known_row(known: &[KnownRow], fs: FsId) -> Option<&KnownRow>
-    ensures { option_copied result ≡ find (λ row. row.fs == fs) known.now }
-{
-    known.iter().find(|row| row.fs == fs)
 }
 
 /// The entry of a name, or of a path's key, in a map.
@@ -79,12 +60,10 @@ impl Daemon {
         ensures { line_in result ≡ find (λ line. has_point (names_of path.now) line.1.0.point)
             (lines_of (rows_of self.now)) }
     {
-        self.master
-            .entries()
-            .iter()
-            .zip(self.maps.iter())
-            .enumerate()
-            .find(|line| has_point(path, line.1.0))
+        let at = self.master.line_at(path)?;
+        let line = self.master.entries().get(at)?;
+        let map = self.maps.get(at)?;
+        Some((at, (line, map)))
     }
 
     /// The first `/-` line whose map has this path as a key, and that map.
@@ -152,8 +131,8 @@ impl Daemon {
         ensures path { option_map (λ text. names_of text.now) result ≡ path_of self.now.known fs }
         ensures canonical { IfSome result (λ text. IsCanonical text.now) }
     {
-        let row = known_row(&self.known, fs)?;
-        Some(row.path.text())
+        let path = self.known.path(fs)?;
+        Some(path.text())
     }
 
     /// The entry of a name, or of the path itself, in the map that serves the path.

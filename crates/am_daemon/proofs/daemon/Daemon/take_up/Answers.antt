@@ -1,7 +1,18 @@
+use Rattle.std.proofs.Common.{map, sym, ap, ◌∙◌}
 use Rattle.am_wire.specs.{token_kind}
 use Rattle.am_job.proofs.PlanLemmas.{plan_records}
-use Rattle.am_daemon.specs.{trigger_of, mounted_for, entry_of, rows_of}
+use Rattle.am_daemon.specs.{trigger_of, mounted_for, entry_of, job_plan, rows_of, DaemonTable}
+use Rattle.am_daemon.proofs.DeliveryLemmas.{fresh_job}
 use Rattle.am_daemon.proofs.daemon.Daemon.take_up.Goals as goal
+
+pub begin-requires : goal.begin-requires
+begin-requires c = record {
+  fresh =
+      fresh_job c.args.attach c.args.packet.now (rows_of c.args.self.now) c.self.inside.jobs.rows c.in_ok-job.job
+      (ap (λ (t : DaemonTable). map job_plan t.jobs) c.self.view_is)
+      c.in_ok-job.ensures
+      (sym c.delivery_fault.ensures ∙ c.in_default.is);
+}
 
 pub returns-clause-records : goal.returns-clause-records
 returns-clause-records c =

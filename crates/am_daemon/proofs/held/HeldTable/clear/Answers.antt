@@ -1,0 +1,9 @@
+use Rattle.std.proofs.Common.{ℕ, List, map, sym, subst}
+use Rattle.am_daemon.specs.{AreOnce}
+use Rattle.am_daemon.specs.Held.{rows_of}
+use Rattle.am_daemon.proofs.OnceLemmas.{none_once}
+use Rattle.am_daemon.proofs.held.HeldTable.clear.Goals as goal
+
+pub invariant_of-self : goal.invariant_of-self
+invariant_of-self c =
+    subst (λ (pairs : List (ℕ × ℕ)). AreOnce (map (λ row. row.fs) (rows_of pairs))) (sym c.clear.ensures.entries) none_once
