@@ -4,14 +4,17 @@
 usage: generate.py one-by-one|all-first KEYS script|answers
        generate.py map|master LINES script|answers
        generate.py namespaces|peers N script|answers
-       generate.py expiries|walks|mounts|lives|copies N script|answers
+       generate.py expiries|walks|mounts|lives|copies|masters|attachments|jobs N script|answers
 
 Key I is walked to by walker I, which waits on token I. Of a long map, or of a long master map with
 a map for each of its lines, the last line is attached, walked to and begun to be served, so that
 the answers tell whether it was read. With N namespaces beside the first, or with N peers of a
 mount, TIMES mounts are made, each with N copies. Where N keys stand, they are asked to expire, or
 walked to; N times a mount with TIMES copies comes and goes, or one key lives from its walk to its
-expiry; and a namespace of N mounts is copied and dropped. The same arguments give the same bytes.
+expiry; a namespace of N mounts is copied and dropped; where N mounts are shared, N times one more
+gives up its peer group, which has a slave; where N autofs file systems are attached, a key of each is
+served; and N keys are delivered before the first of them is served. The same arguments give the same
+bytes.
 """
 
 import sys
@@ -20,7 +23,7 @@ SHAPES = ("one-by-one", "all-first")
 HEADS = ("map", "master")
 COPIES = ("namespaces", "peers")
 STANDING = ("expiries", "walks")
-LIVES = STANDING + ("mounts", "lives", "copies")
+LIVES = STANDING + ("mounts", "lives", "copies", "masters", "attachments", "jobs")
 # So many mounts come with copies, whatever N is.
 TIMES = 10
 # By default no mount has a greater number.
@@ -31,14 +34,16 @@ def head(shape, keys):
     if shape in COPIES and copied(shape, keys, TIMES) + keys > MOST_MOUNTS:
         yield f"limits {copied(shape, keys, TIMES) + keys} 1024 4294967295"
     # By default 1024 walkers may wait at once.
-    if shape == "all-first" and keys > 1024:
+    if shape in ("all-first", "jobs") and keys > 1024:
         yield f"limits {MOST_MOUNTS} {keys} 4294967295"
     if shape in ("mounts", "copies"):
         most = keys * (TIMES + 1) + TIMES + 2
         if most > MOST_MOUNTS:
             yield f"limits {most} 1024 4294967295"
-    if shape in ("peers", "mounts", "copies"):
+    if shape in ("peers", "mounts", "copies", "masters"):
         yield "events"
+    elif shape == "attachments":
+        yield from long_master(keys)
     else:
         yield from one_map({"namespaces": TIMES, "lives": 1}.get(shape, keys), "")
 
@@ -67,15 +72,20 @@ def walk(i, ns=0):
     yield f"walk {i} {ns} /auto/{name(i)} 100 room", f"wait {i}"
 
 
-def serve(i, mount, arrives, walker=None, key=None):
+def serve(i, mount, arrives, walker=None, key=None, fs=2):
     """The daemon serves token I by job I, which makes this mount, and walker I arrives in that one."""
-    walker, key = walker or i, key or i
+    walker, key = walker or i, key or name(i)
     yield f"deliver {i}", f"job {i}"
+    yield from work(i, mount, arrives, walker, key, fs)
+
+
+def work(i, mount, arrives, walker, key, fs=2):
+    """The same without the delivery."""
     yield f"act {i} ok", "did mkdir"
     yield f"act {i} ok", f"did mount {mount}"
     yield f"act {i} ok", "did record"
     yield f"act {i} ok", "did reply"
-    yield f"record 2 {name(key)}", f"record mounted {mount}"
+    yield f"record {fs} {key}", f"record mounted {mount}"
     yield f"resume {walker} 101 room", f"at {arrives} /"
 
 
@@ -118,10 +128,20 @@ def first_events(shape, n):
     elif shape == "copies":
         for i in range(1, n + 1):
             yield f"mount 0 /{name(i)}", f"mount {i + 1}"
+    elif shape == "masters":
+        for i in range(1, n + 2):
+            yield f"mount 0 /{name(i)}", f"mount {i + 1}"
+            yield f"change 0 /{name(i)} shared", "ok"
+    elif shape == "attachments":
+        for i in range(1, n + 1):
+            yield f"attach /auto/{name(i)}", f"fs {i + 1} attach {i} mount {i + 1}"
     else:
         yield from attach()
         if shape in STANDING:
             yield from events("one-by-one", n)
+        elif shape == "jobs":
+            for i in range(1, n + 1):
+                yield from walk(i)
 
 
 def events(shape, keys):
@@ -151,13 +171,34 @@ def events(shape, keys):
     elif shape == "lives":
         for i in range(1, keys + 1):
             yield f"walk 1 0 /auto/{name(1)} 100 room", f"wait {2 * i - 1}"
-            yield from serve(2 * i - 1, i + 2, i + 2, walker=1, key=1)
+            yield from serve(2 * i - 1, i + 2, i + 2, walker=1, key=name(1))
             yield "leave 1", "ok"
             yield from ends(2 * i, 1)
     elif shape == "copies":
         for i in range(1, TIMES + 1):
             yield "nscopy 0", f"ns {i}"
             yield f"nsdrop {i}", gone(i * (keys + 1) + 1, keys + 1)
+    elif shape == "masters":
+        # The slave of the group that goes is one of the last mount's then.
+        for i in range(1, keys + 1):
+            mount = keys + 2 * i + 1
+            yield f"bind 0 /{name(keys + 1)} /b", f"mount {mount}"
+            yield "change 0 /b slave", "ok"
+            yield "change 0 /b shared", "ok"
+            yield "bind 0 /b /c", f"mount {mount + 1}"
+            yield "change 0 /c slave", "ok"
+            yield "change 0 /b private", "ok"
+            yield "umount 0 /c", gone(mount + 1, 1)
+            yield "umount 0 /b", gone(mount, 1)
+    elif shape == "attachments":
+        for i in range(1, keys + 1):
+            yield f"walk {i} 0 /auto/{name(i)}/home 100 room", f"wait {i}"
+            yield from serve(i, keys + i + 1, keys + i + 1, key="home", fs=i + 1)
+    elif shape == "jobs":
+        for i in range(1, keys + 1):
+            yield f"deliver {i}", f"job {i}"
+        for i in range(1, keys + 1):
+            yield from work(i, i + 2, i + 2, i, name(i))
     elif shape == "one-by-one":
         for i in range(1, keys + 1):
             yield from walk(i)
@@ -170,6 +211,7 @@ def events(shape, keys):
 
 
 def long_master(lines):
+    """A master map of so many lines, a map for each, and `events`."""
     yield "master"
     for i in range(1, lines + 1):
         yield f"/auto/{name(i)} file:auto.{name(i)} --timeout 10"
