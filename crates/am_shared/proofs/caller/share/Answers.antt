@@ -11,7 +11,7 @@ loop-made-init g c = record {
   amount = search rules;
   len = search rules;
   fits = search rules;
-  each = search rules;
+  each = rw c.in_ok-made.ensures.items (search rules);
 }
 
 pub loop-made-preserved : goal.loop-made-preserved
