@@ -10,6 +10,7 @@ mod jobs;
 mod kernel;
 mod ordered;
 mod parts;
+mod rows;
 mod script;
 mod tokens;
 mod trap;
