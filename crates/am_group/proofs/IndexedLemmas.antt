@@ -214,24 +214,24 @@ pub put_indexed :
     none.mount ≡ row.mount → none.group ≡ None → none.master ≡ None → (old new : Indexes) →
     AreMoved none row old new → ListMembers rows old →
     ListMembers (below row.mount rows ++ row ∷ above row.mount rows) new
-put_indexed rows rises row none new_one number group master old new moves o = record {
+put_indexed rows rises added none new_one number group master old new moves o = record {
   members = λ n.
       moves.members n ∙
-      ap (λ (g : Option ℕ). moved (is_just n g) (is_in n row) none.mount (listed old.members n)) group ∙
+      ap (λ (g : Option ℕ). moved (is_just n g) (is_in n added) none.mount (listed old.members n)) group ∙
       next (is_in n) (listed old.members n) (o.members n);
   slaves = λ n.
       moves.slaves n ∙
-      ap (λ (g : Option ℕ). moved (is_just n g) (has_master n row) none.mount (listed old.slaves n)) master ∙
+      ap (λ (g : Option ℕ). moved (is_just n g) (has_master n added) none.mount (listed old.slaves n)) master ∙
       next (has_master n) (listed old.slaves n) (o.slaves n);
 }
   where
     next :
         (t : MemberRow → Bool) (xs : List ℕ) → xs ≡ mounts_where t rows →
-        moved false (t row) none.mount xs ≡ mounts_where t (below row.mount rows ++ row ∷ above row.mount rows)
+        moved false (t added) none.mount xs ≡ mounts_where t (below added.mount rows ++ added ∷ above added.mount rows)
     next t xs e =
-        ap (λ (ys : List ℕ). moved false (t row) none.mount ys) e ∙
-        ap (λ (m : ℕ). moved false (t row) m (mounts_where t rows)) number ∙
-        sym (numbered_put mount_of t row 0 rows rises new_one)
+        ap (λ (ys : List ℕ). moved false (t added) none.mount ys) e ∙
+        ap (λ (m : ℕ). moved false (t added) m (mounts_where t rows)) number ∙
+        sym (numbered_put mount_of t added 0 rows rises new_one)
 
 -- a mount's row that becomes another
 pub changed_indexed :
