@@ -1,3 +1,4 @@
+pub mod Buckets
 pub mod Errno
 pub mod FailNo
 pub mod Limits
@@ -10,6 +11,7 @@ pub mod PathFaults
 pub mod PeerGroups
 pub mod Trigger
 -- what contracts cite, passed on from one place
+pub use Buckets.{bucket}
 pub use Errno.{RefusedAs, RefusedOnlyAs, errno_number}
 pub use FailNo.{errno_of, fail_no_numbered, fail_number}
 pub use Limits.{IsInRange, is_in_range}

@@ -3,6 +3,7 @@
 #![tactic(auto)]
 
 pub mod among;
+pub mod buckets;
 pub mod errno;
 pub mod fail_no;
 pub mod limits;
@@ -17,6 +18,7 @@ pub mod trigger;
 pub mod waiters;
 
 pub use among::{are_ordered, is_among, is_found};
+pub use buckets::bucket;
 pub use errno::Errno;
 pub use fail_no::FailNo;
 pub use limits::Limits;

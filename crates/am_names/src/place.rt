@@ -5,14 +5,25 @@ ghost use Rattle.am_names.specs.Path.{IsCanonical, names_of, text_of, same_names
 
 use crate::name::Name;
 use crate::path::AbsPath;
+use smallvec::SmallVec;
 use std::alloc::{AllocError, Global};
 use std::marker::Model;
 
-/// A list of names, in one allocation of its own length: the path of a place below a mount's
-/// root, or that of a walk below a namespace's root. It is empty for the root itself.
-#[derive(Debug, Drop)]
+/// A list of names: the path of a place below a mount's root, or that of a walk below a namespace's
+/// root. It is empty for the root itself. A text of at most 24 bytes stands in the place itself, a
+/// longer one in an allocation of its own length.
+#[derive(Debug)]
 pub struct Place {
-    text: Vec<u8>,
+    text: SmallVec<u8, 24>,
+}
+
+// Written by hand, it is proved here once: a derived one is proved for a short and for a long text
+// in each function above that lets a place go.
+impl Drop for Place {
+    fn drop(self) {
+        let Place { text } = self;
+        drop(text);
+    }
 }
 
 impl Model for Place {
@@ -32,7 +43,7 @@ impl Place {
         ensures { result ≡ [] }
     {
         Place {
-            text: Vec::new(alloc),
+            text: SmallVec::new(alloc),
         }
     }
 
@@ -41,7 +52,7 @@ impl Place {
         ensures { IfOk result (λ place. place ≡ []) }
     {
         Ok(Place {
-            text: Vec::with_capacity(alloc, len)?,
+            text: SmallVec::with_capacity(alloc, len)?,
         })
     }
 
@@ -58,7 +69,7 @@ impl Place {
         ensures { IfOk result (λ place. place ≡ names_of text.now) }
     {
         Ok(Place {
-            text: Vec::from_slice(alloc, text)?,
+            text: SmallVec::from_slice(alloc, text)?,
         })
     }
 

@@ -3,7 +3,7 @@
 use crate::tests::table::{Row, hold, stretched};
 use am_names::{
     AbsPath, Errno, FailNo, FsId, Limits, MountId, MountIds, MountRow, Name, NsId, Place, Position,
-    Seconds, Waiters, WalkerId, are_ordered, is_among, is_found, split_first_name,
+    Seconds, Waiters, WalkerId, are_ordered, bucket, is_among, is_found, split_first_name,
 };
 use std::alloc::Global;
 
@@ -48,6 +48,8 @@ enum Text {
     RowCopied(u64, u64, &'static [u8]),
     /// One walker waits, and others join. Without memory the list is as before.
     Joins(u32, &'static [u32], &'static [u32]),
+    /// The bytes are in this bucket.
+    InBucket(&'static [u8], u64),
     Number(Errno, u8),
     /// The failure of this number has it, and is this error.
     Fails(u8, Errno),
@@ -334,6 +336,7 @@ impl Row for Text {
             Text::PositionCopied(mount, path) => position_copied(alloc, *mount, path),
             Text::RowCopied(mount, on, path) => row_copied(alloc, *mount, *on, path),
             Text::Joins(one, others, all) => joins(alloc, *one, others, all),
+            Text::InBucket(text, number) => Ok(bucket(text) == *number),
             Text::Number(errno, number) => Ok(errno.number() == *number),
             Text::Fails(number, errno) => Ok(fails(*number, *errno)),
             Text::NoFailures(first, last) => Ok(are_no_failures(*first, *last)),
@@ -462,8 +465,19 @@ static LIMITS: [Text; 7] = [
 ];
 
 static WITHOUT_MEMORY: [Text; 2] = [
-    Text::GoesDown(b"/srv", b"data", b"/srv/data"),
-    Text::RowCopied(2, 1, b"/srv/data"),
+    Text::GoesDown(
+        b"/srv",
+        b"a_name_longer_than_most",
+        b"/srv/a_name_longer_than_most",
+    ),
+    Text::RowCopied(2, 1, b"/srv/a_name_longer_than_most"),
+];
+
+static BUCKETS: [Text; 4] = [
+    Text::InBucket(b"", 0),
+    Text::InBucket(b"/a", 47_000_238),
+    Text::InBucket(b"/home/alice", 4155029679),
+    Text::InBucket(b"/home/alicf", 4155029680),
 ];
 
 static LISTS_WITHOUT_MEMORY: [Text; 2] = [
@@ -503,6 +517,7 @@ fn texts_of_names(rt: HostRuntime) {
     hold(&rt, rt.alloc(), "rows and lists are copied", &COPIES);
     hold(&rt, rt.alloc(), "mounts in order and in no order", &AMONG);
     hold(&rt, rt.alloc(), "waiters join in order", &TWO_WAITERS);
+    hold(&rt, rt.alloc(), "texts have their buckets", &BUCKETS);
     hold(&rt, rt.alloc(), "errors have their numbers", &NUMBERS);
     hold(
         &rt,

@@ -6,4 +6,4 @@ use Rattle.am_names.proofs.place.Place.is_at.Goals as goal
 pub returns-clause-test : goal.returns-clause-test
 returns-clause-test c =
     texts_tell c.args.text.now c.self.inside.text.items c.args.self.now c.eq.result c.requires c.self.invariant c.self.view_is
-    (subst (λ (t : List ℕ). c.eq.result ≡ bytes_eq c.args.text.now t) c.as_slice.ensures.value c.eq.ensures)
+    (subst (λ (t : List ℕ). c.eq.result ≡ bytes_eq c.args.text.now t) c.as_slice.ensures c.eq.ensures)
