@@ -1,15 +1,18 @@
 -- Rows by a number that they share: one row more, one row less, and what is found of them.
 use Rattle.std.proofs.Common.{◌≡◌, ◌≤◌, ◌<◌, ◌+◌, ◌-◌, length-append, ℕ, Bool, true, false, cond, not, ◌&&◌, ◌||◌, List, [], ◌∷◌, ◌++◌, length, take, drop, get_or, Option, Some, None, refl, sym, ap, subst, ◌∙◌, arith}
-use Rattle.std.specs.Prelude.{map, filter, find, ◌==◌, option_map, is_none, Result, Ok, Err, IfOk, Vec}
-use Rattle.std.specs.List.{list_any}
+use Rattle.std.specs.Prelude.{map, filter, find, ◌==◌, option_map, is_none, Result, Ok, Err, IfOk, IfSome, Vec}
+use Rattle.std.specs.List.{list_any, Contains}
 use Rattle.std.specs.List.Sorted.{IsStrictlyIncreasing}
 use Rattle.std.proofs.lemmas.Bool.{eqb-true, eq-eqb, ne_eqb}
 use Rattle.std.proofs.lemmas.Bool.Decides.{nat_tests}
 use Rattle.std.proofs.lemmas.List.{take_more, drop_more, take-take, length-take-le}
-use Rattle.am_names.proofs.Basics.{and_false}
-use Rattle.am_names.specs.{text_of, MountRow, is_among}
-use Rattle.am_mount.specs.{RiseFrom, IsRising, mount_row, mounts_where, has_fs, is_in, is_child, is_at, last_of, top_of, root_of, bucket, is_position_in, is_in_bucket, passes, stands_at, stands_alone, listed, but, AreWith, AreWithout, HaveSameLists, AreIndexed, AllRise, Indexes}
-use Rattle.am_mount.proofs.RowLemmas.{found_above, at_decides, last_of_append, where_rises}
+use Rattle.am_names.proofs.Basics.{and_false, and_of_both, right_of_and}
+use Rattle.am_names.specs.{bucket, text_of, MountRow, Position, is_among}
+use Rattle.am_mount.specs.declared.families.Families.{Families}
+use Rattle.am_mount.specs.declared.watched.Watched.{Watched}
+use Rattle.am_mount.specs.Indexed.{AddsAt, MayLeaveAt, TakesAt}
+use Rattle.am_mount.specs.{RiseFrom, IsRising, mount_row, mounts_where, has_fs, is_in, is_position_on, is_child, is_child_in, is_at, last_of, top_of, root_of, is_position_in, is_in_bucket, passes, stands_at, stands_alone, listed, children_of, placed_at, watched, but, AreWith, AreWithout, HaveSameLists, AreIndexed, AreWatched, IsIfAny, RisesIfAny, SameWatched, MayTakeOut, Indexes}
+use Rattle.am_mount.proofs.RowLemmas.{found_above, at_decides, last_of_append, where_every, where_rises}
 
 and_true : (b : Bool) → (b && true) ≡ b
 and_true true = refl
@@ -221,14 +224,84 @@ number_found (r ∷ rows) x row e = go (r.mount == x) refl e (number_found rows 
         ap (λ (y : MountRow). y.mount) (sym same) ∙ eqb-true r.mount x f
     go false f e ih = ih e
 
--- the four indexes
+-- ---- the indexes
+
+-- the mounts on a parent, one more
+with_children :
+    (o : Option Position) (m : ℕ) (old new : Families) → AddsAt o m old new → (n : ℕ) →
+    children_of new n ≡ cond (is_position_on n o) (children_of old n ++ m ∷ []) (children_of old n)
+with_children None m old new more n = more.children n
+with_children (Some p) m old new more n = more.children n
+
+with_placed :
+    (o : Option Position) (m : ℕ) (old new : Families) → AddsAt o m old new → (n c : ℕ) →
+    placed_at new n c ≡
+    cond (is_position_on n o && is_position_in c o) (placed_at old n c ++ m ∷ []) (placed_at old n c)
+with_placed None m old new more n c = more.placed n c
+with_placed (Some p) m old new more n c = more.placed n c
+
+-- the mounts on a parent, one less
+without_children :
+    (o : Option Position) (m : ℕ) (old new : Families) → TakesAt o m old new → (n : ℕ) →
+    children_of new n ≡ cond (is_position_on n o) (but m (children_of old n)) (children_of old n)
+without_children None m old new w n = w.children n
+without_children (Some p) m old new w n = w.children n
+
+without_placed :
+    (o : Option Position) (m : ℕ) (old new : Families) → TakesAt o m old new → (n c : ℕ) →
+    placed_at new n c ≡
+    cond (is_position_on n o && is_position_in c o) (but m (placed_at old n c)) (placed_at old n c)
+without_placed None m old new w n c = w.placed n c
+without_placed (Some p) m old new w n c = w.placed n c
+
+-- a list that changes, if there is one
+map_if_any :
+    (f : List ℕ → List ℕ) (mounts : List ℕ) (o : Option (List ℕ)) → IsIfAny mounts o →
+    IsIfAny (f mounts) (option_map f o)
+map_if_any f mounts None is = tt
+map_if_any f mounts (Some list) is = ap f is
+
+-- a list that is told is that of the mounts
+pub told_if_any :
+    {A : Type 0} (now : A → List ℕ) (mounts : List ℕ) (w : Option (List ℕ)) → IsIfAny mounts w → (o : Option A) →
+    IfSome o (λ x. w ≡ Some (now x)) → IfSome o (λ x. now x ≡ mounts)
+told_if_any now mounts w is None told = tt
+told_if_any now mounts w is (Some x) told = subst (IsIfAny mounts) told is
+
+-- a list that rises, if there is one
+rises_if_any :
+    (mounts : List ℕ) (o : Option (List ℕ)) → IsStrictlyIncreasing mounts → IsIfAny mounts o → RisesIfAny o
+rises_if_any mounts None rises is = tt
+rises_if_any mounts (Some list) rises is = subst (λ (xs : List ℕ). IsStrictlyIncreasing xs) (sym is) rises
+
+-- the lists of watched file systems change as the mounts do
+watched_by :
+    (f : ℕ → List ℕ → List ℕ) (old new : List MountRow) (w u : Watched) →
+    ((n : ℕ) → watched u n ≡ option_map (f n) (watched w n)) →
+    ((n : ℕ) → f n (mounts_where (has_fs n) old) ≡ mounts_where (has_fs n) new) →
+    ((n : ℕ) → u.next ≤ n → mounts_where (has_fs n) new ≡ []) → AreWatched old w → AreWatched new u
+watched_by f old new w u lists mounts none o = record {
+  lists = λ n.
+      subst (λ (xs : List ℕ). IsIfAny xs (watched u n)) (mounts n)
+      (subst (λ (l : Option (List ℕ)). IsIfAny (f n (mounts_where (has_fs n) old)) l) (sym (lists n))
+      (map_if_any (f n) (mounts_where (has_fs n) old) (watched w n) (o.lists n)));
+  none = none;
+}
+
+-- the lists are the same
+watched_same : (rows : List MountRow) (w u : Watched) → SameWatched w u → AreWatched rows w → AreWatched rows u
+watched_same rows w u same o = record {
+  lists = λ n. subst (λ (l : Option (List ℕ)). IsIfAny (mounts_where (has_fs n) rows) l) (sym (same.lists n)) (o.lists n);
+  none = λ n le. o.none n (subst (λ (k : ℕ). k ≤ n) same.next le);
+}
+
 pub indexed_same :
     (rows : List MountRow) (old new : Indexes) → HaveSameLists old new → AreIndexed rows old → AreIndexed rows new
 indexed_same rows old new same o = record {
   by_ns = λ n. same.by_ns n ∙ o.by_ns n;
-  by_fs = λ n. same.by_fs n ∙ o.by_fs n;
-  by_parent = λ n. same.by_parent n ∙ o.by_parent n;
-  by_place = λ n. same.by_place n ∙ o.by_place n;
+  by_fs = watched_same rows old.by_fs new.by_fs same.by_fs o.by_fs;
+  children = λ m. same.families.children m ∙ o.children m;
+  placed = λ m b. same.families.placed m b ∙ o.placed m b;
 }
 
 pub indexed_more :
@@ -236,9 +309,14 @@ pub indexed_more :
     AreWith row old new → AreIndexed rows old → AreIndexed (rows ++ row ∷ []) new
 indexed_more rows row old new more o = record {
   by_ns = λ n. more.by_ns n ∙ next (is_in n) (listed old.by_ns n) (o.by_ns n);
-  by_fs = λ n. more.by_fs n ∙ next (has_fs n) (listed old.by_fs n) (o.by_fs n);
-  by_parent = λ n. more.by_parent n ∙ next (is_child n) (listed old.by_parent n) (o.by_parent n);
-  by_place = λ n. more.by_place n ∙ next (is_in_bucket n) (listed old.by_place n) (o.by_place n);
+  by_fs = watched_by (λ n mounts. cond (has_fs n row) (mounts ++ row.mount ∷ []) mounts) rows (rows ++ row ∷ [])
+      old.by_fs new.by_fs more.by_fs.lists (λ n. next (has_fs n) (mounts_where (has_fs n) rows) refl) none o.by_fs;
+  children = λ m.
+      with_children row.mountpoint row.mount old.families new.families more.families m ∙
+      next (is_child m) (children_of old.families m) (o.children m);
+  placed = λ m b.
+      with_placed row.mountpoint row.mount old.families new.families more.families m b ∙
+      next (is_child_in m b) (placed_at old.families m b) (o.placed m b);
 }
   where
     next :
@@ -247,24 +325,42 @@ indexed_more rows row old new more o = record {
     next t xs e =
         ap (λ (ys : List ℕ). cond (t row) (ys ++ row.mount ∷ []) ys) e ∙ sym (where_snoc t rows row)
 
+    none : (n : ℕ) → new.by_fs.next ≤ n → mounts_where (has_fs n) (rows ++ row ∷ []) ≡ []
+    none n le =
+        let before : old.by_fs.next ≤ new.by_fs.next = more.by_fs.next in
+        let known : row.fs < new.by_fs.next = more.by_fs.known in
+        where_snoc (has_fs n) rows row ∙
+        rw (ne_eqb row.fs n (λ same. omega arith)) (o.by_fs.none n (omega arith))
+
 module _ (x : ℕ) (k l : MountRow → Bool) (less : (r : MountRow) → l r ≡ (k r && not (x == r.mount))) (rows : List MountRow) where
   pub indexed_none :
       (t : Indexes) → mount_row rows x ≡ None → AreIndexed (filter k rows) t → AreIndexed (filter l rows) t
   indexed_none t e o = record {
-    by_ns = λ n. o.by_ns n ∙ sym (none_less x k l (is_in n) less rows e);
-    by_fs = λ n. o.by_fs n ∙ sym (none_less x k l (has_fs n) less rows e);
-    by_parent = λ n. o.by_parent n ∙ sym (none_less x k l (is_child n) less rows e);
-    by_place = λ n. o.by_place n ∙ sym (none_less x k l (is_in_bucket n) less rows e);
+    by_ns = λ n. o.by_ns n ∙ none (is_in n);
+    by_fs = record {
+      lists = λ n. subst (λ (xs : List ℕ). IsIfAny xs (watched t.by_fs n)) (none (has_fs n)) (o.by_fs.lists n);
+      none = λ n le. sym (none (has_fs n)) ∙ o.by_fs.none n le;
+    };
+    children = λ m. o.children m ∙ none (is_child m);
+    placed = λ m b. o.placed m b ∙ none (is_child_in m b);
   }
+    where
+      none : (t : MountRow → Bool) → mounts_where t (filter k rows) ≡ mounts_where t (filter l rows)
+      none t = sym (none_less x k l t less rows e)
 
   pub indexed_less :
       (rises : IsRising rows) (row : MountRow) (old new : Indexes) → mount_row rows x ≡ Some row →
       AreWithout row old new → AreIndexed (filter k rows) old → AreIndexed (filter l rows) new
   indexed_less rises row old new e w o = record {
     by_ns = λ n. w.by_ns n ∙ next (is_in n) (listed old.by_ns n) (o.by_ns n);
-    by_fs = λ n. w.by_fs n ∙ next (has_fs n) (listed old.by_fs n) (o.by_fs n);
-    by_parent = λ n. w.by_parent n ∙ next (is_child n) (listed old.by_parent n) (o.by_parent n);
-    by_place = λ n. w.by_place n ∙ next (is_in_bucket n) (listed old.by_place n) (o.by_place n);
+    by_fs = watched_by (λ n mounts. cond (has_fs n row) (but row.mount mounts) mounts) (filter k rows) (filter l rows)
+        old.by_fs new.by_fs w.by_fs.lists (λ n. next (has_fs n) (mounts_where (has_fs n) (filter k rows)) refl) none o.by_fs;
+    children = λ m.
+        without_children row.mountpoint row.mount old.families new.families w.families m ∙
+        next (is_child m) (children_of old.families m) (o.children m);
+    placed = λ m b.
+        without_placed row.mountpoint row.mount old.families new.families w.families m b ∙
+        next (is_child_in m b) (placed_at old.families m b) (o.placed m b);
   }
     where
       next :
@@ -274,6 +370,17 @@ module _ (x : ℕ) (k l : MountRow → Bool) (less : (r : MountRow) → l r ≡ 
           ap (λ (ys : List ℕ). cond (t row) (but row.mount ys) ys) f ∙
           ap (λ (m : ℕ). cond (t row) (but m (mounts_where t (filter k rows))) (mounts_where t (filter k rows))) (number_found rows x row e) ∙
           sym (some_less x k l t less rows rises row e)
+
+      none : (n : ℕ) → new.by_fs.next ≤ n → mounts_where (has_fs n) (filter l rows) ≡ []
+      none n le =
+          sym (next (has_fs n) (mounts_where (has_fs n) (filter k rows)) refl) ∙
+          ap (λ (xs : List ℕ). cond (has_fs n row) (but row.mount xs) xs)
+          (o.by_fs.none n (subst (λ (m : ℕ). m ≤ n) w.by_fs.next le)) ∙
+          still (has_fs n row)
+        where
+          still : (b : Bool) → cond b (but row.mount []) [] ≡ []
+          still true = refl
+          still false = refl
 
 -- the last row less
 last_above : (low : ℕ) (rows : List MountRow) (row : MountRow) → RiseFrom low (rows ++ row ∷ []) → low ≤ row.mount
@@ -304,9 +411,14 @@ pub indexed_back :
     AreWithout row old new → AreIndexed (rows ++ row ∷ []) old → AreIndexed rows new
 indexed_back rows row old new rises w o = record {
   by_ns = λ n. w.by_ns n ∙ next (is_in n) (listed old.by_ns n) (o.by_ns n);
-  by_fs = λ n. w.by_fs n ∙ next (has_fs n) (listed old.by_fs n) (o.by_fs n);
-  by_parent = λ n. w.by_parent n ∙ next (is_child n) (listed old.by_parent n) (o.by_parent n);
-  by_place = λ n. w.by_place n ∙ next (is_in_bucket n) (listed old.by_place n) (o.by_place n);
+  by_fs = watched_by (λ n mounts. cond (has_fs n row) (but row.mount mounts) mounts) (rows ++ row ∷ []) rows
+      old.by_fs new.by_fs w.by_fs.lists (λ n. next (has_fs n) (mounts_where (has_fs n) (rows ++ row ∷ [])) refl) none o.by_fs;
+  children = λ m.
+      without_children row.mountpoint row.mount old.families new.families w.families m ∙
+      next (is_child m) (children_of old.families m) (o.children m);
+  placed = λ m b.
+      without_placed row.mountpoint row.mount old.families new.families w.families m b ∙
+      next (is_child_in m b) (placed_at old.families m b) (o.placed m b);
 }
   where
     next :
@@ -322,6 +434,99 @@ indexed_back rows row old new rises w o = record {
             cond b (but row.mount (cond b (here ++ row.mount ∷ []) here)) (cond b (here ++ row.mount ∷ []) here) ≡ here
         go true = but_last row.mount here ∙ but_none row.mount t rows (last_none 0 rows row rises)
         go false = refl
+
+    none : (n : ℕ) → new.by_fs.next ≤ n → mounts_where (has_fs n) rows ≡ []
+    none n le =
+        sym (next (has_fs n) (mounts_where (has_fs n) (rows ++ row ∷ [])) refl) ∙
+        ap (λ (xs : List ℕ). cond (has_fs n row) (but row.mount xs) xs)
+        (o.by_fs.none n (subst (λ (m : ℕ). m ≤ n) w.by_fs.next le)) ∙
+        still (has_fs n row)
+      where
+        still : (b : Bool) → cond b (but row.mount []) [] ≡ []
+        still true = refl
+        still false = refl
+
+-- the last row is found
+pub last_found :
+    (low : ℕ) (rows : List MountRow) (row : MountRow) → RiseFrom low (rows ++ row ∷ []) →
+    mount_row (rows ++ row ∷ []) row.mount ≡ Some row
+last_found low [] row rises = rw (eq-eqb row.mount row.mount refl) refl
+last_found low (r ∷ rows) row rises =
+    let rest : r.mount + 1 ≤ row.mount = last_above (r.mount + 1) rows row rises.1 in
+    rw (ne_eqb r.mount row.mount (λ same. omega arith)) (last_found (r.mount + 1) rows row rises.1)
+
+-- what is found of the rows that are kept is found of all
+pub kept_found :
+    (keeps : MountRow → Bool) (low : ℕ) (rows : List MountRow) → RiseFrom low rows → (m : ℕ) (row : MountRow) →
+    mount_row (filter keeps rows) m ≡ Some row → mount_row rows m ≡ Some row
+kept_found keeps low [] rises m row e = e
+kept_found keeps low (r ∷ rows) rises m row e = go (keeps r) (r.mount == m) refl e (kept_found keeps (r.mount + 1) rows rises.1 m row)
+  where
+    go :
+        (k b : Bool) → (r.mount == m) ≡ b → mount_row (cond k (r ∷ filter keeps rows) (filter keeps rows)) m ≡ Some row →
+        (mount_row (filter keeps rows) m ≡ Some row → mount_row rows m ≡ Some row) → cond b (Some r) (mount_row rows m) ≡ Some row
+    go true true f e ih = sym (ap (λ (c : Bool). cond c (Some r) (mount_row (filter keeps rows) m)) f) ∙ e
+    go true false f e ih = ih (sym (ap (λ (c : Bool). cond c (Some r) (mount_row (filter keeps rows) m)) f) ∙ e)
+    go false true f e ih =
+        let later : r.mount + 1 ≤ m = found_above (r.mount + 1) rows rises.1 m row (ih e) in
+        let same : r.mount ≡ m = eqb-true r.mount m f in
+        absurd (omega arith)
+    go false false f e ih = ih e
+
+-- what is found of the rows that are kept is what is found of all
+pub only_kept :
+    (keeps : MountRow → Bool) (rows : List MountRow) → IsRising rows → (x : ℕ) (row : MountRow) →
+    mount_row rows x ≡ Some row → (r : MountRow) → mount_row (filter keeps rows) row.mount ≡ Some r → r ≡ row
+only_kept keeps rows rises x row found r e =
+    let here : mount_row rows row.mount ≡ Some r = kept_found keeps 0 rows rises row.mount r e in
+    let there : mount_row rows row.mount ≡ Some row = ap (mount_row rows) (number_found rows x row found) ∙ found in
+    same (sym here ∙ there)
+  where
+    same : Some r ≡ Some row → r ≡ row
+    same h = cc
+
+-- what is found with the number of the last row is that
+pub only_last :
+    (rows : List MountRow) (row : MountRow) → IsRising (rows ++ row ∷ []) → (r : MountRow) →
+    mount_row (rows ++ row ∷ []) row.mount ≡ Some r → r ≡ row
+only_last rows row rises r e = same (sym e ∙ last_found 0 rows row rises)
+  where
+    same : Some r ≡ Some row → r ≡ row
+    same h = cc
+
+-- a row that stands alone with its number may go
+module _ (part : List MountRow) (rises : IsRising part) (row : MountRow) (only : (r : MountRow) → mount_row part row.mount ≡ Some r → r ≡ row) where
+  nowhere_else :
+      (m c : ℕ) → Contains (mounts_where (is_child_in m c) part) row.mount → is_child_in m c row ≡ true
+  nowhere_else m c has =
+      let there = (where_every (is_child_in m c) (λ (r : MountRow). is_child_in m c r ≡ true) (λ r. (λ e. e, λ e. e)) part rises row.mount).0 has in
+      subst (λ (r : MountRow). is_child_in m c r ≡ true) (only there.0 there.1) there.2
+
+  may_leave :
+      (o : Option Position) → row.mountpoint ≡ o → (families : Families) →
+      ((m : ℕ) → children_of families m ≡ mounts_where (is_child m) part) →
+      ((m b : ℕ) → placed_at families m b ≡ mounts_where (is_child_in m b) part) → MayLeaveAt o row.mount families
+  may_leave None e families children placed = tt
+  may_leave (Some p) e families children placed = record {
+    rising = subst (λ (xs : List ℕ). IsStrictlyIncreasing xs) (sym (children p.mount)) (where_rises (is_child p.mount) part rises);
+    placed_rising = subst (λ (xs : List ℕ). IsStrictlyIncreasing xs) (sym (placed p.mount b))
+        (where_rises (is_child_in p.mount b) part rises);
+    nowhere_else = λ c has.
+        let is : is_child_in p.mount c row ≡ true =
+        nowhere_else p.mount c (subst (λ (xs : List ℕ). Contains xs row.mount) (placed p.mount c) has) in
+        let here : (b == c) ≡ true = sym (ap (is_position_in c) e) ∙ right_of_and (is_child p.mount row) (is_in_bucket c row) is in
+        sym (eqb-true b c here);
+  }
+    where
+      b : ℕ
+      b = bucket (text_of p.place)
+
+  pub may_take_out : (t : Indexes) → AreIndexed part t → MayTakeOut row t
+  may_take_out t o = record {
+    by_ns = λ n. subst (λ (xs : List ℕ). IsStrictlyIncreasing xs) (sym (o.by_ns n)) (where_rises (is_in n) part rises);
+    by_fs = rises_if_any (mounts_where (has_fs row.fs) part) (watched t.by_fs row.fs) (where_rises (has_fs row.fs) part rises) (o.by_fs.lists row.fs);
+    families = may_leave row.mountpoint refl t.families o.children o.placed;
+  }
 
 -- each of these rows is found among all
 abbrev Stand : List MountRow → List MountRow → Type 0
@@ -395,29 +600,32 @@ module _ (rows : List MountRow) (p t : MountRow → Bool) where
       go true ih = put (passes p rows r.mount) (p r) (rw (stand.0) refl) ih
       go false ih = ih
 
--- a mount at a place is in the place's bucket
+-- a mount at a place is a child in the place's bucket
 in_bucket :
     (m : ℕ) (place : List (List ℕ)) (r : MountRow) →
-    (is_in_bucket (bucket m (text_of place)) r && is_at m place r) ≡ is_at m place r
+    (is_child_in m (bucket (text_of place)) r && is_at m place r) ≡ is_at m place r
 in_bucket m place r = go (is_at m place r) refl
   where
     b : ℕ
-    b = bucket m (text_of place)
+    b = bucket (text_of place)
 
-    go : (at : Bool) → is_at m place r ≡ at → (is_in_bucket b r && is_at m place r) ≡ is_at m place r
+    go : (at : Bool) → is_at m place r ≡ at → (is_child_in m b r && is_at m place r) ≡ is_at m place r
     go true e =
         let there : r.mountpoint ≡ Some (record { mount = m; place = place }) = (at_decides m place r).0 e in
-        let own : is_in_bucket b r ≡ true = ap (is_position_in b) there ∙ eq-eqb b b refl in
+        let own : is_child_in m b r ≡ true =
+        and_of_both (is_child m r) (is_in_bucket b r)
+        (ap (is_position_on m) there ∙ eq-eqb m m refl)
+        (ap (is_position_in b) there ∙ eq-eqb b b refl) in
         ap (λ (c : Bool). c && is_at m place r) own
-    go false e = ap (λ (c : Bool). is_in_bucket b r && c) e ∙ and_false (is_in_bucket b r) ∙ sym e
+    go false e = ap (λ (c : Bool). is_child_in m b r && c) e ∙ and_false (is_child_in m b r) ∙ sym e
 
 -- the top is the last mount of the bucket that stands at the place
 pub top_in_bucket :
     (rows : List MountRow) → IsRising rows → (m : ℕ) (place : List (List ℕ)) (mounts : List ℕ) →
-    mounts ≡ mounts_where (is_in_bucket (bucket m (text_of place))) rows →
+    mounts ≡ mounts_where (is_child_in m (bucket (text_of place))) rows →
     last_of (filter (λ x. stands_at rows m place x) mounts) ≡ top_of rows m place
 top_in_bucket rows rises m place mounts e =
-    let t = is_in_bucket (bucket m (text_of place)) in
+    let t = is_child_in m (bucket (text_of place)) in
     ap (λ (xs : List ℕ). last_of (filter (λ x. stands_at rows m place x) xs)) e ∙
     ap last_of (passing rows (is_at m place) t rows (stand_all 0 rows rises)) ∙
     ap last_of (where_same (λ r. t r && is_at m place r) (is_at m place) (in_bucket m place) rows)
@@ -501,17 +709,6 @@ pub none_gone :
     filter (λ r. not (is_among (drop (length gone) gone) r.mount)) rows ≡ rows
 none_gone gone rows =
     ap (λ (ys : List ℕ). filter (λ r. not (is_among ys r.mount)) rows) (none_left gone) ∙ all_kept rows
-
--- the lists of rows that rise do so too
-pub lists_rise : (rows : List MountRow) (t : Indexes) → IsRising rows → AreIndexed rows t → AllRise t
-lists_rise rows t rises o = record {
-  by_ns = λ n. subst (λ (xs : List ℕ). IsStrictlyIncreasing xs) (sym (o.by_ns n)) (where_rises (is_in n) rows rises);
-  by_fs = λ n. subst (λ (xs : List ℕ). IsStrictlyIncreasing xs) (sym (o.by_fs n)) (where_rises (has_fs n) rows rises);
-  by_parent = λ n.
-      subst (λ (xs : List ℕ). IsStrictlyIncreasing xs) (sym (o.by_parent n)) (where_rises (is_child n) rows rises);
-  by_place = λ n.
-      subst (λ (xs : List ℕ). IsStrictlyIncreasing xs) (sym (o.by_place n)) (where_rises (is_in_bucket n) rows rises);
-}
 
 -- one more is taken back
 pub back_more :

@@ -1,7 +1,9 @@
 pub mod BlockLemmas
+pub mod FamilyLemmas
 pub mod FindLemmas
 pub mod IndexLemmas
 pub mod LeaveLemmas
 pub mod ListLemmas
 pub mod RowLemmas
 pub mod TakeLemmas
+pub mod WatchedLemmas

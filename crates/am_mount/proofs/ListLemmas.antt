@@ -1,4 +1,4 @@
--- What a write at the place of a list changes.
+-- What a write at the place of a value changes, in a map by numbers.
 use Rattle.std.proofs.Common.{◌≡◌, ◌+◌, ℕ, zero, suc, Bool, true, false, cond, not, nat_eq, List, [], ◌∷◌, length, get_or, slice_get, position, Option, Some, None, refl, sym, ap, subst, ◌∙◌, arith}
 use Rattle.std.specs.Prelude.{◌==◌, if◌then◌else◌, IfSome}
 use Rattle.std.specs.Map.{keys_of, values_of}
@@ -6,13 +6,11 @@ use Rattle.std.specs.List.{position_or_len}
 use Rattle.std.proofs.lemmas.Bool.{eqb-true}
 use Rattle.std.proofs.lemmas.Cmp.{nat_eq_equiv}
 use Rattle.std.proofs.lemmas.List.Quantifiers.{position-Some}
-use Rattle.std.proofs.lemmas.Option.{slice_get-get_or}
+use Rattle.std.specs.Option.{option_map}
+use Rattle.std.proofs.lemmas.Option.{slice_get-get_or, slice_get-map}
 use Rattle.std.proofs.lemmas.Map.Entries.{hash_map_get_place}
 use Rattle.indexmap.specs.IndexMap.{IndexMap, get, keys, values, insert_entry, set_value_at, with_value_at, IsUnique, Updates}
 use Rattle.indexmap.proofs.CallerLemmas.{keys-with_value_at, updates-with_value_at}
-use Rattle.am_mount.specs.declared.few.Few.{Few}
-use Rattle.am_mount.specs.Few.{mounts_in}
-use Rattle.am_mount.specs.Index.{listed_in}
 
 -- a number that is found stands where it is found
 pub number_found :
@@ -71,86 +69,107 @@ module _ {V : Type 0} where
           let next : 1 + place ≡ suc place = omega arith in
           ap (slice_get (e ∷ others)) next ∙ ih
 
--- maps that are the same have the same lists
-pub same_lists :
-    {S : Type 0} {m o : IndexMap ℕ Few S} → m ≡ o → (k : ℕ) →
-    listed_in (get nat_eq m k) ≡ listed_in (get nat_eq o k)
-same_lists {S} same k = ap (λ (m : IndexMap ℕ Few S). listed_in (get nat_eq m k)) same
+-- what is put in, at the place that it has
+module _ {V : Type 0} (n : ℕ) (w : V) (es new : List (ℕ × V)) (place : ℕ)
+    (entries : new ≡ insert_entry nat_eq es n w)
+    (index : place ≡ position_or_len (nat_eq n) (keys_of es)) where
+  put_there : slice_get new place ≡ Some (n, w)
+  put_there =
+      ap (λ (es : List (ℕ × V)). slice_get es place) entries ∙ ap (slice_get _) index ∙
+      entry_put n w es
 
--- the list of the number stands at the place
-module _ {S : Type 0} (m : IndexMap ℕ Few S) (unique : IsUnique nat_eq m) (i n : ℕ)
-    (list : Few) (key : slice_get (keys m) i ≡ Some n)
-    (value : slice_get (values m) i ≡ Some list) where
-  here : slice_get m.entries i ≡ Some (n, list)
-  here = entry_of m.entries i n list key value
+  -- its number stands there
+  pub key_put : slice_get (keys_of new) place ≡ Some n
+  key_put =
+      slice_get-map (λ (e : ℕ × V). e.0) new place ∙
+      ap (option_map (λ (e : ℕ × V). e.0)) put_there
 
-  -- the lists as they are
-  abbrev before : ℕ → List ℕ
-  before k = listed_in (get nat_eq m k)
+  -- and its value
+  pub value_put : slice_get (values_of new) place ≡ Some w
+  value_put =
+      slice_get-map (λ (e : ℕ × V). e.1) new place ∙
+      ap (option_map (λ (e : ℕ × V). e.1)) put_there
 
-  -- the lists, once the one at the place is this
-  abbrev after : Few → ℕ → List ℕ
-  after w k = listed_in (get nat_eq (with_value_at m i w) k)
+-- what is seen of a value that was looked up
+module _ {V X S : Type 0} (view : Option V → X) where
+  -- in maps that are the same the same is seen
+  pub same_views :
+      {m o : IndexMap ℕ V S} → m ≡ o → (k : ℕ) → view (get nat_eq m k) ≡ view (get nat_eq o k)
+  same_views same k = ap (λ (m : IndexMap ℕ V S). view (get nat_eq m k)) same
 
-  -- the number has the list at the place
-  pub stood : listed_in (get nat_eq m n) ≡ mounts_in list
-  stood = ap listed_in (hash_map_get_place nat_eq_equiv m i n list unique here)
+  -- the value of the number stands at the place
+  module _ (m : IndexMap ℕ V S) (unique : IsUnique nat_eq m) (i n : ℕ) (v : V)
+      (key : slice_get (keys m) i ≡ Some n) (value : slice_get (values m) i ≡ Some v) where
+    here : slice_get m.entries i ≡ Some (n, v)
+    here = entry_of m.entries i n v key value
 
-  -- what is done to the list at the place is done to that of the number
-  pub changed :
-      (f : List ℕ → List ℕ) (w : Few) → mounts_in w ≡ f (mounts_in list) → (k : ℕ) →
-      listed_in (get nat_eq (with_value_at m i w) k) ≡
-      (if nat_eq n k then f (listed_in (get nat_eq m k)) else listed_in (get nat_eq m k))
-  changed f w e k =
-      let written = updates-with_value_at m i w nat_eq_equiv unique n list here in
-      ap listed_in (written.0 k) ∙ go (nat_eq n k) refl
-    where
-      go :
-          (b : Bool) → nat_eq n k ≡ b →
-          listed_in (cond b (Some w) (get nat_eq m k)) ≡ cond b (f (before k)) (before k)
-      go true same =
-          e ∙ ap f (sym (subst (λ (x : ℕ). before x ≡ mounts_in list) (eqb-true n k same) stood))
-      go false other = refl
+    -- what is seen, as it is
+    abbrev before : ℕ → X
+    before k = view (get nat_eq m k)
 
-  -- a list that keeps its mounts changes no list
-  pub kept :
-      (w : Few) → mounts_in w ≡ mounts_in list → (k : ℕ) →
-      listed_in (get nat_eq (with_value_at m i w) k) ≡ listed_in (get nat_eq m k)
-  kept w e k = changed (λ (xs : List ℕ). xs) w e k ∙ go (nat_eq n k)
-    where
-      go : (b : Bool) → cond b (before k) (before k) ≡ before k
-      go true = refl
-      go false = refl
+    -- what is seen, once the value at the place is this
+    abbrev after : V → ℕ → X
+    after w k = view (get nat_eq (with_value_at m i w) k)
 
-  -- a list without mounts that goes changes no list
-  pub tidied :
-      (w : Few) → mounts_in w ≡ [] →
-      (gone : Option (ℕ × Few)) (new : IndexMap ℕ Few S) →
-      gone ≡ slice_get (with_value_at m i w).entries i →
-      IfSome gone (λ e. Updates nat_eq (with_value_at m i w) new e.0 None) → (k : ℕ) →
-      listed_in (get nat_eq new k) ≡ listed_in (get nat_eq (with_value_at m i w) k)
-  tidied w none gone new e updates k = ap listed_in (less.0 k) ∙ go (nat_eq n k) refl
-    where
-      key_there : slice_get (keys (with_value_at m i w)) i ≡ Some n
-      key_there = ap (λ (ks : List ℕ). slice_get ks i) (keys-with_value_at m i w) ∙ key
+    -- the number has the value at the place
+    pub stood : view (get nat_eq m n) ≡ view (Some v)
+    stood = ap view (hash_map_get_place nat_eq_equiv m i n v unique here)
 
-      there : gone ≡ Some (n, w)
-      there =
-          e ∙
-          entry_of (with_value_at m i w).entries i n w key_there
-          (value_set m.entries i list w value)
+    -- what is done to the value at the place is done to that of the number
+    pub changed :
+        (f : X → X) (w : V) → view (Some w) ≡ f (view (Some v)) → (k : ℕ) →
+        view (get nat_eq (with_value_at m i w) k) ≡
+        (if nat_eq n k then f (view (get nat_eq m k)) else view (get nat_eq m k))
+    changed f w e k =
+        let written = updates-with_value_at m i w nat_eq_equiv unique n v here in
+        ap view (written.0 k) ∙ go (nat_eq n k) refl
+      where
+        go :
+            (b : Bool) → nat_eq n k ≡ b →
+            view (cond b (Some w) (get nat_eq m k)) ≡ cond b (f (before k)) (before k)
+        go true same =
+            e ∙ ap f (sym (subst (λ (x : ℕ). before x ≡ view (Some v)) (eqb-true n k same) stood))
+        go false other = refl
 
-      IsLess : Option (ℕ × Few) → Type 0
-      IsLess o = IfSome o (λ p. Updates nat_eq (with_value_at m i w) new p.0 None)
+    -- a value of which the same is seen changes nothing
+    pub kept :
+        (w : V) → view (Some w) ≡ view (Some v) → (k : ℕ) →
+        view (get nat_eq (with_value_at m i w) k) ≡ view (get nat_eq m k)
+    kept w e k = changed (λ (x : X). x) w e k ∙ go (nat_eq n k)
+      where
+        go : (b : Bool) → cond b (before k) (before k) ≡ before k
+        go true = refl
+        go false = refl
 
-      less : Updates nat_eq (with_value_at m i w) new n None
-      less = subst IsLess there updates
+    -- a value of which nothing is seen goes, and changes nothing
+    pub tidied :
+        (w : V) → view (Some w) ≡ view None →
+        (gone : Option (ℕ × V)) (new : IndexMap ℕ V S) →
+        gone ≡ slice_get (with_value_at m i w).entries i →
+        IfSome gone (λ e. Updates nat_eq (with_value_at m i w) new e.0 None) → (k : ℕ) →
+        view (get nat_eq new k) ≡ view (get nat_eq (with_value_at m i w) k)
+    tidied w none gone new e updates k = ap view (less.0 k) ∙ go (nat_eq n k) refl
+      where
+        key_there : slice_get (keys (with_value_at m i w)) i ≡ Some n
+        key_there = ap (λ (ks : List ℕ). slice_get ks i) (keys-with_value_at m i w) ∙ key
 
-      own : after w k ≡ cond (nat_eq n k) [] (before k)
-      own = changed (λ (xs : List ℕ). []) w none k
+        there : gone ≡ Some (n, w)
+        there =
+            e ∙
+            entry_of (with_value_at m i w).entries i n w key_there
+            (value_set m.entries i v w value)
 
-      go :
-          (b : Bool) → nat_eq n k ≡ b →
-          listed_in (cond b None (get nat_eq (with_value_at m i w) k)) ≡ after w k
-      go true same = sym (own ∙ ap (λ (c : Bool). cond c [] (before k)) same)
-      go false other = refl
+        IsLess : Option (ℕ × V) → Type 0
+        IsLess o = IfSome o (λ p. Updates nat_eq (with_value_at m i w) new p.0 None)
+
+        less : Updates nat_eq (with_value_at m i w) new n None
+        less = subst IsLess there updates
+
+        own : after w k ≡ cond (nat_eq n k) (view None) (before k)
+        own = changed (λ (x : X). view None) w none k
+
+        go :
+            (b : Bool) → nat_eq n k ≡ b →
+            view (cond b None (get nat_eq (with_value_at m i w) k)) ≡ after w k
+        go true same = sym (own ∙ ap (λ (c : Bool). cond c (view None) (before k)) same)
+        go false other = refl

@@ -1,7 +1,7 @@
 -- What a tree keeps inside.
 use Rattle.am_mount.specs.declared.tree.Tree.TheInside.{Inside}
 use Rattle.am_mount.specs.Rows.{IsRising}
-use Rattle.am_mount.specs.Index.{AreIndexed}
+use Rattle.am_mount.specs.Indexed.{AreIndexed}
 
 -- the rows rise, and are indexed
 pub record IsOrdered (t : Inside) : Type 0 where

@@ -51,7 +51,7 @@ fn take_out_by_halves(mounts: &mut Rows<MountId>, mount: MountId)
 }
 
 /// Takes the mount out of a list that rises, at whose end the newest stands.
-fn take_out(mounts: &mut Rows<MountId>, mount: MountId)
+pub fn take_out(mounts: &mut Rows<MountId>, mount: MountId)
     requires { IsStrictlyIncreasing mounts.old.rows }
     ensures { mounts.new.rows ≡ but mount mounts.old.rows }
 {

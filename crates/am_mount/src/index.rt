@@ -42,19 +42,47 @@ impl Index {
         }
     }
 
-    /// Whether the list that was looked up last is that of the number.
-    fn is_latest(&self, number: u64) -> bool
-        ensures unique { IsUnique nat_eq self.now.lists }
-        ensures there { OnTrue result (number_at self.now self.now.latest ≡ Some number) }
+    /// Whether no mount is listed.
+    pub fn is_empty(&self) -> bool
+        ensures { OnTrue result ((n : ℕ) → listed self.now n ≡ []) }
     {
-        match self.lists.as_slice().get_index(self.latest) {
+        self.lists.is_empty()
+    }
+
+    /// Whether the number's list stands at this place.
+    fn is_at(&self, place: usize, number: u64) -> bool
+        ensures unique { IsUnique nat_eq self.now.lists }
+        ensures there { OnTrue result (number_at self.now place ≡ Some number) }
+    {
+        match self.lists.as_slice().get_index(place) {
             Some((key, _list)) => *key == number,
             None => false,
         }
     }
 
-    /// The place of the number's list, if it has one. That of the list that was looked up last is
-    /// tried first.
+    /// A place near that of the list that was looked up last, at which the number's list stands:
+    /// lists that begin one after another are looked up so mostly.
+    fn place_nearby(&self, number: u64) -> Option<usize>
+        ensures unique { IfSome result (λ place. IsUnique nat_eq self.now.lists) }
+        ensures there { IfSome result (λ place. number_at self.now place ≡ Some number) }
+    {
+        let here = self.latest;
+        if self.is_at(here, number) {
+            return Some(here);
+        }
+        let before = here.wrapping_sub(1);
+        if self.is_at(before, number) {
+            return Some(before);
+        }
+        let behind = here.wrapping_add(1);
+        if self.is_at(behind, number) {
+            return Some(behind);
+        }
+        None
+    }
+
+    /// The place of the number's list, if it has one. Those near the list that was looked up last
+    /// are tried first.
     fn place_of(&mut self, number: u64) -> Option<usize>
         ensures lists { self.new.lists ≡ self.old.lists }
         ensures unique { IsUnique nat_eq self.new.lists }
@@ -62,8 +90,9 @@ impl Index {
         ensures there { IfSome result (λ place. number_at self.new place ≡ Some number) }
         ensures none { IfNone result (listed self.new number ≡ []) }
     {
-        if self.is_latest(number) {
-            return Some(self.latest);
+        if let Some(place) = self.place_nearby(number) {
+            self.latest = place;
+            return Some(place);
         }
         let place = self.lists.get_index_of(&number)?;
         self.latest = place;

@@ -1,35 +1,38 @@
-//! The rows by namespace, by file system, by parent and by place.
+//! The rows by namespace, by watched file system, by parent and by place.
 
 ghost use Rattle.std.specs.Prelude.{◌≡◌, [], IfOk};
-ghost use Rattle.am_mount.specs.Index.{HaveSameLists, HaveRoom, RoomAt, AreWith, AreWithout, AreIndexed, AllRise};
+ghost use Rattle.am_mount.specs.Indexed.{AreIndexed, AreWith, AreWithout, HaveRoom, HaveSameLists, MayTakeOut, RoomAt};
+ghost use Rattle.am_mount.specs.Watched.{SameWatched, Watches};
 
-use crate::buckets::bucket_at;
+use crate::families::{Families, Spot};
 use crate::index::Index;
-use am_names::{MountRow, Position};
+use crate::watched::Watched;
+use am_names::{FsId, MountRow, Position, bucket};
 use std::alloc::{AllocError, Global};
 
-/// Which mounts are in a namespace, show a file system, are on a parent, and at places of a bucket.
+/// Which mounts are in a namespace, show a file system that is watched, are on a parent, and at
+/// places of a bucket of it.
 #[derive(Drop)]
 pub struct Indexes {
     pub by_ns: Index,
-    pub by_fs: Index,
-    pub by_parent: Index,
-    pub by_place: Index,
+    pub by_fs: Watched,
+    pub families: Families,
 }
 
-/// Where the lists of a mount that is mounted somewhere stand.
+/// Where there is room for a mount that is mounted somewhere.
 #[derive(Clone, Copy)]
-pub struct PlacesAt {
-    pub by_parent: usize,
-    pub by_place: usize,
+pub struct Mounted {
+    /// The bucket of its place.
+    pub bucket: u64,
+    pub spot: Spot,
 }
 
-/// Where the lists of a row stand.
+/// Where there is room for a row.
 #[derive(Clone, Copy)]
 pub struct Places {
     pub by_ns: usize,
-    pub by_fs: usize,
-    pub mounted: Option<PlacesAt>,
+    pub by_fs: Option<usize>,
+    pub mounted: Option<Mounted>,
 }
 
 impl Indexes {
@@ -39,31 +42,33 @@ impl Indexes {
     {
         Indexes {
             by_ns: Index::new(alloc),
-            by_fs: Index::new(alloc),
-            by_parent: Index::new(alloc),
-            by_place: Index::new(alloc),
+            by_fs: Watched::new(alloc),
+            families: Families::new(alloc),
         }
     }
 
+    /// Watches a file system of which there was no mount yet. Of another nothing comes.
+    pub fn watch(&mut self, fs: FsId) -> Result<(), AllocError>
+        ensures by_ns { self.new.by_ns ≡ self.old.by_ns }
+        ensures by_fs { Watches self.old.by_fs self.new.by_fs }
+        ensures families { self.new.families ≡ self.old.families }
+    {
+        self.by_fs.watch(fs.0 as u64)
+    }
+
     /// Makes room for a mount that is mounted here, if it is mounted anywhere.
-    fn make_room_at(
-        &mut self,
-        mountpoint: &Option<Position>,
-    ) -> Result<Option<PlacesAt>, AllocError>
+    fn make_room_at(&mut self, mountpoint: &Option<Position>) -> Result<Option<Mounted>, AllocError>
         ensures same { HaveSameLists self.old self.new }
         ensures by_ns { self.new.by_ns ≡ self.old.by_ns }
         ensures by_fs { self.new.by_fs ≡ self.old.by_fs }
-        ensures ok { IfOk result (λ places. RoomAt mountpoint.now places self.new) }
+        ensures ok { IfOk result (λ mounted. RoomAt mountpoint.now mounted self.new) }
     {
         let Some(position) = mountpoint else {
             return Ok(None);
         };
-        let by_parent = self.by_parent.make_room(position.mount.0)?;
-        let by_place = self.by_place.make_room(bucket_at(position))?;
-        Ok(Some(PlacesAt {
-            by_parent,
-            by_place,
-        }))
+        let bucket = bucket(position.place.text());
+        let spot = self.families.make_room(position.mount.0, bucket)?;
+        Ok(Some(Mounted { bucket, spot }))
     }
 
     /// Makes room for the row. The answer tells where.
@@ -87,23 +92,22 @@ impl Indexes {
         ensures { AreWith row.now self.old self.new }
     {
         self.by_ns.add(places.by_ns, row.mount);
-        self.by_fs.add(places.by_fs, row.mount);
+        self.by_fs.add(row.fs.0, places.by_fs, row.mount);
         if let Some(at) = places.mounted {
-            self.by_parent.add(at.by_parent, row.mount);
-            self.by_place.add(at.by_place, row.mount);
+            self.families.add(at.spot, at.bucket, row.mount);
         }
     }
 
     /// Takes the row out.
     pub fn remove(&mut self, row: &MountRow)
-        requires { AllRise self.old }
+        requires { MayTakeOut row.now self.old }
         ensures { AreWithout row.now self.old self.new }
     {
         self.by_ns.remove(row.ns.0 as u64, row.mount);
         self.by_fs.remove(row.fs.0 as u64, row.mount);
         if let Some(position) = &row.mountpoint {
-            self.by_parent.remove(position.mount.0, row.mount);
-            self.by_place.remove(bucket_at(position), row.mount);
+            let bucket = bucket(position.place.text());
+            self.families.remove(position.mount.0, bucket, row.mount);
         }
     }
 }

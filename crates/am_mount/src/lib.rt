@@ -2,10 +2,12 @@
 #![tactic(auto)]
 
 mod among;
-mod buckets;
+mod families;
+mod family;
 mod few;
 mod index;
 mod indexes;
 pub mod tree;
+mod watched;
 
 pub use tree::Tree;

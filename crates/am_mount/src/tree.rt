@@ -8,13 +8,12 @@ ghost use Rattle.std.specs.Option.{option_copied};
 ghost use Rattle.std.specs.List.{list_any};
 ghost use Rattle.am_names.specs.{IsCanonical, names_of, is_among};
 ghost use Rattle.am_mount.specs.Found.{stands_at, stands_alone};
-ghost use Rattle.am_mount.specs.Index.{AreIndexed};
+ghost use Rattle.am_mount.specs.Indexed.{AreIndexed};
 ghost use Rattle.am_mount.specs.Rows.{last_of, IsRising, next_of, mount_row, mounts_where, is_in, is_child, has_fs, is_at, top_of, root_of, HasRow, IsIn, IsOn, IsTop, HasNoMountAt};
 
 use crate::among::leave_out;
-use crate::buckets::bucket;
 use crate::indexes::Indexes;
-use am_names::{FsId, MountId, MountRow, NsId};
+use am_names::{FsId, MountId, MountRow, NsId, bucket};
 use am_ordered::Rows;
 use std::alloc::{AllocError, Global};
 use std::marker::Model;
@@ -339,7 +338,7 @@ impl Tree {
         ensures greatest { IfSome result (IsTop self.now mount (names_of place.now)) }
         ensures free { IfNone result (HasNoMountAt self.now mount (names_of place.now)) }
     {
-        let mounts = self.indexes.by_place.list(bucket(mount, place));
+        let mounts = self.indexes.families.list_at(mount.0, bucket(place));
         last_at(self.rows.as_slice(), mount, place, mounts)
     }
 
@@ -354,7 +353,7 @@ impl Tree {
     pub fn has_children(&self, mount: MountId) -> bool
         ensures { result ≡ list_any (is_child mount) self.now }
     {
-        !self.indexes.by_parent.list(mount.0).is_empty()
+        !self.indexes.families.list(mount.0).is_empty()
     }
 
     /// Whether the namespace has mounts.
@@ -368,12 +367,20 @@ impl Tree {
     pub fn mounts_on(&self, mount: MountId) -> &[MountId]
         ensures { result.now ≡ mounts_where (is_child mount) self.now }
     {
-        self.indexes.by_parent.list(mount.0)
+        self.indexes.families.list(mount.0)
     }
 
-    /// The mounts that show the file system, in rising order.
-    pub fn mounts_with(&self, fs: FsId) -> &[MountId]
-        ensures { result.now ≡ mounts_where (has_fs fs) self.now }
+    /// Watches a file system of which there was no mount yet: `mounts_with` knows its mounts from
+    /// now on. Of another nothing comes.
+    pub fn watch(&mut self, fs: FsId) -> Result<(), AllocError>
+        ensures { self.new ≡ self.old }
+    {
+        self.indexes.watch(fs)
+    }
+
+    /// The mounts that show the file system, in rising order, if it is watched.
+    pub fn mounts_with(&self, fs: FsId) -> Option<&[MountId]>
+        ensures { IfSome result (λ mounts. mounts.now ≡ mounts_where (has_fs fs) self.now) }
     {
         self.indexes.by_fs.list(fs.0 as u64)
     }
@@ -385,7 +392,7 @@ impl Tree {
             Contains v.items m ↔ HasRow (IsOn mount) self.now m) }
         ensures rising { IfOk result (λ v. IsStrictlyIncreasing v.items) }
     {
-        Vec::from_slice(alloc, self.indexes.by_parent.list(mount.0))
+        Vec::from_slice(alloc, self.indexes.families.list(mount.0))
     }
 
     /// The mounts of the namespace.

@@ -1,9 +1,9 @@
-use Rattle.std.proofs.Common.{◌≤◌, ◌<◌, ◌-◌, Bool, List, length, drop, sym, ap, subst, ◌∙◌, arith}
+use Rattle.std.proofs.Common.{◌≡◌, ◌≤◌, ◌<◌, ◌-◌, Bool, List, length, drop, Some, sym, ap, subst, ◌∙◌, arith}
 use Rattle.std.specs.Prelude.{filter, not}
 use Rattle.std.specs.Option.{option_copied}
 use Rattle.am_names.specs.{MountRow, is_among}
-use Rattle.am_mount.specs.{AreIndexed}
-use Rattle.am_mount.proofs.IndexLemmas.{none_gone, gone_earlier, indexed_none, indexed_less, lists_rise}
+use Rattle.am_mount.specs.{AreIndexed, mount_row}
+use Rattle.am_mount.proofs.IndexLemmas.{none_gone, gone_earlier, indexed_none, indexed_less, may_take_out, only_kept}
 use Rattle.am_mount.proofs.RowLemmas.{RiseFrom-filter}
 use Rattle.am_mount.proofs.tree.unlist.Goals as goal
 
@@ -16,9 +16,14 @@ loop-left-init c = (
 
 pub remove-requires : goal.remove-requires
 remove-requires c =
+    let rows = c.args.rows.now in
     let keeps : MountRow → Bool = λ row. not (is_among (drop c.loop-left.left c.args.gone.now) row.mount) in
-    lists_rise (filter keeps c.args.rows.now) c.loop-left.indexes
-    (RiseFrom-filter keeps 0 c.args.rows.now c.requires.rising) c.loop-left.invariant.1
+    let mount = c.index-gone-left.result in
+    let found : mount_row rows mount ≡ Some c.in-Some.row.now =
+    sym c.mount_row.ensures ∙ ap option_copied c.in-Some.is in
+    may_take_out (filter keeps rows) (RiseFrom-filter keeps 0 rows c.requires.rising) c.in-Some.row.now
+    (only_kept keeps rows c.requires.rising mount c.in-Some.row.now found) c.loop-left.indexes
+    c.loop-left.invariant.1
 
 pub loop-left-preserved-in-Some : goal.loop-left-preserved-in-Some
 loop-left-preserved-in-Some c =

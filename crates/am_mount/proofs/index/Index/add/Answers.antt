@@ -1,5 +1,6 @@
 use Rattle.std.proofs.Common.{◌≡◌, ◌∷◌, ◌++◌, [], slice_get, Some, sym}
 use Rattle.indexmap.specs.IndexMap.{values}
+use Rattle.am_mount.specs.Index.{listed_in}
 use Rattle.am_mount.proofs.ListLemmas.{changed}
 use Rattle.am_mount.proofs.index.Index.add.Goals as goal
 
@@ -9,5 +10,5 @@ returns-in-Some c =
     let here : slice_get (values lists) c.args.place ≡ Some c.in-Some.list.now =
     sym c.in-Some.ensures.value in
     λ n stands.
-    changed lists c.in-Some.ensures.unique c.args.place n c.in-Some.list.now stands here
+    changed listed_in lists c.in-Some.ensures.unique c.args.place n c.in-Some.list.now stands here
     (λ mounts. mounts ++ c.args.mount ∷ []) c.push_reserved.new.self c.push_reserved.ensures

@@ -11,7 +11,7 @@ pub returns-clause-exact : goal.returns-clause-exact
 returns-clause-exact c =
     let rows = c.args.self.now in
     let listed : c.list.result.now ≡ mounts_where (is_child c.args.mount) rows =
-    c.list.ensures ∙ c.self.invariant.indexed.by_parent c.mount.inside.0 ∙
+    c.list.ensures ∙ c.self.invariant.indexed.children c.mount.inside.0 ∙
     ap (λ (n : ℕ). mounts_where (is_child n) c.self.inside.rows.rows) c.mount.view_is ∙
     ap (mounts_where (is_child c.args.mount)) c.self.view_is in
     ok_copy (λ ys. ys ≡ mounts_where (is_child c.args.mount) rows) c.list.result.now c.from_slice.result
@@ -22,7 +22,7 @@ pub returns-clause-every : goal.returns-clause-every
 returns-clause-every c =
     let rows = c.args.self.now in
     let listed : c.list.result.now ≡ mounts_where (is_child c.args.mount) rows =
-    c.list.ensures ∙ c.self.invariant.indexed.by_parent c.mount.inside.0 ∙
+    c.list.ensures ∙ c.self.invariant.indexed.children c.mount.inside.0 ∙
     ap (λ (n : ℕ). mounts_where (is_child n) c.self.inside.rows.rows) c.mount.view_is ∙
     ap (mounts_where (is_child c.args.mount)) c.self.view_is in
     let rises : IsRising rows = subst (λ (xs : List MountRow). IsRising xs) c.self.view_is c.self.invariant.rising in
@@ -34,7 +34,7 @@ pub returns-clause-rising : goal.returns-clause-rising
 returns-clause-rising c =
     let rows = c.args.self.now in
     let listed : c.list.result.now ≡ mounts_where (is_child c.args.mount) rows =
-    c.list.ensures ∙ c.self.invariant.indexed.by_parent c.mount.inside.0 ∙
+    c.list.ensures ∙ c.self.invariant.indexed.children c.mount.inside.0 ∙
     ap (λ (n : ℕ). mounts_where (is_child n) c.self.inside.rows.rows) c.mount.view_is ∙
     ap (mounts_where (is_child c.args.mount)) c.self.view_is in
     let rises : IsRising rows = subst (λ (xs : List MountRow). IsRising xs) c.self.view_is c.self.invariant.rising in

@@ -2,7 +2,7 @@ use Rattle.std.proofs.Common.{◌≡◌, List, [], ◌∷◌, ◌++◌, Option, 
 use Rattle.std.specs.Option.{option_to_list}
 use Rattle.am_names.specs.{MountRow}
 use Rattle.am_mount.specs.{AreIndexed, IsRising}
-use Rattle.am_mount.proofs.IndexLemmas.{indexed_back, lists_rise}
+use Rattle.am_mount.proofs.IndexLemmas.{indexed_back, may_take_out, only_last}
 use Rattle.am_mount.proofs.RowLemmas.{RiseFrom-take}
 use Rattle.am_mount.proofs.tree.Tree.take_one_back.Goals as goal
 
@@ -36,4 +36,11 @@ invariant_of-self-in-Some-2 c =
 
 pub remove-requires : goal.remove-requires
 remove-requires c =
-    lists_rise c.self.inside.rows.rows c.self.inside.indexes c.self.invariant.rising c.self.invariant.indexed
+    let row = c.in-Some.row in
+    let all : c.self.inside.rows.rows ≡ c.pop.new.self.rows ++ row ∷ [] =
+    c.pop.ensures.rows ∙ ap (λ (o : Option MountRow). c.pop.new.self.rows ++ option_to_list o) c.in-Some.is in
+    let rises : IsRising (c.pop.new.self.rows ++ row ∷ []) =
+    subst (λ (rows : List MountRow). IsRising rows) all c.self.invariant.rising in
+    may_take_out (c.pop.new.self.rows ++ row ∷ []) rises row (only_last c.pop.new.self.rows row rises)
+    c.self.inside.indexes
+    (subst (λ (rows : List MountRow). AreIndexed rows c.self.inside.indexes) all c.self.invariant.indexed)

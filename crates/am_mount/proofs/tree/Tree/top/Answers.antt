@@ -1,7 +1,7 @@
 use Rattle.std.proofs.Common.{◌≡◌, ℕ, List, Option, sym, ap, subst, ◌∙◌}
 use Rattle.std.specs.Prelude.{filter}
-use Rattle.am_names.specs.{names_of, text_of, MountRow}
-use Rattle.am_mount.specs.{bucket, is_in_bucket, stands_at, IsRising, mounts_where, last_of, top_of}
+use Rattle.am_names.specs.{bucket, names_of, text_of, MountRow}
+use Rattle.am_mount.specs.{is_child_in, stands_at, IsRising, mounts_where, last_of, top_of}
 use Rattle.am_mount.proofs.IndexLemmas.{top_in_bucket}
 use Rattle.am_mount.proofs.RowLemmas.{IsTopOf, top_is, some_greatest, none_free}
 use Rattle.am_mount.proofs.tree.Tree.top.Goals as goal
@@ -11,10 +11,11 @@ returns-clause-exact c =
     let rows = c.self.inside.rows.rows in
     let place = names_of c.args.place.now in
     let mount = c.args.mount in
-    let mounts = c.list-mounts.result.now in
-    let own : mounts ≡ mounts_where (is_in_bucket (bucket mount (text_of place))) rows =
-    c.list-mounts.ensures ∙ c.self.invariant.indexed.by_place c.bucket.result ∙
-    ap (λ (b : ℕ). mounts_where (is_in_bucket b) rows) (c.bucket.ensures ∙ ap (bucket mount) c.requires.spelled) in
+    let mounts = c.list_at-mounts.result.now in
+    let own : mounts ≡ mounts_where (is_child_in mount (bucket (text_of place))) rows =
+    c.list_at-mounts.ensures ∙ c.self.invariant.indexed.placed c.mount.inside.0 c.bucket.result ∙
+    ap (λ (n : ℕ). mounts_where (is_child_in n c.bucket.result) rows) c.mount.view_is ∙
+    ap (λ (b : ℕ). mounts_where (is_child_in mount b) rows) (c.bucket.ensures ∙ ap bucket c.requires.spelled) in
     let top : c.last_at.result ≡ top_of rows mount place =
     c.last_at.ensures ∙
     ap (λ (xs : List MountRow). last_of (filter (λ m. stands_at xs mount place m) mounts)) c.as_slice.ensures.value ∙
@@ -28,10 +29,11 @@ returns-clause-greatest c =
     let rows = c.self.inside.rows.rows in
     let place = names_of c.args.place.now in
     let mount = c.args.mount in
-    let mounts = c.list-mounts.result.now in
-    let own : mounts ≡ mounts_where (is_in_bucket (bucket mount (text_of place))) rows =
-    c.list-mounts.ensures ∙ c.self.invariant.indexed.by_place c.bucket.result ∙
-    ap (λ (b : ℕ). mounts_where (is_in_bucket b) rows) (c.bucket.ensures ∙ ap (bucket mount) c.requires.spelled) in
+    let mounts = c.list_at-mounts.result.now in
+    let own : mounts ≡ mounts_where (is_child_in mount (bucket (text_of place))) rows =
+    c.list_at-mounts.ensures ∙ c.self.invariant.indexed.placed c.mount.inside.0 c.bucket.result ∙
+    ap (λ (n : ℕ). mounts_where (is_child_in n c.bucket.result) rows) c.mount.view_is ∙
+    ap (λ (b : ℕ). mounts_where (is_child_in mount b) rows) (c.bucket.ensures ∙ ap bucket c.requires.spelled) in
     let top : c.last_at.result ≡ top_of rows mount place =
     c.last_at.ensures ∙
     ap (λ (xs : List MountRow). last_of (filter (λ m. stands_at xs mount place m) mounts)) c.as_slice.ensures.value ∙
@@ -48,10 +50,11 @@ returns-clause-free c =
     let rows = c.self.inside.rows.rows in
     let place = names_of c.args.place.now in
     let mount = c.args.mount in
-    let mounts = c.list-mounts.result.now in
-    let own : mounts ≡ mounts_where (is_in_bucket (bucket mount (text_of place))) rows =
-    c.list-mounts.ensures ∙ c.self.invariant.indexed.by_place c.bucket.result ∙
-    ap (λ (b : ℕ). mounts_where (is_in_bucket b) rows) (c.bucket.ensures ∙ ap (bucket mount) c.requires.spelled) in
+    let mounts = c.list_at-mounts.result.now in
+    let own : mounts ≡ mounts_where (is_child_in mount (bucket (text_of place))) rows =
+    c.list_at-mounts.ensures ∙ c.self.invariant.indexed.placed c.mount.inside.0 c.bucket.result ∙
+    ap (λ (n : ℕ). mounts_where (is_child_in n c.bucket.result) rows) c.mount.view_is ∙
+    ap (λ (b : ℕ). mounts_where (is_child_in mount b) rows) (c.bucket.ensures ∙ ap bucket c.requires.spelled) in
     let top : c.last_at.result ≡ top_of rows mount place =
     c.last_at.ensures ∙
     ap (λ (xs : List MountRow). last_of (filter (λ m. stands_at xs mount place m) mounts)) c.as_slice.ensures.value ∙
