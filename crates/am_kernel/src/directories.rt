@@ -2,13 +2,14 @@
 
 ghost use Rattle.std.specs.Prelude.{◌≡◌, OnOk, OnErr};
 ghost use Rattle.am_names.specs.{RefusedAs, RefusedOnlyAs, IsCanonical, names_of};
+ghost use Rattle.am_mount.specs.{has_fs, mounts_where};
 ghost use Rattle.am_trigger.specs.{place_of};
 ghost use Rattle.am_kernel.specs.Directories.{is_indirect, mkdir_refusal, with_directory, is_any_mounted_on, is_mountpoint, rmdir_refusal, without_directory};
 
 use crate::kernel::Kernel;
 use crate::table::{refuse, table};
 use am_mount::Tree;
-use am_names::{Attach, Errno, MountId, Name, Place, Trigger};
+use am_names::{Attach, Errno, FsId, MountId, Name, Place, Trigger};
 use am_trigger::place_of;
 use std::alloc::Global;
 
@@ -21,6 +22,17 @@ fn is_any_mounted_on(tree: &Tree, mounts: &[MountId], place: &[u8]) -> bool
         .iter()
         .copied()
         .any(|mount| tree.top(mount, place).is_some())
+}
+
+/// Whether something is mounted at this place of a mount of this file system.
+fn is_any_mounted_with(tree: &Tree, fs: FsId, place: &[u8]) -> bool
+    requires { IsCanonical place.now }
+    ensures { result ≡
+        is_any_mounted_on tree.now (names_of place.now) (mounts_where (has_fs fs) tree.now) }
+{
+    tree.rows()
+        .iter()
+        .any(|row| row.fs == fs && tree.top(row.mount, place).is_some())
 }
 
 impl Kernel {
@@ -52,7 +64,10 @@ impl Kernel {
         ensures { result ≡ is_mountpoint self.now trigger.now }
     {
         let tree = self.subtree.tree();
-        is_any_mounted_on(tree, tree.mounts_with(trigger.fs), place)
+        match tree.mounts_with(trigger.fs) {
+            Some(mounts) => is_any_mounted_on(tree, mounts, place),
+            None => is_any_mounted_with(tree, trigger.fs, place),
+        }
     }
 
     /// Removes a directory on which nothing is mounted.

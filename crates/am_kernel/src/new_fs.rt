@@ -110,6 +110,7 @@ impl Kernel {
         let attach = Attach(self.last_attach + 1);
         self.triggers.reserve_fs()?;
         self.attached.reserve()?;
+        self.subtree.watch(fs)?;
         let mount = mount_fs(&mut self.subtree, alloc, at, fs, seen)?;
         self.triggers.add_fs_reserved(fs, direct, mount);
         self.attached.push_reserved(Attached {

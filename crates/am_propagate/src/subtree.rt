@@ -107,6 +107,14 @@ impl Subtree {
         Ok(())
     }
 
+    /// Watches a file system of which there was no mount yet: `mounts_with` of the tree knows its
+    /// mounts from now on. Of another nothing comes.
+    pub fn watch(&mut self, fs: FsId) -> Result<(), AllocError>
+        ensures { self.new ≡ self.old }
+    {
+        self.tree.watch(fs)
+    }
+
     fn is_mount(&self, mount: MountId) -> bool
         ensures { result ≡ is_mount self.now mount }
     {
