@@ -4,3 +4,4 @@ pub mod JobTableLemmas
 pub mod DeliveryLemmas
 pub mod OnceLemmas
 pub mod ByFsLemmas
+pub mod KnownLemmas

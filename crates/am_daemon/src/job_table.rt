@@ -210,9 +210,7 @@ impl JobTable {
     fn place_of(&self, job: JobId) -> Option<usize>
         ensures { result ≡ position (λ row. row.token == job) self.now.rows }
     {
-        let Some(turn) = turn_of(&self.turns, job) else {
-            return None;
-        };
+        let turn = turn_of(&self.turns, job)?;
         place_of(self.as_slice(), &self.turns, job, turn)
     }
 
@@ -220,9 +218,7 @@ impl JobTable {
     pub fn get(&self, job: JobId) -> Option<&Job>
         ensures { option_copied result ≡ find (λ row. row.token == job) self.now.rows }
     {
-        let Some(place) = self.place_of(job) else {
-            return None;
-        };
+        let place = self.place_of(job)?;
         self.as_slice().get(place)
     }
 

@@ -1,14 +1,19 @@
 //! The paths at which file systems were attached, found by their file systems.
 
-ghost use Rattle.std.specs.Prelude.{◌≡◌, ◌≤◌, ◌+◌, ◌==◌, [], map, slice_get, IfSome, OnOk};
-ghost use Rattle.std.specs.List.{list_any};
+ghost use Rattle.std.specs.Prelude.{◌≡◌, ◌<◌, ◌≤◌, ◌+◌, ◌^◌, ◌==◌, [], map, nat_eq, slice_get, None, IfSome, OnOk};
+ghost use Rattle.std.specs.List.{list_any, IsDistinct};
+ghost use Rattle.std.specs.Map.{keys_of, lookup};
 ghost use Rattle.std.specs.Option.{option_copied};
+ghost use Rattle.indexmap.specs.IndexMap.{spare};
 ghost use Rattle.am_names.specs.{same_names};
+ghost use Rattle.am_ordered.specs.{insert_entry, shift_remove_entry};
 ghost use Rattle.am_daemon.specs.Attachments.{AreOnce, known_at};
+ghost use Rattle.am_daemon.specs.Known.{bucket_of, counted, CountsOneMore, AreCounts};
 ghost use Rattle.am_daemon.specs.Points.{path_of};
 
-use am_names::{FsId, Place};
+use am_names::{FsId, Place, bucket};
 use am_ordered::OrderedMap;
+use indexmap::IndexMap;
 use std::alloc::{AllocError, Global};
 use std::marker::Model;
 
@@ -17,6 +22,8 @@ use std::marker::Model;
 pub(crate) struct KnownTable {
     // By the numbers of the file systems.
     places: OrderedMap<u32, Place>,
+    // How many of the paths are in each bucket; none has no entry.
+    buckets: IndexMap<u64, usize>,
 }
 
 impl Model for KnownTable {
@@ -29,7 +36,7 @@ impl Model for KnownTable {
 
     ghost view = { table_of };
 
-    // No file system is there twice.
+    // No file system is there twice, and each path is counted.
     ghost invariant = { IsKnown };
 }
 
@@ -58,6 +65,82 @@ fn any_is_at(places: &OrderedMap<u32, Place>, path: &Place) -> bool
     false
 }
 
+/// The bucket of the path.
+fn bucket_of(path: &Place) -> u64
+    ensures { result ≡ bucket_of path.now }
+{
+    bucket(path.text())
+}
+
+/// How many paths are in the bucket.
+fn counted(counts: &IndexMap<u64, usize>, bucket: u64) -> usize
+    ensures { result ≡ counted counts.now.entries bucket }
+{
+    counts.get(&bucket).copied().unwrap_or(0)
+}
+
+/// One path more is in the bucket, and there is room to count it.
+fn count_up(counts: &mut IndexMap<u64, usize>, bucket: u64)
+    requires room { 0 < spare counts.old }
+    requires small { counted counts.old.entries bucket < 2 ^ 63 }
+    ensures counts { CountsOneMore bucket counts.old.entries counts.new.entries }
+    ensures room { spare counts.old ≤ spare counts.new + 1 }
+{
+    let count = counted(counts, bucket) + 1;
+    let _counted = counts.insert(bucket, count);
+}
+
+/// One path less is in the bucket.
+fn count_down(counts: &mut IndexMap<u64, usize>, bucket: u64)
+    requires { 0 < counted counts.old.entries bucket }
+    ensures counts { CountsOneMore bucket counts.new.entries counts.old.entries }
+    ensures room { spare counts.old ≤ spare counts.new }
+{
+    let count = counted(counts, bucket);
+    if count == 1 {
+        let _last = counts.swap_remove(&bucket);
+    } else if let Some(others) = counts.get_mut(&bucket) {
+        *others = count - 1;
+    }
+}
+
+/// The path of the file system goes, if it has one.
+fn take_out(places: &mut OrderedMap<u32, Place>, counts: &mut IndexMap<u64, usize>, fs: u32)
+    requires { AreCounts counts.old.entries places.old.entries }
+    ensures entries { places.new.entries ≡ shift_remove_entry (nat_eq fs) places.old.entries }
+    ensures unique { IsDistinct nat_eq (keys_of places.old.entries) }
+    ensures counts { AreCounts counts.new.entries places.new.entries }
+    ensures room { places.old.room ≤ places.new.room }
+    ensures counts_room { spare counts.old ≤ spare counts.new }
+{
+    let Some(path) = places.remove(&fs) else {
+        return;
+    };
+    count_down(counts, bucket_of(&path));
+}
+
+/// This path of the file system goes last. There is room for it, and no other one of it.
+fn put_in(
+    places: &mut OrderedMap<u32, Place>,
+    counts: &mut IndexMap<u64, usize>,
+    fs: u32,
+    path: Place,
+)
+    requires room { 1 ≤ places.old.room }
+    requires counts_room { 0 < spare counts.old }
+    requires fresh { lookup (nat_eq fs) places.old.entries ≡ None }
+    requires counts { AreCounts counts.old.entries places.old.entries }
+    ensures entries { places.new.entries ≡ insert_entry nat_eq places.old.entries fs path }
+    ensures counts { AreCounts counts.new.entries places.new.entries }
+    ensures room { places.old.room ≤ places.new.room + 1 }
+    ensures counts_room { spare counts.old ≤ spare counts.new + 1 }
+{
+    // For the checker: a count is no greater than the number of paths.
+    let _paths = places.len();
+    count_up(counts, bucket_of(&path));
+    places.insert_reserved(fs, path);
+}
+
 impl KnownTable {
     /// No path.
     pub(crate) fn new(alloc: Global) -> KnownTable
@@ -65,6 +148,7 @@ impl KnownTable {
     {
         KnownTable {
             places: OrderedMap::new(alloc),
+            buckets: IndexMap::new(alloc),
         }
     }
 
@@ -87,6 +171,9 @@ impl KnownTable {
     pub(crate) fn is_at(&self, path: &Place) -> bool
         ensures { result ≡ list_any (λ row. same_names row.path path.now) self.now.rows }
     {
+        if counted(&self.buckets, bucket_of(path)) == 0 {
+            return false;
+        }
         any_is_at(&self.places, path)
     }
 
@@ -96,7 +183,8 @@ impl KnownTable {
         ensures room { self.old.room ≤ self.new.room }
         ensures ok { OnOk result (1 ≤ self.new.room) }
     {
-        self.places.reserve(1)
+        self.places.reserve(1)?;
+        self.buckets.reserve(1)
     }
 
     /// This path of the file system goes last, and any other one of it goes. There is room for it.
@@ -105,7 +193,7 @@ impl KnownTable {
         ensures rows { self.new.rows ≡ known_at fs path self.old.rows }
         ensures room { self.old.room ≤ self.new.room + 1 }
     {
-        let _other = self.places.remove(&fs.0);
-        self.places.insert_reserved(fs.0, path);
+        take_out(&mut self.places, &mut self.buckets, fs.0);
+        put_in(&mut self.places, &mut self.buckets, fs.0, path);
     }
 }
