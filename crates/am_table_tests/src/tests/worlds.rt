@@ -1,8 +1,10 @@
 //! Generated small worlds, against a model that computes all the slow way, by chains of mounts:
-//! `tools/slow_mounts.py 2000 12` prints the number that is expected here.
+//! `tools/slow_mounts.py 2000 12` prints the number that is expected here. What a tree finds is
+//! compared with what all its rows tell at each step.
 
 use am_group::{Change, Groups};
-use am_names::{AbsPath, Errno, FsId, GroupId, MountId, MountRow, NsId, Position};
+use am_mount::Tree;
+use am_names::{AbsPath, Errno, FsId, GroupId, MountId, MountRow, NsId, Place, Position};
 use am_propagate::{CopyForm, InUse, NewNamespace, Subtree};
 use std::alloc::Global;
 
@@ -33,6 +35,90 @@ fn position(alloc: Global, mount: u64, path: &[u8]) -> Result<Position, Errno> {
         mount: MountId(mount),
         place: AbsPath::read(path)?.to_place(alloc)?,
     })
+}
+
+/// The file system of each mount but the root, which is watched.
+const WATCHED: FsId = FsId(2);
+
+/// Whether the row is a mount on this one.
+fn is_on(mount: MountId, row: &MountRow) -> bool {
+    match &row.mountpoint {
+        Some(position) => position.mount == mount,
+        None => false,
+    }
+}
+
+/// Whether the row is a mount at this place of that one.
+fn stands_at(mount: MountId, place: &Place, row: &MountRow) -> bool {
+    match &row.mountpoint {
+        Some(position) => position.mount == mount && position.place.is_same(place),
+        None => false,
+    }
+}
+
+/// Whether these are the mounts on the mount, by all rows.
+fn are_on(rows: &[MountRow], mount: MountId, mounts: &[MountId]) -> bool {
+    let mut left = mounts;
+    for row in rows {
+        if is_on(mount, row) {
+            match left.split_first() {
+                Some((first, others)) if *first == row.mount => left = others,
+                Some(_) | None => return false,
+            }
+        }
+    }
+    left.is_empty()
+}
+
+/// Whether these are the mounts that show the file system, by all rows.
+fn are_with(rows: &[MountRow], fs: FsId, mounts: &[MountId]) -> bool {
+    let mut left = mounts;
+    for row in rows {
+        if row.fs == fs {
+            match left.split_first() {
+                Some((first, others)) if *first == row.mount => left = others,
+                Some(_) | None => return false,
+            }
+        }
+    }
+    left.is_empty()
+}
+
+/// The last row at this place of the mount, by all rows.
+fn last_at(rows: &[MountRow], mount: MountId, place: &Place) -> Option<MountId> {
+    let mut last = None;
+    for row in rows {
+        if stands_at(mount, place, row) {
+            last = Some(row.mount);
+        }
+    }
+    last
+}
+
+/// Whether the tree finds what stands on the mount, and at this place of it.
+fn finds_on(tree: &Tree, mount: MountId, place: &Place) -> bool {
+    let rows = tree.rows();
+    are_on(rows, mount, tree.mounts_on(mount))
+        && tree.top(mount, place.text()) == last_at(rows, mount, place)
+}
+
+/// Whether the tree finds the mounts of the file system that is watched, and none of the other.
+fn finds_watched(tree: &Tree) -> bool {
+    let watched = match tree.mounts_with(WATCHED) {
+        Some(mounts) => are_with(tree.rows(), WATCHED, mounts),
+        None => false,
+    };
+    watched && tree.mounts_with(FsId(1)).is_none()
+}
+
+/// Whether the tree finds all that its rows tell, at this place of each mount too.
+fn finds_all(tree: &Tree, place: &Place) -> bool {
+    for row in tree.rows() {
+        if !finds_on(tree, row.mount, place) {
+            return false;
+        }
+    }
+    finds_watched(tree)
 }
 
 /// What the slow model computes.
@@ -185,6 +271,15 @@ impl Total {
             self.row(subtree.groups(), row);
         }
     }
+
+    /// Nothing, where the tree finds all that its rows tell.
+    fn found(&mut self, alloc: Global, subtree: &Subtree, by: Drawn) -> Result<(), Errno> {
+        let place = AbsPath::read(by.path)?.to_place(alloc)?;
+        if !finds_all(subtree.tree(), &place) {
+            self.fold(1);
+        }
+        Ok(())
+    }
 }
 
 fn change_of(number: u64) -> Change {
@@ -246,7 +341,7 @@ fn unmounted_by_list(
 impl Total {
     fn mounts_on(&mut self, alloc: Global, subtree: &mut Subtree, by: Drawn) -> Result<(), Errno> {
         let at = position(alloc, by.first, by.path)?;
-        self.mounts(subtree.mount(alloc, &at, FsId(2)))
+        self.mounts(subtree.mount(alloc, &at, WATCHED))
     }
 
     fn binds(&mut self, alloc: Global, subtree: &mut Subtree, by: Drawn) -> Result<(), Errno> {
@@ -289,7 +384,7 @@ impl Total {
             _ => self.namespaces(alloc, subtree, by)?,
         }
         self.table(subtree);
-        Ok(())
+        self.found(alloc, subtree, by)
     }
 }
 
@@ -308,6 +403,9 @@ fn steps(
 
 fn world(alloc: Global, random: &mut Random, total: &mut Total) -> Result<(), Errno> {
     let mut subtree = Subtree::new(alloc, 40)?;
+    // Of the root's file system there is a mount, so that it isn't watched.
+    subtree.watch(FsId(1))?;
+    subtree.watch(WATCHED)?;
     let made = steps(alloc, &mut subtree, random, total);
     drop(subtree);
     made
