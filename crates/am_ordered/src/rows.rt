@@ -1,4 +1,4 @@
-//! Rows side by side, of which the shorter side moves where one is taken out.
+//! Rows side by side, of which the shorter side moves where some are taken out.
 
 ghost use Rattle.std.specs.Prelude.{◌≡◌, ◌≤◌, ◌<◌, ◌+◌, ◌-◌, ◌^◌, ◌++◌, ◌∷◌, [], length, remove, drop, take, option_to_list, OnOk, vec_len, vec_capacity};
 ghost use Rattle.std.specs.Fn.{CalledAt};
@@ -46,15 +46,15 @@ fn cut<T: Drop>(slots: &mut Vec<T>, count: usize)
     slots.truncate(left);
 }
 
-/// One more slot goes, the first of those that are there.
-fn pass<T: Drop>(slots: &mut Vec<T>, gone: &mut usize)
-    requires { gone.old < vec_len slots.old }
-    ensures rows { drop gone.new slots.new.items ≡ drop (gone.old + 1) slots.old.items }
+/// So many more slots go, the first of those that are there.
+fn pass<T: Drop>(slots: &mut Vec<T>, gone: &mut usize, count: usize)
+    requires { gone.old + count ≤ vec_len slots.old }
+    ensures rows { drop gone.new slots.new.items ≡ drop (gone.old + count) slots.old.items }
     ensures within { gone.new ≤ vec_len slots.new }
     ensures len { vec_len slots.new ≤ vec_len slots.old }
     ensures capacity { vec_capacity slots.new ≡ vec_capacity slots.old }
 {
-    let passed = *gone + 1;
+    let passed = *gone + count;
     if slots.len() - passed < passed {
         cut(slots, passed);
         *gone = 0;
@@ -63,23 +63,37 @@ fn pass<T: Drop>(slots: &mut Vec<T>, gone: &mut usize)
     }
 }
 
-/// The row at this index comes before all others, which keep their order.
-fn turn<T>(rows: &mut [T], index: usize)
-    requires { index < length rows.old }
-    ensures rows { drop 1 rows.new ≡ remove rows.old index }
+/// So many rows from this index on come before all others, which keep their order.
+fn turn<T>(rows: &mut [T], index: usize, count: usize)
+    requires { index + count ≤ length rows.old }
+    ensures rows { drop count rows.new ≡ take index rows.old ++ drop (index + count) rows.old }
     ensures len { length rows.new ≡ length rows.old }
 {
-    rows[..index + 1].rotate_right(1);
+    rows[..index + count].rotate_right(count);
 }
 
-/// The row at this index comes before all others that are there, which keep their order.
-fn bring_first<T>(slots: &mut Vec<T>, gone: usize, index: usize)
-    requires { gone + index < vec_len slots.old }
-    ensures rows { drop (gone + 1) slots.new.items ≡ remove (drop gone slots.old.items) index }
+/// So many rows from this index on come before all others that are there, which keep their order.
+fn bring_first<T>(slots: &mut Vec<T>, gone: usize, index: usize, count: usize)
+    requires { gone + index + count ≤ vec_len slots.old }
+    ensures rows { drop (gone + count) slots.new.items ≡
+        take index (drop gone slots.old.items) ++ drop (index + count) (drop gone slots.old.items) }
     ensures len { vec_len slots.new ≡ vec_len slots.old }
     ensures capacity { vec_capacity slots.new ≡ vec_capacity slots.old }
 {
-    turn(&mut slots[gone..], index);
+    turn(&mut slots[gone..], index, count);
+}
+
+/// So many slots from this one on go. Those behind them move up.
+fn close<T: Drop>(slots: &mut Vec<T>, from: usize, count: usize)
+    requires { from + count ≤ vec_len slots.old }
+    ensures items { slots.new.items ≡
+        take from slots.old.items ++ drop (from + count) slots.old.items }
+    ensures len { vec_len slots.new ≤ vec_len slots.old }
+    ensures capacity { vec_capacity slots.new ≡ vec_capacity slots.old }
+{
+    let left = slots.len() - count;
+    slots[from..].rotate_left(count);
+    slots.truncate(left);
 }
 
 impl<T> Rows<T> {
@@ -180,7 +194,7 @@ impl<T> Rows<T> {
         self.slots.pop()
     }
 
-    /// The row at this index goes. Those behind it move up by one, and no memory is taken.
+    /// The row at this index goes. Those on its shorter side move by one, and no memory is taken.
     pub fn take_out(&mut self, index: usize)
     where
         T: Drop,
@@ -188,12 +202,23 @@ impl<T> Rows<T> {
         ensures rows { self.new.rows ≡ remove self.old.rows index }
         ensures room { self.old.room ≤ self.new.room }
     {
-        let behind = self.slots.len() - self.gone - index;
+        self.take_range(index, 1);
+    }
+
+    /// So many rows from this index on go. Those on the shorter side move, and no memory is taken.
+    pub fn take_range(&mut self, index: usize, count: usize)
+    where
+        T: Drop,
+        requires { index + count ≤ length self.old.rows }
+        ensures rows { self.new.rows ≡ take index self.old.rows ++ drop (index + count) self.old.rows }
+        ensures room { self.old.room ≤ self.new.room }
+    {
+        let behind = self.slots.len() - self.gone - index - count;
         if index < behind {
-            bring_first(&mut self.slots, self.gone, index);
-            pass(&mut self.slots, &mut self.gone);
+            bring_first(&mut self.slots, self.gone, index, count);
+            pass(&mut self.slots, &mut self.gone, count);
         } else {
-            let _row = self.slots.remove(self.gone + index);
+            close(&mut self.slots, self.gone + index, count);
         }
     }
 

@@ -11,6 +11,7 @@ enum Call {
     Set(usize, u32),
     Pop(Option<u32>),
     TakeOut(usize),
+    TakeRange(usize, usize),
     KeepEven,
 }
 
@@ -46,6 +47,14 @@ fn take_out(rows: &mut Rows<u32>, at: usize) -> bool {
     true
 }
 
+fn take_range(rows: &mut Rows<u32>, at: usize, count: usize) -> bool {
+    if at > rows.len() || count > rows.len() - at {
+        return false;
+    }
+    rows.take_range(at, count);
+    true
+}
+
 fn answers(alloc: Global, rows: &mut Rows<u32>, call: &Call) -> Result<bool, AllocError> {
     match call {
         Call::Push(row) => {
@@ -58,6 +67,7 @@ fn answers(alloc: Global, rows: &mut Rows<u32>, call: &Call) -> Result<bool, All
         Call::Set(at, row) => Ok(set(rows, *at, *row)),
         Call::Pop(row) => Ok(rows.pop() == *row),
         Call::TakeOut(at) => Ok(take_out(rows, *at)),
+        Call::TakeRange(at, count) => Ok(take_range(rows, *at, *count)),
         Call::KeepEven => {
             rows.retain(|row| *row % 2 == 0);
             Ok(true)
@@ -69,8 +79,8 @@ fn are(rows: &Rows<u32>, left: &[u32]) -> bool {
     rows.as_slice() == left
 }
 
-/// The first rows go one after another, and then others near to both ends.
-static CALLS: [(Call, &[u32]); 21] = [
+/// The first rows go one after another, then others near to both ends, and then some in one piece.
+static CALLS: [(Call, &[u32]); 33] = [
     (Call::Push(1), &[1]),
     (Call::Append(&[2, 3, 4, 5, 6]), &[1, 2, 3, 4, 5, 6]),
     (Call::TakeOut(0), &[2, 3, 4, 5, 6]),
@@ -92,6 +102,21 @@ static CALLS: [(Call, &[u32]); 21] = [
     (Call::Pop(None), &[]),
     (Call::KeepEven, &[]),
     (Call::Push(15), &[15]),
+    (
+        Call::Append(&[16, 17, 18, 19, 20, 21, 22, 23, 24]),
+        &[15, 16, 17, 18, 19, 20, 21, 22, 23, 24],
+    ),
+    (Call::TakeRange(1, 2), &[15, 18, 19, 20, 21, 22, 23, 24]),
+    (Call::TakeRange(0, 1), &[18, 19, 20, 21, 22, 23, 24]),
+    (Call::TakeRange(4, 2), &[18, 19, 20, 21, 24]),
+    (Call::TakeRange(2, 0), &[18, 19, 20, 21, 24]),
+    (Call::TakeRange(5, 0), &[18, 19, 20, 21, 24]),
+    (Call::TakeRange(3, 2), &[18, 19, 20]),
+    (Call::Append(&[25, 26]), &[18, 19, 20, 25, 26]),
+    (Call::TakeRange(1, 2), &[18, 25, 26]),
+    (Call::TakeRange(0, 3), &[]),
+    (Call::TakeRange(0, 0), &[]),
+    (Call::Push(27), &[27]),
 ];
 
 fn all_answer(alloc: Global, rows: &mut Rows<u32>) -> Result<bool, AllocError> {
