@@ -1,9 +1,11 @@
 -- What a search by halves finds in rows that rise by their number.
-use Rattle.std.proofs.Common.{◌≡◌, ◌≢◌, ◌≤◌, ◌<◌, ◌+◌, ℕ, zero, suc, List, [], ◌∷◌, length, get_or, Option, Some, None, Ok, Err, refl, sym, ap, ◌∙◌, arith}
-use Rattle.std.specs.Prelude.{find, ◌==◌}
-use Rattle.std.specs.List.Sorted.{IsBinarySearchResult, IsNonDecreasingBy}
+use Rattle.std.proofs.Common.{◌≡◌, true, false, ltb, ◌≢◌, ◌≤◌, ◌<◌, ◌+◌, ℕ, zero, suc, List, [], ◌∷◌, length, get_or, Option, Some, None, Ok, Err, refl, sym, ap, ◌∙◌, arith}
+use Rattle.std.specs.Prelude.{find, nat_le, ◌==◌}
+use Rattle.std.specs.List.{position_or_len}
+use Rattle.std.specs.List.Sorted.{IsBinarySearchResult, IsNonDecreasingBy, IsPartitionPoint}
 use Rattle.std.specs.Ordering.{nat_cmp, ordering_index}
 use Rattle.std.proofs.lemmas.Cmp.{ranked}
+use Rattle.std.proofs.lemmas.List.Sums.{position_or_len_is}
 use Rattle.std.proofs.lemmas.Bool.{eq-eqb, ne_eqb}
 use Rattle.std.proofs.lemmas.Bool.Decides.{nat_tests}
 use Rattle.am_names.specs.{RiseBy}
@@ -110,3 +112,15 @@ module _ {R : Type 0} (number : R → ℕ) where
         (i : ℕ) → IsBinarySearchResult (λ (row : R). nat_cmp (number row) n) rows (Err i) →
         row_of rows n ≡ None
     absent i parted = none_at rows n (all_differ i parted)
+
+  -- the place between the lower numbers and the others is that of the first that isn't lower
+  pub point_is :
+      (n i : ℕ) (rows : List R) → i ≤ length rows →
+      IsPartitionPoint (λ (row : R). ltb (number row) n ≡ true) (λ row. ltb (number row) n ≡ false) rows i →
+      i ≡ position_or_len (λ row. nat_le n (number row)) rows
+  point_is n i [] le h = omega arith
+  point_is n i (row ∷ rows) le h =
+      sym
+      (position_or_len_is (λ (r : R). nat_le n (number r)) (row ∷ rows) i row le
+      (λ j less. grind (arith, nat_tests, h.0 j row (omega arith) less))
+      (λ less. grind (arith, nat_tests, h.1 i row (omega arith) less)))

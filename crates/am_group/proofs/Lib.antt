@@ -31,3 +31,4 @@ pub mod HomeLemmas
 pub mod TurnLemmas
 pub mod LiftingLemmas
 pub mod LiftedLemmas
+pub mod BlockLemmas
