@@ -1,5 +1,5 @@
--- How many rows move where mounts are taken out one after another, and where numbers stand: own choice.
-use Rattle.std.specs.Prelude.{◌-◌, ◌||◌, ℕ, Bool, nat_lt, nat_le, min, List, length}
+-- How many rows move where mounts are taken out one after another: own choice.
+use Rattle.std.specs.Prelude.{◌-◌, ℕ, nat_le, min, List, length}
 use Rattle.std.specs.List.{position_or_len, slice_index}
 use Rattle.am_names.specs.{MountRow}
 
@@ -13,7 +13,3 @@ abbrev pub most_moved : List MountRow → List ℕ → ℕ
 most_moved rows gone =
     min (rows_below rows (slice_index gone (length gone - 1)) - (length gone - 1))
     (length rows - rows_below rows (slice_index gone 0))
-
--- the number is not one of those from this one to that one
-abbrev pub is_outside : ℕ → ℕ → ℕ → Bool
-is_outside first last m = nat_lt m first || nat_lt last m

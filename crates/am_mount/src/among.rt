@@ -1,10 +1,10 @@
 //! Mounts that are among some.
 
-ghost use Rattle.std.specs.Prelude.{◌≡◌, ◌==◌, ◌<◌, ◌≤◌, ◌/◌, ◌⊎◌, ◌↔◌, length, take, drop, map, filter, zip, not, IsTrue, IfSome};
+ghost use Rattle.std.specs.Prelude.{◌≡◌, ◌==◌, ◌<◌, ◌≤◌, ◌+◌, ◌/◌, ◌⊎◌, ◌↔◌, ◌++◌, length, take, drop, map, filter, zip, not, IsTrue, IfSome};
 ghost use Rattle.std.specs.Bool.{OnTrue};
 ghost use Rattle.std.specs.List.{list_all};
 ghost use Rattle.am_names.specs.{is_among};
-ghost use Rattle.am_mount.specs.Near.{most_moved, rows_below, is_outside};
+ghost use Rattle.am_mount.specs.Near.{most_moved, rows_below};
 ghost use Rattle.am_mount.specs.Rows.{IsRising};
 
 use am_names::{MountId, MountRow, are_ordered, is_among, is_found};
@@ -99,42 +99,33 @@ fn stand_at(rows: &[MountRow], at: usize, mounts: &[MountId]) -> bool
     count <= behind.len() && are_rows_of(&behind[..count], mounts)
 }
 
-/// The first and the last of these mounts, where their rows stand side by side, so that no other
-/// has a number in between.
-fn ends_of_block(rows: &[MountRow], gone: &[MountId]) -> Option<(MountId, MountId)>
+/// The place from which on the rows of these mounts stand side by side.
+fn place_of_block(rows: &[MountRow], gone: &[MountId]) -> Option<usize>
     requires { IsRising rows.now }
-    ensures { IfSome result (λ ends.
-        filter (λ row. is_outside ends.0 ends.1 row.mount) rows.now ≡
+    ensures within { IfSome result (λ at. at + length gone.now ≤ length rows.now) }
+    ensures left { IfSome result (λ at. take at rows.now ++ drop (at + length gone.now) rows.now ≡
         filter (λ row. not (is_among gone.now row.mount)) rows.now) }
 {
     let first = *gone.first()?;
-    let last = *gone.last()?;
     let at = rows_below(rows, first);
     if stand_at(rows, at, gone) {
-        Some((first, last))
+        Some(at)
     } else {
         None
     }
 }
 
-/// Leaves out the rows with the numbers from the first to the last of these.
-fn leave_block_out(rows: &mut Rows<MountRow>, first: MountId, last: MountId)
-    ensures { rows.new.rows ≡ filter (λ row. is_outside first last row.mount) rows.old.rows }
-{
-    rows.retain(|row| row.mount < first || last < row.mount);
-}
-
 /// Leaves out the rows of these mounts, one after another where they are few or near to an end, and
-/// all at once where they stand side by side; else all rows are gone through. In mounts that stand
-/// in order it looks by halves.
+/// in one piece where they stand side by side, where those on the shorter side move; else all rows
+/// are gone through. In mounts that stand in order it looks by halves.
 pub fn leave_out(rows: &mut Rows<MountRow>, gone: &[MountId])
     requires { IsRising rows.old.rows }
     ensures { rows.new.rows ≡ filter (λ row. not (is_among gone.now row.mount)) rows.old.rows }
 {
     if are_few_or_near(rows.as_slice(), gone) {
         leave_each_out(rows, gone);
-    } else if let Some((first, last)) = ends_of_block(rows.as_slice(), gone) {
-        leave_block_out(rows, first, last);
+    } else if let Some(at) = place_of_block(rows.as_slice(), gone) {
+        rows.take_range(at, gone.len());
     } else if are_ordered(gone) {
         rows.retain(|row| !is_found(row.mount, gone));
     } else {

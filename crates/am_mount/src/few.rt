@@ -1,6 +1,6 @@
 //! Mounts in rising order, of which there is mostly one.
 
-ghost use Rattle.std.specs.Prelude.{◌≡◌, ◌≤◌, ◌++◌, ◌∷◌, [], OnOk, IfOk, option_to_list};
+ghost use Rattle.std.specs.Prelude.{◌≡◌, ◌≤◌, ◌++◌, ◌∷◌, [], OnOk, IfOk};
 ghost use Rattle.std.specs.List.Sorted.{IsStrictlyIncreasing};
 ghost use Rattle.am_mount.specs.Few.{mounts_in, HasRoomIn, but};
 
@@ -11,10 +11,12 @@ use std::alloc::{AllocError, Global};
 /// Mounts in rising order. One alone takes no memory of its own, and neither does none.
 #[derive(Drop)]
 pub enum Few {
-    /// The mount, if there is one.
-    One(Option<MountId>),
+    /// No mount.
+    Empty,
+    /// One mount.
+    One(MountId),
     /// Two or more, or those that are left of them.
-    Many(Rows<MountId>),
+    Many(Box<Rows<MountId>>),
 }
 
 /// The mount, and room for another.
@@ -25,15 +27,6 @@ fn one_of_two(mount: MountId, alloc: Global) -> Result<Rows<MountId>, AllocError
     mounts.reserve(2)?;
     mounts.push_reserved(mount);
     Ok(mounts)
-}
-
-/// Takes the mount out, if it is this one.
-fn take_one_out(one: &mut Option<MountId>, mount: MountId)
-    ensures { option_to_list one.new ≡ but mount (option_to_list one.old) }
-{
-    if *one == Some(mount) {
-        *one = None;
-    }
 }
 
 /// Takes the mount out of a list that rises, in which it is found by halves.
@@ -68,8 +61,8 @@ impl Few {
         ensures { result.now ≡ mounts_in self.now }
     {
         match self {
-            Few::One(None) => &[],
-            Few::One(Some(mount)) => std::slice::from_ref(mount),
+            Few::Empty => &[],
+            Few::One(mount) => std::slice::from_ref(mount),
             Few::Many(mounts) => mounts.as_slice(),
         }
     }
@@ -80,10 +73,10 @@ impl Few {
         ensures ok { OnOk result (HasRoomIn self.new) }
     {
         match self {
-            Few::One(None) => Ok(()),
-            Few::One(Some(mount)) => {
+            Few::Empty => Ok(()),
+            Few::One(mount) => {
                 let mounts = one_of_two(*mount, alloc)?;
-                *self = Few::Many(mounts);
+                *self = Few::Many(Box::new(alloc, mounts)?);
                 Ok(())
             }
             Few::Many(mounts) => mounts.reserve(1),
@@ -96,8 +89,8 @@ impl Few {
         ensures { mounts_in self.new ≡ mounts_in self.old ++ mount ∷ [] }
     {
         match self {
-            Few::One(one) => *one = Some(mount),
             Few::Many(mounts) => mounts.push_reserved(mount),
+            _ => *self = Few::One(mount),
         }
     }
 
@@ -107,7 +100,12 @@ impl Few {
         ensures { mounts_in self.new ≡ but mount (mounts_in self.old) }
     {
         match self {
-            Few::One(one) => take_one_out(one, mount),
+            Few::Empty => {}
+            Few::One(one) => {
+                if *one == mount {
+                    *self = Few::Empty;
+                }
+            }
             Few::Many(mounts) => take_out(mounts, mount),
         }
     }

@@ -105,7 +105,7 @@ impl Index {
         ensures same { SameLists self.old self.new }
         ensures ok { IfOk result (HasRoom self.new number) }
     {
-        let (place, _) = self.lists.insert_full(number, Few::One(None))?;
+        let (place, _) = self.lists.insert_full(number, Few::Empty)?;
         self.latest = place;
         Ok(place)
     }

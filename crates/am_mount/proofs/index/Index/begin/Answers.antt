@@ -1,5 +1,5 @@
-use Rattle.std.proofs.Common.{None, refl, sym, subst}
-use Rattle.am_mount.specs.declared.few.Few.TheVariants.{One}
+use Rattle.std.proofs.Common.{sym, subst}
+use Rattle.am_mount.specs.declared.few.Few.TheVariants.{Empty}
 use Rattle.am_mount.specs.Index.{RoomIn}
 use Rattle.am_mount.proofs.ListLemmas.{key_put, value_put}
 use Rattle.am_mount.proofs.index.Index.begin.Goals as goal
@@ -11,6 +11,6 @@ returns-clause-ok c =
     let place = c.in_ok-place.place in
     let entries = c.in_ok-place.ensures.entries in
     let index = c.in_ok-place.ensures.index in (
-      key_put c.args.number (One None) old new place entries index,
-      subst RoomIn (sym (value_put c.args.number (One None) old new place entries index)) refl,
+      key_put c.args.number Empty old new place entries index,
+      subst RoomIn (sym (value_put c.args.number Empty old new place entries index)) tt,
     )
