@@ -15,9 +15,9 @@ use std::alloc::{AllocError, Global};
 use std::mem::size_of;
 
 /// Each reader hands its event on by value, so that a large one is copied many times, and a world
-/// keeps all that is ever seen.
+/// keeps all that is ever seen. An answer may have a place in itself, of 40 bytes where it is short.
 fn are_small() -> bool {
-    size_of::<Event>() <= 320 && size_of::<Answer>() <= 40 && size_of::<Obs>() <= 48
+    size_of::<Event>() <= 320 && size_of::<Answer>() <= 56 && size_of::<Obs>() <= 48
 }
 
 /// How many events a long list has.
