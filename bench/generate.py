@@ -4,14 +4,14 @@
 usage: generate.py one-by-one|all-first KEYS script|answers
        generate.py map|master LINES script|answers
        generate.py namespaces|peers N script|answers
-       generate.py expiries|walks|mounts|lives|copies|masters|attachments|jobs N script|answers
+       generate.py expiries|walks|mounts|families|lives|copies|masters|attachments|jobs N script|answers
 
 Key I is walked to by walker I, which waits on token I. Of a long map, or of a long master map with
 a map for each of its lines, the last line is attached, walked to and begun to be served, so that
 the answers tell whether it was read. With N namespaces beside the first, or with N peers of a
 mount, TIMES mounts are made, each with N copies. Where N keys stand, they are asked to expire, or
-walked to; N times a mount with TIMES copies comes and goes, or one key lives from its walk to its
-expiry; a namespace of N mounts is copied and dropped; where N mounts are shared, N times one more
+walked to; N times a mount with TIMES copies comes and goes; on N peers that have STOOD mounts each
+TIMES mounts come and go with N copies each; one key lives N times from its walk to its expiry; a namespace of N mounts is copied and dropped; where N mounts are shared, N times one more
 gives up its peer group, which has a slave; where N autofs file systems are attached, a key of each is
 served; and N keys are delivered before the first of them is served. The same arguments give the same
 bytes.
@@ -23,9 +23,11 @@ SHAPES = ("one-by-one", "all-first")
 HEADS = ("map", "master")
 COPIES = ("namespaces", "peers")
 STANDING = ("expiries", "walks")
-LIVES = STANDING + ("mounts", "lives", "copies", "masters", "attachments", "jobs")
+LIVES = STANDING + ("mounts", "families", "lives", "copies", "masters", "attachments", "jobs")
 # So many mounts come with copies, whatever N is.
 TIMES = 10
+# So many mounts stand on each peer.
+STOOD = 32
 # By default no mount has a greater number.
 MOST_MOUNTS = 1000000
 
@@ -33,6 +35,8 @@ MOST_MOUNTS = 1000000
 def head(shape, keys):
     if shape in COPIES and copied(shape, keys, TIMES) + keys > MOST_MOUNTS:
         yield f"limits {copied(shape, keys, TIMES) + keys} 1024 4294967295"
+    if shape == "families" and copied("peers", keys, STOOD + TIMES) + keys > MOST_MOUNTS:
+        yield f"limits {copied('peers', keys, STOOD + TIMES) + keys} 1024 4294967295"
     # By default 1024 walkers may wait at once.
     if shape in ("all-first", "jobs") and keys > 1024:
         yield f"limits {MOST_MOUNTS} {keys} 4294967295"
@@ -40,7 +44,7 @@ def head(shape, keys):
         most = keys * (TIMES + 1) + TIMES + 2
         if most > MOST_MOUNTS:
             yield f"limits {most} 1024 4294967295"
-    if shape in ("peers", "mounts", "copies", "masters"):
+    if shape in ("peers", "mounts", "families", "copies", "masters"):
         yield "events"
     elif shape == "attachments":
         yield from long_master(keys)
@@ -125,6 +129,10 @@ def first_events(shape, n):
             yield f"bind 0 /a /b{i}", f"mount {i + 2}"
     elif shape == "mounts":
         yield from first_events("peers", TIMES)
+    elif shape == "families":
+        yield from first_events("peers", n)
+        for i in range(1, STOOD + 1):
+            yield f"mount 0 /a/x{i}", f"mount {copied('peers', n, i)}"
     elif shape == "copies":
         for i in range(1, n + 1):
             yield f"mount 0 /{name(i)}", f"mount {i + 1}"
@@ -168,6 +176,11 @@ def events(shape, keys):
             mount = copied("peers", TIMES, i)
             yield "mount 0 /a/x", f"mount {mount}"
             yield "umount 0 /a/x", gone(mount, TIMES + 1)
+    elif shape == "families":
+        for i in range(STOOD + 1, STOOD + TIMES + 1):
+            mount = copied("peers", keys, i)
+            yield "mount 0 /a/y", f"mount {mount}"
+            yield "umount 0 /a/y", gone(mount, keys + 1)
     elif shape == "lives":
         for i in range(1, keys + 1):
             yield f"walk 1 0 /auto/{name(1)} 100 room", f"wait {2 * i - 1}"

@@ -24,6 +24,7 @@ a_failure_that_lasts
 a_slave_on_a_shared_mount
 an_expiry_and_a_death_among_shared_mounts
 a_use_and_a_wait
+many_mounts_on_one_mount
 events_said_twice
 a_head_of_two_maps
 automount_cli tests::memory_may_run_out_before_words_are_read

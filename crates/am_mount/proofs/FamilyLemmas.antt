@@ -2,17 +2,21 @@
 use Rattle.std.proofs.Common.{◌≡◌, ◌⊎◌, inl, inr, ℕ, Bool, true, false, cond, not, ◌&&◌, nat_eq, List, [], ◌∷◌, ◌++◌, Contains, Option, Some, None, slice_get, BuildHasherDefault, FoldHasher, refl, sym, ap, subst, ◌∙◌, arith, eq-eqb, true≢false}
 use Rattle.std.specs.Prelude.{◌==◌, if◌then◌else◌, IfSome}
 use Rattle.std.specs.List.Sorted.{IsStrictlyIncreasing}
+use Rattle.std.specs.Global.{Box}
 use Rattle.std.specs.Option.{option_map}
 use Rattle.std.proofs.lemmas.Bool.{eqb-true}
 use Rattle.std.proofs.lemmas.List.Elements.{Contains-get_or}
+use Rattle.am_ordered.specs.RowTable.{RowTable}
 use Rattle.indexmap.specs.IndexMap.{IndexMap, get, keys, values, with_value_at, IsUnique, Updates}
 use Rattle.am_mount.specs.declared.families.Families.{Families}
-use Rattle.am_mount.specs.declared.family.Child.{Child}
+use Rattle.am_mount.specs.declared.siblings.Child.{Child}
 use Rattle.am_mount.specs.declared.family.Family.{Family}
-use Rattle.am_mount.specs.declared.family.Family.TheVariants.{One}
+use Rattle.am_mount.specs.declared.family.Family.TheVariants.{One, Siblings}
 use Rattle.am_mount.specs.Families.{children_found, children_of, placed_at, placed_found, AddsUnder, MayLeave, SameFamilies, TakesUnder}
 use Rattle.am_mount.specs.Family.{children_in, one_placed, placed_in, AddsChild, MayGo, SameChildren, TakesChild}
 use Rattle.am_mount.specs.Few.{but}
+use Rattle.am_mount.specs.Siblings.{but_child, mounts_of, placed_of}
+use Rattle.am_mount.proofs.SiblingLemmas.{mounts_but, placed_but_one}
 use Rattle.am_mount.proofs.ListLemmas.{same_views, stood, changed, kept, tidied}
 
 -- the child's mount
@@ -112,6 +116,18 @@ one_left b m None new may gone same =
     none (inr kept) = kept
 one_left b m (Some child) new may gone same =
     some_left b m child may new (λ own. gone (ap Some own)) same
+
+-- what is left of those side by side, where this mount goes
+pub siblings_left :
+    (b m : ℕ) (old new : Box (RowTable Child)) → MayGo b m (Siblings old) →
+    new.value.rows ≡ but_child m old.value.rows → TakesChild b m (Siblings old) (Siblings new)
+siblings_left b m old new may taken =
+    record {
+      children = ap mounts_of taken ∙ mounts_but m old.value.rows;
+      placed = λ c.
+          ap (λ (cs : List Child). placed_of cs c) taken ∙
+          placed_but_one b m old.value.rows may.nowhere_else c;
+    }
 
 -- two tests are one, where what fails either is left as it is
 both_tests :

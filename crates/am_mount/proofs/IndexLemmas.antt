@@ -650,7 +650,7 @@ any_where t (r ∷ rows) = ap (λ (xs : List ℕ). not (length xs == 0)) (where_
     go true ih = grind (arith, nat_tests)
     go false ih = ih
 
-filter_snoc :
+pub filter_snoc :
     (f : ℕ → Bool) (xs : List ℕ) (x : ℕ) → filter f (xs ++ x ∷ []) ≡ filter f xs ++ cond (f x) (x ∷ []) []
 filter_snoc f [] x = refl
 filter_snoc f (y ∷ ys) x = go (f y) (filter_snoc f ys x)

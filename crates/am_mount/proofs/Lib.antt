@@ -5,5 +5,6 @@ pub mod IndexLemmas
 pub mod LeaveLemmas
 pub mod ListLemmas
 pub mod RowLemmas
+pub mod SiblingLemmas
 pub mod TakeLemmas
 pub mod WatchedLemmas

@@ -11,7 +11,7 @@ use Rattle.std.proofs.lemmas.List.{append-nil}
 use Rattle.std.proofs.Math.ListN.{drop_of_length-le}
 use Rattle.am_mount.specs.{but}
 
-but_absent :
+pub but_absent :
     (m : ℕ) (xs : List ℕ) → ((k : ℕ) → k < length xs → get_or xs k 0 ≢ m) → but m xs ≡ xs
 but_absent m [] others = refl
 but_absent m (x ∷ xs) others =
@@ -34,7 +34,7 @@ but_at m (x ∷ xs) up (suc i) within e =
     (but_at m xs (λ j k d lt h. up (suc j) (suc k) d (omega arith) (omega arith)) i (omega arith) e))
 
 module _ (m : ℕ) (xs : List ℕ) (up : IsStrictlyIncreasing xs) where
-  rises : (i j : ℕ) → i ≤ j → j < length xs → get_or xs i 0 ≤ get_or xs j 0
+  pub rises : (i j : ℕ) → i ≤ j → j < length xs → get_or xs i 0 ≤ get_or xs j 0
   rises i j le lt =
       let less = AllPairs-from_increasing xs up i j 0 in
       grind (arith, less, λ (same : i ≡ j). ap (λ (k : ℕ). get_or xs k 0) same)

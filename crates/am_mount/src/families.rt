@@ -2,6 +2,7 @@
 
 ghost use Rattle.std.specs.Prelude.{◌≡◌, ◌<◌, ℕ, nat_eq, [], Some, None, slice_get, IfOk, IfSome, IfNone};
 ghost use Rattle.std.specs.Bool.{OnTrue};
+ghost use Rattle.std.specs.Option.{option_copied};
 ghost use Rattle.indexmap.specs.IndexMap.{get, values, IsUnique, index_map_len};
 ghost use Rattle.am_mount.specs.Families.{children_of, placed_at, parent_at, AddsUnder, HasRoomAtSpot, HasRoomUnder, MayLeave, RoomFor, SameFamilies, TakesUnder};
 
@@ -53,14 +54,11 @@ impl Families {
         }
     }
 
-    /// The mounts on this parent at places of this bucket.
-    pub fn list_at(&self, parent: u64, bucket: u64) -> &[MountId]
-        ensures { result.now ≡ placed_at self.now parent bucket }
+    /// The family of this parent, if it has one.
+    pub fn family(&self, parent: u64) -> Option<&Family>
+        ensures { option_copied result ≡ get nat_eq self.now.families parent }
     {
-        match self.families.get(&parent) {
-            Some(family) => family.at(bucket),
-            None => &[],
-        }
+        self.families.get(&parent)
     }
 
     /// Whether the parent's family stands at this place.

@@ -1,22 +1,17 @@
 //! The mounts on a parent.
 
-ghost use Rattle.std.specs.Prelude.{◌≡◌, ◌≤◌, ◌⊎◌, ℕ, [], ◌∷◌, Some, None, option_map, OnOk, IfOk};
+ghost use Rattle.std.specs.Prelude.{◌≡◌, ◌≤◌, ◌⊎◌, ℕ, nat_eq, [], ◌∷◌, ◌++◌, Some, None, option_map, OnOk, IfOk};
 ghost use Rattle.std.specs.Bool.{OnTrue};
-ghost use Rattle.am_mount.specs.Index.{listed, HasRoom, SameLists};
-ghost use Rattle.am_mount.specs.Family.{children_in, one_placed, placed_in, AddsChild, HasRoomFor, MayGo, SameChildren, TakesChild};
+ghost use Rattle.am_mount.specs.Index.{listed, number_at, AddsTo, HasRoom, HasRoomAt, SameLists};
+ghost use Rattle.am_mount.specs.Family.{children_in, placed_in, AddsChild, HasRoomFor, MayGo, SameChildren, TakesChild};
+ghost use Rattle.am_mount.specs.Siblings.{mounts_of, placed_of};
 
 use crate::few::take_out;
 use crate::index::Index;
+use crate::siblings::{Child, Siblings};
 use am_names::MountId;
 use am_ordered::Rows;
 use std::alloc::{AllocError, Global};
-
-/// A mount, and the bucket of the place at which it is mounted.
-#[derive(Clone, Copy, Drop)]
-pub struct Child {
-    pub mount: MountId,
-    pub bucket: u64,
-}
 
 /// Mounts in rising order, and by the bucket of their place.
 #[derive(Drop)]
@@ -30,7 +25,9 @@ pub struct Several {
 pub enum Family {
     /// The mount, if there is one.
     One(Option<Child>),
-    /// Two or more, or those that are left of them.
+    /// Two or more, or those that are left of them: all are looked through.
+    Siblings(Box<Siblings>),
+    /// Many, or those that are left of them: their buckets have an index.
     Many(Box<Several>),
 }
 
@@ -46,24 +43,6 @@ fn take_one_out(one: &mut Option<Child>, mount: MountId)
     }
 }
 
-/// The mount, and room for another at a place of this bucket, with the spot of that.
-fn one_of_two(child: Child, bucket: u64, alloc: Global) -> Result<(Several, usize), AllocError>
-    ensures mounts { IfOk result (λ made. made.0.mounts.rows ≡ child.mount ∷ []) }
-    ensures placed { IfOk result (λ made. (b : ℕ) →
-        listed made.0.places b ≡ one_placed (Some child) b) }
-    ensures room { IfOk result (λ made. 1 ≤ made.0.mounts.room) }
-    ensures spot { IfOk result (λ made. HasRoom made.0.places bucket made.1) }
-{
-    let mut mounts = Rows::new(alloc);
-    mounts.reserve(2)?;
-    mounts.push_reserved(child.mount);
-    let mut places = Index::new(alloc);
-    let first = places.make_room(child.bucket)?;
-    places.add(first, child.mount);
-    let spot = places.make_room(bucket)?;
-    Ok((Several { mounts, places }, spot))
-}
-
 impl Several {
     /// Makes room for one more mount at a place of this bucket. The answer is its spot.
     fn make_room(&mut self, bucket: u64) -> Result<usize, AllocError>
@@ -75,6 +54,50 @@ impl Several {
         self.mounts.reserve(1)?;
         self.places.make_room(bucket)
     }
+
+    /// A mount behind the others, for which there is room at this spot.
+    fn add(&mut self, spot: usize, mount: MountId)
+        requires room { 1 ≤ self.old.mounts.room }
+        requires spot { HasRoomAt self.old.places spot }
+        ensures mounts { self.new.mounts.rows ≡ self.old.mounts.rows ++ mount ∷ [] }
+        ensures places { (b : ℕ) → number_at self.old.places spot ≡ Some b →
+            AddsTo (λ n. nat_eq b n) mount self.old.places self.new.places }
+    {
+        self.mounts.push_reserved(mount);
+        self.places.add(spot, mount);
+    }
+
+    /// A mount behind the others.
+    fn push(&mut self, child: Child) -> Result<(), AllocError>
+        ensures mounts { OnOk result
+            (self.new.mounts.rows ≡ self.old.mounts.rows ++ child.mount ∷ []) }
+        ensures places { OnOk result
+            (AddsTo (λ b. nat_eq child.bucket b) child.mount self.old.places self.new.places) }
+    {
+        let spot = self.make_room(child.bucket)?;
+        self.add(spot, child.mount);
+        Ok(())
+    }
+}
+
+/// The same mounts, by the bucket of their place, and room for one more at a place of this bucket,
+/// with the spot of that.
+fn many_of(siblings: &Siblings, bucket: u64, alloc: Global) -> Result<(Several, usize), AllocError>
+    ensures mounts { IfOk result (λ made. made.0.mounts.rows ≡ mounts_of siblings.now.rows) }
+    ensures placed { IfOk result (λ made. (b : ℕ) →
+        listed made.0.places b ≡ placed_of siblings.now.rows b) }
+    ensures room { IfOk result (λ made. 1 ≤ made.0.mounts.room) }
+    ensures spot { IfOk result (λ made. HasRoom made.0.places bucket made.1) }
+{
+    let mut several = Several {
+        mounts: Rows::new(alloc),
+        places: Index::new(alloc),
+    };
+    for index in 0..siblings.len() {
+        several.push(siblings.child(index))?;
+    }
+    let spot = several.make_room(bucket)?;
+    Ok((several, spot))
 }
 
 impl Family {
@@ -85,20 +108,8 @@ impl Family {
         match self {
             Family::One(None) => &[],
             Family::One(Some(child)) => std::slice::from_ref(&child.mount),
+            Family::Siblings(siblings) => siblings.mounts(),
             Family::Many(several) => several.mounts.as_slice(),
-        }
-    }
-
-    /// The mounts at places of this bucket.
-    pub fn at(&self, bucket: u64) -> &[MountId]
-        ensures { result.now ≡ placed_in self.now bucket }
-    {
-        match self {
-            Family::One(Some(child)) if child.bucket == bucket => std::slice::from_ref(
-                &child.mount,
-            ),
-            Family::One(_) => &[],
-            Family::Many(several) => several.places.list(bucket),
         }
     }
 
@@ -109,6 +120,7 @@ impl Family {
     {
         match self {
             Family::One(child) => child.is_none(),
+            Family::Siblings(siblings) => siblings.mounts().is_empty(),
             Family::Many(several) => several.mounts.as_slice().is_empty()
                 && several.places.is_empty(),
         }
@@ -123,9 +135,18 @@ impl Family {
         match self {
             Family::One(None) => Ok(0),
             Family::One(Some(child)) => {
-                let (several, spot) = one_of_two(*child, bucket, alloc)?;
-                *self = Family::Many(Box::new(alloc, several)?);
-                Ok(spot)
+                let siblings = Siblings::one_of_two(*child, alloc)?;
+                *self = Family::Siblings(Box::new(alloc, siblings)?);
+                Ok(0)
+            }
+            Family::Siblings(siblings) => {
+                if siblings.are_many() {
+                    let (several, spot) = many_of(siblings, bucket, alloc)?;
+                    *self = Family::Many(Box::new(alloc, several)?);
+                    return Ok(spot);
+                }
+                siblings.make_room(1)?;
+                Ok(0)
             }
             Family::Many(several) => several.make_room(bucket),
         }
@@ -138,11 +159,8 @@ impl Family {
     {
         match self {
             Family::One(one) => *one = Some(Child { mount, bucket }),
-            Family::Many(several) => {
-                let several = &mut **several;
-                several.mounts.push_reserved(mount);
-                several.places.add(spot, mount);
-            }
+            Family::Siblings(siblings) => siblings.push_reserved(Child { mount, bucket }),
+            Family::Many(several) => several.add(spot, mount),
         }
     }
 
@@ -153,6 +171,7 @@ impl Family {
     {
         match self {
             Family::One(one) => take_one_out(one, mount),
+            Family::Siblings(siblings) => siblings.take_out(mount),
             Family::Many(several) => {
                 let several = &mut **several;
                 take_out(&mut several.mounts, mount);

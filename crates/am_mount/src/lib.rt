@@ -7,6 +7,7 @@ mod family;
 mod few;
 mod index;
 mod indexes;
+mod siblings;
 pub mod tree;
 mod watched;
 

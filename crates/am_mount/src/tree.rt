@@ -1,18 +1,23 @@
 //! The rows of all mounts.
 
-ghost use Rattle.std.specs.Prelude.{◌≡◌, ◌≤◌, ◌-◌, ◌++◌, ◌↔◌, ℕ, [], take, length, filter, not, option_map, find, ◌∷◌, IsTrue, Some, IfOk, IfSome, IfNone, OnOk, OnErr};
+ghost use Rattle.std.specs.Prelude.{◌≡◌, ◌==◌, ◌&&◌, ◌≤◌, ◌-◌, ◌++◌, ◌↔◌, ℕ, [], take, length, filter, not, option_map, find, ◌∷◌, IsTrue, Some, IfOk, IfSome, IfNone, OnOk, OnErr};
 ghost use Rattle.std.specs.Bool.{OnTrue};
 ghost use Rattle.std.specs.List.{Contains, slice_get};
 ghost use Rattle.std.specs.List.Sorted.{IsStrictlyIncreasing};
 ghost use Rattle.std.specs.Option.{option_copied};
 ghost use Rattle.std.specs.List.{list_any};
 ghost use Rattle.am_names.specs.{IsCanonical, names_of, is_among};
+ghost use Rattle.am_mount.specs.Families.{placed_found};
+ghost use Rattle.am_mount.specs.Family.{one_placed};
 ghost use Rattle.am_mount.specs.Found.{stands_at, stands_alone};
 ghost use Rattle.am_mount.specs.Indexed.{AreIndexed};
+ghost use Rattle.am_mount.specs.Siblings.{placed_of};
 ghost use Rattle.am_mount.specs.Rows.{last_of, IsRising, next_of, mount_row, mounts_where, is_in, is_child, has_fs, is_at, top_of, root_of, HasRow, IsIn, IsOn, IsTop, HasNoMountAt};
 
 use crate::among::leave_out;
+use crate::family::Family;
 use crate::indexes::Indexes;
+use crate::siblings::{Child, Siblings};
 use am_names::{FsId, MountId, MountRow, NsId, bucket};
 use am_ordered::Rows;
 use std::alloc::{AllocError, Global};
@@ -156,6 +161,88 @@ fn last_at(rows: &[MountRow], parent: MountId, place: &[u8], mounts: &[MountId])
         }
     }
     None
+}
+
+/// Whether the child is at a place of this bucket, and mounted at this place of that mount.
+fn child_stands_at(
+    rows: &[MountRow],
+    parent: MountId,
+    place: &[u8],
+    bucket: u64,
+    child: &Child,
+) -> bool
+    requires rising { IsRising rows.now }
+    requires canonical { IsCanonical place.now }
+    ensures { result ≡ ((child.now.bucket == bucket) &&
+        stands_at rows.now parent (names_of place.now) child.now.mount) }
+{
+    child.bucket == bucket && stands_at(rows, parent, place, child.mount)
+}
+
+/// The last of these mounts that is at a place of this bucket, and mounted at this place of that one.
+fn last_of_siblings(
+    rows: &[MountRow],
+    parent: MountId,
+    place: &[u8],
+    bucket: u64,
+    siblings: &Siblings,
+) -> Option<MountId>
+    requires rising { IsRising rows.now }
+    requires canonical { IsCanonical place.now }
+    ensures { result ≡ last_of (filter (λ m. stands_at rows.now parent (names_of place.now) m)
+        (placed_of siblings.now.rows bucket)) }
+{
+    let mut left = siblings.len();
+    while left > 0 {
+        left -= 1;
+        let child = siblings.child(left);
+        if child_stands_at(rows, parent, place, bucket, &child) {
+            return Some(child.mount);
+        }
+    }
+    None
+}
+
+/// The mount, if it is at a place of this bucket, and mounted at this place of that one.
+fn only_child(
+    rows: &[MountRow],
+    parent: MountId,
+    place: &[u8],
+    bucket: u64,
+    child: &Child,
+) -> Option<MountId>
+    requires rising { IsRising rows.now }
+    requires canonical { IsCanonical place.now }
+    ensures { result ≡ last_of (filter (λ m. stands_at rows.now parent (names_of place.now) m)
+        (one_placed (Some child.now) bucket)) }
+{
+    if child_stands_at(rows, parent, place, bucket, child) {
+        Some(child.mount)
+    } else {
+        None
+    }
+}
+
+/// The last mount of the family, if there is one, that is at a place of this bucket, and mounted at
+/// this place of that one.
+fn last_in(
+    rows: &[MountRow],
+    parent: MountId,
+    place: &[u8],
+    bucket: u64,
+    family: Option<&Family>,
+) -> Option<MountId>
+    requires rising { IsRising rows.now }
+    requires canonical { IsCanonical place.now }
+    ensures { result ≡ last_of (filter (λ m. stands_at rows.now parent (names_of place.now) m)
+        (placed_found (option_copied family.entry) bucket)) }
+{
+    match family {
+        None | Some(Family::One(None)) => None,
+        Some(Family::One(Some(child))) => only_child(rows, parent, place, bucket, child),
+        Some(Family::Siblings(siblings)) => last_of_siblings(rows, parent, place, bucket, siblings),
+        Some(Family::Many(several)) => last_at(rows, parent, place, several.places.list(bucket)),
+    }
 }
 
 /// Whether the mount is mounted nowhere.
@@ -338,8 +425,8 @@ impl Tree {
         ensures greatest { IfSome result (IsTop self.now mount (names_of place.now)) }
         ensures free { IfNone result (HasNoMountAt self.now mount (names_of place.now)) }
     {
-        let mounts = self.indexes.families.list_at(mount.0, bucket(place));
-        last_at(self.rows.as_slice(), mount, place, mounts)
+        let family = self.indexes.families.family(mount.0);
+        last_in(self.rows.as_slice(), mount, place, bucket(place), family)
     }
 
     /// The root mount of the namespace.

@@ -1,0 +1,48 @@
+use Rattle.std.proofs.Common.{◌≡◌, ℕ, List, Ok, Err, sym, ap, subst, ◌∙◌, rules}
+use Rattle.std.specs.List.Sorted.{IsBinarySearchResult}
+use Rattle.std.specs.Ordering.{nat_cmp}
+use Rattle.std.proofs.lemmas.List.Sorted.{answers_always}
+use Rattle.am_mount.specs.Siblings.{mounts_of, but_child}
+use Rattle.am_mount.proofs.SiblingLemmas.{child_found, child_unfound, mounts_told}
+use Rattle.am_mount.proofs.siblings.Siblings.index_of.Goals as goal
+
+pub returns-in-Ok-clause-within : goal.returns-in-Ok-clause-within
+returns-in-Ok-clause-within c =
+    let children = c.args.self.now.rows in
+    let own : c.as_slice.result.now ≡ mounts_of children =
+    c.as_slice.ensures.value ∙
+    mounts_told c.self.inside.mounts c.self.inside.buckets c.self.invariant c.args.self.now c.self.view_is in
+    let number = c.mount.inside.0 in
+    let by_number = c.in-Ok.ensures.position (λ (g : ℕ). g)
+    (answers_always _ _ _ (λ f a r g called. search rules)) in
+    let found : IsBinarySearchResult (λ y. nat_cmp y number) (mounts_of children) (Ok c.in-Ok.index) =
+    subst (λ (xs : List ℕ). IsBinarySearchResult (λ y. nat_cmp y number) xs (Ok c.in-Ok.index)) own by_number in
+    (child_found number children c.requires c.in-Ok.index found).0
+
+pub returns-in-Ok-clause-left : goal.returns-in-Ok-clause-left
+returns-in-Ok-clause-left c =
+    let children = c.args.self.now.rows in
+    let own : c.as_slice.result.now ≡ mounts_of children =
+    c.as_slice.ensures.value ∙
+    mounts_told c.self.inside.mounts c.self.inside.buckets c.self.invariant c.args.self.now c.self.view_is in
+    let number = c.mount.inside.0 in
+    let by_number = c.in-Ok.ensures.position (λ (g : ℕ). g)
+    (answers_always _ _ _ (λ f a r g called. search rules)) in
+    let found : IsBinarySearchResult (λ y. nat_cmp y number) (mounts_of children) (Ok c.in-Ok.index) =
+    subst (λ (xs : List ℕ). IsBinarySearchResult (λ y. nat_cmp y number) xs (Ok c.in-Ok.index)) own by_number in
+    (child_found number children c.requires c.in-Ok.index found).1 ∙
+    ap (λ (m : ℕ). but_child m children) c.mount.view_is
+
+pub returns-in-Err-clause-none : goal.returns-in-Err-clause-none
+returns-in-Err-clause-none c =
+    let children = c.args.self.now.rows in
+    let own : c.as_slice.result.now ≡ mounts_of children =
+    c.as_slice.ensures.value ∙
+    mounts_told c.self.inside.mounts c.self.inside.buckets c.self.invariant c.args.self.now c.self.view_is in
+    let number = c.mount.inside.0 in
+    let by_number = c.in-Err.ensures.position (λ (g : ℕ). g)
+    (answers_always _ _ _ (λ f a r g called. search rules)) in
+    let none : IsBinarySearchResult (λ y. nat_cmp y number) (mounts_of children) (Err c.in-Err.field-0) =
+    subst (λ (xs : List ℕ). IsBinarySearchResult (λ y. nat_cmp y number) xs (Err c.in-Err.field-0)) own by_number in
+    ap (λ (m : ℕ). but_child m children) (sym c.mount.view_is) ∙
+    child_unfound number children c.requires c.in-Err.field-0 none
