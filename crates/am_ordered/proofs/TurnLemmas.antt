@@ -1,9 +1,9 @@
--- Lists behind a place, and lists of which some rows come before the others.
+-- Lists behind a place, and lists of which some rows come before the others or behind them.
 use Rattle.std.proofs.Common.{◌≡◌, ◌≤◌, ◌+◌, ◌-◌, ℕ, zero, suc, List, [], ◌∷◌, ◌++◌, length, drop, take, refl, sym, ap, subst, ◌∙◌, arith}
 use Rattle.std.proofs.Math.ListN.{drop_of_length-le}
 use Rattle.std.specs.List.{insert}
-use Rattle.std.proofs.Math.Seq.{take-append_seam}
-use Rattle.std.proofs.lemmas.List.{length-drop, length-take-le, length-append, append-nil, take_rest}
+use Rattle.std.proofs.Math.Seq.{take-append_seam, take-append-add}
+use Rattle.std.proofs.lemmas.List.{length-drop, length-take-le, length-append, append-nil, take_rest, take-append-le, drop-drop}
 
 module _ {X : Type 0} where
   -- what is left of the rows where so many from this index on go
@@ -61,6 +61,27 @@ module _ {X : Type 0} where
       (subst (λ (k : ℕ). drop (gone + count) (take k ((take gone vs ++ (ts ++ drop (length vs - gone) (drop gone vs)))
       ++ drop (length (take gone vs ++ (ts ++ drop (length vs - gone) (drop gone vs)))) vs)) ≡ left_out index count (drop gone vs)) len
       (brought_in vs ts gone index count (subst (λ (k : ℕ). gone + index + count ≤ k) (sym len) within) long e))
+
+  -- some of the rows behind the first ones come last, whatever is behind all of them
+  pub turned_back : (xs ts rest : List X) (index count : ℕ) → index + count ≤ length xs →
+      length ts ≡ length (take (length xs - index) (drop index xs)) →
+      take (length (take (length xs - index) (drop index xs)) - count) ts
+      ≡ drop count (take (length xs - index) (drop index xs)) →
+      take (length xs - count) (take index xs ++ (ts ++ rest)) ≡ left_out index count xs
+  turned_back xs ts rest index count within long e =
+      let same : take (length xs - index) (drop index xs) ≡ drop index xs = take_rest xs index in
+      let behind : length (drop index xs) ≡ length xs - index = length-drop index xs in
+      let before : length (take index xs) ≡ index = length-take-le index xs (omega (within, arith)) in
+      let left : ℕ = length (drop index xs) - count in
+      let all : length ts ≡ length (drop index xs) = long ∙ ap (λ (l : List X). length l) same in
+      let stay : length xs - count ≡ length (take index xs) + left =
+      rw (before, behind) (omega (within, arith)) in
+      ap (λ (n : ℕ). take n (take index xs ++ (ts ++ rest))) stay
+      ∙ take-append-add (take index xs) (ts ++ rest) left
+      ∙ ap (λ (l : List X). take index xs ++ l)
+      (take-append-le left ts rest (omega (all, arith))
+      ∙ subst (λ (l : List X). take (length l - count) ts ≡ drop count l) same e
+      ∙ drop-drop count index xs)
 
   -- a row that comes among those behind the first ones
   pub inserted_behind : (gone place : ℕ) (xs : List X) (x : X) → gone ≤ length xs → drop gone (insert xs (gone + place) x) ≡ insert (drop gone xs) place x

@@ -34,6 +34,33 @@ impl<T> Model for Rows<T> {
     ghost invariant = { λ r. IsWithin r.slots r.gone };
 }
 
+/// The rows behind the first so many, which are no more than these, change places with as many of
+/// these: both keep their order.
+fn trade<T>(rows: &mut [T], count: usize)
+    requires within { count ≤ length rows.old }
+    requires half { length rows.old ≤ count + count }
+    ensures first { take (length rows.old - count) rows.new ≡ drop count rows.old }
+    ensures last { drop count rows.new ≡ take (length rows.old - count) rows.old }
+    ensures len { length rows.new ≡ length rows.old }
+{
+    let behind = rows.len() - count;
+    let (first, last) = rows.split_at_mut(count);
+    first[..behind].swap_with_slice(last);
+}
+
+/// The rows behind the first so many come before them, and keep their order.
+fn bring_up<T>(rows: &mut [T], count: usize)
+    requires { count ≤ length rows.old }
+    ensures rows { take (length rows.old - count) rows.new ≡ drop count rows.old }
+    ensures len { length rows.new ≡ length rows.old }
+{
+    if rows.len() - count <= count {
+        trade(rows, count);
+    } else {
+        rows.rotate_left(count);
+    }
+}
+
 /// The first slots go.
 fn cut<T: Drop>(slots: &mut Vec<T>, count: usize)
     requires { count ≤ vec_len slots.old }
@@ -42,7 +69,7 @@ fn cut<T: Drop>(slots: &mut Vec<T>, count: usize)
     ensures capacity { vec_capacity slots.new ≡ vec_capacity slots.old }
 {
     let left = slots.len() - count;
-    slots.rotate_left(count);
+    bring_up(&mut slots[..], count);
     slots.truncate(left);
 }
 
@@ -63,13 +90,26 @@ fn pass<T: Drop>(slots: &mut Vec<T>, gone: &mut usize, count: usize)
     }
 }
 
+/// The rows before the last so many come behind them, and keep their order.
+fn bring_down<T>(rows: &mut [T], count: usize)
+    requires { count ≤ length rows.old }
+    ensures rows { drop count rows.new ≡ take (length rows.old - count) rows.old }
+    ensures len { length rows.new ≡ length rows.old }
+{
+    if rows.len() - count <= count {
+        trade(rows, count);
+    } else {
+        rows.rotate_right(count);
+    }
+}
+
 /// So many rows from this index on come before all others, which keep their order.
 fn turn<T>(rows: &mut [T], index: usize, count: usize)
     requires { index + count ≤ length rows.old }
     ensures rows { drop count rows.new ≡ take index rows.old ++ drop (index + count) rows.old }
     ensures len { length rows.new ≡ length rows.old }
 {
-    rows[..index + count].rotate_right(count);
+    bring_down(&mut rows[..index + count], count);
 }
 
 /// So many rows from this index on come before all others that are there, which keep their order.
@@ -83,6 +123,16 @@ fn bring_first<T>(slots: &mut Vec<T>, gone: usize, index: usize, count: usize)
     turn(&mut slots[gone..], index, count);
 }
 
+/// So many rows from this index on come behind all others, which keep their order.
+fn turn_back<T>(rows: &mut [T], index: usize, count: usize)
+    requires { index + count ≤ length rows.old }
+    ensures rows { take (length rows.old - count) rows.new ≡
+        take index rows.old ++ drop (index + count) rows.old }
+    ensures len { length rows.new ≡ length rows.old }
+{
+    bring_up(&mut rows[index..], count);
+}
+
 /// So many slots from this one on go. Those behind them move up.
 fn close<T: Drop>(slots: &mut Vec<T>, from: usize, count: usize)
     requires { from + count ≤ vec_len slots.old }
@@ -92,7 +142,7 @@ fn close<T: Drop>(slots: &mut Vec<T>, from: usize, count: usize)
     ensures capacity { vec_capacity slots.new ≡ vec_capacity slots.old }
 {
     let left = slots.len() - count;
-    slots[from..].rotate_left(count);
+    turn_back(&mut slots[..], from, count);
     slots.truncate(left);
 }
 
