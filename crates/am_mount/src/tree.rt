@@ -324,7 +324,7 @@ impl Tree {
     }
 
     /// Adds a mount whose number is above all that are there.
-    fn add(&mut self, row: MountRow) -> Result<(), AllocError>
+    pub fn add(&mut self, row: MountRow) -> Result<(), AllocError>
         requires { IsRising (self.old ++ row ∷ []) }
         ensures ok { OnOk result (self.new ≡ self.old ++ row ∷ []) }
         ensures err { OnErr result (self.new ≡ self.old) }

@@ -16,7 +16,7 @@ use Rattle.am_propagate.specs.{ShareFs, IsWhole, grown}
 use Rattle.am_propagate.proofs.RemovalLemmas.{some_of, same_there, same_along}
 
 -- rows that follow rise too
-rows_follow : (low c : ℕ) (xs ys : List MountRow) → RiseFrom low xs → low ≤ c → ((m : ℕ) (row : MountRow) → mount_row xs m ≡ Some row → m < c) → RiseFrom c ys → RiseFrom low (xs ++ ys)
+pub rows_follow : (low c : ℕ) (xs ys : List MountRow) → RiseFrom low xs → low ≤ c → ((m : ℕ) (row : MountRow) → mount_row xs m ≡ Some row → m < c) → RiseFrom c ys → RiseFrom low (xs ++ ys)
 rows_follow low c [] [] rises le below more = tt
 rows_follow low c [] (y ∷ ys) rises le below more = let first : c ≤ y.mount = more.0 in (omega arith, more.1)
 rows_follow low c (x ∷ xs) ys rises le below more =

@@ -446,12 +446,6 @@ module _ (t : MountTable) (whole : IsWhole t) (ns : ℕ) (form : CopyForm) where
       ap (filter_map (λ m. option_map f (member_row t.groups.members m))) (sym kept_keys) ∙
       looked_up (λ (r : MemberRow). r.mount) f (λ r. is_among (mounts_in t ns) r.mount) (member_row t.groups.members) 0 t.groups.members (rises_members 0 t.groups.members whole.sound.orderly.rising) (λ m le. refl)
 
-  -- there are as many as mounts
-  pub rows_long : (f : MountRow → MountRow) (xs : List ℕ) (new_rows : List MountRow) → xs ≡ mounts_in t ns → new_rows ≡ filter_map (λ m. option_map f (mount_row t.rows m)) xs → length new_rows ≡ length xs
-  rows_long f xs new_rows xs_is rows_are =
-      rw (rows_are, xs_is, rows_looked_up f)
-      (length-map (filter (is_in ns) t.rows) f ∙ sym (length-map (filter (is_in ns) t.rows) (λ (r : MountRow). r.mount)))
-
   -- rows that are just those that are looked up, whatever they are called
   pub copy_grown : (xs : List ℕ) (to : ℕ) (new_rows : List MountRow) (new_members : List MemberRow) (groups : List GroupRow) → xs ≡ mounts_in t ns → to ≡ t.last_ns + 1 → new_rows ≡ filter_map (λ m. option_map (row_in (copy_number t.last_mount xs) to) (mount_row t.rows m)) xs → new_members ≡ filter_map (λ m. option_map (member_in form (copy_number t.last_mount xs)) (member_row t.groups.members m)) xs → groups ≡ [] → grown new_rows new_members groups to t ≡ with_copy form ns t
   copy_grown xs to new_rows new_members groups xs_is to_is rows_are members_are groups_are =

@@ -8,6 +8,7 @@ pub mod Grown
 pub mod Changed
 pub mod Namespaces
 pub mod NewMounts
+pub mod Copying
 pub mod NamespaceCopies
 pub mod ReceiverCopies
 pub mod GroupsOfCopies

@@ -1,20 +1,23 @@
 //! Copies of namespaces.
 
-ghost use Rattle.std.specs.Prelude.{◌≡◌, ◌+◌, ◌^◌, ◌<◌, ◌≤◌, ◌++◌, length, option_map, IfOk, OnOk, OnErr};
-ghost use Rattle.std.specs.List.{filter_map};
+ghost use Rattle.std.specs.Prelude.{◌≡◌, ◌+◌, ◌^◌, ◌<◌, ◌≤◌, ◌++◌, [], length, option_map, IfOk, OnOk, OnErr};
+ghost use Rattle.std.specs.Option.{option_to_list};
 ghost use Rattle.std.specs.List.Sorted.{IsStrictlyIncreasing};
 ghost use Rattle.am_names.specs.{RefusedAs};
-ghost use Rattle.am_group.specs.{AddsNoReceivers, member_row};
+ghost use Rattle.am_group.specs.{AddsNoReceivers, IsSound, all_added};
 ghost use Rattle.am_mount.specs.{mount_row};
 ghost use Rattle.am_propagate.specs.MountTable.{all_mounts};
 ghost use Rattle.am_propagate.specs.Added.{new_mounts};
 ghost use Rattle.am_propagate.specs.Removed.{mounts_in};
+ghost use Rattle.am_propagate.specs.Copying.{AreBelow, AreThere, rows_in, members_in, with_copies};
+ghost use Rattle.am_propagate.specs.Invariant.{IsWhole};
 ghost use Rattle.am_propagate.specs.NamespaceCopies.{AreCopies};
-ghost use Rattle.am_propagate.specs.Namespaces.{count_up_to, copy_number, row_in, in_form, member_in, copy_refusal, with_copy};
+ghost use Rattle.am_propagate.specs.Namespaces.{count_up_to, copy_number, row_in, in_form, copy_refusal, with_copy};
 
 use crate::subtree::Subtree;
 use crate::subtree::addition::numbers_after;
-use crate::subtree::joining::Joining;
+use am_group::Groups;
+use am_mount::Tree;
 use am_names::{Errno, MemberRow, MountId, MountRow, NsId, Position};
 use std::alloc::{AllocError, Global};
 
@@ -74,87 +77,162 @@ fn copy_number(last: u64, mounts: &[MountId], mount: MountId) -> MountId
     MountId(last + count_up_to(mount, mounts) as u64)
 }
 
-impl Subtree {
-    /// Copies of the rows of these mounts, which have the next numbers.
-    fn rows_in(
-        &self,
-        alloc: Global,
-        mounts: &[MountId],
-        to: NsId,
-    ) -> Result<Vec<MountRow>, AllocError>
-        requires numbers { self.now.last_mount + length mounts.now < 2 ^ 64 }
-        requires rising { IsStrictlyIncreasing mounts.now }
-        ensures { IfOk result (λ v. v.items ≡ filter_map
-            (λ m. option_map (row_in (copy_number self.now.last_mount mounts.now) to)
-            (mount_row self.now.rows m)) mounts.now) }
-    {
-        let mut rows = Vec::with_capacity(alloc, mounts.len())?;
-        let mut number = self.last_mount;
-        for mount in mounts {
-            number += 1;
-            if let Some(row) = self.tree.row(*mount) {
-                rows.push(self.row_in(alloc, mounts, row, MountId(number), to)?)?;
-            }
+/// A copy of the row, which has this number.
+fn row_in(
+    alloc: Global,
+    last: u64,
+    mounts: &[MountId],
+    row: &MountRow,
+    number: MountId,
+    to: NsId,
+) -> Result<MountRow, AllocError>
+    requires numbers { last + length mounts.now < 2 ^ 64 }
+    requires rising { IsStrictlyIncreasing mounts.now }
+    requires number { number ≡ copy_number last mounts.now row.now.mount }
+    ensures { IfOk result (λ copy. copy ≡ row_in (copy_number last mounts.now) to row.now) }
+{
+    let mountpoint = match &row.mountpoint {
+        Some(position) => Some(Position {
+            mount: copy_number(last, mounts, position.mount),
+            place: position.place.copy(alloc)?,
+        }),
+        None => None,
+    };
+    Ok(MountRow {
+        mount: number,
+        ns: to,
+        mountpoint,
+        fs: row.fs,
+        origin: row.origin,
+    })
+}
+
+/// Adds a copy of the mount's row, if it is there, behind the others.
+fn add_row_in(
+    tree: &mut Tree,
+    alloc: Global,
+    last: u64,
+    mounts: &[MountId],
+    mount: MountId,
+    number: MountId,
+    to: NsId,
+) -> Result<(), AllocError>
+    requires numbers { last + length mounts.now < 2 ^ 64 }
+    requires rising { IsStrictlyIncreasing mounts.now }
+    requires number { number ≡ copy_number last mounts.now mount }
+    requires above { AreBelow number tree.old }
+    ensures ok { OnOk result (tree.new ≡ tree.old ++ option_to_list
+        (option_map (row_in (copy_number last mounts.now) to) (mount_row tree.old mount))) }
+    ensures err { OnErr result (tree.new ≡ tree.old) }
+{
+    // For the checker: that the rows rise is known where they are lent.
+    let _rows = tree.rows();
+    let Some(row) = tree.row(mount) else {
+        return Ok(());
+    };
+    let copy = row_in(alloc, last, mounts, row, number, to)?;
+    tree.add(copy)
+}
+
+/// Adds copies of the rows of these mounts, which have the numbers behind `last`, all or none.
+fn add_rows_in(
+    tree: &mut Tree,
+    alloc: Global,
+    last: u64,
+    mounts: &[MountId],
+    to: NsId,
+) -> Result<(), AllocError>
+    requires numbers { last + length mounts.now < 2 ^ 64 }
+    requires rising { IsStrictlyIncreasing mounts.now }
+    requires above { AreBelow (last + 1) tree.old }
+    requires there { AreThere mounts.now tree.old }
+    ensures ok { OnOk result (tree.new ≡ tree.old ++ rows_in last mounts.now to tree.old) }
+    ensures err { OnErr result (tree.new ≡ tree.old) }
+{
+    for at in 0..mounts.len() {
+        let number = MountId(last + at as u64 + 1);
+        if let Err(error) = add_row_in(tree, alloc, last, mounts, mounts[at], number, to) {
+            tree.take_back(at);
+            return Err(error);
         }
-        Ok(rows)
     }
+    Ok(())
+}
 
-    /// A copy of the row, which has this number.
-    fn row_in(
-        &self,
-        alloc: Global,
-        mounts: &[MountId],
-        row: &MountRow,
-        number: MountId,
-        to: NsId,
-    ) -> Result<MountRow, AllocError>
-        requires numbers { self.now.last_mount + length mounts.now < 2 ^ 64 }
-        requires rising { IsStrictlyIncreasing mounts.now }
-        requires number { number ≡ copy_number self.now.last_mount mounts.now row.now.mount }
-        ensures { IfOk result (λ copy. copy ≡
-            row_in (copy_number self.now.last_mount mounts.now) to row.now) }
-    {
-        let mountpoint = match &row.mountpoint {
-            Some(position) => Some(Position {
-                mount: copy_number(self.last_mount, mounts, position.mount),
-                place: position.place.copy(alloc)?,
-            }),
-            None => None,
-        };
-        Ok(MountRow {
-            mount: number,
-            ns: to,
-            mountpoint,
-            fs: row.fs,
-            origin: row.origin,
-        })
+/// The propagation of copies of these mounts, which have the numbers behind `last`.
+fn members_in(
+    groups: &Groups,
+    alloc: Global,
+    last: u64,
+    mounts: &[MountId],
+    form: CopyForm,
+) -> Result<Vec<MemberRow>, AllocError>
+    requires numbers { last + length mounts.now < 2 ^ 64 }
+    requires rising { IsStrictlyIncreasing mounts.now }
+    ensures { IfOk result (λ v. v.items ≡ members_in form last mounts.now groups.now.members) }
+{
+    let mut members = Vec::with_capacity(alloc, mounts.len())?;
+    let mut number = last;
+    for mount in mounts {
+        number += 1;
+        if let Some(row) = groups.member(*mount) {
+            members.push(MemberRow {
+                mount: MountId(number),
+                ..form.of(row)
+            })?;
+        }
     }
+    Ok(members)
+}
 
-    /// The propagation of copies of these mounts, which have the next numbers.
-    fn members_in(
-        &self,
+/// Adds the propagation of copies of these mounts, all or none.
+fn add_members_in(
+    groups: &mut Groups,
+    alloc: Global,
+    last: u64,
+    mounts: &[MountId],
+    form: CopyForm,
+) -> Result<(), AllocError>
+    requires numbers { last + length mounts.now < 2 ^ 64 }
+    requires rising { IsStrictlyIncreasing mounts.now }
+    requires sound { IsSound
+        (all_added (members_in form last mounts.now groups.old.members) [] groups.old) }
+    ensures ok { OnOk result (groups.new ≡
+        all_added (members_in form last mounts.now groups.old.members) [] groups.old) }
+    ensures err { OnErr result (groups.new ≡ groups.old) }
+{
+    // For the checker: the numbers of groups have 64 bits.
+    let _last = groups.last_group().0;
+    let members = members_in(groups, alloc, last, mounts, form)?;
+    groups.add_all(members, Vec::new(alloc))
+}
+
+impl Subtree {
+    /// Adds copies of these mounts in a new namespace, all or none. The caller shows that the
+    /// invariant holds of all together.
+    fn add_copies(
+        &mut self,
         alloc: Global,
         mounts: &[MountId],
         form: CopyForm,
-    ) -> Result<Vec<MemberRow>, AllocError>
-        requires numbers { self.now.last_mount + length mounts.now < 2 ^ 64 }
+        to: NsId,
+    ) -> Result<(), AllocError>
+        requires numbers { self.old.last_mount + length mounts.now < 2 ^ 64 }
         requires rising { IsStrictlyIncreasing mounts.now }
-        ensures { IfOk result (λ v. v.items ≡ filter_map
-            (λ m. option_map (member_in form (copy_number self.now.last_mount mounts.now))
-            (member_row self.now.groups.members m)) mounts.now) }
+        requires there { AreThere mounts.now self.old.rows }
+        requires whole { IsWhole (with_copies form mounts.now to self.old) }
+        ensures ok { OnOk result (self.new ≡ with_copies form mounts.now to self.old) }
+        ensures err { OnErr result (self.new ≡ self.old) }
     {
-        let mut members = Vec::with_capacity(alloc, mounts.len())?;
-        let mut number = self.last_mount;
-        for mount in mounts {
-            number += 1;
-            if let Some(row) = self.groups.member(*mount) {
-                members.push(MemberRow {
-                    mount: MountId(number),
-                    ..form.of(row)
-                })?;
-            }
+        let last = self.last_mount;
+        add_rows_in(&mut self.tree, alloc, last, mounts, to)?;
+        if let Err(error) = add_members_in(&mut self.groups, alloc, last, mounts, form) {
+            self.tree.take_back(mounts.len());
+            return Err(error);
         }
-        Ok(members)
+        self.last_mount = last + mounts.len() as u64;
+        self.last_ns = to.0;
+        Ok(())
     }
 
     /// A new namespace with a copy of each mount of this one, mounted alike (sharedsubtree.rst,
@@ -188,13 +266,7 @@ impl Subtree {
         }
         let to = NsId(self.last_ns + 1);
         let copies = numbers_after(alloc, self.last_mount, mounts.len())?;
-        let rows = self.rows_in(alloc, mounts.as_slice(), to)?;
-        let members = self.members_in(alloc, mounts.as_slice(), form)?;
-        let joining = Joining {
-            members,
-            groups: Vec::new(alloc),
-        };
-        self.grow(rows, joining, to)?;
+        self.add_copies(alloc, mounts.as_slice(), form, to)?;
         Ok(NewNamespace {
             ns: to,
             mounts: copies,
