@@ -1,8 +1,9 @@
 -- What mounts with their buckets, stored one beside the other, are left with.
-use Rattle.std.proofs.Common.{◌≡◌, ◌≤◌, ◌<◌, ◌+◌, ℕ, zero, suc, Bool, true, false, cond, nat_eq, List, [], ◌∷◌, ◌++◌, Contains, length, take, drop, get_or, Some, Ok, Err, refl, sym, ap, subst, ◌∙◌, arith, eq-eqb, true≢false}
+use Rattle.std.proofs.Common.{◌≡◌, ◌≤◌, ◌<◌, ◌+◌, ◌-◌, ℕ, zero, suc, Bool, true, false, cond, nat_eq, List, [], ◌∷◌, ◌++◌, Contains, length, take, drop, get_or, slice_get, Some, Ok, Err, refl, sym, ap, subst, ◌∙◌, arith, eq-eqb, true≢false}
 use Rattle.std.specs.Prelude.{◌==◌, ◌&&◌, filter, not, if◌then◌else◌}
 use Rattle.std.specs.List.Sorted.{IsBinarySearchResult, IsStrictlyIncreasing}
 use Rattle.std.specs.Ordering.{nat_cmp}
+use Rattle.std.proofs.lemmas.Option.{slice_get_within, get_or_from_slice_get}
 use Rattle.std.proofs.lemmas.List.{get_or-map, map-append, take_more}
 use Rattle.std.proofs.lemmas.List.Elements.{Contains-get_or, filter-append}
 use Rattle.std.proofs.lemmas.List.Kept.{AllPairs-from_increasing}
@@ -208,17 +209,34 @@ module _ (m : ℕ) (cs : List Child) (up : IsStrictlyIncreasing (mounts_of cs)) 
       let second = number_at j d within in
       grind (arith, up, first, second)
 
+  -- the mount that stands at this index
+  child_at :
+      (i : ℕ) → i < length (mounts_of cs) → get_or (mounts_of cs) i 0 ≡ m →
+      (i < length cs) × (take i cs ++ drop (suc i) cs ≡ but_child m cs)
+  child_at i inside stands =
+      let within : i < length cs = grind (arith, many, inside) in
+      let d : Child = a_child i cs within in (
+        within,
+        sym (others_at (λ (c : Child). c.mount) cs rise i m d within
+            (sym (number_at i d within) ∙ stands)),
+      )
+
+  -- the mount that stands at the end
+  pub child_newest :
+      (mounts : List ℕ) → mounts ≡ mounts_of cs → slice_get mounts (length mounts - 1) ≡ Some m →
+      (length mounts - 1 < length cs) × (take (length mounts - 1) cs ++ drop (suc (length mounts - 1)) cs ≡ but_child m cs)
+  child_newest mounts same stands =
+      let at = length mounts - 1 in
+      child_at at
+      (subst (λ (xs : List ℕ). at < length xs) same (slice_get_within mounts at m stands))
+      (ap (λ (xs : List ℕ). get_or xs at 0) (sym same) ∙ get_or_from_slice_get mounts at m 0 stands)
+
   pub child_found :
       (i : ℕ) → IsBinarySearchResult (λ y. nat_cmp y m) (mounts_of cs) (Ok i) →
       (i < length cs) × (take i cs ++ drop (suc i) cs ≡ but_child m cs)
   child_found i position =
       let found = searched (mounts_of cs) m (Ok i) position (rises m (mounts_of cs) up) in
-      let within : i < length cs = grind (arith, many, found.0) in
-      let d : Child = a_child i cs within in (
-        within,
-        sym (others_at (λ (c : Child). c.mount) cs rise i m d within
-            (sym (number_at i d within) ∙ found.1)),
-      )
+      child_at i found.0 found.1
 
   pub child_unfound :
       (i : ℕ) → IsBinarySearchResult (λ y. nat_cmp y m) (mounts_of cs) (Err i) →

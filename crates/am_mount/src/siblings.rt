@@ -114,7 +114,8 @@ impl Siblings {
         self.buckets.push_reserved(child.bucket);
     }
 
-    /// The index of the mount in mounts that rise, in which it is found by halves.
+    /// The index of the mount in mounts that rise, at whose end the newest stands: others are found
+    /// by halves.
     fn index_of(&self, mount: MountId) -> Option<usize>
         requires { IsStrictlyIncreasing (mounts_of self.now.rows) }
         ensures within { IfSome result (λ index. index < length self.now.rows) }
@@ -122,12 +123,12 @@ impl Siblings {
             remove self.now.rows index ≡ but_child mount self.now.rows) }
         ensures none { IfNone result (but_child mount self.now.rows ≡ self.now.rows) }
     {
+        let mounts = self.mounts.as_slice();
+        if mounts.last().copied() == Some(mount) {
+            return Some(mounts.len() - 1);
+        }
         let number = mount.0;
-        let found = self
-            .mounts
-            .as_slice()
-            .binary_search_by_key(&number, |other| other.0);
-        match found {
+        match mounts.binary_search_by_key(&number, |other| other.0) {
             Ok(index) => Some(index),
             Err(_) => None,
         }

@@ -10,11 +10,11 @@ use std::alloc::{AllocError, Global};
 use std::marker::Model;
 
 /// A list of names: the path of a place below a mount's root, or that of a walk below a namespace's
-/// root. It is empty for the root itself. A text of at most 24 bytes stands in the place itself, a
+/// root. It is empty for the root itself. A text of at most 16 bytes stands in the place itself, a
 /// longer one in an allocation of its own length.
 #[derive(Debug)]
 pub struct Place {
-    text: SmallVec<u8, 24>,
+    text: SmallVec<u8, 16>,
 }
 
 // Written by hand, it is proved here once: a derived one is proved for a short and for a long text

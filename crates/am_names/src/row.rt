@@ -39,11 +39,11 @@ impl Position {
 pub struct MountRow {
     pub mount: MountId,
     pub ns: NsId,
-    /// Where it is mounted; none for the root mount of a namespace.
-    pub mountpoint: Option<Position>,
     pub fs: FsId,
     /// The mount of which this one is a propagated copy, or itself.
     pub origin: MountId,
+    /// Where it is mounted; none for the root mount of a namespace.
+    pub mountpoint: Option<Position>,
 }
 
 impl MountRow {
@@ -58,9 +58,9 @@ impl MountRow {
         Ok(MountRow {
             mount: self.mount,
             ns: self.ns,
-            mountpoint,
             fs: self.fs,
             origin: self.origin,
+            mountpoint,
         })
     }
 }

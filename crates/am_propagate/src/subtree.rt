@@ -56,9 +56,9 @@ impl Subtree {
         rows.push(MountRow {
             mount: MountId(1),
             ns: NsId(0),
-            mountpoint: None,
             fs: FsId(1),
             origin: MountId(1),
+            mountpoint: None,
         })?;
         let mut tree = Tree::new(alloc);
         tree.add_all(rows)?;

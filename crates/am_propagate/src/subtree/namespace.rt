@@ -101,9 +101,9 @@ fn row_in(
     Ok(MountRow {
         mount: number,
         ns: to,
-        mountpoint,
         fs: row.fs,
         origin: row.origin,
+        mountpoint,
     })
 }
 

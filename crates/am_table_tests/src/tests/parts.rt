@@ -421,9 +421,9 @@ impl Parts {
         let row = MountRow {
             mount: MountId(mount),
             ns: NsId(0),
-            mountpoint: None,
             fs: FsId(1),
             origin: MountId(mount),
+            mountpoint: None,
         };
         self.subtree.tree().can_add(&[row])
     }

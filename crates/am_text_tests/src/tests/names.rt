@@ -243,9 +243,9 @@ fn row_copied(alloc: Global, mount: u64, on: u64, path: &[u8]) -> Result<bool, E
     let row = MountRow {
         mount: MountId(mount),
         ns: NsId(0),
-        mountpoint: Some(position(alloc, on, path)?),
         fs: FsId(2),
         origin: MountId(mount),
+        mountpoint: Some(position(alloc, on, path)?),
     };
     let copy = row.copy(alloc)?;
     Ok(copy.mount == MountId(mount) && copy.mountpoint.is_some())
