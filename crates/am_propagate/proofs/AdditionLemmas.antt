@@ -421,12 +421,6 @@ made_length membership (Some own) receivers s = go membership (length-map (recei
     go Private e = omega arith
     go Unbindable e = omega arith
 
--- rows that are just those, whatever they are called
-pub grown_is : (t : MountTable) (at : Position) (fs : ℕ) (membership : Membership) (rs : List ℕ) (n ns : ℕ) (rows : List MountRow) (members : List MemberRow) (groups : List GroupRow) → rs ≡ receivers_of t.groups at.mount → n ≡ t.last_mount + 1 → ns ≡ t.last_ns → rows ≡ rows_at t at.place fs n n (at.mount ∷ rs) → members ≡ new_members membership (group_of t.groups at.mount) rs n t.groups → groups ≡ new_groups membership (group_of t.groups at.mount) rs t.groups → grown rows members groups ns t ≡ mounted at fs membership t
-grown_is t at fs membership rs n ns rows members groups rs_is n_is ns_is rows_are members_are groups_are =
-    subst (λ (k : ℕ). rows ≡ rows_at t at.place fs k k (at.mount ∷ rs) → members ≡ new_members membership (group_of t.groups at.mount) rs k t.groups → grown rows members groups ns t ≡ mounted at fs membership t) (sym n_is)
-    (λ r m. rw (r, m, groups_are, ns_is, rs_is) (added_mounted t at fs membership)) rows_are members_are
-
 pub mounted_whole : (t : MountTable) → IsWhole t → (at : Position) (fs : ℕ) (membership : Membership) → is_mount t at.mount ≡ true → HasSource t fs membership → IsWhole (mounted at fs membership t)
 mounted_whole t whole at fs membership there source = subst (λ (x : MountTable). IsWhole x) (added_mounted t at fs membership) (added_whole t whole at fs membership there source)
 

@@ -1,5 +1,6 @@
 pub mod AdditionLemmas
 pub mod CameLemmas
+pub mod ComingLemmas
 pub mod CopyingLemmas
 pub mod GroupCopyLemmas
 pub mod GrowthLemmas

@@ -9,6 +9,7 @@ pub mod Changed
 pub mod Namespaces
 pub mod NewMounts
 pub mod Copying
+pub mod Coming
 pub mod NamespaceCopies
 pub mod ReceiverCopies
 pub mod GroupsOfCopies

@@ -1,14 +1,12 @@
 //! All mounts with their propagation.
 
-ghost use Rattle.std.specs.Prelude.{◌≡◌, ◌+◌, ◌^◌, ◌<◌, length, None, IfOk, OnOk, OnErr};
+ghost use Rattle.std.specs.Prelude.{◌≡◌, None, IfOk, OnOk, OnErr};
 ghost use Rattle.am_names.specs.{RefusedAs};
 ghost use Rattle.am_group.specs.{AddsNoReceivers, FollowsTable, change_refusal};
 ghost use Rattle.am_propagate.specs.Changed.{with_change};
 ghost use Rattle.am_propagate.specs.MountTable.{opening, is_mount, lacks_mounts, lacks_groups};
-ghost use Rattle.am_propagate.specs.Grown.{grown};
 ghost use Rattle.am_propagate.specs.Invariant.{IsWhole};
 
-use crate::subtree::joining::Joining;
 use am_group::{Change, Groups, Membership};
 use am_mount::Tree;
 use am_names::{Errno, FsId, MountId, MountRow, NsId};
@@ -136,34 +134,5 @@ impl Subtree {
         ensures { result ≡ lacks_groups count self.now }
     {
         u64::MAX - self.groups.last_group().0 < count as u64
-    }
-
-    /// Adds these rows, all or none. The caller shows that the invariant holds of all together.
-    fn grow(
-        &mut self,
-        rows: Vec<MountRow>,
-        joining: Joining,
-        last_ns: NsId,
-    ) -> Result<(), AllocError>
-        requires mounts { self.old.last_mount + length rows.items < 2 ^ 64 }
-        requires groups { 0 < length joining.groups.items →
-            self.old.groups.last_group + length joining.groups.items < 2 ^ 64 }
-        requires whole { IsWhole
-            (grown rows.items joining.members.items joining.groups.items last_ns self.old) }
-        ensures ok { OnOk result (self.new ≡
-            grown rows.items joining.members.items joining.groups.items last_ns self.old) }
-        ensures err { OnErr result (self.new ≡ self.old) }
-    {
-        // For the checker: the numbers of groups have 64 bits, also where none is added.
-        let _last = self.groups.last_group().0;
-        let count = rows.len();
-        self.tree.add_all(rows)?;
-        if let Err(error) = self.groups.add_all(joining.members, joining.groups) {
-            self.tree.take_back(count);
-            return Err(error);
-        }
-        self.last_mount += count as u64;
-        self.last_ns = last_ns.0;
-        Ok(())
     }
 }

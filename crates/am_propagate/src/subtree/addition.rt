@@ -1,19 +1,22 @@
 //! Mounts and binds, with the copies on the mounts that receive them.
 
-ghost use Rattle.std.specs.Prelude.{◌≡◌, ◌+◌, ◌^◌, ◌<◌, ◌∷◌, ◌++◌, true, false, length, Some, None, IfOk, OnOk, OnErr};
+ghost use Rattle.std.specs.Prelude.{◌≡◌, ◌+◌, ◌^◌, ◌<◌, ◌∷◌, ◌++◌, [], true, false, length, Some, None, IfOk, OnOk, OnErr};
 ghost use Rattle.std.specs.List.{slice_get};
 ghost use Rattle.am_names.specs.{RefusedAs};
 ghost use Rattle.am_group.specs.{AddsNoReceivers, group_of, receivers_of};
 ghost use Rattle.am_group.specs.declared.membership.Membership.TheVariants.{Private};
 ghost use Rattle.am_mount.specs.{mount_row};
 ghost use Rattle.am_propagate.specs.MountTable.{is_mount, all_mounts};
+ghost use Rattle.am_propagate.specs.Coming.{AddsMounts};
+ghost use Rattle.am_propagate.specs.Copying.{AreBelow, AreThere};
 ghost use Rattle.am_propagate.specs.GroupsOfCopies.{Joins};
 ghost use Rattle.am_propagate.specs.Joining.{others_of};
 ghost use Rattle.am_propagate.specs.ReceiverCopies.{ComesWithCopies, BindsWithCopies};
-ghost use Rattle.am_propagate.specs.Added.{ns_in, row_at, rows_at, membership_where, membership_of, is_unbindable, fresh_count, numbers_after, new_mounts, mounts_made, made_beside, mount_refusal, bind_refusal, mounted, bound, numbers_refusal, HasSource};
+ghost use Rattle.am_propagate.specs.Added.{ns_in, membership_where, membership_of, is_unbindable, fresh_count, numbers_after, new_mounts, mounts_made, made_beside, mount_refusal, bind_refusal, mounted, bound, numbers_refusal, HasSource};
 
 use crate::subtree::Subtree;
 use am_group::Membership;
+use am_mount::Tree;
 use am_names::{Errno, FsId, GroupId, MountId, MountRow, NsId, Place, Position};
 use std::alloc::{AllocError, Global};
 
@@ -60,6 +63,82 @@ pub fn numbers_after(alloc: Global, last: u64, count: usize) -> Result<Vec<Mount
     Ok(mounts)
 }
 
+fn ns_of(tree: &Tree, mount: MountId) -> NsId
+    ensures { result ≡ ns_in (mount_row tree.now mount) }
+{
+    match tree.row(mount) {
+        Some(row) => row.ns,
+        None => NsId(0),
+    }
+}
+
+/// Adds a mount at the place of this parent, in the parent's namespace, behind the others.
+fn add_row_at(
+    tree: &mut Tree,
+    alloc: Global,
+    place: &Place,
+    parent: MountId,
+    fs: FsId,
+    origin: MountId,
+    number: MountId,
+) -> Result<(), AllocError>
+    requires { AreBelow number tree.old }
+    ensures ok { OnOk result
+        (AddsMounts place.now fs origin number (parent ∷ []) tree.old tree.new) }
+    ensures err { OnErr result (tree.new ≡ tree.old) }
+{
+    // For the checker: that the rows rise is known where they are lent.
+    let _rows = tree.rows();
+    let row = MountRow {
+        mount: number,
+        ns: ns_of(tree, parent),
+        fs,
+        origin,
+        mountpoint: Some(Position {
+            mount: parent,
+            place: place.copy(alloc)?,
+        }),
+    };
+    tree.add(row)
+}
+
+/// Adds a mount at the position, and copies of it at the same place of the receivers, which have
+/// the following numbers, all or none.
+fn add_rows_at(
+    tree: &mut Tree,
+    alloc: Global,
+    at: &Position,
+    fs: FsId,
+    mount: MountId,
+    receivers: &[MountId],
+) -> Result<(), AllocError>
+    requires numbers { mount + length receivers.now < 2 ^ 64 }
+    requires above { AreBelow mount tree.old }
+    requires there { AreThere (at.now.mount ∷ receivers.now) tree.old }
+    ensures ok { OnOk result (AddsMounts at.now.place fs mount mount
+        (at.now.mount ∷ receivers.now) tree.old tree.new) }
+    ensures err { OnErr result (tree.new ≡ tree.old) }
+{
+    add_row_at(tree, alloc, &at.place, at.mount, fs, mount, mount)?;
+    let first = mount.0;
+    for index in 0..receivers.len() {
+        let number = MountId(first + index as u64 + 1);
+        if let Err(error) = add_row_at(
+            tree,
+            alloc,
+            &at.place,
+            receivers[index],
+            fs,
+            mount,
+            number,
+        ) {
+            tree.take_back(index + 1);
+            return Err(error);
+        }
+    }
+    Ok(())
+}
+
 impl Subtree {
     /// How many peer groups a mount on the mount `at` makes.
     fn groups_made(&self, at: MountId, membership: &Membership, others: &[GroupId]) -> usize
@@ -69,60 +148,6 @@ impl Subtree {
             Some(_) => others.len() + fresh_count(membership),
             None => 0,
         }
-    }
-
-    fn ns_of(&self, mount: MountId) -> NsId
-        ensures { result ≡ ns_in (mount_row self.now.rows mount) }
-    {
-        match self.tree.row(mount) {
-            Some(row) => row.ns,
-            None => NsId(0),
-        }
-    }
-
-    fn row_at(
-        &self,
-        alloc: Global,
-        place: &Place,
-        parent: MountId,
-        fs: FsId,
-        origin: MountId,
-        mount: MountId,
-    ) -> Result<MountRow, AllocError>
-        ensures { IfOk result (λ row. row ≡ row_at self.now place.now fs origin mount parent) }
-    {
-        Ok(MountRow {
-            mount,
-            ns: self.ns_of(parent),
-            mountpoint: Some(Position {
-                mount: parent,
-                place: place.copy(alloc)?,
-            }),
-            fs,
-            origin,
-        })
-    }
-
-    fn rows_at(
-        &self,
-        alloc: Global,
-        at: &Position,
-        fs: FsId,
-        mount: MountId,
-        receivers: &[MountId],
-    ) -> Result<Vec<MountRow>, AllocError>
-        requires { mount + length receivers.now < 2 ^ 64 }
-        ensures { IfOk result (λ v. v.items ≡
-            rows_at self.now at.now.place fs mount mount (at.now.mount ∷ receivers.now)) }
-    {
-        let mut rows = Vec::with_capacity(alloc, receivers.len() + 1)?;
-        rows.push(self.row_at(alloc, &at.place, at.mount, fs, mount, mount)?)?;
-        let mut number = mount.0;
-        for receiver in receivers {
-            number += 1;
-            rows.push(self.row_at(alloc, &at.place, *receiver, fs, mount, MountId(number))?)?;
-        }
-        Ok(rows)
     }
 
     /// The groups, beside that of the mount `at`, in which mounts are that receive from it, where
@@ -171,8 +196,14 @@ impl Subtree {
     {
         let mount = MountId(self.last_mount + 1);
         let joining = self.joining(alloc, at.mount, membership, mount, receivers, others)?;
-        let rows = self.rows_at(alloc, at, fs, mount, receivers)?;
-        self.grow(rows, joining, NsId(self.last_ns))
+        add_rows_at(&mut self.tree, alloc, at, fs, mount, receivers)?;
+        let count = receivers.len() + 1;
+        if let Err(error) = self.groups.add_all(joining.members, joining.groups) {
+            self.tree.take_back(count);
+            return Err(error);
+        }
+        self.last_mount += count as u64;
+        Ok(())
     }
 
     /// Adds a mount of this file system, of whose source the membership tells, with its copies.
