@@ -20,6 +20,7 @@ pub mod OrderedLemmas
 pub mod JoinLemmas
 pub mod GrowLemmas
 pub mod MemberLemmas
+pub mod NewestLemmas
 pub mod TableLemmas
 pub mod ReceiverLemmas
 pub mod EarlyLemmas

@@ -1,6 +1,6 @@
 -- Mounts and peer groups that are added (sharedsubtree.rst, 5a). The order of a call's tests is own
 -- choice.
-use Rattle.std.specs.Prelude.{◌≡◌, ◌==◌, ◌&&◌, ℕ, Bool, true, false, not, nat_lt, List, [], ◌∷◌, ◌++◌, filter, Option, Some, None, is_some, if◌then◌else◌}
+use Rattle.std.specs.Prelude.{◌≡◌, ◌==◌, ◌&&◌, ◌-◌, ℕ, Bool, true, false, not, nat_lt, List, [], ◌∷◌, ◌++◌, length, take, filter, Option, Some, None, is_some, if◌then◌else◌}
 use Rattle.am_names.specs.{MemberRow}
 use Rattle.am_names.specs.declared.errno.Errno.{Errno}
 use Rattle.am_names.specs.declared.errno.Errno.TheVariants.{EEXIST, EINVAL, ENOSPC}
@@ -36,6 +36,10 @@ above m members = filter (λ row. nat_lt m row.mount) members
 abbrev pub with_member : MemberRow → PeerGroups → PeerGroups
 with_member row s =
     record s { members = below row.mount s.members ++ row ∷ above row.mount s.members }
+
+-- the newest mounts, so many, are taken back
+abbrev pub without_newest : ℕ → PeerGroups → PeerGroups
+without_newest count s = record s { members = take (length s.members - count) s.members }
 
 -- the peer group is there
 abbrev pub is_group : PeerGroups → ℕ → Bool

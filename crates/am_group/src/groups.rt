@@ -1,6 +1,6 @@
 //! The peer groups of all mounts.
 
-ghost use Rattle.std.specs.Prelude.{◌≡◌, ◌+◌, ◌^◌, ◌<◌, ◌≤◌, length, IfOk, IfSome, OnOk, OnErr};
+ghost use Rattle.std.specs.Prelude.{◌≡◌, ◌+◌, ◌^◌, ◌<◌, ◌≤◌, ◌∷◌, [], length, IfOk, IfSome, OnOk, OnErr};
 ghost use Rattle.am_names.specs.{RefusedAs};
 ghost use Rattle.am_group.specs.Propagation.{member_row, group_of, master_of_group};
 ghost use Rattle.am_group.specs.Changes.{with_group};
@@ -253,6 +253,20 @@ impl Groups {
         self.groups.append_reserved(groups);
         self.members.append_reserved(members);
         self.last_group += count as u64;
+        Ok(())
+    }
+
+    /// Adds a new mount behind the others, as a copy of a namespace brings one. The caller shows
+    /// that the order is kept: its number is above all that are there, and the peer group that it
+    /// names is there.
+    pub fn add_last(&mut self, row: MemberRow) -> Result<(), AllocError>
+        requires { IsOrderly (all_added (row ∷ []) [] self.old) }
+        ensures ok { OnOk result (self.new ≡ all_added (row ∷ []) [] self.old) }
+        ensures err { OnErr result (self.new ≡ self.old) }
+    {
+        self.members.reserve(1)?;
+        self.indexes.add_all(std::slice::from_ref(&row), &[])?;
+        self.members.push_reserved(row);
         Ok(())
     }
 

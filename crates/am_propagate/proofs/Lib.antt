@@ -4,6 +4,7 @@ pub mod ComingLemmas
 pub mod CopyingLemmas
 pub mod GroupCopyLemmas
 pub mod GrowthLemmas
+pub mod JoinedCopyLemmas
 pub mod KindLemmas
 pub mod LoopLemmas
 pub mod NamespaceCopyLemmas

@@ -7,7 +7,7 @@ use Rattle.am_mount.specs.{mount_row}
 use Rattle.am_propagate.specs.declared.subtree.namespace.CopyForm.{CopyForm}
 use Rattle.am_propagate.specs.Grown.{grown}
 use Rattle.am_propagate.specs.MountTable.{MountTable}
-use Rattle.am_propagate.specs.Namespaces.{copy_number, row_in, member_in}
+use Rattle.am_propagate.specs.Namespaces.{copy_number, in_form, row_in, member_in}
 
 -- the numbers of all mounts are below this one
 abbrev pub AreBelow : ℕ → List MountRow → Type 0
@@ -21,7 +21,15 @@ AreThere mounts rows = (m : ℕ) → Contains mounts m → (row : MountRow) × (
 abbrev pub rows_in : ℕ → List ℕ → ℕ → List MountRow → List MountRow
 rows_in last mounts to rows = filter_map (λ m. option_map (row_in (copy_number last mounts) to) (mount_row rows m)) mounts
 
--- their propagation
+-- each of these mounts has its propagation
+abbrev pub AreJoined : List ℕ → List MemberRow → Type 0
+AreJoined mounts members = (m : ℕ) → Contains mounts m → (row : MemberRow) × (member_row members m ≡ Some row)
+
+-- the propagation of a copy that has this number
+abbrev pub member_as : CopyForm → ℕ → MemberRow → MemberRow
+member_as form number row = record (in_form form row) { mount = number }
+
+-- the propagation of the copies
 abbrev pub members_in : CopyForm → ℕ → List ℕ → List MemberRow → List MemberRow
 members_in form last mounts members = filter_map (λ m. option_map (member_in form (copy_number last mounts)) (member_row members m)) mounts
 

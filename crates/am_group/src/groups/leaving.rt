@@ -11,6 +11,7 @@ ghost use Rattle.am_index.specs.{SameLists};
 ghost use Rattle.am_group.specs.Invariant.{RiseFrom, GroupsRise, IsOrderly, IsPeopled, AddsNoReceivers};
 ghost use Rattle.am_group.specs.Lifting.{is_other_than, lift_of};
 ghost use Rattle.am_group.specs.Tables.{AreLost, goes_whole, has_none_left, is_free_of, without_groups};
+ghost use Rattle.am_group.specs.Members.{without_newest};
 
 use crate::groups::Groups;
 use crate::indexes::Indexes;
@@ -228,6 +229,25 @@ impl Groups {
         unlist_groups(self.groups.as_slice(), &mut self.indexes, lost);
         leave_out(&mut self.members, gone);
         drop_groups(&mut self.groups, lost);
+    }
+
+    /// Takes the newest mount back.
+    fn take_one_back(&mut self)
+        ensures { self.new ≡ without_newest 1 self.old }
+    {
+        if let Some(row) = self.members.pop() {
+            self.indexes.remove(&row);
+        }
+    }
+
+    /// Takes the newest mounts back, so many of them: those that `add_last` added, where a later
+    /// step of the same operation fails.
+    pub fn take_back(&mut self, count: usize)
+        ensures { self.new ≡ without_newest count self.old }
+    {
+        for _ in 0..count.min(self.members.len()) {
+            self.take_one_back();
+        }
     }
 
     /// Takes these mounts away, as an unmount does. Of the numbers that are no mount's, nothing

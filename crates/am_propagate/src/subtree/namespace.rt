@@ -1,15 +1,15 @@
 //! Copies of namespaces.
 
-ghost use Rattle.std.specs.Prelude.{◌≡◌, ◌+◌, ◌^◌, ◌<◌, ◌≤◌, ◌++◌, [], length, option_map, IfOk, OnOk, OnErr};
+ghost use Rattle.std.specs.Prelude.{◌≡◌, ◌+◌, ◌^◌, ◌<◌, ◌≤◌, ◌∷◌, ◌++◌, [], Some, length, option_map, IfOk, OnOk, OnErr};
 ghost use Rattle.std.specs.Option.{option_to_list};
 ghost use Rattle.std.specs.List.Sorted.{IsStrictlyIncreasing};
 ghost use Rattle.am_names.specs.{RefusedAs};
-ghost use Rattle.am_group.specs.{AddsNoReceivers, IsSound, all_added};
+ghost use Rattle.am_group.specs.{AddsNoReceivers, IsOrderly, all_added, member_row};
 ghost use Rattle.am_mount.specs.{mount_row};
 ghost use Rattle.am_propagate.specs.MountTable.{all_mounts};
 ghost use Rattle.am_propagate.specs.Added.{new_mounts};
 ghost use Rattle.am_propagate.specs.Removed.{mounts_in};
-ghost use Rattle.am_propagate.specs.Copying.{AreBelow, AreThere, rows_in, members_in, with_copies};
+ghost use Rattle.am_propagate.specs.Copying.{AreBelow, AreJoined, AreThere, member_as, rows_in, members_in, with_copies};
 ghost use Rattle.am_propagate.specs.Invariant.{IsWhole};
 ghost use Rattle.am_propagate.specs.NamespaceCopies.{AreCopies};
 ghost use Rattle.am_propagate.specs.Namespaces.{count_up_to, copy_number, row_in, in_form, copy_refusal, with_copy};
@@ -159,52 +159,54 @@ fn add_rows_in(
     Ok(())
 }
 
-/// The propagation of copies of these mounts, which have the numbers behind `last`.
-fn members_in(
-    groups: &Groups,
-    alloc: Global,
-    last: u64,
-    mounts: &[MountId],
+/// Adds the propagation of a copy of this mount, which has this number, behind the others.
+fn add_member_in(
+    groups: &mut Groups,
+    mount: MountId,
+    number: MountId,
     form: CopyForm,
-) -> Result<Vec<MemberRow>, AllocError>
-    requires numbers { last + length mounts.now < 2 ^ 64 }
-    requires rising { IsStrictlyIncreasing mounts.now }
-    ensures { IfOk result (λ v. v.items ≡ members_in form last mounts.now groups.now.members) }
+) -> Result<(), AllocError>
+    requires { (row : MemberRow) → member_row groups.old.members mount ≡ Some row →
+        IsOrderly (all_added (member_as form number row ∷ []) [] groups.old) }
+    ensures ok { OnOk result (groups.new ≡ all_added (option_to_list
+        (option_map (member_as form number) (member_row groups.old.members mount))) []
+        groups.old) }
+    ensures err { OnErr result (groups.new ≡ groups.old) }
 {
-    let mut members = Vec::with_capacity(alloc, mounts.len())?;
-    let mut number = last;
-    for mount in mounts {
-        number += 1;
-        if let Some(row) = groups.member(*mount) {
-            members.push(MemberRow {
-                mount: MountId(number),
-                ..form.of(row)
-            })?;
-        }
-    }
-    Ok(members)
+    let Some(row) = groups.member(mount) else {
+        return Ok(());
+    };
+    groups.add_last(MemberRow {
+        mount: number,
+        ..form.of(row)
+    })
 }
 
-/// Adds the propagation of copies of these mounts, all or none.
+/// Adds the propagation of copies of these mounts, which have the numbers behind `last`, all or
+/// none.
 fn add_members_in(
     groups: &mut Groups,
-    alloc: Global,
     last: u64,
     mounts: &[MountId],
     form: CopyForm,
 ) -> Result<(), AllocError>
     requires numbers { last + length mounts.now < 2 ^ 64 }
     requires rising { IsStrictlyIncreasing mounts.now }
-    requires sound { IsSound
+    requires joined { AreJoined mounts.now groups.old.members }
+    requires orderly { IsOrderly
         (all_added (members_in form last mounts.now groups.old.members) [] groups.old) }
     ensures ok { OnOk result (groups.new ≡
         all_added (members_in form last mounts.now groups.old.members) [] groups.old) }
     ensures err { OnErr result (groups.new ≡ groups.old) }
 {
-    // For the checker: the numbers of groups have 64 bits.
-    let _last = groups.last_group().0;
-    let members = members_in(groups, alloc, last, mounts, form)?;
-    groups.add_all(members, Vec::new(alloc))
+    for at in 0..mounts.len() {
+        let number = MountId(last + at as u64 + 1);
+        if let Err(error) = add_member_in(groups, mounts[at], number, form) {
+            groups.take_back(at);
+            return Err(error);
+        }
+    }
+    Ok(())
 }
 
 impl Subtree {
@@ -226,7 +228,7 @@ impl Subtree {
     {
         let last = self.last_mount;
         add_rows_in(&mut self.tree, alloc, last, mounts, to)?;
-        if let Err(error) = add_members_in(&mut self.groups, alloc, last, mounts, form) {
+        if let Err(error) = add_members_in(&mut self.groups, last, mounts, form) {
             self.tree.take_back(mounts.len());
             return Err(error);
         }

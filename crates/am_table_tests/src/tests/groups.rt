@@ -40,6 +40,10 @@ enum Call {
     Adds(u64, Part),
     /// Begins anew with this private mount, which is added as `add_all` adds many.
     AddsAll(u64),
+    /// Begins anew with this private mount, which is added as the last.
+    AddsLast(u64),
+    /// Takes so many of the newest mounts back.
+    TakesBack(usize),
     /// The change by the call of its name.
     Makes(u64, Change),
     /// The same by `change`.
@@ -81,6 +85,20 @@ fn of_all(alloc: Global, mount: u64) -> Result<Groups, Errno> {
     let mut groups = Groups::new(alloc);
     groups.add_all(members, Vec::new(alloc))?;
     Ok(groups)
+}
+
+fn of_last(alloc: Global, mount: u64) -> Result<Groups, Errno> {
+    let row = Membership::Private.row(MountId(mount));
+    // The checker wants the type of its group said too.
+    let _group: Option<GroupId> = row.group;
+    let mut groups = Groups::new(alloc);
+    groups.add_last(row)?;
+    Ok(groups)
+}
+
+fn take_back(groups: &mut Groups, count: usize) -> bool {
+    groups.take_back(count);
+    true
 }
 
 fn make(groups: &mut Groups, mount: u64, change: Change) -> Result<bool, Errno> {
@@ -183,6 +201,11 @@ impl Table {
         Ok(true)
     }
 
+    fn add_last(&mut self, alloc: Global, mount: u64) -> Result<bool, Errno> {
+        self.0 = of_last(alloc, mount)?;
+        Ok(true)
+    }
+
     fn chain(&mut self, alloc: Global, count: u64) -> Result<bool, Errno> {
         self.0 = chain(alloc, count)?;
         Ok(true)
@@ -202,6 +225,8 @@ impl Stage for Table {
             Call::FreshUnder(master, group) => fresh_under(&mut self.0, master, group),
             Call::Adds(mount, part) => add(&mut self.0, mount, part),
             Call::AddsAll(mount) => self.add_all(alloc, mount),
+            Call::AddsLast(mount) => self.add_last(alloc, mount),
+            Call::TakesBack(count) => Ok(take_back(&mut self.0, count)),
             Call::Makes(mount, to) => make(&mut self.0, mount, to),
             Call::Changes(mount, to) => change(&mut self.0, mount, to),
             Call::Leaves(mount) => leave(alloc, &mut self.0, mount),
@@ -304,6 +329,25 @@ const ALL_TOGETHER: &[Step<Call>] = &[
     Step::Does(Call::Members(1)),
 ];
 
+/// Those taken back are the newest, and not more than there are.
+const LAST: &[Step<Call>] = &[
+    Step::Does(Call::AddsLast(3)),
+    Step::Does(Call::HasState(3, Some(MountState::Private))),
+    Step::Does(Call::Makes(3, Change::MakeShared)),
+    Step::Does(Call::Adds(5, Part::InGroup(FIRST))),
+    Step::Does(Call::Adds(4, Part::SlaveOf(FIRST))),
+    Step::Does(Call::Receive(3, &[4, 5])),
+    Step::Does(Call::TakesBack(0)),
+    Step::Does(Call::Members(3)),
+    Step::Does(Call::TakesBack(1)),
+    Step::Does(Call::HasState(5, None)),
+    Step::Does(Call::Receive(3, &[4])),
+    Step::Does(Call::Adds(5, Part::SlaveOf(FIRST))),
+    Step::Does(Call::Receive(3, &[4, 5])),
+    Step::Does(Call::TakesBack(9)),
+    Step::Does(Call::Members(0)),
+];
+
 /// A refusal takes no number, and neither does a change that makes no group. (That the numbers are
 /// exhausted no example can tell: they have 64 bits.)
 const NUMBERS: &[Step<Call>] = &[
@@ -346,6 +390,7 @@ static EXAMPLES: [(&str, &[&[Step<Call>]]); 6] = [
     ("groups are there before their members", &[GROUPS_FIRST]),
     ("a group without members hands nothing on", &[MEMBERS_LAST]),
     ("mounts added all together", &[ALL_TOGETHER]),
+    ("a mount added last, and taken back", &[LAST]),
     ("numbers go up with each group that is made", &[NUMBERS]),
     ("each peer group is met once", &[TURNS]),
 ];

@@ -1,15 +1,25 @@
 use Rattle.std.proofs.Common.{◌≡◌, ◌-◌, length, take, List, sym, ap, subst, ◌∙◌}
+use Rattle.std.specs.Prelude.{is_some}
 use Rattle.am_names.specs.{MountRow}
+use Rattle.am_group.specs.{member_row}
 use Rattle.am_propagate.specs.{IsWhole}
 use Rattle.am_propagate.specs.Copying.{AreThere, rows_in, with_copies}
 use Rattle.am_propagate.specs.MountTable.{MountTable}
 use Rattle.am_propagate.specs.View.{table_of}
 use Rattle.am_propagate.proofs.CopyingLemmas.{copies_long, copies_made, taken_back}
+use Rattle.am_propagate.proofs.RemovalLemmas.{same_there, some_of}
 use Rattle.am_propagate.proofs.subtree.Subtree.add_copies.Goals as goal
 
 pub add_rows_in-requires-clause-there : goal.add_rows_in-requires-clause-there
 add_rows_in-requires-clause-there c =
     subst (λ (x : MountTable). AreThere c.args.mounts.now x.rows) (sym c.self.view_is) c.requires.there
+
+pub add_members_in-requires-clause-joined : goal.add_members_in-requires-clause-joined
+add_members_in-requires-clause-joined c = λ m among.
+    let t = table_of c.self.inside in
+    let there : AreThere c.args.mounts.now t.rows = subst (λ (x : MountTable). AreThere c.args.mounts.now x.rows) (sym c.self.view_is) c.requires.there in
+    let row = there m among in
+    some_of (member_row t.groups.members m) (sym (same_there t c.self.invariant m) ∙ ap is_some row.1)
 
 pub invariant_of-self-in-Err : goal.invariant_of-self-in-Err
 invariant_of-self-in-Err c =
