@@ -385,7 +385,7 @@ const TURNS: &[Step<Call>] = &[
     Step::Does(Call::CountsUpTo(200, 200, 1)),
 ];
 
-static EXAMPLES: [(&str, &[&[Step<Call>]]); 6] = [
+static EXAMPLES: [(&str, &[&[Step<Call>]]); 7] = [
     ("each call tests in order", &[TESTS_IN_ORDER]),
     ("groups are there before their members", &[GROUPS_FIRST]),
     ("a group without members hands nothing on", &[MEMBERS_LAST]),
