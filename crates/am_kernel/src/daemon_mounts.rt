@@ -197,11 +197,11 @@ impl Kernel {
         ensures { IfOk result (λ v. v.items ≡ standing_of self.now autofs.now) }
     {
         let mut standing = Vec::new(alloc);
-        for mount in self.subtree.tree().mounts_on(autofs.location) {
-            if let Some(trigger) = self.trigger_under_mount(autofs, *mount) {
+        for mount in self.subtree.tree().children(alloc, autofs.location)? {
+            if let Some(trigger) = self.trigger_under_mount(autofs, mount) {
                 // The checker wants the type of its name said too.
                 let _name: Option<Name> = trigger.name;
-                standing.push((trigger, *mount))?;
+                standing.push((trigger, mount))?;
             }
         }
         Ok(standing)

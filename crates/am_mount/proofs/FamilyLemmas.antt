@@ -2,7 +2,6 @@
 use Rattle.std.proofs.Common.{◌≡◌, ◌⊎◌, inl, inr, ℕ, Bool, true, false, cond, not, ◌&&◌, nat_eq, List, [], ◌∷◌, ◌++◌, Contains, Option, Some, None, slice_get, BuildHasherDefault, FoldHasher, refl, sym, ap, subst, ◌∙◌, arith, eq-eqb, true≢false}
 use Rattle.std.specs.Prelude.{◌==◌, if◌then◌else◌, IfSome}
 use Rattle.std.specs.List.Sorted.{IsStrictlyIncreasing}
-use Rattle.std.specs.Global.{Box}
 use Rattle.std.specs.Option.{option_map}
 use Rattle.std.proofs.lemmas.Bool.{eqb-true}
 use Rattle.std.proofs.lemmas.List.Elements.{Contains-get_or}
@@ -119,14 +118,14 @@ one_left b m (Some child) new may gone same =
 
 -- what is left of those side by side, where this mount goes
 pub siblings_left :
-    (b m : ℕ) (old new : Box (RowTable Child)) → MayGo b m (Siblings old) →
-    new.value.rows ≡ but_child m old.value.rows → TakesChild b m (Siblings old) (Siblings new)
+    (b m : ℕ) (old new : RowTable Child) → MayGo b m (Siblings old) →
+    new.rows ≡ but_child m old.rows → TakesChild b m (Siblings old) (Siblings new)
 siblings_left b m old new may taken =
     record {
-      children = ap mounts_of taken ∙ mounts_but m old.value.rows;
+      children = ap mounts_of taken ∙ mounts_but m old.rows;
       placed = λ c.
           ap (λ (cs : List Child). placed_of cs c) taken ∙
-          placed_but_one b m old.value.rows may.nowhere_else c;
+          placed_but_one b m old.rows may.nowhere_else c;
     }
 
 -- two tests are one, where what fails either is left as it is

@@ -12,7 +12,7 @@ use Rattle.am_mount.specs.Siblings.{mounts_of, placed_of}
 -- the mounts on the parent
 abbrev pub children_in : Family → List ℕ
 children_in (One child) = option_to_list (option_map (λ c. c.mount) child)
-children_in (Siblings siblings) = mounts_of siblings.value.rows
+children_in (Siblings siblings) = mounts_of siblings.rows
 children_in (Many several) = several.value.mounts.rows
 
 -- the one mount, if it is at a place of this bucket
@@ -23,13 +23,13 @@ one_placed (Some child) b = if child.bucket == b then child.mount ∷ [] else []
 -- the mounts on the parent at places of this bucket
 abbrev pub placed_in : Family → ℕ → List ℕ
 placed_in (One child) b = one_placed child b
-placed_in (Siblings siblings) b = placed_of siblings.value.rows b
+placed_in (Siblings siblings) b = placed_of siblings.rows b
 placed_in (Many several) b = listed several.value.places b
 
 -- here one more mount at a place of this bucket takes no memory
 abbrev pub HasRoomFor : Family → ℕ → ℕ → Type 0
 HasRoomFor (One child) b spot = child ≡ None
-HasRoomFor (Siblings siblings) b spot = 1 ≤ siblings.value.room
+HasRoomFor (Siblings siblings) b spot = 1 ≤ siblings.room
 HasRoomFor (Many several) b spot = (1 ≤ several.value.mounts.room) × HasRoom several.value.places b spot
 
 -- both have the same mounts

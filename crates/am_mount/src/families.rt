@@ -1,6 +1,6 @@
 //! The mounts on each parent.
 
-ghost use Rattle.std.specs.Prelude.{◌≡◌, ◌<◌, ℕ, nat_eq, [], Some, None, slice_get, IfOk, IfSome, IfNone};
+ghost use Rattle.std.specs.Prelude.{◌≡◌, ◌==◌, ◌<◌, ℕ, nat_eq, [], Some, None, length, slice_get, IfOk, IfSome, IfNone};
 ghost use Rattle.std.specs.Bool.{OnTrue};
 ghost use Rattle.std.specs.Option.{option_copied};
 ghost use Rattle.indexmap.specs.IndexMap.{get, values, IsUnique, index_map_len};
@@ -45,12 +45,22 @@ impl Families {
     }
 
     /// The mounts on this parent.
-    pub fn list(&self, parent: u64) -> &[MountId]
-        ensures { result.now ≡ children_of self.now parent }
+    pub fn mounts(&self, alloc: Global, parent: u64) -> Result<Vec<MountId>, AllocError>
+        ensures { IfOk result (λ v. v.items ≡ children_of self.now parent) }
     {
         match self.families.get(&parent) {
-            Some(family) => family.as_slice(),
-            None => &[],
+            Some(family) => family.mounts(alloc),
+            None => Ok(Vec::new(alloc)),
+        }
+    }
+
+    /// Whether no mount is on this parent.
+    pub fn is_childless(&self, parent: u64) -> bool
+        ensures { result ≡ (length (children_of self.now parent) == 0) }
+    {
+        match self.families.get(&parent) {
+            Some(family) => family.is_childless(),
+            None => true,
         }
     }
 
@@ -72,16 +82,11 @@ impl Families {
         }
     }
 
-    /// A place near those of the two families that were looked up last, at which the parent's family
-    /// stands: most mounts are on one parent, and others on parents one after another.
-    fn place_nearby(&self, parent: u64) -> Option<usize>
+    /// This place or one beside it, at which the parent's family stands.
+    fn place_near(&self, here: usize, parent: u64) -> Option<usize>
         ensures unique { IfSome result (λ place. IsUnique nat_eq self.now.families) }
         ensures there { IfSome result (λ place. parent_at self.now place ≡ Some parent) }
     {
-        if self.is_at(self.latest, parent) {
-            return Some(self.latest);
-        }
-        let here = self.other;
         if self.is_at(here, parent) {
             return Some(here);
         }
@@ -94,6 +99,18 @@ impl Families {
             return Some(behind);
         }
         None
+    }
+
+    /// A place near those of the two families that were looked up last, at which the parent's family
+    /// stands: most mounts are on one parent, and others on parents one after another.
+    fn place_nearby(&self, parent: u64) -> Option<usize>
+        ensures unique { IfSome result (λ place. IsUnique nat_eq self.now.families) }
+        ensures there { IfSome result (λ place. parent_at self.now place ≡ Some parent) }
+    {
+        if let Some(place) = self.place_near(self.latest, parent) {
+            return Some(place);
+        }
+        self.place_near(self.other, parent)
     }
 
     /// The family at this place is the one that was looked up last.

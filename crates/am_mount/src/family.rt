@@ -1,6 +1,6 @@
 //! The mounts on a parent.
 
-ghost use Rattle.std.specs.Prelude.{◌≡◌, ◌≤◌, ◌⊎◌, ℕ, nat_eq, [], ◌∷◌, ◌++◌, Some, None, option_map, OnOk, IfOk};
+ghost use Rattle.std.specs.Prelude.{◌≡◌, ◌==◌, ◌≤◌, ◌⊎◌, ℕ, length, nat_eq, [], ◌∷◌, ◌++◌, Some, None, option_map, OnOk, IfOk};
 ghost use Rattle.std.specs.Bool.{OnTrue};
 ghost use Rattle.am_mount.specs.Index.{listed, number_at, AddsTo, HasRoom, HasRoomAt, SameLists};
 ghost use Rattle.am_mount.specs.Family.{children_in, placed_in, AddsChild, HasRoomFor, MayGo, SameChildren, TakesChild};
@@ -26,7 +26,7 @@ pub enum Family {
     /// The mount, if there is one.
     One(Option<Child>),
     /// Two or more, or those that are left of them: all are looked through.
-    Siblings(Box<Siblings>),
+    Siblings(Siblings),
     /// Many, or those that are left of them: their buckets have an index.
     Many(Box<Several>),
 }
@@ -93,8 +93,8 @@ fn many_of(siblings: &Siblings, bucket: u64, alloc: Global) -> Result<(Several, 
         mounts: Rows::new(alloc),
         places: Index::new(alloc),
     };
-    for index in 0..siblings.len() {
-        several.push(siblings.child(index))?;
+    for child in siblings.as_slice() {
+        several.push(*child)?;
     }
     let spot = several.make_room(bucket)?;
     Ok((several, spot))
@@ -102,14 +102,25 @@ fn many_of(siblings: &Siblings, bucket: u64, alloc: Global) -> Result<(Several, 
 
 impl Family {
     /// The mounts.
-    pub fn as_slice(&self) -> &[MountId]
-        ensures { result.now ≡ children_in self.now }
+    pub fn mounts(&self, alloc: Global) -> Result<Vec<MountId>, AllocError>
+        ensures { IfOk result (λ v. v.items ≡ children_in self.now) }
     {
         match self {
-            Family::One(None) => &[],
-            Family::One(Some(child)) => std::slice::from_ref(&child.mount),
-            Family::Siblings(siblings) => siblings.mounts(),
-            Family::Many(several) => several.mounts.as_slice(),
+            Family::One(None) => Ok(Vec::new(alloc)),
+            Family::One(Some(child)) => Vec::from_slice(alloc, std::slice::from_ref(&child.mount)),
+            Family::Siblings(siblings) => siblings.mounts(alloc),
+            Family::Many(several) => Vec::from_slice(alloc, several.mounts.as_slice()),
+        }
+    }
+
+    /// Whether no mount is on the parent.
+    pub fn is_childless(&self) -> bool
+        ensures { result ≡ (length (children_in self.now) == 0) }
+    {
+        match self {
+            Family::One(child) => child.is_none(),
+            Family::Siblings(siblings) => siblings.as_slice().is_empty(),
+            Family::Many(several) => several.mounts.as_slice().is_empty(),
         }
     }
 
@@ -120,7 +131,7 @@ impl Family {
     {
         match self {
             Family::One(child) => child.is_none(),
-            Family::Siblings(siblings) => siblings.mounts().is_empty(),
+            Family::Siblings(siblings) => siblings.as_slice().is_empty(),
             Family::Many(several) => several.mounts.as_slice().is_empty()
                 && several.places.is_empty(),
         }
@@ -136,7 +147,7 @@ impl Family {
             Family::One(None) => Ok(0),
             Family::One(Some(child)) => {
                 let siblings = Siblings::one_of_two(*child, alloc)?;
-                *self = Family::Siblings(Box::new(alloc, siblings)?);
+                *self = Family::Siblings(siblings);
                 Ok(0)
             }
             Family::Siblings(siblings) => {

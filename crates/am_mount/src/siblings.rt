@@ -1,11 +1,12 @@
 //! A few mounts on one parent, side by side.
 
-ghost use Rattle.std.specs.Prelude.{◌≡◌, ◌<◌, ◌≤◌, ◌+◌, ◌++◌, ◌∷◌, ◌↔◌, [], length, get_or, remove, IsTrue, OnOk, IfOk, IfSome, IfNone};
+ghost use Rattle.std.specs.Prelude.{◌≡◌, ◌<◌, ◌≤◌, ◌+◌, ◌-◌, ◌++◌, ◌∷◌, ◌↔◌, [], length, remove, option_map, Some, IsTrue, OnOk, IfOk, IfSome, IfNone};
+ghost use Rattle.std.specs.Bool.{OnTrue};
+ghost use Rattle.std.specs.List.{slice_get};
 ghost use Rattle.std.specs.List.Sorted.{IsStrictlyIncreasing};
 ghost use Rattle.am_mount.specs.Siblings.{mounts_of, but_child};
 
 use am_names::MountId;
-use am_ordered::Rows;
 use std::alloc::{AllocError, Global};
 use std::marker::Model;
 
@@ -19,9 +20,7 @@ pub struct Child {
 /// Mounts in rising order, each with the bucket of its place.
 #[derive(Drop)]
 pub struct Siblings {
-    mounts: Rows<MountId>,
-    // Of each mount the bucket.
-    buckets: Rows<u64>,
+    children: Vec<Child>,
 }
 
 impl Model for Siblings {
@@ -30,12 +29,9 @@ impl Model for Siblings {
 
     ghost Value = { RowTable Child };
 
-    ghost use Rattle.am_mount.specs.SiblingsView.{table_of, ArePaired};
+    ghost use Rattle.am_mount.specs.SiblingsView.{table_of};
 
-    ghost view = { λ s. table_of s.mounts s.buckets };
-
-    // There are as many buckets as mounts.
-    ghost invariant = { λ s. ArePaired s.mounts s.buckets };
+    ghost view = { λ s. table_of s.children };
 }
 
 /// So many mounts are looked through at most: more of them have an index.
@@ -47,8 +43,7 @@ impl Siblings {
         ensures { result.rows ≡ [] }
     {
         Siblings {
-            mounts: Rows::new(alloc),
-            buckets: Rows::new(alloc),
+            children: Vec::new(alloc),
         }
     }
 
@@ -63,36 +58,30 @@ impl Siblings {
         Ok(siblings)
     }
 
-    /// The mounts.
-    pub fn mounts(&self) -> &[MountId]
-        ensures { result.now ≡ mounts_of self.now.rows }
+    /// The mounts with the buckets of their places.
+    pub fn as_slice(&self) -> &[Child]
+        ensures { result.now ≡ self.now.rows }
     {
-        self.mounts.as_slice()
+        self.children.as_slice()
     }
 
-    /// How many mounts there are.
-    pub fn len(&self) -> usize
-        ensures { result ≡ length self.now.rows }
+    /// The mounts.
+    pub fn mounts(&self, alloc: Global) -> Result<Vec<MountId>, AllocError>
+        ensures { IfOk result (λ v. v.items ≡ mounts_of self.now.rows) }
     {
-        self.mounts.len()
+        let children = self.children.as_slice();
+        let mut mounts = Vec::with_capacity(alloc, children.len())?;
+        for child in children {
+            mounts.push(child.mount)?;
+        }
+        Ok(mounts)
     }
 
     /// Whether there are as many as are looked through at most.
     pub fn are_many(&self) -> bool
         ensures { IsTrue result ↔ (64 ≤ length self.now.rows) }
     {
-        self.len() >= MANY
-    }
-
-    /// The mount at this index, with its bucket.
-    pub fn child(&self, index: usize) -> Child
-        requires { index < length self.now.rows }
-        ensures { result ≡ get_or self.now.rows index result }
-    {
-        Child {
-            mount: self.mounts.as_slice()[index],
-            bucket: self.buckets.as_slice()[index],
-        }
+        self.children.len() >= MANY
     }
 
     /// Makes room for so many more mounts.
@@ -100,8 +89,7 @@ impl Siblings {
         ensures same { self.new.rows ≡ self.old.rows }
         ensures ok { OnOk result (count ≤ self.new.room) }
     {
-        self.mounts.reserve(count)?;
-        self.buckets.reserve(count)
+        self.children.reserve(count)
     }
 
     /// A mount behind the others, for which there is room.
@@ -110,8 +98,19 @@ impl Siblings {
         ensures rows { self.new.rows ≡ self.old.rows ++ child ∷ [] }
         ensures room { self.old.room ≤ self.new.room + 1 }
     {
-        self.mounts.push_reserved(child.mount);
-        self.buckets.push_reserved(child.bucket);
+        self.children.push_reserved(child);
+    }
+
+    /// Whether the mount stands last.
+    fn is_newest(&self, mount: MountId) -> bool
+        ensures { OnTrue result
+            (option_map (λ child. child.mount) (slice_get self.now.rows (length self.now.rows - 1)) ≡
+            Some mount) }
+    {
+        match self.children.last() {
+            Some(child) => child.mount == mount,
+            None => false,
+        }
     }
 
     /// The index of the mount in mounts that rise, at whose end the newest stands: others are found
@@ -123,12 +122,12 @@ impl Siblings {
             remove self.now.rows index ≡ but_child mount self.now.rows) }
         ensures none { IfNone result (but_child mount self.now.rows ≡ self.now.rows) }
     {
-        let mounts = self.mounts.as_slice();
-        if mounts.last().copied() == Some(mount) {
-            return Some(mounts.len() - 1);
+        let children = self.as_slice();
+        if self.is_newest(mount) {
+            return Some(children.len() - 1);
         }
         let number = mount.0;
-        match mounts.binary_search_by_key(&number, |other| other.0) {
+        match children.binary_search_by_key(&number, |child| child.mount.0) {
             Ok(index) => Some(index),
             Err(_) => None,
         }
@@ -140,8 +139,7 @@ impl Siblings {
         ensures { self.new.rows ≡ but_child mount self.old.rows }
     {
         if let Some(index) = self.index_of(mount) {
-            self.mounts.take_out(index);
-            self.buckets.take_out(index);
+            let _gone = self.children.remove(index);
         }
     }
 }

@@ -192,11 +192,12 @@ fn last_of_siblings(
     ensures { result ≡ last_of (filter (λ m. stands_at rows.now parent (names_of place.now) m)
         (placed_of siblings.now.rows bucket)) }
 {
-    let mut left = siblings.len();
+    let children = siblings.as_slice();
+    let mut left = children.len();
     while left > 0 {
         left -= 1;
-        let child = siblings.child(left);
-        if child_stands_at(rows, parent, place, bucket, &child) {
+        let child = &children[left];
+        if child_stands_at(rows, parent, place, bucket, child) {
             return Some(child.mount);
         }
     }
@@ -440,7 +441,7 @@ impl Tree {
     pub fn has_children(&self, mount: MountId) -> bool
         ensures { result ≡ list_any (is_child mount) self.now }
     {
-        !self.indexes.families.list(mount.0).is_empty()
+        !self.indexes.families.is_childless(mount.0)
     }
 
     /// Whether the namespace has mounts.
@@ -448,13 +449,6 @@ impl Tree {
         ensures { result ≡ list_any (is_in ns) self.now }
     {
         !self.indexes.by_ns.list(ns.0 as u64).is_empty()
-    }
-
-    /// The mounts that are mounted on this one, at any place, in rising order.
-    pub fn mounts_on(&self, mount: MountId) -> &[MountId]
-        ensures { result.now ≡ mounts_where (is_child mount) self.now }
-    {
-        self.indexes.families.list(mount.0)
     }
 
     /// Watches a file system of which there was no mount yet: `mounts_with` knows its mounts from
@@ -479,7 +473,7 @@ impl Tree {
             Contains v.items m ↔ HasRow (IsOn mount) self.now m) }
         ensures rising { IfOk result (λ v. IsStrictlyIncreasing v.items) }
     {
-        Vec::from_slice(alloc, self.indexes.families.list(mount.0))
+        self.indexes.families.mounts(alloc, mount.0)
     }
 
     /// The mounts of the namespace.

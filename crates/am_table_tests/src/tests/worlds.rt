@@ -6,7 +6,7 @@ use am_group::{Change, Groups};
 use am_mount::Tree;
 use am_names::{AbsPath, Errno, FsId, GroupId, MountId, MountRow, NsId, Place, Position};
 use am_propagate::{CopyForm, InUse, NewNamespace, Subtree};
-use std::alloc::Global;
+use std::alloc::{AllocError, Global};
 
 /// The one mount that is in use.
 #[derive(Drop)]
@@ -96,10 +96,17 @@ fn last_at(rows: &[MountRow], mount: MountId, place: &Place) -> Option<MountId> 
 }
 
 /// Whether the tree finds what stands on the mount, and at this place of it.
-fn finds_on(tree: &Tree, mount: MountId, place: &Place) -> bool {
+fn finds_on(
+    alloc: Global,
+    tree: &Tree,
+    mount: MountId,
+    place: &Place,
+) -> Result<bool, AllocError> {
     let rows = tree.rows();
-    are_on(rows, mount, tree.mounts_on(mount))
-        && tree.top(mount, place.text()) == last_at(rows, mount, place)
+    let children = tree.children(alloc, mount)?;
+    Ok(are_on(rows, mount, children.as_slice())
+        && tree.has_children(mount) != children.is_empty()
+        && tree.top(mount, place.text()) == last_at(rows, mount, place))
 }
 
 /// Whether the tree finds the mounts of the file system that is watched, and none of the other.
@@ -112,13 +119,13 @@ fn finds_watched(tree: &Tree) -> bool {
 }
 
 /// Whether the tree finds all that its rows tell, at this place of each mount too.
-fn finds_all(tree: &Tree, place: &Place) -> bool {
+fn finds_all(alloc: Global, tree: &Tree, place: &Place) -> Result<bool, AllocError> {
     for row in tree.rows() {
-        if !finds_on(tree, row.mount, place) {
-            return false;
+        if !finds_on(alloc, tree, row.mount, place)? {
+            return Ok(false);
         }
     }
-    finds_watched(tree)
+    Ok(finds_watched(tree))
 }
 
 /// What the slow model computes.
@@ -275,7 +282,7 @@ impl Total {
     /// Nothing, where the tree finds all that its rows tell.
     fn found(&mut self, alloc: Global, subtree: &Subtree, by: Drawn) -> Result<(), Errno> {
         let place = AbsPath::read(by.path)?.to_place(alloc)?;
-        if !finds_all(subtree.tree(), &place) {
+        if !finds_all(alloc, subtree.tree(), &place)? {
             self.fold(1);
         }
         Ok(())

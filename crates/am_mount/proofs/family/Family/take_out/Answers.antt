@@ -1,8 +1,4 @@
-use Rattle.std.proofs.Common.{ap, subst, sym, ◌∙◌}
-use Rattle.std.specs.Box.{with_value}
-use Rattle.am_ordered.specs.RowTable.{RowTable}
-use Rattle.am_mount.specs.declared.siblings.Child.{Child}
-use Rattle.am_mount.specs.Siblings.{but_child}
+use Rattle.std.proofs.Common.{subst, sym}
 use Rattle.am_mount.specs.Family.{MayGo, TakesChild}
 use Rattle.am_mount.specs.declared.family.Family.{Family}
 use Rattle.am_mount.specs.declared.family.Family.TheVariants.{One, Siblings}
@@ -19,9 +15,8 @@ returns-in-One c =
 
 pub returns-in-Siblings : goal.returns-in-Siblings
 returns-in-Siblings c =
-    let new = with_value c.in-Siblings.siblings c.take_out.new.self in
+    let new = c.take_out.new.self in
     subst (λ (old : Family). TakesChild c.args.bucket c.args.mount old (Siblings new)) (sym c.in-Siblings.is)
     (siblings_left c.args.bucket c.args.mount c.in-Siblings.siblings new
     (subst (MayGo c.args.bucket c.args.mount) c.in-Siblings.is c.requires)
-    (c.take_out.ensures ∙
-    ap (λ (t : RowTable Child). but_child c.args.mount t.rows) c.deref_mut.ensures.value))
+    c.take_out.ensures)

@@ -9,8 +9,8 @@ pub returns : goal.returns
 returns c =
     let number = c.mount.inside.0 in
     let rows = c.self.inside.rows.rows in
-    ap not c.is_empty.ensures ∙
-    ap (λ (xs : List ℕ). not (length xs == 0)) (c.list.ensures ∙ c.self.invariant.indexed.children number) ∙
+    ap not c.is_childless.ensures ∙
+    ap (λ (xs : List ℕ). not (length xs == 0)) (c.self.invariant.indexed.children number) ∙
     any_where (is_child number) rows ∙
     ap (λ (n : ℕ). list_any (is_child n) rows) c.mount.view_is ∙
     ap (list_any (is_child c.args.mount)) c.self.view_is
