@@ -1,5 +1,5 @@
 -- Rows in rising order, and those of them that pass a test.
-use Rattle.std.proofs.Common.{◌≡◌, ◌≤◌, ◌<◌, ◌+◌, ◌-◌, ◌↔◌, ℕ, zero, suc, Bool, true, false, cond, eqb, List, [], ◌∷◌, ◌++◌, length, take, get_or, Decides, Option, Some, None, refl, sym, ap, subst, ⊎_elim, ◌∙◌, arith, add-one}
+use Rattle.std.proofs.Common.{◌≡◌, ◌≤◌, ◌<◌, ◌+◌, ◌-◌, ◌↔◌, ℕ, zero, suc, Bool, true, false, cond, eqb, List, [], ◌∷◌, ◌++◌, length, take, drop, get_or, Decides, Option, Some, None, refl, sym, ap, subst, ⊎_elim, ◌∙◌, arith, add-one}
 use Rattle.std.specs.Prelude.{map, filter, ◌==◌, option_map, IfSome, IfNone}
 use Rattle.std.specs.List.{list_any, Contains, slice_get}
 use Rattle.std.specs.List.Sorted.{IsStrictlyIncreasing}
@@ -31,6 +31,14 @@ pub RiseFrom-take : (n low : ℕ) (rows : List MountRow) → RiseFrom low rows �
 RiseFrom-take zero low rows rises = tt
 RiseFrom-take (suc n) low [] rises = tt
 RiseFrom-take (suc n) low (row ∷ rows) rises = (rises.0, RiseFrom-take n (row.mount + 1) rows rises.1)
+
+pub RiseFrom-drop : (n low : ℕ) (rows : List MountRow) → RiseFrom low rows → RiseFrom low (drop n rows)
+RiseFrom-drop zero low rows rises = rises
+RiseFrom-drop (suc n) low [] rises = tt
+RiseFrom-drop (suc n) low (row ∷ rows) rises =
+    let first : low ≤ row.mount = rises.0 in
+    RiseFrom-lower low (row.mount + 1) (drop n rows) (omega arith)
+    (RiseFrom-drop n (row.mount + 1) rows rises.1)
 
 -- the first number that may follow rows
 abbrev pub next_after : ℕ → List MountRow → ℕ

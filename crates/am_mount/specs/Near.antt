@@ -1,5 +1,5 @@
--- How many rows move where mounts are taken out one after another: own choice.
-use Rattle.std.specs.Prelude.{◌-◌, ℕ, nat_le, min, List, length}
+-- How many rows move where mounts are taken out one after another, and mounts that are numbered so: own choice.
+use Rattle.std.specs.Prelude.{◌≡◌, ◌+◌, ◌-◌, ℕ, nat_le, min, List, [], ◌∷◌, length}
 use Rattle.std.specs.List.{position_or_len, slice_index}
 use Rattle.am_names.specs.{MountRow}
 
@@ -13,3 +13,13 @@ abbrev pub most_moved : List MountRow → List ℕ → ℕ
 most_moved rows gone =
     min (rows_below rows (slice_index gone (length gone - 1)) - (length gone - 1))
     (length rows - rows_below rows (slice_index gone 0))
+
+-- the mounts are numbered one after another, from this number on
+abbrev pub AreNumberedFrom : ℕ → List ℕ → Type 0
+AreNumberedFrom n [] = Unit {0}
+AreNumberedFrom n (m ∷ mounts) = (m ≡ n) × AreNumberedFrom (n + 1) mounts
+
+-- the mounts are numbered one after another, from that of the first row on
+abbrev pub AreNumberedAlike : List MountRow → List ℕ → Type 0
+AreNumberedAlike [] mounts = ⊥
+AreNumberedAlike (row ∷ rows) mounts = AreNumberedFrom row.mount mounts

@@ -1,10 +1,10 @@
 //! Mounts that are among some.
 
-ghost use Rattle.std.specs.Prelude.{◌≡◌, ◌==◌, ◌<◌, ◌≤◌, ◌+◌, ◌/◌, ◌⊎◌, ◌↔◌, ◌++◌, length, take, drop, map, filter, zip, not, IsTrue, IfSome};
+ghost use Rattle.std.specs.Prelude.{◌≡◌, ◌==◌, ◌<◌, ◌≤◌, ◌+◌, ◌-◌, ◌/◌, ◌⊎◌, ◌↔◌, ◌++◌, length, take, drop, map, filter, zip, not, option_map, IsTrue, IfSome};
 ghost use Rattle.std.specs.Bool.{OnTrue};
-ghost use Rattle.std.specs.List.{list_all};
+ghost use Rattle.std.specs.List.{list_all, slice_get};
 ghost use Rattle.am_names.specs.{is_among};
-ghost use Rattle.am_mount.specs.Near.{most_moved, rows_below};
+ghost use Rattle.am_mount.specs.Near.{most_moved, rows_below, AreNumberedAlike, AreNumberedFrom};
 ghost use Rattle.am_mount.specs.Rows.{IsRising};
 
 use am_names::{MountId, MountRow, are_ordered, is_among, is_found};
@@ -77,20 +77,64 @@ fn are_pairs(rows: &[MountRow], mounts: &[MountId]) -> bool
         .all(|pair| pair.0.mount == *pair.1)
 }
 
-/// Whether these are the rows of the mounts. The last is looked at first.
-fn are_rows_of(rows: &[MountRow], mounts: &[MountId]) -> bool
-    requires { length rows.now ≡ length mounts.now }
-    ensures { OnTrue result (map (λ row. row.mount) rows.now ≡ mounts.now) }
+/// Whether the mounts are numbered one after another, from this number on.
+fn are_numbered_from(first: u64, mounts: &[MountId]) -> bool
+    ensures { OnTrue result (AreNumberedFrom first mounts.now) }
+{
+    let mut next = first;
+    for mount in mounts {
+        if mount.0 != next {
+            return false;
+        }
+        match next.checked_add(1) {
+            Some(number) => next = number,
+            None => return false,
+        }
+    }
+    true
+}
+
+/// Whether the mounts are numbered one after another, from that of the first row on.
+fn are_numbered_alike(rows: &[MountRow], mounts: &[MountId]) -> bool
+    ensures { OnTrue result (AreNumberedAlike rows.now mounts.now) }
+{
+    match rows.first() {
+        Some(row) => are_numbered_from(row.mount.0, mounts),
+        None => false,
+    }
+}
+
+/// Whether the last row is that of the last mount.
+fn end_alike(rows: &[MountRow], mounts: &[MountId]) -> bool
+    ensures { OnTrue result (option_map (λ row. row.mount) (slice_get rows.now (length rows.now - 1)) ≡
+        slice_get mounts.now (length mounts.now - 1)) }
 {
     match (rows.last(), mounts.last()) {
-        (Some(row), Some(mount)) => row.mount == *mount && are_pairs(rows, mounts),
+        (Some(row), Some(mount)) => row.mount == *mount,
         _ => false,
     }
 }
 
+/// Whether these are the rows of the mounts. The last is looked at first. Where the mounts are
+/// numbered one after another, rows that rise from the first of them to the last are theirs.
+fn are_rows_of(rows: &[MountRow], mounts: &[MountId]) -> bool
+    requires rising { IsRising rows.now }
+    requires len { length rows.now ≡ length mounts.now }
+    ensures { OnTrue result (map (λ row. row.mount) rows.now ≡ mounts.now) }
+{
+    if !end_alike(rows, mounts) {
+        return false;
+    }
+    if are_numbered_alike(rows, mounts) {
+        return true;
+    }
+    are_pairs(rows, mounts)
+}
+
 /// Whether the rows from this place on are those of the mounts, as many as there are.
 fn stand_at(rows: &[MountRow], at: usize, mounts: &[MountId]) -> bool
-    requires { at ≤ length rows.now }
+    requires rising { IsRising rows.now }
+    requires within { at ≤ length rows.now }
     ensures { OnTrue result
         (map (λ row. row.mount) (take (length mounts.now) (drop at rows.now)) ≡ mounts.now) }
 {
