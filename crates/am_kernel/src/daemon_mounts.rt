@@ -1,11 +1,11 @@
 //! What the daemons mount on the triggers of their autofs file systems.
 
-ghost use Rattle.std.specs.Prelude.{◌≡◌, ◌+◌, ◌∷◌, ◌++◌, [], IfOk, OnOk, OnErr};
+ghost use Rattle.std.specs.Prelude.{◌≡◌, ◌+◌, ◌∷◌, ◌++◌, [], flat_map, IfOk, OnOk, OnErr};
 ghost use Rattle.am_names.specs.{RefusedAs};
 ghost use Rattle.am_state.specs.declared.obs.Obs.TheVariants.{Mounted, Unmounted};
 ghost use Rattle.am_propagate.specs.{umount_refusal, unmounted, removed};
 ghost use Rattle.am_expire.specs.{is_used};
-ghost use Rattle.am_kernel.specs.DaemonMounts.{coming, is_there, location_of, mounted_on, mount_on_refusal, with_mount_on, umount_from_refusal, gone_from, without_mounts, is_top_at, trigger_under, trigger_under_mount, standing_of, standing};
+ghost use Rattle.am_kernel.specs.DaemonMounts.{coming, is_there, location_of, mounted_on, mount_on_refusal, with_mount_on, umount_from_refusal, gone_from, without_mounts, is_top_at, trigger_under, trigger_under_mount, standing_mount, standing_of, standing};
 
 use crate::kernel::Kernel;
 use crate::table::{refuse, table};
@@ -187,6 +187,27 @@ impl Kernel {
         }
     }
 
+    /// Those of these mounts that stand on triggers of the autofs, with the triggers.
+    fn standing_among(
+        &self,
+        alloc: Global,
+        autofs: &Autofs,
+        mounts: &[MountId],
+    ) -> Result<Vec<(Trigger, MountId)>, AllocError>
+        ensures { IfOk result (λ v. v.items ≡
+            flat_map (standing_mount self.now autofs.now) mounts.now) }
+    {
+        let mut standing = Vec::new(alloc);
+        for mount in mounts {
+            if let Some(trigger) = self.trigger_under_mount(autofs, *mount) {
+                // The checker wants the type of its name said too.
+                let _name: Option<Name> = trigger.name;
+                standing.push((trigger, *mount))?;
+            }
+        }
+        Ok(standing)
+    }
+
     /// The triggers of the autofs on which something is mounted, with their mounts: it looks at
     /// what is mounted on the daemon's mount.
     fn standing_of(
@@ -196,15 +217,8 @@ impl Kernel {
     ) -> Result<Vec<(Trigger, MountId)>, AllocError>
         ensures { IfOk result (λ v. v.items ≡ standing_of self.now autofs.now) }
     {
-        let mut standing = Vec::new(alloc);
-        for mount in self.subtree.tree().children(alloc, autofs.location)? {
-            if let Some(trigger) = self.trigger_under_mount(autofs, mount) {
-                // The checker wants the type of its name said too.
-                let _name: Option<Name> = trigger.name;
-                standing.push((trigger, mount))?;
-            }
-        }
-        Ok(standing)
+        let mounts = self.subtree.tree().children(alloc, autofs.location)?;
+        self.standing_among(alloc, autofs, mounts.as_slice())
     }
 
     /// Each trigger of the autofs on which something is mounted at the daemon's mount, with that
