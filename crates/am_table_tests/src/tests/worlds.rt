@@ -96,17 +96,12 @@ fn last_at(rows: &[MountRow], mount: MountId, place: &Place) -> Option<MountId> 
 }
 
 /// Whether the tree finds what stands on the mount, and at this place of it.
-fn finds_on(
-    alloc: Global,
-    tree: &Tree,
-    mount: MountId,
-    place: &Place,
-) -> Result<bool, AllocError> {
+fn finds_on(alloc: Global, tree: &Tree, mount: MountId, place: &Place) -> Result<bool, AllocError> {
     let rows = tree.rows();
     let children = tree.children(alloc, mount)?;
-    Ok(are_on(rows, mount, children.as_slice())
-        && tree.has_children(mount) != children.is_empty()
-        && tree.top(mount, place.text()) == last_at(rows, mount, place))
+    let finds_children = are_on(rows, mount, children.as_slice())
+        && tree.has_children(mount) != children.is_empty();
+    Ok(finds_children && tree.top(mount, place.text()) == last_at(rows, mount, place))
 }
 
 /// Whether the tree finds the mounts of the file system that is watched, and none of the other.
