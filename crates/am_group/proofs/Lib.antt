@@ -31,5 +31,6 @@ pub mod WalkLemmas
 pub mod HomeLemmas
 pub mod TurnLemmas
 pub mod LiftingLemmas
+pub mod MasterLemmas
 pub mod LiftedLemmas
 pub mod BlockLemmas

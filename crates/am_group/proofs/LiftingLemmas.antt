@@ -554,7 +554,7 @@ module _ (lifts : List GroupRow) (are : AreLifts lifts) where
             ap (is_just n) (sym (lifted r))
 
     -- ---- the rows of one group after another
-    module _ (to : Option ℕ → R → R) (numbers_stay : (o : Option ℕ) (r : R) → number (to o r) ≡ number r) (twice : (o p : Option ℕ) (r : R) → to o (to p r) ≡ to o r) where
+    module _ (to : Option ℕ → R → R) (numbers_stay : (o : Option ℕ) (r : R) → number (to o r) ≡ number r) (twice : (o : Option ℕ) (r : R) → to o (to o r) ≡ to o r) where
       abbrev lift_row : R → R
       lift_row r = to (lift_in lifts (master r)) r
 
@@ -627,7 +627,9 @@ module _ (lifts : List GroupRow) (are : AreLifts lifts) where
               go :
                   (b : Bool) → is_just lift.group (master r) ≡ b → (a : Bool) →
                   cond b (to lift.master (cond a (lift_row r) r)) (cond a (lift_row r) r) ≡ cond (a || b) (lift_row r) r
-              go true e true = twice lift.master (lift_in lifts (master r)) r ∙ ap (λ (o : Option ℕ). to o r) (its_own r e)
+              go true e true =
+                  ap (λ (o : Option ℕ). to lift.master (to o r)) (sym (its_own r e)) ∙ twice lift.master r ∙
+                  ap (λ (o : Option ℕ). to o r) (its_own r e)
               go true e false = ap (λ (o : Option ℕ). to o r) (its_own r e)
               go false e true = refl
               go false e false = refl

@@ -6,10 +6,10 @@ use Rattle.std.proofs.lemmas.Bool.Decides.{nat_tests}
 use Rattle.std.specs.Option.{option_or}
 use Rattle.std.proofs.lemmas.List.Folds.{find-append}
 use Rattle.std.proofs.lemmas.Bool.{eqb-true, ltb-true, ltb-false}
-use Rattle.am_names.specs.{MemberRow, GroupRow}
+use Rattle.am_names.specs.{GroupRow, MemberRow, Membership, row_with}
 use Rattle.am_names.specs.PeerGroups.{PeerGroups}
-use Rattle.am_group.specs.{Membership, member_row, group_row, has_members, row_with, below, above, with_member, is_group, may_have, no_mounts, has_peopled_master, RiseFrom, IsGroup, IsOrderly, IsPeopled, IsSound, AddsNoReceivers}
-use Rattle.am_group.specs.declared.membership.Membership.TheVariants.{InGroup, SlaveOf, Private, Unbindable}
+use Rattle.am_group.specs.{member_row, group_row, has_members, below, above, with_member, is_group, may_have, no_mounts, has_peopled_master, RiseFrom, IsGroup, IsOrderly, IsPeopled, IsSound, AddsNoReceivers}
+use Rattle.am_names.specs.declared.membership.Membership.TheVariants.{InGroup, SlaveOf, Private, Unbindable}
 use Rattle.am_group.proofs.LookupLemmas.{find_filter, RiseFrom-lower, members_from_test}
 use Rattle.am_group.proofs.ChangeLemmas.{KeepsLaw}
 use Rattle.am_group.proofs.JoinLemmas.{master_member}

@@ -1,6 +1,6 @@
 -- The masters that the followers of lost peer groups get, and what of that stands in the indexes:
 -- own choice (docs/DECISIONS.md, "A group without members is gone").
-use Rattle.std.specs.Prelude.{◌≡◌, ◌<◌, ◌||◌, ◌&&◌, ◌==◌, ℕ, Bool, true, false, not, List, [], ◌∷◌, length, slice_index_or, Option, Some, if◌then◌else◌}
+use Rattle.std.specs.Prelude.{◌≡◌, ◌<◌, ◌||◌, ◌&&◌, ◌==◌, ℕ, Bool, true, false, not, List, [], ◌∷◌, length, slice_index_or, Option, None, Some, if◌then◌else◌}
 use Rattle.std.specs.List.{list_all, list_any}
 use Rattle.am_names.specs.{MemberRow, GroupRow, is_among}
 use Rattle.am_names.specs.PeerGroups.{PeerGroups}
@@ -31,9 +31,14 @@ lift_member lifts row = record row { master = lift_in lifts row.master }
 abbrev pub lift_group : List GroupRow → GroupRow → GroupRow
 lift_group lifts row = record row { master = lift_in lifts row.master }
 
--- the mount with this master
+-- a slave with this master; what has none stays as it is
+abbrev pub under_from : Option ℕ → Option ℕ → MemberRow → MemberRow
+under_from (Some own) master row = record row { master = master }
+under_from None master row = row
+
+-- the slave with this master; any other mount stays as it is
 abbrev pub under_master : Option ℕ → MemberRow → MemberRow
-under_master master row = record row { master = master }
+under_master master row = under_from row.master master row
 
 -- the peer group with this master
 abbrev pub group_under : Option ℕ → GroupRow → GroupRow

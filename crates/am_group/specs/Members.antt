@@ -1,14 +1,13 @@
 -- Mounts and peer groups that are added (sharedsubtree.rst, 5a). The order of a call's tests is own
 -- choice.
 use Rattle.std.specs.Prelude.{◌≡◌, ◌==◌, ◌&&◌, ◌-◌, ℕ, Bool, true, false, not, nat_lt, List, [], ◌∷◌, ◌++◌, length, take, filter, Option, Some, None, is_some, if◌then◌else◌}
-use Rattle.am_names.specs.{MemberRow}
+use Rattle.am_names.specs.{MemberRow, Membership}
 use Rattle.am_names.specs.declared.errno.Errno.{Errno}
 use Rattle.am_names.specs.declared.errno.Errno.TheVariants.{EEXIST, EINVAL, ENOSPC}
 use Rattle.am_names.specs.PeerGroups.{PeerGroups}
 use Rattle.am_group.specs.declared.mount_state.Change.{Change}
 use Rattle.am_group.specs.declared.mount_state.Change.TheVariants.{MakeShared, MakeSlave, MakePrivate, MakeUnbindable}
-use Rattle.am_group.specs.declared.membership.Membership.{Membership}
-use Rattle.am_group.specs.declared.membership.Membership.TheVariants.{InGroup, SlaveOf, Private, Unbindable}
+use Rattle.am_names.specs.declared.membership.Membership.TheVariants.{InGroup, SlaveOf, Private, Unbindable}
 use Rattle.am_group.specs.Propagation.{member_row, group_row, group_of}
 use Rattle.am_group.specs.Changes.{has_members}
 use Rattle.am_group.specs.Invariant.{IsPeopled}
@@ -16,13 +15,6 @@ use Rattle.am_group.specs.Invariant.{IsPeopled}
 -- no mount and no peer group
 abbrev pub no_mounts : PeerGroups
 no_mounts = record { members = []; groups = []; last_group = 0 }
-
--- the row of a mount with this membership
-abbrev pub row_with : Membership → ℕ → MemberRow
-row_with (InGroup g) m = record { mount = m; group = Some g; master = None; unbindable = false }
-row_with (SlaveOf g) m = record { mount = m; group = None; master = Some g; unbindable = false }
-row_with Private m = record { mount = m; group = None; master = None; unbindable = false }
-row_with Unbindable m = record { mount = m; group = None; master = None; unbindable = true }
 
 -- the mounts with lower numbers
 abbrev pub below : ℕ → List MemberRow → List MemberRow

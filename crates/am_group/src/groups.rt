@@ -1,19 +1,18 @@
 //! The peer groups of all mounts.
 
 ghost use Rattle.std.specs.Prelude.{◌≡◌, ◌+◌, ◌^◌, ◌<◌, ◌≤◌, ◌∷◌, [], length, IfOk, IfSome, OnOk, OnErr};
-ghost use Rattle.am_names.specs.{RefusedAs};
+ghost use Rattle.am_names.specs.{RefusedAs, row_with};
 ghost use Rattle.am_group.specs.Propagation.{member_row, group_of, master_of_group};
 ghost use Rattle.am_group.specs.Changes.{with_group};
 ghost use Rattle.am_group.specs.Copies.{all_added};
 ghost use Rattle.am_group.specs.Invariant.{AddsNoReceivers, IsOrderly, IsPeopled, IsSound};
 ghost use Rattle.am_group.specs.MountStates.{kind_of_row, kind_of};
-ghost use Rattle.am_group.specs.Members.{no_mounts, below, row_with, with_member, is_exhausted, is_group, may_be_master, may_have, KeepsPeopled, fresh_refusal, add_refusal};
+ghost use Rattle.am_group.specs.Members.{no_mounts, below, with_member, is_exhausted, is_group, may_be_master, may_have, KeepsPeopled, fresh_refusal, add_refusal};
 
 use crate::indexes::Indexes;
-use crate::membership::Membership;
 use crate::mount_state::MountState;
 use crate::tables::{group_row, member_row};
-use am_names::{Errno, GroupId, GroupRow, MemberRow, MountId};
+use am_names::{Errno, GroupId, GroupRow, MemberRow, Membership, MountId};
 use am_ordered::Rows;
 use std::alloc::{AllocError, Global};
 use std::marker::Model;
@@ -106,7 +105,7 @@ impl Groups {
         ensures { result ≡ group_of self.now mount }
     {
         match self.member(mount) {
-            Some(row) => row.group,
+            Some(row) => row.group(),
             None => None,
         }
     }
@@ -125,16 +124,14 @@ impl Groups {
     fn kind_of_row(&self, row: &MemberRow) -> MountState
         ensures { result ≡ kind_of_row self.now row.now }
     {
-        match row.group {
-            Some(group) => match self.master_of_group(group) {
+        match row.membership {
+            Membership::InGroup(group) => match self.master_of_group(group) {
                 Some(_) => MountState::SharedSlave,
                 None => MountState::Shared,
             },
-            None => match row.master {
-                Some(_) => MountState::Slave,
-                None if row.unbindable => MountState::Unbindable,
-                None => MountState::Private,
-            },
+            Membership::SlaveOf(_) => MountState::Slave,
+            Membership::Private => MountState::Private,
+            Membership::Unbindable => MountState::Unbindable,
         }
     }
 
@@ -219,8 +216,6 @@ impl Groups {
             return Err(Errno::EINVAL);
         }
         let row = membership.row(mount);
-        // For the checker, which is to know the type.
-        let _group: Option<GroupId> = row.group;
         let index = self.rank(mount);
         self.indexes.make_room(&row)?;
         self.members.reserve(1)?;

@@ -96,8 +96,8 @@ impl Indexes {
         ensures same { HaveSameLists self.old self.new }
         ensures ok { OnOk result (HaveRoom row.now self.new) }
     {
-        room_for(&mut self.members, row.group)?;
-        room_for(&mut self.slaves, row.master)
+        room_for(&mut self.members, row.group())?;
+        room_for(&mut self.slaves, row.master())
     }
 
     /// Makes room for the peer group.
@@ -123,8 +123,8 @@ impl Indexes {
         requires { HaveRoom row.now self.old }
         ensures { AreWith row.now self.old self.new }
     {
-        add_to(&mut self.members, row.group, row.mount.0);
-        add_to(&mut self.slaves, row.master, row.mount.0);
+        add_to(&mut self.members, row.group(), row.mount.0);
+        add_to(&mut self.slaves, row.master(), row.mount.0);
     }
 
     /// Adds the peer group, for which there is room, as the last.
@@ -141,8 +141,8 @@ impl Indexes {
         requires slaves { ListsRise self.old.slaves }
         ensures { AreWithout row.now self.old self.new }
     {
-        take_from(&mut self.members, row.group, row.mount.0);
-        take_from(&mut self.slaves, row.master, row.mount.0);
+        take_from(&mut self.members, row.group(), row.mount.0);
+        take_from(&mut self.slaves, row.master(), row.mount.0);
     }
 
     /// Takes the peer group out.
@@ -160,8 +160,8 @@ impl Indexes {
         requires room { HaveRoom new.now self.old }
         ensures { AreMoved row.now new.now self.old self.new }
     {
-        move_item(&mut self.members, row.group, new.group, row.mount.0);
-        move_item(&mut self.slaves, row.master, new.master, row.mount.0);
+        move_item(&mut self.members, row.group(), new.group(), row.mount.0);
+        move_item(&mut self.slaves, row.master(), new.master(), row.mount.0);
     }
 
     /// Takes the first of these mounts back, so many, which were added last.
@@ -174,8 +174,8 @@ impl Indexes {
         while left > 0 {
             left -= 1;
             let row = &rows[left];
-            drop_from(&mut self.members, row.group);
-            drop_from(&mut self.slaves, row.master);
+            drop_from(&mut self.members, row.group());
+            drop_from(&mut self.slaves, row.master());
         }
     }
 

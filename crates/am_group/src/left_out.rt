@@ -87,7 +87,7 @@ fn are_pairs(rows: &[MemberRow], mounts: &[MountId]) -> bool
 {
     rows.iter()
         .zip(mounts.iter())
-        .all(|pair| pair.0.mount == *pair.1)
+        .all(|(row, mount)| row.mount == *mount)
 }
 
 /// Whether these are the rows of the mounts. The last is looked at first.

@@ -6,10 +6,8 @@ pub mod groups;
 mod indexes;
 mod left_out;
 mod lifting;
-pub mod membership;
 pub mod mount_state;
 mod tables;
 
 pub use groups::Groups;
-pub use membership::Membership;
 pub use mount_state::{Change, MountState};

@@ -13,7 +13,7 @@ ghost use Rattle.am_group.specs.Scan.{is_one_of};
 
 use crate::indexes::{Indexes, room_for};
 use am_index::Index;
-use am_names::{GroupId, GroupRow, MemberRow};
+use am_names::{GroupId, GroupRow, MemberRow, Membership};
 use am_ordered::Rows;
 use std::alloc::AllocError;
 
@@ -109,7 +109,17 @@ fn drop_lists(index: &mut Index, lifts: &[GroupRow])
     }
 }
 
-/// Gives the mount of this number this master. Its row is found by halves.
+/// The row of the slave with this master. Any other mount stays as it is.
+pub fn under_master(master: Option<GroupId>, row: MemberRow) -> MemberRow
+    ensures { result ≡ under_master master row }
+{
+    match row.membership {
+        Membership::SlaveOf(_) => Membership::slave_of(master).row(row.mount),
+        Membership::InGroup(_) | Membership::Private | Membership::Unbindable => row,
+    }
+}
+
+/// Gives the slave of this number this master. Its row is found by halves.
 fn set_master(members: &mut Rows<MemberRow>, number: u64, master: Option<GroupId>)
     requires { RiseFrom 0 members.old.rows }
     ensures { members.new.rows ≡ map (at_row (under_master master) number) members.old.rows }
@@ -119,7 +129,7 @@ fn set_master(members: &mut Rows<MemberRow>, number: u64, master: Option<GroupId
         .binary_search_by_key(&number, |row| row.mount.0)
     {
         let row = members.as_slice()[at];
-        members.set(at, MemberRow { master, ..row });
+        members.set(at, under_master(master, row));
     }
 }
 
@@ -137,7 +147,7 @@ fn set_group_master(groups: &mut Rows<GroupRow>, number: u64, master: Option<Gro
     }
 }
 
-/// Gives these mounts the master that is given for the peer group.
+/// Gives these slaves the master that is given for the peer group.
 fn set_masters(members: &mut Rows<MemberRow>, mounts: &[u64], lift: &GroupRow)
     requires { RiseFrom 0 members.old.rows }
     ensures { members.new.rows ≡

@@ -5,7 +5,7 @@ ghost use Rattle.am_group.specs.Changes.{shared_row, slave_row};
 ghost use Rattle.am_group.specs.MountStates.{kind_after};
 ghost use Rattle.am_group.specs.Tables.{row_as};
 
-use am_names::{GroupId, MemberRow};
+use am_names::{GroupId, MemberRow, Membership};
 
 /// The state of a mount (sharedsubtree.rst, 5a).
 #[derive(Clone, Copy, Debug, PartialEq, Eq)]
@@ -67,27 +67,19 @@ pub(crate) fn asked(change: Change, kind: MountState) -> MountState
 fn shared_row(fresh: GroupId, row: MemberRow) -> MemberRow
     ensures { result ≡ shared_row fresh row }
 {
-    match row.group {
-        Some(_) => row,
-        None => MemberRow {
-            group: Some(fresh),
-            master: None,
-            unbindable: false,
-            ..row
-        },
+    match row.membership {
+        Membership::InGroup(_) => row,
+        Membership::SlaveOf(_) | Membership::Private | Membership::Unbindable => {
+            Membership::InGroup(fresh).row(row.mount)
+        }
     }
 }
 
 fn slave_row(row: MemberRow) -> MemberRow
     ensures { result ≡ slave_row row }
 {
-    match row.group {
-        Some(group) => MemberRow {
-            group: None,
-            master: Some(group),
-            unbindable: false,
-            ..row
-        },
+    match row.group() {
+        Some(group) => Membership::SlaveOf(group).row(row.mount),
         None => row,
     }
 }
@@ -100,17 +92,7 @@ pub(crate) fn row_as(kind: MountState, fresh: GroupId, row: MemberRow) -> Member
     match kind {
         MountState::Shared | MountState::SharedSlave => shared_row(fresh, row),
         MountState::Slave => slave_row(row),
-        MountState::Private => MemberRow {
-            group: None,
-            master: None,
-            unbindable: false,
-            ..row
-        },
-        MountState::Unbindable => MemberRow {
-            group: None,
-            master: None,
-            unbindable: true,
-            ..row
-        },
+        MountState::Private => Membership::Private.row(row.mount),
+        MountState::Unbindable => Membership::Unbindable.row(row.mount),
     }
 }

@@ -8,7 +8,7 @@ use Rattle.am_names.specs.declared.trigger.Trigger.{Trigger}
 use Rattle.am_names.specs.{MountRow, Position}
 use Rattle.am_state.specs.{Obs}
 use Rattle.am_state.specs.declared.obs.Obs.TheVariants as seen
-use Rattle.am_group.specs.declared.membership.Membership.TheVariants.{Private}
+use Rattle.am_names.specs.declared.membership.Membership.TheVariants.{Private}
 use Rattle.am_group.specs.{is_just}
 use Rattle.am_mount.specs.{mount_row, top_of}
 use Rattle.am_propagate.specs.MountTable.{MountTable}

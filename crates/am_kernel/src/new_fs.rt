@@ -3,7 +3,7 @@
 ghost use Rattle.std.specs.Prelude.{◌≡◌, ◌<◌, ◌+◌, ◌∷◌, ◌++◌, [], IfOk, OnOk, OnErr};
 ghost use Rattle.am_names.specs.{RefusedAs};
 ghost use Rattle.am_state.specs.declared.obs.Obs.TheVariants.{Mounted};
-ghost use Rattle.am_group.specs.declared.membership.Membership.TheVariants.{Private};
+ghost use Rattle.am_names.specs.declared.membership.Membership.TheVariants.{Private};
 ghost use Rattle.am_propagate.specs.{mount_refusal, mounted};
 ghost use Rattle.am_kernel.specs.State.{greatest_u32};
 ghost use Rattle.am_kernel.specs.Lookups.{fs_refusal};

@@ -6,19 +6,18 @@ ghost use Rattle.am_mountinfo.specs.Mountinfo.{is_number, dominating, but, sourc
 ghost use Rattle.am_mountinfo.specs.Peers.{ArePeers};
 
 use crate::peers::{Peers, group_of};
-use am_names::{GroupId, MemberRow, MountId, MountRow};
+use am_names::{GroupId, Membership, MountId, MountRow};
 use am_world::World;
 
 /// The master of a mount.
 pub(crate) fn master_of(world: &World, mount: MountId) -> Option<GroupId>
     ensures { result ≡ master_of world.now.kernel.table.groups mount }
 {
-    match world.member(mount)? {
-        MemberRow {
-            group: Some(group),
-            ..
-        } => world.master_of_group(group),
-        MemberRow { master, .. } => master,
+    let row = world.member(mount)?;
+    match row.membership {
+        Membership::InGroup(group) => world.master_of_group(group),
+        Membership::SlaveOf(master) => Some(master),
+        Membership::Private | Membership::Unbindable => None,
     }
 }
 

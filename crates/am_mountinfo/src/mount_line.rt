@@ -164,7 +164,7 @@ fn put_unbindable<W: Write>(output: &mut Output, member: Option<MemberRow>, writ
 {
     match member {
         None => put_word(output, b"", writer),
-        Some(member) => put_flag(output, member.unbindable, writer),
+        Some(member) => put_flag(output, member.is_unbindable(), writer),
     }
 }
 

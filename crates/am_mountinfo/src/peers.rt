@@ -19,7 +19,7 @@ pub struct Peers {
 pub(crate) fn group_of(world: &World, mount: MountId) -> Option<GroupId>
     ensures { result ≡ group_of world.now.kernel.table.groups mount }
 {
-    world.member(mount)?.group
+    world.member(mount)?.group()
 }
 
 impl Peers {

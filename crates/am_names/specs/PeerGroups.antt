@@ -1,6 +1,6 @@
 -- The propagation of all mounts (sharedsubtree.rst, 5a).
 use Rattle.std.specs.Prelude.{ℕ, List}
-use Rattle.am_names.specs.declared.row.MemberRow.{MemberRow}
+use Rattle.am_names.specs.Member.{MemberRow}
 use Rattle.am_names.specs.declared.row.GroupRow.{GroupRow}
 
 -- Each mount with its peer group or master, in rising order of mounts; each peer group with its

@@ -2,11 +2,13 @@
 
 ghost use Rattle.std.specs.Prelude.{◌≡◌, ◌↔◌, IsTrue, IfOk};
 
+use crate::membership::Membership;
 use crate::number::{FsId, GroupId, MountId, NsId, Token, WalkerId};
 use crate::place::Place;
 use crate::trigger::{Status, Trigger};
 use crate::waiters::Waiters;
 use std::alloc::{AllocError, Global};
+use std::marker::Model;
 
 /// A mount and a place below its root (Linux: `struct path`).
 #[derive(Debug, Drop)]
@@ -65,16 +67,56 @@ impl MountRow {
     }
 }
 
-/// The propagation of a mount (sharedsubtree.rst, 5a). A shared mount's master is its group's.
+/// The propagation of a mount (sharedsubtree.rst, 5a). Clauses see its peer group, its master and
+/// whether it is not to be bound.
 #[derive(Clone, Copy, PartialEq)]
 pub struct MemberRow {
     pub mount: MountId,
+    pub membership: Membership,
+}
+
+impl Model for MemberRow {
+    ghost use Rattle.am_names.specs.Member.{MemberRow};
+
+    ghost Value = { MemberRow };
+
+    ghost use Rattle.am_names.specs.Memberships.{row_with};
+    ghost use Rattle.am_names.specs.MemberView.{inside_of, stored_back};
+
+    ghost view = { λ r. row_with r.membership r.mount };
+
+    ghost inverse = { inside_of };
+
+    ghost inverse_ok = { λ r _. stored_back r };
+}
+
+impl MemberRow {
     /// The peer group of a shared mount.
-    pub group: Option<GroupId>,
-    /// The master peer group of a slave that is not shared.
-    pub master: Option<GroupId>,
-    /// Private, and not to be bound.
-    pub unbindable: bool,
+    pub fn group(&self) -> Option<GroupId>
+        ensures { result ≡ self.now.group }
+    {
+        match self.membership {
+            Membership::InGroup(group) => Some(group),
+            Membership::SlaveOf(_) | Membership::Private | Membership::Unbindable => None,
+        }
+    }
+
+    /// The master peer group of a slave that is not shared. A shared mount's master is its group's.
+    pub fn master(&self) -> Option<GroupId>
+        ensures { result ≡ self.now.master }
+    {
+        match self.membership {
+            Membership::SlaveOf(group) => Some(group),
+            Membership::InGroup(_) | Membership::Private | Membership::Unbindable => None,
+        }
+    }
+
+    /// Whether it is private, and not to be bound.
+    pub fn is_unbindable(&self) -> bool
+        ensures { result ≡ self.now.unbindable }
+    {
+        self.membership == Membership::Unbindable
+    }
 }
 
 /// A peer group and its master peer group.

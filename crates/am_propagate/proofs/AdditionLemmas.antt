@@ -6,10 +6,10 @@ use Rattle.std.proofs.lemmas.List.{length-map}
 use Rattle.std.proofs.lemmas.List.Folds.{find-append}
 use Rattle.std.proofs.lemmas.Bool.{eqb-true, eq-eqb, or_cases}
 use Rattle.am_names.proofs.Basics.{or_left, or_right, and_false, some_injective}
-use Rattle.am_names.specs.{MountRow, MemberRow, GroupRow, Position}
+use Rattle.am_names.specs.{GroupRow, MemberRow, Membership, MountRow, Position, membership_where, row_with}
 use Rattle.am_names.specs.PeerGroups.{PeerGroups}
-use Rattle.am_group.specs.{Membership, member_row, group_row, group_in, slave_in, group_of, master_of_group, Receives, with_group, added, all_added, receiving_groups, rank, stand_in, copy_row, copies_from, group_copies, row_with, is_under, receives, receivers_of, numbers, IsMaster, HasMembers, IsSound, AddsNoReceivers}
-use Rattle.am_group.specs.declared.membership.Membership.TheVariants.{InGroup, SlaveOf, Private, Unbindable}
+use Rattle.am_group.specs.{member_row, group_row, group_in, slave_in, group_of, master_of_group, Receives, with_group, added, all_added, receiving_groups, rank, stand_in, copy_row, copies_from, group_copies, is_under, receives, receivers_of, numbers, IsMaster, HasMembers, IsSound, AddsNoReceivers}
+use Rattle.am_names.specs.declared.membership.Membership.TheVariants.{InGroup, SlaveOf, Private, Unbindable}
 use Rattle.am_group.proofs.ReceiveLemmas.{home_where, under_from_way}
 use Rattle.am_group.proofs.ReceiverLemmas.{receives_test, receives_found}
 use Rattle.am_group.proofs.ScanLemmas.{has, has-filter, has-from_filter}
@@ -19,7 +19,7 @@ use Rattle.am_group.proofs.AddLemmas.{added_law}
 use Rattle.am_mount.specs.Rows.{RiseFrom as RowsRise}
 use Rattle.am_mount.specs.{mount_row}
 use Rattle.am_propagate.specs.MountTable.{MountTable}
-use Rattle.am_propagate.specs.{is_mount, IsWhole, grown, ns_in, row_at, rows_at, membership_where, membership_in, new_group, last_fresh, fresh_groups, stands, new_members, new_groups, fresh_count, groups_made, mounted, HasSource}
+use Rattle.am_propagate.specs.{is_mount, IsWhole, grown, ns_in, row_at, rows_at, membership_in, new_group, last_fresh, fresh_groups, stands, new_members, new_groups, fresh_count, groups_made, mounted, HasSource}
 use Rattle.am_propagate.proofs.RemovalLemmas.{some_of, same_there}
 use Rattle.am_propagate.proofs.GrowthLemmas.{IsKin, ComesWell, grown_whole}
 use Rattle.am_propagate.proofs.StandLemmas.{same_receivers, fresh_there, copied_at_once}

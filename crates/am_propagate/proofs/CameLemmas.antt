@@ -3,8 +3,8 @@ use Rattle.std.proofs.Common.{◌≡◌, ◌≤◌, ◌<◌, ◌+◌, ℕ, suc, 
 use Rattle.std.specs.Prelude.{filter, map, nat_le}
 use Rattle.std.proofs.lemmas.Bool.Decides.{nat_tests}
 use Rattle.std.proofs.lemmas.List.{map-append}
-use Rattle.am_names.specs.{MountRow, Position}
-use Rattle.am_group.specs.{Membership, receivers_of}
+use Rattle.am_names.specs.{Membership, MountRow, Position}
+use Rattle.am_group.specs.{receivers_of}
 use Rattle.am_mount.specs.{is_in}
 use Rattle.am_mount.proofs.RowLemmas.{RiseOn}
 use Rattle.am_propagate.specs.MountTable.{MountTable}

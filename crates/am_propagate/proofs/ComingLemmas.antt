@@ -2,9 +2,9 @@
 use Rattle.std.proofs.Common.{◌≡◌, ◌≤◌, ◌<◌, ◌+◌, ◌-◌, ℕ, true, List, [], ◌∷◌, ◌++◌, length, take, get_or, Option, Some, ⊎_elim, refl, sym, ap, subst, ◌∙◌, append_assoc, arith, eqb}
 use Rattle.std.proofs.lemmas.Bool.{eqb-true, or_cases}
 use Rattle.std.proofs.lemmas.List.{length-append}
-use Rattle.am_names.specs.{MountRow, MemberRow, GroupRow, Position}
+use Rattle.am_names.specs.{GroupRow, MemberRow, Membership, MountRow, Position}
 use Rattle.am_names.specs.PeerGroups.{PeerGroups}
-use Rattle.am_group.specs.{Membership, all_added, group_of, receivers_of}
+use Rattle.am_group.specs.{all_added, group_of, receivers_of}
 use Rattle.am_group.proofs.ScanLemmas.{has}
 use Rattle.am_group.proofs.ReceiverLemmas.{has_from_Contains}
 use Rattle.am_mount.specs.{mount_row}

@@ -6,10 +6,10 @@ use Rattle.std.proofs.lemmas.List.{append-nil}
 use Rattle.std.proofs.lemmas.List.Folds.{find-append}
 use Rattle.std.proofs.lemmas.Bool.{eqb-true, eq-eqb, ne_eqb, and_parts, or_cases, ltb-true, ltb-false}
 use Rattle.am_names.proofs.Basics.{or_left, or_right, some_injective}
-use Rattle.am_names.specs.{MemberRow, GroupRow, Position}
+use Rattle.am_names.specs.{GroupRow, MemberRow, Membership, Position, row_with}
 use Rattle.am_names.specs.PeerGroups.{PeerGroups}
-use Rattle.am_group.specs.{Membership, member_row, group_row, slave_in, master_in, group_of, master_of_group, master_where, Receives, is_just, all_added, has_receiver, receiving_groups, rank, copy_row, copies_from, group_copies, IsGroup, row_with, receivers_of}
-use Rattle.am_group.specs.declared.membership.Membership.TheVariants.{InGroup, SlaveOf, Private, Unbindable}
+use Rattle.am_group.specs.{member_row, group_row, slave_in, master_in, group_of, master_of_group, master_where, Receives, is_just, all_added, has_receiver, receiving_groups, rank, copy_row, copies_from, group_copies, IsGroup, receivers_of}
+use Rattle.am_names.specs.declared.membership.Membership.TheVariants.{InGroup, SlaveOf, Private, Unbindable}
 use Rattle.am_group.proofs.ReceiveLemmas.{home_where, under_from_way}
 use Rattle.am_group.proofs.UnderLemmas.{receivers_rise}
 use Rattle.am_group.proofs.ScanLemmas.{has, any_has, has-from_filter, just_same}

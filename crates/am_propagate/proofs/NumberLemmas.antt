@@ -4,10 +4,10 @@ use Rattle.std.specs.Prelude.{nat_lt, is_some, option_map, ◌==◌}
 use Rattle.std.proofs.lemmas.Bool.{eq-eqb}
 use Rattle.std.proofs.lemmas.Bool.Decides.{nat_tests}
 use Rattle.am_names.proofs.Basics.{or_left, or_right}
-use Rattle.am_names.specs.{MemberRow, GroupRow}
+use Rattle.am_names.specs.{GroupRow, MemberRow, Membership, row_with}
 use Rattle.am_names.specs.PeerGroups.{PeerGroups}
-use Rattle.am_group.specs.{Membership, member_row, slave_in, group_of, master_of_group, Receives, receiving_groups, rank, copy_row, copies_from, group_copies, row_with, receivers_of}
-use Rattle.am_group.specs.declared.membership.Membership.TheVariants.{InGroup, SlaveOf, Private, Unbindable}
+use Rattle.am_group.specs.{member_row, slave_in, group_of, master_of_group, Receives, receiving_groups, rank, copy_row, copies_from, group_copies, receivers_of}
+use Rattle.am_names.specs.declared.membership.Membership.TheVariants.{InGroup, SlaveOf, Private, Unbindable}
 use Rattle.am_group.proofs.ScanLemmas.{has}
 use Rattle.am_group.proofs.CopyLemmas.{rank_bound, stands_of_receiver, stands_of_slave, stands_above}
 use Rattle.am_mount.specs.{mount_row}

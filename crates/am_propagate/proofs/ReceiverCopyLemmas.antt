@@ -3,8 +3,8 @@ use Rattle.std.proofs.Common.{◌≡◌, ◌≤◌, ◌<◌, ◌+◌, ◌⊎◌,
 use Rattle.std.specs.Prelude.{is_some, ◌==◌}
 use Rattle.std.proofs.lemmas.List.Folds.{find-append}
 use Rattle.std.proofs.lemmas.Bool.{eqb-true, eq-eqb, ne_eqb}
-use Rattle.am_names.specs.{MountRow, Position}
-use Rattle.am_group.specs.{Membership, Receives, receivers_of}
+use Rattle.am_names.specs.{Membership, MountRow, Position}
+use Rattle.am_group.specs.{Receives, receivers_of}
 use Rattle.am_group.proofs.ScanLemmas.{has}
 use Rattle.am_group.proofs.UnderLemmas.{receivers_rise}
 use Rattle.am_mount.specs.{mount_row, IsOn}

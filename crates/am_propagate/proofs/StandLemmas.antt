@@ -7,10 +7,10 @@ use Rattle.std.proofs.lemmas.List.Elements.{filter-append}
 use Rattle.std.proofs.lemmas.List.Folds.{find-append}
 use Rattle.std.proofs.lemmas.Bool.{eqb-true, eq-eqb, ne_eqb}
 use Rattle.am_names.proofs.Basics.{or_left, or_right}
-use Rattle.am_names.specs.{MemberRow, GroupRow}
+use Rattle.am_names.specs.{GroupRow, MemberRow, row_with}
 use Rattle.am_names.specs.PeerGroups.{PeerGroups}
-use Rattle.am_group.specs.declared.membership.Membership.TheVariants.{InGroup}
-use Rattle.am_group.specs.{member_row, group_row, master_in, slave_in, group_of, master_of_group, master_where, master_of, PropagatesTo, PropagatesBy, Receives, is_just, with_group, all_added, has_receiver, receiving_groups, stand_in, copy_row, copies_from, group_copies, copied, row_with, IsGroup, IsSound}
+use Rattle.am_names.specs.declared.membership.Membership.TheVariants.{InGroup}
+use Rattle.am_group.specs.{member_row, group_row, master_in, slave_in, group_of, master_of_group, master_where, master_of, PropagatesTo, PropagatesBy, Receives, is_just, with_group, all_added, has_receiver, receiving_groups, stand_in, copy_row, copies_from, group_copies, copied, IsGroup, IsSound}
 use Rattle.am_group.proofs.ScanLemmas.{has, has-from_filter}
 
 -- with a fresh group all that was there is found as before

@@ -2,10 +2,10 @@
 use Rattle.std.specs.Prelude.{◌≡◌, ◌⊎◌, ◌+◌, ℕ, zero, suc, Bool, true, false, not, List, [], ◌∷◌, ◌++◌, length, Option, Some, None, if◌then◌else◌}
 use Rattle.am_names.specs.declared.errno.Errno.{Errno}
 use Rattle.am_names.specs.declared.errno.Errno.TheVariants.{EINVAL, ENOSPC}
-use Rattle.am_names.specs.{MountRow, MemberRow, GroupRow, Position}
+use Rattle.am_names.specs.{GroupRow, MemberRow, Membership, MountRow, Position, membership_where, row_with}
 use Rattle.am_names.specs.PeerGroups.{PeerGroups}
-use Rattle.am_group.specs.{Membership, member_row, group_of, all_added, receiving_groups, stand_in, copies_from, group_copies, row_with, receivers_of}
-use Rattle.am_group.specs.declared.membership.Membership.TheVariants.{InGroup, SlaveOf, Private, Unbindable}
+use Rattle.am_group.specs.{member_row, group_of, all_added, receiving_groups, stand_in, copies_from, group_copies, receivers_of}
+use Rattle.am_names.specs.declared.membership.Membership.TheVariants.{InGroup, SlaveOf, Private, Unbindable}
 use Rattle.am_mount.specs.{mount_row}
 use Rattle.am_propagate.specs.MountTable.{MountTable, is_mount, lacks_mounts, lacks_groups}
 
@@ -34,12 +34,6 @@ abbrev pub rows_at : MountTable → List (List ℕ) → ℕ → ℕ → ℕ → 
 rows_at t place fs origin number [] = []
 rows_at t place fs origin number (parent ∷ parents) =
     row_at t place fs origin number parent ∷ rows_at t place fs origin (number + 1) parents
-
--- the source of a mount as its own row tells it: a new file system is private
-abbrev pub membership_where : Option ℕ → Option ℕ → Bool → Membership
-membership_where (Some group) master unbindable = InGroup group
-membership_where None (Some master) unbindable = SlaveOf master
-membership_where None None unbindable = if unbindable then Unbindable else Private
 
 -- how the mount takes part in propagation
 abbrev pub membership_in : Option MemberRow → Membership

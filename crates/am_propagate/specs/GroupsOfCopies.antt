@@ -1,10 +1,10 @@
 -- The peer groups of a new mount and of its copies (sharedsubtree.rst, 5b and 5e; own:
 -- docs/DECISIONS.md, "Copies in groups"), whatever numbers they have.
 use Rattle.std.specs.Prelude.{◌≡◌, ◌≢◌, ◌<◌, ◌⊎◌, ℕ, false, Option, Some, None, option_map}
-use Rattle.am_names.specs.{MemberRow}
+use Rattle.am_names.specs.{MemberRow, Membership}
 use Rattle.am_names.specs.PeerGroups.{PeerGroups}
-use Rattle.am_group.specs.{Membership, group_of, master_of, master_of_group, Receives, IsGroup}
-use Rattle.am_group.specs.declared.membership.Membership.TheVariants.{InGroup, SlaveOf, Private, Unbindable}
+use Rattle.am_group.specs.{group_of, master_of, master_of_group, Receives, IsGroup}
+use Rattle.am_names.specs.declared.membership.Membership.TheVariants.{InGroup, SlaveOf, Private, Unbindable}
 use Rattle.am_mount.specs.{IsOn}
 use Rattle.am_propagate.specs.MountTable.{MountTable}
 use Rattle.am_propagate.specs.NewMounts.{HasMember, IsInGroup, IsSlave}

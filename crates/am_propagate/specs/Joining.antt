@@ -1,9 +1,9 @@
 -- The rows of peer groups, as they are made for a mount and its copies: own choice
 -- (docs/DECISIONS.md, "Copies in groups").
 use Rattle.std.specs.Prelude.{◌≡◌, ◌==◌, ◌+◌, ℕ, nat_lt, List, [], Option, Some, None, option_map, if◌then◌else◌}
-use Rattle.am_names.specs.{GroupRow}
+use Rattle.am_names.specs.{GroupRow, Membership}
 use Rattle.am_names.specs.PeerGroups.{PeerGroups}
-use Rattle.am_group.specs.{Membership, master_of_group, receiving_groups, rank}
+use Rattle.am_group.specs.{master_of_group, receiving_groups, rank}
 use Rattle.am_propagate.specs.declared.subtree.joining.Joining.{Joining}
 use Rattle.am_propagate.specs.declared.subtree.stand_ins.StandIns.{StandIns}
 use Rattle.am_propagate.specs.Added.{new_members, new_groups}

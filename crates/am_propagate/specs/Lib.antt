@@ -14,7 +14,7 @@ pub mod NamespaceCopies
 pub mod ReceiverCopies
 pub mod GroupsOfCopies
 -- what contracts cite, passed on from one place
-pub use Added.{HasSource, fresh_count, fresh_groups, fs_in, groups_made, is_unbindable, last_fresh, membership_in, membership_of, membership_where, mount_refusal, mounted, mounts_made, new_group, new_groups, new_members, new_mounts, ns_in, numbers_after, row_at, rows_at, stands}
+pub use Added.{HasSource, fresh_count, fresh_groups, fs_in, groups_made, is_unbindable, last_fresh, membership_in, membership_of, mount_refusal, mounted, mounts_made, new_group, new_groups, new_members, new_mounts, ns_in, numbers_after, row_at, rows_at, stands}
 pub use Changed.{with_change}
 pub use GroupsOfCopies.{ComesShared, ComesUnshared, IsAsSource, IsConcerned, IsGroupBy, IsReceiversOnly, IsReceiving, Joins, JoinsBy}
 pub use Grown.{grown}

@@ -1,10 +1,10 @@
 -- All mounts with their propagation (sharedsubtree.rst, 5), and the numbers that were given. The
 -- initial namespace is own choice.
 use Rattle.std.specs.Prelude.{◌+◌, ℕ, Bool, nat_lt, List, [], ◌∷◌, map, Option, Some, None, is_some}
-use Rattle.am_names.specs.{MountRow, Position}
+use Rattle.am_names.specs.{MountRow, Position, row_with}
 use Rattle.am_names.specs.PeerGroups.{PeerGroups}
-use Rattle.am_group.specs.declared.membership.Membership.TheVariants.{Private}
-use Rattle.am_group.specs.{no_mounts, row_with, with_member}
+use Rattle.am_names.specs.declared.membership.Membership.TheVariants.{Private}
+use Rattle.am_group.specs.{no_mounts, with_member}
 use Rattle.am_mount.specs.{mount_row}
 
 -- all mounts, and how they take part in propagation

@@ -7,9 +7,9 @@ ghost use Rattle.am_propagate.specs.Changed.{with_change};
 ghost use Rattle.am_propagate.specs.MountTable.{opening, is_mount, lacks_mounts, lacks_groups};
 ghost use Rattle.am_propagate.specs.Invariant.{IsWhole};
 
-use am_group::{Change, Groups, Membership};
+use am_group::{Change, Groups};
 use am_mount::Tree;
-use am_names::{Errno, FsId, MountId, MountRow, NsId};
+use am_names::{Errno, FsId, Membership, MountId, MountRow, NsId};
 use std::alloc::{AllocError, Global};
 use std::marker::Model;
 

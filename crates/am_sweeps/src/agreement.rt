@@ -124,7 +124,7 @@ fn has_copy(
 
 /// Whether a mount is in this peer group, or a slave of it, or of its slaves.
 fn receives_from(world: &World, member: &MemberRow, group: GroupId) -> bool {
-    let mut source = member.group.or(member.master);
+    let mut source = member.group().or(member.master());
     for _ in world.members() {
         let Some(from) = source else {
             return false;
@@ -153,7 +153,7 @@ fn is_copied(
 }
 
 fn group_of(world: &World, mount: MountId) -> Option<GroupId> {
-    world.member(mount)?.group
+    world.member(mount)?.group()
 }
 
 /// Whether what was mounted on a trigger has a copy on each older mount that receives from the

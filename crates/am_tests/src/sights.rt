@@ -1,6 +1,8 @@
 //! What a world lends of itself, behind the scripts that bring it so far.
 
-use am_names::{Attach, Errno, FsId, GroupId, JobId, MountId, Name, Token, Trigger, WalkerId};
+use am_names::{
+    Attach, Errno, FsId, GroupId, JobId, Membership, MountId, Name, Token, Trigger, WalkerId,
+};
 use am_world::{Act, Job, Record, Use, World};
 use std::alloc::{AllocError, Global};
 
@@ -64,7 +66,7 @@ fn has_rows(world: &World) -> bool {
 
 fn has_members(world: &World) -> bool {
     let is_private = match world.member(MountId(2)) {
-        Some(member) => member.group.is_none() && member.master.is_none(),
+        Some(member) => member.membership == Membership::Private,
         None => false,
     };
     is_private && world.member(MountId(4)).is_none() && world.master_of_group(GroupId(1)).is_none()
@@ -199,7 +201,7 @@ fn shows_job(world: &World) -> bool {
 
 fn is_member(world: &World, mount: u64, group: Option<GroupId>, master: Option<GroupId>) -> bool {
     match world.member(MountId(mount)) {
-        Some(row) => row.group == group && row.master == master,
+        Some(row) => row.group() == group && row.master() == master,
         None => false,
     }
 }

@@ -12,7 +12,7 @@ ghost use Rattle.am_group.specs.Tables.{is_not_alone, past, past_member, row_of,
 
 use crate::groups::Groups;
 use crate::groups::leaving::drop_group;
-use crate::lifting::lift_followers;
+use crate::lifting::{lift_followers, under_master};
 use crate::mount_state::{Change, asked, row_as};
 use am_names::{Errno, GroupId, GroupRow, MemberRow, MountId};
 use am_ordered::Rows;
@@ -51,8 +51,8 @@ impl Groups {
     fn is_not_alone(&self, row: &MemberRow) -> bool
         ensures { result ≡ is_not_alone self.now row.now }
     {
-        match row.group {
-            Some(group) => has_other(self.indexes.members.list(group.0), row.mount),
+        match row.group() {
+            Some(own) => has_other(self.indexes.members.list(own.0), row.mount),
             None => true,
         }
     }
@@ -72,8 +72,7 @@ impl Groups {
     fn past_row(&self, group: GroupId, row: &MemberRow) -> MemberRow
         ensures { result ≡ past_member self.now group row.now }
     {
-        let master = self.past(group, row.master);
-        MemberRow { master, ..*row }
+        under_master(self.past(group, row.master()), *row)
     }
 
     /// The mount gives up the peer group in which it is alone, and which goes. The followers of the
@@ -105,7 +104,7 @@ impl Groups {
             &mut self.groups,
             &mut self.indexes,
             &lifts,
-            after.master,
+            after.master(),
         )?;
         self.indexes.replace(&before, &after);
         drop_group(&mut self.groups, &mut self.indexes, group);
@@ -133,7 +132,7 @@ impl Groups {
             return Ok(());
         }
         // A mount in no peer group is not alone in one.
-        let Some(group) = row.group else {
+        let Some(group) = row.group() else {
             return Ok(());
         };
         self.give_up_last(change, mount, row, group)?;
@@ -152,17 +151,17 @@ impl Groups {
         let Some(row) = self.member(mount) else {
             return Err(Errno::EINVAL);
         };
-        if row.group.is_some() {
+        if row.group().is_some() {
             return Ok(());
         }
         if self.is_exhausted() {
             return Err(Errno::ENOSPC);
         }
-        let group = GroupId(self.last_group + 1);
-        let changed = self.changed_row(Change::MakeShared, group, row);
+        let number = GroupId(self.last_group + 1);
+        let changed = self.changed_row(Change::MakeShared, number, row);
         let fresh = GroupRow {
-            group,
-            master: row.master,
+            group: number,
+            master: row.master(),
         };
         self.indexes.make_all_room(&changed, &fresh)?;
         self.groups.reserve(1)?;
@@ -170,7 +169,7 @@ impl Groups {
         self.indexes.replace(&row, &changed);
         self.indexes.add_group(&fresh);
         write_row(&mut self.members, mount, changed);
-        self.last_group = group.0;
+        self.last_group = number.0;
         Ok(())
     }
 

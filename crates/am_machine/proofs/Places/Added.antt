@@ -4,9 +4,9 @@ use Rattle.std.specs.Prelude.{◌==◌}
 use Rattle.std.specs.Option.{option_or}
 use Rattle.std.proofs.lemmas.List.Folds.{find-append}
 use Rattle.std.proofs.lemmas.Bool.{eqb-true, eq-eqb, or_cases}
-use Rattle.am_names.specs.{MountRow, Position}
+use Rattle.am_names.specs.{Membership, MountRow, Position}
 use Rattle.am_names.proofs.Basics.{some_injective}
-use Rattle.am_group.specs.{Membership, Receives, receivers_of}
+use Rattle.am_group.specs.{Receives, receivers_of}
 use Rattle.am_group.proofs.ScanLemmas.{has}
 use Rattle.am_mount.specs.{mount_row}
 use Rattle.am_propagate.specs.MountTable.{MountTable}

@@ -6,7 +6,7 @@ use Rattle.std.proofs.lemmas.List.Folds.{find-append}
 use Rattle.std.proofs.lemmas.Bool.{eqb-true, ne_eqb}
 use Rattle.am_names.specs.{MountRow, Position}
 use Rattle.am_names.proofs.Basics.{some_injective}
-use Rattle.am_group.specs.declared.membership.Membership.TheVariants.{Private}
+use Rattle.am_names.specs.declared.membership.Membership.TheVariants.{Private}
 use Rattle.am_mount.specs.{mount_row, HasRow, IsIn}
 use Rattle.am_propagate.specs.MountTable.{MountTable}
 use Rattle.am_propagate.specs.{ns_in, row_at, mounted}

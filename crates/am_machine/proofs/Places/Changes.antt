@@ -8,7 +8,7 @@ use Rattle.am_names.specs.declared.row.TokenKind.TheVariants.{Missing, Expire}
 use Rattle.am_names.specs.declared.trigger.Trigger.{Trigger}
 use Rattle.am_names.proofs.Basics.{none_where_not_some, true_where_not_false}
 use Rattle.am_state.specs.{Obs}
-use Rattle.am_group.specs.declared.membership.Membership.TheVariants.{Private}
+use Rattle.am_names.specs.declared.membership.Membership.TheVariants.{Private}
 use Rattle.am_group.specs.{AddsNoReceivers}
 use Rattle.am_mount.specs.{mount_row, IsTop, HasNoMountAt}
 use Rattle.am_mount.proofs.RowLemmas.{top_is, some_greatest, none_free}

@@ -2,9 +2,9 @@
 use Rattle.std.proofs.Common.{◌≡◌, ◌≤◌, ◌<◌, ◌⊎◌, ◌+◌, ℕ, true, false, List, [], Option, Some, None, refl, sym, ◌∙◌, ap, subst, inl, inr, ⊎_elim, arith}
 use Rattle.std.specs.Prelude.{is_some}
 use Rattle.std.specs.Option.{option_map, option_and_then}
-use Rattle.am_names.specs.{MountRow, Position}
+use Rattle.am_names.specs.{Membership, MountRow, Position}
 use Rattle.am_names.proofs.Basics.{some_injective}
-use Rattle.am_group.specs.{Membership, Receives}
+use Rattle.am_group.specs.{Receives}
 use Rattle.am_mount.specs.{mount_row, IsAt, HasNoMountAt}
 use Rattle.am_propagate.specs.MountTable.{MountTable}
 use Rattle.am_propagate.specs.{is_mount, IsWhole, row_at, mounted, HasSource}

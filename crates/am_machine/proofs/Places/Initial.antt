@@ -1,10 +1,10 @@
 -- Kernel and triggers agree on places in the initial world.
 use Rattle.std.proofs.Common.{◌≡◌, ℕ, ◌==◌, Bool, true, false, cond, [], ◌∷◌, Some, None, refl, sym, ◌∙◌, ap, inl, inr, arith}
 use Rattle.std.proofs.lemmas.Bool.{eqb-true}
-use Rattle.am_names.specs.{MountRow}
+use Rattle.am_names.specs.{MountRow, row_with}
 use Rattle.am_names.specs.PeerGroups.{PeerGroups}
-use Rattle.am_group.specs.declared.membership.Membership.TheVariants.{Private}
-use Rattle.am_group.specs.{IsGroup, IsMaster, IsSound, no_mounts, row_with, with_member}
+use Rattle.am_names.specs.declared.membership.Membership.TheVariants.{Private}
+use Rattle.am_group.specs.{IsGroup, IsMaster, IsSound, no_mounts, with_member}
 use Rattle.am_group.proofs.MemberLemmas.{member_keeps}
 use Rattle.am_mount.specs.{mount_row, IsOn}
 use Rattle.am_propagate.specs.{opening, IsWhole}

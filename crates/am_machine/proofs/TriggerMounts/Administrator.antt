@@ -2,9 +2,9 @@
 use Rattle.std.proofs.Common.{◌≡◌, ◌≢◌, ◌+◌, ℕ, Bool, true, false, cond, List, [], ◌∷◌, Option, Some, None, refl, sym, ◌∙◌, ap, subst, inl, inr, ⊎_elim, arith}
 use Rattle.std.specs.Prelude.{◌==◌, map, filter}
 use Rattle.std.proofs.lemmas.Bool.{eqb-true}
-use Rattle.am_names.specs.{MountRow, Position, is_among}
+use Rattle.am_names.specs.{Membership, MountRow, Position, is_among}
 use Rattle.am_names.proofs.Basics.{some_injective, false_unless_true}
-use Rattle.am_group.specs.{Membership, Receives}
+use Rattle.am_group.specs.{Receives}
 use Rattle.am_mount.specs.{mount_row, is_in, IsAt}
 use Rattle.am_mount.proofs.RowLemmas.{RiseFrom-filter}
 use Rattle.am_propagate.specs.{CopyForm, is_mount, mountpoint_in, mountpoint_of, IsWhole, mounted, HasSource, copy_number, row_in, with_copy, unmounted, mounts_in}

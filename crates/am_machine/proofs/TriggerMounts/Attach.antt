@@ -6,7 +6,7 @@ use Rattle.std.proofs.lemmas.List.Elements.{All-weaker}
 use Rattle.am_names.specs.declared.trigger.Trigger.{Trigger}
 use Rattle.am_names.specs.{MountRow, Position}
 use Rattle.am_names.proofs.Basics.{equal_to_itself, equal_by_test, some_injective}
-use Rattle.am_group.specs.declared.membership.Membership.TheVariants.{Private}
+use Rattle.am_names.specs.declared.membership.Membership.TheVariants.{Private}
 use Rattle.am_state.specs.{RecordRow}
 use Rattle.am_mount.specs.{mount_row, top_of, IsAt, HasNoMountAt}
 use Rattle.am_propagate.specs.{is_mount, IsWhole, mounted}

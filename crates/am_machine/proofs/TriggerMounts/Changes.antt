@@ -7,7 +7,7 @@ use Rattle.am_names.proofs.Basics.{none_where_not_some, true_where_not_false}
 use Rattle.am_map.specs.EntryText.{EntryText}
 use Rattle.am_state.specs.{QueuedRow, Obs}
 use Rattle.am_state.specs.declared.obs.Obs.TheVariants as seen
-use Rattle.am_group.specs.declared.membership.Membership.TheVariants.{Private}
+use Rattle.am_names.specs.declared.membership.Membership.TheVariants.{Private}
 use Rattle.am_mount.specs.{mount_row, HasNoMountAt}
 use Rattle.am_propagate.specs.Added as added
 use Rattle.am_propagate.specs.{fs_in, membership_of, is_mount, mountpoint_of, unmounted}

@@ -3,7 +3,7 @@ use Rattle.std.proofs.Common.{◌≡◌, ◌⊎◌, ◌+◌, ℕ, true, false, L
 use Rattle.std.specs.Prelude.{Bool, ◌&&◌, is_some, is_none, if◌then◌else◌}
 use Rattle.am_names.specs.{same_trigger, MountRow}
 use Rattle.am_names.specs.declared.trigger.Trigger.{Trigger}
-use Rattle.am_group.specs.declared.membership.Membership.TheVariants.{Private}
+use Rattle.am_names.specs.declared.membership.Membership.TheVariants.{Private}
 use Rattle.am_group.specs.{Receives}
 use Rattle.am_names.proofs.SameTriggers.{same_trigger_itself}
 use Rattle.am_names.proofs.Basics.{some_injective}

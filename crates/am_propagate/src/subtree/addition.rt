@@ -4,7 +4,7 @@ ghost use Rattle.std.specs.Prelude.{◌≡◌, ◌+◌, ◌^◌, ◌<◌, ◌∷
 ghost use Rattle.std.specs.List.{slice_get};
 ghost use Rattle.am_names.specs.{RefusedAs};
 ghost use Rattle.am_group.specs.{AddsNoReceivers, group_of, receivers_of};
-ghost use Rattle.am_group.specs.declared.membership.Membership.TheVariants.{Private};
+ghost use Rattle.am_names.specs.declared.membership.Membership.TheVariants.{Private};
 ghost use Rattle.am_mount.specs.{mount_row};
 ghost use Rattle.am_propagate.specs.MountTable.{is_mount, all_mounts};
 ghost use Rattle.am_propagate.specs.Coming.{AddsMounts};
@@ -12,24 +12,12 @@ ghost use Rattle.am_propagate.specs.Copying.{AreBelow, AreThere};
 ghost use Rattle.am_propagate.specs.GroupsOfCopies.{Joins};
 ghost use Rattle.am_propagate.specs.Joining.{others_of};
 ghost use Rattle.am_propagate.specs.ReceiverCopies.{ComesWithCopies, BindsWithCopies};
-ghost use Rattle.am_propagate.specs.Added.{ns_in, membership_where, membership_of, is_unbindable, fresh_count, numbers_after, new_mounts, mounts_made, made_beside, mount_refusal, bind_refusal, mounted, bound, numbers_refusal, HasSource};
+ghost use Rattle.am_propagate.specs.Added.{ns_in, membership_of, is_unbindable, fresh_count, numbers_after, new_mounts, mounts_made, made_beside, mount_refusal, bind_refusal, mounted, bound, numbers_refusal, HasSource};
 
 use crate::subtree::Subtree;
-use am_group::Membership;
 use am_mount::Tree;
-use am_names::{Errno, FsId, GroupId, MountId, MountRow, NsId, Place, Position};
+use am_names::{Errno, FsId, GroupId, Membership, MountId, MountRow, NsId, Place, Position};
 use std::alloc::{AllocError, Global};
-
-fn membership_where(group: Option<GroupId>, master: Option<GroupId>, unbindable: bool) -> Membership
-    ensures { result ≡ membership_where group master unbindable }
-{
-    match (group, master) {
-        (Some(group), _) => Membership::InGroup(group),
-        (None, Some(master)) => Membership::SlaveOf(master),
-        (None, None) if unbindable => Membership::Unbindable,
-        (None, None) => Membership::Private,
-    }
-}
 
 fn is_unbindable(membership: &Membership) -> bool
     ensures { result ≡ is_unbindable membership.now }
@@ -265,7 +253,7 @@ impl Subtree {
         ensures { result ≡ membership_of self.now mount }
     {
         match self.groups.member(mount) {
-            Some(row) => membership_where(row.group, row.master, row.unbindable),
+            Some(row) => row.membership,
             None => Membership::Private,
         }
     }

@@ -3,15 +3,15 @@
 ghost use Rattle.std.specs.Prelude.{◌≡◌, ◌+◌, ◌^◌, ◌<◌, ◌∷◌, ◌++◌, [], length, IfOk};
 ghost use Rattle.std.specs.List.Sorted.{IsStrictlyIncreasing};
 ghost use Rattle.std.specs.Option.{option_to_list};
-ghost use Rattle.am_group.specs.declared.membership.Membership.TheVariants.{InGroup};
-ghost use Rattle.am_group.specs.{member_row, slave_in, group_of, copy_row, copies_from, group_copies, receivers_of, row_with};
+ghost use Rattle.am_names.specs.{row_with};
+ghost use Rattle.am_names.specs.declared.membership.Membership.TheVariants.{InGroup};
+ghost use Rattle.am_group.specs.{member_row, slave_in, group_of, copy_row, copies_from, group_copies, receivers_of};
 ghost use Rattle.am_propagate.specs.Joining.{stand_of, others_of, group_copy, AreNew};
 ghost use Rattle.am_propagate.specs.Added.{groups_made};
 
 use crate::subtree::Subtree;
 use crate::subtree::stand_ins::{StandIns, fresh_group};
-use am_group::Membership;
-use am_names::{GroupId, GroupRow, MemberRow, MountId};
+use am_names::{GroupId, GroupRow, MemberRow, Membership, MountId};
 use std::alloc::{AllocError, Global};
 
 /// Rows for the peer groups of new mounts.
@@ -33,10 +33,7 @@ impl Joining {
             (joining.groups.items ≡ [])) }
     {
         let mut members = Vec::new(alloc);
-        let row = membership.row(mount);
-        // For the checker, which is to know the type.
-        let _group: Option<GroupId> = row.group;
-        members.push(row)?;
+        members.push(membership.row(mount))?;
         Ok(Joining {
             members,
             groups: Vec::new(alloc),
@@ -51,18 +48,9 @@ impl Subtree {
             copy_row (stand_of stands.now) mount (group_of self.now.groups receiver)
             (slave_in (member_row self.now.groups.members receiver)) }
     {
-        let (group, master) = match self.groups.member(receiver) {
-            Some(row) => match row.group {
-                Some(group) => (Some(stands.stand_of(group)), None),
-                None => (None, stands.stand_of_master(row.master)),
-            },
-            None => (None, None),
-        };
-        MemberRow {
-            mount,
-            group,
-            master,
-            unbindable: false,
+        match self.groups.member(receiver) {
+            Some(row) => stands.copy_row(mount, &row),
+            None => Membership::Private.row(mount),
         }
     }
 
@@ -79,10 +67,7 @@ impl Subtree {
             copies_from (stand_of stands.now) self.now.groups (mount + 1) receivers.now) }
     {
         let mut members = Vec::with_capacity(alloc, receivers.len() + 1)?;
-        let first = Membership::InGroup(stands.new).row(mount);
-        // For the checker, which is to know the type.
-        let _group: Option<GroupId> = first.group;
-        members.push(first)?;
+        members.push(Membership::InGroup(stands.new).row(mount))?;
         let mut number = mount.0;
         for receiver in receivers {
             number += 1;

@@ -12,13 +12,13 @@ ghost use Rattle.am_propagate.specs.Removed.{mounts_in};
 ghost use Rattle.am_propagate.specs.Copying.{AreBelow, AreJoined, AreThere, member_as, rows_in, members_in, with_copies};
 ghost use Rattle.am_propagate.specs.Invariant.{IsWhole};
 ghost use Rattle.am_propagate.specs.NamespaceCopies.{AreCopies};
-ghost use Rattle.am_propagate.specs.Namespaces.{count_up_to, copy_number, row_in, in_form, copy_refusal, with_copy};
+ghost use Rattle.am_propagate.specs.Namespaces.{count_up_to, copy_number, row_in, copy_refusal, with_copy};
 
 use crate::subtree::Subtree;
 use crate::subtree::addition::numbers_after;
 use am_group::Groups;
 use am_mount::Tree;
-use am_names::{Errno, MemberRow, MountId, MountRow, NsId, Position};
+use am_names::{Errno, MemberRow, Membership, MountId, MountRow, NsId, Position};
 use std::alloc::{AllocError, Global};
 
 /// How the mounts of a namespace's copy are joined to those that they are copies of.
@@ -32,19 +32,15 @@ pub enum CopyForm {
 }
 
 impl CopyForm {
-    /// The row of a copy, from that of its source, but for its number.
-    fn of(self, row: MemberRow) -> MemberRow
-        ensures { result ≡ in_form self row }
+    /// The row of a copy of this number, from that of its source.
+    fn of(self, row: MemberRow, number: MountId) -> MemberRow
+        ensures { result ≡ member_as self number row }
     {
-        match (self, row.group) {
-            (CopyForm::Reduced, Some(group)) => MemberRow {
-                group: None,
-                master: Some(group),
-                unbindable: false,
-                ..row
-            },
-            _ => row,
-        }
+        let membership = match (self, row.membership) {
+            (CopyForm::Reduced, Membership::InGroup(group)) => Membership::SlaveOf(group),
+            (CopyForm::Full | CopyForm::Reduced, same) => same,
+        };
+        membership.row(number)
     }
 }
 
@@ -176,10 +172,7 @@ fn add_member_in(
     let Some(row) = groups.member(mount) else {
         return Ok(());
     };
-    groups.add_last(MemberRow {
-        mount: number,
-        ..form.of(row)
-    })
+    groups.add_last(form.of(row, number))
 }
 
 /// Adds the propagation of copies of these mounts, which have the numbers behind `last`, all or

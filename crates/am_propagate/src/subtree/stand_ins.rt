@@ -3,12 +3,11 @@
 ghost use Rattle.std.specs.Prelude.{◌≡◌, ◌+◌, ◌^◌, ◌<◌, option_map};
 ghost use Rattle.std.specs.List.Sorted.{IsStrictlyIncreasing};
 ghost use Rattle.std.specs.Option.{option_to_list};
-ghost use Rattle.am_group.specs.{rank};
+ghost use Rattle.am_group.specs.{copy_row, rank};
 ghost use Rattle.am_propagate.specs.Joining.{stand_of};
 ghost use Rattle.am_propagate.specs.Added.{new_group, last_fresh, fresh_groups, fresh_count};
 
-use am_group::Membership;
-use am_names::{GroupId, GroupRow};
+use am_names::{GroupId, GroupRow, MemberRow, Membership, MountId};
 
 /// Which groups stand among copies for the receivers' groups.
 #[derive(Drop)]
@@ -66,6 +65,20 @@ impl StandIns {
         }
         let rank = rank(group, self.groups.as_slice());
         GroupId(self.last.saturating_add(1).saturating_add(rank as u64))
+    }
+
+    /// The row of the copy of a mount, on a receiver with this row.
+    pub fn copy_row(&self, mount: MountId, receiver: &MemberRow) -> MemberRow
+        requires { IsStrictlyIncreasing self.now.groups.items }
+        ensures { result ≡
+            copy_row (stand_of self.now) mount receiver.now.group receiver.now.master }
+    {
+        let membership = match receiver.membership {
+            Membership::InGroup(group) => Membership::InGroup(self.stand_of(group)),
+            Membership::SlaveOf(master) => Membership::SlaveOf(self.stand_of(master)),
+            Membership::Private | Membership::Unbindable => Membership::Private,
+        };
+        membership.row(mount)
     }
 
     pub fn stand_of_master(&self, master: Option<GroupId>) -> Option<GroupId>

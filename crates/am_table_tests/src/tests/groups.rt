@@ -1,8 +1,8 @@
 //! Peer groups of mounts by calls that no event makes. What events make of them is in scripts.
 
 use crate::tests::script::{Stage, Step, plays_all};
-use am_group::{Change, Groups, Membership, MountState};
-use am_names::{Errno, GroupId, MountId};
+use am_group::{Change, Groups, MountState};
+use am_names::{Errno, GroupId, Membership, MountId};
 use std::alloc::Global;
 
 /// Peer groups by their numbers.
@@ -78,21 +78,15 @@ fn add(groups: &mut Groups, mount: u64, part: Part) -> Result<bool, Errno> {
 
 fn of_all(alloc: Global, mount: u64) -> Result<Groups, Errno> {
     let mut members = Vec::new(alloc);
-    let row = Membership::Private.row(MountId(mount));
-    // The checker wants the type of its group said too.
-    let _group: Option<GroupId> = row.group;
-    members.push(row)?;
+    members.push(Membership::Private.row(MountId(mount)))?;
     let mut groups = Groups::new(alloc);
     groups.add_all(members, Vec::new(alloc))?;
     Ok(groups)
 }
 
 fn of_last(alloc: Global, mount: u64) -> Result<Groups, Errno> {
-    let row = Membership::Private.row(MountId(mount));
-    // The checker wants the type of its group said too.
-    let _group: Option<GroupId> = row.group;
     let mut groups = Groups::new(alloc);
-    groups.add_last(row)?;
+    groups.add_last(Membership::Private.row(MountId(mount)))?;
     Ok(groups)
 }
 

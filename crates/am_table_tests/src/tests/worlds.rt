@@ -260,12 +260,12 @@ impl Total {
         let Some(row) = groups.member(mount) else {
             return;
         };
-        self.group(row.group);
-        match row.group {
+        self.group(row.group());
+        match row.group() {
             Some(group) => self.group(groups.master_of_group(group)),
-            None => self.group(row.master),
+            None => self.group(row.master()),
         }
-        self.fold(if row.unbindable { 1 } else { 0 });
+        self.fold(if row.is_unbindable() { 1 } else { 0 });
     }
 
     fn table(&mut self, subtree: &Subtree) {

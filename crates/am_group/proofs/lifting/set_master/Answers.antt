@@ -23,6 +23,7 @@ returns-in-Ok c =
     let found : slice_set slice c.in-Ok.at (f row) ≡ map (at_row f number) slice =
     set_found (λ (r : MemberRow). r.mount) f slice up number c.in-Ok.at row c.in-Ok.ensures.bound is by_number in
     (c.set.ensures.rows ∙
+    ap (λ (r : MemberRow). slice_set c.args.members.now.rows c.in-Ok.at r) c.under_master.ensures ∙
     subst (λ (xs : List MemberRow). slice_set xs c.in-Ok.at (f row) ≡ map (at_row f number) xs) own found)
 
 pub returns-in_default : goal.returns-in_default

@@ -1,4 +1,4 @@
-use Rattle.std.proofs.Common.{rules}
+use Rattle.std.proofs.Common.{Some, sym, ap, ◌∙◌, rules}
 use Rattle.am_names.specs.{MemberRow}
 use Rattle.am_group.proofs.FindLemmas.{found_in_place}
 use Rattle.am_group.proofs.tables.row_from_end.Goals as goal
@@ -6,4 +6,5 @@ use Rattle.am_group.proofs.tables.row_from_end.Goals as goal
 pub returns-then-eq : goal.returns-then-eq
 returns-then-eq c =
     found_in_place (λ (row : MemberRow). row.mount) c.args.members.now c.requires c.saturating_sub-place.result c.args.mount
-    c.in_ok-row.row.now (search rules) (search rules) (search rules)
+    c.in_ok-row.row.now (search rules) (search rules) (search rules) ∙
+    ap (λ (r : MemberRow). Some r) (sym c.row.view_is)

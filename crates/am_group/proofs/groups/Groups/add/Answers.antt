@@ -1,10 +1,10 @@
 use Rattle.std.proofs.Common.{◌≡◌, ◌++◌, ◌∷◌, ℕ, List, length, true, None, ap, sym, subst, ◌∙◌}
 use Rattle.std.specs.List.{insert}
 use Rattle.am_names.proofs.Basics.{none_where_not_some}
-use Rattle.am_names.specs.{MemberRow}
+use Rattle.am_names.specs.{MemberRow, row_with}
 use Rattle.am_names.specs.PeerGroups.{PeerGroups}
-use Rattle.am_group.specs.{member_row, IsOrderly, IsPeopled, AddsNoReceivers, row_with, below, above, with_member, may_have}
-use Rattle.am_group.specs.declared.membership.Membership.TheVariants.{Private}
+use Rattle.am_group.specs.{member_row, IsOrderly, IsPeopled, AddsNoReceivers, below, above, with_member, may_have}
+use Rattle.am_names.specs.declared.membership.Membership.TheVariants.{Private}
 use Rattle.am_group.specs.View.{view_of}
 use Rattle.am_group.proofs.IndexedLemmas.{come_indexed, kept_rise}
 use Rattle.am_group.proofs.LiftLemmas.{same_state}

@@ -24,6 +24,7 @@ lift_followers-requires-clause-other c =
     let s = c.args.self.now in
     let g = c.args.group in
     let orderly = subst (λ (x : PeerGroups). IsOrderly x) c.self.view_is c.self.invariant.orderly in
+    ap (λ (o : Option ℕ). is_one_of (g ∷ []) o) c.master.ensures ∙
     ap (λ (r : MemberRow). is_one_of (g ∷ []) r.master) c.past_row-after.ensures ∙ past_other s orderly g c.changed_row-changed.result.master
 
 pub replace-requires-clause-members : goal.replace-requires-clause-members

@@ -1,4 +1,4 @@
-use Rattle.std.proofs.Common.{◌≡◌, ◌+◌, ◌++◌, [], ◌∷◌, Some, None, ap, sym, subst, ◌∙◌}
+use Rattle.std.proofs.Common.{◌≡◌, ◌+◌, ◌++◌, ℕ, [], ◌∷◌, Option, Some, None, ap, sym, subst, ◌∙◌}
 use Rattle.std.specs.Prelude.{map}
 use Rattle.am_names.proofs.Basics.{none_where_not_some}
 use Rattle.am_names.specs.{MemberRow}
@@ -28,14 +28,15 @@ invariant_of-self-2 c =
     ap (λ (x : MemberRow). map (at_row (λ r. x) c.args.mount) c.self.inside.members.rows) c.changed_row-changed.ensures ∙
     ap (λ (x : PeerGroups). map (at_row (λ r. shared_row n row) c.args.mount) x.members) c.self.view_is in
     let groups : c.push_reserved.new.self.rows ≡ s.groups ++ (record { group = n; master = row.master }) ∷ [] =
-    pushed _ _ _ _ c.push_reserved.ensures.rows c.reserve.ensures.rows ∙ ap (λ (x : PeerGroups). x.groups ++ (record { group = n; master = row.master }) ∷ []) c.self.view_is in
-    let made = shared_alone s orderly c.args.mount row found n number c.write_row.new.members.rows members c.push_reserved.new.self.rows groups c.group.inside.0 c.group.view_is in
+    pushed _ _ _ _ c.push_reserved.ensures.rows c.reserve.ensures.rows ∙ ap (λ (x : PeerGroups). x.groups ++ (record { group = n; master = c.master.result }) ∷ []) c.self.view_is ∙
+    ap (λ (o : Option ℕ). s.groups ++ (record { group = n; master = o }) ∷ []) c.master.ensures in
+    let made = shared_alone s orderly c.args.mount row found n number c.write_row.new.members.rows members c.push_reserved.new.self.rows groups c.number.inside.0 c.number.view_is in
     record {
       orderly = subst (λ (x : PeerGroups). IsOrderly x) (sym made) (shared_orderly s orderly c.args.mount row found alone);
       indexed = shared_indexed (view_of c.self.inside) c.self.invariant.orderly c.args.mount row c.changed_row-changed.result
           (ap (λ (x : PeerGroups). member_row x.members c.args.mount) c.self.view_is ∙ found)
           (ap (λ (r : MemberRow). r.mount) c.changed_row-changed.ensures ∙ turned_number MakeShared n row)
-          (record { group = n; master = row.master }) c.self.inside.indexes c.make_all_room.new.self c.replace.new.self c.add_group.new.self
+          (record { group = n; master = c.master.result }) c.self.inside.indexes c.make_all_room.new.self c.replace.new.self c.add_group.new.self
           c.make_all_room.ensures.same c.replace.ensures c.add_group.ensures c.self.invariant.indexed
           c.write_row.new.members.rows c.write_row.ensures c.push_reserved.new.self.rows (pushed _ _ _ _ c.push_reserved.ensures.rows c.reserve.ensures.rows);
     }
@@ -56,7 +57,7 @@ replace-requires-clause-slaves c =
 
 pub add_group-requires : goal.add_group-requires
 add_group-requires c =
-    subst (λ (t : Index). RoomFor c.in-Some.row.master t) (sym c.replace.ensures.below) c.in_ok-make_all_room.ensures.group
+    subst (λ (t : Index). RoomFor c.master.result t) (sym c.replace.ensures.below) c.in_ok-make_all_room.ensures.group
 
 pub returns-clause-ok : goal.returns-clause-ok
 returns-clause-ok c =
@@ -72,8 +73,9 @@ returns-clause-ok c =
     ap (λ (x : MemberRow). map (at_row (λ r. x) c.args.mount) c.self.inside.members.rows) c.changed_row-changed.ensures ∙
     ap (λ (x : PeerGroups). map (at_row (λ r. shared_row n row) c.args.mount) x.members) c.self.view_is in
     let groups : c.push_reserved.new.self.rows ≡ s.groups ++ (record { group = n; master = row.master }) ∷ [] =
-    pushed _ _ _ _ c.push_reserved.ensures.rows c.reserve.ensures.rows ∙ ap (λ (x : PeerGroups). x.groups ++ (record { group = n; master = row.master }) ∷ []) c.self.view_is in
-    let made = shared_alone s orderly c.args.mount row found n number c.write_row.new.members.rows members c.push_reserved.new.self.rows groups c.group.inside.0 c.group.view_is in
+    pushed _ _ _ _ c.push_reserved.ensures.rows c.reserve.ensures.rows ∙ ap (λ (x : PeerGroups). x.groups ++ (record { group = n; master = c.master.result }) ∷ []) c.self.view_is ∙
+    ap (λ (o : Option ℕ). s.groups ++ (record { group = n; master = o }) ∷ []) c.master.ensures in
+    let made = shared_alone s orderly c.args.mount row found n number c.write_row.new.members.rows members c.push_reserved.new.self.rows groups c.number.inside.0 c.number.view_is in
     made ∙ sym (shared_here s c.args.mount row found alone)
 
 pub returns-clause-law : goal.returns-clause-law
@@ -90,8 +92,9 @@ returns-clause-law c = λ peopled.
     ap (λ (x : MemberRow). map (at_row (λ r. x) c.args.mount) c.self.inside.members.rows) c.changed_row-changed.ensures ∙
     ap (λ (x : PeerGroups). map (at_row (λ r. shared_row n row) c.args.mount) x.members) c.self.view_is in
     let groups : c.push_reserved.new.self.rows ≡ s.groups ++ (record { group = n; master = row.master }) ∷ [] =
-    pushed _ _ _ _ c.push_reserved.ensures.rows c.reserve.ensures.rows ∙ ap (λ (x : PeerGroups). x.groups ++ (record { group = n; master = row.master }) ∷ []) c.self.view_is in
-    let made = shared_alone s orderly c.args.mount row found n number c.write_row.new.members.rows members c.push_reserved.new.self.rows groups c.group.inside.0 c.group.view_is in
+    pushed _ _ _ _ c.push_reserved.ensures.rows c.reserve.ensures.rows ∙ ap (λ (x : PeerGroups). x.groups ++ (record { group = n; master = c.master.result }) ∷ []) c.self.view_is ∙
+    ap (λ (o : Option ℕ). s.groups ++ (record { group = n; master = o }) ∷ []) c.master.ensures in
+    let made = shared_alone s orderly c.args.mount row found n number c.write_row.new.members.rows members c.push_reserved.new.self.rows groups c.number.inside.0 c.number.view_is in
     let here = shared_here s c.args.mount row found alone in
     subst (λ (x : PeerGroups). AddsNoReceivers s x) (sym (made ∙ sym here)) (made_shared_keeps c.args.mount s (record { orderly = orderly; peopled = peopled })).law
 
@@ -109,8 +112,9 @@ returns-clause-peopled c = λ peopled.
     ap (λ (x : MemberRow). map (at_row (λ r. x) c.args.mount) c.self.inside.members.rows) c.changed_row-changed.ensures ∙
     ap (λ (x : PeerGroups). map (at_row (λ r. shared_row n row) c.args.mount) x.members) c.self.view_is in
     let groups : c.push_reserved.new.self.rows ≡ s.groups ++ (record { group = n; master = row.master }) ∷ [] =
-    pushed _ _ _ _ c.push_reserved.ensures.rows c.reserve.ensures.rows ∙ ap (λ (x : PeerGroups). x.groups ++ (record { group = n; master = row.master }) ∷ []) c.self.view_is in
-    let made = shared_alone s orderly c.args.mount row found n number c.write_row.new.members.rows members c.push_reserved.new.self.rows groups c.group.inside.0 c.group.view_is in
+    pushed _ _ _ _ c.push_reserved.ensures.rows c.reserve.ensures.rows ∙ ap (λ (x : PeerGroups). x.groups ++ (record { group = n; master = c.master.result }) ∷ []) c.self.view_is ∙
+    ap (λ (o : Option ℕ). s.groups ++ (record { group = n; master = o }) ∷ []) c.master.ensures in
+    let made = shared_alone s orderly c.args.mount row found n number c.write_row.new.members.rows members c.push_reserved.new.self.rows groups c.number.inside.0 c.number.view_is in
     let here = shared_here s c.args.mount row found alone in
     subst (λ (x : PeerGroups). IsPeopled x) (sym (made ∙ sym here)) (made_shared_keeps c.args.mount s (record { orderly = orderly; peopled = peopled })).sound.peopled
 

@@ -1,7 +1,8 @@
 use Rattle.std.proofs.Common.{rules, refl, sym, ap, subst, ◌∙◌}
+use Rattle.am_names.specs.{row_with}
 use Rattle.am_names.specs.PeerGroups.{PeerGroups}
-use Rattle.am_group.specs.{IsOrderly, IsPeopled, no_mounts, row_with, with_member}
-use Rattle.am_group.specs.declared.membership.Membership.TheVariants.{Private}
+use Rattle.am_group.specs.{IsOrderly, IsPeopled, no_mounts, with_member}
+use Rattle.am_names.specs.declared.membership.Membership.TheVariants.{Private}
 use Rattle.am_group.proofs.MemberLemmas.{member_orderly, none_orderly}
 use Rattle.am_propagate.proofs.OpeningLemmas.{none_peopled}
 use Rattle.am_propagate.proofs.subtree.Subtree.new.Goals as goal

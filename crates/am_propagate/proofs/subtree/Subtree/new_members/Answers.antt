@@ -1,7 +1,7 @@
 use Rattle.std.proofs.Common.{◌≡◌, ◌+◌, ◌∷◌, ◌++◌, [], List, take, arith, sym, ap, ◌∙◌}
-use Rattle.am_names.specs.{MemberRow}
-use Rattle.am_group.specs.declared.membership.Membership.TheVariants.{InGroup}
-use Rattle.am_group.specs.{copies_from, row_with}
+use Rattle.am_names.specs.{MemberRow, row_with}
+use Rattle.am_names.specs.declared.membership.Membership.TheVariants.{InGroup}
+use Rattle.am_group.specs.{copies_from}
 use Rattle.am_propagate.specs.{stand_of}
 use Rattle.am_propagate.proofs.LoopLemmas.{copies_more}
 use Rattle.am_propagate.proofs.subtree.Subtree.new_members.Goals as goal

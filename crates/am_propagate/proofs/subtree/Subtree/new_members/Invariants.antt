@@ -1,6 +1,7 @@
 use Rattle.std.proofs.Common.{◌≡◌, ◌+◌, ◌∷◌, take}
-use Rattle.am_group.specs.declared.membership.Membership.TheVariants.{InGroup}
-use Rattle.am_group.specs.{copies_from, row_with}
+use Rattle.am_names.specs.{row_with}
+use Rattle.am_names.specs.declared.membership.Membership.TheVariants.{InGroup}
+use Rattle.am_group.specs.{copies_from}
 use Rattle.am_propagate.specs.{stand_of}
 use Rattle.am_propagate.proofs.subtree.Subtree.new_members.Given as goal
 
