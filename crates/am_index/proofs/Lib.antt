@@ -2,3 +2,4 @@ pub mod JoinLemmas
 pub mod PlaceLemmas
 pub mod RowLemmas
 pub mod SetLemmas
+pub mod EntryLemmas

@@ -1,4 +1,4 @@
 pub mod Lists
 -- what contracts cite, passed on from one place
-pub use Lists.{AddsTo, Drops, DropsLast, HasRoom, IsIndexOf, Joins, KeepsOtherRoom, ListsRise, Parts, PutsInto, SameLists, TakesFrom, but, front, has, listed, moved, numbered, with}
+pub use Lists.{AddsTo, Drops, DropsLast, HasRoom, IsIndexOf, Joins, KeepsOtherRoom, ListsRise, Parts, PutsInto, SameLists, TakesFrom, but, front, has, listed, moved, number_at, numbered, with}
 pub use declared.lists.Index.{Index}

@@ -1,8 +1,8 @@
 -- Numbers by a number that they share. Own choice.
-use Rattle.std.specs.Prelude.{◌≡◌, ◌<◌, ◌==◌, ◌&&◌, ◌||◌, ℕ, Bool, true, false, nat_eq, nat_lt, not, List, [], ◌∷◌, ◌++◌, ◌-◌, length, take, map, filter, Option, Some, None, Vec, if◌then◌else◌}
+use Rattle.std.specs.Prelude.{◌≡◌, ◌<◌, ◌==◌, ◌&&◌, ◌||◌, ℕ, Bool, true, false, nat_eq, nat_lt, not, List, [], ◌∷◌, ◌++◌, ◌-◌, length, take, map, filter, Option, Some, None, slice_get, Vec, if◌then◌else◌}
 use Rattle.std.specs.Vec.{vec_len, vec_capacity}
 use Rattle.std.specs.List.Sorted.{IsStrictlyIncreasing}
-use Rattle.indexmap.specs.IndexMap.{get}
+use Rattle.indexmap.specs.IndexMap.{get, keys}
 use Rattle.am_names.specs.{is_among}
 use Rattle.am_index.specs.declared.lists.Index.{Index}
 
@@ -14,6 +14,10 @@ listed_in (Some list) = list.items
 -- those that have the number
 abbrev pub listed : Index → ℕ → List ℕ
 listed index n = listed_in (get nat_eq index.lists n)
+
+-- the number whose list stands at this place
+abbrev pub number_at : Index → ℕ → Option ℕ
+number_at index place = slice_get (keys index.lists) place
 
 -- there is a list, with room for one more
 abbrev pub RoomIn : {Z : Type 0} → Option (Vec ℕ Z) → Type 0

@@ -3,5 +3,7 @@
 #![tactic(auto)]
 
 mod lists;
+mod near;
 
 pub use lists::Index;
+pub use near::{place_near, place_of};

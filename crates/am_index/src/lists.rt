@@ -1,10 +1,12 @@
 //! The numbers that share a number.
 
-ghost use Rattle.std.specs.Prelude.{◌≡◌, ◌<◌, ◌==◌, ℕ, false, nat_eq, [], OnOk, OnErr};
+ghost use Rattle.std.specs.Prelude.{◌≡◌, ◌<◌, ◌==◌, ℕ, false, nat_eq, [], None, Some, IfSome, IfNone, OnOk, OnErr};
 ghost use Rattle.std.specs.Vec.{vec_len, vec_capacity};
 ghost use Rattle.std.specs.List.Sorted.{IsStrictlyIncreasing};
-ghost use Rattle.am_index.specs.Lists.{listed, but, with, HasRoom, ListsRise, SameLists, AddsTo, PutsInto, TakesFrom, DropsLast, Joins, Parts, Drops, KeepsOtherRoom};
+ghost use Rattle.indexmap.specs.IndexMap.{get, IsUnique, index_map_len};
+ghost use Rattle.am_index.specs.Lists.{listed, number_at, but, with, HasRoom, ListsRise, SameLists, AddsTo, PutsInto, TakesFrom, DropsLast, Joins, Parts, Drops, KeepsOtherRoom};
 
+use crate::near::place_of;
 use indexmap::IndexMap;
 use std::alloc::{AllocError, Global};
 
@@ -13,6 +15,8 @@ use std::alloc::{AllocError, Global};
 pub struct Index {
     alloc: Global,
     lists: IndexMap<u64, Vec<u64>>,
+    // Where the list stood that was looked up last.
+    latest: usize,
 }
 
 /// Takes it out of a list that rises, in which it is found by halves.
@@ -56,6 +60,7 @@ impl Index {
         Index {
             alloc,
             lists: IndexMap::new(alloc),
+            latest: 0,
         }
     }
 
@@ -69,6 +74,20 @@ impl Index {
         }
     }
 
+    /// The place of the number's list, if it has one. Those near the list that was looked up last
+    /// are tried first.
+    fn place_of(&mut self, number: u64) -> Option<usize>
+        ensures lists { self.new.lists ≡ self.old.lists }
+        ensures unique { IsUnique nat_eq self.new.lists }
+        ensures within { IfSome result (λ place. place < index_map_len self.new.lists) }
+        ensures there { IfSome result (λ place. number_at self.new place ≡ Some number) }
+        ensures none { IfNone result (get nat_eq self.new.lists number ≡ None) }
+    {
+        let place = place_of(&self.lists, self.latest, number)?;
+        self.latest = place;
+        Some(place)
+    }
+
     /// Begins the list of a number that has none.
     fn begin(&mut self, number: u64) -> Result<(), AllocError>
         requires { listed self.old number ≡ [] }
@@ -77,7 +96,8 @@ impl Index {
     {
         let mut list = Vec::new(self.alloc);
         list.reserve(1)?;
-        self.lists.insert(number, list)?;
+        let (place, _) = self.lists.insert_full(number, list)?;
+        self.latest = place;
         Ok(())
     }
 
@@ -86,10 +106,11 @@ impl Index {
         ensures same { SameLists self.old self.new }
         ensures ok { OnOk result (HasRoom self.new number) }
     {
-        if let Some(list) = self.lists.get_mut(&number) {
-            return list.reserve(1);
-        }
-        self.begin(number)
+        let Some(place) = self.place_of(number) else {
+            return self.begin(number);
+        };
+        self.lists[place].reserve(1)?;
+        Ok(())
     }
 
     /// Adds the last that has the number. There is room for it.
@@ -97,8 +118,8 @@ impl Index {
         requires { HasRoom self.old number }
         ensures { AddsTo (λ n. nat_eq number n) item self.old self.new }
     {
-        if let Some(list) = self.lists.get_mut(&number) {
-            list.push_reserved(item);
+        if let Some(place) = self.place_of(number) {
+            self.lists[place].push_reserved(item);
         }
     }
 
@@ -122,32 +143,19 @@ impl Index {
         }
     }
 
-    /// Takes it out of the list of the number.
-    fn shorten(&mut self, number: u64, item: u64)
-        requires { IsStrictlyIncreasing (listed self.old number) }
-        ensures { TakesFrom (λ n. nat_eq number n) item self.old self.new }
-    {
-        if let Some(list) = self.lists.get_mut(&number) {
-            take_out(list, item);
-        }
-    }
-
-    /// Gives the list of the number up, where it is empty.
-    fn tidy(&mut self, number: u64)
-        ensures { SameLists self.old self.new }
-    {
-        if self.list(number).is_empty() {
-            let _list = self.lists.swap_remove(&number);
-        }
-    }
-
-    /// Takes out one that has the number, whose list rises.
+    /// Takes out one that has the number, whose list rises. A list that is empty then goes.
     pub fn remove(&mut self, number: u64, item: u64)
         requires { IsStrictlyIncreasing (listed self.old number) }
         ensures { TakesFrom (λ n. nat_eq number n) item self.old self.new }
     {
-        self.shorten(number, item);
-        self.tidy(number);
+        let Some(place) = self.place_of(number) else {
+            return;
+        };
+        let list = &mut self.lists[place];
+        take_out(list, item);
+        if list.is_empty() {
+            let _gone = self.lists.swap_remove_index(place);
+        }
     }
 
     /// Takes those that have the one number out of the list of the other, the last first: the

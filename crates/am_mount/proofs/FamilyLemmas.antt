@@ -16,7 +16,7 @@ use Rattle.am_mount.specs.Family.{children_in, one_placed, placed_in, AddsChild,
 use Rattle.am_mount.specs.Few.{but}
 use Rattle.am_mount.specs.Siblings.{but_child, mounts_of, placed_of}
 use Rattle.am_mount.proofs.SiblingLemmas.{mounts_but, placed_but_one}
-use Rattle.am_mount.proofs.ListLemmas.{same_views, stood, changed, kept, tidied}
+use Rattle.am_index.proofs.EntryLemmas.{same_views, stood, changed, kept, tidied}
 
 -- the child's mount
 abbrev mount_of : Option Child → Option ℕ

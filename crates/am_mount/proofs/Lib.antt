@@ -3,7 +3,6 @@ pub mod FamilyLemmas
 pub mod FindLemmas
 pub mod IndexLemmas
 pub mod LeaveLemmas
-pub mod ListLemmas
 pub mod RowLemmas
 pub mod SiblingLemmas
 pub mod TakeLemmas

@@ -7,7 +7,7 @@ use Rattle.std.proofs.lemmas.Map.Entries.{hash_map_get_place}
 use Rattle.indexmap.specs.IndexMap.{IndexMap, get, keys, values, with_value_at, IsUnique}
 use Rattle.indexmap.proofs.CallerLemmas.{updates-with_value_at}
 use Rattle.am_ordered.specs.RowTable.{RowTable}
-use Rattle.am_mount.proofs.ListLemmas.{entry_of}
+use Rattle.am_index.proofs.EntryLemmas.{entry_of}
 
 -- the mounts of a list that was looked up
 abbrev listed_of : Option (RowTable ℕ) → Option (List ℕ)

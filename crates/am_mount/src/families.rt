@@ -7,6 +7,7 @@ ghost use Rattle.indexmap.specs.IndexMap.{get, values, IsUnique, index_map_len};
 ghost use Rattle.am_mount.specs.Families.{children_of, placed_at, parent_at, AddsUnder, HasRoomAtSpot, HasRoomUnder, MayLeave, RoomFor, SameFamilies, TakesUnder};
 
 use crate::family::Family;
+use am_index::place_near;
 use am_names::MountId;
 use indexmap::IndexMap;
 use std::alloc::{AllocError, Global};
@@ -71,46 +72,16 @@ impl Families {
         self.families.get(&parent)
     }
 
-    /// Whether the parent's family stands at this place.
-    fn is_at(&self, place: usize, parent: u64) -> bool
-        ensures unique { IsUnique nat_eq self.now.families }
-        ensures there { OnTrue result (parent_at self.now place ≡ Some parent) }
-    {
-        match self.families.as_slice().get_index(place) {
-            Some((key, _family)) => *key == parent,
-            None => false,
-        }
-    }
-
-    /// This place or one beside it, at which the parent's family stands.
-    fn place_near(&self, here: usize, parent: u64) -> Option<usize>
-        ensures unique { IfSome result (λ place. IsUnique nat_eq self.now.families) }
-        ensures there { IfSome result (λ place. parent_at self.now place ≡ Some parent) }
-    {
-        if self.is_at(here, parent) {
-            return Some(here);
-        }
-        let before = here.wrapping_sub(1);
-        if self.is_at(before, parent) {
-            return Some(before);
-        }
-        let behind = here.wrapping_add(1);
-        if self.is_at(behind, parent) {
-            return Some(behind);
-        }
-        None
-    }
-
     /// A place near those of the two families that were looked up last, at which the parent's family
     /// stands: most mounts are on one parent, and others on parents one after another.
     fn place_nearby(&self, parent: u64) -> Option<usize>
         ensures unique { IfSome result (λ place. IsUnique nat_eq self.now.families) }
         ensures there { IfSome result (λ place. parent_at self.now place ≡ Some parent) }
     {
-        if let Some(place) = self.place_near(self.latest, parent) {
+        if let Some(place) = place_near(&self.families, self.latest, parent) {
             return Some(place);
         }
-        self.place_near(self.other, parent)
+        place_near(&self.families, self.other, parent)
     }
 
     /// The family at this place is the one that was looked up last.

@@ -7,6 +7,7 @@ ghost use Rattle.indexmap.specs.IndexMap.{IsUnique, index_map_len};
 ghost use Rattle.am_mount.specs.Index.{listed, number_at, HasRoom, HasRoomAt, SameLists, AddsTo, TakesFrom};
 
 use crate::few::Few;
+use am_index::place_of;
 use am_names::MountId;
 use indexmap::IndexMap;
 use std::alloc::{AllocError, Global};
@@ -49,38 +50,6 @@ impl Index {
         self.lists.is_empty()
     }
 
-    /// Whether the number's list stands at this place.
-    fn is_at(&self, place: usize, number: u64) -> bool
-        ensures unique { IsUnique nat_eq self.now.lists }
-        ensures there { OnTrue result (number_at self.now place ≡ Some number) }
-    {
-        match self.lists.as_slice().get_index(place) {
-            Some((key, _list)) => *key == number,
-            None => false,
-        }
-    }
-
-    /// A place near that of the list that was looked up last, at which the number's list stands:
-    /// lists that begin one after another are looked up so mostly.
-    fn place_nearby(&self, number: u64) -> Option<usize>
-        ensures unique { IfSome result (λ place. IsUnique nat_eq self.now.lists) }
-        ensures there { IfSome result (λ place. number_at self.now place ≡ Some number) }
-    {
-        let here = self.latest;
-        if self.is_at(here, number) {
-            return Some(here);
-        }
-        let before = here.wrapping_sub(1);
-        if self.is_at(before, number) {
-            return Some(before);
-        }
-        let behind = here.wrapping_add(1);
-        if self.is_at(behind, number) {
-            return Some(behind);
-        }
-        None
-    }
-
     /// The place of the number's list, if it has one. Those near the list that was looked up last
     /// are tried first.
     fn place_of(&mut self, number: u64) -> Option<usize>
@@ -90,11 +59,7 @@ impl Index {
         ensures there { IfSome result (λ place. number_at self.new place ≡ Some number) }
         ensures none { IfNone result (listed self.new number ≡ []) }
     {
-        if let Some(place) = self.place_nearby(number) {
-            self.latest = place;
-            return Some(place);
-        }
-        let place = self.lists.get_index_of(&number)?;
+        let place = place_of(&self.lists, self.latest, number)?;
         self.latest = place;
         Some(place)
     }

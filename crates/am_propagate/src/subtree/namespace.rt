@@ -1,6 +1,6 @@
 //! Copies of namespaces.
 
-ghost use Rattle.std.specs.Prelude.{◌≡◌, ◌+◌, ◌^◌, ◌<◌, ◌≤◌, ◌∷◌, ◌++◌, [], Some, length, option_map, IfOk, OnOk, OnErr};
+ghost use Rattle.std.specs.Prelude.{◌≡◌, ◌+◌, ◌^◌, ◌<◌, ◌≤◌, ◌∷◌, ◌++◌, [], Some, length, option_map, IfOk, IfSome, OnOk, OnErr};
 ghost use Rattle.std.specs.Option.{option_to_list};
 ghost use Rattle.std.specs.List.Sorted.{IsStrictlyIncreasing};
 ghost use Rattle.am_names.specs.{RefusedAs};
@@ -51,12 +51,32 @@ pub struct NewNamespace {
     pub mounts: Vec<MountId>,
 }
 
+/// How many of these mounts, which rise, have no higher number, where the mount is one of them and
+/// they are numbered one after another up to it, as the mounts of a copy are.
+fn count_by_number(mount: MountId, mounts: &[MountId]) -> Option<usize>
+    requires { IsStrictlyIncreasing mounts.now }
+    ensures count { IfSome result (λ count. count ≡ count_up_to mount mounts.now) }
+    ensures within { IfSome result (λ count. count ≤ length mounts.now) }
+{
+    let first = mounts.first()?;
+    let place = mount.0.saturating_sub(first.0) as usize;
+    let found = mounts.get(place)?;
+    if *found == mount {
+        Some(place + 1)
+    } else {
+        None
+    }
+}
+
 /// How many of these mounts, which rise, have no higher number.
 fn count_up_to(mount: MountId, mounts: &[MountId]) -> usize
     requires { IsStrictlyIncreasing mounts.now }
     ensures count { result ≡ count_up_to mount mounts.now }
     ensures within { result ≤ length mounts.now }
 {
+    if let Some(count) = count_by_number(mount, mounts) {
+        return count;
+    }
     let number = mount.0;
     match mounts.binary_search_by_key(&number, |other| other.0) {
         Ok(at) => at + 1,

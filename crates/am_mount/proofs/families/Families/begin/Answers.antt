@@ -3,7 +3,7 @@ use Rattle.indexmap.specs.IndexMap.{IndexMap, keys, values}
 use Rattle.am_mount.specs.declared.family.Family.{Family}
 use Rattle.am_mount.specs.declared.family.Family.TheVariants.{One}
 use Rattle.am_mount.specs.Families.{RoomFor}
-use Rattle.am_mount.proofs.ListLemmas.{key_put, value_put}
+use Rattle.am_index.proofs.EntryLemmas.{key_put, value_put}
 use Rattle.am_mount.proofs.families.Families.begin.Goals as goal
 
 pub returns-clause-there : goal.returns-clause-there

@@ -3,7 +3,7 @@ use Rattle.indexmap.proofs.CallerLemmas.{keys-with_value_at}
 use Rattle.am_mount.specs.declared.family.Family.{Family}
 use Rattle.am_mount.specs.Families.{RoomFor}
 use Rattle.am_mount.proofs.FamilyLemmas.{same_families}
-use Rattle.am_mount.proofs.ListLemmas.{value_set}
+use Rattle.am_index.proofs.EntryLemmas.{value_set}
 use Rattle.am_mount.proofs.families.Families.make_room.Goals as goal
 
 pub returns-in_err-place-clause-same : goal.returns-in_err-place-clause-same

@@ -2,7 +2,7 @@ use Rattle.std.proofs.Common.{◌≡◌, ℕ, Some, slice_get, sym, ap, ◌∙�
 use Rattle.indexmap.specs.IndexMap.{IndexMap, keys}
 use Rattle.am_mount.specs.declared.family.Family.{Family}
 use Rattle.am_mount.specs.Families.{parent_at}
-use Rattle.am_mount.proofs.ListLemmas.{number_found}
+use Rattle.am_index.proofs.EntryLemmas.{number_found}
 use Rattle.am_mount.proofs.families.Families.place_of.Goals.{in-Some, in-None+in_ok-place-in-None}
 use Rattle.am_mount.proofs.families.Families.place_of.Goals as goal
 

@@ -1,7 +1,7 @@
 use Rattle.std.proofs.Common.{◌≡◌, ◌∷◌, ◌++◌, [], slice_get, Some, sym}
 use Rattle.indexmap.specs.IndexMap.{values}
 use Rattle.am_mount.specs.Index.{listed_in}
-use Rattle.am_mount.proofs.ListLemmas.{changed}
+use Rattle.am_index.proofs.EntryLemmas.{changed}
 use Rattle.am_mount.proofs.index.Index.add.Goals as goal
 
 pub returns-in-Some : goal.returns-in-Some

@@ -1,7 +1,7 @@
 use Rattle.std.proofs.Common.{sym, subst}
 use Rattle.am_mount.specs.declared.few.Few.TheVariants.{Empty}
 use Rattle.am_mount.specs.Index.{RoomIn}
-use Rattle.am_mount.proofs.ListLemmas.{key_put, value_put}
+use Rattle.am_index.proofs.EntryLemmas.{key_put, value_put}
 use Rattle.am_mount.proofs.index.Index.begin.Goals as goal
 
 pub returns-clause-ok : goal.returns-clause-ok

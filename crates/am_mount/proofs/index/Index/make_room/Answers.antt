@@ -1,7 +1,7 @@
 use Rattle.std.proofs.Common.{ℕ, List, slice_get, sym, ap, subst, ◌∙◌}
 use Rattle.indexmap.proofs.CallerLemmas.{keys-with_value_at}
 use Rattle.am_mount.specs.Index.{listed_in, RoomIn}
-use Rattle.am_mount.proofs.ListLemmas.{same_views, kept, value_set}
+use Rattle.am_index.proofs.EntryLemmas.{same_views, kept, value_set}
 use Rattle.am_mount.proofs.index.Index.make_room.Goals as goal
 
 pub returns-in_err-make_room-clause-same : goal.returns-in_err-make_room-clause-same

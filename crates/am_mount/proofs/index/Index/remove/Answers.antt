@@ -2,7 +2,7 @@ use Rattle.std.proofs.Common.{◌≡◌, cond, nat_eq, ℕ, List, [], sym, ap, s
 use Rattle.std.specs.List.Sorted.{IsStrictlyIncreasing}
 use Rattle.am_mount.specs.{but, mounts_in}
 use Rattle.am_mount.specs.Index.{listed_in}
-use Rattle.am_mount.proofs.ListLemmas.{same_views, stood, none_in, changed, tidied}
+use Rattle.am_index.proofs.EntryLemmas.{same_views, stood, none_in, changed, tidied}
 use Rattle.am_mount.proofs.index.Index.remove.Goals as goal
 
 pub take_out-requires : goal.take_out-requires

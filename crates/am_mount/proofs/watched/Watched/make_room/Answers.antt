@@ -2,7 +2,7 @@ use Rattle.std.proofs.Common.{ℕ, List, slice_get, refl, sym, ap, subst, ◌∙
 use Rattle.indexmap.specs.IndexMap.{keys}
 use Rattle.indexmap.proofs.CallerLemmas.{keys-with_value_at}
 use Rattle.am_mount.specs.Watched.{HasRowRoom}
-use Rattle.am_mount.proofs.ListLemmas.{number_found, value_set}
+use Rattle.am_index.proofs.EntryLemmas.{number_found, value_set}
 use Rattle.am_mount.proofs.WatchedLemmas.{kept}
 use Rattle.am_mount.proofs.watched.Watched.make_room.Goals as goal
 

@@ -21,7 +21,7 @@ number_found numbers n i e =
     slice_get-get_or numbers i n found.0 ∙
     ap Some (sym (eqb-true n (get_or numbers i n) found.1))
 
--- a list of no length has no mount
+-- a list of no length has nothing
 pub none_in : (xs : List ℕ) → (length xs == 0) ≡ true → xs ≡ []
 none_in [] e = refl
 none_in (x ∷ xs) e =
