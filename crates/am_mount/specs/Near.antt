@@ -1,4 +1,5 @@
--- How many rows move where mounts are taken out one after another, and mounts that are numbered so: own choice.
+-- How many rows move where mounts are taken out one by one, and mounts that are numbered one after
+-- another: own choice.
 use Rattle.std.specs.Prelude.{◌≡◌, ◌+◌, ◌-◌, ℕ, nat_le, min, List, [], ◌∷◌, length}
 use Rattle.std.specs.List.{position_or_len, slice_index}
 use Rattle.am_names.specs.{MountRow}

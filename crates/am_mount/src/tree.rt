@@ -363,8 +363,8 @@ impl Tree {
         Ok(())
     }
 
-    /// Takes the newest mounts back, so many of them: those that `add_all` added last, where a
-    /// later step of the same operation fails.
+    /// Takes the newest mounts back, so many of them: those that `add` or `add_all` added last, where
+    /// a later step of the same operation fails.
     pub fn take_back(&mut self, count: usize)
         ensures { self.new ≡ take (length self.old - count) self.old }
     {
