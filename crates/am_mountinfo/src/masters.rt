@@ -6,7 +6,7 @@ ghost use Rattle.am_mountinfo.specs.Mountinfo.{is_number, dominating, but, sourc
 ghost use Rattle.am_mountinfo.specs.Peers.{ArePeers};
 
 use crate::peers::{Peers, group_of};
-use am_names::{GroupId, Membership, MountId, MountRow};
+use am_names::{GroupId, MountId, MountRow};
 use am_world::World;
 
 /// The master of a mount.
@@ -14,10 +14,9 @@ pub(crate) fn master_of(world: &World, mount: MountId) -> Option<GroupId>
     ensures { result ≡ master_of world.now.kernel.table.groups mount }
 {
     let row = world.member(mount)?;
-    match row.membership {
-        Membership::InGroup(group) => world.master_of_group(group),
-        Membership::SlaveOf(master) => Some(master),
-        Membership::Private | Membership::Unbindable => None,
+    match row.group() {
+        Some(group) => world.master_of_group(group),
+        None => row.master(),
     }
 }
 
