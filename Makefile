@@ -2,7 +2,7 @@
 SCRIPT ?= examples/first.script
 export SCRIPT
 
-.PHONY: run show draw threads examples build pages test
+.PHONY: run show draw threads examples build pages quick faults test
 
 # plays a script, and writes its answers
 run:
@@ -32,6 +32,15 @@ build:
 pages:
 	@tools/check_pages
 
-# the merge gate, refused allocations, the examples, the program over pipes, and the pages
+# all that can be run without proof, in some minutes; it proves nothing
+quick:
+	@tools/quick.py
+
+# tries all planted faults, of all crates
+faults:
+	@tools/faults --all
+
+# the merge gate: proofs and tests, planted faults, refused allocations, the examples, the program over pipes, threads
+# in little memory, and the pages
 test:
-	@tools/test.sh
+	@tools/gate.py

@@ -1,0 +1,134 @@
+#!/usr/bin/env python3
+"""Runs all that can be run without a proof, as `make quick` does. It proves nothing.
+
+usage: tools/quick.py
+
+The tests of each crate that has some, and the programs that play scripts, are built without proof and run
+(`rt try`); a script is played with each allocation refused in turn; the examples are played; the program is
+driven over two pipes; the pages are compared with the repository. As many of these go on side by side as there are processors. The last line counts all.
+"""
+
+import concurrent.futures
+import glob
+import os
+import re
+import subprocess
+import sys
+import threading
+import time
+
+COUNTS = re.compile(r"^(\d+) passed, (\d+) failed$", re.M)
+TESTS = re.compile(r"^test result: \w+\. (\d+) passed; (\d+) failed", re.M)
+# The programs that play what lies in their data, and print how much of it is as it must be.
+PLAYERS = ("am_tests", "am_sweeps")
+# Scripts that are played with each allocation refused in turn.
+REFUSED = ("one_key",)
+# How long the tests or a program of one crate may take, in seconds and in steps.
+PATIENCE = ("--seconds", "400", "--steps", "1000000000000")
+# What plays the program that all of these share, which is built once.
+SHARED = ("examples.sh", "pipes.py")
+
+
+def text_of(path):
+    with open(path, encoding="utf-8", errors="replace") as file:
+        return file.read()
+
+
+def crates_with_tests():
+    found = []
+    for line in text_of("crates.txt").splitlines():
+        name = line.split(":")[0].split()[0] if ":" in line and not line.startswith("#") else ""
+        files = glob.glob(f"crates/{name}/src/**/*.rt", recursive=True) if name else []
+        if any("#[test]" in text_of(it) for it in files):
+            found.append(name)
+    return found
+
+
+def ran(words, folder=".", **how):
+    return subprocess.run(words, cwd=folder, stdin=subprocess.DEVNULL, capture_output=True, text=True, errors="replace",
+                          check=False, **how)
+
+
+def tests_of(crate):
+    """Runs a crate's tests; returns how many passed and failed, and what was said."""
+    done = ran(["rt", "try", "--test", *PATIENCE], f"crates/{crate}")
+    found = TESTS.findall(done.stdout + done.stderr)
+    if done.returncode or not found:
+        return 0, 1, (done.stdout + done.stderr)[-2000:]
+    return sum(int(it[0]) for it in found), sum(int(it[1]) for it in found), ""
+
+
+def with_data(crate):
+    names = [os.path.relpath(it, f"crates/{crate}/data") for it in glob.glob(f"crates/{crate}/data/**", recursive=True)
+             if os.path.isfile(it)]
+    return [word for it in sorted(names) for word in ("--data", f"{it}=data/{it}")]
+
+
+def player(crate):
+    """Has a program play its data; what it prints must be the file beside it."""
+    done = ran(["rt", "try", *PATIENCE, *with_data(crate)], f"crates/{crate}")
+    well = done.returncode == 0 and done.stdout == text_of(f"crates/{crate}/stdout")
+    return int(well), int(not well), "" if well else (done.stdout + done.stderr)[-2000:]
+
+
+def refused(name):
+    """Plays a script with each allocation refused in turn."""
+    done = ran(["rt", "try", *PATIENCE, *with_data("am_tests"), "--fail-alloc", "1..", "--", name], "crates/am_tests")
+    well = done.returncode == 0 and re.search(r"^calls=\d+ .*proved=no$", done.stderr, re.M)
+    return int(bool(well)), int(not well), "" if well else (done.stdout + done.stderr)[-2000:]
+
+
+def tool(name):
+    done = ran([f"tools/{name}"])
+    found = COUNTS.findall(done.stdout)
+    passed, failed = (int(found[-1][0]), int(found[-1][1])) if found else (0, 1)
+    return passed, failed, "" if not failed else (done.stdout + done.stderr)[-2000:]
+
+
+def shared():
+    """Builds the program, and then plays it."""
+    built = ran(["tools/program.sh"])
+    if built.returncode:
+        return 0, 1, built.stderr[-2000:]
+    passed = failed = 0
+    said = ""
+    for name in SHARED:
+        counts = tool(name)
+        passed, failed, said = passed + counts[0], failed + counts[1], said + counts[2]
+    return passed, failed, said
+
+
+def tasks():
+    """What is done, by its name, that which takes longest first."""
+    found = [("the program: examples, pipes", shared)]
+    found += [(f"{it}: its data", lambda it=it: player(it)) for it in PLAYERS]
+    found += [(f"{it}: refused allocations", lambda it=it: refused(it)) for it in REFUSED]
+    found += [(f"{it}: its tests", lambda it=it: tests_of(it)) for it in reversed(crates_with_tests())]
+    return found + [("pages", lambda: tool("check_pages"))]
+
+
+def main(words):
+    if len(words) > 1:
+        print("quick: expected no words", file=sys.stderr)
+        return 2
+    os.chdir(os.path.dirname(os.path.abspath(__file__)) + "/..")
+    begin, printing = time.time(), threading.Lock()
+    print("quick: nothing is proved here; make test proves", flush=True)
+
+    def timed(name, call):
+        before = time.time()
+        passed, failed, said = call()
+        with printing:
+            print(f"{said}quick: {name}: {passed} passed, {failed} failed, {time.time() - before:.0f} seconds", flush=True)
+        return passed, failed
+
+    with concurrent.futures.ThreadPoolExecutor(len(os.sched_getaffinity(0))) as pool:
+        counts = [it.result() for it in [pool.submit(timed, *it) for it in tasks()]]
+    passed, failed = (sum(it[at] for it in counts) for at in (0, 1))
+    print(f"quick: {(time.time() - begin) / 60:.1f} minutes")
+    print(f"{passed} passed, {failed} failed")
+    return 1 if failed else 0
+
+
+if __name__ == "__main__":
+    sys.exit(main(sys.argv))
