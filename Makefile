@@ -2,7 +2,7 @@
 SCRIPT ?= examples/first.script
 export SCRIPT
 
-.PHONY: run show draw threads examples build pages quick faults test
+.PHONY: run show draw threads examples build pages live quick faults test
 
 # plays a script, and writes its answers
 run:
@@ -32,6 +32,10 @@ build:
 pages:
 	@tools/check_pages
 
+# plays all examples, and a script for each row of docs/LINUX.md that can be shown, on the running kernel, as root
+live:
+	@tools/linux/live.py examples/*.script tools/linux/rows/*.script
+
 # all that can be run without proof, in some minutes; it proves nothing
 quick:
 	@tools/quick.py
@@ -40,7 +44,7 @@ quick:
 faults:
 	@tools/faults --all
 
-# the merge gate: proofs and tests, planted faults, refused allocations, the examples, the program over pipes, threads
-# in little memory, and the pages
+# the merge gate: proofs and tests, planted faults, refused allocations, the examples, the program over pipes, and the
+# pages
 test:
 	@tools/gate.py

@@ -6,8 +6,8 @@ usage: tools/gate.py [--all]
 First every planted fault is read: where one doesn't apply, or the front end refuses it, the gate ends there.
 Then every crate and its tests are proved from nothing and run (`rt ci`), and beside that planted faults are
 tried, in rounds (tools/faults): those of the crates that the last commit changed, and those of a third of the
-others, another third at each commit; with --all those of all crates. Then come the refused allocations, the
-examples, the program over two pipes, the threads in little memory, and the pages.
+others, another third at each commit; with --all those of all crates. Behind 110 minutes no more of them are begun; what is
+left is told by name. Then come the refused allocations, the examples, the program over two pipes, and the pages.
 
 Each minute it says how far it is. At its end stands what each crate cost, in seconds of a processor, and the
 last line counts all. RT_JOBS is how many proofs run side by side; without it the toolchain chooses by the
@@ -27,8 +27,12 @@ PAGE = os.sysconf("SC_PAGE_SIZE")
 KINDS = ("proof", "tests", "faults")
 # How many parts the faults of the crates are tried in.
 PARTS = 3
+# Which share of the work the proofs are; the planted faults are the rest.
+PROOFS = 0.75
+# Behind so many minutes no more planted faults are begun: a gate ends on a slow machine too, and says what it left out.
+LATEST = 110
 # What is left when all is proved.
-REST = ("refuse_all.sh", "examples.sh", "pipes.py", "little_memory.py", "check_pages")
+REST = ("refuse_all.sh", "examples.sh", "pipes.py", "check_pages")
 COUNTS = re.compile(r"^(\d+) passed, (\d+) failed$", re.M)
 
 
@@ -161,17 +165,14 @@ def counts_in(text):
 def far(begin, proofs, log):
     """A line that tells how far the proofs and the faults are, and how long it may take."""
     spent = (time.time() - begin) / 60
-    share = proofs.share()
     tried = re.findall(r"(\d+) of (\d+) faults, minute", text_of(log))
+    done, count = (int(it) for it in tried[-1]) if tried else (0, 0)
+    share = PROOFS * proofs.share() + (1 - PROOFS) * done / max(count, 1)
     words = [f"minute {spent:.0f}", proofs.words()]
-    shares = [share]
-    if tried:
-        done, count = int(tried[-1][0]), int(tried[-1][1])
+    if count:
         words.append(f"{done} of {count} planted faults")
-        shares.append(done / max(count, 1))
-    least = min(shares) if len(shares) == 2 else share / 2
-    if least > 0.05:
-        words.append(f"about {spent / least - spent:.0f} minutes to go")
+    if share > 0.03:
+        words.append(f"about {spent / share - spent:.0f} minutes to go")
     return ", ".join(words)
 
 
@@ -206,7 +207,7 @@ def prove_and_try(is_all, costs):
     begin = time.time()
     with tempfile.TemporaryDirectory(prefix="gate-") as room:
         logs = f"{room}/proofs", f"{room}/faults"
-        words = tried_faults(is_all)
+        words = [*tried_faults(is_all), "--minutes", str(LATEST)] if not is_all else tried_faults(is_all)
         say(f"planted faults: {' '.join(words)}")
         with open(logs[0], "wb") as first, open(logs[1], "wb") as second:
             proofs = subprocess.Popen(["rt", "ci"], stdin=subprocess.DEVNULL, stdout=first, stderr=first)

