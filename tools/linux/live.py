@@ -623,10 +623,13 @@ class Play:
             return "err 1"
         said = self.model.answers[at]
         keeper = self.start(self.keepers[int(namespace)])
-        if form == "reduced":
-            self.enter(keeper, self.keepers[int(namespace)])
-        else:
-            keeper.ask(do="copy")
+        try:
+            if form == "reduced":
+                self.enter(keeper, self.keepers[int(namespace)])
+            else:
+                keeper.ask(do="copy")
+        except OSError as error:
+            return f"err {ERRORS.get(error.errno, error.errno)}"
         if said.startswith("ns "):
             self.keepers[int(said.split()[1])] = keeper
         return self.done_as(at, None)
@@ -956,7 +959,7 @@ class Difference:
 
     def is_mount_over_the_root(self):
         roots = [it for rows in namespaces_of(self.world).values() for it in rows if it.place == "/" and it.parent != it.number]
-        return self.begins("walk", "resume", "mount", "bind", "umount", "change", "kind") and bool(roots)
+        return self.begins("walk", "resume", "mount", "bind", "umount", "change", "kind", "nscopy") and bool(roots)
 
     def is_second_token(self):
         return self.begins("walk") and self.ours.startswith("wait") and self.theirs.startswith("wait")
