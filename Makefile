@@ -1,8 +1,9 @@
 # What a machine with the toolchain needs: nothing else is to be set up.
 SCRIPT ?= examples/first.script
+PREFIX ?= /usr/local
 export SCRIPT
 
-.PHONY: run show draw threads examples build pages live quick faults test
+.PHONY: run show draw threads examples build library install pages live quick faults test
 
 # plays a script, and writes its answers
 run:
@@ -28,6 +29,14 @@ examples:
 build:
 	cd crates/automount_cli && rt run -- script < /dev/null
 
+# builds the library for C, in out/library
+library:
+	@tools/library.py build
+
+# copies it below a folder
+install:
+	@tools/library.py install "$(PREFIX)"
+
 # compares what the pages name with what there is
 pages:
 	@tools/check_pages
@@ -44,7 +53,7 @@ quick:
 faults:
 	@tools/faults --all
 
-# the merge gate: proofs and tests, planted faults, refused allocations, the examples, the program over pipes, and the
-# pages
+# the merge gate: proofs and tests, planted faults, refused allocations, the examples, the program over pipes, the
+# library for C, and the pages
 test:
 	@tools/gate.py

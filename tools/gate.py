@@ -7,7 +7,8 @@ First every planted fault is read: where one doesn't apply, or the front end ref
 Then every crate and its tests are proved from nothing and run (`rt ci`), and beside that planted faults are
 tried, in rounds (tools/faults): those of the crates that the last commit changed, and those of a third of the
 others, another third at each commit; with --all those of all crates. Behind 110 minutes no more of them are begun; what is
-left is told by name. Then come the refused allocations, the examples, the program over two pipes, and the pages.
+left is told by name. Then come the refused allocations, the examples, the program over two pipes, the
+library for C, and the pages.
 
 Each minute it says how far it is. At its end stands what each crate cost, in seconds of a processor, and the
 last line counts all. RT_JOBS is how many proofs run side by side; without it the toolchain chooses by the
@@ -32,7 +33,7 @@ PROOFS = 0.75
 # Behind so many minutes no more planted faults are begun: a gate ends on a slow machine too, and says what it left out.
 LATEST = 110
 # What is left when all is proved.
-REST = ("refuse_all.sh", "examples.sh", "pipes.py", "check_pages")
+REST = ("refuse_all.sh", "examples.sh", "pipes.py", "library.py test", "check_pages")
 COUNTS = re.compile(r"^(\d+) passed, (\d+) failed$", re.M)
 
 
@@ -260,7 +261,7 @@ def main(words):
     rows.append(("planted faults", 0, counts_in(faults)))
     for tool in REST:
         before = time.time()
-        ran = subprocess.run([f"tools/{tool}"], stdout=subprocess.PIPE, stderr=subprocess.STDOUT, text=True, errors="replace",
+        ran = subprocess.run(f"tools/{tool}".split(), stdout=subprocess.PIPE, stderr=subprocess.STDOUT, text=True, errors="replace",
                              check=False)
         print(ran.stdout, end="", flush=True)
         rows.append((tool, time.time() - before, counts_in(ran.stdout)))

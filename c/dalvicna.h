@@ -1,0 +1,196 @@
+/* dalvicna.h: the daemon's side of a Linux automounter, in a C program: packets, requests, maps and
+   master maps, as the model of this library has them.
+
+   Link with -ldalvicna (pkg-config dalvicna). Nothing else is to be linked beside: the library takes
+   its memory by malloc, realloc and free, and keeps none behind a call.
+
+   Texts and buffers
+     A text is a pointer and how many bytes it has; it needs no zero byte at its end. A pointer may be
+     NULL where the number is 0, and nowhere else. What is read and what is written must not overlap.
+     A buffer is a pointer and its room in bytes. A call puts what it writes at the front of the
+     buffer, as far as there is room, and leaves what stands behind it as it was. It tells how many
+     bytes there are, also where there is less room: call it with room 0 to learn the size.
+
+   Faults
+     A fault is a number above 0. It leaves buffers and structs as they were, but for those that tell
+     the fault. No call ends the program.
+
+   Threads
+     There is no state between calls: any thread may make any call at any time, as long as no two
+     calls share a buffer or struct that one of them writes. No call may be made in a signal handler,
+     or in the forked child of a program with threads.
+
+   Formats of packets, maps and master maps, and the numbers of all faults: docs/FORMATS.md of the
+   repository. That each call does as it says here is proved, for the machine
+   code of x86-64; what the checker doesn't see is this header, and the C program. */
+#ifndef DALVICNA_H
+#define DALVICNA_H
+
+#include <assert.h>
+#include <stdbool.h>
+#include <stddef.h>
+#include <stdint.h>
+
+#ifdef __cplusplus
+extern "C" {
+#endif
+
+/* The version of this page. What a version offers stays in the later ones. */
+#define AM_VERSION 1
+
+/* The version of the library that is linked. */
+uint32_t am_version(void);
+
+/* ---- Packets, requests, maps ---- */
+
+/* The bytes of a packet, with its padding. */
+#define AM_PACKET_SIZE 304
+/* Where the name begins in them. */
+#define AM_PACKET_NAME 44
+
+/* What a packet says (linux/auto_fs.h, struct autofs_v5_packet); its name stands in its bytes. */
+struct am_packet {
+    uint32_t kind;     /* 3 missing indirect, 4 expire indirect, 5 missing direct, 6 expire direct */
+    uint32_t token;    /* wait_queue_token */
+    uint32_t dev;
+    uint32_t uid;
+    uint32_t gid;
+    uint32_t pid;
+    uint32_t tgid;
+    uint32_t name_len; /* bytes of the name */
+    uint64_t ino;
+};
+
+/* The tests of a packet, in their order. */
+enum am_packet_fault {
+    AM_PACKET_LENGTH = 1,  /* neither 300 bytes nor 304; less room than 304 */
+    AM_PACKET_VERSION,     /* proto_version isn't 5 */
+    AM_PACKET_KIND,        /* the kind is none of 3 to 6 */
+    AM_PACKET_NAME_LENGTH, /* above 255, or 0 in an indirect packet */
+    AM_PACKET_BAD_NAME     /* the name of an indirect packet is no name */
+};
+
+/* Reads a packet: 0, or the first test that the bytes fail, and *packet is as it was. */
+uint8_t am_packet_read(const uint8_t *bytes, size_t len, struct am_packet *packet);
+
+/* Writes a packet of AM_PACKET_SIZE bytes with this name: 0, or the first test that it fails, and out
+   is as it was. packet->name_len isn't looked at. */
+uint8_t am_packet_write(const struct am_packet *packet, const uint8_t *name, size_t name_len,
+                        uint8_t *out, size_t cap);
+
+/* The requests of a daemon. */
+enum am_request {
+    AM_READY = 1,  /* AUTOFS_IOC_READY */
+    AM_FAIL,       /* AUTOFS_IOC_FAIL */
+    AM_CATATONIC,  /* AUTOFS_IOC_CATATONIC */
+    AM_SETTIMEOUT, /* AUTOFS_IOC_SETTIMEOUT */
+    AM_EXPIRE,     /* AUTOFS_IOC_EXPIRE_MULTI */
+    AM_SETPIPE     /* AUTOFS_DEV_IOCTL_SETPIPEFD */
+};
+
+/* The number by which ioctl(2) takes a request on x86-64; 0 for what is none. */
+uint32_t am_request_number(uint32_t request);
+
+/* The faults of a map's line. */
+enum am_map_fault {
+    AM_MAP_BAD_KEY = 1,
+    AM_MAP_BAD_OPTION,
+    AM_MAP_NO_LOCATION,
+    AM_MAP_BAD_LOCATION,
+    AM_MAP_NO_MEMORY
+};
+
+/* An entry. Its options lie in the buffer from 0 to host_at, its host from there to path_at, and its
+   path from there to bytes. */
+struct am_entry {
+    uint64_t bytes;       /* how many bytes there are, also where there is less room */
+    uint64_t host_at;
+    uint64_t path_at;
+    uint32_t has_options; /* 1 where the line has options, else 0 */
+    uint32_t found;       /* 1 where there is an entry for the key; where it is 0, all else is */
+};
+
+/* Reads a map, whose keys are paths where it is direct, and looks up a key: its first line, else the
+   first `*` line, with the key for each & of host and path. 0 also where there is no entry; else the
+   first fault of the map (enum am_map_fault), and *line its line, from 1, or 0 where the look-up
+   itself found no memory. */
+uint8_t am_map_look_up(const uint8_t *text, size_t len, bool direct, const uint8_t *key, size_t key_len,
+                       uint8_t *out, size_t cap, struct am_entry *entry, uint64_t *line);
+
+/* The faults of a master map's line. */
+enum am_master_fault {
+    AM_MASTER_BAD_POINT = 1,
+    AM_MASTER_NO_MAP,
+    AM_MASTER_BAD_TYPE,
+    AM_MASTER_BAD_TIMEOUT,
+    AM_MASTER_TWICE,
+    AM_MASTER_NO_MEMORY
+};
+
+/* A line of a master map. Its point lies in the buffer from 0 to map_at, and the name of its map from
+   there to bytes. */
+struct am_master_line {
+    uint64_t bytes;   /* how many bytes there are, also where there is less room */
+    uint64_t map_at;
+    uint64_t line;    /* its first raw line, from 1 */
+    uint64_t lines;   /* how many lines the master map has */
+    uint32_t timeout; /* seconds without use after which a mount may expire, 0 for never by itself */
+    uint32_t direct;  /* 1 for the point /-, which has no bytes, else 0 */
+    uint32_t found;   /* 1 where there is such a line; where it is 0, all but lines is */
+    uint32_t pad;     /* 0 */
+};
+
+/* Reads a master map, and tells its line at a place, from 0. 0 also where there is no such line; else
+   the first fault (enum am_master_fault), and *line its line, from 1, or 0 where there was no memory
+   for what is told. */
+uint8_t am_master_line(const uint8_t *text, size_t len, size_t at, uint8_t *out, size_t cap,
+                       struct am_master_line *told, uint64_t *line);
+
+/* ---- Words ---- */
+
+/* Writes the word of the error that an answer `err N` tells, without a zero byte, and returns how many
+   bytes it has: 0 where no error has this number. */
+size_t am_error_name(uint32_t number, uint8_t *out, size_t cap);
+
+/* ---- Sizes and offsets ---- */
+
+#ifdef __cplusplus
+#define AM_HOLDS(fact) static_assert(fact, #fact)
+#else
+#define AM_HOLDS(fact) _Static_assert(fact, #fact)
+#endif
+#define AM_AT(type, field, at) AM_HOLDS(offsetof(struct type, field) == (at))
+
+AM_HOLDS(sizeof(struct am_packet) == 40);
+AM_AT(am_packet, kind, 0);
+AM_AT(am_packet, token, 4);
+AM_AT(am_packet, dev, 8);
+AM_AT(am_packet, uid, 12);
+AM_AT(am_packet, gid, 16);
+AM_AT(am_packet, pid, 20);
+AM_AT(am_packet, tgid, 24);
+AM_AT(am_packet, name_len, 28);
+AM_AT(am_packet, ino, 32);
+
+AM_HOLDS(sizeof(struct am_entry) == 32);
+AM_AT(am_entry, bytes, 0);
+AM_AT(am_entry, host_at, 8);
+AM_AT(am_entry, path_at, 16);
+AM_AT(am_entry, has_options, 24);
+AM_AT(am_entry, found, 28);
+
+AM_HOLDS(sizeof(struct am_master_line) == 48);
+AM_AT(am_master_line, bytes, 0);
+AM_AT(am_master_line, map_at, 8);
+AM_AT(am_master_line, line, 16);
+AM_AT(am_master_line, lines, 24);
+AM_AT(am_master_line, timeout, 32);
+AM_AT(am_master_line, direct, 36);
+AM_AT(am_master_line, found, 40);
+AM_AT(am_master_line, pad, 44);
+
+#ifdef __cplusplus
+}
+#endif
+
+#endif

@@ -1,0 +1,326 @@
+/* Tests of the library from C, as a hostile caller makes them. tools/library.py builds and runs it.
+
+   library_test own ROUNDS   all tests, with so many texts of odd bytes, and a map of 500 times as many
+                             lines; the last line counts them
+   library_test short        makes the calls that take memory once: with allocations that are refused,
+                             each answer must be the whole one or a fault; it takes no memory of its own */
+#include <linux/auto_dev-ioctl.h>
+#include <linux/auto_fs.h>
+#include <pthread.h>
+#include <stdio.h>
+#include <stdlib.h>
+#include <string.h>
+#include <unistd.h>
+#include "dalvicna.h"
+
+enum { TEXT = 1 << 25, OUT = 1 << 16, CANARY = 0xa5 };
+
+static uint8_t text[TEXT], out[OUT];
+static size_t len;
+static int passed, failed;
+
+static void is(int holds, const char *what)
+{
+    if (holds) {
+        passed++;
+    } else {
+        failed++;
+        printf("failed: %s\n", what);
+    }
+}
+
+#define IS(fact) is((fact) != 0, #fact)
+
+static int all_are(const uint8_t *bytes, size_t count, uint8_t byte)
+{
+    for (size_t i = 0; i < count; i++)
+        if (bytes[i] != byte)
+            return 0;
+    return 1;
+}
+
+/* ---- Allocations that are refused ---- */
+
+static int short_of_memory(void)
+{
+    static const char map[] = "home -ro srv:/export/&\n", master[] = "/auto auto.home --timeout=60\n";
+    struct am_entry entry;
+    struct am_master_line told;
+    uint64_t line = 0;
+    int holds = 1;
+    uint8_t fault = am_map_look_up((const uint8_t *)map, sizeof map - 1, false, (const uint8_t *)"home", 4,
+                                   out, sizeof out, &entry, &line);
+    holds &= fault == 0 ? entry.bytes == 17 : fault == AM_MAP_NO_MEMORY;
+    fault = am_master_line((const uint8_t *)master, sizeof master - 1, 0, out, sizeof out, &told, &line);
+    holds &= fault == 0 ? told.timeout == 60 : fault == AM_MASTER_NO_MEMORY;
+    return !holds;
+}
+
+/* ---- Packets and requests ---- */
+
+union bytes {
+    struct autofs_v5_packet packet;
+    uint8_t bytes[sizeof(struct autofs_v5_packet)];
+};
+
+static union bytes packet_of(int kind, const char *name)
+{
+    union bytes made;
+    memset(&made, 0, sizeof made);
+    made.packet.hdr.proto_version = 5;
+    made.packet.hdr.type = kind;
+    made.packet.wait_queue_token = 17;
+    made.packet.dev = 2;
+    made.packet.ino = 0x123456789abcull;
+    made.packet.uid = 3;
+    made.packet.gid = 4;
+    made.packet.pid = 5;
+    made.packet.tgid = 6;
+    made.packet.len = (uint32_t)strlen(name);
+    memcpy(made.packet.name, name, strlen(name));
+    return made;
+}
+
+static void packets(void)
+{
+    union bytes made = packet_of(autofs_ptype_missing_indirect, "home");
+    struct am_packet told, before;
+    memset(&told, CANARY, sizeof told);
+    IS(sizeof made == AM_PACKET_SIZE && offsetof(struct autofs_v5_packet, name) == AM_PACKET_NAME);
+    IS(am_packet_read(made.bytes, sizeof made, &told) == 0);
+    IS(told.kind == 3 && told.token == 17 && told.dev == 2 && told.ino == 0x123456789abcull);
+    IS(told.uid == 3 && told.gid == 4 && told.pid == 5 && told.tgid == 6 && told.name_len == 4);
+    IS(am_packet_read(made.bytes, 300, &told) == 0);
+
+    uint8_t room[AM_PACKET_SIZE + 32];
+    for (size_t cap = 0; cap <= AM_PACKET_SIZE + 8; cap++) {
+        memset(room, CANARY, sizeof room);
+        uint8_t fault = am_packet_write(&told, (const uint8_t *)"home", 4, room + 16, cap);
+        if (cap < AM_PACKET_SIZE ? fault != AM_PACKET_LENGTH || !all_are(room, sizeof room, CANARY)
+                                 : fault != 0 || memcmp(room + 16, made.bytes, AM_PACKET_SIZE) != 0
+                    || !all_are(room, 16, CANARY) || !all_are(room + 16 + AM_PACKET_SIZE, 16, CANARY))
+            failed++, printf("failed: a packet into %zu bytes\n", cap);
+    }
+    memset(&before, CANARY, sizeof before);
+    told = before;
+    IS(am_packet_read(NULL, 0, &told) == AM_PACKET_LENGTH);
+    IS(am_packet_read(made.bytes, 303, &told) == AM_PACKET_LENGTH);
+    made.packet.hdr.proto_version = 4;
+    IS(am_packet_read(made.bytes, sizeof made, &told) == AM_PACKET_VERSION);
+    made = packet_of(7, "home");
+    IS(am_packet_read(made.bytes, sizeof made, &told) == AM_PACKET_KIND);
+    made = packet_of(autofs_ptype_expire_indirect, "");
+    IS(am_packet_read(made.bytes, sizeof made, &told) == AM_PACKET_NAME_LENGTH);
+    made = packet_of(autofs_ptype_expire_indirect, "a/b");
+    IS(am_packet_read(made.bytes, sizeof made, &told) == AM_PACKET_BAD_NAME);
+    IS(memcmp(&told, &before, sizeof told) == 0);
+    made = packet_of(autofs_ptype_missing_direct, "");
+    IS(am_packet_read(made.bytes, sizeof made, &told) == 0 && told.kind == 5 && told.name_len == 0);
+    IS(am_packet_write(&told, NULL, 0, room, sizeof room) == 0);
+    IS(memcmp(room, made.bytes, AM_PACKET_SIZE) == 0);
+    told.kind = 9;
+    IS(am_packet_write(&told, NULL, 0, room, sizeof room) == AM_PACKET_KIND);
+    told.kind = 3;
+    IS(am_packet_write(&told, NULL, 0, room, sizeof room) == AM_PACKET_NAME_LENGTH);
+    IS(am_packet_write(&told, (const uint8_t *)"..", 2, room, sizeof room) == AM_PACKET_BAD_NAME);
+    told.kind = 5;
+    IS(am_packet_write(&told, text, 256, room, sizeof room) == AM_PACKET_NAME_LENGTH);
+}
+
+static void requests(void)
+{
+    IS(am_request_number(AM_READY) == AUTOFS_IOC_READY);
+    IS(am_request_number(AM_FAIL) == AUTOFS_IOC_FAIL);
+    IS(am_request_number(AM_CATATONIC) == AUTOFS_IOC_CATATONIC);
+    IS(am_request_number(AM_SETTIMEOUT) == AUTOFS_IOC_SETTIMEOUT);
+    IS(am_request_number(AM_EXPIRE) == AUTOFS_IOC_EXPIRE_MULTI);
+    IS(am_request_number(AM_SETPIPE) == AUTOFS_DEV_IOCTL_SETPIPEFD);
+    IS(am_request_number(0) == 0 && am_request_number(7) == 0 && am_request_number(UINT32_MAX) == 0);
+}
+
+/* ---- Maps ---- */
+
+static uint8_t look_up(const char *map, bool direct, const char *key, struct am_entry *entry, uint64_t *line)
+{
+    memset(out, CANARY, 256);
+    return am_map_look_up((const uint8_t *)map, strlen(map), direct, (const uint8_t *)key, strlen(key), out,
+                          128, entry, line);
+}
+
+static void maps(void)
+{
+    static const char map[] = "# homes\nhome -ro,soft srv:/export/&\n* big:/all/&\n";
+    struct am_entry entry, before;
+    uint64_t line = 77;
+    IS(look_up(map, false, "home", &entry, &line) == 0 && line == 77);
+    IS(entry.found == 1 && entry.has_options == 1 && entry.host_at == 7 && entry.path_at == 10);
+    IS(entry.bytes == 22 && memcmp(out, "ro,softsrv/export/home", 22) == 0 && all_are(out + 22, 100, CANARY));
+    IS(look_up(map, false, "work", &entry, &line) == 0 && entry.has_options == 0 && entry.host_at == 0);
+    IS(entry.bytes == 12 && entry.path_at == 3 && memcmp(out, "big/all/work", 12) == 0);
+    IS(look_up("home srv:/home", false, "work", &entry, &line) == 0 && line == 77);
+    IS(entry.found == 0 && entry.bytes == 0 && all_are(out, 128, CANARY));
+    IS(look_up("/a//b srv:/home", true, "/a/b", &entry, &line) == 0 && entry.found == 1);
+    memset(&before, CANARY, sizeof before);
+    entry = before;
+    IS(look_up("a srv:/a\n\n/b srv:/b\n", false, "a", &entry, &line) == AM_MAP_BAD_KEY && line == 3);
+    IS(look_up("a - srv:/a", false, "a", &entry, &line) == AM_MAP_BAD_OPTION && line == 1);
+    IS(look_up("a", false, "a", &entry, &line) == AM_MAP_NO_LOCATION && line == 1);
+    IS(look_up("a srv", false, "a", &entry, &line) == AM_MAP_BAD_LOCATION && line == 1);
+    IS(memcmp(&entry, &before, sizeof entry) == 0 && all_are(out, 128, CANARY));
+    IS(am_map_look_up(NULL, 0, false, NULL, 0, NULL, 0, &entry, &line) == 0 && entry.found == 0);
+    for (size_t cap = 0; cap <= 24; cap++) {
+        size_t part = cap < 22 ? cap : 22;
+        memset(out, CANARY, 64);
+        am_map_look_up((const uint8_t *)map, sizeof map - 1, false, (const uint8_t *)"home", 4, out, cap, &entry,
+                       &line);
+        if (entry.bytes != 22 || memcmp(out, "ro,softsrv/export/home", part) != 0
+            || !all_are(out + part, 64 - part, CANARY))
+            failed++, printf("failed: an entry into %zu bytes\n", cap);
+    }
+}
+
+static uint8_t line_of(const char *master, size_t at, struct am_master_line *told, uint64_t *line)
+{
+    memset(out, CANARY, 256);
+    return am_master_line((const uint8_t *)master, strlen(master), at, out, 128, told, line);
+}
+
+static void masters(void)
+{
+    static const char master[] = "/auto auto.home --timeout=60\n\n/- auto.direct\n";
+    struct am_master_line told, before;
+    uint64_t line = 77;
+    IS(line_of(master, 0, &told, &line) == 0 && told.found == 1 && told.lines == 2 && told.line == 1);
+    IS(told.timeout == 60 && told.direct == 0 && told.map_at == 5 && told.bytes == 14 && told.pad == 0);
+    IS(memcmp(out, "/autoauto.home", 14) == 0 && all_are(out + 14, 100, CANARY));
+    IS(line_of(master, 1, &told, &line) == 0 && told.direct == 1 && told.line == 3 && told.map_at == 0);
+    IS(memcmp(out, "auto.direct", 11) == 0);
+    IS(line_of(master, 2, &told, &line) == 0 && told.found == 0 && told.lines == 2 && told.bytes == 0);
+    IS(line_of(master, SIZE_MAX, &told, &line) == 0 && told.found == 0 && line == 77);
+    memset(&before, CANARY, sizeof before);
+    told = before;
+    IS(line_of("auto x", 0, &told, &line) == AM_MASTER_BAD_POINT && line == 1);
+    IS(line_of("/auto", 0, &told, &line) == AM_MASTER_NO_MAP && line == 1);
+    IS(line_of("/a yp:x", 0, &told, &line) == AM_MASTER_BAD_TYPE && line == 1);
+    IS(line_of("/a x --timeout=y", 0, &told, &line) == AM_MASTER_BAD_TIMEOUT && line == 1);
+    IS(line_of("/a x\n/a y\n", 0, &told, &line) == AM_MASTER_TWICE && line == 2);
+    IS(memcmp(&told, &before, sizeof told) == 0 && all_are(out, 128, CANARY));
+    IS(am_master_line(NULL, 0, 0, NULL, 0, &told, &line) == 0 && told.lines == 0);
+}
+
+/* ---- Words ---- */
+
+static void words(void)
+{
+    static const char *names[] = { "", "ENOENT", "EPERM", "EBUSY", "EEXIST", "EINVAL", "EAGAIN", "ELOOP",
+                                   "ENAMETOOLONG", "ENOSPC", "NoMemory", "NotReleased", "Stranger", "" };
+    IS(am_version() == AM_VERSION);
+    for (uint32_t number = 0; number < sizeof names / sizeof *names; number++) {
+        size_t size = strlen(names[number]);
+        for (size_t cap = 0; cap < 16; cap++) {
+            size_t part = cap < size ? cap : size;
+            memset(out, CANARY, 32);
+            if (am_error_name(number, out, cap) != size || memcmp(out, names[number], part) != 0
+                || !all_are(out + part, 32 - part, CANARY))
+                failed++, printf("failed: the name of error %u\n", number);
+        }
+    }
+    IS(am_error_name(UINT32_MAX, NULL, 0) == 0);
+}
+
+/* ---- Texts that are none, and long ones ---- */
+
+static uint32_t seed = 1;
+
+static uint32_t next(void)
+{
+    return seed = seed * 1664525u + 1013904223u;
+}
+
+static void odd_bytes(int rounds)
+{
+    static const char *parts[] = { "/auto auto.home\n", "k h:/p\n", "* -ro h:/&\n", "/a/b h:/p\n", "/- m --timeout=7\n",
+                                   "#\n", "\\\n", "\n", "\t", " " };
+    for (int round = 0; round < rounds; round++) {
+        len = 0;
+        for (uint32_t part = next() >> 28; part > 0; part--) {
+            const char *some = parts[(next() >> 8) % (sizeof parts / sizeof *parts)];
+            memcpy(text + len, some, strlen(some));
+            len += strlen(some);
+        }
+        for (uint32_t count = (next() >> 8) % 64; count > 0; count--)
+            text[len++] = (uint8_t)(next() >> 24);
+        struct am_entry entry;
+        struct am_master_line told;
+        struct am_packet packet;
+        uint64_t line = 0;
+        IS(am_map_look_up(text, len, round & 1, text, len / 2, out, 64, &entry, &line) <= AM_MAP_NO_MEMORY);
+        IS(am_master_line(text, len, 0, out, 64, &told, &line) <= AM_MASTER_NO_MEMORY);
+        IS(am_packet_read(text, round & 1 ? 304 : 300, &packet) <= AM_PACKET_BAD_NAME);
+    }
+}
+
+/* A map of so many lines, whose last key is looked up. */
+static void many_lines(size_t lines)
+{
+    struct am_entry entry;
+    uint64_t line = 77;
+    for (len = 0; lines > 0; lines--)
+        len += (size_t)sprintf((char *)text + len, "k%zu h:/%zu\n", lines, lines);
+    IS(am_map_look_up(text, len, false, (const uint8_t *)"k1", 2, out, sizeof out, &entry, &line) == 0 && line == 77);
+    IS(entry.found == 1 && entry.bytes == 3 && memcmp(out, "h/1", 3) == 0);
+}
+
+/* ---- Two threads ---- */
+
+static void *look_often(void *matches)
+{
+    static const char map[] = "home srv:/export/&\n";
+    uint8_t mine[64];
+    struct am_entry entry;
+    uint64_t line = 0;
+    *(int *)matches = 1;
+    for (int round = 0; round < 3000; round++) {
+        uint8_t fault = am_map_look_up((const uint8_t *)map, sizeof map - 1, false, (const uint8_t *)"home", 4, mine,
+                                       sizeof mine, &entry, &line);
+        *(int *)matches &= fault == 0 && entry.bytes == 15 && memcmp(mine, "srv/export/home", 15) == 0;
+    }
+    return NULL;
+}
+
+static void threads(void)
+{
+    pthread_t one, two;
+    int first = 0, second = 0;
+    pthread_create(&one, NULL, look_often, &first);
+    pthread_create(&two, NULL, look_often, &second);
+    pthread_join(one, NULL);
+    pthread_join(two, NULL);
+    IS(first && second);
+}
+
+static int count(void)
+{
+    printf("%d passed, %d failed\n", passed, failed);
+    return failed != 0;
+}
+
+int main(int words_in, char **word)
+{
+    if (words_in == 3 && strcmp(word[1], "own") == 0) {
+        int rounds = atoi(word[2]);
+        packets();
+        requests();
+        maps();
+        masters();
+        words();
+        odd_bytes(rounds);
+        many_lines(500 * (size_t)rounds);
+        threads();
+        return count();
+    }
+    if (words_in == 2 && strcmp(word[1], "short") == 0)
+        return short_of_memory();
+    fprintf(stderr, "library_test: expected own ROUNDS, or short\n");
+    return 2;
+}

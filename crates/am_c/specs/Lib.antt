@@ -1,0 +1,6 @@
+pub mod Buffer
+pub mod Entries
+pub mod Errors
+pub mod MasterLines
+pub mod Packets
+pub mod Requests

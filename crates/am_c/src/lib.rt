@@ -1,0 +1,9 @@
+//! The model for programs in C: each call that `dalvicna.h` declares.
+#![tactic(auto)]
+
+mod buffer;
+pub mod entry;
+pub mod error;
+pub mod master_line;
+pub mod packet;
+pub mod request;
