@@ -109,7 +109,11 @@ def prove():
     os.makedirs(os.path.dirname(ARCHIVE), exist_ok=True)
     words = faults.Kit().words(crate, faults.built)
     words[1] = "build"
-    run(*words, "--toolchain", os.path.join(kit(), "toolchain"), "-o", ARCHIVE, cwd=CRATE, stdout=subprocess.DEVNULL)
+    words += ["--toolchain", os.path.join(kit(), "toolchain"), "-o", ARCHIVE]
+    done = subprocess.run(words, cwd=CRATE, stdout=subprocess.PIPE, stderr=subprocess.STDOUT, text=True, errors="replace", check=False)
+    if done.returncode:
+        print(done.stdout[-2000:], file=sys.stderr)
+        stop("the crate am_c isn't proved")
 
 
 def stands(library, name):

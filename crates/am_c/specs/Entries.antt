@@ -1,5 +1,5 @@
 -- The entry of a key, as C has it (autofs(5), "SUN FORMAT").
-use Rattle.std.specs.Prelude.{◌≡◌, ◌⊎◌, ◌+◌, ℕ, Bool, true, false, List, [], ◌++◌, length, Option, Some, None, Result, Ok}
+use Rattle.std.specs.Prelude.{◌≡◌, ◌⊎◌, ◌+◌, ℕ, Bool, true, false, List, [], ◌++◌, length, Option, Some, None, Ok}
 use Rattle.am_lines.specs.{statements, IsReached}
 use Rattle.am_map.specs.EntryText.{EntryText, Row}
 use Rattle.am_map.specs.Fault.{IsFaultOf, fault_number}

@@ -1,5 +1,5 @@
 -- A line of a master map, as C has it (auto.master(5), "FORMAT").
-use Rattle.std.specs.Prelude.{◌≡◌, ◌⊎◌, ◌+◌, ℕ, List, [], ◌++◌, length, Option, Some, None, Result, Ok, slice_get}
+use Rattle.std.specs.Prelude.{◌≡◌, ◌⊎◌, ◌+◌, ℕ, List, [], ◌++◌, length, Option, Some, None, Ok, slice_get}
 use Rattle.am_lines.specs.{IsReached}
 use Rattle.am_names.specs.{text_of}
 use Rattle.am_master.specs.Fault.{IsFaultOf, fault_number}

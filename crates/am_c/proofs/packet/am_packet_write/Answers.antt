@@ -1,4 +1,4 @@
-use Rattle.std.proofs.Common.{◌≡◌, ℕ, List, length, take, refl, inl, ap, sym, ◌∙◌, subst, arith}
+use Rattle.std.proofs.Common.{take, refl, inl, ap, ◌∙◌, subst, arith}
 use Rattle.am_wire.specs.Fields.{Fields}
 use Rattle.am_wire.specs.Format.{IsPacket, canonical}
 use Rattle.am_c.specs.Buffer.{with_front}

@@ -1,4 +1,4 @@
-use Rattle.std.proofs.Common.{◌≡◌, ℕ, List, length, take, sym, ap, ◌∙◌, subst, arith}
+use Rattle.std.proofs.Common.{◌≡◌, ℕ, List, take, sym, ap, ◌∙◌, subst, arith}
 use Rattle.am_wire.specs.Fields.{fields_of}
 use Rattle.am_wire.specs.Format.{IsPacket}
 use Rattle.am_c.specs.Buffer.{with_front}
