@@ -3,9 +3,10 @@
 
 usage: tools/quick.py
 
-The tests of each crate that has some, and the programs that play scripts, are built without proof and run
-(`rt try`); a script is played with each allocation refused in turn; the examples are played; the program is
-driven over two pipes; the pages are compared with the repository. As many of these go on side by side as there are processors. The last line counts all.
+The tests of each crate that has some are built without proof and run (`rt try`), and so is the program: it plays
+the examples and the scripts of crates/am_tests/data, and is driven over two pipes; a script is played with an
+allocation refused; the pages are compared with the repository. What `am_tests` and `am_sweeps` do beside, and
+each allocation refused in turn, takes a proved build. As many of these go on side by side as there are processors. The last line counts all.
 """
 
 import concurrent.futures
@@ -19,9 +20,9 @@ import time
 
 COUNTS = re.compile(r"^(\d+) passed, (\d+) failed$", re.M)
 TESTS = re.compile(r"^test result: \w+\. (\d+) passed; (\d+) failed", re.M)
-# The programs that play what lies in their data, and print how much of it is as it must be.
-PLAYERS = ("am_tests", "am_sweeps")
-# The script that is played with each allocation refused in turn; where the kit refuses one at a time, this one.
+# The scripts that the program plays, each with its answers and its fault.
+DATA = "crates/am_tests/data"
+# The script that is played with an allocation refused, and which one.
 REFUSED, ONE = "one_key", "25"
 # How long the tests or a program of one crate may take, in seconds and in steps.
 PATIENCE = ("--seconds", "400", "--steps", "1000000000000")
@@ -64,19 +65,26 @@ def with_data(crate):
     return [word for it in sorted(names) for word in ("--data", f"{it}=data/{it}")]
 
 
-def player(crate):
-    """Has a program play its data; what it prints must be the file beside it."""
-    done = ran(["rt", "try", *PATIENCE, *with_data(crate)], f"crates/{crate}")
-    well = done.returncode == 0 and done.stdout == text_of(f"crates/{crate}/stdout")
-    return int(well), int(not well), "" if well else (done.stdout + done.stderr)[-2000:]
+def is_as_expected(program, path):
+    """Whether a script has the answers beside it, and ends in the fault beside it, if there is one."""
+    with open(path, "rb") as script:
+        done = subprocess.run([program, "script"], stdin=script, capture_output=True, check=False)
+    start = path.removesuffix("script")
+    fault = text_of(f"{start}fault") if os.path.exists(f"{start}fault") else ""
+    said = done.stderr.decode(errors="replace")
+    with open(f"{start}out", "rb") as answers:
+        return done.stdout == answers.read() and said.removeprefix("fault: ").strip() == fault.strip()
+
+
+def scripts(program):
+    """Plays the scripts of the tests."""
+    wrong = [it for it in sorted(glob.glob(f"{DATA}/*.script")) if not is_as_expected(program, it)]
+    return len(glob.glob(f"{DATA}/*.script")) - len(wrong), len(wrong), "".join(f"not as expected: {it}\n" for it in wrong)
 
 
 def refused():
-    """Plays a script with each allocation refused in turn, or with one."""
-    words = ["rt", "try", *PATIENCE, *with_data("am_tests")]
-    done = ran([*words, "--fail-alloc", "1..", "--", REFUSED], "crates/am_tests")
-    if "takes a number" in done.stderr:
-        done = ran([*words, "--fail-alloc", ONE, "--", REFUSED], "crates/am_tests")
+    """Plays a script with one allocation refused."""
+    done = ran(["rt", "try", *PATIENCE, *with_data("am_tests"), "--fail-alloc", ONE, "--", REFUSED], "crates/am_tests")
     well = done.returncode == 0
     return int(well), int(not well), "" if well else (done.stdout + done.stderr)[-2000:]
 
@@ -98,14 +106,14 @@ def shared():
     for name in SHARED:
         counts = tool(name)
         passed, failed, said = passed + counts[0], failed + counts[1], said + counts[2]
-    return passed, failed, said
+    counts = scripts(built.stdout.strip())
+    return passed + counts[0], failed + counts[1], said + counts[2]
 
 
 def tasks():
     """What is done, by its name, that which takes longest first."""
-    found = [("the program: examples, pipes", shared)]
-    found += [(f"{it}: its data", lambda it=it: player(it)) for it in PLAYERS]
-    found += [(f"{REFUSED}: refused allocations", refused)]
+    found = [("the program: examples, pipes, scripts", shared)]
+    found += [(f"{REFUSED}: an allocation refused", refused)]
     found += [(f"{it}: its tests", lambda it=it: tests_of(it)) for it in reversed(crates_with_tests())]
     return found + [("pages", lambda: tool("check_pages"))]
 
