@@ -7,8 +7,8 @@ First every planted fault is read: where one doesn't apply, or the front end ref
 Then every crate and its tests are proved from nothing and run (`rt ci`), and beside that planted faults are
 tried, in rounds (tools/faults): those of the crates that the last commit changed, and those of a third of the
 others, another third at each commit; with --all those of all crates. Behind 110 minutes no more of them are begun; what is
-left is told by name. Then come the refused allocations, the examples, the program over two pipes, the
-library for C, and the pages.
+left is told by name. Then come the refused allocations, the program's commands, the examples, the program over
+two pipes, the library for C, and the pages.
 
 Each minute it says how far it is. At its end stands what each crate cost, in seconds of a processor, and the
 last line counts all. RT_JOBS is how many proofs run side by side; without it the toolchain chooses by the
@@ -22,6 +22,7 @@ import subprocess
 import sys
 import tempfile
 import time
+from concurrent.futures import ThreadPoolExecutor
 
 TICKS = os.sysconf("SC_CLK_TCK")
 PAGE = os.sysconf("SC_PAGE_SIZE")
@@ -33,7 +34,7 @@ PROOFS = 0.75
 # Behind so many minutes no more planted faults are begun: a gate ends on a slow machine too, and says what it left out.
 LATEST = 110
 # What is left when all is proved.
-REST = ("refuse_all.sh", "examples.sh", "pipes.py", "library.py test", "check_pages")
+REST = ("refuse_all.sh", "commands.py", "examples.sh", "pipes.py", "library.py test", "check_pages")
 COUNTS = re.compile(r"^(\d+) passed, (\d+) failed$", re.M)
 
 
@@ -242,6 +243,14 @@ def shown(text, at):
     return "".join(keep)
 
 
+def run_tool(tool):
+    """Runs a tool; returns its name, what it said, and how long it took."""
+    before = time.time()
+    done = subprocess.run(f"tools/{tool}".split(), stdout=subprocess.PIPE, stderr=subprocess.STDOUT, text=True, errors="replace",
+                          check=False)
+    return tool, done.stdout, time.time() - before
+
+
 def main(words):
     if words[1:] not in ([], ["--all"]):
         print("gate: expected no words, or --all", file=sys.stderr)
@@ -259,12 +268,10 @@ def main(words):
     proofs, faults = prove_and_try(words[1:] == ["--all"], costs)
     rows.append(("proofs and tests", time.time() - before, counts_in(proofs)))
     rows.append(("planted faults", 0, counts_in(faults)))
-    for tool in REST:
-        before = time.time()
-        ran = subprocess.run(f"tools/{tool}".split(), stdout=subprocess.PIPE, stderr=subprocess.STDOUT, text=True, errors="replace",
-                             check=False)
-        print(ran.stdout, end="", flush=True)
-        rows.append((tool, time.time() - before, counts_in(ran.stdout)))
+    with ThreadPoolExecutor(len(os.sched_getaffinity(0))) as pool:
+        for tool, said, seconds in pool.map(run_tool, REST):
+            print(said, end="", flush=True)
+            rows.append((tool, seconds, counts_in(said)))
     print("\n".join(costs.table()))
     slowest = sorted(((seconds, crate, kind) for crate, row in costs.by_crate().items() for kind, seconds in row.items()), reverse=True)
     say("the slowest ten: " + ", ".join(f"{crate} ({kind}) {seconds:.0f}" for seconds, crate, kind in slowest[:10]))

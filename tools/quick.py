@@ -4,7 +4,7 @@
 usage: tools/quick.py
 
 The tests of each crate that has some are built without proof and run (`rt try`), and so is the program: it plays
-the examples and the scripts of crates/am_tests/data, and is driven over two pipes; a script is played with an
+the examples and the scripts of crates/am_tests/data, runs its commands, and is driven over two pipes; a script is played with an
 allocation refused; the pages are compared with the repository. What `am_tests` and `am_sweeps` do beside, and
 each allocation refused in turn, takes a proved build. As many of these go on side by side as there are processors. The last line counts all.
 """
@@ -27,7 +27,7 @@ REFUSED, ONE = "one_key", "25"
 # How long the tests or a program of one crate may take, in seconds and in steps.
 PATIENCE = ("--seconds", "400", "--steps", "1000000000000")
 # What plays the program that all of these share, which is built once.
-SHARED = ("examples.sh", "pipes.py")
+SHARED = ("examples.sh", "pipes.py", "commands.py")
 
 
 def text_of(path):

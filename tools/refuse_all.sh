@@ -1,8 +1,8 @@
 #!/bin/sh
 # tools/refuse_all.sh: plays worked examples and other scripts with each of their allocations refused in
 # turn: the event then finds no memory and changes nothing, and all goes on when it is made again. So it does
-# with tests of the command line and of maps. The gate, or `rt run` in crates/am_tests and `rt test` in
-# crates/automount_cli and crates/am_text_tests, has built what plays them. The last line counts the scripts and tests.
+# with tests of maps, of the pipe and of a world that callers share. The gate, or `rt run` in crates/am_tests and `rt test` in
+# crates/am_text_tests and crates/am_thread_tests, has built what plays them. The last line counts the scripts and tests.
 set -u
 . "$(dirname "$0")/common.sh"
 expect_nothing "$@"
@@ -27,8 +27,10 @@ a_use_and_a_wait
 many_mounts_on_one_mount
 events_said_twice
 a_head_of_two_maps
-automount_cli tests::memory_may_run_out_before_words_are_read
 am_text_tests tests::memory::memory_runs_out_at_the_line_that_takes_it
+am_thread_tests tests::rows::one_place
+am_thread_tests tests::callers::one_caller
+am_thread_tests tests::callers::two_callers_in_turn
 SCRIPTS
 echo "$passed passed, $failed failed"
 [ "$failed" -eq 0 ]

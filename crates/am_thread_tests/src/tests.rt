@@ -7,6 +7,7 @@ mod ends;
 mod releases;
 mod rows;
 mod runner;
+mod scenes;
 mod seats;
 mod shared;
 mod sizes;

@@ -1,13 +1,7 @@
 //! The program: plays a script from standard input, or runs threads.
 #![tactic(auto)]
 
-mod args;
-mod commands;
-mod program;
-#[cfg(test)]
-mod tests;
-
-use program::run_words;
+use am_cli::run_words;
 use std::process::ExitCode;
 
 fn main(rt: HostRuntime) -> ExitCode {

@@ -1,0 +1,16 @@
+use Rattle.std.proofs.lemmas.Result.{IfOk-weaker}
+use Rattle.am_cli.specs.{IsCommand, script_app, trace_app, draw_app, world_app, threads_app}
+use Rattle.clap.specs.Words.{App}
+use Rattle.clap.specs.declared.builder.command.Command.{Command}
+use Rattle.am_cli.proofs.CommandLemmas.{adds}
+use Rattle.am_cli.proofs.commands.command.Goals as goal
+
+pub returns : goal.returns
+returns c =
+    let script : IsCommand script_app c.new.result = record { shape = c.new.ensures.app; local = c.new.ensures.local } in
+    let trace : IsCommand trace_app c.new-2.result = record { shape = c.new-2.ensures.app; local = c.new-2.ensures.local } in
+    let one = adds _ _ _ _ script_app c.bare_program.ensures script c.in_ok-subcommand.ensures in
+    let two = adds _ _ _ _ trace_app one trace c.in_ok-subcommand-2.ensures in
+    let three = adds _ _ _ _ draw_app two c.in_ok-draw_command.ensures c.in_ok-subcommand-3.ensures in
+    let four = adds _ _ _ _ world_app three c.in_ok-world_command.ensures c.in_ok-subcommand-4.ensures in
+    IfOk-weaker c.subcommand-5.result _ _ (λ all added. adds _ _ all _ threads_app four c.in_ok-threads_command.ensures added) c.subcommand-5.ensures

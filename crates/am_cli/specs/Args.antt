@@ -1,0 +1,24 @@
+-- The exit statuses of a command line that is none, and the numbers of one that is: own choice
+-- (docs/FORMATS.md, "The program").
+use Rattle.std.specs.Prelude.{ℕ, ◌≤◌, ⊤}
+use Rattle.am_cli.specs.declared.args.Args.{Args}
+use Rattle.am_cli.specs.declared.args.Args.TheVariants.{Script, Trace, Draw, World, Threads}
+use Rattle.am_cli.specs.declared.args.ArgsFault.{ArgsFault}
+use Rattle.am_cli.specs.declared.args.ArgsFault.TheVariants.{NoMemory, Usage}
+
+-- the exit status
+abbrev pub fault_number : ArgsFault → ℕ
+fault_number NoMemory = 1
+fault_number Usage = 2
+
+-- from 1 to the most
+abbrev pub IsUpTo : ℕ → ℕ → Type 0
+IsUpTo most number = (1 ≤ number) × (number ≤ most)
+
+-- numbers of events, and so many threads and rounds, as may be asked for
+abbrev pub IsInRange : Args → Type 0
+IsInRange Script = ⊤
+IsInRange Trace = ⊤
+IsInRange (Draw first last) = IsUpTo 4294967295 first × IsUpTo 4294967295 last
+IsInRange (World namespace) = ⊤
+IsInRange (Threads walkers workers rounds) = IsUpTo 16 walkers × IsUpTo 16 workers × IsUpTo 1000 rounds

@@ -1,0 +1,68 @@
+//! The commands that there are.
+
+ghost use Rattle.std.specs.Prelude.{◌≡◌, false, IfOk};
+ghost use Rattle.clap.specs.Words.{rule_of};
+ghost use Rattle.am_cli.specs.CommandLine.{number_rule, default_rule, draw_app, world_app, threads_app, bare_program, cli, IsCommand};
+
+use clap::{Arg, ArgAction, Command, value_parser};
+use std::alloc::{AllocError, Global};
+
+/// An option that is a number.
+fn option<'a>(alloc: Global, name: &'a str) -> Arg<'a>
+    ensures rule { rule_of result ≡ number_rule name.entry.now }
+    ensures local { result.global ≡ false }
+{
+    Arg::new(alloc, name)
+        .long(name)
+        .action(ArgAction::Set)
+        .value_parser(value_parser!(u32))
+}
+
+/// It is this number where it is left out.
+fn option_or<'a>(alloc: Global, name: &'a str, default: &'a str) -> Arg<'a>
+    ensures rule { rule_of result ≡ default_rule name.entry.now default.entry.now }
+    ensures local { result.global ≡ false }
+{
+    option(alloc, name).default_value(default)
+}
+
+fn draw_command<'a>(alloc: Global) -> Result<Command<'a>, AllocError>
+    ensures { IfOk result (IsCommand draw_app) }
+{
+    Command::new(alloc, "draw")
+        .arg(option_or(alloc, "from", "1"))?
+        .arg(option_or(alloc, "to", "4294967295"))
+}
+
+fn world_command<'a>(alloc: Global) -> Result<Command<'a>, AllocError>
+    ensures { IfOk result (IsCommand world_app) }
+{
+    Command::new(alloc, "world").arg(option(alloc, "namespace"))
+}
+
+fn threads_command<'a>(alloc: Global) -> Result<Command<'a>, AllocError>
+    ensures { IfOk result (IsCommand threads_app) }
+{
+    Command::new(alloc, "threads")
+        .arg(option_or(alloc, "walkers", "4"))?
+        .arg(option_or(alloc, "workers", "2"))?
+        .arg(option_or(alloc, "rounds", "10"))
+}
+
+fn bare_program<'a>(alloc: Global) -> Command<'a>
+    ensures { IsCommand bare_program result }
+{
+    Command::new(alloc, "automount_cli").subcommand_required(true)
+}
+
+/// The program with all its commands.
+pub(crate) fn command<'a>(alloc: Global) -> Result<Command<'a>, AllocError>
+    ensures { IfOk result (IsCommand cli) }
+{
+    bare_program(alloc)
+        .subcommand(Command::new(alloc, "script"))?
+        .subcommand(Command::new(alloc, "trace"))?
+        .subcommand(draw_command(alloc)?)?
+        .subcommand(world_command(alloc)?)?
+        .subcommand(threads_command(alloc)?)
+}
