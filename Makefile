@@ -1,21 +1,31 @@
 # What a machine with the toolchain needs: nothing else is to be set up.
 SCRIPT ?= examples/first.script
+# Where run, show, trace, world and draw write; without it to standard output.
+OUT =
 PREFIX ?= /usr/local
-export SCRIPT
+export SCRIPT OUT
 
-.PHONY: run show draw threads examples build library install pages live quick faults test
+.PHONY: run show trace world draw threads examples build library install pages live quick faults test
 
 # plays a script, and writes its answers
 run:
-	@tools/run.sh "$$SCRIPT"
+	@tools/run.sh script "$$SCRIPT" "$$OUT"
 
 # plays a script, and writes each event with its answer beside it
 show:
-	@tools/show.sh "$$SCRIPT"
+	@tools/show.sh "$$SCRIPT" "$$OUT"
+
+# plays a script, and writes its trace
+trace:
+	@tools/run.sh trace "$$SCRIPT" "$$OUT"
+
+# plays a script, and writes the world that it leaves
+world:
+	@tools/run.sh world "$$SCRIPT" "$$OUT"
 
 # plays a script, and writes the picture of what happened
 draw:
-	@program=$$(tools/program.sh) && exec "$$program" draw < "$$SCRIPT"
+	@tools/run.sh draw "$$SCRIPT" "$$OUT"
 
 # walkers, workers and an expirer as threads over one world
 threads:
