@@ -47,9 +47,10 @@ library:
 install:
 	@tools/library.py install "$(PREFIX)"
 
-# compares what the pages name with what there is
+# compares what the pages name with what there is, and runs what they show
 pages:
 	@tools/check_pages
+	@tools/run_pages
 
 # plays all examples, and a script for each row of docs/LINUX.md that can be shown, on the running kernel, as root
 live:
