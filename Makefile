@@ -3,7 +3,7 @@ SCRIPT ?= examples/first.script
 # Where run, show, trace, world and draw write; without it to standard output.
 OUT =
 PREFIX ?= /usr/local
-export SCRIPT OUT
+export SCRIPT OUT PREFIX
 
 .PHONY: run show trace world draw threads examples build library install pages live quick faults test
 
@@ -43,9 +43,9 @@ build:
 library:
 	@tools/library.py build
 
-# copies it below a folder
+# copies the program, its manual page and, where it is built, the library for C below a folder
 install:
-	@tools/library.py install "$(PREFIX)"
+	@tools/install.sh "$$PREFIX"
 
 # compares what the pages name with what there is, and runs what they show
 pages:
