@@ -1,21 +1,31 @@
 # What a machine with the toolchain needs: nothing else is to be set up.
 SCRIPT ?= examples/first.script
+# Where run, show, trace, world and draw write; without it to standard output.
+OUT =
 PREFIX ?= /usr/local
-export SCRIPT
+export SCRIPT OUT PREFIX
 
-.PHONY: run show draw threads examples build library install pages live quick faults test
+.PHONY: run show trace world draw threads examples build library install pages live quick faults test
 
 # plays a script, and writes its answers
 run:
-	@tools/run.sh "$$SCRIPT"
+	@tools/run.sh script "$$SCRIPT" "$$OUT"
 
 # plays a script, and writes each event with its answer beside it
 show:
-	@tools/show.sh "$$SCRIPT"
+	@tools/show.sh "$$SCRIPT" "$$OUT"
+
+# plays a script, and writes its trace
+trace:
+	@tools/run.sh trace "$$SCRIPT" "$$OUT"
+
+# plays a script, and writes the world that it leaves
+world:
+	@tools/run.sh world "$$SCRIPT" "$$OUT"
 
 # plays a script, and writes the picture of what happened
 draw:
-	@program=$$(tools/program.sh) && exec "$$program" draw < "$$SCRIPT"
+	@tools/run.sh draw "$$SCRIPT" "$$OUT"
 
 # walkers, workers and an expirer as threads over one world
 threads:
@@ -33,15 +43,16 @@ build:
 library:
 	@tools/library.py build
 
-# copies it below a folder
+# copies the program, its manual page and, where it is built, the library for C below a folder
 install:
-	@tools/library.py install "$(PREFIX)"
+	@tools/install.sh "$$PREFIX"
 
-# compares what the pages name with what there is
+# compares what the pages name with what there is, and runs what they show
 pages:
 	@tools/check_pages
+	@tools/run_pages
 
-# plays all examples, and a script for each row of docs/LINUX.md that can be shown, on the running kernel, as root
+# plays all examples, and the scripts of all rows of docs/LINUX.md that can be shown, on the running kernel, as root
 live:
 	@tools/linux/live.py examples/*.script tools/linux/rows/*.script
 

@@ -6,12 +6,24 @@ refuse() {
     exit 2
 }
 
-# The one word that is expected: the path of a script that can be read.
+# The word is the path of a script that can be read.
 expect_script() {
-    [ $# -eq 1 ] && [ -n "$1" ] || refuse "expected one word, the path of a script"
+    [ -n "$1" ] || refuse "expected the path of a script"
     [ -e "$1" ] || refuse "expected the path of a script, and there is no file $1"
     [ -f "$1" ] || refuse "expected the path of a script, and this is no file: $1"
     [ -r "$1" ] || refuse "expected the path of a script, and this can't be read: $1"
+}
+
+# The word is empty, for standard output, or the path of a file that can be written and isn't the script.
+expect_out() {
+    [ -n "$1" ] || return 0
+    [ ! -d "$1" ] || refuse "expected the path of a file to write, and this is a folder: $1"
+    if [ -e "$1" ]; then
+        [ -w "$1" ] || refuse "expected the path of a file to write, and this can't be written: $1"
+        [ ! "$1" -ef "$2" ] || refuse "expected the path of a file to write, and this is the script: $1"
+    else
+        [ -w "$(dirname -- "$1")" ] || refuse "expected the path of a file to write, and its folder can't be written: $1"
+    fi
 }
 
 # No word is expected.

@@ -3,6 +3,7 @@
 
 usage: tools/library.py build           writes out/library: libdalvicna.a, libdalvicna.so.1, dalvicna.pc
        tools/library.py install PREFIX  builds it, and copies it below a folder
+       tools/library.py ready           says by its status whether it can be built without a proof
        tools/library.py header          compares c/dalvicna.h with the crate
        tools/library.py test            builds it and tests it; the last line counts the tests
 
@@ -407,6 +408,8 @@ def main(words):
         build()
     elif len(words) == 2 and words[0] == "install":
         install(words[1])
+    elif words == ["ready"]:
+        return is_up_to_date()
     elif words == ["header"]:
         differences = list(faults_of_header())
         print("\n".join(differences), end="\n" if differences else "")
@@ -414,7 +417,7 @@ def main(words):
     elif words == ["test"]:
         return test()
     else:
-        stop("expected build, install PREFIX, header or test")
+        stop("expected build, install PREFIX, ready, header or test")
     return True
 
 

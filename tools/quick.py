@@ -3,10 +3,11 @@
 
 usage: tools/quick.py
 
-The tests of each crate that has some are built without proof and run (`rt try`), and so is the program: it plays
-the examples and the scripts of crates/am_tests/data, runs its commands, and is driven over two pipes; a script is played with an
-allocation refused; the pages are compared with the repository. What `am_tests` and `am_sweeps` do beside, and
-each allocation refused in turn, takes a proved build. As many of these go on side by side as there are processors. The last line counts all.
+The tests of each crate that has some are built without proof and run (`rt try`), and so is the program: it plays the
+examples and the scripts of crates/am_tests/data, runs its commands, and is driven over two pipes; the pages are
+compared with the repository, and what they show is run; a script is played with an allocation refused. What `am_tests` and `am_sweeps`
+do beside, and each allocation refused in turn, takes a proved build. As many of these go on side by side as there are
+processors. The last line counts all.
 """
 
 import concurrent.futures
@@ -27,7 +28,7 @@ REFUSED, ONE = "one_key", "25"
 # How long the tests or a program of one crate may take, in seconds and in steps.
 PATIENCE = ("--seconds", "400", "--steps", "1000000000000")
 # What plays the program that all of these share, which is built once.
-SHARED = ("examples.sh", "pipes.py", "commands.py")
+SHARED = ("examples.sh", "pipes.py", "commands.py", "run_pages")
 
 
 def text_of(path):
@@ -112,7 +113,7 @@ def shared():
 
 def tasks():
     """What is done, by its name, that which takes longest first."""
-    found = [("the program: examples, pipes, scripts", shared)]
+    found = [("the program: examples, pipes, pages, scripts", shared)]
     found += [(f"{REFUSED}: an allocation refused", refused)]
     found += [(f"{it}: its tests", lambda it=it: tests_of(it)) for it in reversed(crates_with_tests())]
     return found + [("pages", lambda: tool("check_pages"))]

@@ -1,7 +1,16 @@
 #!/bin/sh
-# tools/run.sh FILE: plays a script, and writes its answers.
+# tools/run.sh COMMAND FILE [OUT]: has the program play a script by a command, script, trace, world or draw, and
+# writes to OUT, or to standard output where it isn't given or is empty.
 set -eu
 . "$(dirname "$0")/common.sh"
-expect_script "$@"
+[ $# -eq 2 ] || [ $# -eq 3 ] || refuse "expected a command, the path of a script, and possibly that of a file to write"
+case $1 in
+    script | trace | world | draw) ;;
+    *) refuse "expected script, trace, world or draw, and this is none: $1" ;;
+esac
+expect_script "$2"
+out=${3:-}
+expect_out "$out" "$2"
 program=$("$(dirname "$0")/program.sh")
-exec "$program" script < "$1"
+[ -z "$out" ] || exec > "$out"
+exec "$program" "$1" < "$2"

@@ -1,10 +1,15 @@
 #!/bin/sh
-# tools/show.sh FILE: plays a script, and writes each event with its answer beside it.
+# tools/show.sh FILE [OUT]: plays a script, and writes each event with its answer beside it, to OUT, or to standard
+# output where it isn't given or is empty.
 set -u
 export LC_ALL=C
 . "$(dirname "$0")/common.sh"
-expect_script "$@"
+[ $# -eq 1 ] || [ $# -eq 2 ] || refuse "expected the path of a script, and possibly that of a file to write"
+expect_script "$1"
+out=${2:-}
+expect_out "$out" "$1"
 program=$("$(dirname "$0")/program.sh") || exit 1
+[ -z "$out" ] || exec > "$out" || exit 2
 room=$(mktemp -d)
 trap 'rm -rf "$room"' EXIT
 "$program" script < "$1" > "$room/answers"
