@@ -5,7 +5,7 @@ OUT =
 PREFIX ?= /usr/local
 export SCRIPT OUT PREFIX
 
-.PHONY: run show trace world draw threads examples build library install pages live quick faults test
+.PHONY: help run show trace world draw threads examples build library install pages live quick faults test
 
 # plays a script, and writes its answers
 run:
@@ -68,3 +68,8 @@ faults:
 # library for C, and the pages
 test:
 	@tools/gate.py
+
+# lists these
+help:
+	@awk '/^# / { text = text (text == "" ? "" : " ") substr($$0, 3); next } \
+		/^[a-z]+:/ { sub(":.*", ""); printf "make %-8s %s\n", $$0, text } { text = "" }' Makefile

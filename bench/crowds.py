@@ -39,7 +39,7 @@ def plays(crowd):
 
 def main(words):
     if len(words) not in (1, 3, 4) or not all(it.isdecimal() for it in words[1:]):
-        print(__doc__, end="")
+        print("crowds: expected numbers, as in bench/crowds.py [THREADS CALLS [JUDGED]]", file=sys.stderr)
         return 2
     if not os.access(PROGRAM, os.X_OK):
         print("crowds: build the test first: rt test in crates/am_thread_tests", file=sys.stderr)

@@ -40,7 +40,7 @@ def plays(run, size):
 
 def main(words):
     if len(words) not in (1, 2, 6) or not all(it.isdecimal() and int(it) for it in words[1:]):
-        print(__doc__, end="")
+        print("deaths: expected numbers from 1 on, as in bench/deaths.py [RUNS [WALKERS WORKERS ROUNDS BREAKS]]", file=sys.stderr)
         return 2
     if not os.access(PROGRAM, os.X_OK):
         print("deaths: build the test first: rt test in crates/am_thread_tests", file=sys.stderr)

@@ -26,6 +26,17 @@ expect_out() {
     fi
 }
 
+# Writes what the program told, and behind a fault the line of the script at which it is.
+tell_fault() {
+    cat "$1" >&2
+    line=$(sed -n 's/^fault: line \([0-9]*\): .*/\1/p' "$1")
+    word=$(sed -n 's/^fault: line [0-9]*: //p' "$1")
+    [ -n "$line" ] || return 0
+    text=$(sed -n "${line}{p;q}" "$2" | LC_ALL=C cut -b 1-200 | cat -v)
+    echo "$(basename "$0" .sh): line $line of $2 is: ${text:-blank, or behind its end}" >&2
+    echo "$(basename "$0" .sh): docs/FORMATS.md has what a line may be (Scripts), and what $word means (Faults)" >&2
+}
+
 # No word is expected.
 expect_nothing() {
     [ $# -eq 0 ] || refuse "expected no words"

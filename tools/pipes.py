@@ -205,7 +205,8 @@ def checks(program, room):
 
 def main():
     if len(sys.argv) != 1:
-        sys.exit("pipes.py: expected no words")
+        print("pipes: expected no words", file=sys.stderr)
+        return 2
     os.chdir(os.path.join(os.path.dirname(os.path.abspath(__file__)), ".."))
     program = subprocess.run(["tools/program.sh"], stdout=subprocess.PIPE, check=True).stdout.decode().strip()
     passed = failed = 0

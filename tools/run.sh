@@ -13,4 +13,11 @@ out=${3:-}
 expect_out "$out" "$2"
 program=$("$(dirname "$0")/program.sh")
 [ -z "$out" ] || exec > "$out"
-exec "$program" "$1" < "$2"
+told=$(mktemp)
+trap 'rm -f "$told"' EXIT
+trap 'exit 130' INT
+trap 'exit 143' TERM
+status=0
+"$program" "$1" < "$2" 2> "$told" || status=$?
+tell_fault "$told" "$2"
+exit "$status"

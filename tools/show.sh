@@ -12,7 +12,7 @@ program=$("$(dirname "$0")/program.sh") || exit 1
 [ -z "$out" ] || exec > "$out" || exit 2
 room=$(mktemp -d)
 trap 'rm -rf "$room"' EXIT
-"$program" script < "$1" > "$room/answers"
+"$program" script < "$1" > "$room/answers" 2> "$room/told"
 status=$?
 
 # The events: what stands behind the line `events` that is in no section, without blank lines and
@@ -27,4 +27,5 @@ awk '
 # Events behind a fault have no answer.
 paste "$room/events" "$room/answers" | head -n "$(wc -l < "$room/answers")" \
     | awk -F '\t' '{ printf "%-40s %s\n", $1, $2 }'
+tell_fault "$room/told" "$1"
 exit "$status"
