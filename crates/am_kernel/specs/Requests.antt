@@ -38,13 +38,13 @@ answer_tests (Some fs) k token = if is_number (token_fs k token) fs then None el
 abbrev pub answer_refusal : KernelState → ℕ → ℕ → Option Errno
 answer_refusal k attach token = answer_tests (fs_of_attach k attach) k token
 
--- A mount that failed lasts from this moment on, and READY makes it good; an expiry that failed
--- leaves nothing: own choice (docs/DECISIONS.md, "A failure has a number, and may last").
+-- A mount that failed lasts from this moment on, and READY makes it good; what is acknowledged of an
+-- expiry leaves what was: own choice (docs/DECISIONS.md, "A failure has a number, and may last").
 abbrev pub settled : TokenKind → Trigger → Status → ℕ → FailureRows → FailureRows
-settled kind trigger Ready moment rows = without_failure trigger rows
+settled Missing trigger Ready moment rows = without_failure trigger rows
 settled Missing trigger (Fail error) moment rows =
     with_failure trigger (record { no = error; at = moment }) rows
-settled Expire trigger (Fail error) moment rows = rows
+settled Expire trigger status moment rows = rows
 
 -- the same of a token that may not be open
 abbrev pub settled_by : Option OpenToken → Status → ℕ → FailureRows → FailureRows

@@ -16,7 +16,7 @@ use am_trigger::{Failure, Failures};
 use std::alloc::{AllocError, Global};
 
 /// What comes of an acknowledgement for the trigger: a mount that failed lasts from this moment on,
-/// and READY makes it good.
+/// and READY makes it good. What is acknowledged of an expiry leaves what was.
 fn settle(
     failures: &mut Failures,
     kind: TokenKind,
@@ -29,11 +29,11 @@ fn settle(
     ensures room { failures.old.room ≤ failures.new.room + 1 }
 {
     match (kind, status) {
-        (_, Status::Ready) => failures.remove(trigger),
+        (TokenKind::Missing, Status::Ready) => failures.remove(trigger),
         (TokenKind::Missing, Status::Fail(no)) => {
             failures.put_reserved(trigger, Failure { no, at: moment });
         }
-        (TokenKind::Expire, Status::Fail(_)) => {}
+        (TokenKind::Expire, _) => {}
     }
 }
 
@@ -65,7 +65,7 @@ impl Kernel {
     }
 
     /// The daemon acknowledges a notification: its token closes, and its waiters are released. A
-    /// failure of a mount lasts, and READY makes it good. It takes no memory.
+    /// failure of a mount lasts, and READY to a mount makes it good. It takes no memory.
     pub fn answer(&mut self, attach: Attach, token: Token, status: Status) -> Result<(), Errno>
         ensures refusal { RefusedOnlyAs (answer_refusal self.old attach token) result }
         ensures ok { OnOk result (self.new ≡ acknowledged token status self.old) }

@@ -12,7 +12,13 @@ pub mod Places
 pub mod TriggerMounts
 pub mod Consistent
 pub mod Agreement
+pub mod Failures
 pub mod InStep
 pub mod Runs
+pub mod Told
+pub mod InUse
+pub mod UsesSeen
+pub mod Refusals
 pub mod StepTheorems
+pub mod Reached
 pub mod Histories

@@ -1,8 +1,7 @@
 -- What tests say that have passed, one after another.
-use Rattle.std.proofs.Common.{◌≡◌, Bool, true, false, not, Option, Some, None, refl}
-use Rattle.std.specs.Prelude.{is_some, if◌then◌else◌}
+use Rattle.std.proofs.Common.{◌≡◌, Bool, true, false, Option, Some, None, refl}
+use Rattle.std.specs.Prelude.{if◌then◌else◌}
 use Rattle.am_names.specs.declared.errno.Errno.{Errno}
-use Rattle.am_names.proofs.Basics.{none_where_not_some, true_where_not_false}
 use Rattle.am_kernel.specs.{or_else}
 
 pub test_passed : (b : Bool) (e : Errno) (rest : Option Errno) → (if b then Some e else rest) ≡ None → (b ≡ false) × (rest ≡ None)

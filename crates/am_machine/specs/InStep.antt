@@ -1,8 +1,8 @@
 -- Kernel and daemon are in step: what the one tells the other finds it ready (own choice).
 use Rattle.std.specs.Prelude.{◌≡◌, ◌&&◌, ℕ, true, is_some, List, Option, Some}
-use Rattle.am_names.specs.{OpenToken, WaitRow}
+use Rattle.am_names.specs.{same_trigger, OpenToken, WaitRow}
 use Rattle.am_names.specs.declared.row.TokenKind.TheVariants.{Missing}
-use Rattle.am_trigger.specs.{autofs_of}
+use Rattle.am_trigger.specs.{Autofs, autofs_of}
 use Rattle.am_wait.specs.{token_of, wait_of}
 use Rattle.am_state.specs.{QueuedRow}
 use Rattle.am_kernel.specs.{is_live, latest_attach, attach_of, queued_of, pipe_refusal, walk_in}
@@ -15,6 +15,8 @@ use Rattle.am_machine.specs.Events.Deliveries.{has_bytes, may_take}
 use Rattle.am_machine.specs.Events.Requests.{reattach_refused}
 use Rattle.am_machine.specs.Paths.{HavePaths}
 use Rattle.am_machine.specs.Machine.{Run}
+use Rattle.am_machine.specs.Invariant.Failures.{MountsAreMended}
+use Rattle.am_machine.specs.Invariant.Places.{HoldsOne}
 use Rattle.am_machine.specs.Invariant.Walks.{is_named}
 
 -- the daemon is not busy when a packet that is in a pipe comes to it
@@ -37,6 +39,15 @@ pub record AreInStep (s : State) : Type 0 where
   -- who waits on a mount has the walk that led there
   pub walks : (walker : ℕ) (row : WaitRow) → wait_of s.kernel.waits.waits walker ≡ Some row →
       row.kind ≡ Missing → is_some (walk_in s.kernel.walks row.walker) ≡ true
+  -- a trigger has one open token at most
+  pub once : (a b : ℕ) (x y : OpenToken) →
+      token_of s.kernel.waits.tokens a ≡ Some x → token_of s.kernel.waits.tokens b ≡ Some y →
+      same_trigger x.trigger y.trigger ≡ true → a ≡ b
+  -- one mount at most is at a place of the daemon's mount of an autofs
+  pub one : (fs : ℕ) (row : Autofs) → autofs_of s.kernel.triggers fs ≡ Some row →
+      HoldsOne s.kernel.table.rows row.location
+  -- where something is mounted on a trigger there, no failure is kept of it, or it is asked for
+  pub mended : MountsAreMended s.kernel
 
 -- A step refuses no more than it says in words, since some tests never fail.
 pub record RefusesInStep (s : State) : Type 0 where

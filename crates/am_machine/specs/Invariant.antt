@@ -8,4 +8,5 @@ pub mod Books
 pub mod Records
 pub mod Places
 pub mod TriggerMounts
+pub mod Failures
 pub mod Consistent

@@ -5,8 +5,10 @@ pub mod Events
 pub mod History
 pub mod Machine
 pub mod Invariant
+pub mod Told
 pub mod Agreement
 pub mod InStep
+pub mod Reached
 pub mod StepLaws
 pub mod Safety
 -- what contracts cite, passed on from one place
@@ -22,6 +24,7 @@ pub use InStep.{AreInStep, RefusesInStep, RunsAreInStep, RunsAreNeverBusy, RunsR
 pub use Invariant.Attachments.{AreKnown, NumbersAreAllocated, RiseTo, is_known, was_attached}
 pub use Invariant.Books.{BookAgrees, IsServed, is_pending_for, is_to_record}
 pub use Invariant.Consistent.{HalvesAgree, IsConsistent, IsTraced}
+pub use Invariant.Failures.{AllSuit, FailedIsFree, FailuresAgree, IsAwaited, IsMended, MountsAreMended, Suits, SuitsItsToken}
 pub use Invariant.Places.{HasCopy, HoldsOne, IsCopied, IsLocation, PlacesAgree}
 pub use Invariant.Planned.{ArePlanned, IsPlanned, IsRest, has_record_left}
 pub use Invariant.Records.{AreOfTheirTokens, IsOfItsToken, is_of_kind}
@@ -31,9 +34,11 @@ pub use Invariant.TriggerMounts.{AreClaimed, AreWritten, OnTriggers, TriggerMoun
 pub use Invariant.Walks.{HasWalk, WalksFit, has_walk, is_name_if_any, is_named}
 pub use Machine.{Comes, GoesOnBy, IsLegal, RanOut, Run, Step, after, outcome_of}
 pub use Paths.{HasPaths, HavePaths, IsPath}
-pub use Safety.{RunsAreLawful}
+pub use Reached.{IsReached}
+pub use Safety.{RunsAreLawful, RunsFitTheirTraces}
 pub use State.{Setup, initial_state_of, limits_in, setup_of}
-pub use StepLaws.{AddsNoReceivers, IsLawful, RunsGoOn, StepsAddNoReceivers, StepsAreLawful}
+pub use StepLaws.{AddsNoReceivers, IsLawful, IsUseSeen, MomentsRise, RefusalsChangeNothing, RunsGoOn, StepsAddNoReceivers, StepsAreLawful, StepsTellUses, StepsUnmountNothingInUse, UnmountsNothingInUse}
+pub use Told.{AgreeOnStatuses, IsTold, There, then_told, told, told_from, told_in, told_status}
 pub use declared.answer.Answer.{Answer}
 pub use declared.entry.Entry.{Entry}
 pub use declared.event.Event.{Event}

@@ -2,12 +2,17 @@
 
 ghost use Rattle.am_machine.specs.Agreement.{RunsAgree};
 ghost use Rattle.am_machine.specs.InStep.{RunsAreInStep, RunsAreNeverBusy, RunsRefuseInStep};
-ghost use Rattle.am_machine.specs.Safety.{RunsAreLawful};
-ghost use Rattle.am_machine.specs.StepLaws.{StepsAreLawful, StepsAddNoReceivers, RunsGoOn};
+ghost use Rattle.am_machine.specs.Safety.{RunsAreLawful, RunsFitTheirTraces};
+ghost use Rattle.am_machine.specs.StepLaws.{StepsAreLawful, RefusalsChangeNothing, MomentsRise, StepsAddNoReceivers, StepsUnmountNothingInUse, StepsTellUses, RunsGoOn};
 
 /// The trace of every run from an initial world is lawful.
 pub fn runs_are_lawful()
     ensures { RunsAreLawful }
+{}
+
+/// After every run from an initial world kernel and daemon are what the trace tells of them.
+pub fn runs_fit_their_traces()
+    ensures { RunsFitTheirTraces }
 {}
 
 /// After every run from an initial world kernel and daemon agree.
@@ -37,10 +42,31 @@ pub fn steps_are_lawful()
     ensures { StepsAreLawful }
 {}
 
+/// An event that is refused changes nothing, and nothing is seen of it.
+pub fn refusals_change_nothing()
+    ensures { RefusalsChangeNothing }
+{}
+
+/// The latest moment never goes back.
+pub fn moments_rise()
+    ensures { MomentsRise }
+{}
+
 /// The law of receivers: no step of a run makes one of two mounts that stood before it receive from
 /// the other, unless it did already.
 pub fn steps_add_no_receivers()
     ensures { StepsAddNoReceivers }
+{}
+
+/// No step of a run takes a mount that a walker is inside of, or on which one that stays is mounted.
+pub fn steps_unmount_nothing_in_use()
+    ensures { StepsUnmountNothingInUse }
+{}
+
+/// The last use of a trigger changes only where a walk is seen to pass it, or the daemon is seen to be
+/// asked for it, or a walker collects the status of its wait on it.
+pub fn steps_tell_uses()
+    ensures { StepsTellUses }
 {}
 
 /// A run goes on by a step.

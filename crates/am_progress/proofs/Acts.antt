@@ -1,6 +1,6 @@
 -- The next act of a job is done or fails.
 use Rattle.std.proofs.Common.{◌≡◌, ℕ, ◌+◌, Bool, true, false, List, [], Option, Some, None, refl, sym, ap, subst, inl, inr, ◌∙◌}
-use Rattle.std.specs.Prelude.{⊤, ◌&&◌, not, is_some, is_none, if◌then◌else◌}
+use Rattle.std.specs.Prelude.{◌&&◌, not, is_some, is_none, if◌then◌else◌}
 use Rattle.std.specs.Option.{option_map}
 use Rattle.std.specs.List.{All}
 use Rattle.std.proofs.lemmas.List.Elements.{All-weaker}
@@ -29,7 +29,7 @@ use Rattle.am_machine.specs.declared.answer.Answer.TheVariants as answers
 use Rattle.am_machine.specs.State.{State}
 use Rattle.am_machine.specs.EventOutcome.{EventOutcome}
 use Rattle.am_machine.specs.Events.Acts as acts
-use Rattle.am_progress.specs.{TellsOf, goes_on_as, IsActed, JobsCanGoOn, NextActsAreNeverRefused, HasFewActs, JobsHaveFiveActs}
+use Rattle.am_progress.specs.{TellsOf, FailsAs, goes_on_as, IsActed, JobsCanGoOn, NextActsAreNeverRefused, HasFewActs, JobsHaveFiveActs}
 use Rattle.am_progress.proofs.Attaches.{fs_of_current}
 use Rattle.am_progress.proofs.Plans.{IsOwn, IsOfPlan, next_own, packet_plan}
 use Rattle.am_progress.proofs.Packets.{holds_held}
@@ -48,7 +48,7 @@ abbrev pub LeavesKernel : Act → outcomes.Outcome → ℕ → KernelState → K
 LeavesKernel (act.Umount trigger) (came.Failed error) token k made = made ≡ k
 LeavesKernel (act.Record trigger entry) outcome token k made = made ≡ k
 LeavesKernel (act.Reply status) outcome token k made = made ≡ acknowledged token status k
-LeavesKernel _ outcome token k made = ⊤
+LeavesKernel _ outcome token k made = made.failures ≡ k.failures
 
 pub record Does (s : State) (row : JobPlan) (a : Act) (o : EventOutcome) : Type 0 where
   pub came : outcomes.Outcome
@@ -87,14 +87,14 @@ directory_fine s number row w named =
     directory_by_cases (is_current s.kernel row.trigger.fs row.attach) (is_indirect s.kernel row.trigger) (its_current s number row w)
     (indirect_of (triggers.autofs_of s.kernel.triggers row.trigger.fs) row.trigger (its_site s number row w) named)
 
-plainly : (s : State) (row : JobPlan) (a : Act) (outcome : outcomes.Outcome) (answer : Answer) (shown : List Obs) (made : KernelState) → TellsOf a outcome answer → made.waits ≡ waits_after a row.token s.kernel.waits → ((fs : ℕ) → attach_of made fs ≡ attach_of s.kernel fs) → LeavesKernel a outcome row.token s.kernel made →
+abbrev plainly : (s : State) (row : JobPlan) (a : Act) (outcome : outcomes.Outcome) (answer : Answer) (shown : List Obs) (made : KernelState) → TellsOf a outcome answer → made.waits ≡ waits_after a row.token s.kernel.waits → ((fs : ℕ) → attach_of made fs ≡ attach_of s.kernel fs) → LeavesKernel a outcome row.token s.kernel made →
     Does s row a (acts.goes_on s row outcome answer shown made)
 plainly s row a outcome answer shown made told waits attaches leaves =
     record { came = outcome; answer = answer; shown = shown; made = made; is = refl; told = told; waits = waits; attaches = attaches; leaves = leaves }
 
 mkdir_by : (made : Bool) (s : State) (row : JobPlan) (g : Trigger) → Does s row (act.Mkdir g) (acts.mkdir_by (if made then Some errnos.EEXIST else None) s row g)
-mkdir_by true s row g = plainly s row (act.Mkdir g) came.Done answers.DidMkdir [] s.kernel (refl, refl) refl (λ fs. refl) tt
-mkdir_by false s row g = plainly s row (act.Mkdir g) came.Done answers.DidMkdir [] (with_directory g s.kernel) (refl, refl) refl (λ fs. refl) tt
+mkdir_by true s row g = plainly s row (act.Mkdir g) came.Done answers.DidMkdir [] s.kernel (refl, refl) refl (λ fs. refl) refl
+mkdir_by false s row g = plainly s row (act.Mkdir g) came.Done answers.DidMkdir [] (with_directory g s.kernel) (refl, refl) refl (λ fs. refl) refl
 
 mkdir : (s : State) (number : ℕ) (row : JobPlan) → Acting s number row → is_some row.trigger.name ≡ true → Does s row (act.Mkdir row.trigger) (acts.mkdir_by (mkdir_refusal s.kernel row.attach row.trigger) s row row.trigger)
 mkdir s number row w named =
@@ -103,9 +103,9 @@ mkdir s number row w named =
     subst (λ (o : Option Errno). Does s row (act.Mkdir row.trigger) (acts.mkdir_by o s row row.trigger)) (sym is) (mkdir_by (triggers.is_made s.kernel.triggers row.trigger) s row row.trigger)
 
 rmdir_by : (made mounted : Bool) (s : State) (row : JobPlan) (g : Trigger) → Does s row (act.Rmdir g) (acts.rmdir_by (or_else (if made then None else Some errnos.ENOENT) (if mounted then Some errnos.EBUSY else None)) s row g)
-rmdir_by true true s row g = plainly s row (act.Rmdir g) came.Done answers.DidRmdir [] s.kernel (refl, refl) refl (λ fs. refl) tt
-rmdir_by true false s row g = plainly s row (act.Rmdir g) came.Done answers.DidRmdir [] (without_directory g s.kernel) (refl, refl) refl (λ fs. refl) tt
-rmdir_by false mounted s row g = plainly s row (act.Rmdir g) came.Done answers.DidRmdir [] s.kernel (refl, refl) refl (λ fs. refl) tt
+rmdir_by true true s row g = plainly s row (act.Rmdir g) came.Done answers.DidRmdir [] s.kernel (refl, refl) refl (λ fs. refl) refl
+rmdir_by true false s row g = plainly s row (act.Rmdir g) came.Done answers.DidRmdir [] (without_directory g s.kernel) (refl, refl) refl (λ fs. refl) refl
+rmdir_by false mounted s row g = plainly s row (act.Rmdir g) came.Done answers.DidRmdir [] s.kernel (refl, refl) refl (λ fs. refl) refl
 
 rmdir : (s : State) (number : ℕ) (row : JobPlan) → Acting s number row → is_some row.trigger.name ≡ true → Does s row (act.Rmdir row.trigger) (acts.rmdir_by (rmdir_refusal s.kernel row.attach row.trigger) s row row.trigger)
 rmdir s number row w named =
@@ -116,13 +116,13 @@ rmdir s number row w named =
 
 -- ---- mounts
 
-mount_fails : (s : State) (row : JobPlan) (g : Trigger) (entry : EntryText) (error : FailNo) → Does s row (act.Mount g entry) (acts.mount_fails s row error)
-mount_fails s row g entry error = plainly s row (act.Mount g entry) (came.Failed error) answers.FailedMount [] s.kernel (inr (error, refl, refl)) refl (λ fs. refl) tt
+abbrev mount_fails : (s : State) (row : JobPlan) (g : Trigger) (entry : EntryText) (error : FailNo) → Does s row (act.Mount g entry) (acts.mount_fails s row error)
+mount_fails s row g entry error = plainly s row (act.Mount g entry) (came.Failed error) answers.FailedMount [] s.kernel (inr (error, refl, refl)) refl (λ fs. refl) refl
 
 mount_by : (refusal : Option Errno) (s : State) (row : JobPlan) (g : Trigger) (entry : EntryText) → Does s row (act.Mount g entry) (acts.mount_by refusal s row g)
 mount_by None s row g entry =
     let mount = s.kernel.table.last_mount + 1 in
-    plainly s row (act.Mount g entry) (came.Made mount) (answers.DidMount mount) _ (with_mount_on g s.kernel) (inl (mount, refl, refl)) refl (λ fs. refl) tt
+    plainly s row (act.Mount g entry) (came.Made mount) (answers.DidMount mount) _ (with_mount_on g s.kernel) (inl (mount, refl, refl)) refl (λ fs. refl) refl
 mount_by (Some e) s row g entry = mount_fails s row g entry ENOENT
 
 mount_tried : (failure : Option FailNo) (s : State) (row : JobPlan) (g : Trigger) (entry : EntryText) → Does s row (act.Mount g entry) (acts.mount_tried failure s row g)
@@ -134,11 +134,11 @@ mount s number row entry failure w =
     does_where_not_refused s row (act.Mount row.trigger entry) (is_current s.kernel row.trigger.fs row.attach) _ _ (its_current s number row w)
     (mount_tried failure s row row.trigger entry)
 
-umount_fails : (s : State) (row : JobPlan) (g : Trigger) (error : FailNo) → Does s row (act.Umount g) (acts.umount_fails s row error)
+abbrev umount_fails : (s : State) (row : JobPlan) (g : Trigger) (error : FailNo) → Does s row (act.Umount g) (acts.umount_fails s row error)
 umount_fails s row g error = plainly s row (act.Umount g) (came.Failed error) answers.FailedUmount [] s.kernel (inr (error, refl, refl)) refl (λ fs. refl) refl
 
 umount_by : (refusal : Option Errno) (s : State) (row : JobPlan) (g : Trigger) → Does s row (act.Umount g) (acts.umount_by refusal s row g)
-umount_by None s row g = plainly s row (act.Umount g) came.Done answers.DidUmount _ (without_mounts (gone_from s.kernel g) s.kernel) (inl (refl, refl)) refl (λ fs. refl) tt
+umount_by None s row g = plainly s row (act.Umount g) came.Done answers.DidUmount _ (without_mounts (gone_from s.kernel g) s.kernel) (inl (refl, refl)) refl (λ fs. refl) refl
 umount_by (Some e) s row g = umount_fails s row g ENOENT
 
 umount_tried : (failure : Option FailNo) (s : State) (row : JobPlan) (g : Trigger) → Does s row (act.Umount g) (acts.umount_tried failure s row g)
@@ -194,13 +194,51 @@ goes_left s number row outcome w =
     subst (λ (n : ℕ). job_of (finished_in n outcome s.daemon.jobs) number ≡ goes_on_as outcome row) (sym (job_number s number row w))
     (left_is number outcome row s.daemon.jobs w.world.consistent.agreed.tokens.numbers w.is_job)
 
-acted_as : (s : State) (number : ℕ) (row : JobPlan) (a : Act) (o : EventOutcome) → Acting s number row → next_of row.plan ≡ Some a → Does s row a o → IsActed number row s.daemon o
-acted_as s number row a o w e d =
-    subst (IsActed number row s.daemon) (sym d.is) (record {
+-- ---- the failure that is told
+
+-- the act is done or fails, and fails by what is told
+record DoesAs (s : State) (row : JobPlan) (a : Act) (failure : Option FailNo) (o : EventOutcome) : Type 0 where
+  does : Does s row a o
+  fails : FailsAs a failure does.came
+
+as_where_not_refused : (s : State) (row : JobPlan) (a : Act) (failure : Option FailNo) (b : Bool) (first second : EventOutcome) → b ≡ true → DoesAs s row a failure second → DoesAs s row a failure (if not b then first else second)
+as_where_not_refused s row a failure true first second e h = h
+as_where_not_refused s row a failure false first second e h = absurd cc
+
+mount_as : (failure : Option FailNo) (s : State) (number : ℕ) (row : JobPlan) (entry : EntryText) → Acting s number row → DoesAs s row (act.Mount row.trigger entry) failure (acts.mount_act s row row.trigger failure)
+mount_as None s number row entry w = record { does = mount s number row entry None w; fails = tt }
+mount_as (Some error) s number row entry w =
+    as_where_not_refused s row (act.Mount row.trigger entry) (Some error) (is_current s.kernel row.trigger.fs row.attach) _ _ (its_current s number row w)
+    (record { does = mount_fails s row row.trigger entry error; fails = refl })
+
+umount_as : (failure : Option FailNo) (s : State) (number : ℕ) (row : JobPlan) → Acting s number row → DoesAs s row (act.Umount row.trigger) failure (acts.umount_act s row row.trigger failure)
+umount_as None s number row w = record { does = umount s number row None w; fails = tt }
+umount_as (Some error) s number row w =
+    as_where_not_refused s row (act.Umount row.trigger) (Some error) (is_current s.kernel row.trigger.fs row.attach) _ _ (its_current s number row w)
+    (record { does = umount_fails s row row.trigger error; fails = refl })
+
+does_next_as : (a : Act) (s : State) (number : ℕ) (row : JobPlan) (failure : Option FailNo) → Acting s number row → IsOwn row.trigger a → DoesAs s row a failure (acts.acted (Some a) s row failure)
+does_next_as (act.Mkdir g) s number row failure w own = record { does = does_next (act.Mkdir g) s number row failure w own; fails = tt }
+does_next_as (act.Mount g entry) s number row failure w own = subst (λ (t : Trigger). DoesAs s row (act.Mount t entry) failure (acts.mount_act s row t failure)) (sym own) (mount_as failure s number row entry w)
+does_next_as (act.Umount g) s number row failure w own = subst (λ (t : Trigger). DoesAs s row (act.Umount t) failure (acts.umount_act s row t failure)) (sym own) (umount_as failure s number row w)
+does_next_as (act.Rmdir g) s number row failure w own = record { does = does_next (act.Rmdir g) s number row failure w own; fails = tt }
+does_next_as (act.Record g entry) s number row failure w own = record { does = does_next (act.Record g entry) s number row failure w own; fails = tt }
+does_next_as (act.Reply status) s number row failure w own = record { does = does_next (act.Reply status) s number row failure w own; fails = tt }
+
+does_as : (s : State) (number : ℕ) (row : JobPlan) (failure : Option FailNo) (a : Act) → Acting s number row → next_of row.plan ≡ Some a → DoesAs s row a failure (outcome_of s (events.Act number failure))
+does_as s number row failure a w e =
+    subst (DoesAs s row a failure) (sym (ap (λ (o : Option JobPlan). acts.acted_at o s failure) w.is_job ∙ ap (λ (o : Option Act). acts.acted o s row failure) e))
+    (does_next_as a s number row failure w (next_own row.trigger row.plan a (its_acts s number row w).own e))
+
+acted_as : (s : State) (number : ℕ) (row : JobPlan) (failure : Option FailNo) (a : Act) (o : EventOutcome) → Acting s number row → next_of row.plan ≡ Some a → DoesAs s row a failure o → IsActed number row failure s.daemon o
+acted_as s number row failure a o w e told =
+    let d = told.does in
+    subst (IsActed number row failure s.daemon) (sym d.is) (record {
       act = a;
       is_next = e;
       came = d.came;
       told = d.told;
+      fails = told.fails;
       left = goes_left s number row d.came w;
       others = λ other differs.
           subst (λ (n : ℕ). job_of (finished_in n d.came s.daemon.jobs) other ≡ job_of s.daemon.jobs other) (sym (job_number s number row w))
@@ -224,7 +262,7 @@ jobs_go_on : (s : State) → IsWorld s → JobsCanGoOn s
 jobs_go_on s world fs attach served number row is same own failure =
     let w = acting s world fs attach served number row is same own in
     let next = next_is row.plan (its_plan s number row w).last in
-    acted_as s number row next.0 (outcome_of s (events.Act number failure)) w next.1 (does s number row failure next.0 w next.1)
+    acted_as s number row failure next.0 (outcome_of s (events.Act number failure)) w next.1 (does_as s number row failure next.0 w next.1)
 
 pub never_refused : NextActsAreNeverRefused
 never_refused = after_runs JobsCanGoOn jobs_go_on

@@ -3,16 +3,17 @@ use Rattle.std.proofs.Common.{◌≡◌, ℕ, suc, zero, Bool, true, false, List
 use Rattle.std.specs.Prelude.{◌==◌, if◌then◌else◌}
 use Rattle.std.specs.List.{All}
 use Rattle.am_names.specs.declared.fail_no.FailNo.{FailNo}
-use Rattle.am_names.specs.{same_trigger, Status, OpenToken, RiseBy}
+use Rattle.am_names.specs.{same_trigger, Status, OpenToken, TokenKind, RiseBy}
 use Rattle.am_names.specs.declared.trigger.Trigger.{Trigger}
 use Rattle.am_names.specs.declared.trigger.Status.TheVariants.{Ready, Fail}
+use Rattle.am_names.specs.declared.row.TokenKind.TheVariants.{Missing, Expire}
 use Rattle.am_names.proofs.SameTriggers.{same_trigger_itself}
-use Rattle.am_names.proofs.Basics.{equal_to_itself, false_unless_true}
+use Rattle.am_names.proofs.Basics.{equal_to_itself, false_unless_true, some_injective}
 use Rattle.am_state.specs.{Record}
 use Rattle.am_state.specs.declared.daemon_row.Record.TheVariants.{Mounted}
 use Rattle.am_mount.specs.{top_of}
 use Rattle.am_propagate.specs.MountTable.{MountTable}
-use Rattle.am_trigger.specs.{TriggerRows, autofs_of, place_of, failure_of, without_failure}
+use Rattle.am_trigger.specs.{TriggerRows, autofs_of, place_of, FailureRows, failure_of}
 use Rattle.am_wait.specs.{WaitRows, token_of, answered}
 use Rattle.am_wait.proofs.FindLemmas.{token_taken}
 use Rattle.am_wait.proofs.KeptLemmas.{all_found}
@@ -25,10 +26,15 @@ use Rattle.am_daemon.specs.{JobPlan, next_in, writes, writing_of, book_after, wa
 use Rattle.am_machine.specs.declared.event.Event.TheVariants as events
 use Rattle.am_machine.specs.State.{State}
 use Rattle.am_machine.specs.EventOutcome.{EventOutcome}
-use Rattle.am_machine.specs.{after, outcome_of, has_record_left, IsServed}
+use Rattle.am_kernel.specs.Requests.{settled}
+use Rattle.am_machine.specs.{after, outcome_of, has_record_left, IsServed, SuitsItsToken, IsAwaited, IsMended}
 use Rattle.am_machine.proofs.Planned.Rests.{umount_left}
 use Rattle.am_machine.proofs.Books.Pending.{recorded_is}
 use Rattle.am_machine.proofs.Lists.Found.{some_unless}
+use Rattle.am_machine.proofs.Lists.Different as different
+use Rattle.am_machine.proofs.TriggerMounts.Unchanged.{attached_autofs}
+use Rattle.am_machine.proofs.Failures.Acts.{unmounting_is_no_missing}
+use Rattle.am_machine.proofs.Failures.Unchanged.{still_mended}
 use Rattle.am_progress.specs.{next, LeadsTo, IsAsFound, IsTrapAgain, EndsWell, ExpiriesEndWell, ExpiriesLeaveTrapOrMount}
 use Rattle.am_progress.proofs.Plans.{umount_whole}
 use Rattle.am_progress.proofs.Triggers.Walks.{IsSite}
@@ -36,7 +42,7 @@ use Rattle.am_progress.proofs.Jobs.{its_acts, its_token, on_its_token, its_site,
 use Rattle.am_progress.proofs.Acts.{Does, LeavesKernel}
 use Rattle.am_progress.proofs.Tokens.{Served, served_acts, its_act, act_done, act_world, act_served, act_waits, act_goes}
 use Rattle.am_progress.proofs.Worlds.{IsWorld, after_runs}
-use Rattle.am_progress.proofs.Traps.{notifies, made_good}
+use Rattle.am_progress.proofs.Traps.{notifies}
 
 -- ---- what an act leaves of the book and of the kernel
 
@@ -151,7 +157,12 @@ module _ (old s : State) (fs attach token : ℕ) (row : JobPlan) (h : Served s f
 
 -- ---- an unmount that has come
 
-module _ (s : State) (fs attach token : ℕ) (row : JobPlan) (w : WaitRows) (h : Served s fs attach token row w) (failure : Option FailNo) (plan : row.plan ≡ reply Ready) (written : record_of s.daemon.book row.trigger ≡ None) where
+-- READY leaves no failure where there was none
+ready_keeps : (kind : TokenKind) (trigger g : Trigger) (moment : ℕ) (rows : FailureRows) → failure_of rows g ≡ None → failure_of (settled kind trigger Ready moment rows) g ≡ None
+ready_keeps Missing trigger g moment rows none = still_mended trigger g rows none
+ready_keeps Expire trigger g moment rows none = none
+
+module _ (s : State) (fs attach token : ℕ) (row : JobPlan) (w : WaitRows) (h : Served s fs attach token row w) (failure : Option FailNo) (plan : row.plan ≡ reply Ready) (written : record_of s.daemon.book row.trigger ≡ None) (good : failure_of s.kernel.failures row.trigger ≡ None) where
   -- the job's token was the one on its trigger
   off_by_cases : (new : WaitRows) → new ≡ answered token Ready w → RiseBy (λ (r : OpenToken). r.token) 0 new.tokens → All (λ (r : OpenToken). same_trigger r.trigger row.trigger ≡ false) new.tokens
   off_by_cases new same rise =
@@ -183,8 +194,7 @@ module _ (s : State) (fs attach token : ℕ) (row : JobPlan) (w : WaitRows) (h :
       let well : failure_of new.kernel.failures row.trigger ≡ None =
       ap (λ (k : KernelState). failure_of k.failures row.trigger) same
       ∙ ap (λ (o : Option OpenToken). failure_of (settled_by o Ready s.kernel.latest s.kernel.failures) row.trigger) its.is_open
-      ∙ ap (λ (g : Trigger). failure_of (without_failure g s.kernel.failures) row.trigger) (sym (on_its_token s token row acting))
-      ∙ made_good row.trigger s.kernel.failures in
+      ∙ ready_keeps its.token.kind its.token.trigger row.trigger s.kernel.latest s.kernel.failures good in
       let site : IsSite new.kernel.triggers row.trigger =
       subst (λ (k : KernelState). IsSite k.triggers row.trigger) (sym same) (its_site s token row (served_acts s fs attach token row w h)) in
       record {
@@ -200,25 +210,27 @@ more_acts (suc acts) job goal s (inl here) = inl here
 more_acts (suc acts) job goal s (inr later) = inr (λ failure. ((later failure).0, more_acts acts job goal (next s (events.Act job failure)) (later failure).1))
 
 -- the record is written, and the reply ends it
-written_trap : (s : State) (fs attach token : ℕ) (row : JobPlan) (w : WaitRows) (h : Served s fs attach token row w) → row.plan ≡ book_and_reply row.trigger None Ready → LeadsTo 2 token (IsTrapAgain attach token row.trigger) s
-written_trap s fs attach token row w h plan =
+written_trap : (s : State) (fs attach token : ℕ) (row : JobPlan) (w : WaitRows) (h : Served s fs attach token row w) → row.plan ≡ book_and_reply row.trigger None Ready → failure_of s.kernel.failures row.trigger ≡ None → LeadsTo 2 token (IsTrapAgain attach token row.trigger) s
+written_trap s fs attach token row w h plan good =
     ends_as s fs attach token row w h None Ready plan (IsTrapAgain attach token row.trigger)
     (λ mid m failure.
     subst (λ (g : Trigger). IsTrapAgain attach token g (next mid (events.Act token failure))) m.on
-    (trap_again mid fs attach token m.left w m.served failure m.plan (ap (record_of mid.daemon.book) m.on ∙ m.written)))
+    (trap_again mid fs attach token m.left w m.served failure m.plan (ap (record_of mid.daemon.book) m.on ∙ m.written)
+    (ap (λ (k : KernelState). failure_of k.failures m.left.trigger) m.kernel ∙ ap (failure_of s.kernel.failures) m.on ∙ good)))
 
-umounted_by_cases : (name : Option (List ℕ)) (s : State) (fs attach token : ℕ) (row : JobPlan) (w : WaitRows) (h : Served s fs attach token row w) → row.trigger.name ≡ name → row.plan ≡ after_umount row.trigger → LeadsTo 3 token (IsTrapAgain attach token row.trigger) s
-umounted_by_cases None s fs attach token row w h named plan =
+umounted_by_cases : (name : Option (List ℕ)) (s : State) (fs attach token : ℕ) (row : JobPlan) (w : WaitRows) (h : Served s fs attach token row w) → row.trigger.name ≡ name → row.plan ≡ after_umount row.trigger → failure_of s.kernel.failures row.trigger ≡ None → LeadsTo 3 token (IsTrapAgain attach token row.trigger) s
+umounted_by_cases None s fs attach token row w h named plan good =
     more_acts 2 token (IsTrapAgain attach token row.trigger) s
-    (written_trap s fs attach token row w h (plan ∙ ap (λ (n : Option (List ℕ)). at_directory n (act.Rmdir row.trigger) (book_and_reply row.trigger None Ready)) named))
-umounted_by_cases (Some name) s fs attach token row w h named plan =
+    (written_trap s fs attach token row w h (plan ∙ ap (λ (n : Option (List ℕ)). at_directory n (act.Rmdir row.trigger) (book_and_reply row.trigger None Ready)) named) good)
+umounted_by_cases (Some name) s fs attach token row w h named plan good =
     inr (λ failure.
     let here = plan ∙ ap (λ (n : Option (List ℕ)). at_directory n (act.Rmdir row.trigger) (book_and_reply row.trigger None Ready)) named in
     let e : next_of row.plan ≡ Some (act.Rmdir row.trigger) = ap next_of here in
     let d = its_act s fs attach token row w h failure (act.Rmdir row.trigger) e in (
       act_done s fs attach token row w h failure (act.Rmdir row.trigger) e,
       written_trap (next s (events.Act token failure)) fs attach token (walked d.came row) w (act_goes s fs attach token row w h failure (act.Rmdir row.trigger) e refl refl)
-          (ap (λ (o : outcomes.Outcome). rest_of o row.plan) d.told.0 ∙ ap (rest_of came.Done) here),
+          (ap (λ (o : outcomes.Outcome). rest_of o row.plan) d.told.0 ∙ ap (rest_of came.Done) here)
+          (ap (λ (k : KernelState). failure_of k.failures row.trigger) (act_kernel s fs attach token row w h failure (act.Rmdir row.trigger) e) ∙ ap (λ (rows : FailureRows). failure_of rows row.trigger) d.leaves ∙ good),
     ))
 
 -- ---- a job that unmounts
@@ -245,13 +257,43 @@ module _ (s : State) (fs attach token mount : ℕ) (row : JobPlan) (h : Served s
   leaves_kernel (came.Made m) error made e leaves = absurd cc
   leaves_kernel (came.Failed other) error made e leaves = leaves
 
+  umount_failures : (outcome : outcomes.Outcome) (made : KernelState) → outcome ≡ came.Done → LeavesKernel (act.Umount row.trigger) outcome row.token s.kernel made → made.failures ≡ s.kernel.failures
+  umount_failures came.Done made e leaves = leaves
+  umount_failures (came.Made m) made e leaves = absurd cc
+  umount_failures (came.Failed other) made e leaves = absurd cc
+
+  -- no mount is asked for on the trigger of a job that unmounts
+  not_awaited : IsAwaited s.kernel.waits.tokens row.trigger → ⊥
+  not_awaited awaited =
+      let acting = served_acts s fs attach token row s.kernel.waits h in
+      let its = its_token s token row acting in
+      let suits = different.all_found (SuitsItsToken s.kernel.waits) (λ (r : JobPlan). r.token == token) s.daemon.jobs row h.world.failures.suited h.is_job in
+      let on : awaited.row.trigger ≡ its.token.trigger = awaited.asks ∙ on_its_token s token row acting in
+      let one : awaited.token ≡ row.token =
+      h.world.consistent.agreed.tokens.once awaited.token row.token awaited.row its.token awaited.is_open its.is_open
+      (subst (λ (g : Trigger). same_trigger awaited.row.trigger g ≡ true) on (same_trigger_itself awaited.row.trigger)) in
+      let same : awaited.row ≡ its.token = some_injective (sym awaited.is_open ∙ ap (token_of s.kernel.waits.tokens) one ∙ its.is_open) in
+      unmounting_is_no_missing row.plan row.trigger its.token.kind umount_next (suits.acts its.token its.is_open) (ap (λ (r : OpenToken). r.kind) (sym same) ∙ awaited.kind)
+
+  -- so no failure is kept of it
+  is_good : IsMended s.kernel row.trigger → failure_of s.kernel.failures row.trigger ≡ None
+  is_good (inl none) = none
+  is_good (inr awaited) = absurd (not_awaited awaited)
+
+  good_before : failure_of s.kernel.failures row.trigger ≡ None
+  good_before =
+      let a = attached_autofs s.kernel row.trigger.fs attach (ap (attach_of s.kernel) h.fs_is ∙ h.served.current) in
+      is_good (h.world.failures.mended row.trigger a.0 mount a.1 stands_there)
+
   ends_well : EndsWell s attach token row.trigger mount (outcome_of s (events.Act token failure))
   ends_well =
       ⊎_elim
       (λ umounted. inr (
         answer_is ∙ umounted.1,
         umounted_by_cases row.trigger.name (next s (events.Act token failure)) fs attach token (walked its_umount.came row) s.kernel.waits then_left refl
-            (ap (λ (o : outcomes.Outcome). rest_of o row.plan) umounted.0 ∙ ap (rest_of came.Done) plan),
+            (ap (λ (o : outcomes.Outcome). rest_of o row.plan) umounted.0 ∙ ap (rest_of came.Done) plan)
+            (ap (λ (k : KernelState). failure_of k.failures row.trigger) (act_kernel s fs attach token row s.kernel.waits h failure (act.Umount row.trigger) umount_next)
+            ∙ ap (λ (rows : FailureRows). failure_of rows row.trigger) (umount_failures its_umount.came its_umount.made umounted.0 its_umount.leaves) ∙ good_before),
       ))
       (λ failed. inl (
         answer_is ∙ failed.2,

@@ -1,13 +1,7 @@
 -- What is found by a token, its packet and its job, and by a file system, its attachment.
 use Rattle.std.proofs.Common.{◌≡◌, ℕ, Bool, true, false, Option, Some, None, refl}
-use Rattle.std.specs.Prelude.{◌==◌, if◌then◌else◌}
-use Rattle.am_names.proofs.Basics.{equal_by_test, found_passes, some_injective}
-use Rattle.am_state.specs.{QueuedRow}
-use Rattle.am_kernel.specs.{KernelState, is_live, latest_attach, attach_of, queued_of}
-use Rattle.am_daemon.specs.{DaemonState, JobPlan, job_of}
-use Rattle.am_machine.specs.{HasToken, TokensAgree}
-use Rattle.am_machine.proofs.Lists.Different.{all_found}
-use Rattle.am_machine.proofs.Agreement.Tokens.{token_at_work, queued_number}
+use Rattle.std.specs.Prelude.{if◌then◌else◌}
+use Rattle.am_kernel.specs.{KernelState, is_live, latest_attach, attach_of}
 
 live_by_cases : (live : Bool) (o : Option ℕ) (attach : ℕ) → (if live then o else None) ≡ Some attach → live ≡ true
 live_by_cases true o attach e = refl

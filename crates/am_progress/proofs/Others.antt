@@ -1,12 +1,12 @@
 -- What others do leaves each job what it has left, and the daemon what it serves.
-use Rattle.std.proofs.Common.{◌≡◌, ◌⊎◌, ℕ, ◌+◌, ◌≤◌, Bool, true, false, List, [], ◌∷◌, Option, Some, None, refl, sym, ap, subst, inl, inr, ⊎_elim, ◌∙◌, arith}
+use Rattle.std.proofs.Common.{◌≡◌, ◌⊎◌, ℕ, ◌+◌, ◌≤◌, Bool, true, false, List, [], ◌∷◌, Option, Some, refl, sym, ap, subst, inl, inr, ⊎_elim, ◌∙◌, arith}
 use Rattle.std.proofs.lemmas.Bool.Decides.{nat_tests}
 use Rattle.std.specs.Prelude.{◌==◌, ◌||◌, find}
 use Rattle.std.specs.List.{list_any}
 use Rattle.am_names.specs.{TokenKind, WaitRow}
 use Rattle.am_names.specs.declared.row.TokenKind.TheVariants.{Missing, Expire}
 use Rattle.am_names.proofs.Basics.{or_left, equal_by_test, differ_the_other_way}
-use Rattle.am_state.specs.{QueuedRow, Obs}
+use Rattle.am_state.specs.{Obs}
 use Rattle.am_wait.proofs.FindLemmas.{or_first, find_append}
 use Rattle.am_kernel.specs.{KernelState, with_latest, is_live, attach_of, attached_at, with_pipe, with_timeout, wait_collected_from, made_catatonic, catatonic_observations}
 use Rattle.am_job.specs.{Outcome}

@@ -38,7 +38,7 @@ holds_held d fs attach e = held_any fs attach d.held e
 
 packet_is_taken : (s : State) (token : ℕ) (row : QueuedRow) (bytes : Option (List ℕ)) → IsWorld s → queued_of s.kernel.queue token ≡ Some row → has_bytes bytes row ≡ true → holds s.daemon row.packet.dev row.attach ≡ true → deliver_outcome s token bytes ≡ takes s row
 packet_is_taken s token row bytes w is own held =
-    let may = (refuses_in_step s (in_step s w.consistent w.named)).deliver token row bytes is ∙ and_of_both (has_bytes bytes row) (holds s.daemon row.packet.dev row.attach) own held in
+    let may = (refuses_in_step s (in_step s w.consistent w.named w.failures)).deliver token row bytes is ∙ and_of_both (has_bytes bytes row) (holds s.daemon row.packet.dev row.attach) own held in
     ap (λ (o : Option QueuedRow). delivered_at o s bytes) is ∙ ap (λ (b : Bool). if b then takes s row else refused s Stranger) may
 
 pub taken : (s : State) → IsWorld s → PacketsCanBeTaken s

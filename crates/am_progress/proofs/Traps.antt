@@ -1,15 +1,15 @@
 -- A trigger on which nothing is open and nothing mounted is one at which a walk notifies.
 use Rattle.std.proofs.Common.{◌≡◌, ℕ, Bool, true, false, cond, List, [], ◌∷◌, Option, Some, None, refl, sym, ap, ◌∙◌}
-use Rattle.std.specs.Prelude.{◌==◌, ◌&&◌, is_some, is_none, find, if◌then◌else◌}
+use Rattle.std.specs.Prelude.{◌==◌, is_some, is_none, find, if◌then◌else◌}
 use Rattle.std.specs.Option.{option_map, option_and_then}
 use Rattle.std.specs.List.{All}
 use Rattle.std.proofs.lemmas.List.Elements.{All-head, All-tail, All-weaker}
 use Rattle.am_names.specs.{same_trigger, MountRow, OpenToken, TokenKind}
 use Rattle.am_names.specs.declared.trigger.Trigger.{Trigger}
 use Rattle.am_names.specs.declared.row.TokenKind.TheVariants.{Missing, Expire}
-use Rattle.am_names.proofs.Basics.{equal_by_test, found_passes, false_unless_true, and_where_left_is_false}
+use Rattle.am_names.proofs.Basics.{equal_by_test, found_passes, and_where_left_is_false}
 use Rattle.am_mount.specs.{top_of}
-use Rattle.am_trigger.specs.{Failure, FailureRows, failure_of, without_failure, error_while, Autofs, autofs_of, trigger_in, place_named, place_of}
+use Rattle.am_trigger.specs.{Failure, failure_of, error_while, Autofs, autofs_of, trigger_in, place_named, place_of}
 use Rattle.am_wait.specs.{open_on, is_open_on, same_kind}
 use Rattle.am_walk.specs.declared.stop.Next.TheVariants as nexts
 use Rattle.am_walk.specs.declared.stop.Stop.TheVariants as stops
@@ -19,7 +19,6 @@ use Rattle.am_kernel.specs.{is_live_row, attach_of, scene_of, is_trigger_of, loc
 use Rattle.am_machine.specs.State.{State}
 use Rattle.am_machine.proofs.TriggerMounts.Unchanged.{attached_autofs}
 use Rattle.am_machine.proofs.TriggerMounts.Mounts.{trigger_same}
-use Rattle.am_machine.proofs.Lists.Found.{some_unless}
 use Rattle.am_progress.proofs.Found.{live_of}
 use Rattle.am_progress.proofs.Triggers.Walks.{IsSite}
 use Rattle.am_progress.proofs.Worlds.{IsWorld}
@@ -73,12 +72,3 @@ notifies s world attach g current site off free well moment =
     ∙ trap_is k.waits.tokens scene a g (none_is_open_on Expire g k.waits.tokens off) (none_is_open_on Missing g k.waits.tokens off)
     (sym (ap (λ (n : ℕ). top_of k.table.rows n (place_of g)) here) ∙ free) (not_catatonic a a.catatonic refl live)
     (ap (λ (o : Option Failure). option_and_then (error_while moment k.negative) o) well)
-
--- a trigger at which all was made good
-pub made_good : (g : Trigger) (rows : FailureRows) → failure_of (without_failure g rows) g ≡ None
-made_good g [] = refl
-made_good g (row ∷ rows) = by (same_trigger row.0 g) refl (made_good g rows)
-  where
-    by : (b : Bool) → same_trigger row.0 g ≡ b → failure_of (without_failure g rows) g ≡ None → failure_of (without_failure g (row ∷ rows)) g ≡ None
-    by true e later = rw e later
-    by false e later = rw (e, e) later

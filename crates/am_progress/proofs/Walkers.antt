@@ -99,7 +99,7 @@ resumes_on s world walker row status is its now pipe =
     subst (λ (n : ℕ). mount_of_walker k.uses n ≡ None) (wait_number k.waits.waits walker row is)
     (all_found (λ (r : WaitRow). mount_of_walker k.uses r.walker ≡ None) (λ (r : WaitRow). r.walker == walker) k.waits.waits row world.holds.kernel.outside is) in
     goes_done (resumes.resume_at pipe k walker (moment_of s.kernel now)) s (moment_of s.kernel now)
-    (resumes_by_cases pipe k walker (moment_of s.kernel now) row status out is its ((in_step s world.consistent world.named).walks walker row is))
+    (resumes_by_cases pipe k walker (moment_of s.kernel now) row status out is its ((in_step s world.consistent world.named world.failures).walks walker row is))
 
 -- ---- a walker that waits
 

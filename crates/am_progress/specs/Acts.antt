@@ -1,7 +1,7 @@
 -- The next act of a job is done, or it fails; and a job has five acts at most. Since the first is
 -- said of every world, it doesn't matter what others have done since the job's last act (own
 -- choice).
-use Rattle.std.specs.Prelude.{◌≡◌, ◌⊎◌, ⊤, ℕ, zero, suc, ◌==◌, Bool, false, All, Option, Some, None, if◌then◌else◌}
+use Rattle.std.specs.Prelude.{◌≡◌, ◌⊎◌, ⊤, ℕ, zero, suc, ◌==◌, false, All, Option, Some, None, if◌then◌else◌}
 use Rattle.am_names.specs.declared.fail_no.FailNo.{FailNo}
 use Rattle.am_wire.specs.{Packet}
 use Rattle.am_job.specs.{Act, Plan, Ended, Next, next_of}
@@ -32,17 +32,25 @@ TellsOf (act.Rmdir trigger) came answer = (came ≡ Done) × (answer ≡ answers
 TellsOf (act.Record trigger entry) came answer = (came ≡ Done) × (answer ≡ answers.DidRecord)
 TellsOf (act.Reply status) came answer = (came ≡ Done) × (answer ≡ answers.DidReply)
 
+-- a mount and an unmount of which the event tells a failure fail so
+abbrev pub FailsAs : Act → Option FailNo → outcomes.Outcome → Type 0
+FailsAs (act.Mount trigger entry) (Some error) came = came ≡ Failed error
+FailsAs (act.Umount trigger) (Some error) came = came ≡ Failed error
+FailsAs a failure came = ⊤
+
 -- the job with what it has left when this has come of its next act; none where that is nothing
 abbrev pub goes_on_as : outcomes.Outcome → JobPlan → Option JobPlan
 goes_on_as came row = if is_ended (walked came row) then None else Some (walked came row)
 
--- The job's next act is done or has failed, as the answer tells; the job goes on with what is left
--- then, or it ends; and each other job is as before.
-pub record IsActed (job : ℕ) (row : JobPlan) (old : DaemonState) (o : EventOutcome) : Type 0 where
+-- The job's next act is done or has failed, as the answer tells, and by the failure that is told, if any
+-- is; the job goes on with what is left then, or it ends; and each other job is as before.
+pub record IsActed (job : ℕ) (row : JobPlan) (failure : Option FailNo) (old : DaemonState)
+    (o : EventOutcome) : Type 0 where
   pub act : Act
   pub is_next : next_of row.plan ≡ Some act
   pub came : outcomes.Outcome
   pub told : TellsOf act came o.answer
+  pub fails : FailsAs act failure came
   pub left : job_of o.state.daemon.jobs job ≡ goes_on_as came row
   pub others : (other : ℕ) → (other == job) ≡ false →
       job_of o.state.daemon.jobs other ≡ job_of old.jobs other
@@ -53,7 +61,8 @@ JobsCanGoOn s =
     (fs attach : ℕ) → IsServed s.kernel s.daemon fs attach →
     (job : ℕ) (row : JobPlan) → job_of s.daemon.jobs job ≡ Some row →
     row.trigger.fs ≡ fs → row.attach ≡ attach →
-    (failure : Option FailNo) → IsActed job row s.daemon (outcome_of s (events.Act job failure))
+    (failure : Option FailNo) →
+    IsActed job row failure s.daemon (outcome_of s (events.Act job failure))
 
 -- after every run from an initial world no next act is refused
 abbrev pub NextActsAreNeverRefused : Type 0

@@ -7,7 +7,7 @@ pub mod Walkers
 pub mod Expiries
 pub mod Others
 -- what contracts cite, passed on from one place
-pub use Acts.{HasActs, HasFewActs, IsActed, JobsCanGoOn, JobsHaveFiveActs, NextActsAreNeverRefused, TellsOf, goes_on_as, most_acts}
+pub use Acts.{FailsAs, HasActs, HasFewActs, IsActed, JobsCanGoOn, JobsHaveFiveActs, NextActsAreNeverRefused, TellsOf, goes_on_as, most_acts}
 pub use Expiries.{EndsWell, ExpiriesEndWell, ExpiriesLeaveTrapOrMount, IsAsFound, IsTrapAgain}
 pub use Others.{ClosesAmong, IsClosed, JobsStay, OpenTokensCloseAmongOthers, OthersAct, ServesOn, ServiceLasts, TokensCloseAmong, ends, event_about, is_act_of}
 pub use Packets.{PacketsCanBeTaken, QueuedPacketsCanBeDelivered}

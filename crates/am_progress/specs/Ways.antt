@@ -1,5 +1,5 @@
 -- Where the daemon can lead by itself, whichever words stand in its events (own choice).
-use Rattle.std.specs.Prelude.{◌⊎◌, ℕ, zero, suc, Bool, None, Option}
+use Rattle.std.specs.Prelude.{◌⊎◌, ℕ, zero, suc, None, Option}
 use Rattle.am_names.specs.declared.fail_no.FailNo.{FailNo}
 use Rattle.am_machine.specs.declared.event.Event.TheVariants as events
 use Rattle.am_machine.specs.State.{State}

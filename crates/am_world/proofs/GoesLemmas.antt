@@ -8,12 +8,11 @@ use Rattle.am_names.specs.{RefusedAs, RefusedOnlyAs}
 use Rattle.am_state.specs.{Obs}
 use Rattle.am_kernel.specs.{KernelState, Progress}
 use Rattle.am_kernel.specs.CallOutcome as kernel
-use Rattle.am_machine.specs.{Answer, refused, unless, Event, after, outcome_of, Step, IsConsistent, HasPaths, WalksFit, answer_of, goes}
+use Rattle.am_machine.specs.{Answer, refused, unless, Event, after, outcome_of, Step, IsReached, HasPaths, answer_of, goes}
 use Rattle.am_machine.specs.State.{State}
 use Rattle.am_machine.specs.EventOutcome.{EventOutcome}
 use Rattle.am_machine.specs.declared.answer.Answer.TheVariants as answers
-use Rattle.am_machine.proofs.Consistent.{outcome_consistent}
-use Rattle.am_machine.proofs.Walks.Runs.{outcome_named}
+use Rattle.am_machine.proofs.Reached.{reached_more}
 use Rattle.am_world.specs.{Yields, told}
 
 -- a refusal leaves the world as it was
@@ -64,10 +63,5 @@ goes_step s event (Err e) new h =
       | inr is ↦ ([], inr (record { told = sym (ap (λ (o : EventOutcome). o.answer) is); shown = sym (ap (λ (o : EventOutcome). o.seen) is); left = h.0 ∙ sym (ap (after s) is ∙ refused_same s e) }))
     ]
 
-pub goes_consistent : (s : State) (event : Event) (came : Result Answer Errno) (new : State) → IsConsistent s → Yields (outcome_of s event) s came new → IsConsistent new
-goes_consistent s event (Ok answer) new k h = subst IsConsistent (sym h.1) (outcome_consistent s event k)
-goes_consistent s event (Err e) new k h = subst IsConsistent (sym h.0) k
-
-pub goes_named : (s : State) (event : Event) (came : Result Answer Errno) (new : State) → HasPaths event → WalksFit s.kernel → Yields (outcome_of s event) s came new → WalksFit new.kernel
-goes_named s event (Ok answer) new along k h = subst (λ (x : State). WalksFit x.kernel) (sym h.1) (outcome_named s event along k)
-goes_named s event (Err e) new along k h = subst (λ (x : State). WalksFit x.kernel) (sym h.0) k
+pub goes_reached : (s : State) (event : Event) (came : Result Answer Errno) (new : State) → HasPaths event → IsReached s → Yields (outcome_of s event) s came new → IsReached new
+goes_reached s event came new along h y = reached_more s event (told came) new h along (goes_step s event came new y)

@@ -3,8 +3,9 @@
 
 pub use am_laws::trace_holds;
 pub use am_machine::laws::{
-    runs_agree, runs_are_in_step, runs_are_lawful, runs_are_never_busy, runs_go_on,
-    runs_refuse_in_step, steps_add_no_receivers, steps_are_lawful,
+    moments_rise, refusals_change_nothing, runs_agree, runs_are_in_step, runs_are_lawful,
+    runs_are_never_busy, runs_fit_their_traces, runs_go_on, runs_refuse_in_step,
+    steps_add_no_receivers, steps_are_lawful, steps_tell_uses, steps_unmount_nothing_in_use,
 };
 pub use am_progress::laws::{
     expiries_leave_trap_or_mount, jobs_have_five_acts, jobs_keep_what_they_have_left,

@@ -8,7 +8,7 @@ ghost use Rattle.am_laws.specs.{Lawful};
 ghost use Rattle.am_wait.specs.{wait_of, still_waits};
 ghost use Rattle.am_kernel.specs.{queued_of};
 ghost use Rattle.am_daemon.specs.{next_act_of, rows_of};
-ghost use Rattle.am_machine.specs.{Agree, AreInStep, HasPaths, initial_state_of, entry, entries, Step, Run, GoesOnBy, packet_bytes};
+ghost use Rattle.am_machine.specs.{Agree, AreInStep, IsReached, IsTold, HasPaths, initial_state_of, entry, entries, Step, Run, GoesOnBy, packet_bytes};
 ghost use Rattle.am_world.specs.Capacity.{state_of};
 ghost use Rattle.am_world.specs.Machine.{told};
 
@@ -121,10 +121,13 @@ impl World {
         })
     }
 
-    /// What was observed so far. It is lawful, and kernel and daemon agree.
+    /// What was observed so far. It is lawful, the world is what it tells of it, and kernel and daemon
+    /// agree. The world came by a run from its opening, so that each law of runs is one of it.
     pub fn trace(&self) -> &[Obs]
         ensures trace { result.now ≡ self.now.trace }
         ensures lawful { Lawful result.now }
+        ensures tells { IsTold (state_of self.now) }
+        ensures reached { IsReached (state_of self.now) }
         ensures agree { Agree (state_of self.now) }
         ensures in_step { AreInStep (state_of self.now) }
     {
@@ -197,6 +200,7 @@ pub fn run(alloc: Global, mut world: World, events: &[Event]) -> Result<Ran, Wor
     ensures legal { IfOk result (λ ran. GoesOnBy (entries events.now ran.answers.items)
         (state_of world) (state_of ran.world)) }
     ensures lawful { IfOk result (λ ran. Lawful ran.world.trace) }
+    ensures reached { IfOk result (λ ran. IsReached (state_of ran.world)) }
     ensures agree { IfOk result (λ ran. Agree (state_of ran.world)) }
     ensures in_step { IfOk result (λ ran. AreInStep (state_of ran.world)) }
     ensures err { IfErr result (λ same. same ≡ world) }

@@ -1,7 +1,6 @@
 -- What the book says of a trigger with no job at work is so: what is mounted there, with its copies,
 -- or that nothing is.
-use Rattle.std.proofs.Common.{◌≡◌, ◌<◌, ℕ, List, Option, Some, None, refl, ap, subst, ◌∙◌}
-use Rattle.std.specs.Prelude.{if◌then◌else◌}
+use Rattle.std.proofs.Common.{◌≡◌, ◌<◌, ℕ, List, Some, None, ap, subst, ◌∙◌}
 use Rattle.am_names.specs.declared.trigger.Trigger.{Trigger}
 use Rattle.am_group.specs.{Receives}
 use Rattle.am_mount.specs.{top_of, HasRow, IsAt}
@@ -10,7 +9,7 @@ use Rattle.am_propagate.specs.MountTable.{MountTable}
 use Rattle.am_propagate.specs.{IsWhole}
 use Rattle.am_trigger.specs.{Autofs, autofs_of, place_of}
 use Rattle.am_state.specs.declared.daemon_row.Record.TheVariants.{Mounted}
-use Rattle.am_kernel.specs.{KernelState, is_live_row, latest_attach, attach_of, location_in, location_of, mounted_on}
+use Rattle.am_kernel.specs.{KernelState, location_in, location_of, mounted_on}
 use Rattle.am_job.specs.{record_of}
 use Rattle.am_daemon.specs.{DaemonState, is_pending, mounted_in}
 use Rattle.am_machine.specs.{IsServed, HasCopy, PlacesAgree, AreWritten, IsMounted}

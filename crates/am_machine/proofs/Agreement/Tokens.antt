@@ -62,7 +62,7 @@ pub queued_number : (k : KernelState) (token : ℕ) (row : QueuedRow) → queued
 queued_number k token row is = equal_by_test row.token token (found_passes (λ (r : QueuedRow). r.token == token) k.queue row is)
 
 -- no job has the token
-untaken : (k : KernelState) (d : DaemonState) → TokensAgree k d.jobs → (token : ℕ) (row : QueuedRow) → queued_of k.queue token ≡ Some row → job_of d.jobs token ≡ None
+pub untaken : (k : KernelState) (d : DaemonState) → TokensAgree k d.jobs → (token : ℕ) (row : QueuedRow) → queued_of k.queue token ≡ Some row → job_of d.jobs token ≡ None
 untaken k d h token row is = ap (job_of d.jobs) (sym (queued_number k token row is)) ∙ (in_pipe k d h token row is).untaken
 
 -- so the packet of a job's token is in no pipe

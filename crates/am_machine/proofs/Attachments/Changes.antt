@@ -1,7 +1,7 @@
 -- Each change keeps numbers below those that were given, and the daemon knowing its autofs. A packet that
 -- is taken up needs what tokens say of it, and a job that goes on what is planned and that jobs have
 -- different tokens.
-use Rattle.std.proofs.Common.{◌≡◌, ℕ, ◌+◌, ◌≤◌, ◌==◌, List, [], ◌∷◌, Some, refl, ap, arith}
+use Rattle.std.proofs.Common.{◌≡◌, ℕ, ◌≤◌, ◌==◌, List, refl, ap, arith}
 use Rattle.std.specs.Prelude.{is_some}
 use Rattle.std.proofs.lemmas.List.Elements.{All-nil}
 use Rattle.am_names.specs.{TokenKind, WaitRow}

@@ -1,9 +1,8 @@
 -- The daemon holds an attachment to a file system: its attachments by their file systems.
-use Rattle.std.proofs.Common.{◌≡◌, ℕ, ◌≤◌, ◌==◌, false, List, map, filter, Some, ap, ◌∙◌, arith}
+use Rattle.std.proofs.Common.{◌≡◌, ℕ, ◌≤◌, ◌==◌, false, List, map, filter, Some, ap, ◌∙◌}
 use Rattle.std.specs.Prelude.{not, find}
 use Rattle.std.specs.List.{All}
 use Rattle.std.specs.Option.{option_map}
-use Rattle.std.proofs.lemmas.Bool.Decides.{nat_tests}
 use Rattle.std.proofs.lemmas.List.Elements.{All-push, All-filter}
 use Rattle.am_names.proofs.Basics.{equal_to_itself, differ_the_other_way}
 use Rattle.am_state.specs.{HeldRow}

@@ -18,7 +18,7 @@ use Rattle.am_kernel.specs.{KernelState, Attached, WalkRow, is_live, is_live_row
 use Rattle.am_daemon.specs.declared.fault.DaemonFault.TheVariants.{UnknownFs, OldAttach, Busy}
 use Rattle.am_daemon.specs.{DaemonState, knows, holds, reattach_refusal, job_of, is_busy, delivery_fault, trigger_of, is_pending}
 use Rattle.am_machine.specs.State.{State}
-use Rattle.am_machine.specs.{has_bytes, was_attached, HasWalk, WalksFit, IsInPipe, TokensAgree, IsServed, is_pending_for, BookAgrees, AreOfTheirTokens, IsConsistent, AreInStep, RefusesInStep}
+use Rattle.am_machine.specs.{has_bytes, was_attached, HasWalk, WalksFit, IsInPipe, TokensAgree, IsServed, is_pending_for, BookAgrees, AreOfTheirTokens, FailuresAgree, IsConsistent, AreInStep, RefusesInStep}
 use Rattle.am_machine.proofs.Lists.Different.{all_found, true_is_not_false}
 use Rattle.am_machine.proofs.Attachments.Known.{any_found, autofs_is, held_is}
 use Rattle.am_machine.proofs.Tests.{test_passed}
@@ -99,8 +99,8 @@ walk_is k h walker row is missing =
     any_found (λ (r : WalkRow). r.walker == row.walker) k.walks (all_found (HasWalk k.walks) (λ (r : WaitRow). r.walker == walker) k.waits.waits row h.began is missing)
 
 -- a consistent state that walkers left so is in step
-pub in_step : (s : State) → IsConsistent s → WalksFit s.kernel → AreInStep s
-in_step s h named =
+pub in_step : (s : State) → IsConsistent s → WalksFit s.kernel → FailuresAgree s.kernel s.daemon → AreInStep s
+in_step s h named failures =
     let halves = h.agreed in
     let k = s.kernel in
     let d = s.daemon in
@@ -112,6 +112,9 @@ in_step s h named =
       held = held_is d.known d.held familiar.held_known;
       attached = λ fs is. latest_is k.attached fs (autofs_is k.triggers.autofs k.attached d.known d.held familiar fs is).1;
       walks = walk_is k named;
+      once = halves.tokens.once;
+      one = halves.places.one;
+      mended = failures.mended;
     }
 
 -- ---- tests that never fail

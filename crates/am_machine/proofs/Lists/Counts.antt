@@ -1,9 +1,7 @@
 -- Rows that are looked up by their number, and counts.
-use Rattle.std.proofs.Common.{◌≡◌, ◌+◌, Bool, true, false, cond, List, [], ◌∷◌, ◌++◌, Option, Some, None, refl, subst, arith}
-use Rattle.std.specs.Prelude.{find, is_some}
+use Rattle.std.proofs.Common.{◌≡◌, ◌+◌, Bool, cond, List, [], ◌∷◌, ◌++◌, arith}
 use Rattle.std.specs.List.{count_by}
 use Rattle.std.proofs.lemmas.List.Sums.{sum_by-append}
-use Rattle.am_names.proofs.Basics.{value_where_some, found_passes}
 
 pub count_cons : {X : Type 0} (test : X → Bool) (x : X) (rows : List X) → count_by test (x ∷ rows) ≡ cond (test x) 1 0 + count_by test rows
 count_cons test x rows = let e = sum_by-append (λ y. cond (test y) 1 0) (x ∷ []) rows in omega (arith, e)

@@ -72,7 +72,7 @@ module _ (t : MountTable) (whole : IsWhole t) (ns : ℕ) (form : CopyForm) where
       inr (omega arith, from))
       (joined_row t.rows (map (row_in number (t.last_ns + 1)) (filter (is_in ns) t.rows)) m row e)
 
-  copy_grows : Grows t (with_copy form ns t)
+  pub copy_grows : Grows t (with_copy form ns t)
   copy_grows = record {
     stays = first_stays t.rows (map (row_in number (t.last_ns + 1)) (filter (is_in ns) t.rows));
     came = λ m row e. ⊎_elim (λ old. inl old) (λ new. inr new.0) (copies m row e);

@@ -1,12 +1,12 @@
 -- Mounts that go keep the agreement on places.
-use Rattle.std.proofs.Common.{◌≡◌, ◌⊎◌, ℕ, Bool, true, false, cond, eqb, ◌||◌, List, Option, Some, None, refl, sym, ◌∙◌, subst, inl, inr, ⊎_elim}
+use Rattle.std.proofs.Common.{◌≡◌, ◌⊎◌, ℕ, Bool, true, false, cond, eqb, List, Option, Some, None, refl, sym, ◌∙◌, subst, inl, inr, ⊎_elim}
 use Rattle.std.specs.Prelude.{not, ◌==◌}
 use Rattle.std.specs.List.{list_any}
 use Rattle.std.proofs.lemmas.Bool.{eqb-true, eq-eqb, or_cases, and_parts}
 use Rattle.std.proofs.lemmas.Map.Views.{Contains-from_any, list_any-from_Contains}
 use Rattle.std.proofs.lemmas.Cmp.{nat_eq_equiv}
 use Rattle.am_names.specs.{MountRow, Position, is_among}
-use Rattle.am_names.proofs.Basics.{some_injective, false_unless_true, or_left}
+use Rattle.am_names.proofs.Basics.{some_injective, or_left}
 use Rattle.am_group.specs.{is_just, Receives, receivers_of}
 use Rattle.am_group.proofs.LookupLemmas.{find_filter, found_passes}
 use Rattle.am_group.proofs.ScanLemmas.{just_same, has_any}

@@ -8,7 +8,7 @@ use Rattle.am_names.specs.declared.trigger.Trigger.{Trigger}
 use Rattle.am_names.specs.{MountRow, Position}
 use Rattle.am_names.proofs.Basics.{some_injective}
 use Rattle.am_group.proofs.LookupLemmas.{found_passes}
-use Rattle.am_mount.specs.{RiseFrom, mount_row, top_of, root_of, HasRow, IsIn, IsTop}
+use Rattle.am_mount.specs.{RiseFrom, mount_row, top_of, HasRow, IsIn, IsTop}
 use Rattle.am_mount.specs.Rows as rows
 use Rattle.am_mount.proofs.RowLemmas.{top_is, some_greatest}
 use Rattle.am_propagate.specs.{IsWhole}

@@ -2,7 +2,6 @@
 use Rattle.std.proofs.Common.{◌≡◌, ◌≤◌, ◌<◌, ◌⊎◌, ℕ, Bool, false, List, [], ◌∷◌, Some, sym, ◌∙◌, ap, ⊎_elim, arith}
 use Rattle.std.specs.Prelude.{is_some}
 use Rattle.am_names.specs.{MountRow}
-use Rattle.am_names.proofs.Basics.{some_injective}
 use Rattle.am_group.specs.{PropagatesBy, Receives, AddsNoReceivers}
 use Rattle.am_mount.specs.{mount_row, HasRow, IsIn, IsAt}
 use Rattle.am_propagate.specs.MountTable.{MountTable}

@@ -1,6 +1,6 @@
 -- Each change keeps pending records those of their tokens. A packet that is taken up needs what tokens
 -- say of it, a job that goes on what is planned, and tokens that close need their numbers in the trace.
-use Rattle.std.proofs.Common.{◌≡◌, ℕ, ◌+◌, ◌==◌, not, List, [], ◌∷◌, refl, sym, subst}
+use Rattle.std.proofs.Common.{◌≡◌, ℕ, ◌==◌, not, List, refl, sym, subst}
 use Rattle.std.proofs.lemmas.List.Elements.{All-nil, All-filter}
 use Rattle.am_names.specs.{TokenKind, WaitRow}
 use Rattle.am_names.specs.declared.row.TokenKind.TheVariants.{Missing, Expire}

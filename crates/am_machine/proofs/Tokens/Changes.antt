@@ -1,6 +1,6 @@
 -- Each change keeps what kernel and jobs agree on of tokens. New attachments need the numbers that were
 -- given, a job that goes on what is planned, and new tokens need the numbers that the trace has of tokens.
-use Rattle.std.proofs.Common.{◌≡◌, ℕ, ◌+◌, ◌==◌, false, List, [], ◌∷◌, Some, refl}
+use Rattle.std.proofs.Common.{◌≡◌, ℕ, ◌==◌, false, List, refl}
 use Rattle.std.proofs.lemmas.List.Elements.{All-nil}
 use Rattle.am_names.specs.{Status}
 use Rattle.am_state.specs.{QueuedRow, Obs}

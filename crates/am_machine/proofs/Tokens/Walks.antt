@@ -1,5 +1,5 @@
 -- What walkers do keeps what kernel and jobs agree on of tokens.
-use Rattle.std.proofs.Common.{◌≡◌, ℕ, ◌+◌, Bool, true, false, not, ◌&&◌, ◌==◌, List, [], ◌∷◌, Option, Some, None, refl, ap, subst, ◌∙◌, inl, arith, sym}
+use Rattle.std.proofs.Common.{◌≡◌, ℕ, ◌+◌, Bool, true, false, not, ◌&&◌, ◌==◌, List, [], ◌∷◌, Option, Some, None, refl, ap, ◌∙◌, inl}
 use Rattle.std.specs.Prelude.{is_some}
 use Rattle.std.specs.Option.{option_map}
 use Rattle.std.proofs.lemmas.List.Elements.{filter_passes, All-weaker}
@@ -18,7 +18,7 @@ use Rattle.am_kernel.specs.Walks as walks
 use Rattle.am_kernel.specs.Expires as expires
 use Rattle.am_machine.specs.{NumbersAreAllocated, TokensAgree}
 use Rattle.am_machine.proofs.Attachments.Changes.{given_freed}
-use Rattle.am_machine.proofs.Lists.Different.{all_found, found_none}
+use Rattle.am_machine.proofs.Lists.Different.{found_none}
 use Rattle.am_machine.proofs.Tokens.Catatonic.{closed_agree}
 use Rattle.am_machine.proofs.Tokens.Unchanged.{bare, stays_agree, jobs_given, same_agree}
 use Rattle.am_machine.proofs.Tokens.Notify.{notices_agree, AreNumbered}

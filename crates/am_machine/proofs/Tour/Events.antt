@@ -17,7 +17,7 @@ use Rattle.am_propagate.specs.{CopyForm, new_mounts, copy_refusal, drop_refusal,
 use Rattle.am_trigger.specs.{Autofs, autofs_of}
 use Rattle.am_wait.specs.{token_of}
 use Rattle.am_expire.specs.{is_used, mount_of_walker}
-use Rattle.am_kernel.specs.{WalkRow, KernelState, moment_of, with_latest, is_live, is_current, position_at, tested, from_position, fs_of_attach, attach_refusal, is_trigger, mount_tests, mount_refusal, mounting_at, bind_tests, bind_refusal, bound_at, umount_tests, plain_umount_refusal, gone_at, change_tests, plain_change_refusal, changed_at, kind_refusal, kind_at, mkdir_refusal, with_directory, rmdir_refusal, without_directory, coming, with_mount, attach_tests, attached_at, attaching_at, location_of, mounted_on, mount_on_refusal, with_mount_on, umount_from_refusal, gone_with, gone_from, without_mounts, with_namespace, without_namespace, queued_of, is_number, answer_tests, answer_refusal, acknowledged, answering, timeout_refusal, with_timeout, leaving, without_use, pipe_refusal, catatonic_refusal, admin_catatonic_refusal, catatonic_observations, made_catatonic, first_attempt, walk_in}
+use Rattle.am_kernel.specs.{WalkRow, KernelState, moment_of, with_latest, is_live, is_current, position_at, tested, from_position, fs_of_attach, attach_refusal, is_trigger, mount_tests, mount_refusal, mounting_at, bind_tests, bind_refusal, bound_at, umount_tests, plain_umount_refusal, gone_at, change_tests, plain_change_refusal, changed_at, kind_refusal, kind_at, mkdir_refusal, with_directory, rmdir_refusal, without_directory, coming, with_mount, attach_tests, attached_at, attaching_at, location_of, mounted_on, mount_on_refusal, with_mount_on, umount_from_refusal, gone_with, without_mounts, with_namespace, without_namespace, queued_of, is_number, answer_tests, answer_refusal, acknowledged, answering, timeout_refusal, with_timeout, leaving, without_use, pipe_refusal, catatonic_refusal, admin_catatonic_refusal, catatonic_observations, made_catatonic, first_attempt, walk_in}
 use Rattle.am_kernel.specs.CallOutcome as kernel
 use Rattle.am_kernel.specs.DaemonMounts as mounts
 use Rattle.am_job.specs.{Act, next_of}

@@ -4,7 +4,6 @@ use Rattle.std.specs.Prelude.{nat_le, is_some, is_none, if◌then◌else◌}
 use Rattle.std.specs.List.{All}
 use Rattle.am_names.specs.{errno_of, Status, PipeState, Position, WaitRow, TokenKind}
 use Rattle.am_names.specs.declared.errno.Errno.{Errno}
-use Rattle.am_names.specs.declared.errno.Errno.TheVariants.{ENOENT}
 use Rattle.am_names.specs.declared.trigger.Trigger.{Trigger}
 use Rattle.am_names.specs.declared.trigger.Status.TheVariants.{Ready, Fail}
 use Rattle.am_names.specs.declared.trigger.PipeState.TheVariants.{Room, Full, Gone}

@@ -98,15 +98,15 @@ then_none : (b : Bool) (e : Errno) (rest : Option Errno) → (if b then Some e e
 then_none true e rest h = absurd cc
 then_none false e rest h = h
 
-umount_free : (uses : ℕ → Bool) (m : ℕ) (t : MountTable) → umount_refusal uses m t ≡ None → list_any uses (unmounted t m) ≡ false
+pub umount_free : (uses : ℕ → Bool) (m : ℕ) (t : MountTable) → umount_refusal uses m t ≡ None → list_any uses (unmounted t m) ≡ false
 umount_free uses m t h =
     last_none (list_any uses (unmounted t m)) EBUSY
     (then_none (not (is_bare t m)) EBUSY _ (then_none (not (is_some (mountpoint_of t m))) EBUSY _ (then_none (not (is_mount t m)) EINVAL _ h)))
 
-plain_free : (k : KernelState) (at : Position) → umount_tests k at ≡ None → list_any (is_used k.uses) (gone_at k (Ok at)) ≡ false
+pub plain_free : (k : KernelState) (at : Position) → umount_tests k at ≡ None → list_any (is_used k.uses) (gone_at k (Ok at)) ≡ false
 plain_free k at h = umount_free (is_used k.uses) at.mount k.table (others_passed (site_refusal k at.mount) _ (others_passed (root_refusal at) _ h))
 
-drop_free : (uses : ℕ → Bool) (ns : ℕ) (t : MountTable) → drop_refusal uses ns t ≡ None → list_any uses (mounts_in t ns) ≡ false
+pub drop_free : (uses : ℕ → Bool) (ns : ℕ) (t : MountTable) → drop_refusal uses ns t ≡ None → list_any uses (mounts_in t ns) ≡ false
 drop_free uses ns t h =
     last_none (list_any uses (mounts_in t ns)) EBUSY (then_none (not (is_namespace t ns)) ENOENT _ (then_none (ns == 0) EINVAL _ h))
 

@@ -115,9 +115,9 @@ closes k fs = record { adds = λ jobs trace h. adds_closing k jobs trace fs h; o
 -- ---- a wait is collected
 
 -- the rows still fit the trace
-record Frees (k base : KernelState) : Type 0 where
-  fits : (jobs : List JobPlan) (trace : List Obs) → FitsTrace (rows_of k jobs) trace → FitsTrace (rows_of base jobs) trace
-  limits : limits_in base ≡ limits_in k
+pub record Frees (k base : KernelState) : Type 0 where
+  pub fits : (jobs : List JobPlan) (trace : List Obs) → FitsTrace (rows_of k jobs) trace → FitsTrace (rows_of base jobs) trace
+  pub limits : limits_in base ≡ limits_in k
 
 collected_fits : (r : Rows) (trace : List Obs) (wait : WaitRow) (status : Status) → wait_of r.waits.waits wait.walker ≡ Some wait → wait.status ≡ Some status → FitsTrace r trace → FitsTrace (record r { waits = collected wait.walker r.waits }) trace
 collected_fits r trace wait status is given h = record {
@@ -131,7 +131,7 @@ collected_fits r trace wait status is given h = record {
   delivered = h.delivered;
 }
 
-frees : (kind : TokenKind) (k : KernelState) (wait : WaitRow) (status : Status) (moment : ℕ) → IsGiven k wait status → Frees k (resumes.wait_collected_from kind wait moment k)
+pub frees : (kind : TokenKind) (k : KernelState) (wait : WaitRow) (status : Status) (moment : ℕ) → IsGiven k wait status → Frees k (resumes.wait_collected_from kind wait moment k)
 frees Missing k wait status moment g = record { fits = λ jobs trace h. collected_fits (rows_of k jobs) trace wait status g.waits g.given h; limits = refl }
 frees Expire k wait status moment g = record { fits = λ jobs trace h. collected_fits (rows_of k jobs) trace wait status g.waits g.given h; limits = refl }
 

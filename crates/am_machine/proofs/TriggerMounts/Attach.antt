@@ -48,7 +48,7 @@ none_yet k h fs new = by (autofs_of k.triggers fs) refl
     by (Some a) e = let given : fs ≤ k.last_fs = h.given_autofs fs a e in absurd (omega arith)
 
 module _ (k : KernelState) (h : PlacesAgree k) (direct : Bool) (timeout : ℕ) (at : Position) (there : is_mount k.table at.mount ≡ true) (off : is_on_autofs k at.mount ≡ false) where
-  abbrev new_row : Autofs
+  abbrev pub new_row : Autofs
   new_row = record { fs = k.last_fs + 1; direct = direct; location = k.table.last_mount + 1; catatonic = false }
 
   whole : IsWhole (mounted at (k.last_fs + 1) Private k.table)
@@ -73,7 +73,7 @@ module _ (k : KernelState) (h : PlacesAgree k) (direct : Bool) (timeout : ℕ) (
       (came_at k h at (k.last_fs + 1) Private m r.0 (k.table.last_mount + 1) place above r.1 r.2))
       ((mounted_grows k.table h.whole at (k.last_fs + 1) Private).came m r.0 r.1)
 
-  new_mounted : (g : Trigger) → k.last_fs + 1 ≡ g.fs → mounted_on (attached_at direct timeout k at) g ≡ None
+  pub new_mounted : (g : Trigger) → k.last_fs + 1 ≡ g.fs → mounted_on (attached_at direct timeout k at) g ≡ None
   new_mounted g new =
       let found : autofs_of (attached_at direct timeout k at).triggers g.fs ≡ Some new_row =
       find_new (λ (row : Autofs). row.fs == g.fs) k.triggers.autofs new_row (none_yet k h g.fs new) (subst (λ (n : ℕ). (k.last_fs + 1 == n) ≡ true) new (equal_to_itself (k.last_fs + 1))) in
@@ -81,7 +81,7 @@ module _ (k : KernelState) (h : PlacesAgree k) (direct : Bool) (timeout : ℕ) (
       ∙ no_top (attached_at direct timeout k at).table.rows (k.table.last_mount + 1) (place_of g) whole.rising (new_free (place_of g))
 
   -- on the other triggers is mounted what was
-  old_mounted : (g : Trigger) (a : Autofs) → autofs_of k.triggers g.fs ≡ Some a → (k.last_fs + 1 == g.fs) ≡ false → mounted_on (attached_at direct timeout k at) g ≡ mounted_on k g
+  pub old_mounted : (g : Trigger) (a : Autofs) → autofs_of k.triggers g.fs ≡ Some a → (k.last_fs + 1 == g.fs) ≡ false → mounted_on (attached_at direct timeout k at) g ≡ mounted_on k g
   old_mounted g a is other =
       ap (λ (o : Option Autofs). top_of (attached_at direct timeout k at).table.rows (location_in o) (place_of g)) (find_others (λ (row : Autofs). row.fs == g.fs) k.triggers.autofs new_row other)
       ∙ (mounted_still k at (k.last_fs + 1) (k.last_fs + 1) Private h there off (inl refl)).still g a is

@@ -1,5 +1,5 @@
 -- Each change leaves right what the daemon knows of the mounts, and so does each event.
-use Rattle.std.proofs.Common.{◌≡◌, ◌≢◌, ℕ, ◌+◌, ◌||◌, ◌==◌, Bool, true, false, not, List, [], ◌∷◌, map, Option, Some, None, refl, sym, ap, subst, ◌∙◌, inl, inr, arith}
+use Rattle.std.proofs.Common.{◌≡◌, ℕ, ◌+◌, ◌||◌, ◌==◌, Bool, true, false, not, List, [], ◌∷◌, map, Option, Some, None, refl, sym, ap, subst, ◌∙◌, inl, inr, arith}
 use Rattle.std.specs.Prelude.{is_some, is_none, Ok}
 use Rattle.am_names.specs.{same_trigger, Position}
 use Rattle.am_names.specs.declared.trigger.Trigger.{Trigger}
@@ -79,13 +79,13 @@ attaches s path direct timeout at is may =
       sites = λ w. attached_on_triggers k w.places direct timeout at (ap is_some (position_inside k w.places.whole 0 path at is).1) off w.on;
     }
 
-mount_at : (k : KernelState) (at : Position) → mount_tests k at ≡ None → PlacesAgree k → Still k (with_mount at k)
+pub mount_at : (k : KernelState) (at : Position) → mount_tests k at ≡ None → PlacesAgree k → Still k (with_mount at k)
 mount_at k at may p =
     let tests = test_passed (is_on_autofs k at.mount) _ (new_fs_refusal k at.mount) may in
     let there = true_where_not_false (is_mount k.table at.mount) (test_passed (not (is_mount k.table at.mount)) _ _ (others_passed (fs_refusal k) _ tests.1)).0 in
     mounted_still k at (k.last_fs + 1) (k.last_fs + 1) Private p there tests.0 (inl refl)
 
-bind_to : (k : KernelState) (source at : Position) → bind_tests k source at ≡ None → PlacesAgree k → Still k (bound_at k source at)
+pub bind_to : (k : KernelState) (source at : Position) → bind_tests k source at ≡ None → PlacesAgree k → Still k (bound_at k source at)
 bind_to k source at may p =
     let sited = others_passed (source_refusal k source.mount) _ (others_passed (root_refusal source) _ may) in
     let tests = test_passed (is_on_autofs k at.mount) _ (added.bind_refusal source.mount at.mount k.table) sited in
@@ -104,7 +104,7 @@ later_false true b c h = absurd cc
 later_false false true c h = absurd cc
 later_false false false c h = refl
 
-umount_at : (k : KernelState) (at : Position) → umount_tests k at ≡ None → PlacesAgree k → Still k (without_mounts (gone_at k (Ok at)) k)
+pub umount_at : (k : KernelState) (at : Position) → umount_tests k at ≡ None → PlacesAgree k → Still k (without_mounts (gone_at k (Ok at)) k)
 umount_at k at may p =
     let m = at.mount in
     let sited = others_passed (root_refusal at) _ may in

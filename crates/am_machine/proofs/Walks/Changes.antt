@@ -1,5 +1,5 @@
 -- Each change leaves all names names, and so does each event.
-use Rattle.std.proofs.Common.{◌≡◌, ℕ, ◌==◌, true, List, Option, Some, None, refl, subst}
+use Rattle.std.proofs.Common.{◌≡◌, ◌==◌, true, List, refl, subst}
 use Rattle.std.specs.List.{All}
 use Rattle.am_names.specs.declared.trigger.Trigger.{Trigger}
 use Rattle.am_names.specs.{WaitRow}
@@ -11,7 +11,7 @@ use Rattle.am_machine.specs.declared.event.Event.TheVariants as events
 use Rattle.am_machine.specs.State.{State}
 use Rattle.am_machine.proofs.Lists.Different.{all_found}
 use Rattle.am_machine.proofs.Walks.Named.{IsNamed, IsNamedStop, walk_named}
-use Rattle.am_machine.proofs.Walks.Rows.{IsNamedUse, IsAlongNames, same_rows, arrived_named, joined_named, notified_named, expiring_named, closed_named, acknowledged_named, freed_from_named}
+use Rattle.am_machine.proofs.Walks.Rows.{IsAlongNames, same_rows, arrived_named, joined_named, notified_named, expiring_named, closed_named, acknowledged_named, freed_from_named}
 use Rattle.am_machine.proofs.Tour.Picked.{picked_use}
 use Rattle.am_machine.proofs.Tour.Walks as tour
 use Rattle.am_machine.proofs.Tour.Walks.{Walking}

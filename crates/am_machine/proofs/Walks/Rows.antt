@@ -1,5 +1,5 @@
 -- What the kernel writes down of walkers is named, where what it writes is, and walks stay.
-use Rattle.std.proofs.Common.{◌≡◌, ℕ, ◌+◌, Bool, true, false, List, [], ◌∷◌, map, Option, Some, None, refl, sym, ap, subst, ◌∙◌}
+use Rattle.std.proofs.Common.{◌≡◌, ℕ, ◌+◌, Bool, true, false, List, [], ◌∷◌, map, Option, Some, None, refl, sym, subst, ◌∙◌}
 use Rattle.std.specs.Prelude.{◌==◌, ◌&&◌, nat_lt, not, is_none, filter, if◌then◌else◌}
 use Rattle.std.specs.List.{list_all, All}
 use Rattle.std.proofs.lemmas.List.Elements.{All-cons, All-head, All-tail, All-nil, All-append, All-push, All-filter, All-map, All-weaker}
@@ -7,7 +7,7 @@ use Rattle.std.proofs.lemmas.Map.Views.{any-filter_same}
 use Rattle.am_names.specs.{is_name, same_trigger, Status, OpenToken, TokenKind, WaitRow}
 use Rattle.am_names.specs.declared.trigger.Trigger.{Trigger}
 use Rattle.am_names.specs.declared.row.TokenKind.TheVariants.{Missing, Expire}
-use Rattle.am_names.proofs.Basics.{equal_to_itself, equal_by_test, false_where_not, differ_the_other_way}
+use Rattle.am_names.proofs.Basics.{equal_to_itself, false_where_not, differ_the_other_way}
 use Rattle.am_trigger.specs.{used_in, all_used_in}
 use Rattle.am_wait.specs.{WaitRows, token_of, with_wait, with_waiter, joined_row, waiting_on, opened, joined_on, released_row, failed_row}
 use Rattle.am_kernel.specs.{Attempt, WalkRow, KernelState, walk_row, without_walk, with_walk, arrived, with_joined, with_notified, made_catatonic, acknowledged, with_expiring, wait_collected, wait_collected_from}

@@ -1,14 +1,14 @@
 -- Each change keeps what worlds keep beside the machine's own invariant: triggers that the kernel has
 -- written down are there, who waits is inside no mount, each attachment is one file system's, and jobs
 -- have few acts.
-use Rattle.std.proofs.Common.{◌≡◌, ◌≤◌, ℕ, Bool, true, false, List, [], ◌∷◌, ◌++◌, map, Option, Some, None, refl, ap, sym, subst, ◌∙◌, arith}
+use Rattle.std.proofs.Common.{◌≡◌, ◌≤◌, ℕ, Bool, true, false, List, [], ◌∷◌, ◌++◌, map, Option, Some, refl, ap, sym, subst, ◌∙◌, arith}
 use Rattle.std.specs.Prelude.{◌==◌, is_some, is_none, find, if◌then◌else◌}
 use Rattle.std.specs.List.{All}
 use Rattle.am_names.specs.{Position, TokenKind, WaitRow}
 use Rattle.am_names.specs.declared.row.TokenKind.TheVariants.{Missing, Expire}
 use Rattle.am_names.specs.declared.trigger.Trigger.{Trigger}
 use Rattle.am_state.specs.{Obs}
-use Rattle.am_trigger.specs.{Autofs, TriggerRows, autofs_of, catatonic_row, with_catatonic}
+use Rattle.am_trigger.specs.{Autofs, TriggerRows, catatonic_row, with_catatonic}
 use Rattle.am_walk.specs.{Stop, walk_of}
 use Rattle.am_kernel.specs.{Attempt, Attached, KernelState, is_trigger_of, with_latest, with_directory, without_directory, attached_at, with_mount_on, gone_with, without_mounts, with_timeout, timeout_row, without_packet, with_pipe, expiry_of, wait_collected_from, made_catatonic}
 use Rattle.am_job.specs.{Outcome}

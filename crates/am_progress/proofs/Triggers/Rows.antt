@@ -1,15 +1,15 @@
 -- What the kernel writes down of walkers is of triggers that are there, and who waits is inside no
 -- mount.
 use Rattle.std.proofs.Common.{◌≡◌, ℕ, ◌+◌, Bool, true, false, List, [], ◌∷◌, map, Option, Some, None, refl, sym, subst, ◌∙◌}
-use Rattle.std.specs.Prelude.{◌==◌, ◌&&◌, nat_lt, not, is_none, filter, find, if◌then◌else◌}
+use Rattle.std.specs.Prelude.{◌==◌, ◌&&◌, not, is_none, find, if◌then◌else◌}
 use Rattle.std.specs.List.{All}
-use Rattle.std.proofs.lemmas.List.Elements.{All-cons, All-head, All-tail, All-nil, All-append, All-push, All-filter, All-map, All-weaker}
+use Rattle.std.proofs.lemmas.List.Elements.{All-cons, All-head, All-tail, All-nil, All-push, All-filter, All-map, All-weaker}
 use Rattle.am_names.specs.{same_trigger, Status, OpenToken, TokenKind, WaitRow}
 use Rattle.am_names.specs.declared.trigger.Trigger.{Trigger}
 use Rattle.am_names.specs.declared.row.TokenKind.TheVariants.{Missing, Expire}
 use Rattle.am_names.proofs.Basics.{differ_the_other_way}
 use Rattle.am_trigger.specs.{used_in, all_used_in}
-use Rattle.am_wait.specs.{WaitRows, token_of, wait_of, with_wait, with_waiter, joined_row, waiting_on, opened, joined_on, released_row, failed_row}
+use Rattle.am_wait.specs.{WaitRows, token_of, wait_of, with_waiter, joined_row, waiting_on, opened, joined_on, released_row, failed_row}
 use Rattle.am_expire.specs.{Use, mount_of_walker, entered, left}
 use Rattle.am_expire.proofs.UseLemmas.{enters, leaves}
 use Rattle.am_kernel.specs.{Attempt, KernelState, arrived, with_joined, with_notified, made_catatonic, acknowledged, without_use, with_expiring, wait_collected, wait_collected_from}

@@ -256,9 +256,9 @@ const ANOTHER_NAME: &[Step<Call>] = &[
     Step::Does(Call::Walk(8, b"/auto/other", 190, Told::Waits(4))),
 ];
 
-/// What is mounted is walked into, and what isn't any more fails again, until a notification of
-/// that trigger is acknowledged with READY.
-const MADE_GOOD: &[Step<Call>] = &[
+/// What is mounted is walked into, and what isn't any more fails again, until the second that ends
+/// it. What comes of an expiry makes nothing good.
+const FAILS_AGAIN: &[Step<Call>] = &[
     Step::Does(Call::Mkdir(1, Trap(2, b"home"))),
     Step::Refused(
         Call::Walk(7, b"/auto/home", 120, Told::Waits(2)),
@@ -278,16 +278,40 @@ const MADE_GOOD: &[Step<Call>] = &[
     Step::Does(Call::Asks(Asked::Ready(1, 2), Told::Done)),
     Step::Does(Call::UmountFrom(1, Trap(2, b"home"), 4)),
     Step::Does(Call::Resume(9, 123, Told::Expires)),
-    Step::Does(Call::Walk(7, b"/auto/home", 123, Told::Waits(3))),
-    // A mount that comes makes good what failed, too.
+    Step::Refused(
+        Call::Walk(7, b"/auto/home", 159, Told::Waits(3)),
+        Errno::EPERM,
+    ),
+    Step::Does(Call::Walk(7, b"/auto/home", 160, Told::Waits(3))),
     Step::Does(Call::MountOn(1, Trap(2, b"home"), 5)),
     Step::Does(Call::Asks(Asked::Ready(1, 3), Told::Done)),
-    Step::Does(Call::ArrivalAgain(7, 123, Some(5))),
-    Step::Does(Call::ArrivalAgain(8, 123, None)),
-    Step::Does(Call::Resume(7, 123, Told::Arrives(5))),
+    Step::Does(Call::ArrivalAgain(7, 160, Some(5))),
+    Step::Does(Call::ArrivalAgain(8, 160, None)),
+    Step::Does(Call::Resume(7, 160, Told::Arrives(5))),
     Step::Does(Call::Leave(7)),
     Step::Does(Call::UmountFrom(1, Trap(2, b"home"), 5)),
-    Step::Does(Call::Walk(7, b"/auto/home", 124, Told::Waits(4))),
+    Step::Does(Call::Walk(7, b"/auto/home", 161, Told::Waits(4))),
+];
+
+/// READY to an expiry leaves a failure that lasts, where something was mounted without a notification.
+const EXPIRED_BEHIND: &[Step<Call>] = &[
+    Step::Does(Call::Begins(1000)),
+    Step::Does(Call::Indirect(b"/auto", 2)),
+    Step::Does(Call::Walk(7, b"/auto/home", 100, Told::Waits(1))),
+    Step::Does(Call::Asks(Asked::Fail(1, 1, FailNo::EPERM), Told::Done)),
+    Step::Does(Call::Resume(7, 100, Told::Fails(Errno::EPERM))),
+    Step::Does(Call::Mkdir(1, Trap(2, b"home"))),
+    Step::Does(Call::MountOn(1, Trap(2, b"home"), 3)),
+    Step::Does(Call::Walk(7, b"/auto/home", 101, Told::Arrives(3))),
+    Step::Does(Call::Leave(7)),
+    Step::Does(Call::Asks(Asked::Expire(9, 2, 102, true), Told::Waits(2))),
+    Step::Does(Call::Asks(Asked::Ready(1, 2), Told::Done)),
+    Step::Does(Call::UmountFrom(1, Trap(2, b"home"), 3)),
+    Step::Does(Call::Resume(9, 103, Told::Expires)),
+    Step::Refused(
+        Call::Walk(7, b"/auto/home", 104, Told::Waits(3)),
+        Errno::EPERM,
+    ),
 ];
 
 /// Nothing that failed lasts in the file system. In another one it does.
@@ -404,7 +428,7 @@ const ALL_LAST: &[Step<Call>] = &[
     Step::Refused(Call::Walk(7, b"/data", 0, Told::Waits(3)), Errno::EBUSY),
 ];
 
-static EXAMPLES: [(&str, &[&[Step<Call>]]); 14] = [
+static EXAMPLES: [(&str, &[&[Step<Call>]]); 15] = [
     ("directories", &[ATTACHED, DIRECTORIES]),
     ("mounts", &[ATTACHED, MOUNTS]),
     ("acknowledgements", &[ATTACHED, ANSWERS]),
@@ -412,7 +436,8 @@ static EXAMPLES: [(&str, &[&[Step<Call>]]); 14] = [
     ("moments", &[USED, MOMENTS]),
     ("a failure lasts to its second", &[FAILED, LASTS]),
     ("a failure is one of its own name", &[FAILED, ANOTHER_NAME]),
-    ("READY makes a failure good", &[FAILED, MADE_GOOD]),
+    ("a failure lasts behind a mount", &[FAILED, FAILS_AGAIN]),
+    ("READY to an expiry leaves a failure", &[EXPIRED_BEHIND]),
     ("catatonic mode ends failures", &[FAILED, CATATONIC]),
     ("so it does by whatever brings it", &[FAILED, CATATONIC_TOO]),
     ("an unmount that failed", &[USED, EXPIRY_FAILED]),

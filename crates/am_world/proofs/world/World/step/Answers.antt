@@ -5,17 +5,13 @@ use Rattle.am_machine.specs.{Step}
 use Rattle.am_world.specs.{table_of, whole_state, told, WorldTable}
 use Rattle.am_world.specs.Capacity as table
 use Rattle.am_world.proofs.TableLemmas.{state_is}
-use Rattle.am_world.proofs.GoesLemmas.{goes_step, goes_consistent, goes_named}
+use Rattle.am_world.proofs.GoesLemmas.{goes_step, goes_reached}
 use Rattle.am_world.proofs.world.World.step.Goals as goal
 
 pub invariant_of-self : goal.invariant_of-self
-invariant_of-self c =
-    let old = whole_state c.self.inside.machine in
-    let event = c.args.event.now in
-    record {
-      consistent = goes_consistent old event c.handle.result (whole_state c.handle.new.self) c.self.invariant.consistent c.handle.ensures;
-      walks = goes_named old event c.handle.result (whole_state c.handle.new.self) c.know_paths.ensures c.self.invariant.walks c.handle.ensures;
-    }
+invariant_of-self c = record {
+  reached = goes_reached (whole_state c.self.inside.machine) c.args.event.now c.handle.result (whole_state c.handle.new.self) c.know_paths.ensures c.self.invariant.reached c.handle.ensures;
+}
 
 pub returns : goal.returns
 returns c =
