@@ -4,7 +4,7 @@
 ghost use Rattle.std.specs.Prelude.{◌≡◌, vec_len, IfOk};
 
 use crate::tests::scenes::{Scene, Seats, attach, played};
-use crate::tests::seats::{Seat, at_seats};
+use crate::tests::seats::{Part, Seat, at_seats};
 use crate::tests::sizes::number;
 use crate::tests::worlds::world_and_failures;
 use am_machine::{Entry, Event};
@@ -141,29 +141,31 @@ fn works<L: Opened, R: Wait>(
     daemon_worker(rt, alloc, caller, taker, &Open, backend, &common.stop).0
 }
 
-fn takes_part<L: Opened, R: Wait>(
-    rt: &R,
-    alloc: Global,
-    common: &Common,
+/// What each caller does once there is an autofs.
+#[derive(Clone, Copy)]
+struct Parts<'a> {
+    common: &'a Common,
     fs: FsId,
-    index: usize,
-    seat: &mut Seat<L>,
-) {
-    let Some(caller) = seat.caller.take() else {
-        return;
-    };
-    let back = match seat.taker.take() {
-        Some(taker) => works(rt, alloc, common, caller, taker),
-        None => asks(
-            rt,
-            alloc,
-            common,
-            fs,
-            caller,
-            u32::try_from(index).unwrap_or(0),
-        ),
-    };
-    seat.caller = Some(back);
+}
+
+impl Part for Parts<'_> {
+    fn takes_part<L: Opened, R: Wait>(
+        &self,
+        rt: &R,
+        alloc: Global,
+        index: usize,
+        seat: &mut Seat<L>,
+    ) {
+        let Some(caller) = seat.caller.take() else {
+            return;
+        };
+        let number = u32::try_from(index).unwrap_or(0);
+        let back = match seat.taker.take() {
+            Some(taker) => works(rt, alloc, self.common, caller, taker),
+            None => asks(rt, alloc, self.common, self.fs, caller, number),
+        };
+        seat.caller = Some(back);
+    }
 }
 
 /// What is left when all is over.
@@ -225,13 +227,8 @@ impl Scene for Common {
         let Some(fs) = attach(rt, alloc, callers.as_mut_slice()) else {
             panic!(rt; "no autofs");
         };
-        at_seats(
-            rt,
-            alloc,
-            callers,
-            takers,
-            |index, seat: &mut Seat<L>| takes_part(rt, alloc, self, fs, index, seat),
-        )
+        let parts = Parts { common: self, fs };
+        at_seats(rt, alloc, callers, takers, &parts)
     }
 
     fn end_of(&self, _alloc: Global, shared: &Shared, count: u64, test: bool) -> End {

@@ -3,7 +3,7 @@
 ghost use Rattle.std.specs.Prelude.{◌≡◌, ◌<◌, vec_len, IfOk};
 
 use crate::tests::scenes::{Scene, Seats, attach, played};
-use crate::tests::seats::{Seat, at_seats};
+use crate::tests::seats::{Part, Seat, at_seats};
 use crate::tests::worlds::world_and_ends;
 use am_machine::{Answer, Entry};
 use am_map::Entry as MapEntry;
@@ -103,15 +103,23 @@ fn works<L: Opened, R: Wait>(
     daemon_worker(rt, alloc, caller, taker, held, Succeeds, &held.stop).0
 }
 
-fn acts<L: Opened, R: Wait>(rt: &R, alloc: Global, held: &Held, index: usize, seat: &mut Seat<L>) {
-    let Some(caller) = seat.caller.take() else {
-        return;
-    };
-    let back = match seat.taker.take() {
-        Some(taker) => works(rt, alloc, held, caller, taker),
-        None => walks(rt, alloc, held, caller, index),
-    };
-    seat.caller = Some(back);
+impl Part for Held {
+    fn takes_part<L: Opened, R: Wait>(
+        &self,
+        rt: &R,
+        alloc: Global,
+        index: usize,
+        seat: &mut Seat<L>,
+    ) {
+        let Some(caller) = seat.caller.take() else {
+            return;
+        };
+        let back = match seat.taker.take() {
+            Some(taker) => works(rt, alloc, self, caller, taker),
+            None => walks(rt, alloc, self, caller, index),
+        };
+        seat.caller = Some(back);
+    }
 }
 
 fn is_not_released(entry: &Entry) -> bool {
@@ -156,13 +164,7 @@ impl Scene for Held {
             attach(rt, alloc, callers.as_mut_slice()).is_some(),
             "an autofs"
         );
-        at_seats(
-            rt,
-            alloc,
-            callers,
-            takers,
-            |index, seat: &mut Seat<L>| acts(rt, alloc, self, index, seat),
-        )
+        at_seats(rt, alloc, callers, takers, self)
     }
 
     fn end_of(&self, _alloc: Global, shared: &Shared, count: u64, test: bool) -> End {

@@ -5,6 +5,7 @@ ghost use Rattle.std.specs.Prelude.{◌≡◌, vec_len, IfOk};
 use am_pipe::TakeEnd;
 use am_shared::{Caller, Opened};
 use std::alloc::{AllocError, Global};
+use std::sync::Wait;
 use std::thread;
 use std::thread::Threads;
 
@@ -43,21 +44,35 @@ fn callers_of<L: Opened>(alloc: Global, seats: Vec<Seat<L>>) -> Result<Vec<Calle
     Ok(back)
 }
 
-/// Has each caller act in a thread of its own, the first ones with an end of the pipe. As many come
-/// back as came.
-pub fn at_seats<L: Opened + Send + Sync, R: Threads + Sync, F: Fn(usize, &mut Seat<L>) + Sync>(
+/// What each caller does, in a thread of its own.
+pub trait Part {
+    fn takes_part<L: Opened, R: Wait>(
+        &self,
+        rt: &R,
+        alloc: Global,
+        index: usize,
+        seat: &mut Seat<L>,
+    );
+}
+
+/// Has each caller take part, the first ones with an end of the pipe. As many come back as came.
+pub fn at_seats<L: Opened + Send + Sync, R: Threads + Wait + Sync, P: Part + Sync>(
     rt: &R,
     alloc: Global,
     callers: Vec<Caller<L>>,
     takers: Vec<TakeEnd>,
-    act: F,
+    part: &P,
 ) -> Result<Vec<Caller<L>>, AllocError>
-    requires { F.IsAlwaysCallable act }
     ensures { IfOk result (λ back. vec_len back ≡ vec_len callers) }
 {
     let count = callers.len();
     let mut seats = seats_of(alloc, callers, takers)?;
-    thread::for_each_mut(rt, seats.as_mut_slice(), count, &act);
+    thread::for_each_mut(
+        rt,
+        seats.as_mut_slice(),
+        count,
+        &|index, seat| part.takes_part(rt, alloc, index, seat),
+    );
     let back = callers_of(alloc, seats)?;
     if back.len() != count {
         return Err(AllocError);
