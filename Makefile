@@ -52,7 +52,7 @@ pages:
 	@tools/check_pages
 	@tools/run_pages
 
-# plays all examples, and a script for each row of docs/LINUX.md that can be shown, on the running kernel, as root
+# plays all examples, and the scripts of all rows of docs/LINUX.md that can be shown, on the running kernel, as root
 live:
 	@tools/linux/live.py examples/*.script tools/linux/rows/*.script
 

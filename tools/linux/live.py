@@ -6,7 +6,7 @@ usage: tools/linux/live.py SCRIPT..
 
 Given N, it makes so many scripts, of S and the numbers behind it, and plays them; of one with a difference that isn't
 told it writes the shortest that still has it, to untold-SEED.script. What the scripts don't have: expiries by time, a
-full pipe, timeouts, direct triggers, and deaths of the daemon.
+full pipe, timeouts, and acts of an attachment that has ended.
 
 For each event it prints a line: the event, the model's answer, and the kernel's. Behind each event the mounts
 of all namespaces are compared too: who is mounted where, on what, of which file system, in which peer group
@@ -20,10 +20,15 @@ which act comes next, and the kernel has to take it. Nothing outside is touched,
 the namespaces end with their processes, which end with this one.
 
 It needs root and autofs. Status 0: alike, but for what is told; 1: a difference that isn't told; 2: it can't run
-here, or was given other words. What it can't play, and says so: expiries by time (`idle`), a full pipe.
+here, or was given other words, or a script that has a fault; 130 and 143: it was ended by SIGINT or SIGTERM. What it
+can't play, and says so: expiries by time (`idle`).
+
+Tokens are compared by their order: the kernel counts those of all file systems, also of others that are in use
+meanwhile.
 """
 
 import array
+import contextlib
 import ctypes
 import errno
 import fcntl
@@ -44,16 +49,23 @@ import time
 HERE = os.path.dirname(os.path.abspath(__file__))
 TOP = f"{HERE}/../.."
 # How long a process may take to come to rest, and how long it must stand still, in seconds.
-PATIENCE, STILL = 5.0, 0.04
+PATIENCE, STILL = 30.0, 0.04
 # The numbers of FORMATS.md.
 ERRORS = {errno.ENOENT: 1, errno.EPERM: 2, errno.EBUSY: 3, errno.EEXIST: 4, errno.EINVAL: 5, errno.EAGAIN: 6, errno.ELOOP: 7,
           errno.ENAMETOOLONG: 8, errno.ENOSPC: 9}
 NUMBERS = {number: code for code, number in ERRORS.items()}
 
+
+def number_of(code):
+    """The number of an error in FORMATS.md, or its name where it has none."""
+    return ERRORS.get(code) or errno.errorcode.get(code, code)
+
+
 # mount(2)
 MS_BIND, MS_REC, MS_UNBINDABLE, MS_PRIVATE, MS_SLAVE, MS_SHARED = 4096, 16384, 1 << 17, 1 << 18, 1 << 19, 1 << 20
 KINDS = {"unbindable": MS_UNBINDABLE, "private": MS_PRIVATE, "slave": MS_SLAVE, "shared": MS_SHARED}
 CLONE_NEWUSER, CLONE_NEWNS, MNT_DETACH, PR_SET_PDEATHSIG, TMPFS = 0x10000000, 0x20000, 2, 1, 0x01021994
+PR_SET_CHILD_SUBREAPER = 36
 # auto_fs.h and auto_dev-ioctl.h
 READY, FAIL, CATATONIC, SETTIMEOUT, EXPIRE_MULTI = 0x9360, 0x9361, 0x9362, 0xC0089364, 0x40049366
 DEV_FAIL, DEV_SETPIPEFD, DEV_OPENMOUNT = 0xC0189377, 0xC0189378, 0xC0189374
@@ -261,10 +273,13 @@ def step(folder, name, follows):
     flags = os.O_RDONLY | os.O_DIRECTORY if follows else os.O_PATH
     try:
         found = os.open(name, flags, dir_fd=folder)
-    except FileNotFoundError:
+    except FileNotFoundError as error:
         if statfs_type(folder) != TMPFS:
             raise
-        os.mkdir(name, dir_fd=folder)
+        try:
+            os.mkdir(name, dir_fd=folder)
+        except FileExistsError:
+            raise error from None
         found = os.open(name, flags, dir_fd=folder)
     os.close(folder)
     return found
@@ -274,6 +289,10 @@ def step(folder, name, follows):
 
 class Silence(Exception):
     """A process that doesn't come to rest."""
+
+
+class Unfit(Exception):
+    """A script that can't be played anywhere."""
 
 
 class Remote:
@@ -310,7 +329,7 @@ class Remote:
         return json.loads(said), list(fds)
 
     def rest(self):
-        """Waits until it has ended what it does, or stands still in autofs."""
+        """Waits until it has ended what it does, or stands still in autofs, or before a full pipe."""
         begin, still = time.time(), None
         while self.ended is None:
             if select.select([self.channel], [], [], 0.005)[0]:
@@ -321,7 +340,7 @@ class Remote:
                     self.said.append(said)
                 still = None
                 continue
-            waits = "autofs" in waits_in(self.pid) and state_of(self.pid) in "SD"
+            waits = re.search("autofs|pipe_write", waits_in(self.pid)) and state_of(self.pid) in "SD"
             still = (still or time.time()) if waits else None
             if still and time.time() - still > STILL:
                 return
@@ -329,11 +348,15 @@ class Remote:
                 raise Silence(f"process {self.pid} stands in {waits_in(self.pid)}")
 
     def kill(self):
+        """Ends it, and waits until what it had is given back."""
         try:
             os.kill(self.pid, signal.SIGKILL)
         except ProcessLookupError:
             pass
         self.channel.close()
+        begin = time.time()
+        while state_of(self.pid) not in "?ZX" and time.time() - begin < PATIENCE:
+            time.sleep(0.005)
 
 
 def text_of(path):
@@ -346,6 +369,10 @@ def text_of(path):
 
 def waits_in(pid):
     return text_of(f"/proc/{pid}/wchan")
+
+
+def namespace_of(pid):
+    return os.readlink(f"/proc/{pid}/ns/mnt")
 
 
 def state_of(pid):
@@ -373,29 +400,44 @@ def first_agent():
 
 # What the model says
 
+def head_of(script):
+    """The lines of a script's head, with the line `events`."""
+    found, inside = [], False
+    for line in script.splitlines():
+        found.append(line)
+        words = line.split()
+        if inside:
+            inside = line != "end"
+        elif words == ["events"]:
+            return found
+        else:
+            inside = words[:1] in (["master"], ["map"])
+    raise Unfit("it has no events")
+
+
 class Model:
     """The program's answers, observations and worlds of a script."""
 
     def __init__(self, program, path):
         self.program = program
         self.script = text_of(path)
-        lines = self.script.splitlines()
-        begin = lines.index("events")
-        self.head = lines[:begin + 1]
-        self.events, self.answers, self.seen = [], [], []
+        self.head = head_of(self.script)
+        self.events, self.answers, self.seen, self.lines = [], [], [], []
         for line in self.run("trace", self.script).splitlines():
             if line.startswith("= "):
                 self.answers.append(line[2:])
             elif line.startswith("  "):
                 self.seen[-1].append(line.strip())
             else:
-                self.events.append(line.partition(": ")[2])
+                number, _, event = line.partition(": ")
+                self.lines.append(int(number))
+                self.events.append(event)
                 self.seen.append([])
 
     def run(self, command, text):
         ran = subprocess.run([self.program, command], input=text, capture_output=True, text=True, errors="surrogateescape", check=False)
         if ran.returncode:
-            raise Silence(f"the model says {ran.stderr.strip()}")
+            raise Unfit(ran.stderr.strip())
         return ran.stdout
 
     def world(self, count):
@@ -403,9 +445,11 @@ class Model:
 
     def is_direct(self, path):
         """Whether an autofs at this path is of a direct map: then the master has no line for it."""
-        lines = self.head[self.head.index("master"):] if "master" in self.head else []
-        lines = lines[:lines.index("end")] if lines else []
-        return not any(it.split()[:1] == [path] for it in lines)
+        inside, points = False, []
+        for line in self.head:
+            inside = line != "end" and (inside or line.split() == ["master"])
+            points += line.split()[:1] * inside
+        return path not in ["/" + "/".join(filter(None, it.split("/"))) for it in points]
 
 
 class Row:
@@ -517,11 +561,21 @@ class Play:
         root.ask(do="begin")
         self.daemon = self.start(root)
         self.systems, self.readers, self.packets, self.open = {}, {}, [], {}
-        self.walks, self.expiries, self.base, self.names = {}, {}, None, {}
+        self.walks, self.expiries, self.names = {}, {}, {}
+        # Of each token of the model that of the kernel, and how many events were played.
+        self.tokens, self.played = {}, 0
+        # Of each token what was read of its packet; and the mounts behind the last event.
+        self.contents, self.tables = {}, None
 
-    def start(self, parent, group=False):
-        found = forked(parent, group)
+    def start(self, source, group=False):
+        """A new process where another one is. None but the first and the daemon has children, so that it can end alone."""
+        root = self.agents[0]
+        found = forked(source if source in self.agents[:2] else root, group)
         self.agents.append(found)
+        if namespace_of(source.pid) != namespace_of(root.pid):
+            place = os.open(f"/proc/{source.pid}/ns/mnt", os.O_RDONLY)
+            found.ask(do="enter", fds=[place])
+            os.close(place)
         return found
 
     def end(self):
@@ -529,6 +583,7 @@ class Play:
             it.kill()
         for fd in self.readers.values():
             os.close(fd)
+        # Whoever has begun another one stands before it, and by its end the other is this one's child.
         for it in self.agents:
             try:
                 os.waitpid(it.pid, 0)
@@ -545,16 +600,41 @@ class Play:
                 data = os.read(fd, PACKET_SIZE)
                 if len(data) < PACKET_SIZE:
                     break
-                _, kind, token, dev, _, _, _, _, _, size, name = PACKET.unpack(data[:PACKET.size])
-                found.append((token, kind, dev, name[:size].decode(errors="surrogateescape")))
-        for token, kind, dev, name in sorted(found):
-            if self.base is None:
-                self.base = token - 1
-            number = token - self.base
+                _, kind, token, dev, *others, size, name = PACKET.unpack(data[:PACKET.size])
+                found.append((token, kind, dev, name[:size].decode(errors="surrogateescape"), others))
+        for token, kind, dev, name, others in sorted(found):
+            number = self.numbered(token)
             self.packets.append(number)
+            self.contents[number] = (kind, dev, name, *others)
             self.names[number] = name if kind in (3, 4) else None
             # A direct trigger is its file system's root, whatever the name in its packet is.
             self.open[dev, name if kind in (3, 4) else None] = number
+
+    def fill(self):
+        """Fills the pipes, and gives how many bytes each has."""
+        filled = {}
+        for number, fd in self.readers.items():
+            writer = os.open(f"/proc/self/fd/{fd}", os.O_WRONLY | os.O_NONBLOCK)
+            filled[number] = 0
+            try:
+                while True:
+                    filled[number] += os.write(writer, b"\xff" * 4096)
+            except BlockingIOError:
+                os.close(writer)
+        return filled
+
+    def drain(self, filled):
+        for number, size in filled.items():
+            while size > 0:
+                size -= len(os.read(self.readers[number], min(size, 4096)))
+
+    def numbered(self, token):
+        """The model's number of a token that the kernel tells: the next that it has, or one that it hasn't."""
+        last = max(self.tokens, default=0)
+        queued = [int(it.split(" ")[1]) for seen in self.model.seen[:self.played] for it in seen if it.startswith("queued ")]
+        number = min((it for it in queued if it > last), default=max([last, *queued]) + 1)
+        self.tokens[number] = token
+        return number
 
     def token_of(self, dev, name):
         return self.open.get((dev, name)) or self.open.get((dev, None))
@@ -563,8 +643,11 @@ class Play:
 
     def play(self, at):
         """Plays an event, and gives the kernel's answer."""
+        self.played = at + 1
         words = self.model.events[at].split(" ")
+        filled = self.fill() if words[-1] == "full" else {}
         answer = getattr(self, "on_" + words[0])(at, *words[1:])
+        self.drain(filled)
         self.take_packets()
         return answer
 
@@ -573,7 +656,7 @@ class Play:
         try:
             agent.ask(**order)
         except OSError as error:
-            return f"err {ERRORS.get(error.errno, error.errno)}"
+            return f"err {number_of(error.errno)}"
         return None
 
     def done_as(self, at, refused):
@@ -611,8 +694,13 @@ class Play:
         return self.administers(at, namespace, do="change", path=path, kind=kind)
 
     def on_kind(self, at, namespace, path):
+        if int(namespace) not in self.keepers:
+            return "err 1"
         rows = self.rows_at(int(namespace), path)
-        return f"kind {rows[-1].state()}" if rows else "err 1"
+        if rows:
+            return f"kind {rows[-1].state()}"
+        # The kernel's own call wants the root of a mount too.
+        return self.tried(self.keepers[int(namespace)], do="change", path=path, kind="private")
 
     def rows_at(self, namespace, path):
         rows = rows_of(text_of(f"/proc/{self.keepers[namespace].pid}/mountinfo"))
@@ -629,7 +717,7 @@ class Play:
             else:
                 keeper.ask(do="copy")
         except OSError as error:
-            return f"err {ERRORS.get(error.errno, error.errno)}"
+            return f"err {number_of(error.errno)}"
         if said.startswith("ns "):
             self.keepers[int(said.split()[1])] = keeper
         return self.done_as(at, None)
@@ -644,13 +732,11 @@ class Play:
         first.kill()
 
     def on_nsdrop(self, at, namespace):
-        if self.model.answers[at].startswith("err"):
-            # A namespace of Linux ends with its processes, and nothing refuses its end.
-            return self.model.answers[at]
-        keeper = self.keepers.pop(int(namespace))
-        keeper.kill()
-        time.sleep(0.1)
-        return self.model.answers[at]
+        # A namespace of Linux ends with its processes, and nothing refuses its end.
+        if self.model.answers[at] == "err 1":
+            return "err 1"
+        self.keepers.pop(int(namespace)).kill()
+        return self.done_as(at, None)
 
     def on_walk(self, at, walker, namespace, path, now, pipe):
         keeper = self.keepers.get(int(namespace))
@@ -660,7 +746,11 @@ class Play:
             return self.model.answers[at]
         walk = Walk(self.start(keeper, True), int(namespace), path)
         walk.remote.begin(do="walk", path=path)
-        return self.rested(int(walker), walk, "err")
+        return self.rested(int(walker), walk, self.refusal(at))
+
+    def refusal(self, at):
+        """The word for an error: the kernel's walk that fails doesn't tell whether it waited."""
+        return "fail" if self.model.answers[at].startswith("fail") else "err"
 
     def on_resume(self, at, walker, now, pipe):
         walker = int(walker)
@@ -680,8 +770,10 @@ class Play:
     def rested(self, walker, walk, word):
         """What a walk answers once it stands still."""
         walk.remote.rest()
-        self.take_packets()
         self.walks[walker] = walk
+        if "pipe" in waits_in(walk.remote.pid):
+            return "waits for the pipe"
+        self.take_packets()
         if walk.remote.ended is None:
             last = walk.remote.said[-1]
             name = walk.path.strip("/").split("/")[last["at"]]
@@ -689,8 +781,7 @@ class Play:
         if "errno" in walk.remote.ended:
             del self.walks[walker]
             walk.remote.kill()
-            code = walk.remote.ended["errno"]
-            return f"{word} {ERRORS.get(code, code)}"
+            return f"{word} {number_of(walk.remote.ended['errno'])}"
         return self.arrived(walk)
 
     def token_at(self, walk, last, name):
@@ -721,7 +812,6 @@ class Play:
         walk = self.walks.pop(int(walker), None)
         if walk:
             walk.remote.kill()
-            time.sleep(0.02)
         return self.model.answers[at]
 
     def on_expire(self, at, walker, fs, now, how, pipe):
@@ -731,22 +821,23 @@ class Play:
         remote = self.start(self.daemon)
         remote.begin(do="expire", path=system["path"])
         self.expiries[int(walker)] = remote
-        return self.expired(int(walker), "err", first=True)
+        return self.expired(int(walker), self.refusal(at), system)
 
-    def expired(self, walker, word, first=False):
+    def expired(self, walker, word, first=None):
         remote = self.expiries[walker]
         remote.rest()
+        if "pipe" in waits_in(remote.pid):
+            return "waits for the pipe"
         before = len(self.packets)
         self.take_packets()
         if remote.ended is None:
-            if first and len(self.packets) > before:
-                return f"wait {self.packets[-1]}"
+            if first:
+                return f"wait {self.packets[-1] if len(self.packets) > before else self.token_of(first['dev'], None)}"
             return "err 11"
         del self.expiries[walker]
         remote.kill()
         if "errno" in remote.ended:
-            code = remote.ended["errno"]
-            return f"{word} {ERRORS.get(code, code)}"
+            return f"{word} {number_of(remote.ended['errno'])}"
         return "expired"
 
     def on_deliver(self, at, token, data=None):
@@ -761,7 +852,7 @@ class Play:
     def on_act(self, at, job, came, failure=None):
         said, seen = self.model.answers[at], self.model.seen[at]
         if said == "did record" or said.startswith("err"):
-            return said
+            return self.refused_act(at, int(job)) if said == "err 2" else said
         fs, name = self.trigger_of(int(job))
         system = self.systems[fs]
         path = system["path"] if name is None else f"{system['path'].rstrip('/')}/{name}"
@@ -775,6 +866,25 @@ class Play:
         act = {"mkdir": "mkdir", "rmdir": "rmdir", "umount": "umount", "mount": "mount_plain"}[said.split()[1]]
         return self.done_as(at, self.tried(self.daemon, do=act, path=path))
 
+    def refused_act(self, at, job):
+        """What the kernel says to an act whose attachment has ended: asked where that is a mkdir, and nobody has attached again."""
+        fs, name = self.trigger_of(job)
+        has_acted = any(re.match(rf"act {job} ", it) for it in self.model.events[:at])
+        if name is None or has_acted or not self.is_catatonic(fs) or self.is_expiry(job):
+            return self.model.answers[at]
+        return self.done_as(at, self.tried(self.daemon, do="mkdir", path=f"{self.systems[fs]['path'].rstrip('/')}/{name}"))
+
+    def is_catatonic(self, fs):
+        last = None
+        for seen in self.model.seen[:self.played]:
+            for line in seen:
+                if re.match(rf"(catatonic {fs}$|reattached {fs} )", line):
+                    last = line
+        return last is not None and last.startswith("catatonic")
+
+    def is_expiry(self, token):
+        return any(re.match(rf"queued {token} attach \d+ expire-", it) for seen in self.model.seen for it in seen)
+
     def trigger_of(self, token):
         """The trigger of a token, by what the model has seen of its packet."""
         for seen in self.model.seen:
@@ -787,16 +897,29 @@ class Play:
     def reply(self, said, seen, system, token, name):
         status = next(it.split(" ")[2:] for it in seen if it.startswith("answered "))
         failure = None if status[0] == "ready" else NUMBERS[int(status[1]) if len(status) > 1 else 1]
-        refused = self.tried(self.daemon, do="answer", path=system["path"], token=token + self.base, failure=failure)
+        refused = self.tried(self.daemon, do="answer", path=system["path"], token=self.tokens.get(token, 0), failure=failure)
         self.open.pop((system["dev"], name), None)
         return refused or said
 
     def on_repeat(self, at, attach, token, status):
-        said = self.model.answers[at]
-        if said.startswith("err"):
-            return said
-        fs, name = self.trigger_of(int(token))
-        return self.reply(said, self.model.seen[at], self.systems[fs], int(token), name)
+        # The daemon is one process, so what an attachment before the latest one may do isn't asked.
+        fs = self.latest().get(int(attach))
+        if fs is None:
+            return self.model.answers[at]
+        order = {"token": self.tokens.get(int(token), 0), "failure": None if status == "ready" else errno.ENOENT}
+        return self.done_as(at, self.tried(self.daemon, do="answer", path=self.systems[fs]["path"], **order))
+
+    def latest(self):
+        """The file systems of the attachments that are the latest of theirs."""
+        found = {}
+        for event, said in zip(self.model.events[:self.played], self.model.answers):
+            first = re.match(r"fs (\d+) attach (\d+) ", said)
+            again = re.match(r"attach (\d+)$", said)
+            if first:
+                found[int(first[1])] = int(first[2])
+            elif again:
+                found[int(event.split(" ")[1])] = int(again[1])
+        return {attach: fs for fs, attach in found.items()}
 
     def on_catatonic(self, at, attach, fs):
         return self.on_admincat(at, fs)
@@ -831,7 +954,7 @@ class Play:
         try:
             _, self.readers[int(fs)] = self.daemon.ask(do="reattach", path=system["path"], device=system["dev"])
         except OSError as error:
-            return f"err {ERRORS.get(error.errno, error.errno)}"
+            return f"err {number_of(error.errno)}"
         return said
 
     def on_record(self, at, fs, name):
@@ -843,7 +966,7 @@ class Play:
     def compare(self, at):
         """Plays an event, and gives both answers, and where the mounts differ."""
         answer = self.play(at)
-        tables = Tables(self.model.world(at + 1), self.keepers)
+        tables = self.tables = Tables(self.model.world(at + 1), self.keepers)
         if isinstance(answer, tuple):
             _, number, place = answer
             answer = f"at {tables.numbers.theirs.get(number, f'kernel mount {number}')} {place}"
@@ -926,11 +1049,21 @@ class Difference:
     def is_bind_below_a_root(self):
         return self.begins("bind") and self.ours == "err 5" and self.theirs == "done"
 
+    def is_another_token(self):
+        """A walk opens a token of its own, or goes in before the READY."""
+        return self.begins("walk", "resume") and self.ours.startswith("wait") and self.theirs.startswith(("wait", "at"))
+
     def is_copy_goes_under(self):
         return self.begins("mount", "bind", "act") and bool(self.why) and is_covered(self.model.world(self.at + 1))
 
     def is_cover_moves_down(self):
         return self.begins("umount", "act", "nsdrop") and bool(self.why) and is_covered(self.world)
+
+    def is_directory_goes(self):
+        return self.begins("act") and self.ours == "did rmdir" and "namespace" in self.why
+
+    def is_end_of_a_namespace(self):
+        return self.begins("nsdrop") and self.ours == "err 3" and self.theirs == "done"
 
     def is_expiry_by_one_mount(self):
         return self.begins("expire") and self.ours == "err 6" and self.asks_more() and not self.fs()["is_direct"] and not self.has_tree()
@@ -950,19 +1083,28 @@ class Difference:
     def is_failure_lasts(self):
         return self.begins("walk", "resume") and self.asks_more() and any(it.startswith("negative") for it in self.model.head)
 
+    def is_full_pipe(self):
+        return self.ours == "err 6" and self.theirs == "waits for the pipe"
+
     def is_locked_together(self):
         reduced = any(it.startswith("nscopy") and it.endswith("reduced") for it in self.model.events[:self.at])
-        return self.begins("umount", "bind") and reduced and not self.ours.startswith("err") and self.theirs == "err 5"
+        return self.begins("umount", "bind") and reduced and self.theirs == "err 5"
 
     def is_long_name(self):
         return self.begins("walk") and self.theirs == "err 1" and any(len(it) in (254, 255) for it in self.words[3].split("/"))
+
+    def is_mkdir_in_catatonic_mode(self):
+        return self.begins("act") and self.ours == "err 2" and self.theirs == "err EACCES"
 
     def is_mount_over_the_root(self):
         roots = [it for rows in namespaces_of(self.world).values() for it in rows if it.place == "/" and it.parent != it.number]
         return self.begins("walk", "resume", "mount", "bind", "umount", "change", "kind", "nscopy") and bool(roots)
 
-    def is_second_token(self):
-        return self.begins("walk") and self.ours.startswith("wait") and self.theirs.startswith("wait")
+    def is_reply_in_catatonic_mode(self):
+        return self.begins("repeat") and self.ours == "err 2" and self.theirs == "err 5"
+
+    def is_reply_without_a_job(self):
+        return self.begins("repeat") and self.ours == "err 12" and self.theirs == "done"
 
     def is_unbindable_copy(self):
         return self.begins("nscopy") and "unbindable, and on the kernel private" in self.why
@@ -970,21 +1112,36 @@ class Difference:
     def is_unmount_of_an_autofs(self):
         return self.begins("umount") and self.ours == "err 2" and self.theirs == "done" and self.meets_autofs()
 
+    def is_unmount_of_the_root(self):
+        return self.begins("umount") and self.words[2].strip("/") == "" and self.ours == "err 3" and self.theirs == "done"
+
     def is_walk_elsewhere(self):
         return self.begins("walk") and self.ours == "err 7" and self.asks_more()
 
 
 def unplayable(event):
     words = event.split(" ")
-    if words[0] == "expire" and "idle" in words:
-        return "expiry by time"
-    return "full-pipe" if words[-1] == "full" else None
+    return "expiry by time" if words[0] == "expire" and "idle" in words else None
+
+
+def played(program, path):
+    """Plays a script, and returns 0 where it is alike, 1 where it differs, and 2 where it can't be played."""
+    try:
+        return play(program, path)
+    except Silence as silence:
+        print(f"-- {os.path.basename(path)}: a DIFFERENCE: {silence}")
+        return 1
+    except Unfit as unfit:
+        print(f"-- {os.path.basename(path)}: no script that can be played: {unfit}")
+        return 2
 
 
 def play(program, path):
     """Plays a script, and returns 0 where it is alike, 1 where it differs."""
-    model = Model(program, path)
     print(f"== {path}")
+    model = Model(program, path)
+    shows = re.search(r"^# shows: (\S+)$", model.script, re.M)
+    shows = shows[1] if shows else None
     play_of = Play(model)
     try:
         for at, event in enumerate(model.events):
@@ -999,23 +1156,35 @@ def play(program, path):
                 name = Difference(play_of, at, ours, theirs, why).name()
                 if name:
                     print(f"-- {os.path.basename(path)}: {at} events alike, then {name}, told: {told()[name]}")
-                    return 0
+                    return is_not_shown(path, shows, name)
                 print(f"-- {os.path.basename(path)}: {at} events alike, then a DIFFERENCE that isn't told")
                 return 1
         print(f"-- {os.path.basename(path)}: {len(model.events)} events alike")
-        return 0
+        return is_not_shown(path, shows, None)
     finally:
         play_of.end()
+
+
+def is_not_shown(path, shows, name):
+    """1 where a script says that it shows a departure, and has shown another one or none, else 0."""
+    if shows in (None, name):
+        return 0
+    print(f"-- {os.path.basename(path)}: a DIFFERENCE: it shows {name or 'nothing'}, and should show {shows}")
+    return 1
 
 
 # Scripts by chance
 
 HEAD = """master
 /auto auto.home
+/- auto.direct
 end
 map auto.home
 a srv:/a
 b srv:/b
+end
+map auto.direct
+/srv/d srv:/d
 end
 events
 """
@@ -1029,16 +1198,26 @@ class Chance:
         self.dice, self.lines, self.now = random.Random(seed), [], 100
         self.model = subprocess.Popen([program, "script"], stdin=subprocess.PIPE, stdout=subprocess.PIPE, text=True)
         self.model.stdin.write(HEAD)
-        self.namespaces, self.tokens, self.jobs, self.waiting, self.inside, self.next = [0], [], [], [], [], 7
+        self.namespaces, self.tokens, self.jobs, self.next, self.last = [0], [], [], 7, 0
+        # The namespaces of who waits, none for one that asked for an expiry, and of who is inside.
+        self.waiting, self.inside = {}, {}
         self.roots = ["/", "/auto"]
-        for line in ["change 0 / shared"] * self.dice.randint(0, 1) + ["attach /auto"]:
-            self.say(line)
+        # How likely it is that an act fails, and that the daemon dies.
+        self.failing, self.dying = self.dice.choice([0, 0.1, 0.3]), self.dice.choice([False, False, True])
+        self.is_alive, self.attached = True, []
+        self.begin()
         while len(self.lines) < EVENTS:
             self.now += 1
             self.one()
         self.model.stdin.close()
         self.model.stdout.close()
         self.model.wait()
+
+    def begin(self):
+        for line in ["change 0 / shared"] * self.dice.randint(0, 1):
+            self.say(line)
+        for path in ["/auto"] + ["/srv/d"] * (self.dice.random() < 0.3):
+            self.attached.append(int(self.say(f"attach {path}").split()[1]))
 
     def text(self):
         return HEAD + "\n".join(self.lines) + "\n"
@@ -1053,6 +1232,8 @@ class Chance:
         kinds = ["walk"] * 4 + ["expire", "mount", "bind", "umount", "change", "copy"]
         kinds += ["deliver"] * 5 * bool(self.tokens) + ["act"] * 12 * bool(self.jobs)
         kinds += ["resume"] * 4 * bool(self.waiting) + ["leave"] * 3 * bool(self.inside)
+        kinds += ["drop"] * (len(self.namespaces) > 1) + ["kind"]
+        kinds += ["die"] * (self.dying and self.is_alive) + ["reattach"] * 4 * (not self.is_alive)
         getattr(self, self.dice.choice(kinds))()
 
     def namespace(self):
@@ -1061,30 +1242,33 @@ class Chance:
     def place(self):
         return self.dice.choice(["/m", "/m/n", "/p", "/q"])
 
-    def waits(self, walker, answer):
+    def pipe(self):
+        return "room" if self.is_alive else "gone"
+
+    def waits(self, walker, namespace, answer):
         if answer.startswith("wait"):
             token = int(answer.split()[1])
-            self.waiting.append(walker)
-            if token > getattr(self, "last", 0):
+            self.waiting[walker] = namespace
+            if token > self.last:
                 self.last = token
                 self.tokens.append(token)
         elif answer.startswith("at"):
-            self.inside.append(walker)
+            self.inside[walker] = namespace
 
     def walk(self):
-        walker, self.next = self.next, self.next + 1
-        path = self.dice.choice(["/auto/a", "/auto/b", "/auto/a/x", "/auto/none", "/m", "/p/x", "/late/a"])
-        self.waits(walker, self.say(f"walk {walker} {self.namespace()} {path} {self.now} room"))
+        walker, self.next, namespace = self.next, self.next + 1, self.namespace()
+        path = self.dice.choice(["/auto/a", "/auto/b", "/auto/a/x", "/auto/none", "/m", "/p/x", "/late/a", "/srv/d/x"])
+        self.waits(walker, namespace, self.say(f"walk {walker} {namespace} {path} {self.now} {self.pipe()}"))
 
     def resume(self):
-        walker = self.dice.choice(self.waiting)
-        answer = self.say(f"resume {walker} {self.now} room")
+        walker = self.dice.choice(list(self.waiting))
+        answer = self.say(f"resume {walker} {self.now} {self.pipe()}")
         if answer != "err 11":
-            self.waiting.remove(walker)
-            self.waits(walker, answer)
+            self.waits(walker, self.waiting.pop(walker), answer)
 
     def leave(self):
-        walker = self.inside.pop(self.dice.randrange(len(self.inside)))
+        walker = self.dice.choice(list(self.inside))
+        del self.inside[walker]
         self.say(f"leave {walker}")
 
     def deliver(self):
@@ -1094,13 +1278,14 @@ class Chance:
 
     def act(self):
         job = self.dice.choice(self.jobs)
-        came = "ok" if self.dice.random() < 0.85 else f"fail {self.dice.randint(1, 9)}"
-        if self.say(f"act {job} {came}") in ("did reply", "err 12", "err 5", "err 1"):
+        came = f"fail {self.dice.randint(1, 9)}" if self.dice.random() < self.failing else "ok"
+        if self.say(f"act {job} {came}").startswith(("did reply", "err")):
             self.jobs.remove(job)
 
     def expire(self):
         walker, self.next = self.next, self.next + 1
-        self.waits(walker, self.say(f"expire {walker} 2 {self.now} immediate room"))
+        answer = self.say(f"expire {walker} {self.dice.choice(self.attached)} {self.now} immediate {self.pipe()}")
+        self.waits(walker, None, answer)
 
     def mount(self):
         place = self.place()
@@ -1116,11 +1301,31 @@ class Chance:
     def change(self):
         self.say(f"change {self.namespace()} {self.dice.choice(['/', '/m', '/p', '/auto'])} {self.dice.choice(list(KINDS))}")
 
+    def kind(self):
+        self.say(f"kind {self.namespace()} {self.dice.choice(['/', '/m', '/p', '/auto'])}")
+
     def copy(self):
         if len(self.namespaces) < 3:
             answer = self.say(f"nscopy {self.namespace()}{self.dice.choice(['', ' reduced'])}")
             if answer.startswith("ns"):
                 self.namespaces.append(int(answer.split()[1]))
+
+    def drop(self):
+        """Drops a namespace in which nobody walks."""
+        number = self.dice.choice(self.namespaces[1:])
+        if number not in [*self.waiting.values(), *self.inside.values()] and self.say(f"nsdrop {number}").startswith("gone"):
+            self.namespaces.remove(number)
+
+    def die(self):
+        self.say("die")
+        self.is_alive, self.tokens, self.jobs = False, [], []
+
+    def reattach(self):
+        """Has the daemon attach again, as a new one does, to all that there is."""
+        for fs in self.attached:
+            self.say(f"admincat {fs}")
+            self.say(f"reattach {fs}")
+        self.is_alive = True
 
 
 def status_of(program, text, folder):
@@ -1128,19 +1333,8 @@ def status_of(program, text, folder):
     path = f"{folder}/by_chance.script"
     with open(path, "w", encoding="utf-8") as file:
         file.write(text)
-    with open(f"{folder}/said", "w+", encoding="utf-8") as out:
-        kept = os.dup(1)
-        sys.stdout.flush()
-        os.dup2(out.fileno(), 1)
-        try:
-            status = play(program, path)
-        except Silence as silence:
-            print(f"-- a DIFFERENCE: {silence}")
-            status = 1
-        finally:
-            sys.stdout.flush()
-            os.dup2(kept, 1)
-            os.close(kept)
+    with open(f"{folder}/said", "w+", encoding="utf-8") as out, contextlib.redirect_stdout(out):
+        status = played(program, path)
         out.seek(0)
         return status, out.read()
 
@@ -1168,7 +1362,8 @@ def by_chance(program, count, seed):
             alike = re.search(r": (\d+) events alike", last)
             events += int(alike[1]) if alike else 0
             name = re.search(r"then ([\w-]+), ", last)
-            told_of[name[1] if name else "alike" if not found else "UNTOLD"] = told_of.get(name[1] if name else "alike" if not found else "UNTOLD", 0) + 1
+            name = "UNTOLD" if found else name[1] if name else "alike"
+            told_of[name] = told_of.get(name, 0) + 1
             if found:
                 status = 1
                 with open(f"untold-{number}.script", "w", encoding="utf-8") as file:
@@ -1178,13 +1373,56 @@ def by_chance(program, count, seed):
     return status
 
 
+# The command
+
 def lacking():
     """What this machine lacks, if it does."""
     if os.geteuid():
         return "expected root"
     if "autofs" not in text_of("/proc/filesystems") or not os.path.exists("/dev/autofs"):
         return "expected a kernel with autofs"
-    return None
+    return lacking_namespaces()
+
+
+def lacking_namespaces():
+    """Whether a namespace can be made here, and an autofs mounted in it."""
+    agent = first_agent()
+    try:
+        agent.ask(do="begin")
+        os.close(agent.ask(do="attach", path="/auto", is_direct=False)[1])
+        return None
+    except (OSError, Silence) as error:
+        return f"expected that an autofs can be mounted in a namespace of its own: {error}"
+    finally:
+        agent.kill()
+        os.waitpid(agent.pid, 0)
+
+
+def program():
+    """The path of the program that is the model, or what is wrong with it."""
+    ran = subprocess.run([f"{TOP}/tools/program.sh"], capture_output=True, text=True, check=False)
+    if ran.returncode:
+        raise Unfit((ran.stderr.strip().splitlines() or ["no program can be built"])[-1])
+    return ran.stdout.strip()
+
+
+def ended_by(number, _):
+    sys.exit(128 + number)
+
+
+def prepare(name):
+    """What a tool that plays on the kernel does first: it gives the program, or tells why it can't play here."""
+    for number in (signal.SIGINT, signal.SIGTERM):
+        signal.signal(number, ended_by)
+    LIBC.prctl(PR_SET_CHILD_SUBREAPER, 1, 0, 0, 0)
+    why = lacking()
+    try:
+        if not why:
+            return program()
+    except Unfit as error:
+        why = error
+    print(f"{name}: {why}", file=sys.stderr)
+    sys.exit(2)
 
 
 def main(words):
@@ -1193,27 +1431,10 @@ def main(words):
     if not found and (not paths or any(not os.path.isfile(it) for it in paths)):
         print("live: expected the paths of scripts, or --random N [--seed S]", file=sys.stderr)
         return 2
-    why = lacking()
-    if why:
-        print(f"live: {why}", file=sys.stderr)
-        return 2
-    signal.signal(signal.SIGTERM, lambda number, frame: sys.exit(2))
-    ran = subprocess.run([f"{TOP}/tools/program.sh"], capture_output=True, text=True, check=False)
-    if ran.returncode:
-        print(ran.stderr, end="", file=sys.stderr)
-        return 2
-    status = 0
+    model = prepare("live")
     if found:
-        return by_chance(ran.stdout.strip(), int(found[1]), int(found[2] or 1))
-    for path in paths:
-        try:
-            status |= play(ran.stdout.strip(), path)
-        except Silence as silence:
-            print(f"-- {os.path.basename(path)}: a DIFFERENCE: {silence}")
-            status = 1
-        except KeyboardInterrupt:
-            return 130
-    return status
+        return by_chance(model, int(found[1]), int(found[2] or 1))
+    return max(played(model, path) for path in paths)
 
 
 if __name__ == "__main__":
