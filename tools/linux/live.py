@@ -122,12 +122,12 @@ class Agent:
         if group:
             os.setpgid(0, 0)
         self.channel.close()
-        Agent.run(other, self.held)
+        self.run(other, self.held)
         return None
 
-    @staticmethod
-    def run(channel, held):
-        agent = Agent(channel)
+    @classmethod
+    def run(cls, channel, held):
+        agent = cls(channel)
         agent.held = held
         try:
             agent.serve()
