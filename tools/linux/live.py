@@ -873,7 +873,10 @@ class Play:
             refused = self.tried(self.daemon, do="umount" if "umount" in said else "mount_plain", path=path)
             return said if refused else "done"
         act = {"mkdir": "mkdir", "rmdir": "rmdir", "umount": "umount", "mount": "mount_plain"}[said.split()[1]]
-        return self.done_as(at, self.tried(self.daemon, do=act, path=path))
+        refused = self.tried(self.daemon, do=act, path=path)
+        # A directory that isn't there, or has a mount on it, counts as removed: the daemon says so of its act.
+        counts = act == "rmdir" and refused in ("err 1", "err 3")
+        return self.done_as(at, None if counts else refused)
 
     def refused_act(self, at, job):
         """What the kernel says to an act whose attachment has ended: asked where that is a mkdir, and nobody has attached again."""
@@ -1059,8 +1062,12 @@ class Difference:
         return any(it.kind == "autofs" and it.place == self.words[2] for it in rows)
 
     def is_administrator_on_an_autofs(self):
-        refused = self.begins("mount", "bind", "umount") and self.ours == "err 2" and self.theirs == "done"
-        return refused and not (self.begins("umount") and self.meets_autofs())
+        refused = self.begins("mount", "bind", "umount") and self.ours == "err 2"
+        return refused and self.done_or_busy() and not (self.begins("umount") and self.meets_autofs())
+
+    def done_or_busy(self):
+        """The kernel does it, or an unmount is refused there as one of any other mount is: it is in use."""
+        return self.theirs == "done" or self.begins("umount") and self.theirs == "err 3"
 
     def is_bind_below_a_root(self):
         return self.begins("bind") and self.ours == "err 5" and self.theirs == "done"
@@ -1126,13 +1133,13 @@ class Difference:
         return self.begins("nscopy") and "unbindable, and on the kernel private" in self.why
 
     def is_unmount_of_an_autofs(self):
-        return self.begins("umount") and self.ours == "err 2" and self.theirs == "done" and self.meets_autofs()
+        return self.begins("umount") and self.ours == "err 2" and self.done_or_busy() and self.meets_autofs()
 
     def is_unmount_of_the_root(self):
         return self.begins("umount") and self.words[2].strip("/") == "" and self.ours == "err 3" and self.theirs == "done"
 
     def is_walk_elsewhere(self):
-        return self.begins("walk") and self.ours == "err 7" and self.asks_more()
+        return self.begins("walk", "resume") and self.ours in ("err 7", "fail 7") and self.theirs.startswith("wait")
 
 
 def unplayable(event):
