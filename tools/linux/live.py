@@ -122,12 +122,12 @@ class Agent:
         if group:
             os.setpgid(0, 0)
         self.channel.close()
-        Agent.run(other, self.held)
+        self.run(other, self.held)
         return None
 
-    @staticmethod
-    def run(channel, held):
-        agent = Agent(channel)
+    @classmethod
+    def run(cls, channel, held):
+        agent = cls(channel)
         agent.held = held
         try:
             agent.serve()
@@ -422,6 +422,7 @@ class Model:
         self.program = program
         self.script = text_of(path)
         self.head = head_of(self.script)
+        self.kept = {}
         self.events, self.answers, self.seen, self.lines = [], [], [], []
         for line in self.run("trace", self.script).splitlines():
             if line.startswith("= "):
@@ -442,6 +443,14 @@ class Model:
 
     def world(self, count):
         return self.run("world", "\n".join([*self.head, *self.events[:count]]) + "\n")
+
+    def mounts(self, count):
+        """A world's text in which the mounts are right: that behind the last event that touched some."""
+        while count and not self.events[count - 1].startswith("change ") and not any("mounted " in it for it in self.seen[count - 1]):
+            count -= 1
+        if count not in self.kept:
+            self.kept = {count: self.world(count)}
+        return self.kept[count]
 
     def is_direct(self, path):
         """Whether an autofs at this path is of a direct map: then the master has no line for it."""
@@ -864,7 +873,10 @@ class Play:
             refused = self.tried(self.daemon, do="umount" if "umount" in said else "mount_plain", path=path)
             return said if refused else "done"
         act = {"mkdir": "mkdir", "rmdir": "rmdir", "umount": "umount", "mount": "mount_plain"}[said.split()[1]]
-        return self.done_as(at, self.tried(self.daemon, do=act, path=path))
+        refused = self.tried(self.daemon, do=act, path=path)
+        # A directory that isn't there, or has a mount on it, counts as removed: the daemon says so of its act.
+        counts = act == "rmdir" and refused in ("err 1", "err 3")
+        return self.done_as(at, None if counts else refused)
 
     def refused_act(self, at, job):
         """What the kernel says to an act whose attachment has ended: asked where that is a mkdir, and nobody has attached again."""
@@ -966,7 +978,7 @@ class Play:
     def compare(self, at):
         """Plays an event, and gives both answers, and where the mounts differ."""
         answer = self.play(at)
-        tables = self.tables = Tables(self.model.world(at + 1), self.keepers)
+        tables = self.tables = Tables(self.model.mounts(at + 1), self.keepers)
         if isinstance(answer, tuple):
             _, number, place = answer
             answer = f"at {tables.numbers.theirs.get(number, f'kernel mount {number}')} {place}"
@@ -1015,7 +1027,14 @@ class Difference:
         return found[0].removeprefix("is_").replace("_", "-") if found else None
 
     def goes_on_at_once(self):
-        """Whether a walker is released that has still to go on in the model; on the kernel it has done so."""
+        """Whether a walker is released that has still to go on in the model; on the kernel it has done so.
+
+        Where it goes on now, and nothing came between that would be otherwise with it inside, that is no reason."""
+        if self.begins("resume"):
+            mine = f"released {self.words[1]} "
+            released = max((at for at in range(self.at) if any(it.startswith(mine) for it in self.model.seen[at])), default=-1)
+            if all(it.startswith(("resume ", "record ", "kind ")) for it in self.model.events[released + 1:self.at]):
+                return False
         return re.search(r"^# walk \d+ token \d+ (ready|fail)", self.world, re.M) is not None
 
     def begins(self, *words):
@@ -1043,15 +1062,19 @@ class Difference:
         return any(it.kind == "autofs" and it.place == self.words[2] for it in rows)
 
     def is_administrator_on_an_autofs(self):
-        refused = self.begins("mount", "bind", "umount") and self.ours == "err 2" and self.theirs == "done"
-        return refused and not (self.begins("umount") and self.meets_autofs())
+        refused = self.begins("mount", "bind", "umount") and self.ours == "err 2"
+        return refused and self.done_or_busy() and not (self.begins("umount") and self.meets_autofs())
+
+    def done_or_busy(self):
+        """The kernel does it, or an unmount is refused there as one of any other mount is: it is in use."""
+        return self.theirs == "done" or self.begins("umount") and self.theirs == "err 3"
 
     def is_bind_below_a_root(self):
         return self.begins("bind") and self.ours == "err 5" and self.theirs == "done"
 
     def is_another_token(self):
         """A walk opens a token of its own, or goes in before the READY."""
-        return self.begins("walk", "resume") and self.ours.startswith("wait") and self.theirs.startswith(("wait", "at"))
+        return self.begins("walk", "resume") and self.ours.startswith("wait") and self.theirs.startswith(("wait", "at")) and self.ours != self.theirs
 
     def is_copy_goes_under(self):
         return self.begins("mount", "bind", "act") and bool(self.why) and is_covered(self.model.world(self.at + 1))
@@ -1110,13 +1133,13 @@ class Difference:
         return self.begins("nscopy") and "unbindable, and on the kernel private" in self.why
 
     def is_unmount_of_an_autofs(self):
-        return self.begins("umount") and self.ours == "err 2" and self.theirs == "done" and self.meets_autofs()
+        return self.begins("umount") and self.ours == "err 2" and self.done_or_busy() and self.meets_autofs()
 
     def is_unmount_of_the_root(self):
         return self.begins("umount") and self.words[2].strip("/") == "" and self.ours == "err 3" and self.theirs == "done"
 
     def is_walk_elsewhere(self):
-        return self.begins("walk") and self.ours == "err 7" and self.asks_more()
+        return self.begins("walk", "resume") and self.ours in ("err 7", "fail 7") and self.theirs.startswith("wait")
 
 
 def unplayable(event):
@@ -1353,24 +1376,26 @@ def shortest(program, text, folder):
 
 def by_chance(program, count, seed):
     """Plays so many scripts, and tells how many of their events were compared."""
-    told_of, events, status = {}, 0, 0
-    with tempfile.TemporaryDirectory(prefix="live-") as folder:
-        for number in range(seed, seed + count):
-            text = Chance(program, number).text()
-            found, said = status_of(program, text, folder)
-            last = said.rstrip("\n").splitlines()[-1]
-            alike = re.search(r": (\d+) events alike", last)
-            events += int(alike[1]) if alike else 0
-            name = re.search(r"then ([\w-]+), ", last)
-            name = "UNTOLD" if found else name[1] if name else "alike"
-            told_of[name] = told_of.get(name, 0) + 1
-            if found:
-                status = 1
-                with open(f"untold-{number}.script", "w", encoding="utf-8") as file:
-                    file.write(shortest(program, text, folder))
-                print(f"-- seed {number}: {last}", flush=True)
-    print(f"{count} scripts, {events} events compared: " + ", ".join(f"{name} {told_of[name]}" for name in sorted(told_of)))
-    return status
+    told_of, events = {}, 0
+    try:
+        with tempfile.TemporaryDirectory(prefix="live-") as folder:
+            for number in range(seed, seed + count):
+                text = Chance(program, number).text()
+                found, said = status_of(program, text, folder)
+                last = said.rstrip("\n").splitlines()[-1]
+                alike = re.search(r": (\d+) events alike", last)
+                events += int(alike[1]) if alike else 0
+                name = re.search(r"then ([\w-]+), ", last)
+                name = "UNTOLD" if found else name[1] if name else "alike"
+                told_of[name] = told_of.get(name, 0) + 1
+                if found:
+                    print(f"-- seed {number}: {last}", flush=True)
+                    with open(f"untold-{number}.script", "w", encoding="utf-8") as file:
+                        file.write(shortest(program, text, folder))
+    finally:
+        said = ", ".join(f"{name} {told_of[name]}" for name in sorted(told_of))
+        print(f"{sum(told_of.values())} scripts, {events} events compared: {said}", flush=True)
+    return 1 if "UNTOLD" in told_of else 0
 
 
 # The command

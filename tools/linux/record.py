@@ -2,6 +2,7 @@
 """Plays a script on the running kernel, and writes the trace of what the kernel did, as `automount_cli trace` writes it.
 
 usage: tools/linux/record.py SCRIPT
+       tools/linux/record.py --compare SCRIPT..
 
 Each event stands there with the kernel's answer, and below it what was seen: the packets that came out of the pipes,
 the requests that the kernel took, which processes wait in it, go on and arrive, and what came and went in mountinfo.
@@ -14,12 +15,18 @@ file systems, attachments, walkers and tokens (in the order in which the kernel 
 found by their places. The daemon's half is the model's, and so are the lines of its book (`recorded`) and its death.
 Not seen: the status with which a walker was released that had waited for an expiry: it is that of the answer.
 
+With --compare it tells instead of each script whether the kernel's observations are those of the model's trace, whatever
+their order, but for the fields of packets that are the kernel's own; and which are not.
+
 At the first difference from the model the script is played no further, as its events are meant for what the
 model would do; then standard error says what it is. Status 0: the whole script is there; 1: up to a difference; 2: it can't
 run here, or was given other words, or a script that can't be played; 130 and 143: it was ended by SIGINT or SIGTERM.
 It leaves nothing behind, as live.py beside it, which it plays by.
 """
 
+import collections
+import contextlib
+import io
 import os
 import re
 import sys
@@ -238,13 +245,40 @@ def record(program, path):
         play.end()
 
 
+OWN = re.compile(r" ino \d+ uid \d+ gid \d+ pid \d+ tgid \d+ name .*")
+
+
+def observations(trace):
+    """How often each observation stands in a trace, without what the kernel and the model have of their own."""
+    return collections.Counter(OWN.sub("", it.strip()) for it in trace.splitlines() if it.startswith("  "))
+
+
+def compare(program, path):
+    """Tells which observations of a script are the kernel's or the model's alone, up to where they part."""
+    with contextlib.redirect_stdout(io.StringIO()) as written:
+        status = record(program, path)
+    theirs = written.getvalue()
+    last = max([0, *(int(it.split(":")[0]) for it in theirs.splitlines() if it[:1].isdigit())])
+    ours, inside = "", True
+    for line in live.Model(program, path).run("trace", live.text_of(path)).splitlines():
+        inside = int(line.split(":")[0]) <= last if line[:1].isdigit() else inside
+        ours += f"{line}\n" * inside
+    lacks, has = observations(ours) - observations(theirs), observations(theirs) - observations(ours)
+    said = "; ".join(f"{word} alone: {', '.join(it.elements())}" for word, it in (("the model", lacks), ("the kernel", has)) if it)
+    print(f"-- {os.path.basename(path)}: {observations(theirs).total()} observations{'' if said or status else ', alike'}"
+          f"{', up to where they part' if status else ''}{'; ' + said if said else ''}", flush=True)
+    return int(bool(status or said))
+
+
 def main(words):
-    if len(words) != 2 or not os.path.isfile(words[1]):
-        print("record: expected the path of a script", file=sys.stderr)
+    compares = words[1:2] == ["--compare"]
+    paths = words[2:] if compares else words[1:]
+    if not paths or not compares and len(paths) > 1 or any(not os.path.isfile(it) for it in paths):
+        print("record: expected the path of a script, or --compare and the paths of some", file=sys.stderr)
         return 2
     program = live.prepare("record")
     try:
-        return record(program, words[1])
+        return max(compare(program, it) for it in paths) if compares else record(program, paths[0])
     except (live.Unfit, live.Silence) as error:
         print(f"record: {error}", file=sys.stderr)
         return 2
