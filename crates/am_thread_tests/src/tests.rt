@@ -7,7 +7,6 @@ mod ends;
 mod releases;
 mod rows;
 mod runner;
-mod scenes;
 mod seats;
 mod shared;
 mod sizes;

@@ -1,20 +1,19 @@
 //! The events of one worked example, by callers in turn. Run with each allocation refused in turn
 //! too: a call that finds no memory keeps no receipt, and goes on when it is made again.
 
-ghost use Rattle.std.specs.Prelude.{◌≡◌, ◌<◌, vec_len, IfOk};
+ghost use Rattle.std.specs.Prelude.{◌≡◌, ◌<◌, []};
 
-use crate::tests::scenes::{Scene, Seats, played};
-use crate::tests::worlds::{call, is_line, world_and_ends};
+use crate::tests::worlds::{Beginning, call, is_line, world_and_ends};
 use am_names::Errno;
-use am_pipe::{Note, TakeEnd};
-use am_shared::{Caller, Opened, Receipt, Shared};
+use am_pipe::{Note, PutEnd, TakeEnd, pipe};
+use am_shared::{Caller, Opened, Receipt, Shared, gather, share};
 use am_world::Answer;
 use std::alloc::{AllocError, Global};
+use std::marker::Brand;
 use std::process::Abort;
 use std::sync::Wait;
-use std::sync::atomic::{AtomicU64, Ordering};
+use std::sync::ledger::Blank;
 use std::test::*;
-use std::thread::Threads;
 
 const HOMES: &[u8] = b"home -fstype=nfs srv:/home\nwork srv:/work";
 
@@ -157,82 +156,58 @@ fn is_packet(found: Option<(u64, Note)>) -> bool {
         && rest.iter().all(|byte| *byte == 0)
 }
 
-fn takes<R: Wait>(rt: &R, takers: &mut [TakeEnd]) -> Option<(u64, Note)> {
-    takers.first_mut()?.take(rt)
-}
-
-/// The packet of token 1 was queued, and no other.
-fn takes_one<R: Wait>(rt: &R, takers: &mut [TakeEnd]) -> bool {
-    is_packet(takes(rt, takers)) && takes(rt, takers).is_none()
-}
-
-/// The events of the example, each made by the next caller.
-#[derive(Drop)]
-struct InTurn {
-    /// The position of the last of them.
-    last: AtomicU64,
-}
-
-impl Scene for InTurn {
-    type End = End;
-
-    fn play<L: Opened + Send + Sync, R: Threads + Wait + Abort + Sync>(
-        &self,
-        rt: &R,
-        alloc: Global,
-        callers: Vec<Caller<L>>,
-        takers: Vec<TakeEnd>,
-    ) -> Result<Vec<Caller<L>>, AllocError>
-        ensures { IfOk result (λ back. vec_len back ≡ vec_len callers) }
-    {
-        let mut callers = callers;
-        let mut takers = takers;
-        let last = plays(rt, alloc, callers.as_mut_slice());
-        self.last.store(last, Ordering::SeqCst);
-        assert!(rt;
-            takes_one(rt, takers.as_mut_slice()),
-            "the packet of token 1, and no other"
-        );
-        Ok(callers)
-    }
-
-    fn end_of(&self, _alloc: Global, shared: &Shared, count: u64, test: bool) -> End {
-        end_of(shared, count, test)
-    }
-}
-
-fn plays_once<R: Threads + Wait + Abort + Sync>(
+/// Shares a world among so many callers, and plays the example.
+fn played<L: Opened, R: Wait + Abort>(
     rt: &R,
     alloc: Global,
+    blank: Blank,
+    begun: Beginning,
+    put: PutEnd,
     callers: u32,
 ) -> Result<(), AllocError>
-    requires { 0 < callers }
+    requires blank { (blank.name ≡ L.name) × (blank.parts ≡ L.parts) }
+    requires callers { (blank.parts ≡ callers) × (0 < callers) }
+    requires opening { L.opening ≡ record {
+      limits = begun.limits;
+      master = begun.master;
+      maps = begun.maps.items;
+    } }
+    requires put { put.sent ≡ [] }
 {
-    let begun = world_and_ends(alloc, HOMES)?;
-    let seats = Seats {
-        callers,
-        capacity: 4,
-        takers: 1,
-    };
-    let turns = InTurn {
-        last: AtomicU64::new(0),
-    };
-    let end = played(rt, alloc, begun, seats, &turns)?;
-    assert!(rt;
-        end.count == turns.last.load(Ordering::SeqCst),
-        "the number of calls"
-    );
+    let Beginning {
+        limits,
+        master,
+        maps,
+    } = begun;
+    let mut made = share::<L>(alloc, blank, limits, master, maps, put, callers)?;
+    let last = plays(rt, alloc, made.as_mut_slice());
+    let end = gather(rt, made, |shared, count, test| end_of(shared, count, test));
+    assert!(rt; end.count == last, "the number of calls");
     assert!(rt; end.calls == SERVED.len(), "each call was made once");
     assert!(rt; end.test, "each call has its receipt");
     Ok(())
 }
 
+fn takes<R: Wait>(rt: &R, takers: &mut [TakeEnd]) -> Option<(u64, Note)> {
+    takers.first_mut()?.take(rt)
+}
+
+fn plays_once<R: Wait + Abort>(rt: &R, alloc: Global, callers: u32) -> Result<(), AllocError>
+    requires { 0 < callers }
+{
+    let begun = world_and_ends(alloc, HOMES)?;
+    let (put, mut takers) = pipe(alloc, 4, 1)?;
+    let blank = Blank::new(callers as u64);
+    played::<Brand, R>(rt, alloc, blank, begun, put, callers)?;
+    let taken = takes(rt, takers.as_mut_slice());
+    assert!(rt; is_packet(taken), "the packet of token 1");
+    let more = takes(rt, takers.as_mut_slice());
+    assert!(rt; more.is_none(), "one packet was queued");
+    Ok(())
+}
+
 /// Played anew where there was no memory to share the world.
-fn plays_in_the_end<R: Threads + Wait + Abort + Sync>(
-    rt: &R,
-    alloc: Global,
-    callers: u32,
-) -> Result<(), AllocError>
+fn plays_in_the_end<R: Wait + Abort>(rt: &R, alloc: Global, callers: u32) -> Result<(), AllocError>
     requires { 0 < callers }
 {
     match plays_once(rt, alloc, callers) {

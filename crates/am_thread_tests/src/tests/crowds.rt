@@ -1,20 +1,21 @@
 //! Threads that walk, serve, mount and expire, all at once. The history is one of a single thread.
 
-ghost use Rattle.std.specs.Prelude.{◌≡◌, vec_len, IfOk};
+ghost use Rattle.std.specs.Prelude.{◌≡◌, ◌<◌, []};
 
-use crate::tests::scenes::{Scene, Seats, attach, played};
 use crate::tests::sizes::number;
-use crate::tests::worlds::{call, world_and_ends, world_of};
+use crate::tests::worlds::{Beginning, call, world_and_ends, world_of};
 use am_machine::Entry;
 use am_names::{JobId, Token, WalkerId};
-use am_pipe::TakeEnd;
-use am_shared::{Caller, Opened, Shared};
+use am_pipe::{PutEnd, pipe};
+use am_shared::{Caller, Opened, Shared, gather, share};
 use am_state::Obs;
 use am_world::laws::trace_holds;
 use am_world::{Answer, Ran, World, run};
 use std::alloc::{AllocError, Global};
+use std::marker::Brand;
 use std::process::Abort;
 use std::sync::Wait;
+use std::sync::ledger::Blank;
 use std::test::*;
 use std::thread;
 use std::thread::Threads;
@@ -247,41 +248,53 @@ fn end_of(
     })
 }
 
-impl Scene for Size {
-    type End = Result<End, AllocError>;
-
-    fn play<L: Opened + Send + Sync, R: Threads + Wait + Abort + Sync>(
-        &self,
-        rt: &R,
-        alloc: Global,
-        callers: Vec<Caller<L>>,
-        _takers: Vec<TakeEnd>,
-    ) -> Result<Vec<Caller<L>>, AllocError>
-        ensures { IfOk result (λ back. vec_len back ≡ vec_len callers) }
-    {
-        let mut callers = callers;
-        assert!(rt;
-            attach(rt, alloc, callers.as_mut_slice()).is_some(),
-            "an autofs"
-        );
-        thread::for_each_mut(
-            rt,
-            callers.as_mut_slice(),
-            self.threads as usize,
-            &|index, caller| rounds(rt, alloc, self.calls, index, caller),
-        );
-        Ok(callers)
+fn attach<L: Opened, R: Wait>(rt: &R, alloc: Global, callers: &mut [Caller<L>]) -> bool {
+    match callers.first_mut() {
+        Some(first) => makes(rt, alloc, 1, first, "attach /auto").is_none(),
+        None => false,
     }
+}
 
-    fn end_of(
-        &self,
-        alloc: Global,
-        shared: &Shared,
-        count: u64,
-        test: bool,
-    ) -> Result<End, AllocError> {
-        end_of(alloc, shared, *self, count, test)
-    }
+fn crowd<L: Opened + Send + Sync, R: Threads + Wait + Abort + Sync>(
+    rt: &R,
+    alloc: Global,
+    blank: Blank,
+    begun: Beginning,
+    put: PutEnd,
+    size: Size,
+) -> Result<(), AllocError>
+    requires blank { (blank.name ≡ L.name) × (blank.parts ≡ L.parts) }
+    requires threads { (blank.parts ≡ size.threads) × (0 < size.threads) }
+    requires opening { L.opening ≡ record {
+      limits = begun.limits;
+      master = begun.master;
+      maps = begun.maps.items;
+    } }
+    requires put { put.sent ≡ [] }
+{
+    let Beginning {
+        limits,
+        master,
+        maps,
+    } = begun;
+    let mut callers = share::<L>(alloc, blank, limits, master, maps, put, size.threads)?;
+    assert!(rt; attach(rt, alloc, callers.as_mut_slice()), "an autofs");
+    thread::for_each_mut(
+        rt,
+        callers.as_mut_slice(),
+        size.threads as usize,
+        &|index, caller| rounds(rt, alloc, size.calls, index, caller),
+    );
+    let end = gather(
+        rt,
+        callers,
+        |shared, count, test| end_of(alloc, shared, size, count, test),
+    )?;
+    assert_eq!(rt; end.count, all_calls(size));
+    assert!(rt; end.test, "each call has its receipt");
+    assert!(rt; end.is_replayed, "the history is one of a single thread");
+    assert!(rt; end.is_lawful, "the trace is lawful");
+    Ok(())
 }
 
 fn size_of(rt: &HostRuntime) -> Size {
@@ -298,15 +311,8 @@ fn a_crowd(rt: HostRuntime) -> Result<(), Fail> {
     let size = size_of(&rt);
     assert!(rt; size.threads > 0, "a thread at least");
     let begun = world_and_ends(alloc, ANY)?;
-    let seats = Seats {
-        callers: size.threads,
-        capacity: 64,
-        takers: 1,
-    };
-    let end = played(&rt, alloc, begun, seats, &size)??;
-    assert_eq!(rt; end.count, all_calls(size));
-    assert!(rt; end.test, "each call has its receipt");
-    assert!(rt; end.is_replayed, "the history is one of a single thread");
-    assert!(rt; end.is_lawful, "the trace is lawful");
+    let (put, _takers) = pipe(alloc, 64, 1)?;
+    let blank = Blank::new(size.threads as u64);
+    crowd::<Brand, HostRuntime>(&rt, alloc, blank, begun, put, size)?;
     Ok(())
 }

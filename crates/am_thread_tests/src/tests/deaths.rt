@@ -1,24 +1,26 @@
 //! The daemon dies, again and again, while walkers walk and workers serve. What is seen stays
 //! lawful, and what fails has the number that the backend told.
 
-ghost use Rattle.std.specs.Prelude.{◌≡◌, vec_len, IfOk};
+ghost use Rattle.std.specs.Prelude.{◌≡◌, ◌<◌, [], vec_len, IfOk};
 
-use crate::tests::scenes::{Scene, Seats, attach, played};
-use crate::tests::seats::{Part, Seat, at_seats};
+use crate::tests::seats::{Seat, callers_of, seats_of};
 use crate::tests::sizes::number;
-use crate::tests::worlds::world_and_failures;
-use am_machine::{Entry, Event};
+use crate::tests::worlds::{Beginning, call, world_and_failures};
+use am_machine::{Answer, Entry, Event};
 use am_map::Entry as MapEntry;
 use am_names::{AbsPath, FailNo, FsId, Seconds, Trigger, WalkerId};
-use am_pipe::TakeEnd;
+use am_pipe::{PutEnd, TakeEnd, pipe};
 use am_runner::{Backend, Gate, breaker, daemon_worker, walker};
-use am_shared::{Caller, Opened, Shared};
+use am_shared::{Caller, Opened, Shared, gather, share};
 use am_world::laws::trace_holds;
 use std::alloc::{AllocError, Global};
+use std::marker::Brand;
 use std::process::Abort;
 use std::sync::Wait;
 use std::sync::atomic::{AtomicBool, AtomicU32, Ordering};
+use std::sync::ledger::Blank;
 use std::test::*;
+use std::thread;
 use std::thread::Threads;
 
 /// Every key is mounted from one place.
@@ -72,6 +74,7 @@ impl Backend for FailsInTurn<'_> {
 #[derive(Drop)]
 struct Common {
     size: Size,
+    fs: FsId,
     /// How many walkers, and who breaks, are back.
     back: AtomicU32,
     stop: AtomicBool,
@@ -113,12 +116,11 @@ fn asks<L: Opened, R: Wait>(
     rt: &R,
     alloc: Global,
     common: &Common,
-    fs: FsId,
     caller: Caller<L>,
     number: u32,
 ) -> Caller<L> {
     let back = if number.wrapping_add(1) == all_seats(common.size) {
-        breaker(rt, alloc, caller, fs, common.size.breaks)
+        breaker(rt, alloc, caller, common.fs, common.size.breaks)
     } else {
         walks(rt, alloc, common, caller, number)
     };
@@ -141,31 +143,47 @@ fn works<L: Opened, R: Wait>(
     daemon_worker(rt, alloc, caller, taker, &Open, backend, &common.stop).0
 }
 
-/// What each caller does once there is an autofs.
-#[derive(Clone, Copy)]
-struct Parts<'a> {
-    common: &'a Common,
-    fs: FsId,
+fn takes_part<L: Opened, R: Wait>(
+    rt: &R,
+    alloc: Global,
+    common: &Common,
+    index: usize,
+    seat: &mut Seat<L>,
+) {
+    let Some(caller) = seat.caller.take() else {
+        return;
+    };
+    let back = match seat.taker.take() {
+        Some(taker) => works(rt, alloc, common, caller, taker),
+        None => asks(rt, alloc, common, caller, u32::try_from(index).unwrap_or(0)),
+    };
+    seat.caller = Some(back);
 }
 
-impl Part for Parts<'_> {
-    fn takes_part<L: Opened, R: Wait>(
-        &self,
-        rt: &R,
-        alloc: Global,
-        index: usize,
-        seat: &mut Seat<L>,
-    ) {
-        let Some(caller) = seat.caller.take() else {
-            return;
-        };
-        let number = u32::try_from(index).unwrap_or(0);
-        let back = match seat.taker.take() {
-            Some(taker) => works(rt, alloc, self.common, caller, taker),
-            None => asks(rt, alloc, self.common, self.fs, caller, number),
-        };
-        seat.caller = Some(back);
+/// So many callers, when all have made their rounds and the workers have stopped.
+fn all_back<L: Opened + Send + Sync, R: Threads + Wait + Abort + Sync>(
+    rt: &R,
+    alloc: Global,
+    common: &Common,
+    count: u32,
+    callers: Vec<Caller<L>>,
+    takers: Vec<TakeEnd>,
+) -> Result<Vec<Caller<L>>, AllocError>
+    requires { 0 < count }
+    ensures { IfOk result (λ back. vec_len back ≡ count) }
+{
+    let mut seats = seats_of(alloc, callers, takers)?;
+    thread::for_each_mut(
+        rt,
+        seats.as_mut_slice(),
+        count as usize,
+        &|index, seat| takes_part(rt, alloc, common, index, seat),
+    );
+    let back = callers_of(alloc, seats)?;
+    if back.len() != count as usize {
+        return Err(AllocError);
     }
+    Ok(back)
 }
 
 /// What is left when all is over.
@@ -211,29 +229,62 @@ fn end_of(shared: &Shared, count: u64, test: bool) -> End {
     }
 }
 
-impl Scene for Common {
-    type End = End;
-
-    fn play<L: Opened + Send + Sync, R: Threads + Wait + Abort + Sync>(
-        &self,
-        rt: &R,
-        alloc: Global,
-        callers: Vec<Caller<L>>,
-        takers: Vec<TakeEnd>,
-    ) -> Result<Vec<Caller<L>>, AllocError>
-        ensures { IfOk result (λ back. vec_len back ≡ vec_len callers) }
-    {
-        let mut callers = callers;
-        let Some(fs) = attach(rt, alloc, callers.as_mut_slice()) else {
-            panic!(rt; "no autofs");
-        };
-        let parts = Parts { common: self, fs };
-        at_seats(rt, alloc, callers, takers, &parts)
+/// An autofs at /auto.
+fn attach<L: Opened, R: Wait>(rt: &R, alloc: Global, callers: &mut [Caller<L>]) -> Option<FsId> {
+    let first = callers.first_mut()?;
+    match call(rt, alloc, first, b"attach /auto")?.answer {
+        Answer::Attached { fs, .. } => Some(fs),
+        _ => None,
     }
+}
 
-    fn end_of(&self, _alloc: Global, shared: &Shared, count: u64, test: bool) -> End {
-        end_of(shared, count, test)
-    }
+fn dies<L: Opened + Send + Sync, R: Threads + Wait + Abort + Sync>(
+    rt: &R,
+    alloc: Global,
+    blank: Blank,
+    begun: Beginning,
+    put: PutEnd,
+    takers: Vec<TakeEnd>,
+    size: Size,
+    seats: u32,
+) -> Result<(), AllocError>
+    requires blank { (blank.name ≡ L.name) × (blank.parts ≡ L.parts) }
+    requires seats { (blank.parts ≡ seats) × (0 < seats) }
+    requires opening { L.opening ≡ record {
+      limits = begun.limits;
+      master = begun.master;
+      maps = begun.maps.items;
+    } }
+    requires put { put.sent ≡ [] }
+{
+    let Beginning {
+        limits,
+        master,
+        maps,
+    } = begun;
+    let mut callers = share::<L>(alloc, blank, limits, master, maps, put, seats)?;
+    let Some(fs) = attach(rt, alloc, callers.as_mut_slice()) else {
+        panic!(rt; "no autofs");
+    };
+    let common = Common {
+        size,
+        fs,
+        back: AtomicU32::new(0),
+        stop: AtomicBool::new(false),
+        mounts: AtomicU32::new(0),
+    };
+    let back = all_back(rt, alloc, &common, seats, callers, takers)?;
+    let end = gather(rt, back, |shared, count, test| end_of(shared, count, test));
+    assert!(rt; end.count == end.calls as u64, "each call is counted");
+    assert!(rt; end.test, "each call has its receipt");
+    assert!(rt; end.is_lawful, "the trace is lawful");
+    let mounts = common.mounts.load(Ordering::SeqCst) as u64;
+    assert!(rt;
+        end.failed[0] == (mounts + 2) / 4,
+        "each first failure is told"
+    );
+    assert!(rt; end.failed[1] == mounts / 4, "each second failure is told");
+    Ok(())
 }
 
 fn size_of(rt: &HostRuntime) -> Size {
@@ -252,31 +303,13 @@ fn plays<R: Threads + Wait + Abort + Sync>(
     size: Size,
     negative: Seconds,
 ) -> Result<(), AllocError> {
-    assert!(rt; all_seats(size) > 0, "a seat at least");
+    let seats = all_seats(size);
+    assert!(rt; seats > 0, "a seat at least");
     assert!(rt; size.workers > 0, "a worker at least");
     let begun = world_and_failures(alloc, ANY, negative)?;
-    let seats = Seats {
-        callers: all_seats(size),
-        capacity: 64,
-        takers: size.workers as usize,
-    };
-    let common = Common {
-        size,
-        back: AtomicU32::new(0),
-        stop: AtomicBool::new(false),
-        mounts: AtomicU32::new(0),
-    };
-    let end = played(rt, alloc, begun, seats, &common)?;
-    assert!(rt; end.count == end.calls as u64, "each call is counted");
-    assert!(rt; end.test, "each call has its receipt");
-    assert!(rt; end.is_lawful, "the trace is lawful");
-    let mounts = common.mounts.load(Ordering::SeqCst) as u64;
-    assert!(rt;
-        end.failed[0] == (mounts + 2) / 4,
-        "each first failure is told"
-    );
-    assert!(rt; end.failed[1] == mounts / 4, "each second failure is told");
-    Ok(())
+    let (put, takers) = pipe(alloc, 64, size.workers as usize)?;
+    let blank = Blank::new(seats as u64);
+    dies::<Brand, R>(rt, alloc, blank, begun, put, takers, size, seats)
 }
 
 #[test]

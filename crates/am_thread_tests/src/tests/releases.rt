@@ -1,16 +1,17 @@
 //! A walker that waits in a thread of its own, until the daemon's thread has released it.
 
-ghost use Rattle.std.specs.Prelude.{◌≡◌, vec_len, IfOk};
+ghost use Rattle.std.specs.Prelude.{◌≡◌, []};
 
-use crate::tests::scenes::{Scene, Seats, played};
-use crate::tests::worlds::{call, is_line, world_and_ends};
+use crate::tests::worlds::{Beginning, call, is_line, world_and_ends};
 use am_names::WalkerId;
-use am_pipe::TakeEnd;
-use am_shared::{Caller, Opened, Shared};
+use am_pipe::{PutEnd, pipe};
+use am_shared::{Caller, Opened, gather, share};
 use std::alloc::{AllocError, Global};
+use std::marker::Brand;
 use std::process::Abort;
 use std::sync::Wait;
 use std::sync::atomic::{AtomicU32, Ordering};
+use std::sync::ledger::Blank;
 use std::test::*;
 use std::thread;
 use std::thread::Threads;
@@ -79,53 +80,49 @@ fn begins<L: Opened, R: Wait>(rt: &R, alloc: Global, callers: &mut [Caller<L>]) 
     )
 }
 
-/// A walker and the daemon, each in a thread.
-struct Released;
-
-impl Scene for Released {
-    /// How many calls there were, and the test of their receipts.
-    type End = (u64, bool);
-
-    fn play<L: Opened + Send + Sync, R: Threads + Wait + Abort + Sync>(
-        &self,
-        rt: &R,
-        alloc: Global,
-        callers: Vec<Caller<L>>,
-        _takers: Vec<TakeEnd>,
-    ) -> Result<Vec<Caller<L>>, AllocError>
-        ensures { IfOk result (λ back. vec_len back ≡ vec_len callers) }
-    {
-        let mut callers = callers;
-        assert!(rt;
-            begins(rt, alloc, callers.as_mut_slice()),
-            "the walker waits"
-        );
-        let done = AtomicU32::new(0);
-        thread::for_each_mut(
-            rt,
-            callers.as_mut_slice(),
-            2,
-            &|index, caller| takes_part(rt, alloc, &done, index, caller),
-        );
-        assert_eq!(rt; done.load(Ordering::SeqCst), 2);
-        Ok(callers)
-    }
-
-    fn end_of(&self, _alloc: Global, _shared: &Shared, count: u64, test: bool) -> (u64, bool) {
-        (count, test)
-    }
+fn released<L: Opened + Send + Sync, R: Threads + Wait + Abort + Sync>(
+    rt: &R,
+    alloc: Global,
+    blank: Blank,
+    begun: Beginning,
+    put: PutEnd,
+) -> Result<(), AllocError>
+    requires blank { (blank.name ≡ L.name) × (blank.parts ≡ L.parts) × (blank.parts ≡ 2) }
+    requires opening { L.opening ≡ record {
+      limits = begun.limits;
+      master = begun.master;
+      maps = begun.maps.items;
+    } }
+    requires put { put.sent ≡ [] }
+{
+    let Beginning {
+        limits,
+        master,
+        maps,
+    } = begun;
+    let mut callers = share::<L>(alloc, blank, limits, master, maps, put, 2)?;
+    assert!(rt;
+        begins(rt, alloc, callers.as_mut_slice()),
+        "the walker waits"
+    );
+    let done = AtomicU32::new(0);
+    thread::for_each_mut(
+        rt,
+        callers.as_mut_slice(),
+        2,
+        &|index, caller| takes_part(rt, alloc, &done, index, caller),
+    );
+    assert_eq!(rt; done.load(Ordering::SeqCst), 2);
+    let (count, test) = gather(rt, callers, |_shared, count, test| (count, test));
+    assert!(rt; count == 8 && test, "eight calls");
+    Ok(())
 }
 
 #[test]
 fn a_walker_waits_for_its_release(rt: HostRuntime) -> Result<(), Fail> {
     let alloc = rt.alloc();
     let begun = world_and_ends(alloc, b"home srv:/home")?;
-    let seats = Seats {
-        callers: 2,
-        capacity: 1,
-        takers: 1,
-    };
-    let (count, test) = played(&rt, alloc, begun, seats, &Released)?;
-    assert!(rt; count == 8 && test, "eight calls");
+    let (put, _takers) = pipe(alloc, 1, 1)?;
+    released::<Brand, HostRuntime>(&rt, alloc, Blank::new(2), begun, put)?;
     Ok(())
 }

@@ -1,20 +1,21 @@
 //! Walkers, workers and an expirer as threads.
 
-ghost use Rattle.std.specs.Prelude.{◌≡◌, ◌<◌, vec_len, IfOk};
+ghost use Rattle.std.specs.Prelude.{◌≡◌, ◌<◌, [], vec_len, IfOk};
 
-use crate::tests::scenes::{Scene, Seats, attach, played};
-use crate::tests::seats::{Part, Seat, at_seats};
-use crate::tests::worlds::world_and_ends;
+use crate::tests::seats::{Seat, callers_of, seats_of};
+use crate::tests::worlds::{Beginning, call, world_and_ends};
 use am_machine::{Answer, Entry};
 use am_map::Entry as MapEntry;
 use am_names::{AbsPath, Errno, FailNo, Trigger, WalkerId};
-use am_pipe::TakeEnd;
+use am_pipe::{PutEnd, TakeEnd, pipe};
 use am_runner::{Backend, Gate, Tally, daemon_worker, run_threads, walker};
-use am_shared::{Caller, Opened, Shared};
+use am_shared::{Caller, Opened, Shared, gather, share};
 use std::alloc::{AllocError, Global};
+use std::marker::Brand;
 use std::process::Abort;
 use std::sync::Wait;
 use std::sync::atomic::{AtomicBool, AtomicU32, Ordering};
+use std::sync::ledger::Blank;
 use std::test::*;
 use std::thread;
 use std::thread::Threads;
@@ -103,23 +104,39 @@ fn works<L: Opened, R: Wait>(
     daemon_worker(rt, alloc, caller, taker, held, Succeeds, &held.stop).0
 }
 
-impl Part for Held {
-    fn takes_part<L: Opened, R: Wait>(
-        &self,
-        rt: &R,
-        alloc: Global,
-        index: usize,
-        seat: &mut Seat<L>,
-    ) {
-        let Some(caller) = seat.caller.take() else {
-            return;
-        };
-        let back = match seat.taker.take() {
-            Some(taker) => works(rt, alloc, self, caller, taker),
-            None => walks(rt, alloc, self, caller, index),
-        };
-        seat.caller = Some(back);
+fn acts<L: Opened, R: Wait>(rt: &R, alloc: Global, held: &Held, index: usize, seat: &mut Seat<L>) {
+    let Some(caller) = seat.caller.take() else {
+        return;
+    };
+    let back = match seat.taker.take() {
+        Some(taker) => works(rt, alloc, held, caller, taker),
+        None => walks(rt, alloc, held, caller, index),
+    };
+    seat.caller = Some(back);
+}
+
+/// All four callers, when the walkers have walked and the workers have stopped.
+fn four_back<L: Opened + Send + Sync, R: Threads + Wait + Abort + Sync>(
+    rt: &R,
+    alloc: Global,
+    held: &Held,
+    callers: Vec<Caller<L>>,
+    takers: Vec<TakeEnd>,
+) -> Result<Vec<Caller<L>>, AllocError>
+    ensures { IfOk result (λ back. vec_len back ≡ 4) }
+{
+    let mut seats = seats_of(alloc, callers, takers)?;
+    thread::for_each_mut(
+        rt,
+        seats.as_mut_slice(),
+        4,
+        &|index, seat| acts(rt, alloc, held, index, seat),
+    );
+    let back = callers_of(alloc, seats)?;
+    if back.len() != 4 {
+        return Err(AllocError);
     }
+    Ok(back)
 }
 
 fn is_not_released(entry: &Entry) -> bool {
@@ -147,29 +164,52 @@ fn end_of(shared: &Shared, count: u64, test: bool) -> End {
     }
 }
 
-impl Scene for Held {
-    type End = End;
-
-    fn play<L: Opened + Send + Sync, R: Threads + Wait + Abort + Sync>(
-        &self,
-        rt: &R,
-        alloc: Global,
-        callers: Vec<Caller<L>>,
-        takers: Vec<TakeEnd>,
-    ) -> Result<Vec<Caller<L>>, AllocError>
-        ensures { IfOk result (λ back. vec_len back ≡ vec_len callers) }
-    {
-        let mut callers = callers;
-        assert!(rt;
-            attach(rt, alloc, callers.as_mut_slice()).is_some(),
-            "an autofs"
-        );
-        at_seats(rt, alloc, callers, takers, self)
+fn attach<L: Opened, R: Wait>(rt: &R, alloc: Global, callers: &mut [Caller<L>]) -> bool {
+    match callers.first_mut() {
+        Some(first) => call(rt, alloc, first, b"attach /auto").is_some(),
+        None => false,
     }
+}
 
-    fn end_of(&self, _alloc: Global, shared: &Shared, count: u64, test: bool) -> End {
-        end_of(shared, count, test)
-    }
+fn meets<L: Opened + Send + Sync, R: Threads + Wait + Abort + Sync>(
+    rt: &R,
+    alloc: Global,
+    blank: Blank,
+    begun: Beginning,
+    put: PutEnd,
+    takers: Vec<TakeEnd>,
+) -> Result<(), AllocError>
+    requires blank { (blank.name ≡ L.name) × (blank.parts ≡ L.parts) × (blank.parts ≡ 4) }
+    requires opening { L.opening ≡ record {
+      limits = begun.limits;
+      master = begun.master;
+      maps = begun.maps.items;
+    } }
+    requires put { put.sent ≡ [] }
+{
+    let Beginning {
+        limits,
+        master,
+        maps,
+    } = begun;
+    let mut callers = share::<L>(alloc, blank, limits, master, maps, put, 4)?;
+    assert!(rt; attach(rt, alloc, callers.as_mut_slice()), "an autofs");
+    let held = Held {
+        arrived: AtomicBool::new(false),
+        back: AtomicU32::new(0),
+        stop: AtomicBool::new(false),
+        late: AtomicBool::new(false),
+    };
+    let back = four_back(rt, alloc, &held, callers, takers)?;
+    let end = gather(rt, back, |shared, count, test| end_of(shared, count, test));
+    assert!(rt;
+        !held.late.load(Ordering::SeqCst),
+        "the other worker serves meanwhile"
+    );
+    assert_eq!(rt; end.count, 17);
+    assert!(rt; end.test, "each call has its receipt");
+    assert!(rt; end.are_released, "no walker resumes too early");
+    Ok(())
 }
 
 /// Each walker walks to a key of its own, and each worker serves one of them.
@@ -181,26 +221,8 @@ fn two_at_once<R: Threads + Wait + Abort + Sync>(
     requires { 0 < capacity }
 {
     let begun = world_and_ends(alloc, b"* srv:/any")?;
-    let seats = Seats {
-        callers: 4,
-        capacity,
-        takers: 2,
-    };
-    let held = Held {
-        arrived: AtomicBool::new(false),
-        back: AtomicU32::new(0),
-        stop: AtomicBool::new(false),
-        late: AtomicBool::new(false),
-    };
-    let end = played(rt, alloc, begun, seats, &held)?;
-    assert!(rt;
-        !held.late.load(Ordering::SeqCst),
-        "the other worker serves meanwhile"
-    );
-    assert_eq!(rt; end.count, 17);
-    assert!(rt; end.test, "each call has its receipt");
-    assert!(rt; end.are_released, "no walker resumes too early");
-    Ok(())
+    let (put, takers) = pipe(alloc, capacity, 2)?;
+    meets::<Brand, R>(rt, alloc, Blank::new(4), begun, put, takers)
 }
 
 #[test]
