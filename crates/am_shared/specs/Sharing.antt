@@ -3,7 +3,7 @@
 use Rattle.std.specs.Prelude.{◌≡◌, ℕ, List, [], ◌∷◌, ◌++◌, length}
 use Rattle.am_state.specs.{Obs}
 use Rattle.am_laws.specs.{Lawful}
-use Rattle.am_machine.specs.{Event, Answer, Agree, AreInStep, Setup, initial_state_of, Step, Run, IsLegal, Entry, entry, events_of, answers_of}
+use Rattle.am_machine.specs.{Event, Answer, Agree, AreInStep, IsReached, IsTold, Setup, initial_state_of, Step, Run, IsLegal, Entry, entry, events_of, answers_of}
 use Rattle.am_world.specs.Capacity.{state_of}
 use Rattle.am_world.specs.{WorldTable}
 use Rattle.am_pipe.specs.{Note, Putter}
@@ -26,6 +26,9 @@ pub record IsShared (s : Sharing) : Type 0 where
   -- they wait only where the pipe may be full
   pub flushed : IsFlushed s.put s.unsent
   pub lawful : Lawful s.world.trace
+  -- the world is what its trace tells, and came by a run along paths, of which each law is said
+  pub tells : IsTold (state_of s.world)
+  pub reached : IsReached (state_of s.world)
   pub agree : Agree (state_of s.world)
   pub in_step : AreInStep (state_of s.world)
 
