@@ -1,0 +1,7 @@
+pub mod BackLemmas
+pub mod Digits
+pub mod MountLemmas
+pub mod NumberLemmas
+pub mod PartLemmas
+pub mod SoundLemmas
+pub mod TraceLemmas

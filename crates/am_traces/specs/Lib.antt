@@ -1,0 +1,5 @@
+pub mod Observations
+pub mod Parts
+pub mod Read
+pub mod Says
+pub mod Texts

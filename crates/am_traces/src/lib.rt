@@ -1,0 +1,13 @@
+//! The traces that are printed, read back and judged by their laws.
+#![tactic(auto)]
+
+pub mod fault;
+pub mod law;
+mod line;
+mod part;
+mod rest;
+pub mod trace;
+mod word;
+
+pub use fault::{Expected, TraceFault};
+pub use trace::read_trace;
