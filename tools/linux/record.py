@@ -3,6 +3,7 @@
 
 usage: tools/linux/record.py SCRIPT
        tools/linux/record.py --compare SCRIPT..
+       tools/linux/record.py --log FILE
 
 Each event stands there with the kernel's answer, and below it what was seen: the packets that came out of the pipes,
 the requests that the kernel took, which processes wait in it, go on and arrive, and what came and went in mountinfo.
@@ -17,6 +18,10 @@ Not seen: the status with which a walker was released that had waited for an exp
 
 With --compare it tells instead of each script whether the kernel's observations are those of the model's trace, whatever
 their order, but for the fields of packets that are the kernel's own; and which are not.
+
+With --log it plays nothing: it reads what `automount -f -d` has written, and writes the observations that are in it: the packets
+that the daemon has read, and its answers. An autofs has the number of its line `mounted`, from 2 on, and one attachment; a packet that stands
+there with no path behind it is left out with its answer, and told on standard error.
 
 At the first difference from the model the script is played no further, as its events are meant for what the
 model would do; then standard error says what it is. Status 0: the whole script is there; 1: up to a difference; 2: it can't
@@ -270,11 +275,50 @@ def compare(program, path):
     return int(bool(status or said))
 
 
+# What automount logs of its packets and its answers.
+
+PACKET = re.compile(r"handle_packet_(missing|expire)_(indirect|direct): token (\d+), name (\S+?)(?:, request pid (\d+))?$")
+ANSWER = re.compile(r"dev_ioctl_send_(ready|fail): token = (\d+)$")
+POINT = re.compile(r"mounted (?:indirect|direct) on (\S+) with timeout ")
+WAY = re.compile(r"(?:attempting to mount entry|expiring path) (\S+)$")
+
+
+def joined(path):
+    return "/" + "/".join(filter(None, path.split("/")))
+
+
+def of_a_log(lines):
+    """The observations of a log of automount."""
+    points, told = [], set()
+    for at, line in enumerate(lines):
+        point, packet, answer = POINT.search(line), PACKET.search(line), ANSWER.search(line)
+        if point:
+            points.append(joined(point[1]))
+        elif packet:
+            what, kind, token, name, pid = packet.groups()
+            ways = (joined(it[1]) for it in map(WAY.search, lines[at:]) if it)
+            path = joined(name) if kind == "direct" else next((it for it in ways if it.rpartition("/")[2] == name), "").rpartition("/")[0]
+            if path not in points:
+                print(f"record: line {at + 1}: no path stands behind the packet of token {token}", file=sys.stderr)
+                continue
+            told.add(token)
+            number = points.index(path)
+            fields = f"dev {number + 2} ino 0 uid 0 gid 0 pid {pid or 0} tgid {pid or 0} name {'direct' if kind == 'direct' else name}"
+            for word in ("queued", "delivered"):
+                yield f"{word} {token} attach {number + 1} {what}-{kind} {fields}"
+        elif answer and answer[2] in told:
+            yield f"answered {answer[2]} {answer[1]}"
+
+
 def main(words):
+    if words[1:2] == ["--log"] and len(words) == 3 and os.path.isfile(words[2]):
+        for line in of_a_log(live.text_of(words[2]).splitlines()):
+            print(f"  {line}")
+        return 0
     compares = words[1:2] == ["--compare"]
     paths = words[2:] if compares else words[1:]
     if not paths or not compares and len(paths) > 1 or any(not os.path.isfile(it) for it in paths):
-        print("record: expected the path of a script, or --compare and the paths of some", file=sys.stderr)
+        print("record: expected the path of a script, --compare and the paths of some, or --log and a file", file=sys.stderr)
         return 2
     program = live.prepare("record")
     try:
