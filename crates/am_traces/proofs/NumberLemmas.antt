@@ -24,7 +24,7 @@ drop_front (x ∷ xs) ys = drop_front xs ys
 
 -- ---- digits
 
-own : IsNumeralModel (λ ds. list_all is_digit ds ≡ true) (digits_value 10)
+pub own : IsNumeralModel (λ ds. list_all is_digit ds ≡ true) (digits_value 10)
 own = numerals_by_value _ (search rules)
 
 -- no digit stands first

@@ -1,0 +1,86 @@
+-- A printed trace says what is seen of its events.
+use Rattle.std.proofs.Common.{◌≡◌, ℕ, ◌^◌, ◌<◌, Bool, true, false, ◌&&◌, List, [], ◌∷◌, ◌++◌, length, refl, sym, ap, ◌∙◌, subst, arith, rules, inl, inr}
+use Rattle.std.specs.Prelude.{codes, decimal, ◌==◌, All}
+use Rattle.std.specs.List.{list_all, flat_map}
+use Rattle.std.proofs.lemmas.Bool.Decides.{nat_tests}
+use Rattle.std.proofs.lemmas.List.{append_assoc}
+use Rattle.std.proofs.lemmas.List.Elements.{All-append, All-cons}
+use Rattle.std.proofs.lemmas.List.Splits.{slice_split_at}
+use Rattle.std.proofs.lemmas.Fmt.{digits_decimal, decimal_nonempty}
+use Rattle.am_names.proofs.Basics.{left_of_and, right_of_and}
+use Rattle.am_lines.specs.{is_digit, is_line_feed, begins_with}
+use Rattle.am_script.specs.{EndsNoLine, answer_text, lines_of}
+use Rattle.am_state.specs.{Obs}
+use Rattle.am_views.specs.{Shown, event_text, obs_text, obs_lines, shown_text, printed_trace}
+use Rattle.am_traces.specs.Says.{IsObs, Says, is_indented, IsTraceOf}
+use Rattle.am_traces.specs.Printed.{AreOnLines, IsOnLines, AllOnLines, seen_in}
+use Rattle.am_traces.proofs.NumberLemmas.{own}
+
+-- ---- no line ends in it
+
+no_end : EndsNoLine []
+no_end = search rules
+
+one_byte : (b : ℕ) (text : List ℕ) → is_line_feed b ≡ false → EndsNoLine text → EndsNoLine (b ∷ text)
+one_byte b text e h = All-cons (λ b. is_line_feed b ≡ false) b text e h
+
+joined : (one other : List ℕ) → EndsNoLine one → EndsNoLine other → EndsNoLine (one ++ other)
+joined one other g h = All-append (λ b. is_line_feed b ≡ false) one other g h
+
+digit_ends_none : (b : ℕ) → is_digit b ≡ true → is_line_feed b ≡ false
+digit_ends_none b h = grind (arith, nat_tests)
+
+digits_end_none : (ds : List ℕ) → list_all is_digit ds ≡ true → EndsNoLine ds
+digits_end_none [] h = no_end
+digits_end_none (d ∷ ds) h =
+    one_byte d ds (digit_ends_none d (left_of_and (is_digit d) (list_all is_digit ds) h))
+    (digits_end_none ds (right_of_and (is_digit d) (list_all is_digit ds) h))
+
+number_ends_none : (n : ℕ) → n < 2 ^ 64 → EndsNoLine (decimal n)
+number_ends_none n h = digits_end_none (decimal n) (digits_decimal own n h)
+
+digit_is_no_blank : (b : ℕ) → is_digit b ≡ true → (b == 32) ≡ false
+digit_is_no_blank b h = grind (arith, nat_tests)
+
+not_indented : (ds text : List ℕ) → list_all is_digit ds ≡ true → 0 < length ds → is_indented (ds ++ text) ≡ false
+not_indented [] text h some = absurd (omega arith)
+not_indented (d ∷ ds) text h some = digit_is_no_blank d (left_of_and (is_digit d) (list_all is_digit ds) h)
+
+-- ---- a line, and others below it
+
+plain : (line rest : List ℕ) (seen : List Obs) → EndsNoLine line → is_indented line ≡ false → IsTraceOf (lines_of rest) seen → IsTraceOf (lines_of (line ++ 10 ∷ rest)) seen
+plain line rest seen whole i h =
+    subst (λ (l : List (List ℕ)). IsTraceOf l seen) (sym (slice_split_at is_line_feed line 10 rest whole refl)) (inl (i, h))
+
+said : (obs : Obs) (rest : List ℕ) (seen : List Obs) → IsObs obs → EndsNoLine (obs_text obs) → IsTraceOf (lines_of rest) seen → IsTraceOf (lines_of ((codes "  " ++ obs_text obs) ++ 10 ∷ rest)) (obs ∷ seen)
+said obs rest seen is whole h =
+    let line : EndsNoLine (codes "  " ++ obs_text obs) = one_byte 32 (codes " " ++ obs_text obs) refl (one_byte 32 (obs_text obs) refl whole) in
+    subst (λ (l : List (List ℕ)). IsTraceOf l (obs ∷ seen)) (sym (slice_split_at is_line_feed (codes "  " ++ obs_text obs) 10 rest line refl))
+    (inr (record { indented = refl; obs = obs; others = seen; parted = refl; says = record { is_one = is; printed = refl }; follow = h }))
+
+all_said : (seen : List Obs) (rest : List ℕ) (others : List Obs) → AreOnLines seen → IsTraceOf (lines_of rest) others → IsTraceOf (lines_of (obs_lines seen ++ rest)) (seen ++ others)
+all_said [] rest others are h = h
+all_said (obs ∷ seen) rest others are h =
+    let e : obs_lines (obs ∷ seen) ++ rest ≡ (codes "  " ++ obs_text obs) ++ 10 ∷ (obs_lines seen ++ rest) = simp append_assoc in
+    subst (λ (t : List ℕ). IsTraceOf (lines_of t) (obs ∷ (seen ++ others))) (sym e)
+    (said obs (obs_lines seen ++ rest) (seen ++ others) are.0.0 are.0.1 (all_said seen rest others are.1 h))
+
+shown : (row : Shown) (rest : List ℕ) (others : List Obs) → IsOnLines row → IsTraceOf (lines_of rest) others → IsTraceOf (lines_of (shown_text row ++ rest)) (row.seen ++ others)
+shown row rest others is h =
+    let number : List ℕ = decimal row.asked.line in
+    let event : List ℕ = event_text row.asked.event in
+    let asked : List ℕ = number ++ (codes ": " ++ event) in
+    let told : List ℕ = codes "= " ++ answer_text row.answer in
+    let below : List ℕ = obs_lines row.seen ++ rest in
+    let e : shown_text row ++ rest ≡ asked ++ 10 ∷ (told ++ 10 ∷ below) = simp append_assoc in
+    let asked_whole : EndsNoLine asked =
+    joined number (codes ": " ++ event) (number_ends_none row.asked.line is.number) (one_byte 58 (codes " " ++ event) refl (one_byte 32 event refl is.asked)) in
+    let told_whole : EndsNoLine told = one_byte 61 (codes " " ++ answer_text row.answer) refl (one_byte 32 (answer_text row.answer) refl is.told) in
+    subst (λ (t : List ℕ). IsTraceOf (lines_of t) (row.seen ++ others)) (sym e)
+    (plain asked (told ++ 10 ∷ below) (row.seen ++ others) asked_whole
+    (not_indented number (codes ": " ++ event) (digits_decimal own row.asked.line is.number) (decimal_nonempty row.asked.line is.number))
+    (plain told below (row.seen ++ others) told_whole refl (all_said row.seen rest others is.seen h)))
+
+pub printed_says : (rows : List Shown) → AllOnLines rows → IsTraceOf (lines_of (printed_trace rows)) (seen_in rows)
+printed_says [] h = inl (refl, refl)
+printed_says (row ∷ rows) h = shown row (printed_trace rows) (seen_in rows) h.0 (printed_says rows h.1)
