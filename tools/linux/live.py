@@ -874,8 +874,8 @@ class Play:
             return said if refused else "done"
         act = {"mkdir": "mkdir", "rmdir": "rmdir", "umount": "umount", "mount": "mount_plain"}[said.split()[1]]
         refused = self.tried(self.daemon, do=act, path=path)
-        # A directory that isn't there, or has a mount on it, counts as removed: the daemon says so of its act.
-        counts = act == "rmdir" and refused in ("err 1", "err 3")
+        # The daemon takes a directory for made that is there, and for removed if it isn't there or has a mount on it.
+        counts = refused in {"mkdir": ["err 4"], "rmdir": ["err 1", "err 3"]}.get(act, ())
         return self.done_as(at, None if counts else refused)
 
     def refused_act(self, at, job):
