@@ -12,7 +12,8 @@ For each event it prints a line: the event, the model's answer, and the kernel's
 of all namespaces are compared too: who is mounted where, on what, of which file system, in which peer group
 and below which master; only the numbers may differ. A script ends at its first difference: where LINUX.md
 tells of it (told.txt beside this file has its name and the words of its row), it is told, and the rest of the
-script isn't compared.
+script isn't compared. A script with a line `# shows: NAME` is to show the departure of that name, and an example that of the row of
+LINUX.md that names it, or none; another one is a difference.
 
 Each script is played in mount namespaces of its own, which begin with one mount, a tmpfs. An autofs is mounted
 with a pipe to a daemon; each namespace and each walker is a process. The daemon's half is the model's: it says
@@ -1163,8 +1164,7 @@ def play(program, path):
     """Plays a script, and returns 0 where it is alike, 1 where it differs."""
     print(f"== {path}")
     model = Model(program, path)
-    shows = re.search(r"^# shows: (\S+)$", model.script, re.M)
-    shows = shows[1] if shows else None
+    shows = to_show(path, model.script)
     play_of = Play(model)
     try:
         for at, event in enumerate(model.events):
@@ -1188,11 +1188,24 @@ def play(program, path):
         play_of.end()
 
 
+def to_show(path, script):
+    """The departures that a script is to show, one of them: what its line `# shows:` says, or of an example those of the
+    rows of LINUX.md that name it, or that there is none. None where nothing is said."""
+    said = re.search(r"^# shows: (\S+)$", script, re.M)
+    if said:
+        return {said[1]}
+    if os.path.dirname(os.path.realpath(path)) != os.path.realpath(f"{TOP}/examples"):
+        return None
+    name = os.path.basename(path).removesuffix(".script")
+    rows = [it for it in text_of(f"{TOP}/docs/LINUX.md").splitlines() if f"`{name}`" in it.rstrip("| ").rpartition(" | ")[2]]
+    return {it for it, words in told().items() if any(words in row for row in rows)} or {None}
+
+
 def is_not_shown(path, shows, name):
-    """1 where a script says that it shows a departure, and has shown another one or none, else 0."""
-    if shows in (None, name):
+    """1 where a script is to show a departure, or none, and has shown another one, else 0."""
+    if shows is None or name in shows:
         return 0
-    print(f"-- {os.path.basename(path)}: a DIFFERENCE: it shows {name or 'nothing'}, and should show {shows}")
+    print(f"-- {os.path.basename(path)}: a DIFFERENCE: it shows {name or 'nothing'}, and should show {', '.join(map(str, shows))}")
     return 1
 
 
