@@ -50,7 +50,7 @@ import time
 HERE = os.path.dirname(os.path.abspath(__file__))
 TOP = f"{HERE}/../.."
 # How long a process may take to come to rest, and how long it must stand still, in seconds.
-PATIENCE, STILL = 30.0, 0.04
+PATIENCE, STILL = 120.0, 0.04
 # The numbers of FORMATS.md.
 ERRORS = {errno.ENOENT: 1, errno.EPERM: 2, errno.EBUSY: 3, errno.EEXIST: 4, errno.EINVAL: 5, errno.EAGAIN: 6, errno.ELOOP: 7,
           errno.ENAMETOOLONG: 8, errno.ENOSPC: 9}
