@@ -1036,7 +1036,8 @@ class Difference:
             released = max((at for at in range(self.at) if any(it.startswith(mine) for it in self.model.seen[at])), default=-1)
             if all(it.startswith(("resume ", "record ", "kind ")) for it in self.model.events[released + 1:self.at]):
                 return False
-        return re.search(r"^# walk \d+ token \d+ (ready|fail)", self.world, re.M) is not None
+        may_be = self.ours != self.theirs and self.begins("expire", "walk", "resume", "umount", "nsdrop", "act")
+        return may_be and re.search(r"^# walk \d+ token \d+ (ready|fail)", self.world, re.M) is not None
 
     def begins(self, *words):
         return self.words[0] in words
