@@ -33,7 +33,7 @@ import live  # pylint: disable=wrong-import-position
 
 CLONE_NEWPID = 0x20000000
 # How long automount may take until it serves its maps, or has expired what it may, in seconds.
-PATIENCE = 30.0
+PATIENCE = 60.0
 TMPFS = "-fstype=tmpfs"
 PLAIN = "/auto auto.home --timeout=100\n"
 HOME = f"web {TMPFS} srv:/www\n"

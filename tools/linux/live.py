@@ -12,7 +12,8 @@ For each event it prints a line: the event, the model's answer, and the kernel's
 of all namespaces are compared too: who is mounted where, on what, of which file system, in which peer group
 and below which master; only the numbers may differ. A script ends at its first difference: where LINUX.md
 tells of it (told.txt beside this file has its name and the words of its row), it is told, and the rest of the
-script isn't compared.
+script isn't compared. A script with a line `# shows: NAME` is to show the departure of that name, and an example that of the row of
+LINUX.md that names it, or none; another one is a difference.
 
 Each script is played in mount namespaces of its own, which begin with one mount, a tmpfs. An autofs is mounted
 with a pipe to a daemon; each namespace and each walker is a process. The daemon's half is the model's: it says
@@ -49,7 +50,7 @@ import time
 HERE = os.path.dirname(os.path.abspath(__file__))
 TOP = f"{HERE}/../.."
 # How long a process may take to come to rest, and how long it must stand still, in seconds.
-PATIENCE, STILL = 30.0, 0.04
+PATIENCE, STILL = 120.0, 0.04
 # The numbers of FORMATS.md.
 ERRORS = {errno.ENOENT: 1, errno.EPERM: 2, errno.EBUSY: 3, errno.EEXIST: 4, errno.EINVAL: 5, errno.EAGAIN: 6, errno.ELOOP: 7,
           errno.ENAMETOOLONG: 8, errno.ENOSPC: 9}
@@ -874,8 +875,8 @@ class Play:
             return said if refused else "done"
         act = {"mkdir": "mkdir", "rmdir": "rmdir", "umount": "umount", "mount": "mount_plain"}[said.split()[1]]
         refused = self.tried(self.daemon, do=act, path=path)
-        # A directory that isn't there, or has a mount on it, counts as removed: the daemon says so of its act.
-        counts = act == "rmdir" and refused in ("err 1", "err 3")
+        # The daemon takes a directory for made that is there, and for removed if it isn't there or has a mount on it.
+        counts = refused in {"mkdir": ["err 4"], "rmdir": ["err 1", "err 3"]}.get(act, ())
         return self.done_as(at, None if counts else refused)
 
     def refused_act(self, at, job):
@@ -1035,7 +1036,8 @@ class Difference:
             released = max((at for at in range(self.at) if any(it.startswith(mine) for it in self.model.seen[at])), default=-1)
             if all(it.startswith(("resume ", "record ", "kind ")) for it in self.model.events[released + 1:self.at]):
                 return False
-        return re.search(r"^# walk \d+ token \d+ (ready|fail)", self.world, re.M) is not None
+        may_be = self.ours != self.theirs and self.begins("expire", "walk", "resume", "umount", "nsdrop", "act")
+        return may_be and re.search(r"^# walk \d+ token \d+ (ready|fail)", self.world, re.M) is not None
 
     def begins(self, *words):
         return self.words[0] in words
@@ -1163,8 +1165,7 @@ def play(program, path):
     """Plays a script, and returns 0 where it is alike, 1 where it differs."""
     print(f"== {path}")
     model = Model(program, path)
-    shows = re.search(r"^# shows: (\S+)$", model.script, re.M)
-    shows = shows[1] if shows else None
+    shows = to_show(path, model.script)
     play_of = Play(model)
     try:
         for at, event in enumerate(model.events):
@@ -1188,11 +1189,24 @@ def play(program, path):
         play_of.end()
 
 
+def to_show(path, script):
+    """The departures that a script is to show, one of them: what its line `# shows:` says, or of an example those of the
+    rows of LINUX.md that name it, or that there is none. None where nothing is said."""
+    said = re.search(r"^# shows: (\S+)$", script, re.M)
+    if said:
+        return {said[1]}
+    if os.path.dirname(os.path.realpath(path)) != os.path.realpath(f"{TOP}/examples"):
+        return None
+    name = os.path.basename(path).removesuffix(".script")
+    rows = [it for it in text_of(f"{TOP}/docs/LINUX.md").splitlines() if f"`{name}`" in it.rstrip("| ").rpartition(" | ")[2]]
+    return {it for it, words in told().items() if any(words in row for row in rows)} or {None}
+
+
 def is_not_shown(path, shows, name):
-    """1 where a script says that it shows a departure, and has shown another one or none, else 0."""
-    if shows in (None, name):
+    """1 where a script is to show a departure, or none, and has shown another one, else 0."""
+    if shows is None or name in shows:
         return 0
-    print(f"-- {os.path.basename(path)}: a DIFFERENCE: it shows {name or 'nothing'}, and should show {shows}")
+    print(f"-- {os.path.basename(path)}: a DIFFERENCE: it shows {name or 'nothing'}, and should show {', '.join(map(str, shows))}")
     return 1
 
 
