@@ -1,18 +1,18 @@
 -- A printed trace says what is seen of its events.
-use Rattle.std.proofs.Common.{◌≡◌, ℕ, ◌^◌, ◌<◌, Bool, true, false, ◌&&◌, List, [], ◌∷◌, ◌++◌, length, refl, sym, ap, ◌∙◌, subst, arith, rules, inl, inr}
-use Rattle.std.specs.Prelude.{codes, decimal, ◌==◌, All}
-use Rattle.std.specs.List.{list_all, flat_map}
+use Rattle.std.proofs.Common.{◌≡◌, ℕ, ◌^◌, ◌<◌, true, false, List, [], ◌∷◌, ◌++◌, length, refl, sym, subst, arith, rules, inl, inr}
+use Rattle.std.specs.Prelude.{codes, decimal, ◌==◌}
+use Rattle.std.specs.List.{list_all}
 use Rattle.std.proofs.lemmas.Bool.Decides.{nat_tests}
 use Rattle.std.proofs.lemmas.List.{append_assoc}
 use Rattle.std.proofs.lemmas.List.Elements.{All-append, All-cons}
 use Rattle.std.proofs.lemmas.List.Splits.{slice_split_at}
 use Rattle.std.proofs.lemmas.Fmt.{digits_decimal, decimal_nonempty}
 use Rattle.am_names.proofs.Basics.{left_of_and, right_of_and}
-use Rattle.am_lines.specs.{is_digit, is_line_feed, begins_with}
+use Rattle.am_lines.specs.{is_digit, is_line_feed}
 use Rattle.am_script.specs.{EndsNoLine, answer_text, lines_of}
 use Rattle.am_state.specs.{Obs}
 use Rattle.am_views.specs.{Shown, event_text, obs_text, obs_lines, shown_text, printed_trace}
-use Rattle.am_traces.specs.Says.{IsObs, Says, is_indented, IsTraceOf}
+use Rattle.am_traces.specs.Says.{IsObs, is_indented, IsTraceOf}
 use Rattle.am_traces.specs.Printed.{AreOnLines, IsOnLines, AllOnLines, seen_in}
 use Rattle.am_traces.proofs.NumberLemmas.{own}
 

@@ -1,5 +1,5 @@
 -- Which printed traces are read back: own choice (docs/FORMATS.md, "Traces").
-use Rattle.std.specs.Prelude.{◌<◌, ℕ, ◌^◌, List, [], ◌∷◌}
+use Rattle.std.specs.Prelude.{◌<◌, ◌^◌, List, [], ◌∷◌}
 use Rattle.std.specs.List.{flat_map}
 use Rattle.am_state.specs.{Obs}
 use Rattle.am_script.specs.{EndsNoLine, answer_text}

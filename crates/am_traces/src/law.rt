@@ -1,6 +1,6 @@
 //! What is true of each line, and of each printed trace.
 
-ghost use Rattle.std.specs.Prelude.{◌≡◌, ◌↔◌, ℕ, List, Ok};
+ghost use Rattle.std.specs.Prelude.{◌≡◌, ℕ, List, Ok};
 ghost use Rattle.am_state.specs.{Obs};
 ghost use Rattle.am_traces.specs.Observations.{line_read};
 ghost use Rattle.am_script.specs.{lines_of};
