@@ -1,5 +1,5 @@
-/* dalvicna.h: the daemon's side of a Linux automounter, in a C program: packets, requests, maps and
-   master maps, as the model of this library has them.
+/* dalvicna.h: a model of the Linux automounter, kernel and daemon, in a C program: scripts with their
+   answers, traces, pictures and worlds; packets, requests, maps and master maps.
 
    Link with -ldalvicna (pkg-config dalvicna). Nothing else is to be linked beside: the library takes
    its memory by malloc, realloc and free, and keeps none behind a call.
@@ -13,15 +13,16 @@
 
    Faults
      A fault is a number above 0. It leaves buffers and structs as they were, but for those that tell
-     the fault. No call ends the program.
+     the fault; of a script, what was written before the fault is in the buffer. No call ends the
+     program: where there is no memory, that is a fault too.
 
    Threads
      There is no state between calls: any thread may make any call at any time, as long as no two
      calls share a buffer or struct that one of them writes. No call may be made in a signal handler,
      or in the forked child of a program with threads.
 
-   Formats of packets, maps and master maps, and the numbers of all faults: docs/FORMATS.md of the
-   repository. That each call does as it says here is proved, for the machine
+   Formats of scripts, traces, pictures, worlds, packets, maps and master maps, and the numbers of all
+   faults: docs/FORMATS.md of the repository. That each call does as it says here is proved, for the machine
    code of x86-64; what the checker doesn't see is this header, and the C program. */
 #ifndef DALVICNA_H
 #define DALVICNA_H
@@ -40,6 +41,53 @@ extern "C" {
 
 /* The version of the library that is linked. */
 uint32_t am_version(void);
+
+/* ---- Scripts ---- */
+
+/* The faults of a script. */
+enum am_script_fault {
+    AM_SCRIPT_BAD_SECTION = 1, /* the head isn't what a head is, or a section doesn't end */
+    AM_SCRIPT_BAD_LIMITS,      /* the limits, or how long failures last, are no numbers in their ranges */
+    AM_SCRIPT_BAD_MASTER,      /* a line of the master section: detail is of enum am_master_fault */
+    AM_SCRIPT_BAD_MAP,         /* a line of a map section: detail is of enum am_map_fault */
+    AM_SCRIPT_NO_SUCH_MAP,     /* a line of the master section names a map that has no section */
+    AM_SCRIPT_BAD_EVENT,       /* a line behind `events` is no event */
+    AM_SCRIPT_LONG_LINE,       /* a line has more than 8,192 bytes */
+    AM_SCRIPT_NO_MEMORY,
+    AM_SCRIPT_READ_FAILED,     /* there are more than 16 TiB of it */
+    AM_SCRIPT_WRITE_FAILED     /* there is no memory for what is written */
+};
+
+/* How a script went. */
+struct am_played {
+    uint64_t bytes;   /* how many bytes were written, also where there is less room */
+    uint64_t lines;   /* how many events were answered, where there is no fault; else 0 */
+    uint64_t refused; /* how many of these answers say that nothing was done; 0 at a fault */
+    uint64_t line;    /* the line of the fault, from 1; 0 where there is none */
+    uint32_t fault;   /* the fault (enum am_script_fault); 0 where there is none */
+    uint32_t detail;  /* what is wrong with a line of a map or master map; else 0 */
+};
+
+/* Each of these reads a script, plays it on a world of its own from the beginning, and returns 0 or the
+   first fault, as *played tells it. What was written up to the fault is in the buffer: the whole lines
+   of all events above it (of a world, nothing). An event that finds no memory is answered by `err 10`
+   and isn't a fault, but for a trace, a picture or a world where there is none for its line. */
+
+/* The lines of the answers, as `automount_cli script` writes them. */
+uint8_t am_play(const uint8_t *script, size_t len, uint8_t *out, size_t cap, struct am_played *played);
+
+/* The trace: each event, its answer, and what is seen of it, as `automount_cli trace` writes it. */
+uint8_t am_trace(const uint8_t *script, size_t len, uint8_t *out, size_t cap, struct am_played *played);
+
+/* The picture (SVG) of its events from number first to number last, from 1; all are 1 to UINT64_MAX, of
+   which at most 1,000,000 are drawn. */
+uint8_t am_draw(const uint8_t *script, size_t len, uint64_t first, uint64_t last, uint8_t *out, size_t cap,
+                struct am_played *played);
+
+/* The world that it leaves, as /proc/PID/mountinfo tells mounts, and what else there is in comments; where
+   all is false, only the mounts of the namespace with this number. */
+uint8_t am_world(const uint8_t *script, size_t len, bool all, uint32_t namespace_number, uint8_t *out,
+                 size_t cap, struct am_played *played);
 
 /* ---- Packets, requests, maps ---- */
 
@@ -160,6 +208,14 @@ size_t am_error_name(uint32_t number, uint8_t *out, size_t cap);
 #define AM_HOLDS(fact) _Static_assert(fact, #fact)
 #endif
 #define AM_AT(type, field, at) AM_HOLDS(offsetof(struct type, field) == (at))
+
+AM_HOLDS(sizeof(struct am_played) == 40);
+AM_AT(am_played, bytes, 0);
+AM_AT(am_played, lines, 8);
+AM_AT(am_played, refused, 16);
+AM_AT(am_played, line, 24);
+AM_AT(am_played, fault, 32);
+AM_AT(am_played, detail, 36);
 
 AM_HOLDS(sizeof(struct am_packet) == 40);
 AM_AT(am_packet, kind, 0);

@@ -1,9 +1,14 @@
 /* Tests of the library from C, as a hostile caller makes them. tools/library.py builds and runs it.
 
-   library_test own ROUNDS   all tests, with so many texts of odd bytes, and a map of 500 times as many
-                             lines; the last line counts them
-   library_test short        makes the calls that take memory once: with allocations that are refused,
-                             each answer must be the whole one or a fault; it takes no memory of its own */
+   library_test own ROUNDS      all tests, with so many texts of odd bytes, and a map and a script of 500
+                                times as many lines; the last line counts them
+   library_test short           makes the calls that take memory twice: with an allocation that is refused,
+                                each answer must be the whole one or a fault; it takes no memory of its own
+   library_test example STEP FILE..
+                                plays each FILE.script, and compares what is written with FILE.out, .trace,
+                                .svg and .world: all of it, and with each STEPth room from 0 on, of pictures
+                                with fewer; the last line counts them */
+#define _GNU_SOURCE
 #include <linux/auto_dev-ioctl.h>
 #include <linux/auto_fs.h>
 #include <pthread.h>
@@ -13,9 +18,9 @@
 #include <unistd.h>
 #include "dalvicna.h"
 
-enum { TEXT = 1 << 25, OUT = 1 << 16, CANARY = 0xa5 };
+enum { TEXT = 1 << 25, OUT = 1 << 16, ROOM = 1 << 25, CANARY = 0xa5 };
 
-static uint8_t text[TEXT], out[OUT];
+static uint8_t text[TEXT], out[OUT], room[ROOM];
 static size_t len;
 static int passed, failed;
 
@@ -41,6 +46,52 @@ static int all_are(const uint8_t *bytes, size_t count, uint8_t byte)
 
 /* ---- Allocations that are refused ---- */
 
+#define HEAD "master\n/auto auto.home --timeout=60\nend\nmap auto.home\nhome -ro srv:/export/&\nend\nevents\n"
+
+static const char script[] = HEAD "attach /auto\nwalk 7 0 /auto/home 100 room\ndeliver 1\nact 1 ok\nact 1 ok\nact 1 ok\n"
+                                  "act 1 ok\nresume 7 101 room\n";
+
+enum view { PLAY, TRACE, PICTURE, WORLD };
+
+static uint8_t view_of(enum view view, const uint8_t *of, size_t size, uint8_t *to, size_t cap, struct am_played *played)
+{
+    switch (view) {
+    case PLAY:
+        return am_play(of, size, to, cap, played);
+    case TRACE:
+        return am_trace(of, size, to, cap, played);
+    case PICTURE:
+        return am_draw(of, size, 1, UINT64_MAX, to, cap, played);
+    default:
+        return am_world(of, size, true, 0, to, cap, played);
+    }
+}
+
+/* An event that finds no memory is answered so, and is refused. */
+static int is_whole(uint8_t fault, const struct am_played *played)
+{
+    return fault == 0 && played->refused == 0;
+}
+
+/* Of two calls one has all the memory that it wants; the other is told so. */
+static int short_of_room(enum view view)
+{
+    static uint8_t written[2][OUT];
+    struct am_played played[2];
+    uint8_t faults[2];
+    for (int at = 0; at < 2; at++)
+        faults[at] = view_of(view, (const uint8_t *)script, sizeof script - 1, written[at], OUT, &played[at]);
+    int whole = is_whole(faults[0], &played[0]) ? 0 : 1, other = 1 - whole;
+    int holds = is_whole(faults[whole], &played[whole]);
+    if (is_whole(faults[other], &played[other]))
+        return holds && played[0].bytes == played[1].bytes && memcmp(written[0], written[1], played[0].bytes) == 0;
+    if (faults[other] == 0)
+        return holds;
+    holds &= faults[other] == AM_SCRIPT_NO_MEMORY || faults[other] == AM_SCRIPT_WRITE_FAILED;
+    holds &= played[other].fault == faults[other] && played[other].line > 0 && played[other].lines == 0;
+    return holds && (view == PICTURE || memcmp(written[0], written[1], played[other].bytes) == 0);
+}
+
 static int short_of_memory(void)
 {
     static const char map[] = "home -ro srv:/export/&\n", master[] = "/auto auto.home --timeout=60\n";
@@ -53,6 +104,8 @@ static int short_of_memory(void)
     holds &= fault == 0 ? entry.bytes == 17 : fault == AM_MAP_NO_MEMORY;
     fault = am_master_line((const uint8_t *)master, sizeof master - 1, 0, out, sizeof out, &told, &line);
     holds &= fault == 0 ? told.timeout == 60 : fault == AM_MASTER_NO_MEMORY;
+    for (enum view view = PLAY; view <= WORLD; view++)
+        holds &= short_of_room(view);
     return !holds;
 }
 
@@ -208,6 +261,145 @@ static void masters(void)
     IS(am_master_line(NULL, 0, 0, NULL, 0, &told, &line) == 0 && told.lines == 0);
 }
 
+/* ---- Scripts ---- */
+
+static uint8_t plays(enum view view, const char *of, struct am_played *played)
+{
+    memset(out, CANARY, sizeof out);
+    memset(played, CANARY, sizeof *played);
+    return view_of(view, (const uint8_t *)of, strlen(of), out, sizeof out, played);
+}
+
+/* The script stops at this fault of this line, and that much is written before it. */
+static int stops(const char *of, uint32_t fault, uint32_t detail, uint64_t line, const char *answers)
+{
+    struct am_played played;
+    uint8_t number = plays(PLAY, of, &played);
+    return number == fault && played.fault == fault && played.detail == detail && played.line == line
+        && played.lines == 0 && played.refused == 0 && played.bytes == strlen(answers)
+        && memcmp(out, answers, strlen(answers)) == 0
+        && all_are(out + strlen(answers), sizeof out - strlen(answers), CANARY);
+}
+
+static int is_same(enum view view, const char *of, const char *written)
+{
+    struct am_played played;
+    uint8_t number = plays(view, of, &played);
+    return number == 0 && played.fault == 0 && played.line == 0 && played.detail == 0
+        && played.bytes == strlen(written) && memcmp(out, written, strlen(written)) == 0
+        && all_are(out + strlen(written), sizeof out - strlen(written), CANARY);
+}
+
+static void faults_of_scripts(void)
+{
+    IS(stops("walk\n", AM_SCRIPT_BAD_SECTION, 0, 1, ""));
+    IS(stops("\nmaster\n/auto auto.home\n", AM_SCRIPT_BAD_SECTION, 0, 2, ""));
+    IS(stops("limits 0 1 1\n", AM_SCRIPT_BAD_LIMITS, 0, 1, ""));
+    IS(stops("master\n/a x\n/a y\nend\n", AM_SCRIPT_BAD_MASTER, AM_MASTER_TWICE, 3, ""));
+    IS(stops("master\nauto x\nend\n", AM_SCRIPT_BAD_MASTER, AM_MASTER_BAD_POINT, 2, ""));
+    IS(stops("master\n/a x\nend\nmap x\nk\nend\nevents\n", AM_SCRIPT_BAD_MAP, AM_MAP_NO_LOCATION, 5, ""));
+    IS(stops("master\n/a x\nend\nmap x\nk srv\nend\nevents\n", AM_SCRIPT_BAD_MAP, AM_MAP_BAD_LOCATION, 5, ""));
+    IS(stops("master\n/a x\nend\nevents\n", AM_SCRIPT_NO_SUCH_MAP, 0, 2, ""));
+    IS(stops(HEAD "attach /auto\nattach\nattach /auto\n", AM_SCRIPT_BAD_EVENT, 0, 9, "fs 2 attach 1 mount 2\n"));
+    memset(text, 'x', 8193);
+    memcpy(text, "events\n# ", 9);
+    text[8200] = 0;
+    memset(text + 9, 'x', 8191);
+    IS(stops((const char *)text, AM_SCRIPT_LONG_LINE, 0, 2, ""));
+    text[8199] = 0;
+    IS(is_same(PLAY, (const char *)text, ""));
+}
+
+static void scripts(void)
+{
+    struct am_played played;
+    IS(plays(PLAY, script, &played) == 0 && played.lines == 8 && played.refused == 0);
+    IS(plays(PLAY, "events\nleave 7\nkind 0 /\n", &played) == 0 && played.lines == 2 && played.refused == 1);
+    IS(is_same(PLAY, "events\nleave 7\nkind 0 /\n", "err 5\nkind private\n"));
+    IS(is_same(TRACE, "events\nkind 0 /\n", "2: kind 0 /\n= kind private\n"));
+    IS(is_same(PLAY, "", "") && is_same(TRACE, "", "") && is_same(PICTURE, "", "") && is_same(WORLD, "", ""));
+    for (enum view view = PLAY; view <= WORLD; view++) {
+        memset(&played, CANARY, sizeof played);
+        IS(view_of(view, NULL, 0, NULL, 0, &played) == 0 && all_are((uint8_t *)&played, sizeof played, 0));
+    }
+    faults_of_scripts();
+
+    static const char two[] = "events\nchange 0 / shared\nnscopy 0\nmount 1 /a\n";
+    uint64_t sizes[3];
+    for (uint32_t number = 0; number < 3; number++) {
+        IS(am_world((const uint8_t *)two, sizeof two - 1, false, number, out, sizeof out, &played) == 0);
+        sizes[number] = played.bytes;
+        IS(played.lines == 3 && !memmem(out, played.bytes, "# namespace", 11));
+    }
+    IS(sizes[0] > 0 && sizes[1] > 0 && sizes[2] == 0);
+    IS(plays(WORLD, two, &played) == 0 && played.bytes > sizes[0] + sizes[1]);
+    IS(memcmp(out, "# namespace 0\n", 14) == 0);
+
+    uint64_t all = (plays(PICTURE, two, &played), played.bytes);
+    IS(am_draw((const uint8_t *)two, sizeof two - 1, 2, 2, out, sizeof out, &played) == 0 && played.bytes < all);
+    IS(played.lines == 3);
+    IS(am_draw((const uint8_t *)two, sizeof two - 1, 1, 3, out, sizeof out, &played) == 0 && played.bytes == all);
+    IS(am_draw((const uint8_t *)two, sizeof two - 1, 0, UINT64_MAX, out, sizeof out, &played) == 0);
+    IS(played.bytes == all);
+}
+
+/* A script of so many lines, and its trace. */
+static void many_events(size_t lines)
+{
+    static const char line[] = "leave 4294967295\n", head[] = "events\n";
+    struct am_played played;
+    len = sizeof head - 1;
+    memcpy(text, head, len);
+    for (size_t at = 0; at < lines; at++, len += sizeof line - 1)
+        memcpy(text + len, line, sizeof line - 1);
+    IS(am_play(text, len, room, sizeof room, &played) == 0 && played.lines == lines && played.refused == lines);
+    IS(played.bytes == lines * 6 && memcmp(room, "err 5\nerr 5\n", 12) == 0);
+    IS(am_trace(text, len, out, 24, &played) == 0 && played.lines == lines);
+    IS(memcmp(out, "2: leave 4294967295\n= er", 24) == 0);
+    IS(am_world(text, len, true, 0, out, sizeof out, &played) == 0 && played.lines == lines);
+}
+
+/* ---- The examples ---- */
+
+static size_t file_of(const char *name, const char *end, uint8_t *to, size_t cap)
+{
+    char path[4096];
+    snprintf(path, sizeof path, "%s.%s", name, end);
+    FILE *file = fopen(path, "rb");
+    if (!file) {
+        perror(path);
+        exit(2);
+    }
+    size_t size = fread(to, 1, cap, file);
+    fclose(file);
+    return size;
+}
+
+/* With this room, what is written is the front of what is expected, and nothing else is touched. */
+static int fills(enum view view, size_t cap, const uint8_t *expected, size_t size)
+{
+    enum { BESIDE = 16 };
+    struct am_played played;
+    size_t part = cap < size ? cap : size;
+    memset(room, CANARY, cap + 2 * BESIDE);
+    return view_of(view, text, len, room + BESIDE, cap, &played) == 0 && played.bytes == size && played.fault == 0
+        && memcmp(room + BESIDE, expected, part) == 0 && all_are(room, BESIDE, CANARY)
+        && all_are(room + BESIDE + part, cap - part + BESIDE, CANARY);
+}
+
+static void example(size_t step, const char *name)
+{
+    static const char *ends[] = { "out", "trace", "svg", "world" };
+    len = file_of(name, "script", text, sizeof text);
+    for (enum view view = PLAY; view <= WORLD; view++) {
+        size_t size = file_of(name, ends[view], out, sizeof out);
+        int holds = fills(view, size, out, size) && fills(view, size + 40, out, size) && fills(view, size - 1, out, size);
+        for (size_t cap = 0; cap <= size; cap += view == PICTURE ? 61 * step : step)
+            holds &= fills(view, cap, out, size);
+        is(holds, name);
+    }
+}
+
 /* ---- Words ---- */
 
 static void words(void)
@@ -240,7 +432,9 @@ static uint32_t next(void)
 static void odd_bytes(int rounds)
 {
     static const char *parts[] = { "/auto auto.home\n", "k h:/p\n", "* -ro h:/&\n", "/a/b h:/p\n", "/- m --timeout=7\n",
-                                   "#\n", "\\\n", "\n", "\t", " " };
+                                   "#\n", "\\\n", "\n", "\t", " ", "master\n", "map auto.home\n", "end\n", "events\n",
+                                   HEAD, HEAD "attach /auto\n", "walk 7 0 /auto/k 100 room\n", "deliver 1\n",
+                                   "act 1 ok\n", "die\n", "nscopy 0\n", "limits 3 2 1\n" };
     for (int round = 0; round < rounds; round++) {
         len = 0;
         for (uint32_t part = next() >> 28; part > 0; part--) {
@@ -253,10 +447,15 @@ static void odd_bytes(int rounds)
         struct am_entry entry;
         struct am_master_line told;
         struct am_packet packet;
+        struct am_played played;
         uint64_t line = 0;
         IS(am_map_look_up(text, len, round & 1, text, len / 2, out, 64, &entry, &line) <= AM_MAP_NO_MEMORY);
         IS(am_master_line(text, len, 0, out, 64, &told, &line) <= AM_MASTER_NO_MEMORY);
         IS(am_packet_read(text, round & 1 ? 304 : 300, &packet) <= AM_PACKET_BAD_NAME);
+        for (enum view view = PLAY; view <= WORLD; view++) {
+            uint8_t fault = view_of(view, text, len, out, 64, &played);
+            IS(fault <= AM_SCRIPT_LONG_LINE && fault == played.fault && (fault > 0) == (played.line > 0));
+        }
     }
 }
 
@@ -284,6 +483,9 @@ static void *look_often(void *matches)
         uint8_t fault = am_map_look_up((const uint8_t *)map, sizeof map - 1, false, (const uint8_t *)"home", 4, mine,
                                        sizeof mine, &entry, &line);
         *(int *)matches &= fault == 0 && entry.bytes == 15 && memcmp(mine, "srv/export/home", 15) == 0;
+        struct am_played played;
+        fault = am_play((const uint8_t *)script, sizeof script - 1, mine, sizeof mine, &played);
+        *(int *)matches &= fault == 0 && played.lines == 8 && memcmp(mine, "fs 2 attach 1 mount 2\nwait 1\n", 29) == 0;
     }
     return NULL;
 }
@@ -313,14 +515,21 @@ int main(int words_in, char **word)
         requests();
         maps();
         masters();
+        scripts();
         words();
         odd_bytes(rounds);
         many_lines(500 * (size_t)rounds);
+        many_events(500 * (size_t)rounds);
         threads();
         return count();
     }
     if (words_in == 2 && strcmp(word[1], "short") == 0)
         return short_of_memory();
-    fprintf(stderr, "library_test: expected own ROUNDS, or short\n");
+    if (words_in > 3 && strcmp(word[1], "example") == 0) {
+        for (int at = 3; at < words_in; at++)
+            example((size_t)atoi(word[2]), word[at]);
+        return count();
+    }
+    fprintf(stderr, "library_test: expected own ROUNDS, short, or example STEP FILE..\n");
     return 2;
 }

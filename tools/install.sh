@@ -1,7 +1,7 @@
 #!/bin/sh
 # tools/install.sh PREFIX: copies the program, its manual page, its completion for bash and, where it is built from these
-# sources, the library for C with its header below a folder, and says what it has copied. It proves nothing: the program
-# is the one that tools/program.sh prints, and make library proves and builds the library.
+# sources, the library for C with its header and its Python module below a folder, and says what it has copied. It proves
+# nothing: the program is the one that tools/program.sh prints, and make library proves and builds the library.
 set -eu
 . "$(dirname "$0")/common.sh"
 [ $# -eq 1 ] && [ -n "$1" ] || refuse "expected one word, the folder to install into"
@@ -24,7 +24,7 @@ install -m 644 docs/automount_cli.bash "$prefix/share/bash-completion/completion
 echo "install: $prefix/share/bash-completion/completions/automount_cli"
 if tools/library.py ready; then
     tools/library.py install "$prefix"
-    echo "install: $prefix/lib/libdalvicna.a, libdalvicna.so.1, pkgconfig/dalvicna.pc, $prefix/include/dalvicna.h"
+    echo "install: $prefix/lib/libdalvicna.a, libdalvicna.so.1, dalvicna.py, pkgconfig/dalvicna.pc, $prefix/include/dalvicna.h"
 else
     echo "install: no library for C and no header: the library isn't built from these sources, and make library proves and builds it"
 fi

@@ -1,7 +1,8 @@
 #!/usr/bin/env python3
 """The library for C: builds it, installs it, and tests it.
 
-usage: tools/library.py build           writes out/library: libdalvicna.a, libdalvicna.so.1, dalvicna.pc
+usage: tools/library.py build           writes out/library: libdalvicna.a, libdalvicna.so.1, dalvicna.h,
+                                        dalvicna.pc, dalvicna.py
        tools/library.py install PREFIX  builds it, and copies it below a folder
        tools/library.py ready           says by its status whether it can be built without a proof
        tools/library.py header          compares c/dalvicna.h with the crate
@@ -27,6 +28,7 @@ OUT = os.path.join(TOP, "out", "library")
 CRATE = os.path.join(TOP, "crates", "am_c")
 ARCHIVE = os.path.join(CRATE, "out", "libam_c.a")
 HEADER = os.path.join(TOP, "c", "dalvicna.h")
+MODULE = os.path.join(TOP, "python", "dalvicna.py")
 CC = os.environ.get("CC", "cc")
 STRICT = ("-std=gnu11", "-O1", "-g", "-Wall", "-Wextra", "-Werror")
 
@@ -143,6 +145,7 @@ def build():
         "-Wl,--whole-archive", "libdalvicna.a", "-Wl,--no-whole-archive", cwd=OUT)
     os.symlink("libdalvicna.so.1", os.path.join(OUT, "libdalvicna.so"))
     shutil.copy(HEADER, OUT)
+    shutil.copy(MODULE, OUT)
     write_pc(OUT, OUT, OUT)
 
 
@@ -150,7 +153,7 @@ def write_pc(folder, headers, libraries):
     version = re.search(r"#define AM_VERSION (\d+)", text_of(HEADER))[1]
     with open(os.path.join(folder, "dalvicna.pc"), "w", encoding="utf-8") as file:
         file.write(f"includedir={headers}\nlibdir={libraries}\n\n"
-                   "Name: dalvicna\nDescription: packets, requests and maps of autofs\n"
+                   "Name: dalvicna\nDescription: a model of the Linux automounter\n"
                    f"Version: {version}\nCflags: -I${{includedir}}\nLibs: -L${{libdir}} -ldalvicna\n")
 
 
@@ -163,6 +166,8 @@ def install(prefix):
     shutil.copy(HEADER, headers)
     shutil.copy(os.path.join(OUT, "libdalvicna.a"), libraries)
     shutil.copy(os.path.join(OUT, "libdalvicna.so.1"), libraries)
+    # It finds the library beside it.
+    shutil.copy(MODULE, libraries)
     link = os.path.join(libraries, "libdalvicna.so")
     if not os.path.lexists(link):
         os.symlink("libdalvicna.so.1", link)
@@ -243,7 +248,8 @@ def structs_of_header():
 
 
 # Where the numbers of an enum stand, and what its names begin with.
-NUMBERS = (("am_packet_fault", "AM_PACKET_", "am_wire", "fault_number"),
+NUMBERS = (("am_script_fault", "AM_SCRIPT_", "am_script", "kind_number"),
+           ("am_packet_fault", "AM_PACKET_", "am_wire", "fault_number"),
            ("am_map_fault", "AM_MAP_", "am_map", "fault_number"),
            ("am_master_fault", "AM_MASTER_", "am_master", "fault_number"))
 
@@ -343,12 +349,22 @@ def links(tests, room):
     return plain
 
 
+def scripts_of_examples():
+    return [it.removesuffix(".script") for it in sorted(glob.glob(f"{TOP}/examples/*.script"))]
+
+
+def examples(tests, program):
+    """All examples, byte for byte: with each room from 0 on, and pictures with some."""
+    tests.runs("the examples", program, "example", "1", *scripts_of_examples())
+
+
 def under_valgrind(tests, program):
     if not shutil.which("valgrind"):
         print("there is no valgrind")
         return
     around = ("valgrind", "-q", "--leak-check=full", "--error-exitcode=9")
     tests.runs("its own tests under valgrind", *around, program, "own", "10")
+    tests.runs("the examples under valgrind", *around, program, "example", "1000000", *scripts_of_examples())
 
 
 def with_sanitizer(tests, room):
@@ -360,6 +376,7 @@ def with_sanitizer(tests, room):
         print("there is no AddressSanitizer")
         return
     tests.runs("its own tests with AddressSanitizer", program, "own", "200")
+    tests.runs("the examples with AddressSanitizer", program, "example", "97", *scripts_of_examples())
 
 
 def installs(tests, room):
@@ -385,6 +402,40 @@ def examples_in_c(tests, room):
             tests.tell(f"what {name} prints", done.stdout == bytes_of(source[:-1] + "out"), done.stdout.decode())
 
 
+def with_module(folder):
+    """The environment in which Python finds the module of this folder, and writes nothing beside it."""
+    given = {**os.environ, "PYTHONPATH": folder, "PYTHONDONTWRITEBYTECODE": "1"}
+    given.pop("DALVICNA_LIB", None)
+    return given
+
+
+def tests_in_python(tests):
+    """The tests of the module, with the library by its name; and each example, with the library beside it."""
+    given = {**with_module(os.path.dirname(MODULE)), "DALVICNA_LIB": os.path.join(OUT, "libdalvicna.so.1")}
+    done = subprocess.run([sys.executable, "-m", "unittest", "-v"], cwd=os.path.dirname(MODULE), env=given,
+                          stdin=subprocess.DEVNULL, stdout=subprocess.PIPE, stderr=subprocess.STDOUT, check=False)
+    said = done.stdout.decode(errors="replace")
+    for name in re.findall(r"^(\w+ \(.*\)) \.\.\. ok$", said, re.M):
+        tests.tell(name, True)
+    tests.tell("the tests of the module", done.returncode == 0 and "Ran 0 tests" not in said, said[-2000:])
+    for source in sorted(glob.glob(f"{TOP}/examples/python/*.py")):
+        prints(tests, os.path.basename(source), [source], bytes_of(source[:-2] + "out"))
+    prints(tests, "the example of USING.md", ["-c", block("python")], block("text").encode())
+
+
+def block(language):
+    """The first block of this language in the page's section on Python."""
+    section = text_of(os.path.join(TOP, "docs", "USING.md")).partition("\n## From Python\n")[2]
+    return re.search(rf"^```{language}\n(.*?)^```$", section, re.M | re.S)[1]
+
+
+def prints(tests, name, words, expected):
+    """A program in Python that finds the library beside the module, and what it prints."""
+    done = subprocess.run([sys.executable, *words], env=with_module(OUT), stdin=subprocess.DEVNULL, capture_output=True,
+                          check=False)
+    tests.tell(f"what {name} prints", done.stdout == expected, (done.stdout + done.stderr).decode(errors="replace")[-2000:])
+
+
 def test():
     tests = Tests()
     differences = list(faults_of_header())
@@ -394,11 +445,13 @@ def test():
         program = links(tests, room)
         if program:
             tests.runs("its own tests", program, "own", "2000")
+            examples(tests, program)
             refuses(tests, program, room)
             under_valgrind(tests, program)
             with_sanitizer(tests, room)
             installs(tests, room)
             examples_in_c(tests, room)
+    tests_in_python(tests)
     print(f"{tests.passed} passed, {tests.failed} failed")
     return tests.failed == 0
 

@@ -159,9 +159,10 @@ def takes_no_more_memory(program, room):
 
 
 def block(language):
-    """The first block of this language in the page."""
+    """The first block of this language in the page's section."""
     with open("docs/USING.md", encoding="utf-8") as page:
-        return re.search(rf"^```{language}\n(.*?)^```$", page.read(), re.M | re.S).group(1)
+        section = page.read().partition("\n## From another program\n")[2]
+        return re.search(rf"^```{language}\n(.*?)^```$", section, re.M | re.S).group(1)
 
 
 def prints_its_answers(command, room):

@@ -4,3 +4,4 @@ pub mod Errors
 pub mod MasterLines
 pub mod Packets
 pub mod Requests
+pub mod Scripts

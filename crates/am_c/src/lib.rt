@@ -7,3 +7,4 @@ pub mod error;
 pub mod master_line;
 pub mod packet;
 pub mod request;
+pub mod script;

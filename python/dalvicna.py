@@ -1,0 +1,413 @@
+"""A model of the Linux automounter, kernel and daemon: scripts with their answers, traces, pictures and
+worlds; packets, requests, maps and master maps.
+
+    >>> import dalvicna
+    >>> dalvicna.play("events\\nmount 0 /a\\nkind 0 /a\\n")
+    ['mount 2', 'kind private']
+
+This is the library for C (dalvicna.h) by ctypes, and needs nothing else. The library is the file that the
+environment variable DALVICNA_LIB names, else libdalvicna.so.1 beside this file, else the one that the loader
+finds. Formats of all texts, and the numbers of errors and faults: docs/FORMATS.md of the repository.
+
+A text is a str or bytes. What comes back is a str; in both directions bytes that aren't UTF-8 are kept by
+the error handler `surrogateescape`, as os.fsdecode does, and `text.encode(*ENCODING)` gives all bytes.
+There is no state between calls, and any thread may make any call; other Python threads run meanwhile.
+"""
+
+from __future__ import annotations
+
+import ctypes
+import enum
+import os
+from dataclasses import dataclass
+from typing import Callable, List, Optional, Tuple, Union
+
+__all__ = ["ENCODING", "Entry", "Fault", "MapFault", "MasterFault", "MasterLine", "Packet", "PacketFault", "PacketKind",
+           "Played", "Request", "ScriptFault", "draw", "error_name", "look_up", "master", "packet", "play", "played",
+           "request_number", "trace", "world_text"]
+
+Text = Union[str, bytes]
+
+#: How texts are encoded.
+ENCODING = ("utf-8", "surrogateescape")
+#: The version of dalvicna.h that this file is for.
+VERSION = 1
+#: The bytes of a packet, and where its name begins in them.
+PACKET_SIZE, PACKET_NAME = 304, 44
+_U64 = 2**64 - 1
+
+
+# ---- Faults
+
+class Fault(ValueError):
+    """Something that was given isn't what is wanted, or there was no memory.
+
+    number    the number of the fault (docs/FORMATS.md)
+    word      its word, as "BadEvent"
+    line      the line of the text at which it is told, from 1, or None
+    expected  what was expected there
+    """
+
+    #: What was expected where each fault is, by its number from 1.
+    WORDS: Tuple[Tuple[str, str], ...] = ()
+
+    def __init__(self, number: int, line: Optional[int] = None) -> None:
+        self.number, self.line = number, line
+        self.word, self.expected = self.WORDS[number - 1]
+        place = f"line {line}: " if line else ""
+        super().__init__(f"{place}{self.word}: expected {self.expected}")
+
+    def __reduce__(self) -> tuple:
+        return type(self), (self.number, self.line)
+
+
+class MapFault(Fault):
+    """A text is no map."""
+
+    WORDS = (("BadKey", "a key of this kind of map"),
+             ("BadOption", "options behind a dash, without a byte that no word may have"),
+             ("NoLocation", "a location"),
+             ("BadLocation", "one location HOST:PATH, and nothing behind it"),
+             ("NoMemory", "memory"))
+
+
+class MasterFault(Fault):
+    """A text is no master map."""
+
+    WORDS = (("BadPoint", "a mount point, which is /- or a path other than the root"),
+             ("NoMap", "the name of a map"),
+             ("BadType", "no type of a map, or file, or file,sun"),
+             ("BadTimeout", "a timeout in seconds"),
+             ("Twice", "a mount point that no line above has"),
+             ("NoMemory", "memory"))
+
+
+class PacketFault(Fault):
+    """Bytes are no packet, or a packet can't be written."""
+
+    WORDS = (("Length", "304 bytes, or 300 without the padding"),
+             ("Version", "version 5 of the protocol"),
+             ("Kind", "a kind from 3 to 6"),
+             ("NameLength", "a name of at most 255 bytes, and of at least 1 in an indirect packet"),
+             ("BadName", "a name without slash and zero byte other than . and .. in an indirect packet"))
+
+
+class ScriptFault(Fault):
+    """A script isn't played to its end.
+
+    written  what was written up to the fault: answers, a trace or a picture
+    cause    the fault of the map or master map, where a line of one is faulty, or None
+    """
+
+    WORDS = (("BadSection", "a line of the head, or the end of the section that begins here"),
+             ("BadLimits", "limits and durations that are numbers in their ranges"),
+             ("BadMaster", "a line of a master map"),
+             ("BadMap", "a line of a map"),
+             ("NoSuchMap", "the name of a map that has a section"),
+             ("BadEvent", "an event"),
+             ("LongLine", "a line of at most 8192 bytes"),
+             ("NoMemory", "memory"),
+             ("ReadFailed", "a script of at most 16 TiB"),
+             ("WriteFailed", "memory for what is written"))
+
+    def __init__(self, number: int, line: int, detail: int, written: str) -> None:
+        super().__init__(number, line)
+        self.written = written
+        self.cause: Optional[Fault] = {3: MasterFault, 4: MapFault}[number](detail, line) if detail else None
+        if self.cause:
+            self.word, self.expected, self.args = self.cause.word, self.cause.expected, self.cause.args
+
+    def __reduce__(self) -> tuple:
+        return type(self), (self.number, self.line, self.cause.number if self.cause else 0, self.written)
+
+
+# ---- The library
+
+_U8, _U32, _U64C, _SIZE, _BYTES = ctypes.c_uint8, ctypes.c_uint32, ctypes.c_uint64, ctypes.c_size_t, ctypes.c_char_p
+
+
+class _Played(ctypes.Structure):
+    _fields_ = [("bytes", _U64C), ("lines", _U64C), ("refused", _U64C), ("line", _U64C), ("fault", _U32),
+                ("detail", _U32)]
+
+
+class _Packet(ctypes.Structure):
+    _fields_ = [("kind", _U32), ("token", _U32), ("dev", _U32), ("uid", _U32), ("gid", _U32), ("pid", _U32),
+                ("tgid", _U32), ("name_len", _U32), ("ino", _U64C)]
+
+
+class _Entry(ctypes.Structure):
+    _fields_ = [("bytes", _U64C), ("host_at", _U64C), ("path_at", _U64C), ("has_options", _U32), ("found", _U32)]
+
+
+class _MasterLine(ctypes.Structure):
+    _fields_ = [("bytes", _U64C), ("map_at", _U64C), ("line", _U64C), ("lines", _U64C), ("timeout", _U32),
+                ("direct", _U32), ("found", _U32), ("pad", _U32)]
+
+
+_TEXT, _OUT = (_BYTES, _SIZE), (_BYTES, _SIZE)
+_PLAYED = (ctypes.POINTER(_Played),)
+#: The calls of dalvicna.h: what each gives, and what it takes.
+_CALLS = {
+    "am_version": (_U32, ()),
+    "am_play": (_U8, _TEXT + _OUT + _PLAYED),
+    "am_trace": (_U8, _TEXT + _OUT + _PLAYED),
+    "am_draw": (_U8, _TEXT + (_U64C, _U64C) + _OUT + _PLAYED),
+    "am_world": (_U8, _TEXT + (ctypes.c_bool, _U32) + _OUT + _PLAYED),
+    "am_packet_read": (_U8, _TEXT + (ctypes.POINTER(_Packet),)),
+    "am_packet_write": (_U8, (ctypes.POINTER(_Packet),) + _TEXT + _OUT),
+    "am_request_number": (_U32, (_U32,)),
+    "am_map_look_up": (_U8, _TEXT + (ctypes.c_bool,) + _TEXT + _OUT + (ctypes.POINTER(_Entry), ctypes.POINTER(_U64C))),
+    "am_master_line": (_U8, _TEXT + (_SIZE,) + _OUT + (ctypes.POINTER(_MasterLine), ctypes.POINTER(_U64C))),
+    "am_error_name": (_SIZE, (_U32,) + _OUT),
+}
+
+
+def _path() -> str:
+    beside = os.path.join(os.path.dirname(os.path.abspath(__file__)), "libdalvicna.so.1")
+    return os.environ.get("DALVICNA_LIB") or (beside if os.path.exists(beside) else "libdalvicna.so.1")
+
+
+def _load() -> ctypes.CDLL:
+    try:
+        library = ctypes.CDLL(_path())
+        for name, (gives, takes) in _CALLS.items():
+            call = getattr(library, name)
+            call.restype, call.argtypes = gives, takes
+    except (OSError, AttributeError) as error:
+        raise ImportError(f"expected the library for C, by DALVICNA_LIB or beside this file: {error}") from error
+    if library.am_version() < VERSION:
+        raise ImportError(f"expected version {VERSION} of the library or a later one, not {library.am_version()}")
+    return library
+
+
+_library = _load()
+
+
+def _bytes(text: Text) -> bytes:
+    return text.encode(*ENCODING) if isinstance(text, str) else bytes(text)
+
+
+def _text(some: bytes) -> str:
+    return some.decode(*ENCODING)
+
+
+def _number(value: int, most: int, name: str) -> int:
+    if not 0 <= value <= most:
+        raise OverflowError(f"expected {name} from 0 to {most}")
+    return value
+
+
+def _filled(call: Callable[[ctypes.Array, int], int], room: int) -> bytes:
+    """What a call writes into a buffer, of which it gives the size; it is made again where there is less room."""
+    while True:
+        out = ctypes.create_string_buffer(max(room, 1))
+        size = call(out, room)
+        if size <= room:
+            return ctypes.string_at(out, size)
+        room = size
+
+
+# ---- Scripts
+
+@dataclass(frozen=True)
+class Played:
+    """How a script went, and what was written of it.
+
+    lines    how many events were answered, 0 at a fault
+    refused  how many of these answers say that nothing was done
+    fault    its fault, or None
+    """
+
+    text: str
+    lines: int
+    refused: int
+    fault: Optional[ScriptFault]
+
+    def whole(self) -> str:
+        """The text of a script that was played to its end; else its fault is raised."""
+        if self.fault:
+            raise self.fault
+        return self.text
+
+
+def _script(name: str, script: Text, room: int, *words: int) -> Played:
+    given, told = _bytes(script), _Played()
+
+    def call(out: ctypes.Array, cap: int) -> int:
+        getattr(_library, name)(given, len(given), *words, out, cap, ctypes.byref(told))
+        return told.bytes
+
+    text = _text(_filled(call, room))
+    fault = ScriptFault(told.fault, told.line, told.detail, text) if told.fault else None
+    return Played(text, told.lines, told.refused, fault)
+
+
+def played(script: Text) -> Played:
+    """Plays a script, and tells how it went; a fault is told and not raised."""
+    return _script("am_play", script, 1024 + len(script))
+
+
+def play(script: Text) -> List[str]:
+    """The answers of a script, one for each event. Raises ScriptFault."""
+    return played(script).whole().split("\n")[:-1]
+
+
+def trace(script: Text) -> str:
+    """The trace of a script: each event, its answer, and what is seen of it. Raises ScriptFault."""
+    return _script("am_trace", script, 4096 + 16 * len(script)).whole()
+
+
+def draw(script: Text, first: int = 1, last: int = _U64) -> str:
+    """The picture (SVG) of a script's events from one number to another, which begin with 1. Raises ScriptFault."""
+    words = _number(first, _U64, "first"), _number(last, _U64, "last")
+    return _script("am_draw", script, 16384 + 64 * len(script), *words).whole()
+
+
+def world_text(script: Text, namespace: Optional[int] = None) -> str:
+    """The world that a script leaves, as /proc/PID/mountinfo tells the mounts of a namespace: of all of them, with
+    what else there is in comments, or of one alone. Raises ScriptFault."""
+    number = 0 if namespace is None else _number(namespace, 2**32 - 1, "a namespace")
+    return _script("am_world", script, 16384, namespace is None, number).whole()
+
+
+# ---- Packets and requests
+
+class PacketKind(enum.IntEnum):
+    """The kinds of packets (linux/auto_fs.h, autofs_packet_type)."""
+
+    MISSING_INDIRECT = 3
+    EXPIRE_INDIRECT = 4
+    MISSING_DIRECT = 5
+    EXPIRE_DIRECT = 6
+
+
+@dataclass(frozen=True)
+class Packet:
+    """A packet of the autofs protocol (linux/auto_fs.h, struct autofs_v5_packet)."""
+
+    kind: PacketKind
+    token: int
+    dev: int
+    ino: int
+    uid: int
+    gid: int
+    pid: int
+    tgid: int
+    name: bytes
+
+    def to_bytes(self) -> bytes:
+        """Its 304 bytes. Raises PacketFault where a field isn't one of the format."""
+        told = _Packet(kind=self.kind)
+        for field in ("token", "dev", "uid", "gid", "pid", "tgid", "ino"):
+            setattr(told, field, _number(getattr(self, field), _U64 if field == "ino" else 2**32 - 1, field))
+        out = ctypes.create_string_buffer(PACKET_SIZE)
+        fault = _library.am_packet_write(ctypes.byref(told), self.name, len(self.name), out, PACKET_SIZE)
+        if fault:
+            raise PacketFault(fault)
+        return out.raw
+
+
+def packet(some: bytes) -> Packet:
+    """The packet that these bytes are. Raises PacketFault."""
+    some, told = bytes(some), _Packet()
+    fault = _library.am_packet_read(some, len(some), ctypes.byref(told))
+    if fault:
+        raise PacketFault(fault)
+    name = some[PACKET_NAME:PACKET_NAME + told.name_len]
+    return Packet(PacketKind(told.kind), told.token, told.dev, told.ino, told.uid, told.gid, told.pid, told.tgid, name)
+
+
+class Request(enum.IntEnum):
+    """The requests of a daemon."""
+
+    READY = 1
+    FAIL = 2
+    CATATONIC = 3
+    SETTIMEOUT = 4
+    EXPIRE = 5
+    SETPIPE = 6
+
+
+def request_number(request: Request) -> int:
+    """The number by which ioctl(2) takes a request on x86-64."""
+    return _library.am_request_number(Request(request))
+
+
+# ---- Maps
+
+@dataclass(frozen=True)
+class Entry:
+    """An entry of a map; its options are None where the line has none (autofs(5), "SUN FORMAT")."""
+
+    options: Optional[str]
+    host: str
+    path: str
+
+
+def look_up(text: Text, key: Text, direct: bool = False) -> Optional[Entry]:
+    """The entry that a map has for a key: of its line, else of the `*` line, else None. The keys of a direct map are
+    paths. Raises MapFault."""
+    text, key, told, line = _bytes(text), _bytes(key), _Entry(), _U64C()
+
+    def call(out: ctypes.Array, cap: int) -> int:
+        fault = _library.am_map_look_up(text, len(text), direct, key, len(key), out, cap, ctypes.byref(told),
+                                        ctypes.byref(line))
+        if fault:
+            raise MapFault(fault, line.value or None)
+        return told.bytes
+
+    some = _filled(call, 1024)
+    if not told.found:
+        return None
+    options = _text(some[:told.host_at]) if told.has_options else None
+    return Entry(options, _text(some[told.host_at:told.path_at]), _text(some[told.path_at:]))
+
+
+@dataclass(frozen=True)
+class MasterLine:
+    """A line of a master map (auto.master(5), "FORMAT").
+
+    point    its mount point, None for /-
+    map      the name of its map
+    timeout  seconds without use after which a mount may expire, 0 for never by itself
+    line     the first line of the text that it stands on, from 1
+    """
+
+    point: Optional[str]
+    map: str
+    timeout: int
+    line: int
+
+
+def _master_line(text: bytes, at: int) -> Tuple[int, Optional[MasterLine]]:
+    """How many lines there are, and the one at this place, from 0."""
+    told, line = _MasterLine(), _U64C()
+
+    def call(out: ctypes.Array, cap: int) -> int:
+        fault = _library.am_master_line(text, len(text), at, out, cap, ctypes.byref(told), ctypes.byref(line))
+        if fault:
+            raise MasterFault(fault, line.value or None)
+        return told.bytes
+
+    some = _filled(call, 1024)
+    if not told.found:
+        return told.lines, None
+    point = None if told.direct else _text(some[:told.map_at])
+    return told.lines, MasterLine(point, _text(some[told.map_at:]), told.timeout, told.line)
+
+
+def master(text: Text) -> List[MasterLine]:
+    """The lines of a master map, in order. It is read once for each of them. Raises MasterFault."""
+    text = _bytes(text)
+    count = _master_line(text, _U64)[0]
+    found = (_master_line(text, at)[1] for at in range(count))
+    return [line for line in found if line]
+
+
+# ---- Words
+
+def error_name(number: int) -> str:
+    """The word of the error that an answer `err N` tells, as "EBUSY"; empty where no error has this number."""
+    number = _number(number, 2**32 - 1, "a number")
+    return _text(_filled(lambda out, cap: _library.am_error_name(number, out, cap), 32))

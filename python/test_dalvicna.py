@@ -1,0 +1,167 @@
+"""Tests of the module; tools/library.py test runs them, by `python3 -m unittest` in this folder."""
+
+import glob
+import os
+import pickle
+import re
+import threading
+import unittest
+
+import dalvicna
+
+TOP = os.path.realpath(os.path.join(os.path.dirname(__file__), ".."))
+HEAD = "master\n/auto auto.home\nend\nmap auto.home\nhome srv:/home\nend\nevents\n"
+
+
+def bytes_of(path):
+    with open(path, "rb") as file:
+        return file.read()
+
+
+class Examples(unittest.TestCase):
+    """All examples, byte for byte."""
+
+    def each(self, end, view):
+        scripts = sorted(glob.glob(f"{TOP}/examples/*.script"))
+        self.assertGreaterEqual(len(scripts), 12)
+        for path in scripts:
+            with self.subTest(path):
+                written = view(bytes_of(path)).encode(*dalvicna.ENCODING)
+                self.assertEqual(written, bytes_of(path[:-len("script")] + end))
+
+    def test_answers(self):
+        self.each("out", lambda script: "".join(f"{line}\n" for line in dalvicna.play(script)))
+
+    def test_traces(self):
+        self.each("trace", dalvicna.trace)
+
+    def test_pictures(self):
+        self.each("svg", dalvicna.draw)
+
+    def test_worlds(self):
+        self.each("world", dalvicna.world_text)
+
+
+class Scripts(unittest.TestCase):
+    def test_how_a_script_went(self):
+        told = dalvicna.played("events\nleave 7\nkind 0 /\n")
+        self.assertEqual((told.text, told.lines, told.refused, told.fault), ("err 5\nkind private\n", 2, 1, None))
+        self.assertEqual(dalvicna.error_name(5), "EINVAL")
+        self.assertEqual(dalvicna.play(""), [])
+
+    def test_a_fault_behind_answers(self):
+        with self.assertRaises(dalvicna.ScriptFault) as raised:
+            dalvicna.play(HEAD + "attach /auto\nwalk\n")
+        fault = raised.exception
+        self.assertEqual((fault.number, fault.word, fault.line, fault.expected), (6, "BadEvent", 9, "an event"))
+        self.assertEqual(fault.written, "fs 2 attach 1 mount 2\n")
+        self.assertEqual(str(fault), "line 9: BadEvent: expected an event")
+        self.assertIsNone(fault.cause)
+
+    def test_faults_of_maps(self):
+        told = dalvicna.played("master\n/a x\n/a y\nend\n").fault
+        self.assertEqual((told.number, told.word, told.line), (3, "Twice", 3))
+        self.assertIsInstance(told.cause, dalvicna.MasterFault)
+        told = dalvicna.played("master\n/a x\nend\nmap x\nk\nend\nevents\n").fault
+        self.assertEqual((told.number, told.word), (4, "NoLocation"))
+        self.assertEqual(str(told), "line 5: NoLocation: expected a location")
+
+    def test_a_fault_is_pickled(self):
+        fault = dalvicna.played("master\n/a x\n/a y\nend\n").fault
+        again = pickle.loads(pickle.dumps(fault))
+        self.assertEqual((str(again), again.cause.number), (str(fault), 5))
+
+    def test_bytes_that_are_no_text(self):
+        script = b"events\nmount 0 /\xff\nkind 0 /\xff\n"
+        self.assertEqual(dalvicna.play(script), ["mount 2", "kind private"])
+        self.assertEqual(dalvicna.play(script.decode(*dalvicna.ENCODING)), ["mount 2", "kind private"])
+        self.assertIn(b"mount 0 /\xff\n", dalvicna.trace(script).encode(*dalvicna.ENCODING))
+        for some in (b"\0" * 9, b"\xff" * 9000, bytes(range(256)) * 40):
+            with self.assertRaises(dalvicna.ScriptFault):
+                dalvicna.play(some)
+
+    def test_more_than_there_is_room_for_at_first(self):
+        script = "events\n" + "mount 0 /a\n" * 600
+        self.assertGreater(len(dalvicna.world_text(script)), 20000)
+        self.assertEqual(dalvicna.trace(script).count("= mount"), 600)
+        for room in (0, 1, 9000):
+            self.assertEqual(dalvicna._script("am_trace", script, room).text, dalvicna.trace(script))
+
+    def test_one_namespace_and_some_rows(self):
+        script = "events\nnscopy 0\nmount 1 /a\n"
+        self.assertNotIn("/a", dalvicna.world_text(script, 0))
+        self.assertIn("/a", dalvicna.world_text(script, 1))
+        self.assertLess(len(dalvicna.draw(script, 2, 2)), len(dalvicna.draw(script)))
+        with self.assertRaises(OverflowError):
+            dalvicna.world_text(script, 2**32)
+        with self.assertRaises(OverflowError):
+            dalvicna.draw(script, -1)
+
+    def test_threads(self):
+        script, found = HEAD + "attach /auto\nwalk 7 0 /auto/home 100 room\n", []
+
+        def often():
+            found.extend(dalvicna.play(script) for _ in range(200))
+
+        threads = [threading.Thread(target=often) for _ in range(4)]
+        for thread in threads:
+            thread.start()
+        for thread in threads:
+            thread.join()
+        self.assertEqual(found, [["fs 2 attach 1 mount 2", "wait 1"]] * 800)
+
+
+class Packets(unittest.TestCase):
+    PACKET = dalvicna.Packet(dalvicna.PacketKind.MISSING_INDIRECT, 17, 2, 2**40, 3, 4, 5, 6, b"home")
+
+    def test_a_packet_is_read_as_it_was_written(self):
+        some = self.PACKET.to_bytes()
+        self.assertEqual((len(some), some[44:49]), (304, b"home\0"))
+        self.assertEqual(dalvicna.packet(some), self.PACKET)
+        self.assertEqual(dalvicna.packet(memoryview(some)[:300]), self.PACKET)
+
+    def test_faults(self):
+        for some, word in ((b"", "Length"), (bytes(304), "Version")):
+            with self.assertRaises(dalvicna.PacketFault) as raised:
+                dalvicna.packet(some)
+            self.assertEqual((raised.exception.word, raised.exception.line), (word, None))
+        with self.assertRaises(dalvicna.PacketFault):
+            dalvicna.Packet(dalvicna.PacketKind.EXPIRE_INDIRECT, 1, 2, 3, 4, 5, 6, 7, b"a/b").to_bytes()
+        with self.assertRaises(OverflowError):
+            dalvicna.Packet(dalvicna.PacketKind.EXPIRE_DIRECT, 2**32, 2, 3, 4, 5, 6, 7, b"").to_bytes()
+
+    def test_requests(self):
+        self.assertEqual(dalvicna.request_number(dalvicna.Request.READY), 0x9360)
+        self.assertEqual(dalvicna.request_number(dalvicna.Request.SETPIPE), 0xC0189378)
+
+
+class Maps(unittest.TestCase):
+    MAP = "home -ro,soft srv:/export/&\n* big:/all/&\n"
+
+    def test_entries(self):
+        self.assertEqual(dalvicna.look_up(self.MAP, "home"), dalvicna.Entry("ro,soft", "srv", "/export/home"))
+        self.assertEqual(dalvicna.look_up(self.MAP, "k" * 3000), dalvicna.Entry(None, "big", "/all/" + "k" * 3000))
+        self.assertIsNone(dalvicna.look_up("home srv:/home", "work"))
+        self.assertEqual(dalvicna.look_up("/a//b srv:/x", "/a/b", direct=True).host, "srv")
+        with self.assertRaises(dalvicna.MapFault) as raised:
+            dalvicna.look_up("a srv:/a\nb\n", "a")
+        self.assertEqual((raised.exception.word, raised.exception.line), ("NoLocation", 2))
+
+    def test_lines_of_a_master_map(self):
+        lines = dalvicna.master("/auto auto.home --timeout=60\n\n/- auto.direct\n")
+        self.assertEqual(lines[0], dalvicna.MasterLine("/auto", "auto.home", 60, 1))
+        self.assertEqual(lines[1:], [dalvicna.MasterLine(None, "auto.direct", 300, 3)])
+        self.assertEqual(dalvicna.master(""), [])
+        with self.assertRaises(dalvicna.MasterFault) as raised:
+            dalvicna.master("/a x\n/a y\n")
+        self.assertEqual((raised.exception.word, raised.exception.line), ("Twice", 2))
+
+
+class Header(unittest.TestCase):
+    def test_each_call_is_bound(self):
+        with open(f"{TOP}/c/dalvicna.h", encoding="utf-8") as file:
+            self.assertEqual(sorted(dalvicna._CALLS), sorted(re.findall(r"^\w+ (am_\w+)\(", file.read(), re.M)))
+
+
+if __name__ == "__main__":
+    unittest.main()
