@@ -1,5 +1,8 @@
 //! For the author of tests: a world, event by event.
 
+ghost use Rattle.am_machine.specs.{UnmountsNothingInUse};
+ghost use Rattle.am_world.specs.Capacity.{state_of};
+
 use am_job::Act;
 use am_map::{Map, MapKind};
 use am_master::Master;
@@ -7,7 +10,7 @@ use am_names::{
     AbsPath, Attach, Errno, FsId, JobId, Limits, MountId, NsId, PipeState, Place, Position,
     Seconds, Token, WalkerId,
 };
-use am_world::laws::trace_holds;
+use am_world::laws::{steps_unmount_nothing_in_use, trace_holds};
 use am_world::{Answer, Event, Obs, Ran, World, run};
 use std::alloc::Global;
 use std::test::Fail;
@@ -199,5 +202,73 @@ fn a_run_serves_the_walk(rt: HostRuntime) -> Result<(), Fail> {
     let world = world(rt.alloc())?;
     let is_served = serves(rt.alloc(), world, events.as_slice());
     assert!(rt; is_served);
+    Ok(())
+}
+
+/// Makes an event. No mount goes that a walker is inside of, or on which one that stays is mounted.
+fn make_event(alloc: Global, world: &mut World, event: &Event) -> Answer
+    ensures { UnmountsNothingInUse (state_of world.old) (state_of world.new) }
+{
+    // The law, and that this world came by a run: both are known to the proof from here on.
+    steps_unmount_nothing_in_use();
+    world.trace();
+    world.step(alloc, event)
+}
+
+fn mount(alloc: Global) -> Result<Event, Errno> {
+    Ok(Event::Mount {
+        ns: NsId(0),
+        path: place(alloc, b"/srv")?,
+    })
+}
+
+fn enter(alloc: Global) -> Result<Event, Errno> {
+    Ok(Event::Walk {
+        walker: WalkerId(7),
+        ns: NsId(0),
+        path: place(alloc, b"/srv")?,
+        now: Seconds(100),
+        pipe: PipeState::Room,
+    })
+}
+
+fn umount(alloc: Global) -> Result<Event, Errno> {
+    Ok(Event::Umount {
+        ns: NsId(0),
+        path: place(alloc, b"/srv")?,
+    })
+}
+
+fn leave() -> Event {
+    Event::Leave {
+        walker: WalkerId(7),
+    }
+}
+
+fn is_busy(answer: &Answer) -> bool {
+    matches!(answer, Answer::Refused { errno } if *errno == Errno::EBUSY)
+}
+
+fn is_gone(answer: &Answer) -> bool {
+    matches!(answer, Answer::Gone { .. })
+}
+
+/// The mount is refused to go while the walker is inside of it, and goes once it has left.
+fn goes_when_left(alloc: Global, world: &mut World) -> Result<bool, Errno> {
+    make_event(alloc, world, &mount(alloc)?);
+    make_event(alloc, world, &enter(alloc)?);
+    let umount = umount(alloc)?;
+    let is_busy = is_busy(&make_event(alloc, world, &umount));
+    make_event(alloc, world, &leave());
+    let is_gone = is_gone(&make_event(alloc, world, &umount));
+    Ok(is_busy && is_gone)
+}
+
+#[test]
+fn a_mount_goes_when_it_is_left(rt: HostRuntime) -> Result<(), Fail> {
+    let mut world = world(rt.alloc())?;
+    let goes_when_left = goes_when_left(rt.alloc(), &mut world);
+    drop(world);
+    assert!(rt; goes_when_left?);
     Ok(())
 }
