@@ -146,7 +146,7 @@ class Proofs:
 
     def done(self):
         text = text_of(self.log)
-        proved = {(it, "proof") for it in re.findall(r"^rt: (\w+) (?:NOT )?(?:proved|PROVED)", text, re.M)}
+        proved = {(it, "proof") for it in re.findall(r"^rt: (\w+) (?:NOT PROVED|proved$|is kept: )", text, re.M)}
         return proved | {(it, "tests") for it in re.findall(r"^rt: (\w+): its tests are", text, re.M)}
 
     def share(self):
