@@ -134,7 +134,7 @@ def is_picture(program, words, shown, told):
     """Whether the picture shows these of the two events, and says how many."""
     status, wrote, said = program.run(["draw", *words], TWO_EVENTS)
     names = (b">mount 0 /a&lt;b</text>", b">leave 1</text>")
-    return (status, said) == (0, b"") and wrote.startswith(b"<svg ") and wrote.endswith(b"</g>\n</svg>\n") \
+    return (status, said) == (0, b"") and wrote.startswith(b"<svg ") and wrote.endswith(b"\n</svg>\n") \
         and tuple(it in wrote for it in names) == shown and b">" + told + b"<" in wrote
 
 
