@@ -93,10 +93,17 @@ ROOM = None
 
 def compared(how, example, status, wrote, said):
     """Compares what came of an example with what it says."""
-    told = f"fault: {example.fault}\n".encode() if example.fault else b""
-    if (status, wrote, said) != (1 if example.fault else 0, example.answers, told):
-        raise Wrong(f"{how}: {difference(example.answers, wrote)}; it told {said!r}, not {told!r}; the script is "
-                    f"{shortened(example.script)}")
+    expected = (1 if example.fault else 0, example.answers, told_of(example))
+    if (status, wrote, said) != expected:
+        found = [difference(example.answers, wrote)] if wrote != example.answers else []
+        found += [f"it told {said!r}, not {expected[2]!r}"] if said != expected[2] else []
+        found += [f"its status is {status}, not {expected[0]}"] if status != expected[0] else []
+        raise Wrong(f"{how}: {'; '.join(found)}; the script is {shortened(example.script)}")
+
+
+def told_of(example):
+    """What is told of the fault of an example."""
+    return f"fault: {example.fault}\n".encode() if example.fault else b""
 
 
 def shortened(text):
@@ -105,8 +112,6 @@ def shortened(text):
 
 def difference(expected, found):
     """The first answer that isn't as expected."""
-    if expected == found:
-        return "the answers are as expected"
     ours, theirs = expected.split(b"\n"), found.split(b"\n")
     at = next((at for at, pair in enumerate(zip(ours, theirs)) if pair[0] != pair[1]), min(len(ours), len(theirs)))
     line = [b"nothing" if at >= len(it) else it[at] for it in (ours, theirs)]
@@ -402,8 +407,7 @@ def without(script, number):
 def is_refused_well(example, status, wrote, said):
     """Either all is as ever. Or there was no memory for the script itself, and what was written is a beginning. Or one
     event found none: it has changed nothing, so that the others are answered as where it isn't there."""
-    told = f"fault: {example.fault}\n".encode() if example.fault else b""
-    if (status, wrote, said) == (1 if example.fault else 0, example.answers, told):
+    if (status, wrote, said) == (1 if example.fault else 0, example.answers, told_of(example)):
         return True
     if re.fullmatch(rb"fault: (line \d+: )?NoMemory\n", said):
         return status == 1 and example.answers.startswith(wrote)

@@ -11,7 +11,7 @@ event meets a pipe that is full or gone; one script has two such changes at each
 - kernel and daemon agree on each file system that the daemon serves (docs/MODEL.md, "Kernel and daemon agree");
 - acts of an old attachment are refused.
 
-And nothing is stuck. From each world to which a script leads, the daemon alone closes every open token of a file system
+And nothing is stuck. From each world to which a script leads, in which kernel and daemon agree too, the daemon alone closes every open token of a file system
 that it serves, by six events at most, however its mounts and unmounts go; catatonic mode closes the tokens of the
 others. Then everybody who waited goes on.
 
@@ -263,7 +263,7 @@ def judged(script, events):
     wrong = laws.breaches([it for step in steps for it in step.seen])
     wrong += laws.breaches([it for step in steps[:len(events)] for it in step.seen])
     wrong += [it for autofs in served for it in disagreements(world, autofs)]
-    wrong += [f"an act of an old attachment: {it}" for it in old if it != EPERM]
+    wrong += [f"an act of an old attachment is answered {it}" for it in old if it != EPERM]
     return wrong, bool(served), len(old)
 
 
@@ -343,6 +343,9 @@ def close_each(script):
         events = script.events[:at]
         world = World(played("world", script, events))
         attached = attached_behind(script, steps_of(played("trace", script, events)))
+        wrong = [it for autofs in attached.values() if autofs.is_served() for it in disagreements(world, autofs)]
+        if wrong:
+            return f"{script.name}, its open tokens: not as it must be, behind {at} events: {wrong[0]}"
         for token, (walkers, trigger) in world.open.items():
             try:
                 if attached[trigger[1]].is_served():
@@ -381,16 +384,17 @@ def main(words):
     os.chdir(os.path.dirname(os.path.abspath(__file__)) + "/..")
     program()
     with open(EXPECTED, encoding="utf-8") as file:
-        expected = set(file.read().split("\n"))
+        expected = dict(line.split(": ", 1) for line in file.read().split("\n")[:-1])
     passed = failed = 0
     with concurrent.futures.ProcessPoolExecutor(len(os.sched_getaffinity(0))) as pool:
         for line in pool.map(told, tasks(words)):
-            if line in expected:
+            name, seen = line.split(": ", 1)
+            if seen == expected.get(name):
                 passed += 1
                 print(line, flush=True)
             else:
                 failed += 1
-                print(f"failed: {line}", flush=True)
+                print(f"failed: {line}\nexpected: {expected.get(name, 'a line of ' + EXPECTED)}", flush=True)
     if not passed + failed:
         print("sweeps: expected names of scripts that are swept", file=sys.stderr)
         sys.exit(2)
