@@ -96,7 +96,8 @@ def is_in_queue(delivered, before):
     """This very packet was queued, and then neither delivered nor its file system made catatonic."""
 
     def takes(it):
-        return it.what == "delivered" and it.token == delivered.token or it.what == "catatonic" and it.fs == delivered.fs
+        return (it.what == "delivered" and it.token == delivered.token
+                or it.what == "catatonic" and it.fs == delivered.fs)
 
     return any((before[at].attach, before[at].packet) == (delivered.attach, delivered.packet)
                and not any(takes(it) for it in before[at + 1:]) for at in places("queued", delivered.token, before))
@@ -150,13 +151,15 @@ def waiters_law(it, before, behind):
     if it.what == "released":
         yield "released by what closed its token", is_closed_right_before(it, before)
         yield "released from what it waits on", it.walker in waiters(it.token, before)
-        yield "released once", not any(e.what == "released" and (e.walker, e.token) == (it.walker, it.token) for e in before)
+        yield "released once", (it.walker, it.token) not in [
+            (other.walker, other.token) for other in before if other.what == "released"]
     if it.what == "answered":
         yield "an answer releases all", all_are_released(it.token, before, behind)
     if it.what == "catatonic":
-        tokens = {e.token for e in before if e.what == "queued"}
+        tokens = {other.token for other in before if other.what == "queued"}
         yield "catatonic mode releases all", all(
-            all_are_released(token, before, behind) for token in tokens if fs_of(token, before) == it.fs and is_open(token, before))
+            all_are_released(token, before, behind) for token in tokens
+            if fs_of(token, before) == it.fs and is_open(token, before))
 
 
 def passes_law(it, before, _):
@@ -202,6 +205,7 @@ WORDS = {
     "waits-too": "waits 8 token 1",
     "answered": "answered 1 ready",
     "released": "released 7 token 1 ready",
+    "released-too": "released 8 token 1 ready",
     "failed": "released 7 token 1 fail",
     "failed-by-2": "released 7 token 1 fail 2",
     "catatonic": "catatonic 2",

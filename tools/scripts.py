@@ -19,7 +19,8 @@ usage: tools/scripts.py                    plays all of them; the last line coun
   first that wasn't written to its end.
 - `.faults` has faulty lines of a section, each between all texts that may stand around it: the cases that are named
   `before` and `behind`; all end in the case `end`. The fault is told at the first line behind the text before it.
-- `.digits` has a packet as digits, on the first line of a case: with another digit in place of each, it goes as it says.
+- `.digits` has a packet as digits, on the first line of a case: with another digit in place of each, it goes as it
+  says.
 - `.twice` is a script that says each event twice, with the answers of `NAME.out`.
 - `.events` has lines of events: in the trace each is the event that is spelled so.
 - `.traces` has short traces, each lawful or not (tools/laws.py).
@@ -123,7 +124,8 @@ def plays_whole(example):
     with tempfile.TemporaryFile() as script:
         script.write(example.script)
         script.seek(0)
-        done = subprocess.run([program().path, "script"], stdin=script, capture_output=True, timeout=PATIENCE, check=False)
+        done = subprocess.run([program().path, "script"], stdin=script, capture_output=True, timeout=PATIENCE,
+                              check=False)
     compared("played whole", example, done.returncode, done.stdout, done.stderr)
 
 
@@ -292,7 +294,8 @@ def is_piece(file, case):
 def is_short_piece(file, case):
     """Where standard output doesn't take all of the answers to this piece."""
     number = file.cases.index(case)
-    (start, answers), (_, more), (whole, every) = before(file, number), before(file, number + 1), before(file, len(file.cases))
+    (start, answers), (_, more) = before(file, number), before(file, number + 1)
+    whole, every = before(file, len(file.cases))
     line = start.count(b"\n") + 1
     for room in range(len(answers), len(more)):
         plays_short(Example(whole, f"line {line}: WriteFailed", every[:room]), room)
@@ -334,7 +337,8 @@ def bytes_or_none(path):
 
 def script_at(path):
     start = path.rpartition(".")[0]
-    return Example(bytes_of(path), bytes_or_none(f"{start}.fault").decode().removesuffix("\n"), bytes_or_none(f"{start}.out"))
+    fault = bytes_or_none(f"{start}.fault").decode().removesuffix("\n")
+    return Example(bytes_of(path), fault, bytes_or_none(f"{start}.out"))
 
 
 def is_script(path):
@@ -399,7 +403,7 @@ def without(script, number):
     """A script without the event of this number, from 0: a blank line stands there."""
     lines = script.split(b"\n")
     events = next(at for at, line in enumerate(lines) if line.split() == [b"events"])
-    places = [at for at, line in enumerate(lines) if at > events and line.split() and not line.split()[0].startswith(b"#")]
+    places = [at for at, line in enumerate(lines) if at > events and line.split() and line.split()[0][:1] != b"#"]
     lines[places[number]] = b""
     return b"\n".join(lines)
 

@@ -11,9 +11,9 @@ event meets a pipe that is full or gone; one script has two such changes at each
 - kernel and daemon agree on each file system that the daemon serves (docs/MODEL.md, "Kernel and daemon agree");
 - acts of an old attachment are refused.
 
-And nothing is stuck. From each world to which a script leads, in which kernel and daemon agree too, the daemon alone closes every open token of a file system
-that it serves, by six events at most, however its mounts and unmounts go; catatonic mode closes the tokens of the
-others. Then everybody who waited goes on.
+And nothing is stuck. In each world to which a script leads kernel and daemon agree too; and from there the daemon alone
+closes every open token of a file system that it serves, by six events at most, however its mounts and unmounts go;
+catatonic mode closes the tokens of the others. Then everybody who waited goes on.
 
 All is judged by the program's traces and worlds. Each line tells what was seen, and must be that of tests/sweeps.out.
 """
