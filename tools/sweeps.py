@@ -20,6 +20,7 @@ All is judged by the program's traces and worlds. Each line tells what was seen,
 
 import concurrent.futures
 import functools
+import itertools
 import os
 import re
 import sys
@@ -207,7 +208,7 @@ def is_token_served(world, autofs, token):
     return world.jobs.get(token) == autofs.attach
 
 
-def disagreements(world, autofs):
+def disagreements_on(world, autofs):
     """What kernel and daemon don't agree on, of a file system that the daemon serves."""
     for trigger, entry in world.book.items():
         if trigger[1] == autofs.fs and not is_record_true(world, autofs, trigger, entry):
@@ -257,14 +258,20 @@ def judged(script, events):
     """What is wrong with these events in the script's world; whether the daemon serves a file system behind them; and
     how many acts of an old attachment were refused, those behind the events too."""
     steps = steps_of(played("trace", script, events + ACTS))
-    world, attached = World(played("world", script, events)), attached_behind(script, steps[:len(events)])
-    served = [it for it in attached.values() if it.is_served()]
+    attached = attached_behind(script, steps[:len(events)])
     old = list(acts_of_the_old(script, steps))
     wrong = laws.breaches([it for step in steps for it in step.seen])
     wrong += laws.breaches([it for step in steps[:len(events)] for it in step.seen])
-    wrong += [it for autofs in served for it in disagreements(world, autofs)]
+    wrong += disagreements(script, events, attached)
     wrong += [f"an act of an old attachment is answered {it}" for it in old if it != EPERM]
-    return wrong, bool(served), len(old)
+    return wrong, any(it.is_served() for it in attached.values()), len(old)
+
+
+def disagreements(script, events, attached):
+    """What they don't agree on behind these events, of all that the daemon serves."""
+    served = [it for it in attached.values() if it.is_served()]
+    world = World(played("world", script, events)) if served else None
+    return [wrong for it in served for wrong in disagreements_on(world, it)]
 
 
 # ---- Sweeps
@@ -282,25 +289,26 @@ def edits(events, first):
                 yield f"{pipe} behind {at} events", events[:at] + (other,) + events[at + 1:], at
 
 
-def swept(script, name, found):
-    """The line that tells of these changes; or what was not as it must be at one of them."""
+def swept(found):
+    """What was seen of these changes: how many were played, of how many the daemon serves a file system at the end, and
+    how many acts were refused. Or what was not as it must be at one of them."""
     count = served = refused = 0
-    for change, events in found:
+    for change, events, script in found:
         wrong, is_served, acts = judged(script, events)
         if wrong:
-            return f"{name}: not as it must be, {change}: {wrong[0]}"
+            return f"not as it must be, {change}: {wrong[0]}"
         count, served, refused = count + 1, served + is_served, refused + acts
-    return f"{name}: {count} played, {served} served at the end, {refused} acts refused"
+    return count, served, refused
 
 
 def sweep_singly(script):
-    return swept(script, script.name, ((change, events) for change, events, _ in edits(script.events, 0)))
+    return swept((change, events, script) for change, events, _ in edits(script.events, 0))
 
 
-def sweep_in_pairs(script):
-    return swept(script, f"{script.name}, in pairs", (
-        (f"{first}, and then {second}", both)
-        for first, once, end in edits(script.events, 0) for second, both, _ in edits(once, end)))
+def sweep_in_pairs(script, number):
+    """The change of this number, from 0, and each that may come behind it."""
+    first, once, end = list(edits(script.events, 0))[number]
+    return swept((f"{first}, and then {second}", both, script) for second, both, _ in edits(once, end))
 
 
 # ---- Nothing is stuck
@@ -309,72 +317,95 @@ class Stuck(Exception):
     """A token can't be closed."""
 
 
-def goes(script, events, count):
-    """The trace of these events, of which the last ones, so many, must not be refused."""
-    steps = steps_of(played("trace", script, events))
-    for step in steps[len(steps) - count:]:
-        if step.answer.startswith("err "):
-            raise Stuck(f"{step.event}: {step.answer}")
-    return [it for step in steps for it in step.seen]
+def answers(step, token):
+    return any(it.what == "answered" and it.token == token for it in step.seen)
 
 
-def close(script, events, token, walkers, count, is_queued):
-    """Closes a token by the daemon's events, however its acts go; returns how many events it took at most."""
-    if not laws.is_open(token, goes(script, events, 1 if count else 0)):
-        resumes = tuple(f"resume {it} {LATER} room" for it in walkers)
-        goes(script, events + resumes, len(resumes))
-        return count
-    if count == MOST_EVENTS:
-        raise Stuck(f"it is open behind {' and '.join(events[-count:])}")
-    nexts = (f"deliver {token}",) if is_queued else (f"act {token} ok", f"act {token} fail 2")
-    return max(close(script, events + (it,), token, walkers, count + 1, False) for it in nexts)
+def is_refused(step):
+    return step.answer.startswith("err ")
+
+
+def close(script, events, token, walkers, is_queued):
+    """Closes a token by the daemon's events, however its acts go; returns how many events it took at most. Behind its
+    answer its job makes no act any more."""
+    most, ahead = 0, [()]
+    resumes = tuple(f"resume {it} {LATER} room" for it in walkers)
+    delivery = (f"deliver {token}",) if is_queued else ()
+    while ahead:
+        chosen = ahead.pop()
+        words = chosen + ("ok",) * (MOST_EVENTS - len(delivery) - len(chosen))
+        made = delivery + tuple(f"act {token} {it}" for it in words)
+        steps = steps_of(played("trace", script, events + made + resumes))[len(events):]
+        closed = next((at + 1 for at, step in enumerate(steps[:len(made)]) if answers(step, token)), None)
+        if closed is None:
+            raise Stuck(f"it is open behind {', '.join(made)}")
+        for at, step in enumerate(steps):
+            if is_refused(step) != (closed <= at < len(made)):
+                raise Stuck(f"{', '.join((made + resumes)[:at + 1])}: {step.answer}")
+        # The acts up to the answer may go otherwise, one of them for the first time.
+        ahead += [words[:at] + ("fail 2",) for at in range(len(chosen), closed - len(delivery))]
+        most = max(most, closed)
+    return most
 
 
 def close_by_catatonic_mode(script, events, token, fs, walkers):
-    resumes = tuple(f"resume {it} {LATER} room" for it in walkers)
-    if laws.is_open(token, goes(script, events + (f"admincat {fs}",) + resumes, 1 + len(resumes))):
-        raise Stuck("it is open behind catatonic mode")
+    ends = (f"admincat {fs}", *(f"resume {it} {LATER} room" for it in walkers))
+    steps = steps_of(played("trace", script, events + ends))
+    refused = [f"{step.event}: {step.answer}" for step in steps[len(events):] if is_refused(step)]
+    if refused or laws.is_open(token, [it for step in steps for it in step.seen]):
+        raise Stuck(refused[0] if refused else "it is open behind catatonic mode")
 
 
 def close_each(script):
-    """The line that tells how each open token of each world of a script is closed."""
+    """How many open tokens, of all worlds of a script, the daemon closes, by how many events at most, and how many
+    catatonic mode closes. Or what was not as it must be."""
     by_daemon = most = others = 0
+    steps = steps_of(played("trace", script, script.events))
     for at in range(len(script.events) + 1):
-        events = script.events[:at]
-        world = World(played("world", script, events))
-        attached = attached_behind(script, steps_of(played("trace", script, events)))
-        wrong = [it for autofs in attached.values() if autofs.is_served() for it in disagreements(world, autofs)]
+        events, attached = script.events[:at], attached_behind(script, steps[:at])
+        wrong = disagreements(script, events, attached)
         if wrong:
-            return f"{script.name}, its open tokens: not as it must be, behind {at} events: {wrong[0]}"
+            return f"not as it must be, behind {at} events: {wrong[0]}"
+        world = World(played("world", script, events))
         for token, (walkers, trigger) in world.open.items():
             try:
                 if attached[trigger[1]].is_served():
                     by_daemon += 1
-                    most = max(most, close(script, events, token, walkers, 0, token in world.queued))
+                    most = max(most, close(script, events, token, walkers, token in world.queued))
                 else:
                     others += 1
                     close_by_catatonic_mode(script, events, token, trigger[1], walkers)
             except Stuck as stuck:
-                return f"{script.name}, its open tokens: not as it must be, token {token} behind {at} events: {stuck}"
-    return (f"{script.name}, its open tokens: {by_daemon} closed by the daemon, by {most} events at most, "
-            f"{others} by catatonic mode")
+                return f"not as it must be, token {token} behind {at} events: {stuck}"
+    return f"{by_daemon} closed by the daemon, by {most} events at most, {others} by catatonic mode"
 
 
 # ---- All of it
 
-def told(task):
-    call, path = task
-    return {"close": close_each, "singly": sweep_singly, "pairs": sweep_in_pairs}[call](Script(path))
+def seen_by(task):
+    _, call, path, *more = task
+    return call(Script(path), *more)
 
 
 def tasks(names):
+    """What is done: what its line begins with, and a call with the script that it plays."""
     paths = [f"examples/{it}" for it in os.listdir("examples") if it.endswith(".script")] + list(OTHERS)
     for path in sorted(paths, key=os.path.basename):
         name = os.path.basename(path).removesuffix(".script")
         if not names or name in names:
-            yield from (("close", path), ("singly", path))
+            yield f"{name}, its open tokens", close_each, path
+            yield name, sweep_singly, path
             if name == IN_PAIRS:
-                yield "pairs", path
+                for number in range(len(list(edits(Script(path).events, 0)))):
+                    yield f"{name}, in pairs", sweep_in_pairs, path, number
+
+
+def line_of(found):
+    """The line of what was seen, which may be in parts."""
+    wrong = [it for it in found if isinstance(it, str)]
+    if wrong:
+        return wrong[0]
+    return "{} played, {} served at the end, {} acts refused".format(*(sum(it) for it in zip(*found)))
 
 
 def main(words):
@@ -386,15 +417,17 @@ def main(words):
     with open(EXPECTED, encoding="utf-8") as file:
         expected = dict(line.split(": ", 1) for line in file.read().split("\n")[:-1])
     passed = failed = 0
+    work = list(tasks(words))
     with concurrent.futures.ProcessPoolExecutor(len(os.sched_getaffinity(0))) as pool:
-        for line in pool.map(told, tasks(words)):
-            name, seen = line.split(": ", 1)
+        parts = zip(work, pool.map(seen_by, work))
+        for name, found in itertools.groupby(parts, lambda it: it[0][0]):
+            seen = line_of([it for _, it in found])
             if seen == expected.get(name):
                 passed += 1
-                print(line, flush=True)
+                print(f"{name}: {seen}", flush=True)
             else:
                 failed += 1
-                print(f"failed: {line}\nexpected: {expected.get(name, 'a line of ' + EXPECTED)}", flush=True)
+                print(f"failed: {name}: {seen}\nexpected: {expected.get(name, 'a line of ' + EXPECTED)}", flush=True)
     if not passed + failed:
         print("sweeps: expected names of scripts that are swept", file=sys.stderr)
         sys.exit(2)
