@@ -64,8 +64,8 @@ quick:
 faults:
 	@tools/faults --all
 
-# the merge gate: proofs and tests, planted faults, refused allocations, the examples, the program over pipes, the
-# library for C, and the pages
+# the merge gate: proofs and tests, planted faults, refused allocations, the examples, scripts and sweeps over them, the
+# program over pipes, the library for C, and the pages
 test:
 	@tools/gate.py
 

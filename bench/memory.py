@@ -1,7 +1,7 @@
 #!/usr/bin/env python3
 """Tells how much memory a list of 100,000 walks takes, and one of them.
 
-usage: bench/memory.py      (`rt run` in crates/am_tests, or the gate, has built what makes it)
+usage: bench/memory.py      (`rt test` in crates/am_thread_tests, or the gate, has built what makes it)
 """
 
 import os
@@ -9,15 +9,14 @@ import resource
 import subprocess
 import sys
 
-CRATE = os.path.dirname(os.path.abspath(__file__)) + "/../crates/am_tests"
-PROGRAM = CRATE + "/out/am_tests"
+PROGRAM = os.path.dirname(os.path.abspath(__file__)) + "/../crates/am_thread_tests/out/am_thread_tests_tests"
 MANY = 100_000
 
 
 def greatest(word):
-    """Returns the most memory that the program takes when it is given this word, in kilobytes."""
+    """Returns the most memory that a test takes, in kilobytes."""
     before = resource.getrusage(resource.RUSAGE_CHILDREN).ru_maxrss
-    ran = subprocess.run([PROGRAM, word], cwd=CRATE + "/data", stdout=subprocess.DEVNULL, stderr=subprocess.DEVNULL)
+    ran = subprocess.run([PROGRAM, f"tests::events::{word}"], stdout=subprocess.DEVNULL, stderr=subprocess.DEVNULL)
     after = resource.getrusage(resource.RUSAGE_CHILDREN).ru_maxrss
     if ran.returncode or after <= before:
         sys.exit(f"memory: {word} failed, or takes too little to be told")
@@ -29,9 +28,9 @@ def main(words):
         print("memory: expected no words", file=sys.stderr)
         return 2
     if not os.access(PROGRAM, os.X_OK):
-        print("memory: expected a program that is built: rt run in crates/am_tests", file=sys.stderr)
+        print("memory: expected tests that are built: rt test in crates/am_thread_tests", file=sys.stderr)
         return 2
-    few = greatest("empty")
+    few = greatest("events_are_small")
     many = greatest("a_long_list_of_walks")
     print(f"{MANY} walks along /srv/data: {(many - few) / 1024:.1f} MB, {(many - few) * 1024 / MANY:.0f} bytes each")
     return 0

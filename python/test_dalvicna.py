@@ -43,6 +43,21 @@ class Examples(unittest.TestCase):
 
 
 class Scripts(unittest.TestCase):
+    def test_the_scripts_of_tests(self):
+        """Answers, how many these are and how many of them refusals, and the fault, as the files beside them say."""
+        scripts = sorted(glob.glob(f"{TOP}/tests/*.script"))
+        self.assertGreaterEqual(len(scripts), 150)
+        for path in scripts:
+            with self.subTest(path):
+                start = path[:-len("script")]
+                told, answers = dalvicna.played(bytes_of(path)), bytes_of(f"{start}out")
+                fault = bytes_of(f"{start}fault").decode().strip() if os.path.exists(f"{start}fault") else ""
+                self.assertEqual(told.text.encode(*dalvicna.ENCODING), answers)
+                self.assertEqual(f"line {told.fault.line}: {told.fault.word}" if told.fault else "", fault)
+                if not fault:
+                    refused = sum(line.startswith(b"err ") for line in answers.split(b"\n"))
+                    self.assertEqual((told.lines, told.refused), (answers.count(b"\n"), refused))
+
     def test_how_a_script_went(self):
         told = dalvicna.played("events\nleave 7\nkind 0 /\n")
         self.assertEqual((told.text, told.lines, told.refused, told.fault), ("err 5\nkind private\n", 2, 1, None))

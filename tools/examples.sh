@@ -1,9 +1,8 @@
 #!/bin/sh
 # tools/examples.sh: plays each script of `examples`, and compares its answers, its trace, its picture and
-# its world with those beside it; compares the script with the copy that `am_sweeps` plays; reads each
-# trace back; has a parser of XML read each picture, and findmnt each namespace of each world. Of the
-# scripts of `crates/am_tests/data` it compares the traces that stand beside them. The last line counts
-# them.
+# its world with those beside it; reads each trace back; has a parser of XML read each picture, and findmnt
+# each namespace of each world. Of the scripts of `tests` it compares the traces that stand beside them. The
+# last line counts them.
 set -u
 export LC_ALL=C
 . "$(dirname "$0")/common.sh"
@@ -105,7 +104,6 @@ for script in examples/*.script; do
     name=$(basename "$script" .script)
     play script "$script"
     expect "example $name" "$room/script" "examples/$name.out"
-    expect "example $name, as it is swept" "crates/am_sweeps/data/$name.script" "$script"
     play trace "$script"
     expect "example $name, its trace" "$room/trace" "examples/$name.trace"
     expect_read_back "example $name" "$script"
@@ -115,16 +113,16 @@ for script in examples/*.script; do
     ! command -v findmnt > /dev/null || expect_found "example $name" "$script"
 done
 
-for trace in crates/am_tests/data/*.trace; do
+for trace in tests/*.trace; do
     name=$(basename "$trace" .trace)
-    play trace "crates/am_tests/data/$name.script"
+    play trace "tests/$name.script"
     expect "script $name, its trace" "$room/trace" "$trace"
 done
 
 # More mounts that are copied from one namespace to another.
 for name in private_autofs_in_another_namespace bind_of_an_autofs_is_late propagation_by_slaves mounts_of_a_reduced_copy; do
     command -v findmnt > /dev/null || break
-    script=crates/am_tests/data/$name.script
+    script=tests/$name.script
     play world "$script"
     expect_found "script $name" "$script"
 done

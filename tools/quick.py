@@ -4,10 +4,10 @@
 usage: tools/quick.py
 
 The tests of each crate that has some are built without proof and run (`rt try`), and so is the program: it plays the
-examples and the scripts of crates/am_tests/data, runs its commands, and is driven over two pipes; the pages are
-compared with the repository, and what they show is run; a script is played with an allocation refused. What `am_tests` and `am_sweeps`
-do beside, and each allocation refused in turn, takes a proved build. As many of these go on side by side as there are
-processors. The last line counts all.
+examples and the files of `tests`, and sweeps over scripts, runs its commands, and is driven over two pipes; the pages
+are compared with the repository, and what they show is run. What is loaded before a program, as where each allocation
+is refused in turn, takes the proved one. As many of these go on side by side as there are processors. The last line
+counts all.
 """
 
 import concurrent.futures
@@ -21,14 +21,10 @@ import time
 
 COUNTS = re.compile(r"^(\d+) passed, (\d+) failed$", re.M)
 TESTS = re.compile(r"^test result: \w+\. (\d+) passed; (\d+) failed", re.M)
-# The scripts that the program plays, each with its answers and its fault.
-DATA = "crates/am_tests/data"
-# The script that is played with an allocation refused, and which one.
-REFUSED, ONE = "one_key", "25"
 # How long the tests or a program of one crate may take, in seconds and in steps.
 PATIENCE = ("--seconds", "400", "--steps", "1000000000000")
 # What plays the program that all of these share, which is built once.
-SHARED = ("examples.sh", "pipes.py", "commands.py", "run_pages")
+SHARED = ("examples.sh", "pipes.py", "commands.py", "scripts.py", "sweeps.py", "run_pages")
 
 
 def text_of(path):
@@ -60,36 +56,6 @@ def tests_of(crate):
     return sum(int(it[0]) for it in found), sum(int(it[1]) for it in found), ""
 
 
-def with_data(crate):
-    names = [os.path.relpath(it, f"crates/{crate}/data") for it in glob.glob(f"crates/{crate}/data/**", recursive=True)
-             if os.path.isfile(it)]
-    return [word for it in sorted(names) for word in ("--data", f"{it}=data/{it}")]
-
-
-def is_as_expected(program, path):
-    """Whether a script has the answers beside it, and ends in the fault beside it, if there is one."""
-    with open(path, "rb") as script:
-        done = subprocess.run([program, "script"], stdin=script, capture_output=True, check=False)
-    start = path.removesuffix("script")
-    fault = text_of(f"{start}fault") if os.path.exists(f"{start}fault") else ""
-    said = done.stderr.decode(errors="replace")
-    with open(f"{start}out", "rb") as answers:
-        return done.stdout == answers.read() and said.removeprefix("fault: ").strip() == fault.strip()
-
-
-def scripts(program):
-    """Plays the scripts of the tests."""
-    wrong = [it for it in sorted(glob.glob(f"{DATA}/*.script")) if not is_as_expected(program, it)]
-    return len(glob.glob(f"{DATA}/*.script")) - len(wrong), len(wrong), "".join(f"not as expected: {it}\n" for it in wrong)
-
-
-def refused():
-    """Plays a script with one allocation refused."""
-    done = ran(["rt", "try", *PATIENCE, *with_data("am_tests"), "--fail-alloc", ONE, "--", REFUSED], "crates/am_tests")
-    well = done.returncode == 0
-    return int(well), int(not well), "" if well else (done.stdout + done.stderr)[-2000:]
-
-
 def tool(name):
     done = ran([f"tools/{name}"])
     found = COUNTS.findall(done.stdout)
@@ -107,16 +73,14 @@ def shared():
     for name in SHARED:
         counts = tool(name)
         passed, failed, said = passed + counts[0], failed + counts[1], said + counts[2]
-    counts = scripts(built.stdout.strip())
-    return passed + counts[0], failed + counts[1], said + counts[2]
+    return passed, failed, said
 
 
 def tasks():
     """What is done, by its name, that which takes longest first."""
-    found = [("the program: examples, pipes, pages, scripts", shared)]
-    found += [(f"{REFUSED}: an allocation refused", refused)]
+    found = [("the program: examples, pipes, pages, scripts, sweeps", shared)]
     found += [(f"{it}: its tests", lambda it=it: tests_of(it)) for it in reversed(crates_with_tests())]
-    return found + [("pages", lambda: tool("check_pages"))]
+    return found + [("laws.py", lambda: tool("laws.py")), ("pages", lambda: tool("check_pages"))]
 
 
 def main(words):

@@ -1,7 +1,7 @@
 #!/bin/sh
 # tools/refuse_all.sh: plays worked examples and other scripts with each of their allocations refused in
-# turn: the event then finds no memory and changes nothing, and all goes on when it is made again. So it does
-# with tests of maps, of the pipe and of a world that callers share. The gate, or `rt run` in crates/am_tests and `rt test` in
+# turn: the event then finds no memory and changes nothing, and the others are answered as where it isn't there. So
+# it does with tests of maps, of the pipe and of a world that callers share. The gate, or `make build` and `rt test` in
 # crates/am_text_tests and crates/am_thread_tests, has built what plays them. The last line counts the scripts and tests.
 set -u
 . "$(dirname "$0")/common.sh"

@@ -4,6 +4,7 @@ mod callers;
 mod crowds;
 mod deaths;
 mod ends;
+mod events;
 mod releases;
 mod rows;
 mod runner;

@@ -1,13 +1,7 @@
-//! Values that no script shows: how large events are, long lists of them, rare answers, the numbers
-//! of faults, long scripts and long lines.
+//! Events and answers by themselves: how large they are, a long list of them, and answers with
+//! numbers that no script comes to.
 
-use crate::event_lines::is_no_event;
-use crate::play::{are_long_lines_played, is_long_script_played};
-use crate::readers::are_read;
-use am_map::MapFaultKind;
-use am_master::MasterFaultKind;
 use am_names::{JobId, MountId, MountIds};
-use am_script::ScriptFaultKind;
 use am_script::answer_line::push_answer;
 use am_script::event_line::read_event;
 use am_world::{Answer, Event, Obs};
@@ -18,6 +12,11 @@ use std::mem::size_of;
 /// keeps all that is ever seen. An answer may have a place in itself, of 40 bytes where it is short.
 fn are_small() -> bool {
     size_of::<Event>() <= 320 && size_of::<Answer>() <= 56 && size_of::<Obs>() <= 48
+}
+
+#[test]
+fn events_are_small(rt: HostRuntime) {
+    assert!(rt; are_small());
 }
 
 /// How many events a long list has.
@@ -31,12 +30,18 @@ fn copies_of(alloc: Global, event: &Event) -> Result<Vec<Event>, AllocError> {
     Ok(events)
 }
 
-/// Whether there is a long list of walks. `bench/memory.py` tells how much memory it takes.
-pub fn has_many_walks(alloc: Global) -> Result<bool, AllocError> {
+fn has_many_walks(alloc: Global) -> Result<bool, AllocError> {
     match read_event(alloc, b"walk 7 1 /srv/data 100 room")? {
         Some(event) => Ok(copies_of(alloc, &event)?.len() == MANY),
         None => Ok(false),
     }
+}
+
+/// `bench/memory.py` tells how much memory it takes.
+#[test]
+fn a_long_list_of_walks(rt: HostRuntime) {
+    let has = has_many_walks(rt.alloc());
+    assert!(rt; matches!(has, Ok(true)));
 }
 
 fn is_written(alloc: Global, answer: &Answer, wanted: &[u8]) -> Result<bool, AllocError> {
@@ -55,7 +60,6 @@ fn gone(alloc: Global, numbers: &[u64]) -> Result<Answer, AllocError> {
     })
 }
 
-/// Answers with numbers that no script comes to.
 fn are_rare_answers(alloc: Global) -> Result<bool, AllocError> {
     let job = Answer::Job {
         job: JobId(4_294_967_295),
@@ -69,45 +73,8 @@ fn are_rare_answers(alloc: Global) -> Result<bool, AllocError> {
     )
 }
 
-/// The kinds of faults, in the order of their numbers.
-const KINDS: [ScriptFaultKind; 10] = [
-    ScriptFaultKind::BadSection,
-    ScriptFaultKind::BadLimits,
-    ScriptFaultKind::BadMaster {
-        kind: MasterFaultKind::BadTimeout,
-    },
-    ScriptFaultKind::BadMap {
-        kind: MapFaultKind::NoLocation,
-    },
-    ScriptFaultKind::NoSuchMap,
-    ScriptFaultKind::BadEvent,
-    ScriptFaultKind::LongLine,
-    ScriptFaultKind::NoMemory,
-    ScriptFaultKind::ReadFailed,
-    ScriptFaultKind::WriteFailed,
-];
-
-/// They are numbered from 1.
-fn are_numbered() -> bool {
-    let mut number = 0_u8;
-    for kind in KINDS {
-        number = number.saturating_add(1);
-        if kind.number() != number {
-            return false;
-        }
-    }
-    true
-}
-
-/// Whether all of this is as expected.
-pub fn are_as_expected(alloc: Global) -> Result<bool, AllocError> {
-    let are_none = is_no_event(alloc, b"")? && is_no_event(alloc, b" \t")?;
-    let are_values = are_small() && are_numbered() && are_read(alloc) && are_none;
-    Ok(
-        are_values
-            && has_many_walks(alloc)?
-            && are_rare_answers(alloc)?
-            && is_long_script_played(alloc)?
-            && are_long_lines_played(alloc)?,
-    )
+#[test]
+fn rare_answers(rt: HostRuntime) {
+    let are = are_rare_answers(rt.alloc());
+    assert!(rt; matches!(are, Ok(true)));
 }
