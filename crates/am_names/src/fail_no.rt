@@ -10,7 +10,7 @@ use crate::errno::Errno;
 /// AUTOFS_IOC_FAIL).
 #[derive(Clone, Copy, Debug, PartialEq)]
 pub enum FailNo {
-    /// The failure that Linux knows alone.
+    /// The failure that AUTOFS_IOC_FAIL tells; AUTOFS_DEV_IOCTL_FAIL takes a status of its own.
     ENOENT = 1,
     EPERM,
     EBUSY,

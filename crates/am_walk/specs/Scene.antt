@@ -9,7 +9,7 @@ use Rattle.am_propagate.specs.MountTable.{MountTable}
 use Rattle.am_trigger.specs.{Autofs, TriggerRows, autofs_of}
 use Rattle.am_wait.specs.{WaitRows}
 
--- the mounts, the mount traps, and the errors that last
+-- the mounts, the mount traps, the open tokens, and the failures that last
 pub record Scene : Type 0 where
   pub mounts : List MountRow
   pub triggers : TriggerRows

@@ -9,14 +9,14 @@ use am_names::{FailNo, MountId, Place, Trigger, split_first_name};
 use am_trigger::{Autofs, Lasting, Triggers};
 use am_wait::Waits;
 
-/// The mounts, the mount traps and the tokens that a walk meets.
+/// The mounts, the mount traps, the open tokens, and the failures that last.
 #[derive(Clone, Copy)]
 pub struct View<'a> {
     pub tree: &'a Tree,
     pub triggers: &'a Triggers,
     /// None where the mount traps are off.
     pub waits: Option<&'a Waits>,
-    /// The same.
+    /// None there too.
     pub lasting: Option<Lasting<'a>>,
 }
 
