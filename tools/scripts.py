@@ -42,7 +42,6 @@ import socket
 import subprocess
 import sys
 import tempfile
-import threading
 from typing import NamedTuple
 
 sys.dont_write_bytecode = True
@@ -452,6 +451,8 @@ CASES = {"cases": is_case, "broken": is_broken_case, "cuts": is_piece, "short": 
          "digits": is_case_with_each}
 LINES = {"events": is_event, "traces": is_judged}
 SCRIPTS = ("script", "twice")
+#: What stands beside a script.
+BESIDE = ("out", "fault", "trace", "world")
 
 
 def parts_of(path):
@@ -493,6 +494,9 @@ def name_of(task):
 
 
 def play_all(paths):
+    for path in paths or sorted(glob.glob(f"{FOLDER}/*")):
+        if path.rpartition(".")[2] not in (*SCRIPTS, *CASES, *LINES, *BESIDE):
+            stop(f"expected a file that is played by what its name ends in, not {path}")
     long = [] if paths else [("", at) for at in range(len(LONG))]
     tasks = long + [(path, at) for path in paths or sorted(glob.glob(f"{FOLDER}/*.*")) for at in parts_of(path)]
     if not tasks:
@@ -521,7 +525,6 @@ def main(words):
     with tempfile.TemporaryDirectory() as ROOM:
         if program().is_proved:
             loaded("little")
-            loaded("refuse")
         else:
             print("scripts: what is loaded before a program is left out, as this one isn't proved", file=sys.stderr)
         if words[:1] == ["--refuse"]:
