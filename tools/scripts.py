@@ -47,9 +47,11 @@ from typing import NamedTuple
 sys.dont_write_bytecode = True
 
 import laws
-from commands import PATIENCE, Program
+from commands import Program
 
 FOLDER = "tests"
+#: How long a play may take, in seconds.
+PATIENCE = 300
 #: How many bytes a reader gives at a time: a few, and about as many as it is asked for.
 SIZES = (1, 7, 4095, 4096)
 READ = 4096
@@ -78,7 +80,7 @@ class Example(NamedTuple):
 
 @functools.cache
 def program():
-    return Program(ROOM)
+    return Program(ROOM, PATIENCE)
 
 
 @functools.cache
