@@ -108,16 +108,16 @@ LOSSES = [
 class Program:
     """The program, and the folder in which what is loaded before it is built."""
 
-    def __init__(self, room):
+    def __init__(self, room, patience=PATIENCE):
         ran = subprocess.run(["tools/program.sh"], stdout=subprocess.PIPE, check=True)
-        self.path, self.room = ran.stdout.decode().strip(), room
+        self.path, self.room, self.patience = ran.stdout.decode().strip(), room, patience
         self.is_proved = not os.path.basename(self.path).startswith("quick_")
 
     def run(self, words, given, loaded=None, before=None, **numbers):
         """Runs it, and returns its status, what it wrote and what it told."""
         more = {"LD_PRELOAD": loaded} if loaded else {}
         more.update({it: str(number) for it, number in numbers.items()})
-        ran = subprocess.run([self.path, *words], input=given, capture_output=True, timeout=PATIENCE, check=False,
+        ran = subprocess.run([self.path, *words], input=given, capture_output=True, timeout=self.patience, check=False,
                              env={**os.environ, **more}, preexec_fn=before)
         return ran.returncode, ran.stdout, ran.stderr
 

@@ -42,15 +42,16 @@ import socket
 import subprocess
 import sys
 import tempfile
-import threading
 from typing import NamedTuple
 
 sys.dont_write_bytecode = True
 
 import laws
-from commands import PATIENCE, Program
+from commands import Program
 
 FOLDER = "tests"
+#: How long a play may take, in seconds.
+PATIENCE = 300
 #: How many bytes a reader gives at a time: a few, and about as many as it is asked for.
 SIZES = (1, 7, 4095, 4096)
 READ = 4096
@@ -79,7 +80,7 @@ class Example(NamedTuple):
 
 @functools.cache
 def program():
-    return Program(ROOM)
+    return Program(ROOM, PATIENCE)
 
 
 @functools.cache
@@ -452,6 +453,8 @@ CASES = {"cases": is_case, "broken": is_broken_case, "cuts": is_piece, "short": 
          "digits": is_case_with_each}
 LINES = {"events": is_event, "traces": is_judged}
 SCRIPTS = ("script", "twice")
+#: What stands beside a script.
+BESIDE = ("out", "fault", "trace", "world")
 
 
 def parts_of(path):
@@ -493,6 +496,9 @@ def name_of(task):
 
 
 def play_all(paths):
+    for path in paths or sorted(glob.glob(f"{FOLDER}/*")):
+        if path.rpartition(".")[2] not in (*SCRIPTS, *CASES, *LINES, *BESIDE):
+            stop(f"expected a file that is played by what its name ends in, not {path}")
     long = [] if paths else [("", at) for at in range(len(LONG))]
     tasks = long + [(path, at) for path in paths or sorted(glob.glob(f"{FOLDER}/*.*")) for at in parts_of(path)]
     if not tasks:
@@ -521,7 +527,6 @@ def main(words):
     with tempfile.TemporaryDirectory() as ROOM:
         if program().is_proved:
             loaded("little")
-            loaded("refuse")
         else:
             print("scripts: what is loaded before a program is left out, as this one isn't proved", file=sys.stderr)
         if words[:1] == ["--refuse"]:
