@@ -122,11 +122,11 @@ def waiters(token, before):
 
 def all_are_released(token, before, behind):
     """Each walker that waits on the token is in the unbroken row of Released with which what is behind begins."""
-    row = []
+    row = set()
     for it in behind:
         if it.what != "released":
             break
-        row.append((it.walker, it.token))
+        row.add((it.walker, it.token))
     return all((walker, token) in row for walker in waiters(token, before))
 
 

@@ -136,10 +136,9 @@ def plays_by_trace(example):
     lines = wrote.split(b"\n")
     answers = b"".join(it[2:] + b"\n" for it in lines if it.startswith(b"= "))
     compared("by its trace", example, status, answers, said)
-    if len(wrote) < 100_000:
-        found = laws.breaches(laws.observations(wrote.decode("utf-8", "surrogateescape")))
-        if found:
-            raise Wrong(f"its trace is unlawful: {found[0]}; the script is {shortened(example.script)}")
+    found = laws.breaches(laws.observations(wrote.decode("utf-8", "surrogateescape")))
+    if found:
+        raise Wrong(f"its trace is unlawful: {found[0]}; the script is {shortened(example.script)}")
 
 
 def send(script, size, ours, descriptor):
