@@ -4,10 +4,10 @@
 usage: tools/quick.py
 
 The tests of each crate that has some are built without proof and run (`rt try`), and so is the program: it plays the
-examples and the files of `tests`, and sweeps over scripts, runs its commands, and is driven over two pipes; the pages
-are compared with the repository, and what they show is run. What is loaded before a program, as where each allocation
-is refused in turn, takes the proved one. As many of these go on side by side as there are processors. The last line
-counts all.
+examples and the files of `tests`, and sweeps over three scripts, runs its commands, and is driven over two pipes; the
+pages are compared with the repository, and what they show is run. What is loaded before a program, as where each
+allocation is refused in turn, takes the proved one. As many of these go on side by side as there are processors. The
+last line counts all.
 """
 
 import concurrent.futures
@@ -24,7 +24,7 @@ TESTS = re.compile(r"^test result: \w+\. (\d+) passed; (\d+) failed", re.M)
 # How long the tests or a program of one crate may take, in seconds and in steps.
 PATIENCE = ("--seconds", "400", "--steps", "1000000000000")
 # What plays the program that all of these share, which is built once.
-SHARED = ("examples.sh", "pipes.py", "commands.py", "scripts.py", "sweeps.py", "run_pages")
+SHARED = ("examples.sh", "pipes.py", "commands.py", "scripts.py", "sweeps.py catatonic death_and_reattachment first", "run_pages")
 
 
 def text_of(path):
@@ -57,7 +57,7 @@ def tests_of(crate):
 
 
 def tool(name):
-    done = ran([f"tools/{name}"])
+    done = ran(f"tools/{name}".split())
     found = COUNTS.findall(done.stdout)
     passed, failed = (int(found[-1][0]), int(found[-1][1])) if found else (0, 1)
     return passed, failed, "" if not failed else (done.stdout + done.stderr)[-2000:]
