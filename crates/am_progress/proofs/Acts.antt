@@ -82,7 +82,7 @@ directory_by_cases true true c i = refl
 directory_by_cases true false c i = absurd cc
 directory_by_cases false indirect c i = absurd cc
 
-directory_fine : (s : State) (number : ℕ) (row : JobPlan) → Acting s number row → is_some row.trigger.name ≡ true → directory_refusal s.kernel row.attach row.trigger ≡ None
+pub directory_fine : (s : State) (number : ℕ) (row : JobPlan) → Acting s number row → is_some row.trigger.name ≡ true → directory_refusal s.kernel row.attach row.trigger ≡ None
 directory_fine s number row w named =
     directory_by_cases (is_current s.kernel row.trigger.fs row.attach) (is_indirect s.kernel row.trigger) (its_current s number row w)
     (indirect_of (triggers.autofs_of s.kernel.triggers row.trigger.fs) row.trigger (its_site s number row w) named)

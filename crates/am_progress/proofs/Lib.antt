@@ -14,3 +14,9 @@ pub mod Expiries
 pub mod Others
 pub mod Closed
 pub mod Among
+pub mod Passing
+pub mod Through
+pub mod Waiters
+pub mod Comings
+pub mod Kept
+pub mod ExpiriesAmong

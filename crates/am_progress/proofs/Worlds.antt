@@ -36,7 +36,7 @@ next_world s event along h =
       failures = record { suited = mended.suited; free = mended.free; mended = mended.mended };
     }
 
-step_world : (old : State) (event : Event) (answer : Answer) (shown : List Obs) (new : State) → Step old event answer shown new → HasPaths event → IsWorld old → IsWorld new
+pub step_world : (old : State) (event : Event) (answer : Answer) (shown : List Obs) (new : State) → Step old event answer shown new → HasPaths event → IsWorld old → IsWorld new
 step_world old event answer shown new (inl out) along h = subst IsWorld (sym out.same) h
 step_world old event answer shown new (inr comes) along h = subst IsWorld (sym comes.left) (next_world old event along h)
 
