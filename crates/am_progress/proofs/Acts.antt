@@ -34,7 +34,8 @@ use Rattle.am_progress.proofs.Attaches.{fs_of_current}
 use Rattle.am_progress.proofs.Plans.{IsOwn, IsOfPlan, next_own, packet_plan}
 use Rattle.am_progress.proofs.Packets.{holds_held}
 use Rattle.am_progress.proofs.Worlds.{IsWorld, after_runs}
-use Rattle.am_progress.proofs.Jobs.{left_is, Acting, job_number, its_plan, its_acts, its_token, its_site, its_current}
+use Rattle.am_progress.proofs.Left.{left_is}
+use Rattle.am_progress.proofs.Jobs.{Acting, job_number, its_plan, its_acts, its_token, its_site, its_current}
 
 -- ---- what an act does
 

@@ -448,7 +448,7 @@ module _ (old s : State) (fs attach token : ℕ) (row : JobPlan) (h : Served s f
 
 -- ---- a job that is about to mount
 
-about_to_mount : (s : State) (fs attach token : ℕ) (job : JobPlan) → Served s fs attach token job s.kernel.waits → IsMissing s token → new_fs_refusal s.kernel (location_of s.kernel job.trigger.fs) ≡ None → IsWholeMount job.trigger job.plan → is_to_mount s.kernel job (next_of job.plan) ≡ true →
+about_to_mount : (s : State) (fs attach token : ℕ) (job : JobPlan) → Served s fs attach token job s.kernel.waits → IsMissing s token → new_fs_refusal s.kernel (location_of s.kernel job.trigger.fs) ≡ None → IsWholeMount job.trigger job.plan → is_to_mount (next_of job.plan) ≡ true →
     (m : ℕ) × AllCome job.plan m token (CanBePassed s token job.trigger m) s
 about_to_mount s fs attach token job h its numbers (inl whole) about =
     let g = job.trigger in
@@ -459,9 +459,11 @@ about_to_mount s fs attach token job h its numbers (inl whole) about =
 about_to_mount s fs attach token job h its numbers (inr (inl whole)) about =
     let g = job.trigger in
     let m = s.kernel.table.last_mount + 1 in
-    let there : is_there s.kernel g ≡ true = ap (is_to_mount s.kernel job) (sym (ap next_of whole.1)) ∙ about in
+    let acting = served_acts s fs attach token job s.kernel.waits h in
+    let there : is_there s.kernel g ≡ true =
+    there_in (autofs_of s.kernel.triggers g.fs) s.kernel g (its_site s token job acting) (λ named. h.world.directories token job h.is_job acting.current whole.0 (ap next_of whole.1) named) in
     (m, subst (λ (p : Plan). AllCome p m token (CanBePassed s token g m) s) (sym whole.1) (mount_comes s s fs attach token job h its whole.0 (led_nowhere s.kernel g) whole.1 there numbers))
-about_to_mount s fs attach token job h its numbers (inr (inr none)) about = absurd (no_mount_left s.kernel job job.plan none about)
+about_to_mount s fs attach token job h its numbers (inr (inr none)) about = absurd (no_mount_left job.plan none about)
 
 -- ---- a packet that asks for a mount
 

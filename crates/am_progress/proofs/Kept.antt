@@ -3,19 +3,18 @@ use Rattle.std.proofs.Common.{◌≡◌, ◌≤◌, ℕ, ◌+◌, Bool, true, fa
 use Rattle.std.specs.Prelude.{◌==◌, not, filter, find, if◌then◌else◌}
 use Rattle.std.specs.Option.{option_map}
 use Rattle.std.specs.List.{list_any}
-use Rattle.std.proofs.lemmas.Bool.Decides.{nat_tests}
 use Rattle.std.proofs.lemmas.List.Elements.{All-head, All-tail}
-use Rattle.am_names.specs.{same_trigger, OpenToken, Position, Status, TokenKind, WaitRow}
+use Rattle.am_names.specs.{same_trigger, OpenToken, Status, TokenKind, WaitRow}
 use Rattle.am_names.specs.declared.trigger.Status.TheVariants.{Ready, Fail}
 use Rattle.am_names.specs.declared.row.TokenKind.TheVariants.{Missing, Expire}
 use Rattle.am_names.specs.declared.trigger.Trigger.{Trigger}
 use Rattle.am_names.proofs.SameTriggers.{equal_by_same_trigger, same_trigger_itself}
 use Rattle.am_names.proofs.Basics.{differ_the_other_way, equal_by_test, equal_to_itself, false_unless_true, neither_of_or, none_where_mapped_none, some_injective}
 use Rattle.am_state.specs.{Obs, QueuedRow, Record, RecordRow}
-use Rattle.am_trigger.specs.{Autofs, Failure, FailureRows, failure_of, with_failure, without_failure}
+use Rattle.am_trigger.specs.{Failure, FailureRows, failure_of, with_failure, without_failure}
 use Rattle.am_wait.proofs.FindLemmas.{find_append}
 use Rattle.am_wait.specs.{token_of}
-use Rattle.am_kernel.specs.{Attached, KernelState, attach_of, attached_at, attached_row, made_catatonic, settled_by, standing, wait_collected_from, with_latest, with_pipe}
+use Rattle.am_kernel.specs.{KernelState, attach_of, made_catatonic, settled_by, standing, wait_collected_from, with_latest, with_pipe}
 use Rattle.am_kernel.specs.Requests.{settled}
 use Rattle.am_job.specs.{Outcome, is_reply, next_of, record_of, recorded, without_fs}
 use Rattle.am_job.specs.declared.act.Outcome.TheVariants as came
@@ -30,9 +29,8 @@ use Rattle.am_machine.proofs.Books.Changes.{its_job}
 use Rattle.am_machine.proofs.Books.Changes as books
 use Rattle.am_machine.proofs.Books.Pending.{recorded_is}
 use Rattle.am_machine.proofs.Books.Standing.{mounted_others, standing_fs}
-use Rattle.am_machine.proofs.Books.Unchanged.{Narrows, closed_narrows, found_same, narrows_itself, narrows_latest, pipe_others, same_attachments, timeout_narrows}
+use Rattle.am_machine.proofs.Books.Unchanged.{Narrows, closed_narrows, narrows_itself, narrows_latest, pipe_others, same_attachments, timeout_narrows}
 use Rattle.am_machine.proofs.Lists.Different.{all_found}
-use Rattle.am_machine.proofs.Lists.Found.{find_others}
 use Rattle.am_machine.proofs.Planned.Rests.{left_written}
 use Rattle.am_machine.proofs.Tokens.Names.{reads}
 use Rattle.am_machine.proofs.Tour.Walks as tour
@@ -40,6 +38,7 @@ use Rattle.am_machine.proofs.Tour.Walks.{AnyPath}
 use Rattle.am_machine.proofs.Tour.Events as tours
 use Rattle.am_machine.proofs.Tour.Events.{IsTaken, going, with_half}
 use Rattle.am_progress.specs.{is_act_of}
+use Rattle.am_progress.proofs.Directories.{above, new_attach_others}
 use Rattle.am_progress.proofs.Jobs.{Acting, its_token, job_number, on_its_token}
 use Rattle.am_progress.proofs.Packets.{holds_held}
 use Rattle.am_progress.proofs.Others.{IsOther, jobs_stay, other_acts}
@@ -225,15 +224,6 @@ module _ (s : State) (fs attach number : ℕ) (row : JobPlan) (h : HasOwn s fs a
 told_other : (reply : Bool) (book : List RecordRow) (t g : Trigger) (entry : Option Record) → same_trigger t g ≡ false → record_of (if reply then book else recorded t entry book) g ≡ record_of book g
 told_other true book t g entry other = refl
 told_other false book t g entry other = recorded_is t entry book g ∙ ap (λ (b : Bool). if b then entry else record_of book g) other
-
-new_attach_others : (k : KernelState) (direct : Bool) (timeout : ℕ) (at : Position) (f : ℕ) → (k.last_fs + 1 == f) ≡ false → attach_of (attached_at direct timeout k at) f ≡ attach_of k f
-new_attach_others k direct timeout at f other =
-    let new : Autofs = record { fs = k.last_fs + 1; direct = direct; location = k.table.last_mount + 1; catatonic = false } in
-    found_same _ _ _ _ (find_others (λ (row : Autofs). row.fs == f) k.triggers.autofs new other)
-    (find_others (λ (row : Attached). row.fs == f) k.attached (attached_row (k.last_fs + 1) (k.last_attach + 1) timeout) other)
-
-above : (n last : ℕ) → n ≤ last → (last + 1 == n) ≡ false
-above n last least = grind (arith, nat_tests, least)
 
 piped_by_cases : (s : State) (f fs attach number : ℕ) (row : JobPlan) (h : HasOwn s fs attach number row) (b : Bool) → (f == fs) ≡ b → IsServed (with_pipe f s.kernel) (reattached f (s.kernel.last_attach + 1) (standing s.kernel f) s.daemon) fs attach →
     IsKept s (record s { kernel = with_pipe f s.kernel; daemon = reattached f (s.kernel.last_attach + 1) (standing s.kernel f) s.daemon }) fs attach row.trigger

@@ -1,6 +1,8 @@
 pub mod Attaches
 pub mod Found
 pub mod Plans
+pub mod Left
+pub mod Directories
 pub mod Triggers
 pub mod Worlds
 pub mod Packets

@@ -1,5 +1,5 @@
 -- A job acts on its own trigger, unmounts first, if it does, mounts behind its directory, and has few acts.
-use Rattle.std.proofs.Common.{◌≡◌, ◌⊎◌, ℕ, zero, suc, Bool, true, false, List, [], ◌∷◌, ◌++◌, Option, Some, None, refl, sym, ap, subst, inl, inr}
+use Rattle.std.proofs.Common.{◌≡◌, ◌⊎◌, ℕ, zero, suc, Bool, true, false, List, [], ◌∷◌, ◌++◌, Option, Some, None, refl, sym, ap, subst, inl, inr, ◌∙◌}
 use Rattle.std.specs.Prelude.{⊤, ◌==◌, is_some, if◌then◌else◌}
 use Rattle.std.specs.List.{All}
 use Rattle.std.proofs.lemmas.List.Elements.{All-nil, All-cons, All-head, All-tail, All-push}
@@ -8,6 +8,7 @@ use Rattle.am_names.specs.declared.trigger.Trigger.{Trigger}
 use Rattle.am_names.specs.{Status, TokenKind}
 use Rattle.am_names.specs.declared.trigger.Status.TheVariants.{Ready, Fail}
 use Rattle.am_names.specs.declared.row.TokenKind.TheVariants.{Missing, Expire}
+use Rattle.am_names.proofs.Basics.{some_injective}
 use Rattle.am_map.specs.EntryText.{EntryText}
 use Rattle.am_wire.specs.{Packet, token_kind}
 use Rattle.am_state.specs.{Record}
@@ -17,7 +18,6 @@ use Rattle.am_job.specs.Plans.{followed_by}
 use Rattle.am_job.specs.declared.act.Act.TheVariants as act
 use Rattle.am_job.specs.declared.act.Outcome.TheVariants.{Done, Made, Failed}
 use Rattle.am_daemon.specs.{DaemonState, JobPlan, walked, is_ended, going, finished_in, job_for, trigger_of, mounted_for, plan_of_packet, entry_of}
-use Rattle.am_kernel.specs.{KernelState}
 use Rattle.am_progress.specs.{HasActs, most_acts, HasFewActs, is_to_mount}
 
 -- ---- whose acts they are
@@ -192,11 +192,44 @@ rest_whole_mount g plan outcome (inr (inl whole)) = inr (inr (subst (λ (p : Pla
 rest_whole_mount g plan outcome (inr (inr none)) = inr (inr (rest_nothing plan outcome none))
 
 -- a plan that mounts nothing is about to mount nothing
-pub no_mount_left : (k : KernelState) (row : JobPlan) (plan : Plan) → MountsNothing plan → is_to_mount k row (next_of plan) ≡ true → ⊥
-no_mount_left k row Ended h about = absurd cc
-no_mount_left k row (Next (act.Mkdir trigger) rest) h about = h.0
-no_mount_left k row (Next (act.Mount trigger entry) rest) h about = h.0
-no_mount_left k row (Next a rest) h about = absurd cc
+pub no_mount_left : (plan : Plan) → MountsNothing plan → is_to_mount (next_of plan) ≡ true → ⊥
+no_mount_left Ended h about = absurd cc
+no_mount_left (Next (act.Mkdir trigger) rest) h about = h.0
+no_mount_left (Next (act.Mount trigger entry) rest) h about = h.0
+no_mount_left (Next a rest) h about = absurd cc
+
+-- ---- a mount comes first, or behind its directory
+
+no_mount : (plan : Plan) (g : Trigger) (entry : EntryText) → MountsNothing plan → next_of plan ≡ Some (act.Mount g entry) → ⊥
+no_mount Ended g entry h e = absurd cc
+no_mount (Next a rest) g entry h e =
+    let same : a ≡ act.Mount g entry = cc in
+    subst IsNoMount same h.0
+
+-- the act makes no directory
+abbrev pub NoDirectory : Act → Type 0
+NoDirectory (act.Mkdir trigger) = ⊥
+NoDirectory a = ⊤
+
+-- behind any act but the making of its directory no mount comes
+pub no_mount_after : (g : Trigger) (plan : Plan) (outcome : Outcome) (a : Act) (h : Trigger) (entry : EntryText) → IsWholeMount g plan → next_of plan ≡ Some a → NoDirectory a → next_of (rest_of outcome plan) ≡ Some (act.Mount h entry) → ⊥
+no_mount_after g plan outcome a h entry (inl whole) e other next =
+    let same : a ≡ act.Mkdir g = some_injective (sym e ∙ ap next_of whole.1) in
+    subst NoDirectory same other
+no_mount_after g plan outcome a h entry (inr (inl whole)) e other next =
+    no_mount (rest_of outcome plan) h entry (subst (λ (p : Plan). MountsNothing (rest_of outcome p)) (sym whole.1) (after_mount_nothing g outcome)) next
+no_mount_after g plan outcome a h entry (inr (inr none)) e other next = no_mount (rest_of outcome plan) h entry (rest_nothing plan outcome none) next
+
+-- nor does one come first where there is a directory to make
+pub no_mount_first : (kind : TokenKind) (g : Trigger) (mounted : Option ℕ) (entry : Option EntryText) (name : Option (List ℕ)) (h : Trigger) (e : EntryText) → g.name ≡ name → next_of (plan_for kind g mounted entry) ≡ Some (act.Mount h e) → is_some name ≡ true → ⊥
+no_mount_first Missing g (Some mount) entry name h e is next named = absurd cc
+no_mount_first Missing g None (Some one) None h e is next named = absurd cc
+no_mount_first Missing g None (Some one) (Some name) h e is next named =
+    let first : Some (act.Mkdir g) ≡ Some (act.Mount h e) = sym (ap (λ (n : Option (List ℕ)). next_of (at_directory n (act.Mkdir g) (mount_entry g one))) is) ∙ next in
+    absurd cc
+no_mount_first Missing g None None name h e is next named = absurd cc
+no_mount_first Expire g (Some mount) entry name h e is next named = absurd cc
+no_mount_first Expire g None entry name h e is next named = absurd cc
 
 -- ---- how many acts there are
 

@@ -18,7 +18,7 @@ use Rattle.am_expire.specs.{is_used}
 use Rattle.am_walk.specs.{next_at, walk_of}
 use Rattle.am_walk.specs.declared.stop.Next.TheVariants as nexts
 use Rattle.am_walk.specs.declared.stop.Stop.TheVariants as stops
-use Rattle.am_kernel.specs.{KernelState, WalkRow, at_moment, is_there, location_of, moment_of, mounted_on, new_fs_refusal, queued_of, retry, scene_of, wait_collected, walk_in}
+use Rattle.am_kernel.specs.{KernelState, WalkRow, at_moment, location_of, moment_of, mounted_on, new_fs_refusal, queued_of, retry, scene_of, wait_collected, walk_in}
 use Rattle.am_job.specs.{Act, Plan, Ended, Next, next_of, record_of, unmounting}
 use Rattle.am_job.specs.Plans.{missing_plan}
 use Rattle.am_job.specs.declared.act.Act.TheVariants as act
@@ -91,13 +91,13 @@ pub record CanBePassed (old : State) (token : ℕ) (g : Trigger) (m : ℕ) (new 
       (walk_of (scene_of old.kernel moment) ns path).stop ≡ stops.Block token →
       Contains (walk_of (scene_of new.kernel moment) ns path).passed g
 
--- the job is about to make the trigger's directory, or to mount where it is made
-abbrev pub is_to_mount : KernelState → JobPlan → Option Act → Bool
-is_to_mount k row (Some (act.Mkdir trigger)) = true
-is_to_mount k row (Some (act.Mount trigger entry)) = is_there k row.trigger
-is_to_mount k row _ = false
+-- the act makes the trigger's directory, or mounts
+abbrev pub is_to_mount : Option Act → Bool
+is_to_mount (Some (act.Mkdir trigger)) = true
+is_to_mount (Some (act.Mount trigger entry)) = true
+is_to_mount _ = false
 
--- A missing token whose packet is in the pipe, or whose job is about to mount. The packet can be delivered;
+-- A missing token whose packet is in the pipe, or whose job is about to make the directory or to mount. The packet can be delivered;
 -- then come the acts of the plan for the trigger's entry: the directory, the mount, the record and READY; or
 -- READY alone, where the book has a mount there.
 pub record CanBeMounted (s : State) (token : ℕ) (g : Trigger) : Type 0 where
@@ -107,7 +107,7 @@ pub record CanBeMounted (s : State) (token : ℕ) (g : Trigger) : Type 0 where
       ((m : ℕ) × AllCome (missing_plan g (mounted_in (record_of s.daemon.book g)) (Some entry)) m token
       (CanBePassed s token g m) (next s (events.Deliver token None)))
   pub from_job : (job : JobPlan) → job_of s.daemon.jobs token ≡ Some job →
-      is_to_mount s.kernel job (next_of job.plan) ≡ true →
+      is_to_mount (next_of job.plan) ≡ true →
       (m : ℕ) × AllCome job.plan m token (CanBePassed s token g m) s
 
 -- ---- what expires
