@@ -34,7 +34,8 @@ use Rattle.am_progress.proofs.Attaches.{fs_of_current}
 use Rattle.am_progress.proofs.Plans.{IsOwn, IsOfPlan, next_own, packet_plan}
 use Rattle.am_progress.proofs.Packets.{holds_held}
 use Rattle.am_progress.proofs.Worlds.{IsWorld, after_runs}
-use Rattle.am_progress.proofs.Jobs.{left_is, Acting, job_number, its_plan, its_acts, its_token, its_site, its_current}
+use Rattle.am_progress.proofs.Left.{left_is}
+use Rattle.am_progress.proofs.Jobs.{Acting, job_number, its_plan, its_acts, its_token, its_site, its_current}
 
 -- ---- what an act does
 
@@ -82,7 +83,7 @@ directory_by_cases true true c i = refl
 directory_by_cases true false c i = absurd cc
 directory_by_cases false indirect c i = absurd cc
 
-directory_fine : (s : State) (number : ℕ) (row : JobPlan) → Acting s number row → is_some row.trigger.name ≡ true → directory_refusal s.kernel row.attach row.trigger ≡ None
+pub directory_fine : (s : State) (number : ℕ) (row : JobPlan) → Acting s number row → is_some row.trigger.name ≡ true → directory_refusal s.kernel row.attach row.trigger ≡ None
 directory_fine s number row w named =
     directory_by_cases (is_current s.kernel row.trigger.fs row.attach) (is_indirect s.kernel row.trigger) (its_current s number row w)
     (indirect_of (triggers.autofs_of s.kernel.triggers row.trigger.fs) row.trigger (its_site s number row w) named)

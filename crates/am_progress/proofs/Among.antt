@@ -33,7 +33,7 @@ use Rattle.am_progress.proofs.Worlds.{IsWorld, run_world, after_runs}
 
 -- ---- what others leave
 
-run_jobs : (old : State) (events : List Event) (answers : List Answer) (new : State) → Run old events answers new → (job : ℕ) (row : JobPlan) → list_any (is_act_of job) events ≡ false → job_of old.daemon.jobs job ≡ Some row → job_of new.daemon.jobs job ≡ Some row
+pub run_jobs : (old : State) (events : List Event) (answers : List Answer) (new : State) → Run old events answers new → (job : ℕ) (row : JobPlan) → list_any (is_act_of job) events ≡ false → job_of old.daemon.jobs job ≡ Some row → job_of new.daemon.jobs job ≡ Some row
 run_jobs old [] [] new run job row others is = ap (λ (s : State). job_of s.daemon.jobs job) run ∙ is
 run_jobs old (event ∷ events) (answer ∷ answers) new run job row others is =
     let both = neither_of_or (is_act_of job event) (list_any (is_act_of job) events) others in

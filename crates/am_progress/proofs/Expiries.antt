@@ -47,10 +47,10 @@ use Rattle.am_progress.proofs.Traps.{notifies}
 -- ---- what an act leaves of the book and of the kernel
 
 module _ (s : State) (fs attach token : ℕ) (row : JobPlan) (w : WaitRows) (h : Served s fs attach token row w) (failure : Option FailNo) (a : Act) (e : next_of row.plan ≡ Some a) where
-  act_kernel : (next s (events.Act token failure)).kernel ≡ (its_act s fs attach token row w h failure a e).made
+  pub act_kernel : (next s (events.Act token failure)).kernel ≡ (its_act s fs attach token row w h failure a e).made
   act_kernel = ap (λ (o : EventOutcome). (after s o).kernel) (its_act s fs attach token row w h failure a e).is
 
-  act_book : (next s (events.Act token failure)).daemon.book ≡ book_after (writes (Some a)) s.daemon.book
+  pub act_book : (next s (events.Act token failure)).daemon.book ≡ book_after (writes (Some a)) s.daemon.book
   act_book =
       let acting = served_acts s fs attach token row w h in
       ap (λ (o : EventOutcome). (after s o).daemon.book) (its_act s fs attach token row w h failure a e).is
@@ -67,20 +67,20 @@ stood_as k made g table triggers =
 -- ---- the book is written, and the token is acknowledged
 
 -- a job that has its reply left alone, after it has written the record
-record Wrote (s : State) (fs attach token : ℕ) (row : JobPlan) (w : WaitRows) (entry : Option Record) (status : Status) (new : State) : Type 0 where
-  left : JobPlan
-  served : Served new fs attach token left w
-  on : left.trigger ≡ row.trigger
-  plan : left.plan ≡ reply status
-  kernel : new.kernel ≡ s.kernel
-  written : record_of new.daemon.book row.trigger ≡ entry
-  others : (g : Trigger) → same_trigger row.trigger g ≡ false → record_of new.daemon.book g ≡ record_of s.daemon.book g
+pub record Wrote (s : State) (fs attach token : ℕ) (row : JobPlan) (w : WaitRows) (entry : Option Record) (status : Status) (new : State) : Type 0 where
+  pub left : JobPlan
+  pub served : Served new fs attach token left w
+  pub on : left.trigger ≡ row.trigger
+  pub plan : left.plan ≡ reply status
+  pub kernel : new.kernel ≡ s.kernel
+  pub written : record_of new.daemon.book row.trigger ≡ entry
+  pub others : (g : Trigger) → same_trigger row.trigger g ≡ false → record_of new.daemon.book g ≡ record_of s.daemon.book g
 
 module _ (s : State) (fs attach token : ℕ) (row : JobPlan) (w : WaitRows) (h : Served s fs attach token row w) (entry : Option Record) (status : Status) (plan : row.plan ≡ book_and_reply row.trigger entry status) where
-  record_next : next_of row.plan ≡ Some (act.Record row.trigger entry)
+  pub record_next : next_of row.plan ≡ Some (act.Record row.trigger entry)
   record_next = ap next_of plan
 
-  record_is_written : (failure : Option FailNo) → Wrote s fs attach token row w entry status (next s (events.Act token failure))
+  pub record_is_written : (failure : Option FailNo) → Wrote s fs attach token row w entry status (next s (events.Act token failure))
   record_is_written failure =
       let a = act.Record row.trigger entry in
       let d = its_act s fs attach token row w h failure a record_next in
@@ -111,25 +111,25 @@ module _ (s : State) (fs attach token : ℕ) (row : JobPlan) (w : WaitRows) (h :
 
 -- the token is closed by the reply
 module _ (s : State) (fs attach token : ℕ) (row : JobPlan) (w : WaitRows) (h : Served s fs attach token row w) (status : Status) (plan : row.plan ≡ reply status) (failure : Option FailNo) where
-  reply_next : next_of row.plan ≡ Some (act.Reply status)
+  pub reply_next : next_of row.plan ≡ Some (act.Reply status)
   reply_next = ap next_of plan
 
-  reply_waits : (next s (events.Act token failure)).kernel.waits ≡ answered token status w
+  pub reply_waits : (next s (events.Act token failure)).kernel.waits ≡ answered token status w
   reply_waits = act_waits s fs attach token row w h failure (act.Reply status) reply_next
 
-  reply_closes : token_of (next s (events.Act token failure)).kernel.waits.tokens token ≡ None
+  pub reply_closes : token_of (next s (events.Act token failure)).kernel.waits.tokens token ≡ None
   reply_closes = ap (λ (v : WaitRows). token_of v.tokens token) reply_waits ∙ token_taken token w.tokens token true (equal_to_itself token)
 
-  reply_kernel : (next s (events.Act token failure)).kernel ≡ acknowledged row.token status s.kernel
+  pub reply_kernel : (next s (events.Act token failure)).kernel ≡ acknowledged row.token status s.kernel
   reply_kernel = act_kernel s fs attach token row w h failure (act.Reply status) reply_next ∙ (its_act s fs attach token row w h failure (act.Reply status) reply_next).leaves
 
-  reply_book : (next s (events.Act token failure)).daemon.book ≡ s.daemon.book
+  pub reply_book : (next s (events.Act token failure)).daemon.book ≡ s.daemon.book
   reply_book = act_book s fs attach token row w h failure (act.Reply status) reply_next
 
-  reply_world : IsWorld (next s (events.Act token failure))
+  pub reply_world : IsWorld (next s (events.Act token failure))
   reply_world = act_world s fs attach token row w h failure (act.Reply status) reply_next
 
-  reply_served : IsServed (next s (events.Act token failure)).kernel (next s (events.Act token failure)).daemon fs attach
+  pub reply_served : IsServed (next s (events.Act token failure)).kernel (next s (events.Act token failure)).daemon fs attach
   reply_served = act_served s fs attach token row w h failure (act.Reply status) reply_next
 
 -- ---- an unmount that fails
@@ -162,10 +162,10 @@ ready_keeps : (kind : TokenKind) (trigger g : Trigger) (moment : ℕ) (rows : Fa
 ready_keeps Missing trigger g moment rows none = still_mended trigger g rows none
 ready_keeps Expire trigger g moment rows none = none
 
-module _ (s : State) (fs attach token : ℕ) (row : JobPlan) (w : WaitRows) (h : Served s fs attach token row w) (failure : Option FailNo) (plan : row.plan ≡ reply Ready) (written : record_of s.daemon.book row.trigger ≡ None) (good : failure_of s.kernel.failures row.trigger ≡ None) where
+module _ (s : State) (fs attach token : ℕ) (row : JobPlan) (w : WaitRows) (h : Served s fs attach token row w) where
   -- the job's token was the one on its trigger
-  off_by_cases : (new : WaitRows) → new ≡ answered token Ready w → RiseBy (λ (r : OpenToken). r.token) 0 new.tokens → All (λ (r : OpenToken). same_trigger r.trigger row.trigger ≡ false) new.tokens
-  off_by_cases new same rise =
+  pub off_by_cases : (new : WaitRows) (status : Status) → new ≡ answered token status w → RiseBy (λ (r : OpenToken). r.token) 0 new.tokens → All (λ (r : OpenToken). same_trigger r.trigger row.trigger ≡ false) new.tokens
+  off_by_cases new status same rise =
       all_found (λ (r : OpenToken). same_trigger r.trigger row.trigger ≡ false) (λ (r : OpenToken). r.token) 0 new.tokens rise
       (λ r found.
       let acting = served_acts s fs attach token row w h in
@@ -179,7 +179,8 @@ module _ (s : State) (fs attach token : ℕ) (row : JobPlan) (w : WaitRows) (h :
       let no = left.0 in
       absurd cc))
 
-  trap_again : IsTrapAgain attach token row.trigger (next s (events.Act token failure))
+module _ (s : State) (fs attach token : ℕ) (row : JobPlan) (w : WaitRows) (h : Served s fs attach token row w) (failure : Option FailNo) (plan : row.plan ≡ reply Ready) (written : record_of s.daemon.book row.trigger ≡ None) (good : failure_of s.kernel.failures row.trigger ≡ None) where
+  pub trap_again : IsTrapAgain attach token row.trigger (next s (events.Act token failure))
   trap_again =
       let new = next s (events.Act token failure) in
       let world = reply_world s fs attach token row w h Ready plan failure in
@@ -199,7 +200,7 @@ module _ (s : State) (fs attach token : ℕ) (row : JobPlan) (w : WaitRows) (h :
       subst (λ (k : KernelState). IsSite k.triggers row.trigger) (sym same) (its_site s token row (served_acts s fs attach token row w h)) in
       record {
         free = free;
-        notifies = notifies new world attach row.trigger current site (off_by_cases new.kernel.waits (reply_waits s fs attach token row w h Ready plan failure) world.consistent.traced.fits.sound.tokens) free well;
+        notifies = notifies new world attach row.trigger current site (off_by_cases s fs attach token row w h new.kernel.waits Ready (reply_waits s fs attach token row w h Ready plan failure) world.consistent.traced.fits.sound.tokens) free well;
         attached = current;
         closed = reply_closes s fs attach token row w h Ready plan failure;
       }
@@ -248,7 +249,7 @@ module _ (s : State) (fs attach token mount : ℕ) (row : JobPlan) (h : Served s
   answer_is : (outcome_of s (events.Act token failure)).answer ≡ its_umount.answer
   answer_is = ap (λ (o : EventOutcome). o.answer) its_umount.is
 
-  stands_there : mounted_on s.kernel row.trigger ≡ Some mount
+  pub stands_there : mounted_on s.kernel row.trigger ≡ Some mount
   stands_there =
       h.world.consistent.agreed.stands.at_work fs attach h.served token row h.is_job h.fs_is h.attach_is (ap has_record_left plan ∙ umount_left row.trigger mount) ∙ ap claims plan
 
@@ -257,7 +258,7 @@ module _ (s : State) (fs attach token mount : ℕ) (row : JobPlan) (h : Served s
   leaves_kernel (came.Made m) error made e leaves = absurd cc
   leaves_kernel (came.Failed other) error made e leaves = leaves
 
-  umount_failures : (outcome : outcomes.Outcome) (made : KernelState) → outcome ≡ came.Done → LeavesKernel (act.Umount row.trigger) outcome row.token s.kernel made → made.failures ≡ s.kernel.failures
+  pub umount_failures : (outcome : outcomes.Outcome) (made : KernelState) → outcome ≡ came.Done → LeavesKernel (act.Umount row.trigger) outcome row.token s.kernel made → made.failures ≡ s.kernel.failures
   umount_failures came.Done made e leaves = leaves
   umount_failures (came.Made m) made e leaves = absurd cc
   umount_failures (came.Failed other) made e leaves = absurd cc
@@ -280,7 +281,7 @@ module _ (s : State) (fs attach token mount : ℕ) (row : JobPlan) (h : Served s
   is_good (inl none) = none
   is_good (inr awaited) = absurd (not_awaited awaited)
 
-  good_before : failure_of s.kernel.failures row.trigger ≡ None
+  pub good_before : failure_of s.kernel.failures row.trigger ≡ None
   good_before =
       let a = attached_autofs s.kernel row.trigger.fs attach (ap (attach_of s.kernel) h.fs_is ∙ h.served.current) in
       is_good (h.world.failures.mended row.trigger a.0 mount a.1 stands_there)

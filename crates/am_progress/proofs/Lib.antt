@@ -1,6 +1,8 @@
 pub mod Attaches
 pub mod Found
 pub mod Plans
+pub mod Left
+pub mod Directories
 pub mod Triggers
 pub mod Worlds
 pub mod Packets
@@ -14,3 +16,9 @@ pub mod Expiries
 pub mod Others
 pub mod Closed
 pub mod Among
+pub mod Passing
+pub mod Through
+pub mod Waiters
+pub mod Comings
+pub mod Kept
+pub mod ExpiriesAmong

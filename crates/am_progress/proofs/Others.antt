@@ -147,10 +147,10 @@ changes Acts = record {
 }
 
 -- an event that is no act of the job may be one of another
-abbrev IsOther : ℕ → ℕ → Type 0
+abbrev pub IsOther : ℕ → ℕ → Type 0
 IsOther number job = (job == number) ≡ false
 
-other_acts : (number : ℕ) (s : State) (event : Event) → is_act_of number event ≡ false → IsKnown AnyPath (IsOther number) s event
+pub other_acts : (number : ℕ) (s : State) (event : Event) → is_act_of number event ≡ false → IsKnown AnyPath (IsOther number) s event
 other_acts number s (events.Act job failure) differs = differs
 other_acts number s (events.Walk walker ns path now pipe) differs = tt
 other_acts number s (events.Resume walker now pipe) differs = λ other row e. tt

@@ -10,7 +10,7 @@ use Rattle.am_state.specs.{HeldRow, QueuedRow}
 use Rattle.am_kernel.specs.{attach_of, queued_of}
 use Rattle.am_daemon.specs.{DaemonState, attach_held, holds}
 use Rattle.am_machine.specs.State.{State}
-use Rattle.am_machine.specs.{refused, packet_bytes, has_bytes, takes, delivered_at, deliver_outcome}
+use Rattle.am_machine.specs.{IsServed, refused, packet_bytes, has_bytes, takes, delivered_at, deliver_outcome}
 use Rattle.am_machine.proofs.Tokens.Catatonic.{dev_of}
 use Rattle.am_machine.proofs.Agreement.Tokens.{in_pipe, queued_number}
 use Rattle.am_machine.proofs.InStep.States.{in_step, refuses_in_step}
@@ -41,14 +41,18 @@ packet_is_taken s token row bytes w is own held =
     let may = (refuses_in_step s (in_step s w.consistent w.named w.failures)).deliver token row bytes is ∙ and_of_both (has_bytes bytes row) (holds s.daemon row.packet.dev row.attach) own held in
     ap (λ (o : Option QueuedRow). delivered_at o s bytes) is ∙ ap (λ (b : Bool). if b then takes s row else refused s Stranger) may
 
-pub taken : (s : State) → IsWorld s → PacketsCanBeTaken s
-taken s w fs attach served token row is same =
-    let halves = w.consistent.agreed in
-    let pipe = in_pipe s.kernel s.daemon halves.tokens token row is in
+-- the daemon holds the attachment under which it was queued
+pub packet_held : (s : State) → IsWorld s → (fs attach : ℕ) → IsServed s.kernel s.daemon fs attach → (token : ℕ) (row : QueuedRow) → queued_of s.kernel.queue token ≡ Some row → row.packet.dev ≡ fs → holds s.daemon row.packet.dev row.attach ≡ true
+packet_held s w fs attach served token row is same =
+    let pipe = in_pipe s.kernel s.daemon w.consistent.agreed.tokens token row is in
     let dev : pipe.token.trigger.fs ≡ fs = sym (dev_of row.packet pipe.token pipe.asks) ∙ same in
     let own : row.attach ≡ attach = some_injective (sym pipe.current ∙ ap (attach_of s.kernel) dev ∙ served.current) in
-    let held : holds s.daemon row.packet.dev row.attach ≡ true =
-    holds_held s.daemon row.packet.dev row.attach (ap (attach_held s.daemon) same ∙ served.held ∙ ap (λ (n : ℕ). Some n) (sym own)) in
+    holds_held s.daemon row.packet.dev row.attach (ap (attach_held s.daemon) same ∙ served.held ∙ ap (λ (n : ℕ). Some n) (sym own))
+
+pub taken : (s : State) → IsWorld s → PacketsCanBeTaken s
+taken s w fs attach served token row is same =
+    let pipe = in_pipe s.kernel s.daemon w.consistent.agreed.tokens token row is in
+    let held = packet_held s w fs attach served token row is same in
     record {
       numbered = pipe.numbered ∙ queued_number s.kernel token row is;
       alone = packet_is_taken s token row None w is refl held;

@@ -1,5 +1,5 @@
--- A job acts on its own trigger, unmounts first, if it does, and has few acts.
-use Rattle.std.proofs.Common.{◌≡◌, ◌⊎◌, ℕ, zero, suc, Bool, true, false, List, [], ◌∷◌, ◌++◌, Option, Some, None, refl, sym, subst, inl, inr}
+-- A job acts on its own trigger, unmounts first, if it does, mounts behind its directory, and has few acts.
+use Rattle.std.proofs.Common.{◌≡◌, ◌⊎◌, ℕ, zero, suc, Bool, true, false, List, [], ◌∷◌, ◌++◌, Option, Some, None, refl, sym, ap, subst, inl, inr, ◌∙◌}
 use Rattle.std.specs.Prelude.{⊤, ◌==◌, is_some, if◌then◌else◌}
 use Rattle.std.specs.List.{All}
 use Rattle.std.proofs.lemmas.List.Elements.{All-nil, All-cons, All-head, All-tail, All-push}
@@ -8,15 +8,17 @@ use Rattle.am_names.specs.declared.trigger.Trigger.{Trigger}
 use Rattle.am_names.specs.{Status, TokenKind}
 use Rattle.am_names.specs.declared.trigger.Status.TheVariants.{Ready, Fail}
 use Rattle.am_names.specs.declared.row.TokenKind.TheVariants.{Missing, Expire}
+use Rattle.am_names.proofs.Basics.{some_injective}
 use Rattle.am_map.specs.EntryText.{EntryText}
 use Rattle.am_wire.specs.{Packet, token_kind}
 use Rattle.am_state.specs.{Record}
 use Rattle.am_state.specs.declared.daemon_row.Record.TheVariants.{Mounted}
 use Rattle.am_job.specs.{Act, Outcome, Plan, Ended, Next, next_of, rest_of, reply, book_and_reply, at_directory, after_mount, without_mount, rest_of_mount, mount_entry, after_failed_umount, rest_of_umount, unmounting, plan_for}
+use Rattle.am_job.specs.Plans.{followed_by}
 use Rattle.am_job.specs.declared.act.Act.TheVariants as act
 use Rattle.am_job.specs.declared.act.Outcome.TheVariants.{Done, Made, Failed}
 use Rattle.am_daemon.specs.{DaemonState, JobPlan, walked, is_ended, going, finished_in, job_for, trigger_of, mounted_for, plan_of_packet, entry_of}
-use Rattle.am_progress.specs.{HasActs, most_acts, HasFewActs}
+use Rattle.am_progress.specs.{HasActs, most_acts, HasFewActs, is_to_mount}
 
 -- ---- whose acts they are
 
@@ -132,6 +134,103 @@ pub umount_whole : (g on : Trigger) (plan : Plan) → IsWholeUmount g plan → n
 umount_whole g on plan (inl whole) e = whole
 umount_whole g on plan (inr none) e = absurd (no_umount plan on none e)
 
+-- ---- a mount comes after its directory, and then nothing is mounted
+
+abbrev IsNoMount : Act → Type 0
+IsNoMount (act.Mkdir trigger) = ⊥
+IsNoMount (act.Mount trigger entry) = ⊥
+IsNoMount a = ⊤
+
+-- nothing is mounted
+abbrev MountsNothing : Plan → Type 0
+MountsNothing Ended = ⊤
+MountsNothing (Next a rest) = IsNoMount a × ((o : Outcome) → MountsNothing (rest o))
+
+-- the plan is that of a mount as a whole, with its directory or behind it, or nothing is mounted
+abbrev pub IsWholeMount : Trigger → Plan → Type 0
+IsWholeMount g plan =
+    ((entry : EntryText) × (plan ≡ followed_by (act.Mkdir g) (mount_entry g entry)))
+    ⊎ (((entry : EntryText) × (plan ≡ mount_entry g entry)) ⊎ MountsNothing plan)
+
+reply_mounts_nothing : (status : Status) → MountsNothing (reply status)
+reply_mounts_nothing status = (tt, λ o. tt)
+
+book_mounts_nothing : (g : Trigger) (entry : Option Record) (status : Status) → MountsNothing (book_and_reply g entry status)
+book_mounts_nothing g entry status = (tt, λ o. reply_mounts_nothing status)
+
+directory_mounts_nothing : (name : Option (List ℕ)) (g : Trigger) (rest : Plan) → MountsNothing rest → MountsNothing (at_directory name (act.Rmdir g) rest)
+directory_mounts_nothing None g rest h = h
+directory_mounts_nothing (Some name) g rest h = (tt, λ o. h)
+
+after_mount_nothing : (g : Trigger) (o : Outcome) → MountsNothing (rest_of_mount g o)
+after_mount_nothing g (Made mount) = book_mounts_nothing g (Some (Mounted mount)) Ready
+after_mount_nothing g (Failed error) = directory_mounts_nothing g.name g (without_mount g error) (book_mounts_nothing g None (Fail error))
+after_mount_nothing g Done = directory_mounts_nothing g.name g (without_mount g ENOENT) (book_mounts_nothing g None (Fail ENOENT))
+
+after_umount_nothing : (g : Trigger) (mount : ℕ) (o : Outcome) → MountsNothing (rest_of_umount g mount o)
+after_umount_nothing g mount (Failed error) = book_mounts_nothing g (Some (Mounted mount)) (Fail error)
+after_umount_nothing g mount o = directory_mounts_nothing g.name g (book_and_reply g None Ready) (book_mounts_nothing g None Ready)
+
+mounting_whole : (g : Trigger) (entry : EntryText) (name : Option (List ℕ)) → IsWholeMount g (at_directory name (act.Mkdir g) (mount_entry g entry))
+mounting_whole g entry None = inr (inl (entry, refl))
+mounting_whole g entry (Some name) = inl (entry, refl)
+
+plan_mounts : (kind : TokenKind) (g : Trigger) (mounted : Option ℕ) (entry : Option EntryText) → IsWholeMount g (plan_for kind g mounted entry)
+plan_mounts Missing g (Some mount) entry = inr (inr (reply_mounts_nothing Ready))
+plan_mounts Missing g None (Some entry) = mounting_whole g entry g.name
+plan_mounts Missing g None None = inr (inr (book_mounts_nothing g None (Fail ENOENT)))
+plan_mounts Expire g (Some mount) entry = inr (inr (tt, after_umount_nothing g mount))
+plan_mounts Expire g None entry = inr (inr (reply_mounts_nothing (Fail ENOENT)))
+
+rest_nothing : (plan : Plan) (outcome : Outcome) → MountsNothing plan → MountsNothing (rest_of outcome plan)
+rest_nothing Ended outcome h = tt
+rest_nothing (Next a rest) outcome h = h.1 outcome
+
+rest_whole_mount : (g : Trigger) (plan : Plan) (outcome : Outcome) → IsWholeMount g plan → IsWholeMount g (rest_of outcome plan)
+rest_whole_mount g plan outcome (inl whole) = inr (inl (whole.0, ap (rest_of outcome) whole.1))
+rest_whole_mount g plan outcome (inr (inl whole)) = inr (inr (subst (λ (p : Plan). MountsNothing (rest_of outcome p)) (sym whole.1) (after_mount_nothing g outcome)))
+rest_whole_mount g plan outcome (inr (inr none)) = inr (inr (rest_nothing plan outcome none))
+
+-- a plan that mounts nothing is about to mount nothing
+pub no_mount_left : (plan : Plan) → MountsNothing plan → is_to_mount (next_of plan) ≡ true → ⊥
+no_mount_left Ended h about = absurd cc
+no_mount_left (Next (act.Mkdir trigger) rest) h about = h.0
+no_mount_left (Next (act.Mount trigger entry) rest) h about = h.0
+no_mount_left (Next a rest) h about = absurd cc
+
+-- ---- a mount comes first, or behind its directory
+
+no_mount : (plan : Plan) (g : Trigger) (entry : EntryText) → MountsNothing plan → next_of plan ≡ Some (act.Mount g entry) → ⊥
+no_mount Ended g entry h e = absurd cc
+no_mount (Next a rest) g entry h e =
+    let same : a ≡ act.Mount g entry = cc in
+    subst IsNoMount same h.0
+
+-- the act makes no directory
+abbrev pub NoDirectory : Act → Type 0
+NoDirectory (act.Mkdir trigger) = ⊥
+NoDirectory a = ⊤
+
+-- behind any act but the making of its directory no mount comes
+pub no_mount_after : (g : Trigger) (plan : Plan) (outcome : Outcome) (a : Act) (h : Trigger) (entry : EntryText) → IsWholeMount g plan → next_of plan ≡ Some a → NoDirectory a → next_of (rest_of outcome plan) ≡ Some (act.Mount h entry) → ⊥
+no_mount_after g plan outcome a h entry (inl whole) e other next =
+    let same : a ≡ act.Mkdir g = some_injective (sym e ∙ ap next_of whole.1) in
+    subst NoDirectory same other
+no_mount_after g plan outcome a h entry (inr (inl whole)) e other next =
+    no_mount (rest_of outcome plan) h entry (subst (λ (p : Plan). MountsNothing (rest_of outcome p)) (sym whole.1) (after_mount_nothing g outcome)) next
+no_mount_after g plan outcome a h entry (inr (inr none)) e other next = no_mount (rest_of outcome plan) h entry (rest_nothing plan outcome none) next
+
+-- nor does one come first where there is a directory to make
+pub no_mount_first : (kind : TokenKind) (g : Trigger) (mounted : Option ℕ) (entry : Option EntryText) (name : Option (List ℕ)) (h : Trigger) (e : EntryText) → g.name ≡ name → next_of (plan_for kind g mounted entry) ≡ Some (act.Mount h e) → is_some name ≡ true → ⊥
+no_mount_first Missing g (Some mount) entry name h e is next named = absurd cc
+no_mount_first Missing g None (Some one) None h e is next named = absurd cc
+no_mount_first Missing g None (Some one) (Some name) h e is next named =
+    let first : Some (act.Mkdir g) ≡ Some (act.Mount h e) = sym (ap (λ (n : Option (List ℕ)). next_of (at_directory n (act.Mkdir g) (mount_entry g one))) is) ∙ next in
+    absurd cc
+no_mount_first Missing g None None name h e is next named = absurd cc
+no_mount_first Expire g (Some mount) entry name h e is next named = absurd cc
+no_mount_first Expire g None entry name h e is next named = absurd cc
+
 -- ---- how many acts there are
 
 pub more_acts : (most : ℕ) (plan : Plan) → HasActs most plan → HasActs (suc most) plan
@@ -173,10 +272,11 @@ plan_acts Expire g None entry = let plan = reply (Fail ENOENT) in more_acts 4 pl
 
 -- ---- the jobs
 
--- a job on its own trigger that unmounts first, if it does, and has few acts left
+-- a job on its own trigger that unmounts first, if it does, mounts behind its directory, and has few acts left
 pub record IsOfPlan (row : JobPlan) : Type 0 where
   pub own : AreOwn row.trigger row.plan
   pub umounts : IsWholeUmount row.trigger row.plan
+  pub mounts : IsWholeMount row.trigger row.plan
   pub few : HasFewActs row
 
 pub packet_plan : (d : DaemonState) (packet : Packet) → HasActs most_acts (plan_of_packet d packet)
@@ -186,11 +286,17 @@ pub job_of_plan : (attach : ℕ) (packet : Packet) (d : DaemonState) → IsOfPla
 job_of_plan attach packet d = record {
   own = plan_own (token_kind packet.kind) (trigger_of packet) (mounted_for d packet) (entry_of d (trigger_of packet));
   umounts = plan_umounts (token_kind packet.kind) (trigger_of packet) (mounted_for d packet) (entry_of d (trigger_of packet));
+  mounts = plan_mounts (token_kind packet.kind) (trigger_of packet) (mounted_for d packet) (entry_of d (trigger_of packet));
   few = packet_plan d packet;
 }
 
 walked_of_plan : (row : JobPlan) (outcome : Outcome) → IsOfPlan row → IsOfPlan (walked outcome row)
-walked_of_plan row outcome h = record { own = rest_own row.trigger row.plan outcome h.own; umounts = rest_umounts row.trigger row.plan outcome h.umounts; few = rest_acts 4 row.plan outcome h.few }
+walked_of_plan row outcome h = record {
+  own = rest_own row.trigger row.plan outcome h.own;
+  umounts = rest_umounts row.trigger row.plan outcome h.umounts;
+  mounts = rest_whole_mount row.trigger row.plan outcome h.mounts;
+  few = rest_acts 4 row.plan outcome h.few;
+}
 
 going_by_cases : (ended : Bool) (row : JobPlan) (jobs : List JobPlan) → IsOfPlan row → All IsOfPlan jobs → All IsOfPlan (if ended then jobs else row ∷ jobs)
 going_by_cases true row jobs p h = h

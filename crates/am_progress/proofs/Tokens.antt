@@ -7,11 +7,11 @@ use Rattle.am_names.proofs.Basics.{equal_to_itself, some_injective, value_where_
 use Rattle.am_wait.specs.{WaitRows, token_of, wait_of, answered, released_row}
 use Rattle.am_wait.proofs.FindLemmas.{token_taken}
 use Rattle.am_state.specs.{QueuedRow}
-use Rattle.am_kernel.specs.{attach_of, queued_of}
+use Rattle.am_kernel.specs.{attach_of, queued_of, without_packet}
 use Rattle.am_job.specs.{Act, Plan, Ended, Next, next_of, rest_of, AcknowledgesLast}
 use Rattle.am_job.specs.declared.act.Act.TheVariants as act
 use Rattle.am_job.specs.declared.act.Outcome as outcomes
-use Rattle.am_daemon.specs.{JobPlan, walked, job_of, job_for}
+use Rattle.am_daemon.specs.{JobPlan, walked, job_of, job_for, trigger_of, plan_of_packet, taken_up}
 use Rattle.am_machine.specs.declared.event.Event.TheVariants as events
 use Rattle.am_machine.specs.{Answer, after, outcome_of, IsAtWork, IsServed}
 use Rattle.am_machine.specs.State.{State}
@@ -106,14 +106,14 @@ released_walker : (b : Bool) (status : Status) (x : WaitRow) → (if b then reco
 released_walker true status x = refl
 released_walker false status x = refl
 
-released_is : (walker token : ℕ) (status : Status) (rows : List WaitRow) (row : WaitRow) → wait_of rows walker ≡ Some row → row.token ≡ token → wait_of (map (released_row token status) rows) walker ≡ Some (record row { status = Some status })
+pub released_is : (walker token : ℕ) (status : Status) (rows : List WaitRow) (row : WaitRow) → wait_of rows walker ≡ Some row → row.token ≡ token → wait_of (map (released_row token status) rows) walker ≡ Some (record row { status = Some status })
 released_is walker token status [] row e on = absurd cc
 released_is walker token status (x ∷ rows) row e on =
     let same = released_walker (x.token == token) status x in
     ap (λ (n : ℕ). cond (n == walker) (Some (released_row token status x)) (wait_of (map (released_row token status) rows) walker)) same
     ∙ released_by_cases walker token status x row rows (x.walker == walker) same refl on (λ later. released_is walker token status rows row later on) e
 
-answers_all : (old : State) (token : ℕ) (status : Status) (new : State) → new.kernel.waits ≡ answered token status old.kernel.waits → HasReleased old token new
+abbrev pub answers_all : (old : State) (token : ℕ) (status : Status) (new : State) → new.kernel.waits ≡ answered token status old.kernel.waits → HasReleased old token new
 answers_all old token status new same = record {
   closed = ap (λ (w : WaitRows). token_of w.tokens token) same ∙ token_taken token old.kernel.waits.tokens token true (equal_to_itself token);
   status = status;
@@ -174,14 +174,18 @@ module _ (old : State) (fs attach token : ℕ) where
 -- ---- and so does the daemon
 
 -- The packet of an open token is taken from the pipe, and its job has a whole plan left.
-pub record Takes (s : State) (fs attach token : ℕ) : Type 0 where
+pub record Takes (s : State) (fs attach token : ℕ) (queued : QueuedRow) : Type 0 where
   pub done : IsDone s (events.Deliver token None)
   pub job : JobPlan
+  pub on : job.trigger ≡ trigger_of queued.packet
+  pub plan : job.plan ≡ plan_of_packet s.daemon queued.packet
+  pub kernel : (next s (events.Deliver token None)).kernel ≡ without_packet queued.token s.kernel
+  pub book : (next s (events.Deliver token None)).daemon.book ≡ (taken_up queued.attach queued.packet s.daemon).book
   pub served : Served (next s (events.Deliver token None)) fs attach token job s.kernel.waits
   pub few : HasActs most_acts job.plan
 
 pub takes_packet : (s : State) → IsWorld s → (fs attach : ℕ) → IsServed s.kernel s.daemon fs attach → (token : ℕ) (row : OpenToken) → token_of s.kernel.waits.tokens token ≡ Some row → row.trigger.fs ≡ fs →
-    (queued : QueuedRow) → queued_of s.kernel.queue token ≡ Some queued → Takes s fs attach token
+    (queued : QueuedRow) → queued_of s.kernel.queue token ≡ Some queued → Takes s fs attach token queued
 takes_packet s world fs attach served token row is same queued in_queue =
     let pipe = in_pipe s.kernel s.daemon world.consistent.agreed.tokens token queued in_queue in
     let number : queued.token ≡ token = queued_number s.kernel token queued in_queue in
@@ -195,6 +199,10 @@ takes_packet s world fs attach served token row is same queued in_queue =
     record {
       done = ap (λ (o : EventOutcome). is_refused o.answer) t.alone;
       job = job;
+      on = refl;
+      plan = refl;
+      kernel = ap (λ (o : EventOutcome). (after s o).kernel) t.alone;
+      book = ap (λ (o : EventOutcome). (after s o).daemon.book) t.alone;
       served = record {
         world = next_world s event tt world;
         served = subst (λ (o : EventOutcome). IsServed (after s o).kernel (after s o).daemon fs attach) (sym t.alone) (record { current = served.current; held = served.held });

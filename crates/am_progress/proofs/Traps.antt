@@ -1,4 +1,5 @@
--- A trigger on which nothing is open and nothing mounted is one at which a walk notifies.
+-- A trigger on which nothing is open and nothing mounted is one at which a walk notifies; one on which
+-- something is mounted is passed.
 use Rattle.std.proofs.Common.{◌≡◌, ℕ, Bool, true, false, cond, List, [], ◌∷◌, Option, Some, None, refl, sym, ap, ◌∙◌}
 use Rattle.std.specs.Prelude.{◌==◌, is_some, is_none, find, if◌then◌else◌}
 use Rattle.std.specs.Option.{option_map, option_and_then}
@@ -8,7 +9,8 @@ use Rattle.am_names.specs.{same_trigger, MountRow, OpenToken, TokenKind}
 use Rattle.am_names.specs.declared.trigger.Trigger.{Trigger}
 use Rattle.am_names.specs.declared.row.TokenKind.TheVariants.{Missing, Expire}
 use Rattle.am_names.proofs.Basics.{equal_by_test, found_passes, and_where_left_is_false}
-use Rattle.am_mount.specs.{top_of}
+use Rattle.am_group.specs.{Receives}
+use Rattle.am_mount.specs.{mount_row, top_of}
 use Rattle.am_trigger.specs.{Failure, failure_of, error_while, Autofs, autofs_of, trigger_in, place_named, place_of}
 use Rattle.am_wait.specs.{open_on, is_open_on, same_kind}
 use Rattle.am_walk.specs.declared.stop.Next.TheVariants as nexts
@@ -17,8 +19,11 @@ use Rattle.am_walk.specs.{at_trap, at_autofs, at_site, next_at, autofs_at}
 use Rattle.am_walk.specs.Scene.{Scene}
 use Rattle.am_kernel.specs.{is_live_row, attach_of, scene_of, is_trigger_of, location_in, location_of, mounted_on}
 use Rattle.am_machine.specs.State.{State}
+use Rattle.am_machine.specs.{HasCopy}
 use Rattle.am_machine.proofs.TriggerMounts.Unchanged.{attached_autofs}
 use Rattle.am_machine.proofs.TriggerMounts.Mounts.{trigger_same}
+use Rattle.am_machine.proofs.TriggerMounts.Tops.{none_there}
+use Rattle.am_machine.proofs.Places.Rows.{receiver_fs, receiver_row}
 use Rattle.am_progress.proofs.Found.{live_of}
 use Rattle.am_progress.proofs.Triggers.Walks.{IsSite}
 use Rattle.am_progress.proofs.Worlds.{IsWorld}
@@ -34,7 +39,7 @@ none_is_open_on kind g tokens h =
     (find_none (λ (r : OpenToken). is_open_on kind g r) tokens
     (All-weaker (λ (r : OpenToken). same_trigger r.trigger g ≡ false) (λ (r : OpenToken). is_open_on kind g r ≡ false) (λ r other. and_where_left_is_false (same_trigger r.trigger g) (same_kind r.kind kind) other) tokens h))
 
-trigger_by_cases : (a : Autofs) (g : Trigger) (name : Option (List ℕ)) (direct : Bool) → g.name ≡ name → a.direct ≡ direct → a.fs ≡ g.fs → (if direct then is_none name else is_some name) ≡ true → trigger_in a (place_named name) ≡ Some g
+pub trigger_by_cases : (a : Autofs) (g : Trigger) (name : Option (List ℕ)) (direct : Bool) → g.name ≡ name → a.direct ≡ direct → a.fs ≡ g.fs → (if direct then is_none name else is_some name) ≡ true → trigger_in a (place_named name) ≡ Some g
 trigger_by_cases a g None true named d same h =
     ap (λ (b : Bool). if b then Some (record { fs = a.fs; name = None }) else None) d
     ∙ ap (λ (t : Trigger). Some t) (trigger_same (record { fs = a.fs; name = None }) g same (sym (ap place_named named)))
@@ -72,3 +77,53 @@ notifies s world attach g current site off free well moment =
     ∙ trap_is k.waits.tokens scene a g (none_is_open_on Expire g k.waits.tokens off) (none_is_open_on Missing g k.waits.tokens off)
     (sym (ap (λ (n : ℕ). top_of k.table.rows n (place_of g)) here) ∙ free) (not_catatonic a a.catatonic refl live)
     (ap (λ (o : Option Failure). option_and_then (error_while moment k.negative) o) well)
+
+-- ---- what is mounted there is passed
+
+passed_there : (tokens : List OpenToken) (scene : Scene) (a : Autofs) (g : Trigger) (x n : ℕ) → open_on tokens Expire g ≡ None → open_on tokens Missing g ≡ None → top_of scene.mounts x (place_of g) ≡ Some n → at_trap tokens scene a g x (place_of g) ≡ nexts.Passes n g
+passed_there tokens scene a g x n expire missing there = rw (expire, missing, there) refl
+
+-- at each mount of the file system on which something is mounted there
+pub passes_at : (s : State) (attach : ℕ) (g : Trigger) (x n : ℕ) (row : MountRow) → attach_of s.kernel g.fs ≡ Some attach → IsSite s.kernel.triggers g → All (λ (r : OpenToken). same_trigger r.trigger g ≡ false) s.kernel.waits.tokens →
+    mount_row s.kernel.table.rows x ≡ Some row → row.fs ≡ g.fs → top_of s.kernel.table.rows x (place_of g) ≡ Some n → (moment : ℕ) → next_at (scene_of s.kernel moment) x (place_of g) ≡ nexts.Passes n g
+passes_at s attach g x n row current site off is_row fs there moment =
+    let k = s.kernel in
+    let scene = scene_of k moment in
+    let its = attached_autofs k g.fs attach current in
+    let a = its.0 in
+    let is : autofs_of k.triggers g.fs ≡ Some a = its.1 in
+    let at : autofs_at scene x ≡ Some a =
+    ap (λ (o : Option MountRow). option_and_then (λ fs. autofs_of k.triggers fs) (option_map (λ (r : MountRow). r.fs) o)) is_row ∙ ap (autofs_of k.triggers) fs ∙ is in
+    let same : a.fs ≡ g.fs = equal_by_test a.fs g.fs (found_passes (λ (r : Autofs). r.fs == g.fs) k.triggers.autofs a is) in
+    let trigger : trigger_in a (place_of g) ≡ Some g = trigger_by_cases a g g.name a.direct refl refl same (sym (ap (λ (o : Option Autofs). is_trigger_of o g) is) ∙ site) in
+    ap (λ (o : Option Autofs). at_site scene o x (place_of g)) at
+    ∙ ap (λ (o : Option Trigger). at_autofs scene a o x (place_of g)) trigger
+    ∙ passed_there k.waits.tokens scene a g x n (none_is_open_on Expire g k.waits.tokens off) (none_is_open_on Missing g k.waits.tokens off) there
+
+-- at the daemon's
+pub passes_here : (s : State) → IsWorld s → (attach : ℕ) (g : Trigger) (n : ℕ) → attach_of s.kernel g.fs ≡ Some attach → IsSite s.kernel.triggers g → All (λ (r : OpenToken). same_trigger r.trigger g ≡ false) s.kernel.waits.tokens →
+    mounted_on s.kernel g ≡ Some n → (moment : ℕ) → next_at (scene_of s.kernel moment) (location_of s.kernel g.fs) (place_of g) ≡ nexts.Passes n g
+passes_here s world attach g n current site off there moment =
+    let k = s.kernel in
+    let its = attached_autofs k g.fs attach current in
+    let place = world.consistent.agreed.places.locations g.fs its.0 its.1 in
+    let here : location_of k g.fs ≡ its.0.location = ap location_in its.1 in
+    passes_at s attach g (location_of k g.fs) n place.row current site off (ap (mount_row k.table.rows) here ∙ place.is_row) place.fs there moment
+
+-- at one that has a copy
+pub passes_copy : (s : State) → IsWorld s → (attach : ℕ) (g : Trigger) (y m : ℕ) → attach_of s.kernel g.fs ≡ Some attach → IsSite s.kernel.triggers g → All (λ (r : OpenToken). same_trigger r.trigger g ≡ false) s.kernel.waits.tokens →
+    Receives s.kernel.table.groups (location_of s.kernel g.fs) y → HasCopy s.kernel.table.rows y (place_of g) m → (copy : ℕ) × ((moment : ℕ) → next_at (scene_of s.kernel moment) y (place_of g) ≡ nexts.Passes copy g)
+passes_copy s world attach g y m current site off receives copy =
+    let k = s.kernel in
+    let its_row = receiver_row k.table world.consistent.agreed.places.whole (location_of k g.fs) y receives in
+    let row = its_row.0 in
+    let is_row = its_row.1 in
+    let its = attached_autofs k g.fs attach current in
+    let place = world.consistent.agreed.places.locations g.fs its.0 its.1 in
+    let there : mount_row k.table.rows (location_of k g.fs) ≡ Some place.row = ap (mount_row k.table.rows) (ap location_in its.1) ∙ place.is_row in
+    let fs : row.fs ≡ g.fs = sym (receiver_fs k.table world.consistent.agreed.places.whole (location_of k g.fs) y receives place.row row there is_row) ∙ place.fs in
+    by row is_row fs (top_of s.kernel.table.rows y (place_of g)) refl
+  where
+    by : (row : MountRow) → mount_row s.kernel.table.rows y ≡ Some row → row.fs ≡ g.fs → (o : Option ℕ) → top_of s.kernel.table.rows y (place_of g) ≡ o → (n : ℕ) × ((moment : ℕ) → next_at (scene_of s.kernel moment) y (place_of g) ≡ nexts.Passes n g)
+    by row is_row fs None free = absurd (none_there s.kernel.table.rows y (place_of g) world.consistent.agreed.places.whole.rising free copy.number (copy.row, copy.is_row, copy.at))
+    by row is_row fs (Some n) there = (n, passes_at s attach g y n row current site off is_row fs there)

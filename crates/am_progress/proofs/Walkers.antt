@@ -88,7 +88,7 @@ resumes_by_cases pipe k walker moment row status out is its walks =
     ∙ ap (λ (o : Option Status). resumes.resumed_by o pipe k row moment) its in
     subst HasProceeded (sym same) (resumed_walk (resumes.walk_in k.walks row.walker) status pipe k row moment walks)
 
-wait_number : (w : List WaitRow) (walker : ℕ) (row : WaitRow) → wait_of w walker ≡ Some row → row.walker ≡ walker
+pub wait_number : (w : List WaitRow) (walker : ℕ) (row : WaitRow) → wait_of w walker ≡ Some row → row.walker ≡ walker
 wait_number w walker row is = equal_by_test row.walker walker (found_passes (λ (r : WaitRow). r.walker == walker) w row is)
 
 -- its resume is answered

@@ -9,6 +9,7 @@ use Rattle.am_machine.proofs.Consistent.{initial_consistent, outcome_consistent}
 use Rattle.am_machine.proofs.Walks.Runs.{initial_named, outcome_named}
 use Rattle.am_machine.proofs.Failures.Changes.{initial_mended, outcome_mended}
 use Rattle.am_progress.specs.{AfterEachRun, next}
+use Rattle.am_progress.proofs.Directories.{HaveDirectories, outcome_directories}
 use Rattle.am_progress.proofs.Triggers.Changes.{Holds, outcome_holds}
 
 -- all that is known of a world
@@ -17,12 +18,13 @@ pub record IsWorld (s : State) : Type 0 where
   pub named : WalksFit s.kernel
   pub holds : Holds s
   pub failures : FailuresAgree s.kernel s.daemon
+  pub directories : HaveDirectories s
 
 initial_holds : (opening : Setup) → Holds (initial_state_of opening)
 initial_holds opening = record { kernel = record { tokens = All-nil _; waits = All-nil _; used = All-nil _; outside = All-nil _; attaches = tt }; plans = All-nil _ }
 
 pub initial_world : (opening : Setup) → IsWorld (initial_state_of opening)
-initial_world opening = record { consistent = initial_consistent opening; named = initial_named opening; holds = initial_holds opening; failures = initial_mended opening }
+initial_world opening = record { consistent = initial_consistent opening; named = initial_named opening; holds = initial_holds opening; failures = initial_mended opening; directories = λ number row is. absurd cc }
 
 -- what comes of an event is a world
 pub next_world : (s : State) (event : Event) → HasPaths event → IsWorld s → IsWorld (next s event)
@@ -34,9 +36,10 @@ next_world s event along h =
       named = outcome_named s event along h.named;
       holds = record { kernel = held.kernel; plans = held.plans };
       failures = record { suited = mended.suited; free = mended.free; mended = mended.mended };
+      directories = outcome_directories s event (record { consistent = h.consistent; named = h.named; plans = h.holds.plans }) h.directories;
     }
 
-step_world : (old : State) (event : Event) (answer : Answer) (shown : List Obs) (new : State) → Step old event answer shown new → HasPaths event → IsWorld old → IsWorld new
+pub step_world : (old : State) (event : Event) (answer : Answer) (shown : List Obs) (new : State) → Step old event answer shown new → HasPaths event → IsWorld old → IsWorld new
 step_world old event answer shown new (inl out) along h = subst IsWorld (sym out.same) h
 step_world old event answer shown new (inr comes) along h = subst IsWorld (sym comes.left) (next_world old event along h)
 

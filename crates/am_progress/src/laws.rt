@@ -1,7 +1,9 @@
 //! What can always be done next, said of the definitions alone.
 
 ghost use Rattle.am_progress.specs.Acts.{JobsHaveFiveActs, NextActsAreNeverRefused};
+ghost use Rattle.am_progress.specs.Comings.{MountsComeAndGo};
 ghost use Rattle.am_progress.specs.Expiries.{ExpiriesLeaveTrapOrMount};
+ghost use Rattle.am_progress.specs.ExpiriesAmong.{ExpiriesEndAmongOthers};
 ghost use Rattle.am_progress.specs.Others.{JobsStay, OpenTokensCloseAmongOthers, ServiceLasts};
 ghost use Rattle.am_progress.specs.Packets.{QueuedPacketsCanBeDelivered};
 ghost use Rattle.am_progress.specs.Tokens.{OpenTokensCanBeClosed};
@@ -53,4 +55,15 @@ pub fn service_lasts_until_its_end_is_seen()
 /// at most, whatever others do between them while the daemon serves it.
 pub fn open_tokens_can_be_closed_among_others()
     ensures { OpenTokensCloseAmongOthers }
+{}
+
+/// What is missing can be mounted, so that who waits on it passes, and what expires can be unmounted.
+pub fn mounts_come_and_go()
+    ensures { MountsComeAndGo }
+{}
+
+/// An expiry leaves the trap or the mount, whatever others do between the acts of its job while the daemon
+/// serves the file system.
+pub fn expiries_leave_trap_or_mount_among_others()
+    ensures { ExpiriesEndAmongOthers }
 {}

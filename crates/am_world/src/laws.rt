@@ -8,8 +8,9 @@ pub use am_machine::laws::{
     steps_add_no_receivers, steps_are_lawful, steps_tell_uses, steps_unmount_nothing_in_use,
 };
 pub use am_progress::laws::{
-    expiries_leave_trap_or_mount, jobs_have_five_acts, jobs_keep_what_they_have_left,
-    next_acts_are_never_refused, open_tokens_can_be_closed, open_tokens_can_be_closed_among_others,
+    expiries_leave_trap_or_mount, expiries_leave_trap_or_mount_among_others, jobs_have_five_acts,
+    jobs_keep_what_they_have_left, mounts_come_and_go, next_acts_are_never_refused,
+    open_tokens_can_be_closed, open_tokens_can_be_closed_among_others,
     queued_packets_can_be_delivered, service_lasts_until_its_end_is_seen,
     waiting_walkers_can_go_on,
 };
