@@ -58,7 +58,8 @@ AllCome (Next a rest) mount job goal s =
 
 -- ---- what is missing
 
--- The walker has its walk, which begins once more when it goes on.
+-- The walker has its walk, which begins once more from its first name when it goes on, unless it has begun too
+-- often.
 pub record WalksAgain (walker : ℕ) (s : State) : Type 0 where
   pub walk : WalkRow
   pub its : walk_in s.kernel.walks walker ≡ Some walk
@@ -97,9 +98,9 @@ is_to_mount (Some (act.Mkdir trigger)) = true
 is_to_mount (Some (act.Mount trigger entry)) = true
 is_to_mount _ = false
 
--- A missing token whose packet is in the pipe, or whose job is about to make the directory or to mount. The packet can be delivered;
--- then come the acts of the plan for the trigger's entry: the directory, the mount, the record and READY; or
--- READY alone, where the book has a mount there.
+-- A missing token whose packet is in the pipe, or whose job is about to make the directory or to mount. The
+-- packet can be delivered; then come the acts of the plan for the trigger's entry: the directory, the mount,
+-- the record and READY; or READY alone, where the book has a mount there.
 pub record CanBeMounted (s : State) (token : ℕ) (g : Trigger) : Type 0 where
   pub from_pipe : (row : QueuedRow) → queued_of s.kernel.queue token ≡ Some row →
       (entry : EntryText) → entry_of s.daemon g ≡ Some entry →
