@@ -33,20 +33,21 @@ pub script_next : (front : List (List ℕ)) (line : List ℕ) (ending : Ending) 
 script_next front line ending = ap (script_from ending.broke) (append_assoc front (line ∷ []) ending.lines)
 
 -- these events are answered, and then the script goes on so
-abbrev told_behind : Setup → List Answered → Told → Script
-told_behind opening rows left = record { opening = Some opening; told = behind (asked_in rows) left }
+abbrev told_behind : Setup → ℕ → List Answered → Told → Script
+told_behind opening at rows left = record { opening = Some opening; events_at = Some at; told = behind (asked_in rows) left }
 
-told_more : (opening : Setup) (rows : List Answered) (row : Answered) (left : Told) → told_behind opening rows (record left { events = row.asked ∷ left.events }) ≡ told_behind opening (rows ++ row ∷ []) left
-told_more opening rows row left =
-    let script : List Numbered → Script = λ events. record { opening = Some opening; told = record { events = events; fault = left.fault } } in
+told_more : (opening : Setup) (at : ℕ) (rows : List Answered) (row : Answered) (left : Told) → told_behind opening at rows (record left { events = row.asked ∷ left.events }) ≡ told_behind opening at (rows ++ row ∷ []) left
+told_more opening at rows row left =
+    let script : List Numbered → Script = λ events. record { opening = Some opening; events_at = Some at; told = record { events = events; fault = left.fault } } in
     ap script (sym (append_assoc (asked_in rows) (row.asked ∷ []) left.events)) ∙ ap (λ (asked : List Numbered). script (asked ++ left.events)) (sym (asked_push rows row))
 
 said_more : (s next : State) (number : ℕ) (summary : Summary) (kept keeps : Output) (front : List (List ℕ)) (line : List ℕ) (start mid new : Option (List ℕ)) (said : Result (Option Event) ScriptFaultKind) (played : Option Bool) (h : EventsStand s number summary kept front start mid) →
-    ((ending : Ending) → script_behind (front ++ line ∷ []) ending ≡ told_behind h.opening h.rows (told_by said (number + 1) (events_from ending.broke (number + 1) ending.lines))) →
+    ((ending : Ending) → script_behind (front ++ line ∷ []) ending ≡ told_behind h.opening h.events_at h.rows (told_by said (number + 1) (events_from ending.broke (number + 1) ending.lines))) →
     TurnDone s said next (number + 1) kept keeps mid new played → EventsStand next (number + 1) (counted summary played) keeps (front ++ line ∷ []) start new
 said_more s next number summary kept keeps front line start mid new (Ok None) None h goes turn = record {
   counted = length_push front line ∙ ap (λ (n : ℕ). n + 1) h.counted;
   opening = h.opening;
+  events_at = h.events_at;
   rows = h.rows;
   goes = goes;
   run = subst (λ (t : State). Run (initial_state_of h.opening) (events_in (asked_in h.rows)) (answers_in h.rows) t) (sym turn.same) h.run;
@@ -61,8 +62,9 @@ said_more s next number summary kept keeps front line start mid new (Ok (Some ev
     let row : Answered = record { asked = asked; answer = turn.answer } in record {
       counted = length_push front line ∙ ap (λ (n : ℕ). n + 1) h.counted;
       opening = h.opening;
+      events_at = h.events_at;
       rows = h.rows ++ row ∷ [];
-      goes = λ ending. goes ending ∙ told_more h.opening h.rows row (events_from ending.broke (number + 1) ending.lines);
+      goes = λ ending. goes ending ∙ told_more h.opening h.events_at h.rows row (events_from ending.broke (number + 1) ending.lines);
       run = rw (asked_push h.rows row, map_push (λ (r : Numbered). r.event) (asked_in h.rows) asked, answers_push h.rows row) (run_more (initial_state_of h.opening) (events_in (asked_in h.rows)) (answers_in h.rows) s event turn.answer turn.seen next h.run turn.step);
       stands = subst (λ (t : List Owed). Stands keeps t start new) (sym (owed_push h.rows row)) (turn.puts (owed_for h.rows) start h.stands);
       lines = rw (length-append h.rows (row ∷ [])) (ap (λ (n : ℕ). n + 1) h.lines);
@@ -118,16 +120,16 @@ pub same_fault : (one other : ScriptFault) → failed one ≡ failed other → o
 same_fault one other e = ap (fault_or one) e
 
 -- an answer that was put out isn't taken whole
-lost_halts : (script : Script) (opening : Setup) (rows : List Answered) (left : Told) (state : State) (line last : ℕ) (start new : Option (List ℕ)) → script ≡ told_behind opening rows left → Run (initial_state_of opening) (events_in (asked_in rows)) (answers_in rows) state → IsLost (owed_for rows) line start new → HaltsIn script last start new (fault_at line WriteFailed)
-lost_halts script opening rows left state line last start new e run lost =
+lost_halts : (script : Script) (opening : Setup) (at : ℕ) (rows : List Answered) (left : Told) (state : State) (line last : ℕ) (start new : Option (List ℕ)) → script ≡ told_behind opening at rows left → Run (initial_state_of opening) (events_in (asked_in rows)) (answers_in rows) state → IsLost (owed_for rows) line start new → HaltsIn script last start new (fault_at line WriteFailed)
+lost_halts script opening at rows left state line last start new e run lost =
     subst (λ (s : Script). HaltsIn s last start new (fault_at line WriteFailed)) (sym e) (record {
       stopped = inr (inr (lost_event (initial_state_of opening) (behind (asked_in rows) left) left rows line lost.front lost.first start new state refl run lost.line_is lost.written (within_some rows lost.front lost.first lost.others lost.parts)));
       here = inl refl;
     })
 
 -- a fault comes behind these events
-fault_halts : (script : Script) (opening : Setup) (rows : List Answered) (state : State) (fault : ScriptFault) (last : ℕ) (start new : Option (List ℕ)) → script ≡ told_behind opening rows (only_fault (Some fault)) → Run (initial_state_of opening) (events_in (asked_in rows)) (answers_in rows) state → fault.line ≡ last → Appends start new (bytes_of (owed_for rows)) → HaltsIn script last start new fault
-fault_halts script opening rows state fault last start new e run here written =
+fault_halts : (script : Script) (opening : Setup) (at : ℕ) (rows : List Answered) (state : State) (fault : ScriptFault) (last : ℕ) (start new : Option (List ℕ)) → script ≡ told_behind opening at rows (only_fault (Some fault)) → Run (initial_state_of opening) (events_in (asked_in rows)) (answers_in rows) state → fault.line ≡ last → Appends start new (bytes_of (owed_for rows)) → HaltsIn script last start new fault
+fault_halts script opening at rows state fault last start new e run here written =
     subst (λ (s : Script). HaltsIn s last start new fault) (sym e) (record {
       stopped = inr (inl (record {
         found = refl;
@@ -140,20 +142,20 @@ fault_halts script opening rows state fault last start new e run here written =
     })
 
 -- the same, where what is kept is written first
-closes_so : (script : Script) (opening : Setup) (rows : List Answered) (state : State) (keeps : Output) (told fault : ScriptFault) (last : ℕ) (start mid new : Option (List ℕ)) → script ≡ told_behind opening rows (only_fault (Some told)) → Run (initial_state_of opening) (events_in (asked_in rows)) (answers_in rows) state → Stands keeps (owed_for rows) start mid → told.line ≡ last → Closes keeps (Err told) mid new (Err fault) → HaltsIn script last start new fault
-closes_so script opening rows state keeps told fault last start mid new e run stands here closes =
+closes_so : (script : Script) (opening : Setup) (at : ℕ) (rows : List Answered) (state : State) (keeps : Output) (told fault : ScriptFault) (last : ℕ) (start mid new : Option (List ℕ)) → script ≡ told_behind opening at rows (only_fault (Some told)) → Run (initial_state_of opening) (events_in (asked_in rows)) (answers_in rows) state → Stands keeps (owed_for rows) start mid → told.line ≡ last → Closes keeps (Err told) mid new (Err fault) → HaltsIn script last start new fault
+closes_so script opening at rows state keeps told fault last start mid new e run stands here closes =
     elim (closes (owed_for rows) start stands) [
-      | inl w ↦ subst (λ (f : ScriptFault). HaltsIn script last start new f) (sym (same_fault fault told w.same)) (fault_halts script opening rows state told last start new e run here w.written)
-      | inr w ↦ subst (λ (f : ScriptFault). HaltsIn script last start new f) (sym (same_fault fault (fault_at w.line WriteFailed) w.told)) (lost_halts script opening rows (only_fault (Some told)) state w.line last start new e run w.lost)
+      | inl w ↦ subst (λ (f : ScriptFault). HaltsIn script last start new f) (sym (same_fault fault told w.same)) (fault_halts script opening at rows state told last start new e run here w.written)
+      | inr w ↦ subst (λ (f : ScriptFault). HaltsIn script last start new f) (sym (same_fault fault (fault_at w.line WriteFailed) w.told)) (lost_halts script opening at rows (only_fault (Some told)) state w.line last start new e run w.lost)
     ]
 
 said_stops : (s next : State) (number : ℕ) (summary : Summary) (kept keeps : Output) (front : List (List ℕ)) (line : List ℕ) (start held mid new : Option (List ℕ)) (said : Result (Option Event) ScriptFaultKind) (kind : ScriptFaultKind) (fault : ScriptFault) (ending : Ending) (h : EventsStand s number summary kept front start held) →
-    script_behind front (with_next line ending) ≡ told_behind h.opening h.rows (told_by said (number + 1) (events_from ending.broke (number + 1) ending.lines)) →
+    script_behind front (with_next line ending) ≡ told_behind h.opening h.events_at h.rows (told_by said (number + 1) (events_from ending.broke (number + 1) ending.lines)) →
     TurnStopped s said next kept keeps held mid kind → Closes keeps (Err (fault_at (number + 1) kind)) mid new (Err fault) → HaltsIn (script_behind front (with_next line ending)) (length front + 1) start new fault
 said_stops s next number summary kept keeps front line start held mid new (Ok event) kind fault ending h goes turn closes = absurd turn
 said_stops s next number summary kept keeps front line start held mid new (Err said) kind fault ending h goes turn closes =
-    closes_so (script_behind front (with_next line ending)) h.opening h.rows s keeps (fault_at (number + 1) kind) fault (length front + 1) start mid new
-    (goes ∙ ap (λ (k : ScriptFaultKind). told_behind h.opening h.rows (only_fault (Some (fault_at (number + 1) k)))) (sym turn.1))
+    closes_so (script_behind front (with_next line ending)) h.opening h.events_at h.rows s keeps (fault_at (number + 1) kind) fault (length front + 1) start mid new
+    (goes ∙ ap (λ (k : ScriptFaultKind). told_behind h.opening h.events_at h.rows (only_fault (Some (fault_at (number + 1) k)))) (sym turn.1))
     h.run (turn.0.settles (owed_for h.rows) start h.stands) (ap (λ (n : ℕ). n + 1) (sym h.counted)) closes
 
 -- the next line has a fault
@@ -167,20 +169,21 @@ pub events_long : (s : State) (number : ℕ) (summary : Summary) (kept : Output)
     Closes kept (Err (fault_at (number + 1) LongLine)) held new (Err fault) → (ending : Ending) → HaltsIn (script_behind front (with_next line ending)) (length front + 1) start new fault
 events_long s number summary kept front line start held new fault h long closes ending =
     let said : line_read line ≡ Err LongLine = rw long refl in
-    let goes = h.goes (with_next line ending) ∙ ap (λ (r : Result (Option Event) ScriptFaultKind). told_behind h.opening h.rows (told_by r (number + 1) (events_from ending.broke (number + 1) ending.lines))) said in
+    let goes = h.goes (with_next line ending) ∙ ap (λ (r : Result (Option Event) ScriptFaultKind). told_behind h.opening h.events_at h.rows (told_by r (number + 1) (events_from ending.broke (number + 1) ending.lines))) said in
     said_stops s s number summary kept kept front line start held held new (Err LongLine) LongLine fault ending h goes (record { same = refl; settles = λ all from stands. stands }, refl) closes
 
 -- an answer isn't taken whole
 pub events_lost : (s : State) (number : ℕ) (summary : Summary) (output kept : Output) (front : List (List ℕ)) (line : ℕ) (start held now : Option (List ℕ)) → EventsStand s number summary output front start held → Settles output kept held now → kept.lost ≡ Some line →
     (ending : Ending) (last : ℕ) → HaltsIn (script_behind front ending) last start now (fault_at line WriteFailed)
 events_lost s number summary output kept front line start held now h settles e ending last =
-    lost_halts (script_behind front ending) h.opening h.rows (events_from ending.broke number ending.lines) s line last start now (h.goes ending) h.run (lost_by kept.lost line _ (owed_for h.rows) start now e (settles (owed_for h.rows) start h.stands).owes)
+    lost_halts (script_behind front ending) h.opening h.events_at h.rows (events_from ending.broke number ending.lines) s line last start now (h.goes ending) h.run (lost_by kept.lost line _ (owed_for h.rows) start now e (settles (owed_for h.rows) start h.stands).owes)
 
 -- what is kept is written
 pub events_flush : (s : State) (number : ℕ) (summary : Summary) (output kept : Output) (front : List (List ℕ)) (start held now : Option (List ℕ)) → EventsStand s number summary output front start held → Settles output kept held now → EventsStand s number summary kept front start now
 events_flush s number summary output kept front start held now h settles = record {
   counted = h.counted;
   opening = h.opening;
+  events_at = h.events_at;
   rows = h.rows;
   goes = h.goes;
   run = h.run;
@@ -212,9 +215,9 @@ ends_err count script old new (Err fault) h = h
 pub events_end : (s : State) (number : ℕ) (summary : Summary) (output : Output) (front : List (List ℕ)) (count : ℕ) (start held new : Option (List ℕ)) (r : Result Summary ScriptFault) → EventsStand s number summary output front start held →
     Closes output (Ok summary) held new r → EndsSo count (script_from None front) start new r
 events_end s number summary output front count start held new r h closes =
-    let ends : EndsSo count (told_behind h.opening h.rows (only_fault None)) start new r =
+    let ends : EndsSo count (told_behind h.opening h.events_at h.rows (only_fault None)) start new r =
     elim (closes (owed_for h.rows) start h.stands) [
-      | inl w ↦ subst (λ (t : Result Summary ScriptFault). EndsSo count (told_behind h.opening h.rows (only_fault None)) start new t) (sym w.same) (record {
+      | inl w ↦ subst (λ (t : Result Summary ScriptFault). EndsSo count (told_behind h.opening h.events_at h.rows (only_fault None)) start new t) (sym w.same) (record {
         no_fault = refl;
         answers = answers_in h.rows;
         last = s;
@@ -223,7 +226,7 @@ events_end s number summary output front count start held new r h closes =
         lines = h.lines ∙ sym (length-map h.rows (λ (r : Answered). r.answer));
         refused = h.refused;
       })
-      | inr w ↦ subst (λ (t : Result Summary ScriptFault). EndsSo count (told_behind h.opening h.rows (only_fault None)) start new t) (sym w.told) (lost_halts (told_behind h.opening h.rows (only_fault None)) h.opening h.rows (only_fault None) s w.line count start new refl h.run w.lost)
+      | inr w ↦ subst (λ (t : Result Summary ScriptFault). EndsSo count (told_behind h.opening h.events_at h.rows (only_fault None)) start new t) (sym w.told) (lost_halts (told_behind h.opening h.events_at h.rows (only_fault None)) h.opening h.events_at h.rows (only_fault None) s w.line count start new refl h.run w.lost)
     ] in
     subst (λ (t : Script). EndsSo count t start new r) (sym (h.goes (record { broke = None; lines = [] })) ∙ script_ends front None) ends
 
@@ -232,11 +235,11 @@ pub events_broke : (s : State) (number : ℕ) (summary : Summary) (output : Outp
     Closes output (Err (fault_at number kind)) held new r → EndsSo (length front) (script_from (Some kind) front) start new r
 events_broke s number summary output front start held new kind r h closes =
     let fault = fault_at number kind in
-    let script = told_behind h.opening h.rows (only_fault (Some fault)) in
+    let script = told_behind h.opening h.events_at h.rows (only_fault (Some fault)) in
     let ends : EndsSo (length front) script start new r =
     elim (closes (owed_for h.rows) start h.stands) [
-      | inl w ↦ subst (λ (t : Result Summary ScriptFault). EndsSo (length front) script start new t) (sym w.same) (fault_halts script h.opening h.rows s fault (length front) start new refl h.run (sym h.counted) w.written)
-      | inr w ↦ subst (λ (t : Result Summary ScriptFault). EndsSo (length front) script start new t) (sym w.told) (lost_halts script h.opening h.rows (only_fault (Some fault)) s w.line (length front) start new refl h.run w.lost)
+      | inl w ↦ subst (λ (t : Result Summary ScriptFault). EndsSo (length front) script start new t) (sym w.same) (fault_halts script h.opening h.events_at h.rows s fault (length front) start new refl h.run (sym h.counted) w.written)
+      | inr w ↦ subst (λ (t : Result Summary ScriptFault). EndsSo (length front) script start new t) (sym w.told) (lost_halts script h.opening h.events_at h.rows (only_fault (Some fault)) s w.line (length front) start new refl h.run w.lost)
     ] in
     subst (λ (t : Script). EndsSo (length front) t start new r) (sym (h.goes (record { broke = Some kind; lines = [] })) ∙ script_ends front (Some kind)) ends
 

@@ -4,13 +4,13 @@ use Rattle.std.specs.Io.KnownBytes.{Appends}
 use Rattle.std.proofs.lemmas.List.{length_push}
 use Rattle.am_machine.specs.State.{State}
 use Rattle.am_machine.specs.{Setup, setup_of, initial_state_of}
-use Rattle.am_script.specs.{ScriptFault, ScriptFaultKind, Output, Summary, fault_at, IsLeft, HeadSoFar, HeadFault, GoesOn, EventsBegin, after_line, first_open, is_long, opening_read, Owed, bytes_of, StandsBy, Settles, HaltsAt, HaltsIn, end_of_head, Ending, with_next, script_behind, HeadStands, EventsStand, PlaceStands, HeadTaken, HeadStops, place_after, script_from, script_by, begun_by, events_from, head_ends, without_world, Closes}
+use Rattle.am_script.specs.{ScriptFault, ScriptFaultKind, Output, Summary, fault_at, IsLeft, HeadSoFar, HeadFault, GoesOn, EventsBegin, after_line, first_open, is_long, opening_read, Owed, bytes_of, StandsBy, Settles, HaltsAt, HaltsIn, end_of_head, Ending, with_next, script_behind, HeadStands, EventsStand, PlaceStands, HeadTaken, HeadStops, place_after, Told, IsInHead, script_from, script_by, begun_by, events_from, head_ends, without_world, Closes}
 use Rattle.am_script.specs.declared.fault.ScriptFaultKind.TheVariants.{LongLine, NoMemory}
 use Rattle.am_world.specs.Capacity.{state_of}
 use Rattle.am_world.specs.{WorldTable}
 use Rattle.am_script.specs.Script.{Script}
 use Rattle.am_script.proofs.Answering.{script_next, script_ends, EndsSo, same_fault}
-use Rattle.am_script.proofs.Heads.{went, one_taken, begun, ended}
+use Rattle.am_script.proofs.Heads.{went, one_taken, begun, is_in_head, ended}
 
 none_before : (front : List Owed) (first : Owed) (others : List Owed) → [] ≡ front ++ first ∷ others → ⊥
 none_before [] first others e = absurd cc
@@ -59,10 +59,11 @@ pub head_begins : (heading whole : HeadSoFar) (world : State) (number : ℕ) (su
 head_begins heading whole world number summary output front line start held h taken opens begins = record {
   counted = one_more front line number h.counted;
   opening = setup_of world;
+  events_at = number + 1;
   rows = [];
   goes = λ ending. script_next front line ending
       ∙ begun ending.broke (front ++ line ∷ ending.lines) heading whole number (line ∷ ending.lines) line ending.lines (h.left (line ∷ ending.lines)) refl taken
-      ∙ ap (λ (r : Result Setup ScriptFault). begun_by r (events_from ending.broke (number + 1) ending.lines)) opens;
+      ∙ ap (λ (r : Result Setup ScriptFault). begun_by r (number + 1) (events_from ending.broke (number + 1) ending.lines)) opens;
   run = begins;
   stands = h.empty;
   lines = h.lines;
@@ -82,18 +83,24 @@ faulty : (script : Script) (fault : ScriptFault) (last : ℕ) (old new : Option 
 faulty script fault last old new e none =
     subst (λ (s : Script). HaltsIn s last old new fault) (sym e) (record { stopped = inr (record { found = refl; written = none }); here = tt })
 
+-- the head is whole, and one of its maps has this fault
+not_begun : (script : Script) (number : ℕ) (told : Told) (fault : ScriptFault) (last : ℕ) (old new : Option (List ℕ)) → script ≡ begun_by (Err fault) number told → Appends old new [] → HaltsIn script last old new fault
+not_begun script number told fault last old new e none =
+    subst (λ (s : Script). HaltsIn s last old new fault) (sym e) (record { stopped = inr (record { found = refl; written = none }); here = tt })
+
 here_at : (opening : Option Setup) (fault : ScriptFault) (last : ℕ) → fault.line ≡ last → HaltsAt opening fault last
 here_at None fault last e = tt
 here_at (Some opening) fault last e = inr e
 
-ran_out : (script : Script) (number last : ℕ) (fault : ScriptFault) (old new : Option (List ℕ)) → fault ≡ fault_at number NoMemory → 1 ≤ number → number ≡ last → Appends old new [] → HaltsIn script last old new fault
-ran_out script number last fault old new e first same none =
+ran_out : (script : Script) (number last : ℕ) (fault : ScriptFault) (old new : Option (List ℕ)) → fault ≡ fault_at number NoMemory → 1 ≤ number → number ≡ last → IsInHead script.events_at number → Appends old new [] → HaltsIn script last old new fault
+ran_out script number last fault old new e first same within none =
     let line : fault.line ≡ number = ap (λ (f : ScriptFault). f.line) e in
     record {
       stopped = inl (record {
         kind = ap (λ (f : ScriptFault). f.kind) e;
         first = omega (arith, line, first);
         line = omega (arith, line, same);
+        head = subst (IsInHead script.events_at) (sym line) within;
         written = none;
       });
       here = here_at script.opening fault last (line ∙ same);
@@ -106,14 +113,14 @@ head_stops heading number summary output front line start held fault h (inl (inl
     (ap (script_by ending.broke (front ++ line ∷ ending.lines)) (went (front ++ line ∷ ending.lines) heading number (line ∷ ending.lines) line ending.lines (HeadFault fault) (h.left (line ∷ ending.lines)) refl stops))
     (nothing_written heading number summary output front start held h)
 head_stops heading number summary output front line start held fault h (inl (inr none)) ending =
-    ran_out (script_behind front (with_next line ending)) (number + 1) (length front + 1) fault start held none (omega arith) (ap (λ (n : ℕ). n + 1) (sym h.counted)) (nothing_written heading number summary output front start held h)
+    ran_out (script_behind front (with_next line ending)) (number + 1) (length front + 1) fault start held none (omega arith) (ap (λ (n : ℕ). n + 1) (sym h.counted)) (is_in_head ending.broke (front ++ line ∷ ending.lines) heading number (line ∷ ending.lines) (h.left (line ∷ ending.lines))) (nothing_written heading number summary output front start held h)
 head_stops heading number summary output front line start held fault h (inr (whole, ends, inl fails)) ending =
-    faulty (script_behind front (with_next line ending)) fault (length front + 1) start held
+    not_begun (script_behind front (with_next line ending)) (number + 1) (events_from ending.broke (number + 1) ending.lines) fault (length front + 1) start held
     (begun ending.broke (front ++ line ∷ ending.lines) heading whole number (line ∷ ending.lines) line ending.lines (h.left (line ∷ ending.lines)) refl ends
-    ∙ ap (λ (r : Result Setup ScriptFault). begun_by r (events_from ending.broke (number + 1) ending.lines)) fails)
+    ∙ ap (λ (r : Result Setup ScriptFault). begun_by r (number + 1) (events_from ending.broke (number + 1) ending.lines)) fails)
     (nothing_written heading number summary output front start held h)
 head_stops heading number summary output front line start held fault h (inr (whole, ends, inr none)) ending =
-    ran_out (script_behind front (with_next line ending)) (number + 1) (length front + 1) fault start held none (omega arith) (ap (λ (n : ℕ). n + 1) (sym h.counted)) (nothing_written heading number summary output front start held h)
+    ran_out (script_behind front (with_next line ending)) (number + 1) (length front + 1) fault start held none (omega arith) (ap (λ (n : ℕ). n + 1) (sym h.counted)) (is_in_head ending.broke (front ++ line ∷ ending.lines) heading number (line ∷ ending.lines) (h.left (line ∷ ending.lines))) (nothing_written heading number summary output front start held h)
 
 -- the next line is too long
 pub head_long : (heading : HeadSoFar) (number : ℕ) (summary : Summary) (output : Output) (front : List (List ℕ)) (line : List ℕ) (start held new : Option (List ℕ)) (fault : ScriptFault) → HeadStands heading number summary output front start held → is_long line ≡ true →

@@ -1,40 +1,56 @@
 -- A script whose events others play.
 use Rattle.std.proofs.Common.{◌≡◌, ◌⊎◌, ◌≤◌, ◌+◌, ◌-◌, ℕ, List, [], ◌∷◌, length, take, Option, Some, None, Result, Ok, Err, IfOk, IfErr, refl, sym, ap, subst, ◌∙◌, inl, inr, arith}
 use Rattle.am_machine.specs.{Event, Setup}
-use Rattle.am_script.specs.{ScriptFault, ScriptFaultKind, fault_at, IsFaultOr, HeadSoFar, EventsBegin, HeadFault, StopsAt, after_line, first_open, lines_of, lines_in, opening_read, OpenedAs, NotOpened, NoRoom, NoNext, cut_line, cut_kind, played, broken, Told, script_from, script_of, script_by, begun_by, events_from, head_ends, told_by, without_world, line_read, LineReadAs, SaysEvent, IsLeft}
+use Rattle.am_script.specs.{ScriptFault, ScriptFaultKind, fault_at, IsFaultOr, HeadSoFar, EventsBegin, HeadFault, StopsAt, after_line, first_open, lines_of, lines_in, opening_read, OpenedAs, HasNoWorld, NotOpened, NoRoom, NoNext, cut_line, cut_kind, played, broken, Told, IsInHead, script_from, script_of, script_by, begun_by, events_from, head_ends, told_by, without_world, line_read, LineReadAs, SaysEvent, IsLeft}
 use Rattle.am_script.specs.declared.fault.ScriptFaultKind.TheVariants.{NoMemory}
 use Rattle.am_script.specs.declared.visit.Opened.{Opened}
 use Rattle.am_script.specs.Script.{Script}
 use Rattle.am_script.specs.declared.fault.ScriptFaultKind.TheVariants as kinds
-use Rattle.am_script.proofs.Heads.{went, begun, taken_within, ended}
+use Rattle.am_script.proofs.Heads.{went, begun, begun_at, taken_within, is_in_head, ended}
 use Rattle.am_script.proofs.Answering.{events_step}
 use Rattle.am_script.proofs.Inputs.{cut_script, cut_text}
 
-no_room : (count number : ℕ) (fault : ScriptFault) → fault ≡ fault_at number NoMemory → 1 ≤ number → number ≤ count → NoRoom count fault
-no_room count number fault e first fits =
+no_room : (count number : ℕ) (at : Option ℕ) (fault : ScriptFault) → fault ≡ fault_at number NoMemory → 1 ≤ number → number ≤ count → IsInHead at number → NoRoom count at fault
+no_room count number at fault e first fits within =
     let line : fault.line ≡ number = ap (λ (f : ScriptFault). f.line) e in
-    record { kind = ap (λ (f : ScriptFault). f.kind) e; first = omega (arith, line, first); line = omega (arith, line, fits) }
+    record {
+      kind = ap (λ (f : ScriptFault). f.kind) e;
+      first = omega (arith, line, first);
+      line = omega (arith, line, fits);
+      head = subst (IsInHead at) (sym line) within;
+    }
+
+pub no_world : (script : Script) (fault : ScriptFault) → script ≡ without_world (Some fault) → HasNoWorld script fault
+no_world script fault e = (ap (λ (s : Script). s.opening) e, ap (λ (s : Script). s.told) e)
 
 -- a line of the head stops the script, or there is no memory for it
 pub head_stops_it : (broke : Option ScriptFaultKind) (all : List (List ℕ)) (head : HeadSoFar) (number : ℕ) (rest : List (List ℕ)) (line : List ℕ) (lines : List (List ℕ)) (fault : ScriptFault) →
     IsLeft all head number rest → rest ≡ line ∷ lines → StopsAt (number + 1) (after_line head (number + 1) line) fault → NotOpened (length all) (script_from broke all) fault
 head_stops_it broke all head number rest line lines fault left e (inl t) =
-    inl (ap (script_by broke all) (went all head number rest line lines (HeadFault fault) left e t))
+    inl (no_world (script_from broke all) fault (ap (script_by broke all) (went all head number rest line lines (HeadFault fault) left e t)))
 head_stops_it broke all head number rest line lines fault left e (inr none) =
-    inr (no_room (length all) (number + 1) fault none (omega arith) (taken_within all head number rest line lines left e))
+    inr (no_room (length all) (number + 1) (script_from broke all).events_at fault none (omega arith) (taken_within all head number rest line lines left e) (is_in_head broke all head number rest left))
 
 more_room : (few many : ℕ) (script : Script) (fault : ScriptFault) → few ≤ many → NotOpened few script fault → NotOpened many script fault
 more_room few many script fault fits (inl e) = inl e
-more_room few many script fault fits (inr none) = inr (record { kind = none.kind; first = none.first; line = omega (arith, none.line, fits) })
+more_room few many script fault fits (inr none) = inr (record {
+  kind = none.kind;
+  first = none.first;
+  line = omega (arith, none.line, fits);
+  head = none.head;
+})
 
-pub begin_fails_it : (before : ℕ) (read : Result Setup ScriptFault) (told : Told) (fault : ScriptFault) → 1 ≤ before → IsFaultOr before fault read → NotOpened before (begun_by read told) fault
-begin_fails_it before read told fault first (inl f) = inl (ap (λ (r : Result Setup ScriptFault). begun_by r told) f)
-begin_fails_it before read told fault first (inr none) = inr (no_room before before fault none first (omega arith))
+pub begin_fails_it : (before : ℕ) (read : Result Setup ScriptFault) (told : Told) (fault : ScriptFault) → 1 ≤ before → IsFaultOr before fault read → NotOpened before (begun_by read before told) fault
+begin_fails_it before read told fault first (inl f) =
+    let script : begun_by read before told ≡ begun_by (Err fault) before told = ap (λ (r : Result Setup ScriptFault). begun_by r before told) f in
+    inl (ap (λ (s : Script). s.opening) script, ap (λ (s : Script). s.told) script)
+begin_fails_it before read told fault first (inr none) =
+    inr (no_room before before (begun_by read before told).events_at fault none first (omega arith) (subst (λ (at : Option ℕ). IsInHead at before) (sym (begun_at read before told)) (omega arith)))
 
 -- what is opened behind the head is the whole script
 pub begins_opened : (broke : Option ScriptFaultKind) (all : List (List ℕ)) (head next : HeadSoFar) (number : ℕ) (rest : List (List ℕ)) (line : List ℕ) (lines : List (List ℕ)) (r : Result (Option Opened) ScriptFault) →
     IsLeft all head number rest → rest ≡ line ∷ lines → after_line head (number + 1) line ≡ EventsBegin next →
-    IfOk r (OpenedAs broke (begun_by (opening_read next.said) (events_from broke (number + 1) lines))) → IfOk r (OpenedAs broke (script_from broke all))
+    IfOk r (OpenedAs broke (begun_by (opening_read next.said) (number + 1) (events_from broke (number + 1) lines))) → IfOk r (OpenedAs broke (script_from broke all))
 begins_opened broke all head next number rest line lines r left e t h =
     subst (λ (s : Script). IfOk r (OpenedAs broke s)) (sym (begun broke all head next number rest line lines left e t)) h
 
@@ -44,9 +60,9 @@ not_opened_more few many script (Err fault) fits h = more_room few many script f
 
 pub begins_not : (broke : Option ScriptFaultKind) (all : List (List ℕ)) (head next : HeadSoFar) (number : ℕ) (rest : List (List ℕ)) (line : List ℕ) (lines : List (List ℕ)) (r : Result (Option Opened) ScriptFault) →
     IsLeft all head number rest → rest ≡ line ∷ lines → after_line head (number + 1) line ≡ EventsBegin next →
-    IfErr r (NotOpened (number + 1) (begun_by (opening_read next.said) (events_from broke (number + 1) lines))) → IfErr r (NotOpened (length all) (script_from broke all))
+    IfErr r (NotOpened (number + 1) (begun_by (opening_read next.said) (number + 1) (events_from broke (number + 1) lines))) → IfErr r (NotOpened (length all) (script_from broke all))
 begins_not broke all head next number rest line lines r left e t h =
-    subst (λ (s : Script). IfErr r (NotOpened (length all) s)) (sym (begun broke all head next number rest line lines left e t)) (not_opened_more (number + 1) (length all) (begun_by (opening_read next.said) (events_from broke (number + 1) lines)) r (taken_within all head number rest line lines left e) h)
+    subst (λ (s : Script). IfErr r (NotOpened (length all) s)) (sym (begun broke all head next number rest line lines left e t)) (not_opened_more (number + 1) (length all) (begun_by (opening_read next.said) (number + 1) (events_from broke (number + 1) lines)) r (taken_within all head number rest line lines left e) h)
 
 -- the script ends within its head
 pub ends_so : (broke : Option ScriptFaultKind) (all : List (List ℕ)) (head : HeadSoFar) (number : ℕ) (rest : List (List ℕ)) (fault : Option ScriptFault) →

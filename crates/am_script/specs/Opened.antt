@@ -7,7 +7,7 @@ use Rattle.am_script.specs.declared.fault.ScriptFaultKind.TheVariants.{NoMemory}
 use Rattle.am_script.specs.declared.visit.Opened.{Opened}
 use Rattle.am_script.specs.declared.visit.Found.{Found}
 use Rattle.am_script.specs.Lines.{lines_in, size_in}
-use Rattle.am_script.specs.Script.{Numbered, Told, Script, events_from, told_by, only_fault, without_world}
+use Rattle.am_script.specs.Script.{Numbered, Told, Script, IsInHead, events_from, told_by, only_fault, without_world}
 use Rattle.am_world.specs.Capacity.{state_of}
 
 -- ---- the head
@@ -15,6 +15,7 @@ use Rattle.am_world.specs.Capacity.{state_of}
 -- the world of the script, and the events that it tells, up to where reading broke off
 pub record IsOpened (broke : Option ScriptFaultKind) (script : Script) (opened : Opened) : Type 0 where
   pub opening : script.opening ≡ Some (setup_of (state_of opened.world))
+  pub line : script.events_at ≡ Some opened.line
   pub world : state_of opened.world ≡ initial_state_of (setup_of (state_of opened.world))
   pub told : script.told ≡ events_from opened.broke opened.line (lines_in (option_copied opened.rest))
   pub cut : opened.broke ≡ broke
@@ -25,15 +26,21 @@ abbrev pub OpenedAs : Option ScriptFaultKind → Script → Option Opened → Ty
 OpenedAs broke script None = (script ≡ without_world None) × (broke ≡ None)
 OpenedAs broke script (Some opened) = IsOpened broke script opened
 
--- memory ran out, which is told at one of so many lines
-pub record NoRoom (lines : ℕ) (fault : ScriptFault) : Type 0 where
+-- memory ran out for the head or for the world, which is told at one of so many lines, and not
+-- behind `events`
+pub record NoRoom (lines : ℕ) (events_at : Option ℕ) (fault : ScriptFault) : Type 0 where
   pub kind : fault.kind ≡ NoMemory
   pub first : 1 ≤ fault.line
   pub line : fault.line ≤ lines
+  pub head : IsInHead events_at fault.line
+
+-- the script has no world, for this fault
+abbrev pub HasNoWorld : Script → ScriptFault → Type 0
+HasNoWorld script fault = (script.opening ≡ None) × (script.told ≡ only_fault (Some fault))
 
 -- the head of the script, of so many lines, has this fault, or memory ran out
 abbrev pub NotOpened : ℕ → Script → ScriptFault → Type 0
-NotOpened lines script fault = (script ≡ without_world (Some fault)) ⊎ NoRoom lines fault
+NotOpened lines script fault = HasNoWorld script fault ⊎ NoRoom lines script.events_at fault
 
 -- ---- the events
 

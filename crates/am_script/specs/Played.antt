@@ -13,7 +13,7 @@ use Rattle.am_script.specs.Fault.{fault_at}
 use Rattle.am_script.specs.Lines.{lines_of}
 use Rattle.am_script.specs.Answers.{answer_line, is_refused}
 use Rattle.am_script.specs.Read.{played}
-use Rattle.am_script.specs.Script.{Numbered, events_in, Told, Script, script_of}
+use Rattle.am_script.specs.Script.{Numbered, events_in, Told, Script, IsInHead, script_of}
 
 -- the lines of these answers
 abbrev pub lines_for : List Answer → List ℕ
@@ -91,17 +91,18 @@ StoppedFrom None told old new fault = StopsBefore told old new fault
 StoppedFrom (Some opening) told old new fault = Stops (initial_state_of opening) told old new fault
 
 -- no memory for the head or for the world: nothing is written, and that is told at one of so many
--- lines
-pub record RanOut (lines : ℕ) (old new : Option (List ℕ)) (fault : ScriptFault) : Type 0 where
+-- lines, and not behind `events`
+pub record RanOut (lines : ℕ) (events_at : Option ℕ) (old new : Option (List ℕ)) (fault : ScriptFault) : Type 0 where
   pub kind : fault.kind ≡ NoMemory
   pub first : 1 ≤ fault.line
   pub line : fault.line ≤ lines
+  pub head : IsInHead events_at fault.line
   pub written : Appends old new []
 
 -- the script, of so many lines, isn't played to its end
 abbrev pub IsStopped : ℕ → Script → Option (List ℕ) → Option (List ℕ) → ScriptFault → Type 0
 IsStopped lines script old new fault =
-    RanOut lines old new fault ⊎ StoppedFrom script.opening script.told old new fault
+    RanOut lines script.events_at old new fault ⊎ StoppedFrom script.opening script.told old new fault
 
 -- ---- with a reader
 

@@ -76,8 +76,13 @@ pub record HeadStands (heading : HeadSoFar) (number : ℕ) (summary : Summary) (
 pub record EventsStand (state : State) (number : ℕ) (summary : Summary) (output : Output) (front : List (List ℕ)) (start now : Option (List ℕ)) : Type 0 where
   pub counted : length front ≡ number
   pub opening : Setup
+  pub events_at : ℕ
   pub rows : List Answered
-  pub goes : (ending : Ending) → script_behind front ending ≡ record { opening = Some opening; told = behind (asked_in rows) (events_from ending.broke number ending.lines) }
+  pub goes : (ending : Ending) → script_behind front ending ≡ record {
+    opening = Some opening;
+    events_at = Some events_at;
+    told = behind (asked_in rows) (events_from ending.broke number ending.lines);
+  }
   pub run : Run (initial_state_of opening) (events_in (asked_in rows)) (answers_in rows) state
   pub stands : Stands output (owed_for rows) start now
   pub lines : summary.lines ≡ length rows

@@ -1,6 +1,6 @@
 -- What the whole text of a script says: the opening of its world, its events with their lines,
 -- and its first fault. Own choice (docs/FORMATS.md, "Scripts").
-use Rattle.std.specs.Prelude.{ℕ, ◌+◌, List, [], ◌∷◌, map, length, drop, Option, None, Some, Result, Ok, Err, if◌then◌else◌}
+use Rattle.std.specs.Prelude.{⊤, ◌≤◌, ℕ, ◌+◌, List, [], ◌∷◌, map, length, drop, Option, None, Some, Result, Ok, Err, if◌then◌else◌}
 use Rattle.am_machine.specs.{Event, Setup}
 use Rattle.am_script.specs.declared.fault.ScriptFault.{ScriptFault}
 use Rattle.am_script.specs.declared.fault.ScriptFaultKind.{ScriptFaultKind}
@@ -28,9 +28,10 @@ pub record Told : Type 0 where
   pub events : List Numbered
   pub fault : Option ScriptFault
 
--- the opening is there if the head is whole
+-- the number of the line `events` is there if the head is whole, and the opening if its maps are too
 pub record Script : Type 0 where
   pub opening : Option Setup
+  pub events_at : Option ℕ
   pub told : Told
 
 -- no event, and this fault
@@ -73,7 +74,7 @@ events_from broke before (line ∷ lines) =
 
 -- no world begins, for this fault or for none
 abbrev pub without_world : Option ScriptFault → Script
-without_world fault = record { opening = None; told = only_fault fault }
+without_world fault = record { opening = None; events_at = None; told = only_fault fault }
 
 -- a section that doesn't end is told at its first line
 abbrev pub section_fault : Option ℕ → Option ScriptFault
@@ -85,14 +86,15 @@ abbrev pub head_ends : Option ScriptFaultKind → Option ℕ → ℕ → Script
 head_ends None section before = without_world (section_fault section)
 head_ends (Some kind) section before = without_world (Some (fault_at before kind))
 
--- the events begin, if each line of the master has its map
-abbrev pub begun_by : Result Setup ScriptFault → Told → Script
-begun_by (Ok opening) told = record { opening = Some opening; told = told }
-begun_by (Err fault) told = without_world (Some fault)
+-- the events begin behind the line with this number, if each line of the master has its map
+abbrev pub begun_by : Result Setup ScriptFault → ℕ → Told → Script
+begun_by (Ok opening) number told = record { opening = Some opening; events_at = Some number; told = told }
+begun_by (Err fault) number told = record { opening = None; events_at = Some number; told = only_fault (Some fault) }
 
 -- the script of these lines, whose head goes so
 abbrev pub script_by : Option ScriptFaultKind → List (List ℕ) → Headed → Script
-script_by broke lines (Begins head number) = begun_by (opening_read head) (events_from broke number (drop number lines))
+script_by broke lines (Begins head number) =
+    begun_by (opening_read head) number (events_from broke number (drop number lines))
 script_by broke lines (Ends section) = head_ends broke section (length lines)
 script_by broke lines (Faulty fault) = without_world (Some fault)
 
@@ -103,3 +105,8 @@ script_from broke lines = script_by broke lines (head_of (parts_of_lines lines))
 -- what was read of a script, up to its end or to where reading broke off
 abbrev pub script_of : Option ScriptFaultKind → List ℕ → Script
 script_of broke text = script_from (broken broke text) (lines_of (played broke text))
+
+-- the line isn't behind that of `events`, if there is one
+abbrev pub IsInHead : Option ℕ → ℕ → Type 0
+IsInHead None line = ⊤
+IsInHead (Some number) line = line ≤ number

@@ -22,7 +22,7 @@ use std::alloc::Global;
 use std::marker::Model;
 
 /// How far the head has come.
-#[derive(Clone, Copy, Debug, PartialEq, Eq)]
+#[derive(Clone, Copy)]
 pub enum Stage {
     /// Only lines that are skipped have come.
     Start,
@@ -35,7 +35,7 @@ pub enum Stage {
 }
 
 /// What the lines so far have said.
-#[derive(Debug, Drop)]
+#[derive(Drop)]
 pub struct Heading {
     stage: Stage,
     /// The section that the lines are in.

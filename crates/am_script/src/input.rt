@@ -9,7 +9,7 @@ use std::alloc::Global;
 use std::io::Read;
 
 /// What a reader gave, and why it didn't come to its end.
-#[derive(Debug, Drop)]
+#[derive(Drop)]
 pub struct Input {
     pub text: Vec<u8>,
     /// `ReadFailed` or `NoMemory`; none where the reader came to its end.

@@ -14,7 +14,7 @@ use std::alloc::{AllocError, Global};
 use std::marker::Model;
 
 /// A section, as far as it is read.
-#[derive(Debug, Drop)]
+#[derive(Drop)]
 pub struct Section {
     /// The number of its first line.
     first: u64,

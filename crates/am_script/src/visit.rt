@@ -104,9 +104,9 @@ fn begin_behind<'a>(
 ) -> Result<Option<Opened<'a>>, ScriptFault>
     requires first { 1 ≤ line }
     requires fits { line + size_in (option_copied rest) ≤ 2 ^ 63 }
-    ensures ok { IfOk result (OpenedAs broke (begun_by (opening_read heading.said)
+    ensures ok { IfOk result (OpenedAs broke (begun_by (opening_read heading.said) line
         (events_from broke line (lines_in (option_copied rest.entry))))) }
-    ensures err { IfErr result (NotOpened line (begun_by (opening_read heading.said)
+    ensures err { IfErr result (NotOpened line (begun_by (opening_read heading.said) line
         (events_from broke line (lines_in (option_copied rest.entry))))) }
 {
     match heading.begin(alloc, line) {

@@ -28,8 +28,7 @@ traces_none ro rn wo text broke read end h =
     whole_input ro rn wo wo text broke (record { lines = 0; refused = 0 }) read end h.1 (subst (λ (s : Script). TracedFrom s.opening s.told wo wo (record { lines = 0; refused = 0 })) (sym h.0) (record { no_fault = refl; written = Appends-nil wo; lines = refl; refused = refl }))
 
 pub head_stops : (lines : ℕ) (script : Script) (wo : Option (List ℕ)) (fault : ScriptFault) → NotOpened lines script fault → HeadStops lines script wo wo fault
-head_stops lines script wo fault (inl e) = record { found = inl (ap (λ (s : Script). s.opening) e, ap (λ (s : Script). s.told.fault) e); written = Appends-nil wo }
-head_stops lines script wo fault (inr none) = record { found = inr none; written = Appends-nil wo }
+head_stops lines script wo fault stops = record { found = stops; written = Appends-nil wo }
 
 pub traces_head : (ro rn wo : Option (List ℕ)) (text : List ℕ) (broke : Option ScriptFaultKind) (fault : ScriptFault) → Consumes ro rn text → IfNone broke (IsAtEnd rn) → IfSome broke IsReadFault → NotOpened (length (lines_of (played broke text))) (script_of broke text) fault → StopsTrace ro rn wo wo fault
 traces_head ro rn wo text broke fault read end kind h = record {

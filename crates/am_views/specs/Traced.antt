@@ -6,7 +6,7 @@ use Rattle.std.specs.Io.KnownBytes.{Appends, Consumes, IsAtEnd}
 use Rattle.am_state.specs.{Obs}
 use Rattle.am_machine.specs.{Answer, Setup, initial_state_of, Step}
 use Rattle.am_machine.specs.State.{State}
-use Rattle.am_script.specs.{ScriptFault, ScriptFaultKind, Output, Summary, answer_line, is_refused, lines_of, NoRoom, owed_by, PutsOut, NothingPlayed, WasRead, played, Numbered, Told, script_of}
+use Rattle.am_script.specs.{ScriptFault, ScriptFaultKind, Output, Summary, answer_line, is_refused, lines_of, NotOpened, owed_by, PutsOut, NothingPlayed, WasRead, played, Numbered, Told, script_of}
 use Rattle.am_script.specs.declared.fault.ScriptFaultKind.TheVariants.{NoMemory, WriteFailed}
 use Rattle.am_script.specs.Script.{Script}
 use Rattle.am_views.specs.EventText.{event_text}
@@ -112,9 +112,10 @@ abbrev pub TracedFrom : Option Setup → Told → Option (List ℕ) → Option (
 TracedFrom None told old new summary = NothingPlayed told old new summary
 TracedFrom (Some opening) told old new summary = AllTraced (initial_state_of opening) told old new summary
 
--- the head has a fault, or memory ran out for it or for the world; nothing is written
+-- the head has a fault, or memory ran out for it or for the world, which is told at a line that isn't
+-- behind `events`; nothing is written
 pub record HeadStops (lines : ℕ) (script : Script) (old new : Option (List ℕ)) (fault : ScriptFault) : Type 0 where
-  pub found : ((script.opening ≡ None) × (script.told.fault ≡ Some fault)) ⊎ NoRoom lines fault
+  pub found : NotOpened lines script fault
   pub written : Appends old new []
 
 -- the script has a world, and its trace stops
