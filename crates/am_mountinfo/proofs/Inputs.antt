@@ -56,7 +56,7 @@ shows_opened only ro rn wo wn text broke opened (Err fault) read end h whole all
 shows_opened only ro rn wo wn text broke opened (Ok summary) read end h whole all =
     whole_input only ro rn wo wn text broke summary read end (sym h.cut ∙ whole) (all_from only (script_of broke text).opening (script_of broke text).told opened wo wn summary h.opening h.world h.told all)
 
-pub stops_opened : (only : Option ℕ) (ro rn wo wn : Option (List ℕ)) (text : List ℕ) (broke : Option ScriptFaultKind) (opened : Opened) (r : Result Summary ScriptFault) → Consumes ro rn text → IfNone broke (IsAtEnd rn) → IfSome broke IsReadFault → OpenedAs (broken broke text) (script_of broke text) (Some opened) → IfErr r (ShowStops only (state_of opened.world) (told_in opened) wo wn) → IfErr r (StopsShowing only ro rn wo wn)
+pub stops_opened : (only : Option ℕ) (ro rn wo wn : Option (List ℕ)) (text : List ℕ) (broke : Option ScriptFaultKind) (opened : Opened) (r : Result Summary ScriptFault) → Consumes ro rn text → IfNone broke (IsAtEnd rn) → IfSome broke IsReadFault → OpenedAs (broken broke text) (script_of broke text) (Some opened) → IfErr r (ShowStops only (state_of opened.world) opened.line (told_in opened) wo wn) → IfErr r (StopsShowing only ro rn wo wn)
 stops_opened only ro rn wo wn text broke opened (Ok summary) read end kind h stops = tt
 stops_opened only ro rn wo wn text broke opened (Err fault) read end kind h stops = record {
   text = text;
@@ -65,8 +65,10 @@ stops_opened only ro rn wo wn text broke opened (Err fault) read end kind h stop
   stopped = inr (record {
     opening = setup_of (state_of opened.world);
     begins = h.opening;
+    line = opened.line;
+    line_is = h.line;
     stops =
-        subst (λ (s : State). ShowStops only s (script_of broke text).told wo wn fault) h.world
-        (subst (λ (t : Told). ShowStops only (state_of opened.world) t wo wn fault) (sym h.told) stops);
+        subst (λ (s : State). ShowStops only s opened.line (script_of broke text).told wo wn fault) h.world
+        (subst (λ (t : Told). ShowStops only (state_of opened.world) opened.line t wo wn fault) (sym h.told) stops);
   });
 }

@@ -8,40 +8,36 @@ use Rattle.am_machine.specs.State.{State}
 use Rattle.am_script.specs.{ScriptFault, Summary, is_refused, NoNext, Numbered, Told, events_in, told_by, only_fault, behind}
 use Rattle.am_script.proofs.Answering.{run_more, count_more}
 use Rattle.am_views.specs.{one_more}
-use Rattle.am_mountinfo.specs.{IsWritten, EventsPlayed, NotPlayed, NotWritten, last_line, IsLastLine, WorldShown, ShowStops}
+use Rattle.am_mountinfo.specs.{IsWritten, EventsPlayed, NotPlayed, NotWritten, last_line, WorldShown, ShowStops}
 
--- of all events these are left, and those before have come
-pub record Playing (start : State) (all left : Told) (now : State) (summary : Summary) (line : ℕ) : Type 0 where
+-- of all events, which stand behind the first line, these are left, and those before have come
+pub record Playing (start : State) (first : ℕ) (all left : Told) (now : State) (summary : Summary) (line : ℕ) : Type 0 where
   pub done : List Numbered
   pub parted : all ≡ behind done left
   pub answers : List Answer
   pub run : Run start (events_in done) answers now
   pub lines : summary.lines ≡ length answers
   pub refused : summary.refused ≡ count_by is_refused answers
-  pub is_last : IsLastLine line done
+  pub is_last : line ≡ last_line first done
 
-pub playing_none : (start : State) (all : Told) (line : ℕ) → Playing start all all start (record { lines = 0; refused = 0 }) line
-playing_none start all line = record {
+pub playing_none : (start : State) (first : ℕ) (all : Told) → Playing start first all all start (record { lines = 0; refused = 0 }) first
+playing_none start first all = record {
   done = [];
   parted = refl;
   answers = [];
   run = refl;
   lines = refl;
   refused = refl;
-  is_last = tt;
+  is_last = refl;
 }
 
 last_of_push : (line : ℕ) (done : List Numbered) (asked : Numbered) → asked.line ≡ last_line line (done ++ asked ∷ [])
 last_of_push line [] asked = refl
 last_of_push line (first ∷ done) asked = last_of_push first.line done asked
 
-last_push : (done : List Numbered) (asked : Numbered) → IsLastLine asked.line (done ++ asked ∷ [])
-last_push [] asked = refl
-last_push (first ∷ done) asked = last_of_push first.line done asked
-
 -- one more event has come
-pub playing_more : (start : State) (all left more : Told) (now next : State) (summary : Summary) (before line : ℕ) (event : Event) (answer : Answer) (seen : List Obs) (refused : Bool) → left ≡ told_by (Ok (Some event)) line more → Playing start all left now summary before → Step now event answer seen next → refused ≡ is_refused answer → Playing start all more next (one_more summary refused) line
-playing_more start all left more now next summary before line event answer seen refused e h step test =
+pub playing_more : (start : State) (first : ℕ) (all left more : Told) (now next : State) (summary : Summary) (before line : ℕ) (event : Event) (answer : Answer) (seen : List Obs) (refused : Bool) → left ≡ told_by (Ok (Some event)) line more → Playing start first all left now summary before → Step now event answer seen next → refused ≡ is_refused answer → Playing start first all more next (one_more summary refused) line
+playing_more start first all left more now next summary before line event answer seen refused e h step test =
     let asked : Numbered = record { line = line; event = event } in record {
       done = h.done ++ asked ∷ [];
       parted = h.parted ∙ ap (behind h.done) e ∙ ap (λ (rows : List Numbered). record more { events = rows }) (sym (append_assoc h.done (asked ∷ []) more.events));
@@ -49,12 +45,12 @@ playing_more start all left more now next summary before line event answer seen 
       run = rw (map_push (λ (r : Numbered). r.event) h.done asked) (run_more start (events_in h.done) h.answers now event answer seen next h.run step);
       lines = rw (length-append h.answers (answer ∷ [])) (ap (λ (n : ℕ). n + 1) h.lines);
       refused = rw (count_more is_refused h.answers answer, test) (ap (λ (n : ℕ). n + cond (is_refused answer) 1 0) h.refused);
-      is_last = last_push h.done asked;
+      is_last = last_of_push first h.done asked;
     }
 
 -- no event is left
-pub playing_ends : (start : State) (all left : Told) (now : State) (summary : Summary) (line : ℕ) → left ≡ only_fault None → Playing start all left now summary line → EventsPlayed start all now summary
-playing_ends start all left now summary line none h =
+pub playing_ends : (start : State) (first : ℕ) (all left : Told) (now : State) (summary : Summary) (line : ℕ) → left ≡ only_fault None → Playing start first all left now summary line → EventsPlayed start all now summary
+playing_ends start first all left now summary line none h =
     let parted : all ≡ behind h.done (only_fault None) = h.parted ∙ ap (behind h.done) none in record {
       no_fault = ap (λ (t : Told). t.fault) parted;
       answers = h.answers;
@@ -63,16 +59,16 @@ playing_ends start all left now summary line none h =
       refused = h.refused;
     }
 
-pub last_ends : (start : State) (all left : Told) (now : State) (summary : Summary) (line : ℕ) → left ≡ only_fault None → Playing start all left now summary line → IsLastLine line all.events
-last_ends start all left now summary line none h =
-    subst (λ (t : List Numbered). IsLastLine line t)
+pub last_ends : (start : State) (first : ℕ) (all left : Told) (now : State) (summary : Summary) (line : ℕ) → left ≡ only_fault None → Playing start first all left now summary line → line ≡ last_line first all.events
+last_ends start first all left now summary line none h =
+    subst (λ (t : List Numbered). line ≡ last_line first t)
     (sym (ap (λ (t : Told). t.events) (h.parted ∙ ap (behind h.done) none) ∙ append-nil h.done)) h.is_last
 
 -- a fault comes first of what is left, or memory ran out for the event that does
-pub playing_fails : (start : State) (all left : Told) (now : State) (summary : Summary) (line : ℕ) (fault : ScriptFault) → Playing start all left now summary line → NoNext left fault → NotPlayed all fault
-playing_fails start all left now summary line fault h (inl e) =
+pub playing_fails : (start : State) (first : ℕ) (all left : Told) (now : State) (summary : Summary) (line : ℕ) (fault : ScriptFault) → Playing start first all left now summary line → NoNext left fault → NotPlayed all fault
+playing_fails start first all left now summary line fault h (inl e) =
     inl (ap (λ (t : Told). t.fault) (h.parted ∙ ap (behind h.done) e))
-playing_fails start all left now summary line fault h (inr none) = inr (record {
+playing_fails start first all left now summary line fault h (inr none) = inr (record {
   kind = none.kind;
   done = h.done;
   here = none.here;
@@ -91,17 +87,15 @@ shown_by only start last told old new summary (Ok s) played same written = recor
 }
 
 -- or isn't written to its end
-pub stops_by : (only : Option ℕ) (start last : State) (told : Told) (old new : Option (List ℕ)) (summary : Summary) (line : ℕ) (r : Result Summary ScriptFault) → EventsPlayed start told last summary → IsLastLine line told.events → IfErr r (NotWritten only last line old new) → IfErr r (ShowStops only start told old new)
-stops_by only start last told old new summary line (Ok s) played is_last stops = tt
-stops_by only start last told old new summary line (Err fault) played is_last stops = inr (record {
+pub stops_by : (only : Option ℕ) (start last : State) (first : ℕ) (told : Told) (old new : Option (List ℕ)) (summary : Summary) (line : ℕ) (r : Result Summary ScriptFault) → EventsPlayed start told last summary → line ≡ last_line first told.events → IfErr r (NotWritten only last line old new) → IfErr r (ShowStops only start first told old new)
+stops_by only start last first told old new summary line (Ok s) played is_last stops = tt
+stops_by only start last first told old new summary line (Err fault) played is_last stops = inr (record {
   last = last;
   summary = summary;
   played = played;
-  line = line;
-  is_last = is_last;
-  stops = stops;
+  stops = subst (λ (n : ℕ). NotWritten only last n old new fault) is_last stops;
 })
 
 -- not all events come
-pub stops_before : (only : Option ℕ) (start : State) (told : Told) (old : Option (List ℕ)) (fault : ScriptFault) → NotPlayed told fault → ShowStops only start told old old fault
-stops_before only start told old fault stops = inl (record { stops = stops; written = Appends-nil old })
+pub stops_before : (only : Option ℕ) (start : State) (first : ℕ) (told : Told) (old : Option (List ℕ)) (fault : ScriptFault) → NotPlayed told fault → ShowStops only start first told old old fault
+stops_before only start first told old fault stops = inl (record { stops = stops; written = Appends-nil old })

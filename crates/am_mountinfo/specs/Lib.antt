@@ -15,4 +15,4 @@ pub use Paths.{ArePaths, HasOneMore}
 pub use Peers.{ArePeers}
 pub use Printed.{part_text}
 pub use Residents.{AreResidents}
-pub use WorldText.{AllShown, EventsPlayed, IsCut, IsLastLine, IsWritten, NotPlayed, NotWritten, ShowStops, ShownFrom, ShowsInput, StopsShowing, WorldShown, last_line}
+pub use WorldText.{AllShown, EventsPlayed, IsCut, IsWritten, NotPlayed, NotWritten, ShowStops, ShownFrom, ShowsInput, StopsShowing, WorldShown, last_line}

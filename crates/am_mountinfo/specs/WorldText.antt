@@ -1,6 +1,6 @@
 -- How the world after a script is printed: own choice (docs/DECISIONS.md, "A world is printed as
 -- Linux prints mounts").
-use Rattle.std.specs.Prelude.{◌≡◌, ◌⊎◌, ◌<◌, ⊤, ℕ, Bool, List, [], ◌∷◌, ◌++◌, length, take, count_by, Option, None, Some}
+use Rattle.std.specs.Prelude.{◌≡◌, ◌⊎◌, ◌<◌, ℕ, Bool, List, [], ◌∷◌, ◌++◌, length, take, count_by, Option, None, Some}
 use Rattle.std.specs.Io.KnownBytes.{Appends, Consumes, IsAtEnd}
 use Rattle.am_machine.specs.{Event, Answer, Setup, initial_state_of, Step, Run}
 use Rattle.am_state.specs.{Obs}
@@ -82,11 +82,6 @@ abbrev pub last_line : ℕ → List Numbered → ℕ
 last_line line [] = line
 last_line line (asked ∷ others) = last_line asked.line others
 
--- the line is that of the last event, where there is one
-abbrev pub IsLastLine : ℕ → List Numbered → Type 0
-IsLastLine line [] = ⊤
-IsLastLine line (asked ∷ others) = line ≡ last_line asked.line others
-
 -- ---- a script with a world
 
 -- all events come, and the world that they lead to is written, and nothing else
@@ -100,19 +95,18 @@ pub record StopsPlaying (told : Told) (old new : Option (List ℕ)) (fault : Scr
   pub stops : NotPlayed told fault
   pub written : Appends old new []
 
--- all events come, and the world isn't written to its end, which is told at the line of the last
-pub record StopsWriting (only : Option ℕ) (start : State) (told : Told) (old new : Option (List ℕ)) (fault : ScriptFault) : Type 0 where
+-- all events come, and the world isn't written to its end, which is told at the line of the last, or
+-- at that of `events` where there is none
+pub record StopsWriting (only : Option ℕ) (start : State) (events_at : ℕ) (told : Told) (old new : Option (List ℕ)) (fault : ScriptFault) : Type 0 where
   pub last : State
   pub summary : Summary
   pub played : EventsPlayed start told last summary
-  pub line : ℕ
-  pub is_last : IsLastLine line told.events
-  pub stops : NotWritten only last line old new fault
+  pub stops : NotWritten only last (last_line events_at told.events) old new fault
 
 -- not all events come, or the world isn't written to its end
-abbrev pub ShowStops : Option ℕ → State → Told → Option (List ℕ) → Option (List ℕ) → ScriptFault → Type 0
-ShowStops only start told old new fault =
-    StopsPlaying told old new fault ⊎ StopsWriting only start told old new fault
+abbrev pub ShowStops : Option ℕ → State → ℕ → Told → Option (List ℕ) → Option (List ℕ) → ScriptFault → Type 0
+ShowStops only start events_at told old new fault =
+    StopsPlaying told old new fault ⊎ StopsWriting only start events_at told old new fault
 
 -- ---- any script
 
@@ -131,7 +125,9 @@ ShownFrom only (Some opening) told old new summary = AllShown only opening told 
 pub record EventsStop (only : Option ℕ) (script : Script) (old new : Option (List ℕ)) (fault : ScriptFault) : Type 0 where
   pub opening : Setup
   pub begins : script.opening ≡ Some opening
-  pub stops : ShowStops only (initial_state_of opening) script.told old new fault
+  pub line : ℕ
+  pub line_is : script.events_at ≡ Some line
+  pub stops : ShowStops only (initial_state_of opening) line script.told old new fault
 
 -- ---- with a reader
 

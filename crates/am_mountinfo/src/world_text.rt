@@ -7,7 +7,7 @@ ghost use Rattle.am_script.specs.{lines_in, size_in, Puts, events_from};
 ghost use Rattle.am_mountinfo.specs.Mountinfo.{namespace_text, namespaces_text};
 ghost use Rattle.am_mountinfo.specs.Printed.{part_text};
 ghost use Rattle.am_mountinfo.specs.Tables.{AreTables};
-ghost use Rattle.am_mountinfo.specs.WorldText.{IsText, IsWritten, IsCut, NotWritten, EventsPlayed, IsPlayed, NotPlayed, IsLastLine, WorldShown, ShowStops, ShowsInput, StopsShowing};
+ghost use Rattle.am_mountinfo.specs.WorldText.{IsText, IsWritten, IsCut, NotWritten, EventsPlayed, IsPlayed, NotPlayed, WorldShown, ShowStops, ShowsInput, StopsShowing, last_line};
 ghost use Rattle.am_world.specs.Capacity.{state_of};
 
 use crate::mount_line::put_mounts;
@@ -63,7 +63,7 @@ fn show_opened<W: Write>(
         (events_from opened.entry.broke opened.entry.line
         (lines_in (option_copied opened.entry.rest))) (W.contents writer.old)
         (W.contents writer.new)) }
-    ensures err { IfErr result (ShowStops only (state_of opened.entry.world)
+    ensures err { IfErr result (ShowStops only (state_of opened.entry.world) opened.entry.line
         (events_from opened.entry.broke opened.entry.line
         (lines_in (option_copied opened.entry.rest))) (W.contents writer.old)
         (W.contents writer.new)) }
@@ -88,7 +88,7 @@ fn show_opened<W: Write>(
     }
 }
 
-/// How the events went, and the line of the last.
+/// How the events went, and the line of the last, or of `events` where there is none.
 #[derive(Clone, Copy)]
 struct Played {
     summary: Summary,
@@ -108,7 +108,7 @@ fn play_events(
     ensures ok { IfOk result (λ played. EventsPlayed (state_of world.old)
         (events_from broke line (lines_in (option_copied rest.entry)))
         (state_of world.new) played.summary) }
-    ensures last { IfOk result (λ played. IsLastLine played.line
+    ensures last { IfOk result (λ played. played.line ≡ last_line line
         (events_from broke line (lines_in (option_copied rest.entry))).events) }
     ensures err { IfErr result (NotPlayed (events_from broke line
         (lines_in (option_copied rest.entry)))) }

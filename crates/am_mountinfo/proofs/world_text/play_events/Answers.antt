@@ -16,12 +16,12 @@ loop-found-init c = record {
 pub returns-in-Ok-None-clause-ok : goal.returns-in-Ok-None-clause-ok
 returns-in-Ok-None-clause-ok c =
     let none = rw c.in-Ok-None.field-0-is at c.in-Ok-None.ensures.ok in
-    playing_ends _ _ _ _ _ _ none.0 c.loop-found.invariant.going
+    playing_ends _ _ _ _ _ _ _ none.0 c.loop-found.invariant.going
 
 pub returns-in-Ok-None-clause-last : goal.returns-in-Ok-None-clause-last
 returns-in-Ok-None-clause-last c =
     let none = rw c.in-Ok-None.field-0-is at c.in-Ok-None.ensures.ok in
-    last_ends _ _ _ _ _ _ none.0 c.loop-found.invariant.going
+    last_ends _ _ _ _ _ _ _ none.0 c.loop-found.invariant.going
 
 pub loop-found-preserved : goal.loop-found-preserved
 loop-found-preserved c =
@@ -31,7 +31,7 @@ loop-found-preserved c =
     let next : left ≡ told_by (Ok (Some c.in-Ok-Some.found.event)) c.in-Ok-Some.found.line behind = rw c.in-Ok-Some.field-0-is at c.in-Ok-Some.ensures.ok in
     let within = rw c.in-Ok-Some.field-0-is at c.in-Ok-Some.ensures.within in
     let played = c.play_found-behind.ensures.played in
-    let more = playing_more (state_of c.args.world.now) all left behind (state_of c.loop-found.world) (state_of c.play_found-behind.new.world) c.loop-found.summary c.loop-found.number c.in-Ok-Some.found.line c.in-Ok-Some.found.event played.answer played.seen c.play_found-behind.result.refused next c.loop-found.invariant.going played.step played.test in
+    let more = playing_more (state_of c.args.world.now) c.args.line all left behind (state_of c.loop-found.world) (state_of c.play_found-behind.new.world) c.loop-found.summary c.loop-found.number c.in-Ok-Some.found.line c.in-Ok-Some.found.event played.answer played.seen c.play_found-behind.result.refused next c.loop-found.invariant.going played.step played.test in
     let line = c.play_found-behind.ensures.line in
     let rest = c.play_found-behind.ensures.rest in
     record {
@@ -43,4 +43,4 @@ loop-found-preserved c =
 
 pub returns-in-Err-clause-err : goal.returns-in-Err-clause-err
 returns-in-Err-clause-err c =
-    playing_fails _ _ _ _ _ _ c.in-Err.fault c.loop-found.invariant.going c.in-Err.ensures.err
+    playing_fails _ _ _ _ _ _ _ c.in-Err.fault c.loop-found.invariant.going c.in-Err.ensures.err
