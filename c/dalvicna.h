@@ -1,5 +1,6 @@
 /* dalvicna.h: a model of the Linux automounter, kernel and daemon, in a C program: scripts with their
-   answers, traces, pictures and worlds; packets, requests, maps and master maps.
+   answers, traces, pictures and worlds; whether a trace is lawful; packets, requests, maps and master
+   maps.
 
    Link with -ldalvicna (pkg-config dalvicna). Nothing else is to be linked beside: the library takes
    its memory by malloc, realloc and free, and keeps none behind a call.
@@ -88,6 +89,43 @@ uint8_t am_draw(const uint8_t *script, size_t len, uint64_t first, uint64_t last
    all is false, only the mounts of the namespace with this number. */
 uint8_t am_world(const uint8_t *script, size_t len, bool all, uint32_t namespace_number, uint8_t *out,
                  size_t cap, struct am_played *played);
+
+/* ---- Traces ---- */
+
+/* The faults of a text that is to be a trace. */
+enum am_trace_fault {
+    AM_TRACE_BAD_LINE = 1, /* a line that begins with a blank is no observation */
+    AM_TRACE_NO_MEMORY
+};
+
+/* What such a line was expected to go on with. */
+enum am_expected {
+    AM_EXPECTED_OBSERVATION = 1, /* an observation behind two blanks */
+    AM_EXPECTED_NUMBER,
+    AM_EXPECTED_TOKEN,
+    AM_EXPECTED_ATTACH,
+    AM_EXPECTED_FS,
+    AM_EXPECTED_MOUNT,
+    AM_EXPECTED_STATUS,          /* ready or a failure */
+    AM_EXPECTED_PACKET_TYPE,
+    AM_EXPECTED_PACKET_NUMBER,
+    AM_EXPECTED_PACKET_NAME,
+    AM_EXPECTED_KEY,             /* direct or a name */
+    AM_EXPECTED_ENTRY,           /* an entry of the book */
+    AM_EXPECTED_END              /* the end of the line */
+};
+
+/* What is found of a text that is to be a trace. */
+struct am_judged {
+    uint64_t line;     /* of AM_TRACE_BAD_LINE the line, from 1; else 0 */
+    uint64_t column;   /* and the byte at which it doesn't go on as expected, from 1; else 0 */
+    uint32_t expected; /* and what was expected there (enum am_expected); else 0 */
+    uint32_t lawful;   /* 1 where the text is a trace that is lawful, else 0 */
+};
+
+/* Reads a trace, of am_trace or recorded elsewhere, and tells whether it is lawful. 0 where the text is a
+   trace, lawful or not; else the first fault. Lines that don't begin with a blank aren't looked at. */
+uint8_t am_trace_holds(const uint8_t *text, size_t len, struct am_judged *judged);
 
 /* ---- Packets, requests, maps ---- */
 
@@ -216,6 +254,12 @@ AM_AT(am_played, refused, 16);
 AM_AT(am_played, line, 24);
 AM_AT(am_played, fault, 32);
 AM_AT(am_played, detail, 36);
+
+AM_HOLDS(sizeof(struct am_judged) == 24);
+AM_AT(am_judged, line, 0);
+AM_AT(am_judged, column, 8);
+AM_AT(am_judged, expected, 16);
+AM_AT(am_judged, lawful, 20);
 
 AM_HOLDS(sizeof(struct am_packet) == 40);
 AM_AT(am_packet, kind, 0);

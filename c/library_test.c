@@ -95,6 +95,8 @@ static int short_of_room(enum view view)
 static int short_of_memory(void)
 {
     static const char map[] = "home -ro srv:/export/&\n", master[] = "/auto auto.home --timeout=60\n";
+    static const char trace[] = "  mounted 3 4 5\n  unmounted 4 5\n  died\n";
+    struct am_judged judged;
     struct am_entry entry;
     struct am_master_line told;
     uint64_t line = 0;
@@ -104,6 +106,8 @@ static int short_of_memory(void)
     holds &= fault == 0 ? entry.bytes == 17 : fault == AM_MAP_NO_MEMORY;
     fault = am_master_line((const uint8_t *)master, sizeof master - 1, 0, out, sizeof out, &told, &line);
     holds &= fault == 0 ? told.timeout == 60 : fault == AM_MASTER_NO_MEMORY;
+    fault = am_trace_holds((const uint8_t *)trace, sizeof trace - 1, &judged);
+    holds &= fault == 0 ? judged.lawful == 1 : fault == AM_TRACE_NO_MEMORY && judged.line == 0;
     for (enum view view = PLAY; view <= WORLD; view++)
         holds &= short_of_room(view);
     return !holds;
@@ -359,6 +363,67 @@ static void many_events(size_t lines)
     IS(am_world(text, len, true, 0, out, sizeof out, &played) == 0 && played.lines == lines);
 }
 
+/* ---- Traces ---- */
+
+static uint8_t judges(const char *of, struct am_judged *judged)
+{
+    memset(judged, CANARY, sizeof *judged);
+    return am_trace_holds((const uint8_t *)of, strlen(of), judged);
+}
+
+static int is_lawful(const char *of, uint32_t lawful)
+{
+    struct am_judged judged;
+    return judges(of, &judged) == 0 && judged.lawful == lawful && judged.line == 0 && judged.column == 0
+        && judged.expected == 0;
+}
+
+/* The text is no trace: this line doesn't go on so at this byte. */
+static int misses(const char *of, uint64_t line, uint64_t column, uint32_t expected)
+{
+    struct am_judged judged;
+    return judges(of, &judged) == AM_TRACE_BAD_LINE && judged.lawful == 0 && judged.line == line
+        && judged.column == column && judged.expected == expected;
+}
+
+#define QUEUED "  queued 1 attach 1 missing-indirect dev 2 ino 1 uid 0 gid 0 pid 7 tgid 7 name home\n"
+
+static void traces(void)
+{
+    struct am_judged judged;
+    IS(is_lawful("", 1) && is_lawful("1: no event\n= no answer", 1));
+    IS(is_lawful(QUEUED "  waits 7 token 1\n", 1) && is_lawful(QUEUED "# odd\n  waits 7 token 1", 1));
+    IS(is_lawful("  waits 7 token 1\n", 0) && is_lawful(QUEUED QUEUED, 0));
+    IS(is_lawful(QUEUED "  answered 1 ready\n", 0));
+    IS(am_trace_holds(NULL, 0, &judged) == 0 && judged.lawful == 1);
+    IS(misses(" died\n", 1, 1, AM_EXPECTED_OBSERVATION) && misses("\n  die\n", 2, 3, AM_EXPECTED_OBSERVATION));
+    IS(misses("  died \n", 1, 7, AM_EXPECTED_END) && misses("  waits x\n", 1, 9, AM_EXPECTED_NUMBER));
+    IS(misses("a\nb\n  waits 7 token x\n", 3, 17, AM_EXPECTED_TOKEN));
+    IS(misses("  reattached 2 attach 01\n", 1, 23, AM_EXPECTED_ATTACH) && misses("  catatonic\n", 1, 12, AM_EXPECTED_FS));
+    IS(misses("  mounted 3 x\n", 1, 13, AM_EXPECTED_MOUNT) && misses("  answered 1 fail 1\n", 1, 13, AM_EXPECTED_STATUS));
+    IS(misses("  queued 1 attach 1 missing\n", 1, 20, AM_EXPECTED_PACKET_TYPE));
+    IS(misses("  queued 1 attach 1 missing-direct dev 4294967296\n", 1, 40, AM_EXPECTED_PACKET_NUMBER));
+    IS(misses("  passed 7 fs 2 name a/b\n", 1, 22, AM_EXPECTED_KEY) && misses("  recorded nothing\n", 1, 11, AM_EXPECTED_ENTRY));
+}
+
+/* What am_trace writes of a script is a lawful trace; with the last observation said twice that must not be
+   said so, it isn't. */
+static void traces_of_scripts(void)
+{
+    struct am_played played;
+    struct am_judged judged;
+    IS(am_trace((const uint8_t *)script, sizeof script - 1, out, sizeof out, &played) == 0);
+    IS(am_trace_holds(out, played.bytes, &judged) == 0 && judged.lawful == 1);
+    uint8_t *queued = memmem(out, played.bytes, "  queued", 8);
+    IS(queued != NULL);
+    size_t line = (size_t)((uint8_t *)memchr(queued, '\n', 400) + 1 - queued);
+    memcpy(out + played.bytes, queued, line);
+    IS(am_trace_holds(out, played.bytes + line, &judged) == 0 && judged.lawful == 0);
+    for (size_t end = 0; end <= played.bytes; end++)
+        if (am_trace_holds(out, end, &judged) == 0 && judged.expected != 0)
+            failed++, printf("failed: a trace of %zu bytes\n", end);
+}
+
 /* ---- The examples ---- */
 
 static size_t file_of(const char *name, const char *end, uint8_t *to, size_t cap)
@@ -447,11 +512,13 @@ static void odd_bytes(int rounds)
         struct am_entry entry;
         struct am_master_line told;
         struct am_packet packet;
+        struct am_judged judged;
         struct am_played played;
         uint64_t line = 0;
         IS(am_map_look_up(text, len, round & 1, text, len / 2, out, 64, &entry, &line) <= AM_MAP_NO_MEMORY);
         IS(am_master_line(text, len, 0, out, 64, &told, &line) <= AM_MASTER_NO_MEMORY);
         IS(am_packet_read(text, round & 1 ? 304 : 300, &packet) <= AM_PACKET_BAD_NAME);
+        IS(am_trace_holds(text, len, &judged) <= AM_TRACE_BAD_LINE && judged.lawful <= 1);
         for (enum view view = PLAY; view <= WORLD; view++) {
             uint8_t fault = view_of(view, text, len, out, 64, &played);
             IS(fault <= AM_SCRIPT_LONG_LINE && fault == played.fault && (fault > 0) == (played.line > 0));
@@ -516,6 +583,8 @@ int main(int words_in, char **word)
         maps();
         masters();
         scripts();
+        traces();
+        traces_of_scripts();
         words();
         odd_bytes(rounds);
         many_lines(500 * (size_t)rounds);

@@ -1,5 +1,5 @@
 """A model of the Linux automounter, kernel and daemon: scripts with their answers, traces, pictures and
-worlds; packets, requests, maps and master maps.
+worlds; whether a trace is lawful; packets, requests, maps and master maps.
 
     >>> import dalvicna
     >>> dalvicna.play("events\\nmount 0 /a\\nkind 0 /a\\n")
@@ -23,8 +23,8 @@ from dataclasses import dataclass
 from typing import Callable, List, Optional, Tuple, Union
 
 __all__ = ["ENCODING", "Entry", "Fault", "MapFault", "MasterFault", "MasterLine", "Packet", "PacketFault", "PacketKind",
-           "Played", "Request", "ScriptFault", "draw", "error_name", "look_up", "master", "packet", "play", "played",
-           "request_number", "trace", "world_text"]
+           "Played", "Request", "ScriptFault", "TraceFault", "draw", "error_name", "look_up", "master", "packet", "play",
+           "played", "request_number", "trace", "trace_holds", "world_text"]
 
 Text = Union[str, bytes]
 
@@ -92,6 +92,29 @@ class PacketFault(Fault):
              ("BadName", "a name without slash and zero byte other than . and .. in an indirect packet"))
 
 
+class TraceFault(Fault):
+    """A text is no trace.
+
+    column  the byte of the line at which it doesn't go on as expected, from 1, or None
+    """
+
+    WORDS = (("BadLine", "a line of a trace"), ("NoMemory", "memory"))
+    #: What is expected in a line, by its number from 1.
+    EXPECTED = ("an observation behind two blanks", "a number", "a token", "an attachment", "a file system", "a mount",
+                "ready or a failure", "the type of a packet", "a number of the packet", "the name in the packet",
+                "direct or a name", "an entry of the book", "the end of the line")
+
+    def __init__(self, number: int, line: Optional[int], column: Optional[int], expected: int) -> None:
+        super().__init__(number, line)
+        self.column, self.part = column, expected
+        if expected:
+            self.expected = self.EXPECTED[expected - 1]
+            self.args = (f"line {line}, column {column}: {self.word}: expected {self.expected}",)
+
+    def __reduce__(self) -> tuple:
+        return type(self), (self.number, self.line, self.column, self.part)
+
+
 class ScriptFault(Fault):
     """A script isn't played to its end.
 
@@ -131,6 +154,10 @@ class _Played(ctypes.Structure):
                 ("detail", _U32)]
 
 
+class _Judged(ctypes.Structure):
+    _fields_ = [("line", _U64C), ("column", _U64C), ("expected", _U32), ("lawful", _U32)]
+
+
 class _Packet(ctypes.Structure):
     _fields_ = [("kind", _U32), ("token", _U32), ("dev", _U32), ("uid", _U32), ("gid", _U32), ("pid", _U32),
                 ("tgid", _U32), ("name_len", _U32), ("ino", _U64C)]
@@ -154,6 +181,7 @@ _CALLS = {
     "am_trace": (_U8, _TEXT + _OUT + _PLAYED),
     "am_draw": (_U8, _TEXT + (_U64C, _U64C) + _OUT + _PLAYED),
     "am_world": (_U8, _TEXT + (ctypes.c_bool, _U32) + _OUT + _PLAYED),
+    "am_trace_holds": (_U8, _TEXT + (ctypes.POINTER(_Judged),)),
     "am_packet_read": (_U8, _TEXT + (ctypes.POINTER(_Packet),)),
     "am_packet_write": (_U8, (ctypes.POINTER(_Packet),) + _TEXT + _OUT),
     "am_request_number": (_U32, (_U32,)),
@@ -269,6 +297,18 @@ def world_text(script: Text, namespace: Optional[int] = None) -> str:
     what else there is in comments, or of one alone. Raises ScriptFault."""
     number = 0 if namespace is None else _number(namespace, 2**32 - 1, "a namespace")
     return _script("am_world", script, 16384, namespace is None, number).whole()
+
+
+# ---- Traces
+
+def trace_holds(text: Text) -> bool:
+    """Whether a trace is lawful, be it of `trace` or recorded elsewhere (docs/FORMATS.md, "Read back"). Raises
+    TraceFault where a line that begins with a blank is no observation."""
+    text, told = _bytes(text), _Judged()
+    fault = _library.am_trace_holds(text, len(text), ctypes.byref(told))
+    if fault:
+        raise TraceFault(fault, told.line or None, told.column or None, told.expected)
+    return told.lawful == 1
 
 
 # ---- Packets and requests

@@ -111,6 +111,30 @@ class Scripts(unittest.TestCase):
         self.assertEqual(found, [["fs 2 attach 1 mount 2", "wait 1"]] * 800)
 
 
+class Traces(unittest.TestCase):
+    QUEUED = "  queued 1 attach 1 missing-indirect dev 2 ino 1 uid 0 gid 0 pid 7 tgid 7 name home\n"
+
+    def test_traces_of_examples_are_lawful(self):
+        for path in sorted(glob.glob(f"{TOP}/examples/*.trace")):
+            with self.subTest(path):
+                self.assertTrue(dalvicna.trace_holds(bytes_of(path)))
+
+    def test_traces_that_are_lawful_and_such_that_are_not(self):
+        self.assertTrue(dalvicna.trace_holds("seen elsewhere\n" + self.QUEUED + "  waits 7 token 1\n"))
+        self.assertFalse(dalvicna.trace_holds("  waits 7 token 1\n"))
+        self.assertFalse(dalvicna.trace_holds(self.QUEUED * 2))
+        self.assertTrue(dalvicna.trace_holds(""))
+
+    def test_a_line_that_is_no_observation(self):
+        with self.assertRaises(dalvicna.TraceFault) as raised:
+            dalvicna.trace_holds("a\nb\n  waits 7 token x\n")
+        fault = raised.exception
+        self.assertEqual((fault.word, fault.line, fault.column, fault.expected), ("BadLine", 3, 17, "a token"))
+        self.assertEqual(str(fault), "line 3, column 17: BadLine: expected a token")
+        again = pickle.loads(pickle.dumps(fault))
+        self.assertEqual((str(again), again.column), (str(fault), 17))
+
+
 class Packets(unittest.TestCase):
     PACKET = dalvicna.Packet(dalvicna.PacketKind.MISSING_INDIRECT, 17, 2, 2**40, 3, 4, 5, 6, b"home")
 

@@ -247,19 +247,21 @@ def structs_of_header():
     return found
 
 
-# Where the numbers of an enum stand, and what its names begin with.
-NUMBERS = (("am_script_fault", "AM_SCRIPT_", "am_script", "kind_number"),
-           ("am_packet_fault", "AM_PACKET_", "am_wire", "fault_number"),
-           ("am_map_fault", "AM_MAP_", "am_map", "fault_number"),
-           ("am_master_fault", "AM_MASTER_", "am_master", "fault_number"))
+# What the names of an enum begin with, and where its numbers stand.
+NUMBERS = (("am_script_fault", "AM_SCRIPT_", "am_script/specs/Fault.antt", "kind_number"),
+           ("am_trace_fault", "AM_TRACE_", "am_c/specs/Traces.antt", "fault_number"),
+           ("am_expected", "AM_EXPECTED_", "am_c/specs/Traces.antt", "expected_number"),
+           ("am_packet_fault", "AM_PACKET_", "am_wire/specs/Fault.antt", "fault_number"),
+           ("am_map_fault", "AM_MAP_", "am_map/specs/Fault.antt", "fault_number"),
+           ("am_master_fault", "AM_MASTER_", "am_master/specs/Fault.antt", "fault_number"))
 
 
 def faults_of_numbers():
     """Each difference between an enum and the definition of its numbers."""
-    for enum, start, crate, word in NUMBERS:
+    for enum, start, path, word in NUMBERS:
         body = bare(re.search(rf"^enum {enum} \{{(.*?)\}};", text_of(HEADER), re.S | re.M)[1])
         theirs = [it.partition("=")[0].strip() for it in body.split(",")]
-        definition = text_of(f"{TOP}/crates/{crate}/specs/Fault.antt")
+        definition = text_of(f"{TOP}/crates/{path}")
         found = re.findall(rf"^{word} \(?(\w+)[^=]*= (\d+)$", definition, re.M)
         ours = [start + snake(name).upper() for name, _ in sorted(found, key=lambda it: int(it[1]))]
         if ours != theirs:

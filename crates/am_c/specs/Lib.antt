@@ -5,3 +5,4 @@ pub mod MasterLines
 pub mod Packets
 pub mod Requests
 pub mod Scripts
+pub mod Traces

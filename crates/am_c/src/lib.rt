@@ -8,3 +8,4 @@ pub mod master_line;
 pub mod packet;
 pub mod request;
 pub mod script;
+pub mod trace;
