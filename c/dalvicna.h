@@ -1,8 +1,9 @@
 /* dalvicna.h: a model of the Linux automounter, kernel and daemon, in a C program: scripts with their
-   answers, traces, pictures and worlds; packets, requests, maps and master maps.
+   answers, traces, pictures and worlds; whether a trace is lawful; packets, requests, maps and master
+   maps.
 
    Link with -ldalvicna (pkg-config dalvicna). Nothing else is to be linked beside: the library takes
-   its memory by malloc, realloc and free, and keeps none behind a call.
+   its memory by malloc, realloc and free, and keeps none behind a call but that of a struct am_world.
 
    Texts and buffers
      A text is a pointer and how many bytes it has; it needs no zero byte at its end. A pointer may be
@@ -17,9 +18,10 @@
      program: where there is no memory, that is a fault too.
 
    Threads
-     There is no state between calls: any thread may make any call at any time, as long as no two
-     calls share a buffer or struct that one of them writes. No call may be made in a signal handler,
-     or in the forked child of a program with threads.
+     The only state between calls is that of a struct am_world. All calls on one such world are made by
+     one thread, one at a time; two worlds have nothing to do with one another. Else any thread may make
+     any call at any time, as long as no two calls share a buffer or struct that one of them writes. No
+     call may be made in a signal handler, or in the forked child of a program with threads.
 
    Formats of scripts, traces, pictures, worlds, packets, maps and master maps, and the numbers of all
    faults: docs/FORMATS.md of the repository. That each call does as it says here is proved, for the machine
@@ -88,6 +90,84 @@ uint8_t am_draw(const uint8_t *script, size_t len, uint64_t first, uint64_t last
    all is false, only the mounts of the namespace with this number. */
 uint8_t am_world(const uint8_t *script, size_t len, bool all, uint32_t namespace_number, uint8_t *out,
                  size_t cap, struct am_played *played);
+
+/* ---- A world from event to event ---- */
+
+/* A world that is asked event by event. It begins as AM_WORLD_NONE; the program writes neither field. A
+   copy of the struct is the same world, of which only the latest is handed in. */
+struct am_world {
+    uint64_t held; /* 1 where there is a world, else 0 */
+    void *kept;
+};
+
+#define AM_WORLD_NONE { 0, NULL }
+
+/* What these calls return beside the faults of a script; then nothing is touched. */
+#define AM_NO_WORLD 254  /* the struct has no world */
+#define AM_HAS_WORLD 255 /* the struct has a world already */
+
+/* Begins the world of a head, which is all of a script up to its line `events`. 0, or the fault, as
+   *played tells it, and there is no world: AM_SCRIPT_BAD_SECTION with line 0 where the text ends before
+   `events`, and AM_SCRIPT_BAD_EVENT where an event stands behind it. am_free lets the world go. */
+uint8_t am_new(const uint8_t *head, size_t len, struct am_world *world, struct am_played *played);
+
+/* Plays one event, a line of a script with no line feed, and writes the line of its answer, which ends
+   with a line feed: bytes is its length, lines 1, and refused 1 where nothing was done. A blank line and a
+   comment have no answer: all three are 0. A line that is no event is a fault, and the world as it was.
+   AM_SCRIPT_WRITE_FAILED is no memory for the answer of an event that was played: am_answer has it. */
+uint8_t am_line(struct am_world *world, const uint8_t *line, size_t len, uint8_t *out, size_t cap,
+                struct am_played *played);
+
+/* Writes the line of the last answer once more; nothing before the first. */
+uint8_t am_answer(struct am_world *world, uint8_t *out, size_t cap, struct am_played *played);
+
+/* Writes what the last event showed: the lines of a trace that tell its observations. */
+uint8_t am_observed(struct am_world *world, uint8_t *out, size_t cap, struct am_played *played);
+
+/* Writes the world as it is, as am_world writes the one that a script leaves. Of these three the only
+   fault is that there is no memory. */
+uint8_t am_text(struct am_world *world, bool all, uint32_t namespace_number, uint8_t *out, size_t cap,
+                struct am_played *played);
+
+/* Lets a world go, if there is one. */
+void am_free(struct am_world *world);
+
+/* ---- Traces ---- */
+
+/* The faults of a text that is to be a trace. */
+enum am_trace_fault {
+    AM_TRACE_BAD_LINE = 1, /* a line that begins with a blank is no observation */
+    AM_TRACE_NO_MEMORY
+};
+
+/* What such a line was expected to go on with. */
+enum am_expected {
+    AM_EXPECTED_OBSERVATION = 1, /* an observation behind two blanks */
+    AM_EXPECTED_NUMBER,
+    AM_EXPECTED_TOKEN,
+    AM_EXPECTED_ATTACH,
+    AM_EXPECTED_FS,
+    AM_EXPECTED_MOUNT,
+    AM_EXPECTED_STATUS,          /* ready or a failure */
+    AM_EXPECTED_PACKET_TYPE,
+    AM_EXPECTED_PACKET_NUMBER,
+    AM_EXPECTED_PACKET_NAME,
+    AM_EXPECTED_KEY,             /* direct or a name */
+    AM_EXPECTED_ENTRY,           /* an entry of the book */
+    AM_EXPECTED_END              /* the end of the line */
+};
+
+/* What is found of a text that is to be a trace. */
+struct am_judged {
+    uint64_t line;     /* of AM_TRACE_BAD_LINE the line, from 1; else 0 */
+    uint64_t column;   /* and the byte at which it doesn't go on as expected, from 1; else 0 */
+    uint32_t expected; /* and what was expected there (enum am_expected); else 0 */
+    uint32_t lawful;   /* 1 where the text is a trace that is lawful, else 0 */
+};
+
+/* Reads a trace, of am_trace or recorded elsewhere, and tells whether it is lawful. 0 where the text is a
+   trace, lawful or not; else the first fault. Lines that don't begin with a blank aren't looked at. */
+uint8_t am_trace_holds(const uint8_t *text, size_t len, struct am_judged *judged);
 
 /* ---- Packets, requests, maps ---- */
 
@@ -216,6 +296,16 @@ AM_AT(am_played, refused, 16);
 AM_AT(am_played, line, 24);
 AM_AT(am_played, fault, 32);
 AM_AT(am_played, detail, 36);
+
+AM_HOLDS(sizeof(struct am_world) == 16);
+AM_AT(am_world, held, 0);
+AM_AT(am_world, kept, 8);
+
+AM_HOLDS(sizeof(struct am_judged) == 24);
+AM_AT(am_judged, line, 0);
+AM_AT(am_judged, column, 8);
+AM_AT(am_judged, expected, 16);
+AM_AT(am_judged, lawful, 20);
 
 AM_HOLDS(sizeof(struct am_packet) == 40);
 AM_AT(am_packet, kind, 0);

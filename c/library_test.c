@@ -11,6 +11,7 @@
 #define _GNU_SOURCE
 #include <linux/auto_dev-ioctl.h>
 #include <linux/auto_fs.h>
+#include <malloc.h>
 #include <pthread.h>
 #include <stdio.h>
 #include <stdlib.h>
@@ -92,9 +93,52 @@ static int short_of_room(enum view view)
     return holds && (view == PICTURE || memcmp(written[0], written[1], played[other].bytes) == 0);
 }
 
+/* A world's calls with memory refused once: what is told so is had by the next try. */
+static int short_of_a_world(void)
+{
+    static uint8_t whole[OUT], mine[OUT];
+    struct am_played played;
+    struct am_world world = AM_WORLD_NONE;
+    const char *line = script + sizeof HEAD - 1;
+    size_t bytes = 0;
+    int refused = 0, holds = 1;
+    if (am_new((const uint8_t *)script, sizeof HEAD - 1, &world, &played) != 0) {
+        holds &= played.fault == AM_SCRIPT_NO_MEMORY && world.held == 0;
+        holds &= am_new((const uint8_t *)script, sizeof HEAD - 1, &world, &played) == 0;
+    }
+    while (*line) {
+        size_t size = (size_t)(strchr(line, '\n') - line);
+        uint8_t fault = am_line(&world, (const uint8_t *)line, size, mine + bytes, sizeof mine - bytes, &played);
+        if (fault == AM_SCRIPT_WRITE_FAILED) {
+            holds &= played.line == 1 && played.bytes == 0;
+            fault = am_answer(&world, mine + bytes, sizeof mine - bytes, &played);
+        }
+        holds &= fault == 0 && played.lines == 1;
+        if (played.refused) {
+            holds &= !refused++ && played.bytes == 7 && memcmp(mine + bytes, "err 10\n", 7) == 0;
+            continue;
+        }
+        bytes += played.bytes;
+        line += size + 1;
+    }
+    uint8_t fault = am_observed(&world, whole, sizeof whole, &played);
+    holds &= fault == 0 || (fault == AM_SCRIPT_WRITE_FAILED && played.line == 0);
+    holds &= am_observed(&world, whole, sizeof whole, &played) == 0 || fault == 0;
+    fault = am_text(&world, true, 0, whole, sizeof whole, &played);
+    holds &= fault == 0 || fault == AM_SCRIPT_WRITE_FAILED || fault == AM_SCRIPT_NO_MEMORY;
+    holds &= am_text(&world, true, 0, whole, sizeof whole, &played) == 0 || fault == 0;
+    am_free(&world);
+    fault = am_play((const uint8_t *)script, sizeof script - 1, whole, sizeof whole, &played);
+    if (!is_whole(fault, &played))
+        fault = am_play((const uint8_t *)script, sizeof script - 1, whole, sizeof whole, &played);
+    return holds && fault == 0 && played.bytes == bytes && memcmp(mine, whole, bytes) == 0;
+}
+
 static int short_of_memory(void)
 {
     static const char map[] = "home -ro srv:/export/&\n", master[] = "/auto auto.home --timeout=60\n";
+    static const char trace[] = "  mounted 3 4 5\n  unmounted 4 5\n  died\n";
+    struct am_judged judged;
     struct am_entry entry;
     struct am_master_line told;
     uint64_t line = 0;
@@ -104,8 +148,11 @@ static int short_of_memory(void)
     holds &= fault == 0 ? entry.bytes == 17 : fault == AM_MAP_NO_MEMORY;
     fault = am_master_line((const uint8_t *)master, sizeof master - 1, 0, out, sizeof out, &told, &line);
     holds &= fault == 0 ? told.timeout == 60 : fault == AM_MASTER_NO_MEMORY;
+    fault = am_trace_holds((const uint8_t *)trace, sizeof trace - 1, &judged);
+    holds &= fault == 0 ? judged.lawful == 1 : fault == AM_TRACE_NO_MEMORY && judged.line == 0;
     for (enum view view = PLAY; view <= WORLD; view++)
         holds &= short_of_room(view);
+    holds &= short_of_a_world();
     return !holds;
 }
 
@@ -359,6 +406,232 @@ static void many_events(size_t lines)
     IS(am_world(text, len, true, 0, out, sizeof out, &played) == 0 && played.lines == lines);
 }
 
+/* ---- Traces ---- */
+
+static uint8_t judges(const char *of, struct am_judged *judged)
+{
+    memset(judged, CANARY, sizeof *judged);
+    return am_trace_holds((const uint8_t *)of, strlen(of), judged);
+}
+
+static int is_lawful(const char *of, uint32_t lawful)
+{
+    struct am_judged judged;
+    return judges(of, &judged) == 0 && judged.lawful == lawful && judged.line == 0 && judged.column == 0
+        && judged.expected == 0;
+}
+
+/* The text is no trace: this line doesn't go on so at this byte. */
+static int misses(const char *of, uint64_t line, uint64_t column, uint32_t expected)
+{
+    struct am_judged judged;
+    return judges(of, &judged) == AM_TRACE_BAD_LINE && judged.lawful == 0 && judged.line == line
+        && judged.column == column && judged.expected == expected;
+}
+
+#define QUEUED "  queued 1 attach 1 missing-indirect dev 2 ino 1 uid 0 gid 0 pid 7 tgid 7 name home\n"
+
+static void traces(void)
+{
+    struct am_judged judged;
+    IS(is_lawful("", 1) && is_lawful("1: no event\n= no answer", 1));
+    IS(is_lawful(QUEUED "  waits 7 token 1\n", 1) && is_lawful(QUEUED "# odd\n  waits 7 token 1", 1));
+    IS(is_lawful("  waits 7 token 1\n", 0) && is_lawful(QUEUED QUEUED, 0));
+    IS(is_lawful(QUEUED "  answered 1 ready\n", 0));
+    IS(am_trace_holds(NULL, 0, &judged) == 0 && judged.lawful == 1);
+    IS(misses(" died\n", 1, 1, AM_EXPECTED_OBSERVATION) && misses("\n  die\n", 2, 3, AM_EXPECTED_OBSERVATION));
+    IS(misses("  died \n", 1, 7, AM_EXPECTED_END) && misses("  waits x\n", 1, 9, AM_EXPECTED_NUMBER));
+    IS(misses("a\nb\n  waits 7 token x\n", 3, 17, AM_EXPECTED_TOKEN));
+    IS(misses("  reattached 2 attach 01\n", 1, 23, AM_EXPECTED_ATTACH) && misses("  catatonic\n", 1, 12, AM_EXPECTED_FS));
+    IS(misses("  mounted 3 x\n", 1, 13, AM_EXPECTED_MOUNT) && misses("  answered 1 fail 1\n", 1, 13, AM_EXPECTED_STATUS));
+    IS(misses("  queued 1 attach 1 missing\n", 1, 20, AM_EXPECTED_PACKET_TYPE));
+    IS(misses("  queued 1 attach 1 missing-direct dev 4294967296\n", 1, 40, AM_EXPECTED_PACKET_NUMBER));
+    IS(misses("  passed 7 fs 2 name a/b\n", 1, 22, AM_EXPECTED_KEY) && misses("  recorded nothing\n", 1, 11, AM_EXPECTED_ENTRY));
+}
+
+/* What am_trace writes of a script is a lawful trace; with the last observation said twice that must not be
+   said so, it isn't. */
+static void traces_of_scripts(void)
+{
+    struct am_played played;
+    struct am_judged judged;
+    IS(am_trace((const uint8_t *)script, sizeof script - 1, out, sizeof out, &played) == 0);
+    IS(am_trace_holds(out, played.bytes, &judged) == 0 && judged.lawful == 1);
+    uint8_t *queued = memmem(out, played.bytes, "  queued", 8);
+    IS(queued != NULL);
+    size_t line = (size_t)((uint8_t *)memchr(queued, '\n', 400) + 1 - queued);
+    memcpy(out + played.bytes, queued, line);
+    IS(am_trace_holds(out, played.bytes + line, &judged) == 0 && judged.lawful == 0);
+    for (size_t end = 0; end <= played.bytes; end++)
+        if (am_trace_holds(out, end, &judged) == 0 && judged.expected != 0)
+            failed++, printf("failed: a trace of %zu bytes\n", end);
+}
+
+/* ---- Worlds ---- */
+
+static uint8_t begins(const char *head, struct am_world *world, struct am_played *played)
+{
+    memset(played, CANARY, sizeof *played);
+    return am_new((const uint8_t *)head, strlen(head), world, played);
+}
+
+static uint8_t asks(struct am_world *world, const char *line, struct am_played *played)
+{
+    memset(out, CANARY, 256);
+    memset(played, CANARY, sizeof *played);
+    return am_line(world, (const uint8_t *)line, strlen(line), out, 128, played);
+}
+
+static int answers(struct am_world *world, const char *line, const char *answer)
+{
+    struct am_played played;
+    size_t size = strlen(answer);
+    return asks(world, line, &played) == 0 && played.bytes == size && memcmp(out, answer, size) == 0
+        && all_are(out + size, 256 - size, CANARY) && played.lines == (size > 0) && played.fault == 0 && played.line == 0
+        && played.refused == (size > 3 && memcmp(answer, "err", 3) == 0);
+}
+
+/* No world begins of this head, which has this fault on this line. */
+static int begins_no(const char *head, uint32_t fault, uint32_t detail, uint64_t line)
+{
+    struct am_played played;
+    struct am_world world = AM_WORLD_NONE;
+    return begins(head, &world, &played) == fault && played.fault == fault && played.detail == detail
+        && played.line == line && played.bytes == 0 && world.held == 0;
+}
+
+static void heads(void)
+{
+    struct am_played played;
+    struct am_world world = AM_WORLD_NONE;
+    IS(begins("\n# none\n events\n\n# nothing", &world, &played) == 0 && world.held == 1);
+    IS(all_are((uint8_t *)&played, sizeof played, 0));
+    am_free(&world);
+    am_free(&world);
+    IS(world.held == 0);
+    IS(begins_no("", AM_SCRIPT_BAD_SECTION, 0, 0) && begins_no("limits 1 1 1\n", AM_SCRIPT_BAD_SECTION, 0, 0));
+    IS(begins_no("walk\n", AM_SCRIPT_BAD_SECTION, 0, 1) && begins_no("\nmaster\n/a x\n", AM_SCRIPT_BAD_SECTION, 0, 2));
+    IS(begins_no("limits 0 1 1\n", AM_SCRIPT_BAD_LIMITS, 0, 1));
+    IS(begins_no("master\n/a x\n/a y\nend\n", AM_SCRIPT_BAD_MASTER, AM_MASTER_TWICE, 3));
+    IS(begins_no("master\n/a x\nend\nmap x\nk\nend\nevents\n", AM_SCRIPT_BAD_MAP, AM_MAP_NO_LOCATION, 5));
+    IS(begins_no("master\n/a x\nend\nevents\n", AM_SCRIPT_NO_SUCH_MAP, 0, 2));
+    IS(begins_no("events\n\nleave 7\nleave\n", AM_SCRIPT_BAD_EVENT, 0, 3) && begins_no("events\nleave\n", AM_SCRIPT_BAD_EVENT, 0, 2));
+}
+
+static void no_worlds(void)
+{
+    struct am_played played, before;
+    struct am_world world = AM_WORLD_NONE, held;
+    memset(&before, CANARY, sizeof before);
+    IS(asks(&world, "leave 7", &played) == AM_NO_WORLD && all_are(out, 256, CANARY));
+    IS(memcmp(&played, &before, sizeof played) == 0);
+    IS(am_answer(&world, out, 128, &played) == AM_NO_WORLD && am_observed(&world, out, 128, &played) == AM_NO_WORLD);
+    IS(am_text(&world, true, 0, out, 128, &played) == AM_NO_WORLD && all_are(out, 256, CANARY));
+    IS(memcmp(&played, &before, sizeof played) == 0 && world.held == 0);
+    IS(begins(HEAD, &world, &played) == 0);
+    held = world;
+    IS(begins("events\n", &world, &played) == AM_HAS_WORLD && memcmp(&played, &before, sizeof played) == 0);
+    IS(memcmp(&world, &held, sizeof world) == 0 && answers(&world, "attach /auto", "fs 2 attach 1 mount 2\n"));
+    am_free(&world);
+}
+
+static void one_world(void)
+{
+    struct am_played played;
+    struct am_world world = AM_WORLD_NONE;
+    IS(begins(HEAD, &world, &played) == 0);
+    IS(am_answer(&world, out, 128, &played) == 0 && all_are((uint8_t *)&played, sizeof played, 0));
+    IS(am_observed(&world, out, 128, &played) == 0 && all_are((uint8_t *)&played, sizeof played, 0));
+    IS(answers(&world, "attach /auto", "fs 2 attach 1 mount 2\n") && answers(&world, " leave  7 ", "err 5\n"));
+    IS(answers(&world, "", "") && answers(&world, "# a comment", "") && answers(&world, "leave 8", "err 5\n"));
+    for (size_t cap = 0; cap <= 8; cap++) {
+        size_t part = cap < 6 ? cap : 6;
+        memset(out, CANARY, 64);
+        IS(am_answer(&world, out, cap, &played) == 0 && played.bytes == 6 && played.lines == 1 && played.refused == 1);
+        IS(memcmp(out, "err 5\n", part) == 0 && all_are(out + part, 64 - part, CANARY));
+    }
+    IS(answers(&world, "walk 7 0 /auto/home 100 room", "wait 1\n"));
+    IS(am_observed(&world, out, 24, &played) == 0 && played.bytes > 24 && memcmp(out, "  queued 1 attach 1 miss", 24) == 0);
+    uint64_t seen = played.bytes;
+    IS(asks(&world, "walk", &played) == AM_SCRIPT_BAD_EVENT && played.line == 1 && played.fault == AM_SCRIPT_BAD_EVENT);
+    IS(asks(&world, "leave 7\n", &played) == AM_SCRIPT_BAD_EVENT && asks(&world, "\n", &played) == AM_SCRIPT_BAD_EVENT);
+    IS(played.bytes == 0 && played.lines == 0 && all_are(out, 256, CANARY));
+    memset(text, 'x', 8193);
+    IS(am_line(&world, text, 8193, out, 128, &played) == AM_SCRIPT_LONG_LINE && played.line == 1);
+    IS(am_line(&world, NULL, 0, NULL, 0, &played) == 0 && played.lines == 0);
+    IS(am_observed(&world, NULL, 0, &played) == 0 && played.bytes == seen);
+    IS(am_answer(&world, out, 128, &played) == 0 && memcmp(out, "wait 1\n", 7) == 0);
+    am_free(&world);
+}
+
+/* A script is played on a world event by event: its answers, its observations and its world are those of the
+   whole script. */
+static int plays_by_event(const uint8_t *whole, size_t size)
+{
+    static uint8_t mine[1 << 18], seen[1 << 22], trace[1 << 22];
+    struct am_played played;
+    struct am_world world = AM_WORLD_NONE;
+    const uint8_t *line = memmem(whole, size, "\nevents\n", 8), *end = whole + size;
+    size_t bytes = 0, shown = 0, kept = 0;
+    line = line ? line + 8 : whole + 7;
+    int holds = am_new(whole, (size_t)(line - whole), &world, &played) == 0;
+    while (holds && line < end) {
+        const uint8_t *stop = memchr(line, '\n', (size_t)(end - line));
+        stop = stop ? stop : end;
+        holds &= am_line(&world, line, (size_t)(stop - line), mine + bytes, sizeof mine - bytes, &played) == 0;
+        bytes += played.bytes;
+        if (played.lines > 0) {
+            holds &= am_observed(&world, seen + shown, sizeof seen - shown, &played) == 0;
+            shown += played.bytes;
+        }
+        line = stop + 1;
+    }
+    holds &= am_play(whole, size, room, sizeof room, &played) == 0 && played.bytes == bytes && memcmp(room, mine, bytes) == 0;
+    holds &= am_trace(whole, size, trace, sizeof trace, &played) == 0;
+    for (const uint8_t *at = trace; at < trace + played.bytes;) {
+        const uint8_t *next = (const uint8_t *)memchr(at, '\n', sizeof trace) + 1;
+        if (*at == ' ') {
+            memcpy(room + kept, at, (size_t)(next - at));
+            kept += (size_t)(next - at);
+        }
+        at = next;
+    }
+    holds &= kept == shown && memcmp(room, seen, kept) == 0;
+    for (uint32_t number = 0; number < 3; number++) {
+        holds &= am_world(whole, size, number == 2, number, room, sizeof room, &played) == 0;
+        size_t length = played.bytes;
+        holds &= am_text(&world, number == 2, number, seen, sizeof seen, &played) == 0 && played.bytes == length
+            && memcmp(room, seen, length) == 0 && played.lines == 0;
+    }
+    am_free(&world);
+    return holds;
+}
+
+/* So many worlds are made and let go, and nothing of them is left. */
+static void many_worlds(size_t count)
+{
+    struct am_played played;
+    size_t before = 0;
+    for (size_t at = 0; at <= count; at++) {
+        struct am_world world = AM_WORLD_NONE;
+        if (begins(HEAD, &world, &played) != 0 || !answers(&world, "attach /auto", "fs 2 attach 1 mount 2\n"))
+            failed++, printf("failed: world %zu\n", at);
+        am_free(&world);
+        if (at == 0)
+            before = mallinfo2().uordblks;
+    }
+    IS(mallinfo2().uordblks == before);
+}
+
+static void worlds(size_t count)
+{
+    heads();
+    no_worlds();
+    one_world();
+    IS(plays_by_event((const uint8_t *)script, sizeof script - 1));
+    many_worlds(count);
+}
+
 /* ---- The examples ---- */
 
 static size_t file_of(const char *name, const char *end, uint8_t *to, size_t cap)
@@ -398,6 +671,7 @@ static void example(size_t step, const char *name)
             holds &= fills(view, cap, out, size);
         is(holds, name);
     }
+    is(plays_by_event(text, len), name);
 }
 
 /* ---- Words ---- */
@@ -447,11 +721,13 @@ static void odd_bytes(int rounds)
         struct am_entry entry;
         struct am_master_line told;
         struct am_packet packet;
+        struct am_judged judged;
         struct am_played played;
         uint64_t line = 0;
         IS(am_map_look_up(text, len, round & 1, text, len / 2, out, 64, &entry, &line) <= AM_MAP_NO_MEMORY);
         IS(am_master_line(text, len, 0, out, 64, &told, &line) <= AM_MASTER_NO_MEMORY);
         IS(am_packet_read(text, round & 1 ? 304 : 300, &packet) <= AM_PACKET_BAD_NAME);
+        IS(am_trace_holds(text, len, &judged) <= AM_TRACE_BAD_LINE && judged.lawful <= 1);
         for (enum view view = PLAY; view <= WORLD; view++) {
             uint8_t fault = view_of(view, text, len, out, 64, &played);
             IS(fault <= AM_SCRIPT_LONG_LINE && fault == played.fault && (fault > 0) == (played.line > 0));
@@ -476,9 +752,12 @@ static void *look_often(void *matches)
 {
     static const char map[] = "home srv:/export/&\n";
     uint8_t mine[64];
+    char expected[64];
     struct am_entry entry;
+    struct am_world world = AM_WORLD_NONE;
+    struct am_played begun;
     uint64_t line = 0;
-    *(int *)matches = 1;
+    *(int *)matches = am_new((const uint8_t *)HEAD, sizeof HEAD - 1, &world, &begun) == 0;
     for (int round = 0; round < 3000; round++) {
         uint8_t fault = am_map_look_up((const uint8_t *)map, sizeof map - 1, false, (const uint8_t *)"home", 4, mine,
                                        sizeof mine, &entry, &line);
@@ -486,7 +765,13 @@ static void *look_often(void *matches)
         struct am_played played;
         fault = am_play((const uint8_t *)script, sizeof script - 1, mine, sizeof mine, &played);
         *(int *)matches &= fault == 0 && played.lines == 8 && memcmp(mine, "fs 2 attach 1 mount 2\nwait 1\n", 29) == 0;
+        if (am_line(&world, (const uint8_t *)"nscopy 0", 8, mine, sizeof mine, &played) != 0 || played.refused)
+            *(int *)matches = 0;
+        *(int *)matches &= (size_t)sprintf(expected, "ns %d\n", round + 1) == played.bytes
+            && memcmp(mine, expected, played.bytes) == 0;
+        am_line(&world, mine, (size_t)sprintf((char *)mine, "nsdrop %d", round + 1), mine + 32, 32, &played);
     }
+    am_free(&world);
     return NULL;
 }
 
@@ -516,6 +801,9 @@ int main(int words_in, char **word)
         maps();
         masters();
         scripts();
+        traces();
+        traces_of_scripts();
+        worlds(50 * (size_t)rounds);
         words();
         odd_bytes(rounds);
         many_lines(500 * (size_t)rounds);

@@ -1,9 +1,12 @@
 """A model of the Linux automounter, kernel and daemon: scripts with their answers, traces, pictures and
-worlds; packets, requests, maps and master maps.
+worlds; whether a trace is lawful; packets, requests, maps and master maps.
 
     >>> import dalvicna
     >>> dalvicna.play("events\\nmount 0 /a\\nkind 0 /a\\n")
     ['mount 2', 'kind private']
+    >>> world = dalvicna.World(master="/auto auto.home\\n", maps={"auto.home": "home srv:/home\\n"})
+    >>> world.ask("attach /auto"), world.ask("walk 7 0 /auto/home 100 room")
+    ('fs 2 attach 1 mount 2', 'wait 1')
 
 This is the library for C (dalvicna.h) by ctypes, and needs nothing else. The library is the file that the
 environment variable DALVICNA_LIB names, else libdalvicna.so.1 beside this file, else the one that the loader
@@ -11,7 +14,8 @@ finds. Formats of all texts, and the numbers of errors and faults: docs/FORMATS.
 
 A text is a str or bytes. What comes back is a str; in both directions bytes that aren't UTF-8 are kept by
 the error handler `surrogateescape`, as os.fsdecode does, and `text.encode(*ENCODING)` gives all bytes.
-There is no state between calls, and any thread may make any call; other Python threads run meanwhile.
+The only state between calls is that of a World: any thread may make any call, and two on one World are made one
+after the other; other Python threads run meanwhile.
 """
 
 from __future__ import annotations
@@ -19,12 +23,13 @@ from __future__ import annotations
 import ctypes
 import enum
 import os
+import threading
 from dataclasses import dataclass
-from typing import Callable, List, Optional, Tuple, Union
+from typing import Callable, List, Mapping, Optional, Tuple, Union
 
 __all__ = ["ENCODING", "Entry", "Fault", "MapFault", "MasterFault", "MasterLine", "Packet", "PacketFault", "PacketKind",
-           "Played", "Request", "ScriptFault", "draw", "error_name", "look_up", "master", "packet", "play", "played",
-           "request_number", "trace", "world_text"]
+           "Played", "Request", "ScriptFault", "TraceFault", "draw", "error_name", "look_up", "master", "packet", "play",
+           "played", "request_number", "trace", "trace_holds", "World", "world_text"]
 
 Text = Union[str, bytes]
 
@@ -34,6 +39,8 @@ ENCODING = ("utf-8", "surrogateescape")
 VERSION = 1
 #: The bytes of a packet, and where its name begins in them.
 PACKET_SIZE, PACKET_NAME = 304, 44
+#: What a call answers that is handed a closed world.
+NO_WORLD = 254
 _U64 = 2**64 - 1
 
 
@@ -45,9 +52,11 @@ class Fault(ValueError):
     number    the number of the fault (docs/FORMATS.md)
     word      its word, as "BadEvent"
     line      the line of the text at which it is told, from 1, or None
+    column    the byte of the line at which it is told, from 1, or None where that isn't known
     expected  what was expected there
     """
 
+    column: Optional[int] = None
     #: What was expected where each fault is, by its number from 1.
     WORDS: Tuple[Tuple[str, str], ...] = ()
 
@@ -62,7 +71,9 @@ class Fault(ValueError):
 
 
 class MapFault(Fault):
-    """A text is no map."""
+    """A text is no map; `map` is its name where several were given."""
+
+    map: Optional[str] = None
 
     WORDS = (("BadKey", "a key of this kind of map"),
              ("BadOption", "options behind a dash, without a byte that no word may have"),
@@ -90,6 +101,26 @@ class PacketFault(Fault):
              ("Kind", "a kind from 3 to 6"),
              ("NameLength", "a name of at most 255 bytes, and of at least 1 in an indirect packet"),
              ("BadName", "a name without slash and zero byte other than . and .. in an indirect packet"))
+
+
+class TraceFault(Fault):
+    """A text is no trace; `column` is the byte of the line at which it doesn't go on as expected."""
+
+    WORDS = (("BadLine", "a line of a trace"), ("NoMemory", "memory"))
+    #: What is expected in a line, by its number from 1.
+    EXPECTED = ("an observation behind two blanks", "a number", "a token", "an attachment", "a file system", "a mount",
+                "ready or a failure", "the type of a packet", "a number of the packet", "the name in the packet",
+                "direct or a name", "an entry of the book", "the end of the line")
+
+    def __init__(self, number: int, line: Optional[int], column: Optional[int], expected: int) -> None:
+        super().__init__(number, line)
+        self.column, self.part = column, expected
+        if expected:
+            self.expected = self.EXPECTED[expected - 1]
+            self.args = (f"line {line}, column {column}: {self.word}: expected {self.expected}",)
+
+    def __reduce__(self) -> tuple:
+        return type(self), (self.number, self.line, self.column, self.part)
 
 
 class ScriptFault(Fault):
@@ -131,6 +162,14 @@ class _Played(ctypes.Structure):
                 ("detail", _U32)]
 
 
+class _World(ctypes.Structure):
+    _fields_ = [("held", _U64C), ("kept", ctypes.c_void_p)]
+
+
+class _Judged(ctypes.Structure):
+    _fields_ = [("line", _U64C), ("column", _U64C), ("expected", _U32), ("lawful", _U32)]
+
+
 class _Packet(ctypes.Structure):
     _fields_ = [("kind", _U32), ("token", _U32), ("dev", _U32), ("uid", _U32), ("gid", _U32), ("pid", _U32),
                 ("tgid", _U32), ("name_len", _U32), ("ino", _U64C)]
@@ -146,7 +185,7 @@ class _MasterLine(ctypes.Structure):
 
 
 _TEXT, _OUT = (_BYTES, _SIZE), (_BYTES, _SIZE)
-_PLAYED = (ctypes.POINTER(_Played),)
+_PLAYED, _HELD = (ctypes.POINTER(_Played),), (ctypes.POINTER(_World),)
 #: The calls of dalvicna.h: what each gives, and what it takes.
 _CALLS = {
     "am_version": (_U32, ()),
@@ -154,6 +193,13 @@ _CALLS = {
     "am_trace": (_U8, _TEXT + _OUT + _PLAYED),
     "am_draw": (_U8, _TEXT + (_U64C, _U64C) + _OUT + _PLAYED),
     "am_world": (_U8, _TEXT + (ctypes.c_bool, _U32) + _OUT + _PLAYED),
+    "am_new": (_U8, _TEXT + _HELD + _PLAYED),
+    "am_line": (_U8, _HELD + _TEXT + _OUT + _PLAYED),
+    "am_answer": (_U8, _HELD + _OUT + _PLAYED),
+    "am_observed": (_U8, _HELD + _OUT + _PLAYED),
+    "am_text": (_U8, _HELD + (ctypes.c_bool, _U32) + _OUT + _PLAYED),
+    "am_free": (None, _HELD),
+    "am_trace_holds": (_U8, _TEXT + (ctypes.POINTER(_Judged),)),
     "am_packet_read": (_U8, _TEXT + (ctypes.POINTER(_Packet),)),
     "am_packet_write": (_U8, (ctypes.POINTER(_Packet),) + _TEXT + _OUT),
     "am_request_number": (_U32, (_U32,)),
@@ -269,6 +315,125 @@ def world_text(script: Text, namespace: Optional[int] = None) -> str:
     what else there is in comments, or of one alone. Raises ScriptFault."""
     number = 0 if namespace is None else _number(namespace, 2**32 - 1, "a namespace")
     return _script("am_world", script, 16384, namespace is None, number).whole()
+
+
+# ---- A world from event to event
+
+def _section(first: bytes, text: Text) -> bytes:
+    """A section of a head, which begins with this line."""
+    some = _bytes(text)
+    if b"end" in some.split(b"\n"):
+        raise ValueError(f"expected no line `end` in the text behind `{_text(first)}`")
+    return first + b"\n" + some + (b"\n" if some and not some.endswith(b"\n") else b"") + b"end\n"
+
+
+class World:
+    """A world that is asked event by event.
+
+    limits    the greatest mount number, the most waits at one time and the greatest token, or None for the usual ones
+    master    the master map
+    maps      its maps by their names
+    negative  for how many seconds a failed mount lasts, 0 for not at all
+
+    The lines of events, their answers and the observations are those of a script and its trace (docs/FORMATS.md).
+    Raises ScriptFault, MasterFault or MapFault, with the line of the map in which the fault is; ValueError where a map
+    has a line `end` or a name of one is no word. A world holds memory until it is closed or collected, and is closed at
+    the end of a `with` statement.
+    """
+
+    def __init__(self, limits: Optional[Tuple[int, int, int]] = None, master: Text = "",
+                 maps: Optional[Mapping[str, Text]] = None, negative: Optional[int] = None) -> None:
+        self._held, self._told, self._lock = _World(), _Played(), threading.Lock()
+        self._out = ctypes.create_string_buffer(4096)
+        head = b"".join(_bytes(" ".join([word, *map(str, numbers)]) + "\n")
+                        for word, numbers in (("limits", limits), ("negative", negative and (negative,))) if numbers)
+        sections = [(None, head.count(b"\n") + 1)]
+        head += _section(b"master", master)
+        for name, text in (maps or {}).items():
+            sections.append((name, head.count(b"\n") + 1))
+            head += _section(b"map " + _bytes(name), text)
+        head += b"events\n"
+        fault = _library.am_new(head, len(head), ctypes.byref(self._held), ctypes.byref(self._told))
+        if fault:
+            raise self._fault_of_head(sections)
+
+    def _fault_of_head(self, sections: List[Tuple[Optional[str], int]]) -> Fault:
+        """The fault that was told, at its line of the map."""
+        told = self._told
+        name, first = [it for it in sections if it[1] < told.line or it is sections[0]][-1]
+        if told.fault == 3:
+            return MasterFault(told.detail, told.line - first)
+        if told.fault == 4:
+            fault = MapFault(told.detail, told.line - first)
+            fault.map = name
+            return fault
+        return ScriptFault(told.fault, told.line - first if told.fault == 5 else told.line, 0, "")
+
+    def _filled(self, name: str, *words: object) -> str:
+        """What a call writes that changes nothing; it is made again where there is less room."""
+        while True:
+            fault = getattr(_library, name)(self._held, *words, self._out, len(self._out), self._told)
+            if fault:
+                raise self._fault(fault)
+            if self._told.bytes <= len(self._out):
+                return _text(ctypes.string_at(self._out, self._told.bytes))
+            self._out = ctypes.create_string_buffer(self._told.bytes)
+
+    def _fault(self, fault: int) -> Exception:
+        if fault == NO_WORLD:
+            return ValueError("expected a world that isn't closed")
+        return ScriptFault(fault, self._told.line, 0, "")
+
+    def ask(self, event: Text) -> str:
+        """The answer to one event, a line of a script: "" to a blank line and a comment. Raises ScriptFault where the
+        line is no event, and then nothing has changed."""
+        line = _bytes(event)
+        with self._lock:
+            fault = _library.am_line(self._held, line, len(line), self._out, len(self._out), self._told)
+            if fault:
+                raise self._fault(fault)
+            size = self._told.bytes
+            text = _text(self._out[:size]) if size <= len(self._out) else self._filled("am_answer")
+        return text[:-1]
+
+    def observed(self) -> List[str]:
+        """What the last event showed, an observation each, as a line of a trace says it behind its two blanks."""
+        with self._lock:
+            return [line[2:] for line in self._filled("am_observed").split("\n")[:-1]]
+
+    def text(self, namespace: Optional[int] = None) -> str:
+        """The world as it is, as /proc/PID/mountinfo tells the mounts of a namespace: of all of them, with what else
+        there is in comments, or of one alone."""
+        number = 0 if namespace is None else _number(namespace, 2**32 - 1, "a namespace")
+        with self._lock:
+            return self._filled("am_text", namespace is None, number)
+
+    def close(self) -> None:
+        """Lets the world go."""
+        with self._lock:
+            _library.am_free(self._held)
+
+    def __enter__(self) -> World:
+        return self
+
+    def __exit__(self, *reason: object) -> None:
+        self.close()
+
+    def __del__(self) -> None:
+        if hasattr(self, "_lock"):
+            self.close()
+
+
+# ---- Traces
+
+def trace_holds(text: Text) -> bool:
+    """Whether a trace is lawful, be it of `trace` or recorded elsewhere (docs/FORMATS.md, "Read back"). Raises
+    TraceFault where a line that begins with a blank is no observation."""
+    text, told = _bytes(text), _Judged()
+    fault = _library.am_trace_holds(text, len(text), ctypes.byref(told))
+    if fault:
+        raise TraceFault(fault, told.line or None, told.column or None, told.expected)
+    return told.lawful == 1
 
 
 # ---- Packets and requests

@@ -126,6 +126,130 @@ class Scripts(unittest.TestCase):
         self.assertEqual(found, [["fs 2 attach 1 mount 2", "wait 1"]] * 800)
 
 
+class Worlds(unittest.TestCase):
+    MAPS = {"auto.home": "home srv:/home\n"}
+
+    def world(self, **words):
+        return dalvicna.World(master="/auto auto.home\n", maps=self.MAPS, **words)
+
+    def test_events_one_by_one(self):
+        with self.world() as world:
+            self.assertEqual(world.observed(), [])
+            self.assertEqual(world.ask("attach /auto"), "fs 2 attach 1 mount 2")
+            self.assertEqual(world.ask(b"walk 7 0 /auto/home 100 room"), "wait 1")
+            self.assertEqual([line.split()[0] for line in world.observed()], ["queued", "waits"])
+            self.assertEqual((world.ask(""), world.ask(" # a comment")), ("", ""))
+            self.assertEqual(world.ask("leave 7"), "err 5")
+            self.assertIn("/auto", world.text())
+            self.assertNotIn("# namespace", world.text(0))
+
+    def test_examples_event_by_event(self):
+        for path in sorted(glob.glob(f"{TOP}/examples/*.script")):
+            with self.subTest(path):
+                script = bytes_of(path).decode(*dalvicna.ENCODING)
+                head, _, events = script.partition("\nevents\n")
+                sections = re.findall(r"^(master|map (\S+))\n(.*?)^end$", head, re.M | re.S)
+                limits = re.search(r"^limits (\d+) (\d+) (\d+)", head, re.M)
+                negative = re.search(r"^negative (\d+)", head, re.M)
+                world = dalvicna.World(tuple(map(int, limits.groups())) if limits else None,
+                                       "".join(text for word, _, text in sections if word == "master"),
+                                       {name: text for _, name, text in sections if name},
+                                       int(negative[1]) if negative else None)
+                answers, seen = [], []
+                for line in events.split("\n"):
+                    answer = world.ask(line)
+                    if answer:
+                        answers.append(answer)
+                        seen += world.observed()
+                self.assertEqual(answers, dalvicna.play(script))
+                told = [line[2:] for line in dalvicna.trace(script).split("\n") if line.startswith("  ")]
+                self.assertEqual(seen, told)
+                self.assertEqual(world.text(), dalvicna.world_text(script))
+
+    def test_faults_of_events(self):
+        world = self.world()
+        for line in ("walk", "leave 7\n", "x" * 9000):
+            with self.assertRaises(dalvicna.ScriptFault) as raised:
+                world.ask(line)
+            self.assertEqual((raised.exception.line, raised.exception.column), (1, None))
+        self.assertEqual((raised.exception.word, raised.exception.expected), ("LongLine", "a line of at most 8192 bytes"))
+        self.assertEqual(world.ask("attach /auto"), "fs 2 attach 1 mount 2")
+
+    def test_faults_of_heads(self):
+        with self.assertRaises(dalvicna.MasterFault) as raised:
+            dalvicna.World(master="/a x\n/a y")
+        self.assertEqual((raised.exception.word, raised.exception.line), ("Twice", 2))
+        with self.assertRaises(dalvicna.MapFault) as raised:
+            dalvicna.World((1000, 10, 10), "/a x\n/b y\n", {"x": "k h:/k", "y": "\nk"})
+        self.assertEqual((raised.exception.word, raised.exception.line, raised.exception.map), ("NoLocation", 2, "y"))
+        with self.assertRaises(dalvicna.ScriptFault) as raised:
+            dalvicna.World(master="\n/a x")
+        self.assertEqual((raised.exception.word, raised.exception.line), ("NoSuchMap", 2))
+        with self.assertRaises(dalvicna.ScriptFault) as raised:
+            dalvicna.World(limits=(0, 1, 1))
+        self.assertEqual(raised.exception.word, "BadLimits")
+        with self.assertRaises(ValueError):
+            dalvicna.World(master="/a x", maps={"x": "k h:/k\nend\n"})
+
+    def test_an_answer_for_which_there_is_no_room_at_first(self):
+        world = dalvicna.World()
+        for _ in range(1500):
+            world.ask("mount 0 /a")
+        world.ask("nscopy 0")
+        answer = world.ask("nsdrop 1")
+        self.assertGreater(len(answer), 4096)
+        self.assertTrue(answer.startswith("gone "))
+        self.assertEqual(world.ask("kind 0 /a"), "kind private")
+
+    def test_a_closed_world(self):
+        world = self.world()
+        world.close()
+        world.close()
+        with self.assertRaises(ValueError):
+            world.ask("attach /auto")
+        with self.assertRaises(ValueError):
+            world.text()
+
+    def test_worlds_in_threads(self):
+        found = []
+
+        def often():
+            with self.world() as world:
+                world.ask("attach /auto")
+                found.append([world.ask(f"walk {walker} 0 /auto/home 100 room") for walker in range(500)])
+
+        threads = [threading.Thread(target=often) for _ in range(4)]
+        for thread in threads:
+            thread.start()
+        for thread in threads:
+            thread.join()
+        self.assertEqual(found, [["wait 1"] * 500] * 4)
+
+
+class Traces(unittest.TestCase):
+    QUEUED = "  queued 1 attach 1 missing-indirect dev 2 ino 1 uid 0 gid 0 pid 7 tgid 7 name home\n"
+
+    def test_traces_of_examples_are_lawful(self):
+        for path in sorted(glob.glob(f"{TOP}/examples/*.trace")):
+            with self.subTest(path):
+                self.assertTrue(dalvicna.trace_holds(bytes_of(path)))
+
+    def test_traces_that_are_lawful_and_such_that_are_not(self):
+        self.assertTrue(dalvicna.trace_holds("seen elsewhere\n" + self.QUEUED + "  waits 7 token 1\n"))
+        self.assertFalse(dalvicna.trace_holds("  waits 7 token 1\n"))
+        self.assertFalse(dalvicna.trace_holds(self.QUEUED * 2))
+        self.assertTrue(dalvicna.trace_holds(""))
+
+    def test_a_line_that_is_no_observation(self):
+        with self.assertRaises(dalvicna.TraceFault) as raised:
+            dalvicna.trace_holds("a\nb\n  waits 7 token x\n")
+        fault = raised.exception
+        self.assertEqual((fault.word, fault.line, fault.column, fault.expected), ("BadLine", 3, 17, "a token"))
+        self.assertEqual(str(fault), "line 3, column 17: BadLine: expected a token")
+        again = pickle.loads(pickle.dumps(fault))
+        self.assertEqual((str(again), again.column), (str(fault), 17))
+
+
 class Packets(unittest.TestCase):
     PACKET = dalvicna.Packet(dalvicna.PacketKind.MISSING_INDIRECT, 17, 2, 2**40, 3, 4, 5, 6, b"home")
 

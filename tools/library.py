@@ -176,7 +176,7 @@ def install(prefix):
 
 # ---- The header and the crate
 
-TYPES = {"u8": "uint8_t", "u32": "uint32_t", "u64": "uint64_t", "usize": "size_t", "bool": "bool"}
+TYPES = {"u8": "uint8_t", "u32": "uint32_t", "u64": "uint64_t", "usize": "size_t", "bool": "bool", "*mut u8": "void *"}
 
 
 def snake(name):
@@ -233,33 +233,38 @@ def declared():
 
 
 def structs_of_crate():
+    """The structs that are declared as C has them. One of another name than am_ has one field, and is that in C."""
     found = {}
-    for name, body in re.findall(r"#\[repr\(C\)\][^{]*?pub struct (\w+) \{(.*?)\n\}", rattle_text(), re.S):
-        fields = re.findall(r"^    pub (\w+): (\w+),", body, re.M)
+    for name, body in re.findall(r"#\[repr\(C\)\][^{]*?pub(?:\(crate\))? struct (\w+) \{(.*?)\n\}", rattle_text(), re.S):
+        fields = re.findall(r"^    (?:pub(?:\(crate\))? )?(\w+): ([\w* ]+),", body, re.M)
         found[snake(name)] = [(field, c_type(kind)) for field, kind in fields]
-    return found
+    inner = {f"struct {name}": fields[0][1] for name, fields in found.items() if not name.startswith("am_")}
+    return {name: [(field, inner.get(kind, kind)) for field, kind in fields]
+            for name, fields in found.items() if name.startswith("am_")}
 
 
 def structs_of_header():
     found = {}
     for name, body in re.findall(r"^struct (\w+) \{(.*?)\};", bare(text_of(HEADER)), re.S | re.M):
-        found[name] = [(field, kind) for kind, field in re.findall(r"(\w+)\s+(\w+);", body)]
+        found[name] = [(field, kind + (" *" if "*" in star else "")) for kind, star, field in re.findall(r"(\w+)( \*|\s+)(\w+);", body.replace("  ", " "))]
     return found
 
 
-# Where the numbers of an enum stand, and what its names begin with.
-NUMBERS = (("am_script_fault", "AM_SCRIPT_", "am_script", "kind_number"),
-           ("am_packet_fault", "AM_PACKET_", "am_wire", "fault_number"),
-           ("am_map_fault", "AM_MAP_", "am_map", "fault_number"),
-           ("am_master_fault", "AM_MASTER_", "am_master", "fault_number"))
+# What the names of an enum begin with, and where its numbers stand.
+NUMBERS = (("am_script_fault", "AM_SCRIPT_", "am_script/specs/Fault.antt", "kind_number"),
+           ("am_trace_fault", "AM_TRACE_", "am_c/specs/Traces.antt", "fault_number"),
+           ("am_expected", "AM_EXPECTED_", "am_c/specs/Traces.antt", "expected_number"),
+           ("am_packet_fault", "AM_PACKET_", "am_wire/specs/Fault.antt", "fault_number"),
+           ("am_map_fault", "AM_MAP_", "am_map/specs/Fault.antt", "fault_number"),
+           ("am_master_fault", "AM_MASTER_", "am_master/specs/Fault.antt", "fault_number"))
 
 
 def faults_of_numbers():
     """Each difference between an enum and the definition of its numbers."""
-    for enum, start, crate, word in NUMBERS:
+    for enum, start, path, word in NUMBERS:
         body = bare(re.search(rf"^enum {enum} \{{(.*?)\}};", text_of(HEADER), re.S | re.M)[1])
         theirs = [it.partition("=")[0].strip() for it in body.split(",")]
-        definition = text_of(f"{TOP}/crates/{crate}/specs/Fault.antt")
+        definition = text_of(f"{TOP}/crates/{path}")
         found = re.findall(rf"^{word} \(?(\w+)[^=]*= (\d+)$", definition, re.M)
         ours = [start + snake(name).upper() for name, _ in sorted(found, key=lambda it: int(it[1]))]
         if ours != theirs:
@@ -409,10 +414,20 @@ def with_module(folder):
     return given
 
 
+def python_of_tests():
+    """A Python that has the package hypothesis, this one or the system's, else this one."""
+    for python in (sys.executable, "/usr/bin/python3"):
+        if os.path.exists(python) and subprocess.run([python, "-c", "import hypothesis"], capture_output=True,
+                                                     check=False).returncode == 0:
+            return python
+    print("there is no package hypothesis")
+    return sys.executable
+
+
 def tests_in_python(tests):
     """The tests of the module, with the library by its name; and each example, with the library beside it."""
     given = {**with_module(os.path.dirname(MODULE)), "DALVICNA_LIB": os.path.join(OUT, "libdalvicna.so.1")}
-    done = subprocess.run([sys.executable, "-m", "unittest", "-v"], cwd=os.path.dirname(MODULE), env=given,
+    done = subprocess.run([python_of_tests(), "-m", "unittest", "-v"], cwd=os.path.dirname(MODULE), env=given,
                           stdin=subprocess.DEVNULL, stdout=subprocess.PIPE, stderr=subprocess.STDOUT, check=False)
     said = done.stdout.decode(errors="replace")
     for name in re.findall(r"^(\w+ \(.*\)) \.\.\. ok$", said, re.M):

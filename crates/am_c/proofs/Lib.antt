@@ -1,2 +1,6 @@
+mod AskedLemmas
 mod BufferLemmas
 mod FillsLemmas
+mod KeptLemmas
+mod LooseLemmas
+mod SessionLemmas

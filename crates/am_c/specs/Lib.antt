@@ -1,7 +1,10 @@
 pub mod Buffer
 pub mod Entries
 pub mod Errors
+pub mod Kept
 pub mod MasterLines
 pub mod Packets
 pub mod Requests
 pub mod Scripts
+pub mod Sessions
+pub mod Traces

@@ -4,7 +4,12 @@
 mod buffer;
 pub mod entry;
 pub mod error;
+mod kept;
+mod loose;
 pub mod master_line;
 pub mod packet;
 pub mod request;
 pub mod script;
+mod session;
+pub mod trace;
+pub mod world;

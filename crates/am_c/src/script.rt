@@ -111,19 +111,29 @@ pub extern "C" fn am_world(
 }
 
 /// The namespace that is asked for alone, if there is one.
-fn namespace_where(all: bool, namespace: u32) -> Option<NsId>
+pub(crate) fn namespace_where(all: bool, namespace: u32) -> Option<NsId>
     ensures { result ≡ namespace_where all namespace }
 {
     if all { None } else { Some(NsId(namespace)) }
 }
 
 /// Puts what was written at the front of a buffer, and tells how the script went.
-fn tell(written: &Vec<u8>, went: Result<Summary, ScriptFault>, out: &mut [u8]) -> AmPlayed
+pub(crate) fn tell(
+    written: &Vec<u8>,
+    went: Result<Summary, ScriptFault>,
+    out: &mut [u8],
+) -> AmPlayed
     ensures buffer { out.new ≡ with_front written.now.items out.old }
     ensures told { result ≡ played_of (length written.now.items) went }
 {
     put_front(written, out);
-    let bytes = written.len() as u64;
+    tell_of(written.len() as u64, went)
+}
+
+/// How a script went that wrote so many bytes.
+pub(crate) fn tell_of(bytes: u64, went: Result<Summary, ScriptFault>) -> AmPlayed
+    ensures { result ≡ played_of bytes went }
+{
     match went {
         Ok(summary) => AmPlayed {
             bytes,
@@ -144,7 +154,7 @@ fn tell(written: &Vec<u8>, went: Result<Summary, ScriptFault>, out: &mut [u8]) -
     }
 }
 
-fn fault_number(went: Result<Summary, ScriptFault>) -> u8
+pub(crate) fn fault_number(went: Result<Summary, ScriptFault>) -> u8
     ensures { result ≡ fault_number went }
 {
     match went {

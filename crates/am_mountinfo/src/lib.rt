@@ -11,4 +11,4 @@ mod residents;
 mod tables;
 pub mod world_text;
 
-pub use world_text::world_script;
+pub use world_text::{world_script, write_world};

@@ -50,6 +50,32 @@ pub fn world_script<R: Read, W: Write>(
     }
 }
 
+/// Writes a world as it is: the mounts of each namespace, and behind them, in comments, what else there
+/// is; or only the mounts of one namespace. Its faults have line 0.
+pub fn write_world<W: Write>(
+    alloc: Global,
+    world: &World,
+    only: Option<NsId>,
+    writer: &mut W,
+) -> Result<(), ScriptFault>
+    ensures ok { OnOk result (IsWritten only (state_of world.now) (W.contents writer.old)
+        (W.contents writer.new)) }
+    ensures err { IfErr result (NotWritten only (state_of world.now) 0 (W.contents writer.old)
+        (W.contents writer.new)) }
+{
+    let played = Played {
+        summary: Summary {
+            lines: 0,
+            refused: 0,
+        },
+        line: 0,
+    };
+    match show_world(alloc, world, played, only, writer) {
+        Ok(_) => Ok(()),
+        Err(fault) => Err(fault),
+    }
+}
+
 /// Plays the events behind a head, and prints the world behind them.
 fn show_opened<W: Write>(
     alloc: Global,
