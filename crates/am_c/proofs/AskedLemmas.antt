@@ -1,5 +1,5 @@
 -- What a text of one line says, and what is answered to it.
-use Rattle.std.proofs.Common.{◌≡◌, ◌≢◌, ℕ, ◌+◌, Bool, true, false, List, [], ◌∷◌, length, Option, Some, None, Result, Ok, Err, refl, sym, ap, ◌∙◌, subst, inl, inr, arith, true≢false}
+use Rattle.std.proofs.Common.{◌≡◌, ◌≢◌, ℕ, ◌+◌, Bool, true, false, List, [], ◌∷◌, length, Option, Some, None, Result, Ok, Err, refl, sym, ap, ◌∙◌, subst, inl, inr, arith, true≢false, if◌then◌else◌}
 use Rattle.am_names.specs.declared.errno.Errno.TheVariants as errors
 use Rattle.am_machine.specs.{Event, Answer, Step}
 use Rattle.am_machine.specs.declared.answer.Answer.TheVariants as answers
@@ -16,7 +16,7 @@ use Rattle.am_c.specs.Sessions.{event_said}
 
 -- ---- what a line says
 
-number_of : Result (Option Event) ScriptFaultKind → ℕ
+abbrev number_of : Result (Option Event) ScriptFaultKind → ℕ
 number_of (Ok event) = 0
 number_of (Err kind) = kind_number kind
 
@@ -39,7 +39,7 @@ alone said = told_by said 1 (only_fault None)
 events_differ : (here : Numbered) (rows : List Numbered) → [] ≡ here ∷ rows → ⊥
 events_differ here rows e = omega (arith, ap (λ (t : List Numbered). length t) e)
 
-fault_is_there : Option ScriptFault → Bool
+abbrev fault_is_there : Option ScriptFault → Bool
 fault_is_there None = false
 fault_is_there (Some fault) = true
 
@@ -49,7 +49,7 @@ alone_none s (Ok None) e = refl
 alone_none s (Ok (Some event)) e = absurd (events_differ _ _ (sym (ap (λ (t : Told). t.events) e)))
 alone_none s (Err kind) e = absurd (true≢false (ap (λ (t : Told). fault_is_there t.fault) e))
 
-first_event : Event → List Numbered → Event
+abbrev first_event : Event → List Numbered → Event
 first_event other [] = other
 first_event other (here ∷ rows) = here.event
 
@@ -60,7 +60,7 @@ alone_event s next (Ok (Some here)) event number left answer seen e step =
     (seen, subst (λ (t : Event). Step s t answer seen next) (sym (ap (λ (t : Told). first_event event t.events) e)) step)
 alone_event s next (Err kind) event number left answer seen e step = absurd (events_differ _ _ (ap (λ (t : Told). t.events) e))
 
-kind_in : ScriptFaultKind → Option ScriptFault → ScriptFaultKind
+abbrev kind_in : ScriptFaultKind → Option ScriptFault → ScriptFaultKind
 kind_in other None = other
 kind_in other (Some fault) = fault.kind
 
@@ -73,40 +73,36 @@ alone_fault s (Err kind) fault (inl e) other = (refl, sym (ap (λ (t : Told). ki
 
 -- no memory for an event: it is refused, as a step refuses it
 alone_refused : (s : State) (said : Result (Option Event) ScriptFaultKind) (fault : ScriptFault) → said ≢ Err NoMemory → NoNext (alone said) fault → fault.kind ≡ NoMemory → LineAnswered s said s (Ok (Some (answers.Refused errors.NoMemory)))
-alone_refused s (Ok None) fault no (inl e) is = absurd (true≢false (sym (ap (λ (t : Told). fault_is_there t.fault) e)))
-alone_refused s (Ok None) fault no (inr room) is = absurd (events_differ _ _ (ap (λ (t : Told). t.events) room.parted))
-alone_refused s (Ok (Some event)) fault no h is = ([], inl (record { told = refl; nothing = refl; same = refl }))
-alone_refused s (Err kind) fault no (inl e) is = absurd (no (ap Err (ap (λ (t : Told). kind_in kind t.fault) e ∙ is)))
-alone_refused s (Err kind) fault no (inr room) is = absurd (events_differ _ _ (ap (λ (t : Told). t.events) room.parted))
+alone_refused s (Ok None) fault never (inl e) is = absurd (true≢false (sym (ap (λ (t : Told). fault_is_there t.fault) e)))
+alone_refused s (Ok None) fault never (inr room) is = absurd (events_differ _ _ (ap (λ (t : Told). t.events) room.parted))
+alone_refused s (Ok (Some event)) fault never h is = ([], inl (record { told = refl; nothing = refl; same = refl }))
+alone_refused s (Err kind) fault never (inl e) is = absurd (never (ap Err (ap (λ (t : Told). kind_in kind t.fault) e ∙ is)))
+alone_refused s (Err kind) fault never (inr room) is = absurd (events_differ _ _ (ap (λ (t : Told). t.events) room.parted))
 
 -- ---- a text
-
--- a text that is one line is that line
-of_one : (text cut : List ℕ) → lines_of text ≡ cut ∷ [] → cut ≡ text → lines_of cut ≡ cut ∷ []
-of_one text cut one whole = ap lines_of whole ∙ one
 
 abbrev told_in : List (List ℕ) → Told
 told_in lines = events_from None 0 lines
 
-pub asked_none : (s : State) (text cut : List ℕ) → lines_of text ≡ cut ∷ [] → cut ≡ text → told_in (lines_of cut) ≡ only_fault None → LineAnswered s (event_said (lines_of text)) s (Ok None)
-asked_none s text cut one whole e =
+pub asked_none : (s : State) (line : List ℕ) → lines_of line ≡ line ∷ [] → told_in (lines_of line) ≡ only_fault None → LineAnswered s (event_said (lines_of line)) s (Ok None)
+asked_none s line one e =
     subst (λ (lines : List (List ℕ)). LineAnswered s (event_said lines) s (Ok None)) (sym one)
-    (alone_none s (line_read cut) (subst (λ (lines : List (List ℕ)). told_in lines ≡ only_fault None) (of_one text cut one whole) e))
+    (alone_none s (line_read line) (subst (λ (lines : List (List ℕ)). told_in lines ≡ only_fault None) one e))
 
-pub asked_event : (s next : State) (text cut : List ℕ) (event : Event) (number : ℕ) (left : Told) (answer : Answer) (seen : List Obs) → lines_of text ≡ cut ∷ [] → cut ≡ text → told_in (lines_of cut) ≡ told_by (Ok (Some event)) number left → Step s event answer seen next → LineAnswered s (event_said (lines_of text)) next (Ok (Some answer))
-asked_event s next text cut event number left answer seen one whole e step =
+pub asked_event : (s next : State) (line : List ℕ) (event : Event) (number : ℕ) (left : Told) (answer : Answer) (seen : List Obs) → lines_of line ≡ line ∷ [] → told_in (lines_of line) ≡ told_by (Ok (Some event)) number left → Step s event answer seen next → LineAnswered s (event_said (lines_of line)) next (Ok (Some answer))
+asked_event s next line event number left answer seen one e step =
     subst (λ (lines : List (List ℕ)). LineAnswered s (event_said lines) next (Ok (Some answer))) (sym one)
-    (alone_event s next (line_read cut) event number left answer seen (subst (λ (lines : List (List ℕ)). told_in lines ≡ told_by (Ok (Some event)) number left) (of_one text cut one whole) e) step)
+    (alone_event s next (line_read line) event number left answer seen (subst (λ (lines : List (List ℕ)). told_in lines ≡ told_by (Ok (Some event)) number left) one e) step)
 
-pub asked_fault : (s : State) (text cut : List ℕ) (fault : ScriptFault) → lines_of text ≡ cut ∷ [] → cut ≡ text → NoNext (told_in (lines_of cut)) fault → fault.kind ≢ NoMemory → LineAnswered s (event_said (lines_of text)) s (Err fault.kind)
-asked_fault s text cut fault one whole h other =
+pub asked_fault : (s : State) (line : List ℕ) (fault : ScriptFault) → lines_of line ≡ line ∷ [] → NoNext (told_in (lines_of line)) fault → fault.kind ≢ NoMemory → LineAnswered s (event_said (lines_of line)) s (Err fault.kind)
+asked_fault s line fault one h other =
     subst (λ (lines : List (List ℕ)). LineAnswered s (event_said lines) s (Err fault.kind)) (sym one)
-    (alone_fault s (line_read cut) fault (subst (λ (lines : List (List ℕ)). NoNext (told_in lines) fault) (of_one text cut one whole) h) other)
+    (alone_fault s (line_read line) fault (subst (λ (lines : List (List ℕ)). NoNext (told_in lines) fault) one h) other)
 
-pub asked_refused : (s : State) (text cut : List ℕ) (fault : ScriptFault) → lines_of text ≡ cut ∷ [] → cut ≡ text → NoNext (told_in (lines_of cut)) fault → fault.kind ≡ NoMemory → LineAnswered s (event_said (lines_of text)) s (Ok (Some (answers.Refused errors.NoMemory)))
-asked_refused s text cut fault one whole h is =
+pub asked_refused : (s : State) (line : List ℕ) (fault : ScriptFault) → lines_of line ≡ line ∷ [] → NoNext (told_in (lines_of line)) fault → fault.kind ≡ NoMemory → LineAnswered s (event_said (lines_of line)) s (Ok (Some (answers.Refused errors.NoMemory)))
+asked_refused s line fault one h is =
     subst (λ (lines : List (List ℕ)). LineAnswered s (event_said lines) s (Ok (Some (answers.Refused errors.NoMemory)))) (sym one)
-    (alone_refused s (line_read cut) fault (line_is_read cut) (subst (λ (lines : List (List ℕ)). NoNext (told_in lines) fault) (of_one text cut one whole) h) is)
+    (alone_refused s (line_read line) fault (line_is_read line) (subst (λ (lines : List (List ℕ)). NoNext (told_in lines) fault) one h) is)
 
 -- behind each line feed there is a line
 lines_are : (text : List ℕ) → lines_of text ≢ []

@@ -1,4 +1,5 @@
 mod AskedLemmas
+mod BegunLemmas
 mod BufferLemmas
 mod FillsLemmas
 mod KeptLemmas

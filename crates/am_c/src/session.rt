@@ -1,6 +1,6 @@
 //! A world that is played event by event.
 
-ghost use Rattle.std.specs.Prelude.{◌≡◌, ◌⊎◌, ◌+◌, ◌<◌, ◌≤◌, ◌^◌, ◌++◌, [], drop, option_copied, vec_len, None, IfOk, IfErr, OnOk};
+ghost use Rattle.std.specs.Prelude.{◌≡◌, ◌⊎◌, ◌+◌, ◌<◌, ◌≤◌, ◌^◌, ◌++◌, [], ◌∷◌, drop, option_copied, vec_len, None, IfOk, IfErr, OnOk};
 ghost use Rattle.am_script.specs.{LineAnswered, NoNext, answer_line, events_from, fault_at, lines_in, lines_of, only_fault, size_in};
 ghost use Rattle.am_script.specs.declared.fault.ScriptFaultKind.TheVariants.{WriteFailed};
 ghost use Rattle.am_views.specs.ObsText.{obs_line, obs_lines};
@@ -126,9 +126,22 @@ fn answer_event(
         result }
 {
     let (line, behind) = cut_at_line_feed(line);
-    if behind.is_some() {
-        return Err(ScriptFaultKind::BadEvent);
+    match behind {
+        Some(_rest) => Err(ScriptFaultKind::BadEvent),
+        None => answer_line(alloc, world, line),
     }
+}
+
+/// So for a text that is one line.
+fn answer_line(
+    alloc: Global,
+    world: &mut World,
+    line: &[u8],
+) -> Result<Option<Answer>, ScriptFaultKind>
+    requires { lines_of line.now ≡ line.now ∷ [] }
+    ensures { LineAnswered (state_of world.old) (event_said (lines_of line.now)) (state_of world.new)
+        result }
+{
     match next_event(alloc, Some(line), 0, None) {
         Ok(None) => Ok(None),
         Ok(Some(found)) => {

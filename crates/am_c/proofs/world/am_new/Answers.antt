@@ -1,14 +1,17 @@
-use Rattle.std.proofs.Common.{◌≡◌, Ok, Err, None, refl, arith}
+use Rattle.std.proofs.Common.{Ok, Err, refl, ap, ◌∙◌, arith}
 use Rattle.std.proofs.lemmas.Bool.Decides.{nat_tests}
+use Rattle.am_script.specs.{Summary}
+use Rattle.am_c.specs.Scripts.{played_of}
 use Rattle.am_c.proofs.SessionLemmas.{none_held, news_made}
 use Rattle.am_c.proofs.world.am_new.Goals as goal
 
 pub returns-in-Ok : goal.returns-in-Ok
 returns-in-Ok c =
     let none = none_held c.args.world.now.kept.inside c.args.world.now.held c.args.world.now.fits (grind (arith, nat_tests, c.if-world-ne0.false)) in
-    news_made c.args.head.now c.args.world.now.kept.inside _ _ (Ok c.in-Ok.session.value) 0 none c.in-Ok.ensures.ok c.put.ensures c.tell_of.ensures refl
+    news_made c.args.head.now c.args.world.now.kept.inside _ _ (Ok c.in-Ok.session.value) 0 none c.in-Ok.ensures.ok c.put.ensures
+    (c.tell_of.ensures ∙ ap (λ (ended : Summary). played_of 0 (Ok ended)) c.no_event.ensures) refl
 
 pub returns-in-Err : goal.returns-in-Err
 returns-in-Err c =
     let none = none_held c.args.world.now.kept.inside c.args.world.now.held c.args.world.now.fits (grind (arith, nat_tests, c.if-world-ne0.false)) in
-    news_made c.args.head.now c.args.world.now.kept.inside _ _ (Err c.in-Err.fault) c.in-Err.fault none c.in-Err.ensures.err none c.tell_of-in-Err.ensures refl
+    news_made c.args.head.now c.args.world.now.kept.inside _ _ (Err c.in-Err.fault) c.number.result none c.in-Err.ensures.err none c.tell_of-in-Err.ensures c.number.ensures
