@@ -3,4 +3,5 @@ use Rattle.am_c.proofs.AskedLemmas.{asked_many}
 use Rattle.am_c.proofs.session.answer_event.Goals as goal
 
 pub returns-in-Some : goal.returns-in-Some
-returns-in-Some c = asked_many (state_of c.args.world.now) c.args.line.now _ _ c.in-Some.ensures.cut
+returns-in-Some c =
+    asked_many (state_of c.args.world.now) c.args.line.now _ _ (rw c.in-Some.is at c.cut_at_line_feed.ensures.cut)
