@@ -1,12 +1,12 @@
 -- A session of a head that was opened.
-use Rattle.std.proofs.Common.{◌≡◌, ◌⊎◌, ℕ, List, Option, Some, None, Result, Ok, Err, IfOk, IfErr, OnOk, option_copied, sym, ◌∙◌, subst, inl, inr}
+use Rattle.std.proofs.Common.{◌≡◌, ◌⊎◌, ℕ, List, length, Option, Some, None, Result, Ok, Err, IfOk, IfErr, OnOk, option_copied, sym, ◌∙◌, subst, inl, inr}
 use Rattle.am_machine.specs.{setup_of, initial_state_of}
-use Rattle.am_script.specs.{IsOpened, NoNext, ScriptFault, ScriptFaultKind, Told, broken, events_from, lines_in, only_fault, script_of}
+use Rattle.am_script.specs.{IsOpened, NoNext, NotOpened, ScriptFault, ScriptFaultKind, Told, broken, events_from, lines_in, lines_of, only_fault, played, script_of}
 use Rattle.am_script.specs.declared.visit.Opened.{Opened}
 use Rattle.am_world.specs.{WorldTable}
 use Rattle.am_world.specs.Capacity.{state_of}
 use Rattle.am_c.specs.declared.session.Session.{Session}
-use Rattle.am_c.specs.Sessions.{HasEvent, IsNew}
+use Rattle.am_c.specs.Sessions.{HasEvent, IsNew, NotBegun}
 
 -- what stands behind the line `events`
 abbrev behind : Opened → Told
@@ -27,3 +27,8 @@ begun_of head opened (Err fault) is world answer before told err =
 pub begun_as : (head : List ℕ) (broke : Option ScriptFaultKind) (opened : Opened) (made : Result Session ScriptFault) → broke ≡ None → IsOpened (broken broke head) (script_of broke head) opened → IfOk made (λ session. session.world ≡ opened.world) → IfOk made (λ session. session.answer ≡ None) → IfOk made (λ session. session.before ≡ 0) → OnOk made (behind opened ≡ only_fault None) → IfErr made (λ fault. NoNext (behind opened) fault ⊎ HasEvent (behind opened) fault) → IsNew head made
 begun_as head broke opened made whole is =
     begun_of head opened made (subst (λ (b : Option ScriptFaultKind). IsOpened (broken b head) (script_of b head) opened) whole is)
+
+-- its head has a fault
+pub no_head_as : (head : List ℕ) (broke : Option ScriptFaultKind) (fault : ScriptFault) → broke ≡ None → NotOpened (length (lines_of (played broke head))) (script_of broke head) fault → NotBegun head fault
+no_head_as head broke fault whole h =
+    inr (inl (subst (λ (b : Option ScriptFaultKind). NotOpened (length (lines_of (played b head))) (script_of b head) fault) whole h))

@@ -4,4 +4,4 @@ use Rattle.am_c.proofs.session.answer_event.Goals as goal
 
 pub returns-in-Some : goal.returns-in-Some
 returns-in-Some c =
-    asked_many (state_of c.args.world.now) c.args.line.now _ _ (rw c.in-Some.is at c.cut_at_line_feed.ensures.cut)
+    asked_many (state_of c.args.world.now) c.args.line.now _ c.in-Some._rest.now (rw c.in-Some.is at c.cut_at_line_feed.ensures.cut)
