@@ -68,7 +68,8 @@ def by_pipes(program, head, events, answers):
 
 def main(words):
     if not all(word.isdigit() and word[0] != "0" for word in words) or len(words) > 2:
-        sys.exit("asks: expected numbers from 1 on, as in asks.py [RUNS [EVENTS]]")
+        print("asks: expected numbers from 1 on, as in asks.py [RUNS [EVENTS]]", file=sys.stderr)
+        sys.exit(2)
     runs, count = ([int(word) for word in words] + [RUNS, EVENTS][len(words):])[:2]
     sys.path.insert(0, os.path.join(TOP, "out", "library"))
     import dalvicna

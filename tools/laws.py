@@ -238,8 +238,12 @@ def judge_short_traces():
 
 
 def judge(path):
-    with open(path, encoding="utf-8", errors="surrogateescape") as file:
-        found = breaches(observations(file.read()))
+    try:
+        with open(path, encoding="utf-8", errors="surrogateescape") as file:
+            found = breaches(observations(file.read()))
+    except OSError as error:
+        print(f"laws: {path}: expected a trace that can be read: {error.strerror}", file=sys.stderr)
+        sys.exit(2)
     for breach in found:
         print(f"{path}: {breach}")
     return not found
