@@ -1,7 +1,7 @@
 //! A daemon's calls of which no event is made: packets for it that no kernel sends, in the order of
 //! their tests, and bytes that are none. What events come to is in scripts.
 
-use crate::tests::script::{Stage, Step, plays_all};
+use crate::tests::script::{Example, Stage, Step, plays};
 use am_daemon::{Daemon, DaemonFault};
 use am_job::{Act, Outcome};
 use am_map::{Map, MapKind};
@@ -234,7 +234,7 @@ const MISSING: PacketType = PacketType::MissingIndirect;
 
 const EXPIRE: PacketType = PacketType::ExpireIndirect;
 
-const TESTS_IN_ORDER: &[Step<Call>] = &[
+static TESTS_IN_ORDER: [Step<Call>; 24] = [
     // Each packet fails one test less than the one before. File system 2 isn't known, attachment 9
     // isn't held, and token 5 has a job.
     Step::Does(Call::Attaches(3, 2, b"/net")),
@@ -266,8 +266,12 @@ const TESTS_IN_ORDER: &[Step<Call>] = &[
     Step::Does(Call::Takes(2, Mail(MISSING, 3, b"new", 8), OLD_ATTACH)),
 ];
 
+fn tests_in_order() -> Example<Call> {
+    Example("each packet tests in order", &TESTS_IN_ORDER)
+}
+
 /// A file system that is attached once more: the older attachment and the older path are let go.
-const ATTACHED_AGAIN: &[Step<Call>] = &[
+static ATTACHED_AGAIN: [Step<Call>; 12] = [
     Step::Does(Call::Serves(b"/auto", 0, 300)),
     Step::Does(Call::Serves(b"/net", 1, 60)),
     Step::Does(Call::Attaches(2, 1, b"/auto")),
@@ -282,8 +286,12 @@ const ATTACHED_AGAIN: &[Step<Call>] = &[
     Step::Does(Call::Holds(3, 2)),
 ];
 
+fn attached_again() -> Example<Call> {
+    Example("a file system that is attached once more", &ATTACHED_AGAIN)
+}
+
 /// The entry of a key, and that of the wildcard, which has the key in its path.
-const ENTRIES: &[Step<Call>] = &[
+static ENTRIES: [Step<Call>; 9] = [
     Step::Does(Call::Attaches(2, 1, b"/auto")),
     Step::Does(Call::Takes(1, Mail(MISSING, 2, b"home", 5), NONE)),
     Step::Does(Call::Takes(1, Mail(MISSING, 2, b"work", 6), NONE)),
@@ -295,25 +303,27 @@ const ENTRIES: &[Step<Call>] = &[
     Step::Does(Call::MountIds(6, b"/any/work")),
 ];
 
+fn entries() -> Example<Call> {
+    Example("the entries of acts", &ENTRIES)
+}
+
 /// Bytes are tested before anything else.
-const NO_PACKETS: &[Step<Call>] = &[
+static NO_PACKETS: [Step<Call>; 4] = [
     Step::Does(Call::DeliversBytes(9, &[0; 299], WireFault::Length)),
     Step::Does(Call::DeliversBytes(9, &[0; 304], WireFault::Version)),
     Step::Does(Call::FaultNumber(DaemonFault::Wire(WireFault::Version), 1)),
     Step::Does(Call::FaultNumber(DaemonFault::NoMemory, 5)),
 ];
 
-static EXAMPLES: [(&str, &[&[Step<Call>]]); 4] = [
-    ("each packet tests in order", &[TESTS_IN_ORDER]),
-    (
-        "a file system that is attached once more",
-        &[ATTACHED_AGAIN],
-    ),
-    ("the entries of acts", &[ENTRIES]),
-    ("bytes that are no packet", &[NO_PACKETS]),
-];
+fn no_packets() -> Example<Call> {
+    Example("bytes that are no packet", &NO_PACKETS)
+}
 
 #[test]
 fn packets(rt: HostRuntime) {
-    plays_all::<Half>(&rt, rt.alloc(), &EXAMPLES);
+    let alloc = rt.alloc();
+    plays::<Half>(&rt, alloc, tests_in_order());
+    plays::<Half>(&rt, alloc, attached_again());
+    plays::<Half>(&rt, alloc, entries());
+    plays::<Half>(&rt, alloc, no_packets());
 }

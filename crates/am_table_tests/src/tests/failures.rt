@@ -1,7 +1,7 @@
 //! What failed last at each trigger: how long that lasts, what takes its place, and what makes it
 //! good.
 
-use crate::tests::script::{Stage, Step, plays_all};
+use crate::tests::script::{Example, Stage, Step, plays};
 use crate::tests::trap::Trap;
 use am_names::{Errno, FailNo, FsId, Name, Seconds};
 use am_trigger::{Failure, Failures, Lasting};
@@ -116,7 +116,7 @@ const ROOT: Trap = Trap(3, b"");
 const OTHER_HOME: Trap = Trap(4, b"home");
 
 /// A failure at 100 lasts before the second that ends its seconds.
-const SECONDS: &[Step<Call>] = &[
+static SECONDS: [Step<Call>; 17] = [
     Step::Does(Call::Last(HOME, None)),
     Step::Does(Call::Lasts(HOME, 100, 60, None)),
     Step::Does(Call::Fails(HOME, FailNo::EPERM, 100)),
@@ -138,8 +138,12 @@ const SECONDS: &[Step<Call>] = &[
     Step::Does(Call::Last(HOME, Some((FailNo::EPERM, 100)))),
 ];
 
+fn seconds() -> Example<Call> {
+    Example("a failure lasts to its second", &SECONDS)
+}
+
 /// 18446744073709551614 is the second before the greatest moment.
-const GREATEST: &[Step<Call>] = &[
+static GREATEST: [Step<Call>; 12] = [
     Step::Does(Call::Fails(HOME, FailNo::ENOSPC, u64::MAX)),
     Step::Does(Call::Lasts(HOME, u64::MAX, u64::MAX, Some(FailNo::ENOSPC))),
     Step::Does(Call::Lasts(HOME, u64::MAX, 1, Some(FailNo::ENOSPC))),
@@ -154,8 +158,12 @@ const GREATEST: &[Step<Call>] = &[
     Step::Does(Call::Lasts(HOME, 18446744073709551614, u64::MAX, Some(FailNo::EBUSY))),
 ];
 
+fn greatest() -> Example<Call> {
+    Example("the greatest numbers do not overflow", &GREATEST)
+}
+
 /// A trigger has one failure, the last, whatever its moment is.
-const AGAIN: &[Step<Call>] = &[
+static AGAIN: [Step<Call>; 17] = [
     Step::Does(Call::Fails(HOME, FailNo::ENOENT, 100)),
     Step::Does(Call::Fails(WORK, FailNo::EEXIST, 110)),
     Step::Does(Call::Fails(HOME, FailNo::EPERM, 150)),
@@ -175,8 +183,12 @@ const AGAIN: &[Step<Call>] = &[
     Step::Does(Call::Last(HOME, Some((FailNo::EINVAL, 7)))),
 ];
 
+fn again() -> Example<Call> {
+    Example("a trigger has one failure", &AGAIN)
+}
+
 /// Those of file system 2 stand apart.
-const OF_FILE_SYSTEMS: &[Step<Call>] = &[
+static OF_FILE_SYSTEMS: [Step<Call>; 18] = [
     Step::Does(Call::MendsAll(2)),
     Step::Does(Call::Fails(HOME, FailNo::ENOENT, 1)),
     Step::Does(Call::Fails(ROOT, FailNo::EPERM, 2)),
@@ -197,17 +209,18 @@ const OF_FILE_SYSTEMS: &[Step<Call>] = &[
     Step::Does(Call::Last(OTHER_HOME, Some((FailNo::EBUSY, 3)))),
 ];
 
-static EXAMPLES: [(&str, &[&[Step<Call>]]); 4] = [
-    ("a failure lasts to its second", &[SECONDS]),
-    ("the greatest numbers do not overflow", &[GREATEST]),
-    ("a trigger has one failure", &[AGAIN]),
-    (
+fn of_file_systems() -> Example<Call> {
+    Example(
         "the failures of a file system go together",
-        &[OF_FILE_SYSTEMS],
-    ),
-];
+        &OF_FILE_SYSTEMS,
+    )
+}
 
 #[test]
 fn failures(rt: HostRuntime) {
-    plays_all::<Table>(&rt, rt.alloc(), &EXAMPLES);
+    let alloc = rt.alloc();
+    plays::<Table>(&rt, alloc, seconds());
+    plays::<Table>(&rt, alloc, greatest());
+    plays::<Table>(&rt, alloc, again());
+    plays::<Table>(&rt, alloc, of_file_systems());
 }

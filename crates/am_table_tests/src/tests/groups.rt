@@ -1,6 +1,6 @@
 //! Peer groups of mounts by calls that no event makes. What events make of them is in scripts.
 
-use crate::tests::script::{Stage, Step, plays_all};
+use crate::tests::script::{Example, Stage, Step, plays};
 use am_group::{Change, Groups, MountState};
 use am_names::{Errno, GroupId, Membership, MountId};
 use std::alloc::Global;
@@ -241,7 +241,7 @@ impl Stage for Table {
 }
 
 /// Peer group 1 with the mounts 10 and 11, and under it peer group 2 with 20.
-const TESTS_IN_ORDER: &[Step<Call>] = &[
+static TESTS_IN_ORDER: [Step<Call>; 20] = [
     Step::Does(Call::Fresh(FIRST)),
     Step::Does(Call::Adds(11, Part::InGroup(FIRST))),
     Step::Does(Call::Adds(10, Part::InGroup(FIRST))),
@@ -265,8 +265,12 @@ const TESTS_IN_ORDER: &[Step<Call>] = &[
     Step::Does(Call::AreGroups(&[FIRST, 3, 4])),
 ];
 
+fn tests_in_order() -> Example<Call> {
+    Example("each call tests in order", &TESTS_IN_ORDER)
+}
+
 /// Both groups are there before any mount is.
-const GROUPS_FIRST: &[Step<Call>] = &[
+static GROUPS_FIRST: [Step<Call>; 20] = [
     Step::Does(Call::Fresh(FIRST)),
     Step::Does(Call::FreshUnder(FIRST, SECOND)),
     Step::Does(Call::Adds(2, Part::InGroup(FIRST))),
@@ -289,9 +293,13 @@ const GROUPS_FIRST: &[Step<Call>] = &[
     Step::Does(Call::HasState(5, Some(MountState::Private))),
 ];
 
+fn groups_first() -> Example<Call> {
+    Example("groups are there before their members", &GROUPS_FIRST)
+}
+
 /// The groups 1, 2 and 3, each under the one before. What is under 2 receives nothing until 2 has
 /// a member, and a change of another mount leaves 2 as it is. Its last member takes it along.
-const MEMBERS_LAST: &[Step<Call>] = &[
+static MEMBERS_LAST: [Step<Call>; 23] = [
     Step::Does(Call::Fresh(FIRST)),
     Step::Does(Call::FreshUnder(FIRST, SECOND)),
     Step::Does(Call::FreshUnder(SECOND, 3)),
@@ -317,14 +325,22 @@ const MEMBERS_LAST: &[Step<Call>] = &[
     Step::Refused(Call::FreshUnder(SECOND, 5), Errno::EINVAL),
 ];
 
-const ALL_TOGETHER: &[Step<Call>] = &[
+fn members_last() -> Example<Call> {
+    Example("a group without members hands nothing on", &MEMBERS_LAST)
+}
+
+static ALL_TOGETHER: [Step<Call>; 3] = [
     Step::Does(Call::AddsAll(3)),
     Step::Does(Call::HasState(3, Some(MountState::Private))),
     Step::Does(Call::Members(1)),
 ];
 
+fn all_together() -> Example<Call> {
+    Example("mounts added all together", &ALL_TOGETHER)
+}
+
 /// Those taken back are the newest, and not more than there are.
-const LAST: &[Step<Call>] = &[
+static LAST: [Step<Call>; 15] = [
     Step::Does(Call::AddsLast(3)),
     Step::Does(Call::HasState(3, Some(MountState::Private))),
     Step::Does(Call::Makes(3, Change::MakeShared)),
@@ -342,9 +358,13 @@ const LAST: &[Step<Call>] = &[
     Step::Does(Call::Members(0)),
 ];
 
+fn last() -> Example<Call> {
+    Example("a mount added last, and taken back", &LAST)
+}
+
 /// A refusal takes no number, and neither does a change that makes no group. (That the numbers are
 /// exhausted no example can tell: they have 64 bits.)
-const NUMBERS: &[Step<Call>] = &[
+static NUMBERS: [Step<Call>; 16] = [
     Step::Does(Call::LastGroup(0)),
     Step::Does(Call::Fresh(FIRST)),
     Step::Does(Call::LastGroup(FIRST)),
@@ -363,8 +383,12 @@ const NUMBERS: &[Step<Call>] = &[
     Step::Does(Call::Makes(1, Change::MakeSlave)),
 ];
 
+fn numbers() -> Example<Call> {
+    Example("numbers go up with each group that is made", &NUMBERS)
+}
+
 /// Group 1 of the mounts 2 and 3, and under it group 2 of 4 and 5; then a chain of 200 groups.
-const TURNS: &[Step<Call>] = &[
+static TURNS: [Step<Call>; 12] = [
     Step::Does(Call::Fresh(FIRST)),
     Step::Does(Call::FreshUnder(FIRST, SECOND)),
     Step::Does(Call::Adds(2, Part::InGroup(FIRST))),
@@ -379,17 +403,18 @@ const TURNS: &[Step<Call>] = &[
     Step::Does(Call::CountsUpTo(200, 200, 1)),
 ];
 
-static EXAMPLES: [(&str, &[&[Step<Call>]]); 7] = [
-    ("each call tests in order", &[TESTS_IN_ORDER]),
-    ("groups are there before their members", &[GROUPS_FIRST]),
-    ("a group without members hands nothing on", &[MEMBERS_LAST]),
-    ("mounts added all together", &[ALL_TOGETHER]),
-    ("a mount added last, and taken back", &[LAST]),
-    ("numbers go up with each group that is made", &[NUMBERS]),
-    ("each peer group is met once", &[TURNS]),
-];
+fn turns() -> Example<Call> {
+    Example("each peer group is met once", &TURNS)
+}
 
 #[test]
 fn groups(rt: HostRuntime) {
-    plays_all::<Table>(&rt, rt.alloc(), &EXAMPLES);
+    let alloc = rt.alloc();
+    plays::<Table>(&rt, alloc, tests_in_order());
+    plays::<Table>(&rt, alloc, groups_first());
+    plays::<Table>(&rt, alloc, members_last());
+    plays::<Table>(&rt, alloc, all_together());
+    plays::<Table>(&rt, alloc, last());
+    plays::<Table>(&rt, alloc, numbers());
+    plays::<Table>(&rt, alloc, turns());
 }

@@ -1,7 +1,7 @@
 //! Every plan of a job, act by act, and what comes of them.
 
 use crate::tests::acts::{Comes, Deed, Said};
-use crate::tests::script::{Stage, Step, plays_all};
+use crate::tests::script::{Example, Stage, Step, plays};
 use crate::tests::trap::Trap;
 use am_job::Job;
 use am_map::Entry;
@@ -145,7 +145,7 @@ const READY: Deed = Deed::Replies(Status::Ready);
 
 const FAIL: Deed = Deed::Replies(Status::Fail(FailNo::ENOENT));
 
-const INDIRECT: &[Step<Call>] = &[
+static INDIRECT: [Step<Call>; 42] = [
     Step::Does(Call::On(Trap(2, b"home"))),
     // The mount comes.
     Step::Does(Call::Asks(MISSING, None, true)),
@@ -197,7 +197,11 @@ const INDIRECT: &[Step<Call>] = &[
     Step::Does(Call::Ends),
 ];
 
-const DIRECT: &[Step<Call>] = &[
+fn indirect() -> Example<Call> {
+    Example("plans of an indirect trigger", &INDIRECT)
+}
+
+static DIRECT: [Step<Call>; 33] = [
     Step::Does(Call::On(Trap(2, b""))),
     Step::Does(Call::Asks(MISSING, None, true)),
     Step::Does(Call::Does(MOUNT, MADE)),
@@ -233,9 +237,13 @@ const DIRECT: &[Step<Call>] = &[
     Step::Does(Call::Ends),
 ];
 
+fn direct() -> Example<Call> {
+    Example("plans of a direct trigger", &DIRECT)
+}
+
 /// The reply has the number of the mount or the unmount that failed. What other acts come to
 /// changes no number.
-const NUMBERS: &[Step<Call>] = &[
+static NUMBERS: [Step<Call>; 35] = [
     Step::Does(Call::On(Trap(2, b"home"))),
     Step::Does(Call::Asks(MISSING, None, true)),
     Step::Does(Call::Does(Deed::Mkdir, Comes::Failed(FailNo::EEXIST))),
@@ -278,7 +286,11 @@ const NUMBERS: &[Step<Call>] = &[
     Step::Does(Call::Ends),
 ];
 
-const A_PACKET: &[Step<Call>] = &[
+fn numbers() -> Example<Call> {
+    Example("a reply has the number of a failure", &NUMBERS)
+}
+
+static A_PACKET: [Step<Call>; 13] = [
     Step::Does(Call::On(Trap(2, b""))),
     Step::Does(Call::Asks(EXPIRE, Some(4), false)),
     Step::Does(Call::Tells(5, 1)),
@@ -294,14 +306,15 @@ const A_PACKET: &[Step<Call>] = &[
     Step::Does(Call::Tells(5, 1)),
 ];
 
-static EXAMPLES: [(&str, &[&[Step<Call>]]); 4] = [
-    ("plans of an indirect trigger", &[INDIRECT]),
-    ("plans of a direct trigger", &[DIRECT]),
-    ("a reply has the number of a failure", &[NUMBERS]),
-    ("a job tells its packet", &[A_PACKET]),
-];
+fn a_packet() -> Example<Call> {
+    Example("a job tells its packet", &A_PACKET)
+}
 
 #[test]
 fn plans(rt: HostRuntime) {
-    plays_all::<Work>(&rt, rt.alloc(), &EXAMPLES);
+    let alloc = rt.alloc();
+    plays::<Work>(&rt, alloc, indirect());
+    plays::<Work>(&rt, alloc, direct());
+    plays::<Work>(&rt, alloc, numbers());
+    plays::<Work>(&rt, alloc, a_packet());
 }

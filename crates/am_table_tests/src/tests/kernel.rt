@@ -4,7 +4,7 @@
 mod calls;
 
 use crate::tests::kernel::calls::{Asked, Call, Half, Sight, Told};
-use crate::tests::script::{Step, plays_all};
+use crate::tests::script::{Example, Step, plays, plays_behind};
 use crate::tests::trap::Trap;
 use am_names::{Errno, FailNo, Status};
 
@@ -15,7 +15,7 @@ const OTHER: Trap = Trap(3, b"other");
 const DATA: Trap = Trap(5, b"");
 
 /// Attachment 1 is old. File systems 3 and 4 are indirect, 5 is direct.
-const ATTACHED: &[Step<Call>] = &[
+static ATTACHED: [Step<Call>; 8] = [
     Step::Does(Call::Indirect(b"/gone", 2)),
     Step::Does(Call::Indirect(b"/auto", 3)),
     Step::Does(Call::Indirect(b"/next", 4)),
@@ -26,7 +26,11 @@ const ATTACHED: &[Step<Call>] = &[
     Step::Refused(Call::AdminCatatonic(1), Errno::EINVAL),
 ];
 
-const DIRECTORIES: &[Step<Call>] = &[
+fn attached() -> &'static [Step<Call>] {
+    &ATTACHED
+}
+
+static DIRECTORIES: [Step<Call>; 15] = [
     Step::Refused(Call::Mkdir(1, DATA), Errno::EPERM),
     Step::Refused(Call::Mkdir(1, Trap(2, b"x")), Errno::EPERM),
     Step::Refused(Call::Mkdir(4, DATA), Errno::EINVAL),
@@ -44,7 +48,11 @@ const DIRECTORIES: &[Step<Call>] = &[
     Step::Refused(Call::Mkdir(2, HOME), Errno::EEXIST),
 ];
 
-const MOUNTS: &[Step<Call>] = &[
+fn directories() -> Example<Call> {
+    Example("directories", &DIRECTORIES)
+}
+
+static MOUNTS: [Step<Call>; 21] = [
     Step::Does(Call::Mkdir(2, HOME)),
     Step::Refused(Call::MountOn(1, HOME, 6), Errno::EPERM),
     Step::Refused(Call::MountOn(3, HOME, 6), Errno::EPERM),
@@ -68,8 +76,12 @@ const MOUNTS: &[Step<Call>] = &[
     Step::Refused(Call::UmountFrom(1, HOME, 6), Errno::EPERM),
 ];
 
+fn mounts() -> Example<Call> {
+    Example("mounts", &MOUNTS)
+}
+
 /// A token is acknowledged once, under the attachment of its own file system.
-const ANSWERS: &[Step<Call>] = &[
+static ANSWERS: [Step<Call>; 11] = [
     Step::Does(Call::Walk(7, b"/auto/home", 1, Told::Waits(1))),
     Step::Does(Call::Walk(8, b"/next/x", 1, Told::Waits(2))),
     Step::Refused(Call::Asks(Asked::Ready(9, 9), Told::Done), Errno::EPERM),
@@ -89,8 +101,12 @@ const ANSWERS: &[Step<Call>] = &[
     ),
 ];
 
+fn answers() -> Example<Call> {
+    Example("acknowledgements", &ANSWERS)
+}
+
 /// Home and work are mounted. Home is last used at 100, and due after 60 seconds.
-const USED: &[Step<Call>] = &[
+static USED: [Step<Call>; 8] = [
     Step::Does(Call::Indirect(b"/auto", 2)),
     Step::Does(Call::Mkdir(1, Trap(2, b"home"))),
     Step::Does(Call::MountOn(1, Trap(2, b"home"), 3)),
@@ -101,8 +117,12 @@ const USED: &[Step<Call>] = &[
     Step::Does(Call::Sees(Asked::SetTimeout(1, 2, 60), Told::Done, &[])),
 ];
 
+fn used() -> &'static [Step<Call>] {
+    &USED
+}
+
 /// Home is due at 160; work is last used at 130.
-const REQUESTS: &[Step<Call>] = &[
+static REQUESTS: [Step<Call>; 18] = [
     Step::Does(Call::Walk(7, b"/auto/work", 130, Told::Arrives(4))),
     Step::Does(Call::Leave(7)),
     Step::Refused(
@@ -165,9 +185,13 @@ const REQUESTS: &[Step<Call>] = &[
     ),
 ];
 
+fn requests() -> Example<Call> {
+    Example("each request as one call", &REQUESTS)
+}
+
 /// A walk at 50 counts as one at 100, so work is due at 160 too. A walk at 900 that is refused
 /// doesn't count.
-const MOMENTS: &[Step<Call>] = &[
+static MOMENTS: [Step<Call>; 6] = [
     Step::Does(Call::Walk(7, b"/auto/work", 50, Told::Arrives(4))),
     Step::Refused(
         Call::Walk(7, b"/auto/work", 900, Told::Arrives(4)),
@@ -182,9 +206,13 @@ const MOMENTS: &[Step<Call>] = &[
     Step::Does(Call::Asks(Asked::Expire(8, 2, 0, false), Told::Waits(2))),
 ];
 
+fn moments() -> Example<Call> {
+    Example("moments", &MOMENTS)
+}
+
 /// A failure at `/auto/home` is acknowledged at 100, and lasts before 160. Its number goes to all
 /// that wait.
-const FAILED: &[Step<Call>] = &[
+static FAILED: [Step<Call>; 6] = [
     Step::Does(Call::Indirect(b"/auto", 2)),
     Step::Does(Call::Walk(7, b"/auto/home", 90, Told::Waits(1))),
     Step::Does(Call::Walk(8, b"/auto/home/x", 100, Told::Waits(1))),
@@ -201,9 +229,13 @@ const FAILED: &[Step<Call>] = &[
     Step::Does(Call::Resume(8, 110, Told::Fails(Errno::EPERM))),
 ];
 
+fn failed() -> &'static [Step<Call>] {
+    &FAILED
+}
+
 /// A walk that is refused doesn't count, and a moment that goes back counts as the latest. The
 /// failure that comes next has another number, and takes the place of the one before.
-const LASTS: &[Step<Call>] = &[
+static LASTS: [Step<Call>; 11] = [
     Step::Refused(
         Call::Walk(7, b"/auto/home", 120, Told::Waits(2)),
         Errno::EPERM,
@@ -229,8 +261,12 @@ const LASTS: &[Step<Call>] = &[
     Step::Does(Call::Walk(8, b"/auto/home", 220, Told::Waits(3))),
 ];
 
+fn lasts() -> Example<Call> {
+    Example("a failure lasts to its second", &LASTS)
+}
+
 /// The other name waits at 130, and fails at 130.
-const ANOTHER_NAME: &[Step<Call>] = &[
+static ANOTHER_NAME: [Step<Call>; 11] = [
     Step::Does(Call::Walk(8, b"/auto/other", 130, Told::Waits(2))),
     Step::Refused(
         Call::Walk(7, b"/auto/home", 130, Told::Waits(2)),
@@ -256,9 +292,13 @@ const ANOTHER_NAME: &[Step<Call>] = &[
     Step::Does(Call::Walk(8, b"/auto/other", 190, Told::Waits(4))),
 ];
 
+fn another_name() -> Example<Call> {
+    Example("a failure is one of its own name", &ANOTHER_NAME)
+}
+
 /// What is mounted is walked into, and what isn't any more fails again, until the second that ends
 /// it. What comes of an expiry makes nothing good.
-const FAILS_AGAIN: &[Step<Call>] = &[
+static FAILS_AGAIN: [Step<Call>; 23] = [
     Step::Does(Call::Mkdir(1, Trap(2, b"home"))),
     Step::Refused(
         Call::Walk(7, b"/auto/home", 120, Told::Waits(2)),
@@ -293,8 +333,12 @@ const FAILS_AGAIN: &[Step<Call>] = &[
     Step::Does(Call::Walk(7, b"/auto/home", 161, Told::Waits(4))),
 ];
 
+fn fails_again() -> Example<Call> {
+    Example("a failure lasts behind a mount", &FAILS_AGAIN)
+}
+
 /// READY to an expiry leaves a failure that lasts, where something was mounted without a notification.
-const EXPIRED_BEHIND: &[Step<Call>] = &[
+static EXPIRED_BEHIND: [Step<Call>; 14] = [
     Step::Does(Call::Begins(1000)),
     Step::Does(Call::Indirect(b"/auto", 2)),
     Step::Does(Call::Walk(7, b"/auto/home", 100, Told::Waits(1))),
@@ -314,8 +358,12 @@ const EXPIRED_BEHIND: &[Step<Call>] = &[
     ),
 ];
 
+fn expired_behind() -> Example<Call> {
+    Example("READY to an expiry leaves a failure", &EXPIRED_BEHIND)
+}
+
 /// Nothing that failed lasts in the file system. In another one it does.
-const CATATONIC: &[Step<Call>] = &[
+static CATATONIC: [Step<Call>; 11] = [
     Step::Does(Call::Indirect(b"/next", 3)),
     Step::Does(Call::Walk(7, b"/next/home", 130, Told::Waits(2))),
     Step::Does(Call::Asks(Asked::Fail(2, 2, FailNo::EAGAIN), Told::Done)),
@@ -338,9 +386,13 @@ const CATATONIC: &[Step<Call>] = &[
     Step::Does(Call::Walk(8, b"/next/home", 190, Told::Waits(4))),
 ];
 
+fn catatonic() -> Example<Call> {
+    Example("catatonic mode ends failures", &CATATONIC)
+}
+
 /// So it is where an administrator or a pipe that nobody reads makes it catatonic. A walk at a
 /// failure finds out nothing about the pipe.
-const CATATONIC_TOO: &[Step<Call>] = &[
+static CATATONIC_TOO: [Step<Call>; 12] = [
     Step::Does(Call::AdminCatatonic(2)),
     Step::Does(Call::Asks(Asked::SetPipe(2), Told::Attached(2))),
     Step::Does(Call::Walk(7, b"/auto/home", 130, Told::Waits(2))),
@@ -358,9 +410,13 @@ const CATATONIC_TOO: &[Step<Call>] = &[
     Step::Does(Call::Walk(8, b"/auto/more", 140, Told::Waits(5))),
 ];
 
+fn catatonic_too() -> Example<Call> {
+    Example("so it does by whatever brings it", &CATATONIC_TOO)
+}
+
 /// An unmount that failed leaves nothing. Who asked for it is told the number; who walks there goes
 /// on.
-const EXPIRY_FAILED: &[Step<Call>] = &[
+static EXPIRY_FAILED: [Step<Call>; 8] = [
     Step::Does(Call::Asks(Asked::Expire(7, 2, 160, false), Told::Waits(1))),
     Step::Does(Call::Walk(8, b"/auto/home", 160, Told::Waits(1))),
     Step::Does(Call::Sees(
@@ -379,8 +435,12 @@ const EXPIRY_FAILED: &[Step<Call>] = &[
     Step::Does(Call::Walk(8, b"/auto/home", 160, Told::Waits(2))),
 ];
 
+fn expiry_failed() -> Example<Call> {
+    Example("an unmount that failed", &EXPIRY_FAILED)
+}
+
 /// And it leaves what failed before.
-const EXPIRY_FAILED_BEHIND: &[Step<Call>] = &[
+static EXPIRY_FAILED_BEHIND: [Step<Call>; 10] = [
     Step::Does(Call::Mkdir(1, Trap(2, b"home"))),
     Step::Does(Call::MountOn(1, Trap(2, b"home"), 3)),
     Step::Does(Call::Walk(7, b"/auto/home", 130, Told::Arrives(3))),
@@ -396,8 +456,15 @@ const EXPIRY_FAILED_BEHIND: &[Step<Call>] = &[
     Step::Does(Call::Walk(7, b"/auto/home", 160, Told::Waits(3))),
 ];
 
+fn expiry_failed_behind() -> Example<Call> {
+    Example(
+        "an unmount that failed behind a mount that did",
+        &EXPIRY_FAILED_BEHIND,
+    )
+}
+
 /// Without seconds no failure lasts.
-const NONE_LASTS: &[Step<Call>] = &[
+static NONE_LASTS: [Step<Call>; 7] = [
     Step::Does(Call::Begins(0)),
     Step::Does(Call::Indirect(b"/auto", 2)),
     Step::Does(Call::Walk(7, b"/auto/home", 100, Told::Waits(1))),
@@ -407,8 +474,12 @@ const NONE_LASTS: &[Step<Call>] = &[
     Step::Does(Call::Walk(7, b"/auto/home", 0, Told::Waits(2))),
 ];
 
+fn none_lasts() -> Example<Call> {
+    Example("no failure lasts", &NONE_LASTS)
+}
+
 /// With the greatest number of seconds it lasts but at the last moment, where it began at 0.
-const ALL_LAST: &[Step<Call>] = &[
+static ALL_LAST: [Step<Call>; 11] = [
     Step::Does(Call::Begins(u64::MAX)),
     Step::Does(Call::Direct(b"/data", 2)),
     Step::Does(Call::Walk(7, b"/data", 0, Told::Waits(1))),
@@ -428,28 +499,26 @@ const ALL_LAST: &[Step<Call>] = &[
     Step::Refused(Call::Walk(7, b"/data", 0, Told::Waits(3)), Errno::EBUSY),
 ];
 
-static EXAMPLES: [(&str, &[&[Step<Call>]]); 15] = [
-    ("directories", &[ATTACHED, DIRECTORIES]),
-    ("mounts", &[ATTACHED, MOUNTS]),
-    ("acknowledgements", &[ATTACHED, ANSWERS]),
-    ("each request as one call", &[USED, REQUESTS]),
-    ("moments", &[USED, MOMENTS]),
-    ("a failure lasts to its second", &[FAILED, LASTS]),
-    ("a failure is one of its own name", &[FAILED, ANOTHER_NAME]),
-    ("a failure lasts behind a mount", &[FAILED, FAILS_AGAIN]),
-    ("READY to an expiry leaves a failure", &[EXPIRED_BEHIND]),
-    ("catatonic mode ends failures", &[FAILED, CATATONIC]),
-    ("so it does by whatever brings it", &[FAILED, CATATONIC_TOO]),
-    ("an unmount that failed", &[USED, EXPIRY_FAILED]),
-    (
-        "an unmount that failed behind a mount that did",
-        &[FAILED, EXPIRY_FAILED_BEHIND],
-    ),
-    ("no failure lasts", &[NONE_LASTS]),
-    ("a failure lasts for the longest", &[ALL_LAST]),
-];
+fn all_last() -> Example<Call> {
+    Example("a failure lasts for the longest", &ALL_LAST)
+}
 
 #[test]
 fn requests_of_a_daemon(rt: HostRuntime) {
-    plays_all::<Half>(&rt, rt.alloc(), &EXAMPLES);
+    let alloc = rt.alloc();
+    plays_behind::<Half>(&rt, alloc, attached(), directories());
+    plays_behind::<Half>(&rt, alloc, attached(), mounts());
+    plays_behind::<Half>(&rt, alloc, attached(), answers());
+    plays_behind::<Half>(&rt, alloc, used(), requests());
+    plays_behind::<Half>(&rt, alloc, used(), moments());
+    plays_behind::<Half>(&rt, alloc, failed(), lasts());
+    plays_behind::<Half>(&rt, alloc, failed(), another_name());
+    plays_behind::<Half>(&rt, alloc, failed(), fails_again());
+    plays::<Half>(&rt, alloc, expired_behind());
+    plays_behind::<Half>(&rt, alloc, failed(), catatonic());
+    plays_behind::<Half>(&rt, alloc, failed(), catatonic_too());
+    plays_behind::<Half>(&rt, alloc, used(), expiry_failed());
+    plays_behind::<Half>(&rt, alloc, failed(), expiry_failed_behind());
+    plays::<Half>(&rt, alloc, none_lasts());
+    plays::<Half>(&rt, alloc, all_last());
 }

@@ -7,7 +7,7 @@ use std::process::Abort;
 /// What the calls of an example are made on.
 pub trait Stage: Drop {
     /// A call, and what it answers where it is done.
-    type Call: Copy;
+    type Call: Copy + 'static;
 
     /// What an example begins with.
     fn new(alloc: Global) -> Result<Self, Errno>;
@@ -25,6 +25,10 @@ pub enum Step<C> {
     Refused(C, Errno),
 }
 
+/// What an example shows, and its steps. A function hands each out: what holds them all is costly to check
+/// (CONTRIBUTING.md, "What a check costs").
+pub struct Example<C: 'static>(pub &'static str, pub &'static [Step<C>]);
+
 /// Makes a call, and once more where no memory was found.
 fn make<S: Stage>(stage: &mut S, alloc: Global, call: S::Call) -> Result<bool, Errno> {
     match stage.make(alloc, call) {
@@ -41,19 +45,19 @@ fn goes<S: Stage>(stage: &mut S, alloc: Global, step: Step<S::Call>) -> bool {
     }
 }
 
-/// Each step of the example of this name goes as it says.
-fn plays<S: Stage>(
+/// Each step of the example that shows this goes as it says.
+fn go<S: Stage>(
     rt: &impl Abort,
     alloc: Global,
     stage: &mut S,
-    name: &str,
+    shows: &str,
     steps: &[Step<S::Call>],
 ) {
     let mut number = 0_usize;
     for step in steps {
         number = number.saturating_add(1);
         let goes = goes(stage, alloc, *step);
-        assert!(rt; goes, "{name}: step {number}");
+        assert!(rt; goes, "{shows}: step {number}");
     }
 }
 
@@ -65,27 +69,38 @@ fn made<S: Stage>(alloc: Global) -> Result<S, Errno> {
     }
 }
 
-/// The steps of the tables of an example go as they say, one after the other.
-fn plays_tables<S: Stage>(rt: &impl Abort, alloc: Global, name: &str, tables: &[&[Step<S::Call>]]) {
+/// The steps of the example go as they say, behind those with which it begins.
+fn plays_from<S: Stage>(
+    rt: &impl Abort,
+    alloc: Global,
+    beginning: Option<&'static [Step<S::Call>]>,
+    example: Example<S::Call>,
+) {
+    let Example(shows, steps) = example;
     match made::<S>(alloc) {
         Ok(mut stage) => {
-            for steps in tables {
-                plays(rt, alloc, &mut stage, name, steps);
+            if let Some(beginning) = beginning {
+                go(rt, alloc, &mut stage, shows, beginning);
             }
+            go(rt, alloc, &mut stage, shows, steps);
             // It goes by a call, which is cheaper to check.
             drop(stage);
         }
-        Err(_) => panic!(rt; "{name}: it doesn't begin"),
+        Err(_) => panic!(rt; "{shows}: it doesn't begin"),
     }
 }
 
-/// Each example goes as it says, of which the name and the tables are told.
-pub fn plays_all<S: Stage>(
+/// The steps of the example go as they say, behind these.
+pub fn plays_behind<S: Stage>(
     rt: &impl Abort,
     alloc: Global,
-    examples: &[(&str, &[&[Step<S::Call>]])],
+    beginning: &'static [Step<S::Call>],
+    example: Example<S::Call>,
 ) {
-    for (name, tables) in examples {
-        plays_tables::<S>(rt, alloc, name, tables);
-    }
+    plays_from::<S>(rt, alloc, Some(beginning), example);
+}
+
+/// The steps of the example go as they say.
+pub fn plays<S: Stage>(rt: &impl Abort, alloc: Global, example: Example<S::Call>) {
+    plays_from::<S>(rt, alloc, None, example);
 }

@@ -1,6 +1,6 @@
 //! What tokens are open for, and how many are.
 
-use crate::tests::script::{Stage, Step, plays_all};
+use crate::tests::script::{Example, Stage, Step, plays};
 use crate::tests::trap::Trap;
 use am_names::{Errno, FailNo, FsId, Name, Status, Token, TokenKind, Trigger, WalkerId};
 use am_wait::Waits;
@@ -95,7 +95,7 @@ const EXPIRE: TokenKind = TokenKind::Expire;
 
 const EPERM: Status = Status::Fail(FailNo::EPERM);
 
-const PURPOSES: &[Step<Call>] = &[
+static PURPOSES: [Step<Call>; 35] = [
     Step::Does(Call::AreOpen(0)),
     Step::Does(Call::IsNotOpen(0)),
     Step::Does(Call::IsNotOpen(1)),
@@ -138,9 +138,12 @@ const PURPOSES: &[Step<Call>] = &[
     Step::Does(Call::IsNotOpen(2)),
 ];
 
-static EXAMPLES: [(&str, &[&[Step<Call>]]); 1] = [("what tokens are open for", &[PURPOSES])];
+fn purposes() -> Example<Call> {
+    Example("what tokens are open for", &PURPOSES)
+}
 
 #[test]
 fn tokens(rt: HostRuntime) {
-    plays_all::<Slate>(&rt, rt.alloc(), &EXAMPLES);
+    let alloc = rt.alloc();
+    plays::<Slate>(&rt, alloc, purposes());
 }

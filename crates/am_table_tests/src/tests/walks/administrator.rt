@@ -1,9 +1,9 @@
 //! An administrator's path: the mount traps are off.
 
 use crate::tests::parts::{Call, End, Parts, Setting};
-use crate::tests::script::{Stage, Step, plays_all};
+use crate::tests::script::{Example, Stage, Step, plays, plays_behind};
 use crate::tests::walks::failed;
-use crate::tests::walks::paths::TWO_ON_THE_WAY;
+use crate::tests::walks::paths::two_on_the_way;
 use crate::tests::walks::traps::{DIRECT, INDIRECT};
 use am_names::Errno;
 use std::alloc::Global;
@@ -41,7 +41,7 @@ impl Stage for Leads {
     }
 }
 
-const MOUNTED: &[Step<Case>] = &[
+static MOUNTED: [Step<Case>; 15] = [
     Step::Does(Case::In(INDIRECT)),
     Step::Does(Case::Leads(b"m", b"/auto/home", End::At(5, b""))),
     Step::Does(Case::Leads(b"m", b"/auto/home/x", End::At(5, b"/x"))),
@@ -59,7 +59,11 @@ const MOUNTED: &[Step<Case>] = &[
     Step::Does(Case::Leads(b"xpmckd", b"/auto/home/x", End::At(5, b"/x"))),
 ];
 
-const MADE: &[Step<Case>] = &[
+fn mounted() -> Example<Case> {
+    Example("what is mounted on a trigger is entered", &MOUNTED)
+}
+
+static MADE: [Step<Case>; 13] = [
     Step::Does(Case::In(INDIRECT)),
     Step::Does(Case::Leads(b"k", b"/auto/home", End::At(4, b"/home"))),
     Step::Does(Case::Leads(b"k", b"/auto/home/x", End::Fails(Errno::ENOENT))),
@@ -75,7 +79,11 @@ const MADE: &[Step<Case>] = &[
     Step::Does(Case::Leads(b"xpckd", b"/auto/home/x", End::Fails(Errno::ENOENT))),
 ];
 
-const MISSING: &[Step<Case>] = &[
+fn made() -> Example<Case> {
+    Example("a directory that is made is entered", &MADE)
+}
+
+static MISSING: [Step<Case>; 15] = [
     Step::Does(Case::In(INDIRECT)),
     Step::Does(Case::Leads(b"", b"/auto", End::At(4, b""))),
     Step::Does(Case::Leads(b"c", b"/auto", End::At(4, b""))),
@@ -93,15 +101,23 @@ const MISSING: &[Step<Case>] = &[
     Step::Does(Case::Leads(b"xpcd", b"/auto/home/x", End::Fails(Errno::ENOENT))),
 ];
 
+fn missing() -> Example<Case> {
+    Example("a missing directory is not found", &MISSING)
+}
+
 /// What failed at a trigger is the walkers' alone.
-const FAILED: &[Step<Case>] = &[
+static FAILED: [Step<Case>; 4] = [
     Step::Does(Case::In(failed::INDIRECT)),
     Step::Does(Case::Leads(b"f", b"/auto/home", End::Fails(Errno::ENOENT))),
     Step::Does(Case::Leads(b"kf", b"/auto/home", End::At(4, b"/home"))),
     Step::Does(Case::Leads(b"mf", b"/auto/home", End::At(5, b""))),
 ];
 
-const DIRECT_ROOT: &[Step<Case>] = &[
+fn failed() -> Example<Case> {
+    Example("what failed is not met", &FAILED)
+}
+
+static DIRECT_ROOT: [Step<Case>; 10] = [
     Step::Does(Case::In(DIRECT)),
     Step::Does(Case::Leads(b"", b"/auto", End::At(4, b""))),
     Step::Does(Case::Leads(b"xp", b"/auto", End::At(4, b""))),
@@ -114,7 +130,11 @@ const DIRECT_ROOT: &[Step<Case>] = &[
     Step::Does(Case::Leads(b"m", b"/auto/x", End::At(5, b"/x"))),
 ];
 
-const BEFORE_THE_FIRST_NAME: &[Step<Call>] = &[
+fn direct_root() -> Example<Case> {
+    Example("the root of a direct autofs is entered", &DIRECT_ROOT)
+}
+
+static BEFORE_THE_FIRST_NAME: [Step<Call>; 6] = [
     Step::Does(Call::Direct(1, b"/", 2)),
     Step::Does(Call::Leads(0, b"/", End::At(2, b""))),
     Step::Does(Call::Leads(0, b"/a", End::Fails(Errno::ENOENT))),
@@ -123,34 +143,32 @@ const BEFORE_THE_FIRST_NAME: &[Step<Call>] = &[
     Step::Does(Call::Leads(0, b"/a", End::At(3, b"/a"))),
 ];
 
-const OVER_TWO_AUTOFS: &[Step<Call>] = &[
+fn before_the_first_name() -> Example<Call> {
+    Example(
+        "a direct root before the first name is entered",
+        &BEFORE_THE_FIRST_NAME,
+    )
+}
+
+static OVER_TWO_AUTOFS: [Step<Call>; 4] = [
     Step::Does(Call::Leads(0, b"/auto/home/srv/work/x", End::At(5, b"/x"))),
     Step::Does(Call::Leads(0, b"/auto/home/srv/home", End::Fails(Errno::ENOENT))),
     Step::Does(Call::Leads(0, b"/auto/home/srv", End::At(4, b""))),
     Step::Does(Call::Leads(1, b"/auto/home", End::Fails(Errno::ENOENT))),
 ];
 
-static EXAMPLES: [(&str, &[&[Step<Case>]]); 5] = [
-    ("what is mounted on a trigger is entered", &[MOUNTED]),
-    ("a directory that is made is entered", &[MADE]),
-    ("a missing directory is not found", &[MISSING]),
-    ("what failed is not met", &[FAILED]),
-    ("the root of a direct autofs is entered", &[DIRECT_ROOT]),
-];
-
-static IN_ONE_WORLD: [(&str, &[&[Step<Call>]]); 2] = [
-    (
-        "a direct root before the first name is entered",
-        &[BEFORE_THE_FIRST_NAME],
-    ),
-    (
-        "a path over two autofs is entered",
-        &[TWO_ON_THE_WAY, OVER_TWO_AUTOFS],
-    ),
-];
+fn over_two_autofs() -> Example<Call> {
+    Example("a path over two autofs is entered", &OVER_TWO_AUTOFS)
+}
 
 #[test]
 fn paths_without_traps(rt: HostRuntime) {
-    plays_all::<Leads>(&rt, rt.alloc(), &EXAMPLES);
-    plays_all::<Parts>(&rt, rt.alloc(), &IN_ONE_WORLD);
+    let alloc = rt.alloc();
+    plays::<Leads>(&rt, alloc, mounted());
+    plays::<Leads>(&rt, alloc, made());
+    plays::<Leads>(&rt, alloc, missing());
+    plays::<Leads>(&rt, alloc, failed());
+    plays::<Leads>(&rt, alloc, direct_root());
+    plays::<Parts>(&rt, alloc, before_the_first_name());
+    plays_behind::<Parts>(&rt, alloc, two_on_the_way(), over_two_autofs());
 }

@@ -2,7 +2,7 @@
 //! notified, as long as it lasts, and nowhere else.
 
 use crate::tests::parts::{Call, End, Fact, Setting};
-use crate::tests::script::{Step, plays_all};
+use crate::tests::script::{Example, Step, plays};
 use crate::tests::trap::Trap;
 use crate::tests::walks::traps::{Case, Walks};
 use am_names::{Errno, FailNo};
@@ -44,7 +44,7 @@ const DIRECT: Setting = Setting(
     ],
 );
 
-const DECIDES: &[Step<Case>] = &[
+static DECIDES: [Step<Case>; 18] = [
     Step::Does(Case::In(INDIRECT, 1)),
     Step::Does(Case::Walk(b"f", b"/auto/home", &[], End::Fails(Errno::EPERM))),
     Step::Does(Case::Walk(b"kf", b"/auto/home", &[], End::Fails(Errno::EPERM))),
@@ -65,7 +65,11 @@ const DECIDES: &[Step<Case>] = &[
     Step::Does(Case::Walk(b"df", b"/auto/home", &[HOME], End::At(5, b""))),
 ];
 
-const DECIDES_AT_A_ROOT: &[Step<Case>] = &[
+fn decides() -> Example<Case> {
+    Example("a failure that lasts decides last", &DECIDES)
+}
+
+static DECIDES_AT_A_ROOT: [Step<Case>; 9] = [
     Step::Does(Case::In(DIRECT, 1)),
     Step::Does(Case::Walk(b"f", b"/auto", &[], End::Fails(Errno::EBUSY))),
     Step::Does(Case::Walk(b"f", b"/auto/x", &[], End::Fails(Errno::EBUSY))),
@@ -77,15 +81,16 @@ const DECIDES_AT_A_ROOT: &[Step<Case>] = &[
     Step::Does(Case::Walk(b"df", b"/auto", &[], End::Fails(Errno::ELOOP))),
 ];
 
-static EXAMPLES: [(&str, &[&[Step<Case>]]); 2] = [
-    ("a failure that lasts decides last", &[DECIDES]),
-    (
+fn decides_at_a_root() -> Example<Case> {
+    Example(
         "so it does at the root of a direct autofs",
-        &[DECIDES_AT_A_ROOT],
-    ),
-];
+        &DECIDES_AT_A_ROOT,
+    )
+}
 
 #[test]
 fn failed_triggers(rt: HostRuntime) {
-    plays_all::<Walks>(&rt, rt.alloc(), &EXAMPLES);
+    let alloc = rt.alloc();
+    plays::<Walks>(&rt, alloc, decides());
+    plays::<Walks>(&rt, alloc, decides_at_a_root());
 }

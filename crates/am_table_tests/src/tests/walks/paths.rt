@@ -1,7 +1,7 @@
 //! Paths over stacks, over several triggers, and in several namespaces.
 
 use crate::tests::parts::{Call, End, Parts};
-use crate::tests::script::{Step, plays_all};
+use crate::tests::script::{Example, Step, plays, plays_behind};
 use crate::tests::trap::Trap;
 use am_names::Errno;
 
@@ -11,14 +11,18 @@ const WORK: Trap = Trap(4, b"work");
 
 /// Indirect autofs 2 at `/auto` has mount 3 on `home`, at whose `/srv` indirect autofs 4 has mount
 /// 5 on `work`.
-pub const TWO_ON_THE_WAY: &[Step<Call>] = &[
+static TWO_ON_THE_WAY: [Step<Call>; 4] = [
     Step::Does(Call::Indirect(1, b"/auto", 2)),
     Step::Does(Call::Mount(2, b"/home", 3)),
     Step::Does(Call::Indirect(3, b"/srv", 4)),
     Step::Does(Call::Mount(4, b"/work", 5)),
 ];
 
-const PASSED_IN_ORDER: &[Step<Call>] = &[
+pub fn two_on_the_way() -> &'static [Step<Call>] {
+    &TWO_ON_THE_WAY
+}
+
+static PASSED_IN_ORDER: [Step<Call>; 6] = [
     Step::Does(Call::Walk(0, b"/auto", &[], End::At(2, b""))),
     Step::Does(Call::Walk(0, b"/auto/home", &[HOME], End::At(3, b""))),
     Step::Does(Call::Walk(0, b"/auto/home/srv", &[HOME], End::At(4, b""))),
@@ -37,8 +41,15 @@ const PASSED_IN_ORDER: &[Step<Call>] = &[
     )),
 ];
 
+fn passed_in_order() -> Example<Call> {
+    Example(
+        "triggers are passed in the order of the path",
+        &PASSED_IN_ORDER,
+    )
+}
+
 /// The first trigger on the way decides.
-const STOPS: &[Step<Call>] = &[
+static STOPS: [Step<Call>; 6] = [
     Step::Does(Call::Expires(1, WORK)),
     Step::Does(Call::Walk(0, b"/auto/home/srv/work", &[HOME], End::Waits(1))),
     Step::Does(Call::Catatonic(4)),
@@ -52,7 +63,11 @@ const STOPS: &[Step<Call>] = &[
     Step::Does(Call::Walk(0, b"/auto/home/srv/work", &[], End::Waits(2))),
 ];
 
-const SLASHES: &[Step<Call>] = &[
+fn stops() -> Example<Call> {
+    Example("a walk that stops tells what it passed", &STOPS)
+}
+
+static SLASHES: [Step<Call>; 12] = [
     Step::Does(Call::Walk(0, b"/", &[], End::At(1, b""))),
     Step::Does(Call::Walk(0, b"///", &[], End::At(1, b""))),
     Step::Does(Call::Walk(0, b"//auto/", &[], End::At(2, b""))),
@@ -67,7 +82,11 @@ const SLASHES: &[Step<Call>] = &[
     Step::Does(Call::Leads(0, b"/x//y/", End::At(1, b"/x/y"))),
 ];
 
-const ON_ROOTS: &[Step<Call>] = &[
+fn slashes() -> Example<Call> {
+    Example("slashes may be doubled and trail", &SLASHES)
+}
+
+static ON_ROOTS: [Step<Call>; 11] = [
     Step::Does(Call::Mount(1, b"/a", 2)),
     Step::Does(Call::Mount(2, b"/", 2)),
     Step::Does(Call::Mount(3, b"/", 2)),
@@ -81,7 +100,11 @@ const ON_ROOTS: &[Step<Call>] = &[
     Step::Does(Call::Leads(0, b"/a/b", End::At(6, b"/b"))),
 ];
 
-const AT_ONE_PLACE: &[Step<Call>] = &[
+fn on_roots() -> Example<Call> {
+    Example("five mounts one on the root of the other", &ON_ROOTS)
+}
+
+static AT_ONE_PLACE: [Step<Call>; 14] = [
     Step::Does(Call::Mount(1, b"/a/b", 2)),
     Step::Does(Call::Mount(1, b"/a/b", 2)),
     Step::Does(Call::Mount(1, b"/a/b", 2)),
@@ -98,7 +121,11 @@ const AT_ONE_PLACE: &[Step<Call>] = &[
     Step::Does(Call::CanAdd(7, true)),
 ];
 
-const ON_A_TRIGGER: &[Step<Call>] = &[
+fn at_one_place() -> Example<Call> {
+    Example("of five mounts at one place the most recent", &AT_ONE_PLACE)
+}
+
+static ON_A_TRIGGER: [Step<Call>; 7] = [
     Step::Does(Call::Indirect(1, b"/auto", 2)),
     Step::Does(Call::Mount(2, b"/home", 3)),
     Step::Does(Call::Mount(3, b"/", 3)),
@@ -108,7 +135,11 @@ const ON_A_TRIGGER: &[Step<Call>] = &[
     Step::Does(Call::Walk(0, b"/auto/home/x", &[HOME], End::At(7, b"/x"))),
 ];
 
-const BEFORE_THE_FIRST_NAME: &[Step<Call>] = &[
+fn on_a_trigger() -> Example<Call> {
+    Example("five mounts on a trigger", &ON_A_TRIGGER)
+}
+
+static BEFORE_THE_FIRST_NAME: [Step<Call>; 9] = [
     Step::Does(Call::Direct(1, b"/", 2)),
     Step::Does(Call::Walk(0, b"/", &[], End::Notifies(Trap(2, b"")))),
     Step::Does(Call::Walk(0, b"/a", &[], End::Notifies(Trap(2, b"")))),
@@ -120,15 +151,26 @@ const BEFORE_THE_FIRST_NAME: &[Step<Call>] = &[
     Step::Does(Call::Walk(0, b"/a", &[], End::Waits(1))),
 ];
 
-const CATATONIC: &[Step<Call>] = &[
+fn before_the_first_name() -> Example<Call> {
+    Example(
+        "a trigger may be met before the first name",
+        &BEFORE_THE_FIRST_NAME,
+    )
+}
+
+static CATATONIC: [Step<Call>; 4] = [
     Step::Does(Call::Direct(1, b"/", 2)),
     Step::Does(Call::Catatonic(2)),
     Step::Does(Call::Walk(0, b"/", &[], End::At(2, b""))),
     Step::Does(Call::Walk(0, b"/a", &[], End::Fails(Errno::ENOENT))),
 ];
 
+fn catatonic() -> Example<Call> {
+    Example("a catatonic trigger before the first name", &CATATONIC)
+}
+
 /// A plain mount on the root, and a direct autofs on that one, with another on its trigger.
-const IN_A_STACK: &[Step<Call>] = &[
+static IN_A_STACK: [Step<Call>; 7] = [
     Step::Does(Call::Mount(1, b"/", 2)),
     Step::Does(Call::Direct(2, b"/", 3)),
     Step::Does(Call::Mount(3, b"/", 4)),
@@ -138,8 +180,12 @@ const IN_A_STACK: &[Step<Call>] = &[
     Step::Does(Call::Walk(0, b"/", &[Trap(3, b""), Trap(5, b"")], End::At(6, b""))),
 ];
 
+fn in_a_stack() -> Example<Call> {
+    Example("triggers are met in a stack", &IN_A_STACK)
+}
+
 /// The copies of mounts 1 to 3 are 4 to 6; 7 and 8 are mounted later, one in each namespace.
-const TWO_NAMESPACES: &[Step<Call>] = &[
+static TWO_NAMESPACES: [Step<Call>; 5] = [
     Step::Does(Call::Indirect(1, b"/auto", 2)),
     Step::Does(Call::Mount(2, b"/home", 3)),
     Step::Does(Call::Copy),
@@ -147,7 +193,11 @@ const TWO_NAMESPACES: &[Step<Call>] = &[
     Step::Does(Call::Mount(4, b"/b", 4)),
 ];
 
-const NAMESPACES: &[Step<Call>] = &[
+fn two_namespaces() -> &'static [Step<Call>] {
+    &TWO_NAMESPACES
+}
+
+static NAMESPACES: [Step<Call>; 9] = [
     Step::Does(Call::Walk(0, b"/a/x", &[], End::At(7, b"/x"))),
     Step::Does(Call::Walk(0, b"/b/x", &[], End::At(1, b"/b/x"))),
     Step::Does(Call::Walk(0, b"/auto/home/x", &[HOME], End::At(3, b"/x"))),
@@ -159,59 +209,47 @@ const NAMESPACES: &[Step<Call>] = &[
     Step::Does(Call::Walk(2, b"/auto/home", &[], End::Fails(Errno::ENOENT))),
 ];
 
-const KEPT: &[Step<Call>] = &[Step::Does(Call::KeptWalk(
+fn namespaces() -> Example<Call> {
+    Example("a walk stays in its namespace", &NAMESPACES)
+}
+
+static KEPT: [Step<Call>; 1] = [Step::Does(Call::KeptWalk(
     b"//auto/home/x/",
     &[HOME],
     End::At(3, b"/x"),
 ))];
 
-const TOKENS_OF_ANOTHER: &[Step<Call>] = &[
+fn kept() -> Example<Call> {
+    Example("a kept text is walked like its path", &KEPT)
+}
+
+static TOKENS_OF_ANOTHER: [Step<Call>; 4] = [
     Step::Does(Call::Indirect(1, b"/auto", 2)),
     Step::Does(Call::Expires(1, Trap(3, b"home"))),
     Step::Does(Call::IsPending(2, Trap(2, b""))),
     Step::Does(Call::Walk(0, b"/auto/home", &[], End::Notifies(HOME))),
 ];
 
-static EXAMPLES: [(&str, &[&[Step<Call>]]); 12] = [
-    (
-        "triggers are passed in the order of the path",
-        &[TWO_ON_THE_WAY, PASSED_IN_ORDER],
-    ),
-    (
-        "a walk that stops tells what it passed",
-        &[TWO_ON_THE_WAY, STOPS],
-    ),
-    (
-        "slashes may be doubled and trail",
-        &[TWO_ON_THE_WAY, SLASHES],
-    ),
-    ("five mounts one on the root of the other", &[ON_ROOTS]),
-    (
-        "of five mounts at one place the most recent",
-        &[AT_ONE_PLACE],
-    ),
-    ("five mounts on a trigger", &[ON_A_TRIGGER]),
-    (
-        "a trigger may be met before the first name",
-        &[BEFORE_THE_FIRST_NAME],
-    ),
-    ("a catatonic trigger before the first name", &[CATATONIC]),
-    ("triggers are met in a stack", &[IN_A_STACK]),
-    (
-        "a walk stays in its namespace",
-        &[TWO_NAMESPACES, NAMESPACES],
-    ),
-    (
-        "a kept text is walked like its path",
-        &[TWO_ON_THE_WAY, KEPT],
-    ),
-    (
+fn tokens_of_another() -> Example<Call> {
+    Example(
         "tokens of another file system are nothing to a walk",
-        &[TOKENS_OF_ANOTHER],
-    ),
-];
+        &TOKENS_OF_ANOTHER,
+    )
+}
 
 #[test]
 fn paths(rt: HostRuntime) {
-    plays_all::<Parts>(&rt, rt.alloc(), &EXAMPLES);
+    let alloc = rt.alloc();
+    plays_behind::<Parts>(&rt, alloc, two_on_the_way(), passed_in_order());
+    plays_behind::<Parts>(&rt, alloc, two_on_the_way(), stops());
+    plays_behind::<Parts>(&rt, alloc, two_on_the_way(), slashes());
+    plays::<Parts>(&rt, alloc, on_roots());
+    plays::<Parts>(&rt, alloc, at_one_place());
+    plays::<Parts>(&rt, alloc, on_a_trigger());
+    plays::<Parts>(&rt, alloc, before_the_first_name());
+    plays::<Parts>(&rt, alloc, catatonic());
+    plays::<Parts>(&rt, alloc, in_a_stack());
+    plays_behind::<Parts>(&rt, alloc, two_namespaces(), namespaces());
+    plays_behind::<Parts>(&rt, alloc, two_on_the_way(), kept());
+    plays::<Parts>(&rt, alloc, tokens_of_another());
 }

@@ -2,7 +2,7 @@
 //! and where several hold at once, the first.
 
 use crate::tests::parts::{Call, End, Fact, Setting};
-use crate::tests::script::{Stage, Step, plays_all};
+use crate::tests::script::{Example, Stage, Step, plays};
 use crate::tests::trap::Trap;
 use am_names::Errno;
 use std::alloc::Global;
@@ -73,7 +73,7 @@ impl Stage for Walks {
     }
 }
 
-const CASES_OF_INDIRECT: &[Step<Case>] = &[
+static CASES_OF_INDIRECT: [Step<Case>; 25] = [
     Step::Does(Case::In(INDIRECT, 1)),
     Step::Does(Case::Walk(b"", b"/auto/home", &[], End::Notifies(HOME))),
     Step::Does(Case::Walk(b"k", b"/auto/home", &[], End::Notifies(HOME))),
@@ -101,7 +101,14 @@ const CASES_OF_INDIRECT: &[Step<Case>] = &[
     Step::Does(Case::Walk(b"mckd", b"/auto/home", &[HOME], End::At(5, b""))),
 ];
 
-const CASES_OF_DIRECT: &[Step<Case>] = &[
+fn cases_of_indirect() -> Example<Case> {
+    Example(
+        "of two cases of an indirect autofs the first decides",
+        &CASES_OF_INDIRECT,
+    )
+}
+
+static CASES_OF_DIRECT: [Step<Case>; 18] = [
     Step::Does(Case::In(DIRECT, 1)),
     Step::Does(Case::Walk(b"", b"/auto", &[], End::Notifies(ROOT))),
     Step::Does(Case::Walk(b"x", b"/auto", &[], End::Waits(1))),
@@ -122,7 +129,14 @@ const CASES_OF_DIRECT: &[Step<Case>] = &[
     Step::Does(Case::Walk(b"cd", b"/auto", &[], End::At(4, b""))),
 ];
 
-const CASES_OF_THE_OTHER: &[Step<Case>] = &[
+fn cases_of_direct() -> Example<Case> {
+    Example(
+        "of two cases of a direct autofs the first decides",
+        &CASES_OF_DIRECT,
+    )
+}
+
+static CASES_OF_THE_OTHER: [Step<Case>; 9] = [
     Step::Does(Case::In(INDIRECT, 0)),
     Step::Does(Case::Walk(b"m", b"/auto/home", &[], End::Notifies(HOME))),
     Step::Does(Case::Walk(b"mc", b"/auto/home", &[], End::Fails(Errno::ENOENT))),
@@ -134,7 +148,14 @@ const CASES_OF_THE_OTHER: &[Step<Case>] = &[
     Step::Does(Case::Walk(b"pd", b"/auto/home", &[], End::Waits(1))),
 ];
 
-const NAMES: &[Step<Case>] = &[
+fn cases_of_the_other() -> Example<Case> {
+    Example(
+        "what is mounted on another mount is not mounted here",
+        &CASES_OF_THE_OTHER,
+    )
+}
+
+static NAMES: [Step<Case>; 6] = [
     Step::Does(Case::In(INDIRECT, 1)),
     Step::Does(Case::Walk(b"x", b"/auto/work", &[], End::Notifies(Trap(2, b"work")))),
     Step::Does(Case::Walk(b"p", b"/auto/work", &[], End::Notifies(Trap(2, b"work")))),
@@ -143,7 +164,11 @@ const NAMES: &[Step<Case>] = &[
     Step::Does(Case::Walk(b"d", b"/auto/work", &[], End::Notifies(Trap(2, b"work")))),
 ];
 
-const BELOW_INDIRECT: &[Step<Case>] = &[
+fn names() -> Example<Case> {
+    Example("names of one autofs are triggers of their own", &NAMES)
+}
+
+static BELOW_INDIRECT: [Step<Case>; 9] = [
     Step::Does(Case::In(INDIRECT, 1)),
     Step::Does(Case::Walk(b"", b"/auto", &[], End::At(4, b""))),
     Step::Does(Case::Walk(b"c", b"/auto", &[], End::At(4, b""))),
@@ -155,7 +180,11 @@ const BELOW_INDIRECT: &[Step<Case>] = &[
     Step::Does(Case::Walk(b"d", b"/auto/home/x", &[], End::Fails(Errno::ELOOP))),
 ];
 
-const BELOW_DIRECT: &[Step<Case>] = &[
+fn below_indirect() -> Example<Case> {
+    Example("names below an indirect autofs", &BELOW_INDIRECT)
+}
+
+static BELOW_DIRECT: [Step<Case>; 6] = [
     Step::Does(Case::In(DIRECT, 1)),
     Step::Does(Case::Walk(b"", b"/auto/x", &[], End::Notifies(ROOT))),
     Step::Does(Case::Walk(b"p", b"/auto/x", &[], End::Waits(1))),
@@ -164,25 +193,17 @@ const BELOW_DIRECT: &[Step<Case>] = &[
     Step::Does(Case::Walk(b"d", b"/auto/x", &[], End::Fails(Errno::ELOOP))),
 ];
 
-static EXAMPLES: [(&str, &[&[Step<Case>]]); 6] = [
-    (
-        "of two cases of an indirect autofs the first decides",
-        &[CASES_OF_INDIRECT],
-    ),
-    (
-        "of two cases of a direct autofs the first decides",
-        &[CASES_OF_DIRECT],
-    ),
-    (
-        "what is mounted on another mount is not mounted here",
-        &[CASES_OF_THE_OTHER],
-    ),
-    ("names of one autofs are triggers of their own", &[NAMES]),
-    ("names below an indirect autofs", &[BELOW_INDIRECT]),
-    ("names below a direct autofs", &[BELOW_DIRECT]),
-];
+fn below_direct() -> Example<Case> {
+    Example("names below a direct autofs", &BELOW_DIRECT)
+}
 
 #[test]
 fn traps(rt: HostRuntime) {
-    plays_all::<Walks>(&rt, rt.alloc(), &EXAMPLES);
+    let alloc = rt.alloc();
+    plays::<Walks>(&rt, alloc, cases_of_indirect());
+    plays::<Walks>(&rt, alloc, cases_of_direct());
+    plays::<Walks>(&rt, alloc, cases_of_the_other());
+    plays::<Walks>(&rt, alloc, names());
+    plays::<Walks>(&rt, alloc, below_indirect());
+    plays::<Walks>(&rt, alloc, below_direct());
 }
