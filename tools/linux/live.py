@@ -157,6 +157,11 @@ class Agent:
         """Copies the namespace as a less privileged one: that of another user namespace."""
         call("unshare", CLONE_NEWUSER | CLONE_NEWNS)
 
+    def do_copy_of_others(self):
+        """Copies the namespace as one of those who have it: of the user namespace that came with the order."""
+        call("setns", self.fds[0], CLONE_NEWUSER)
+        call("unshare", CLONE_NEWNS)
+
     def do_enter(self):
         call("setns", self.fds[0], CLONE_NEWNS)
 
@@ -270,18 +275,12 @@ def statfs_type(fd):
 
 
 def step(folder, name, follows):
-    """Goes from an open directory to one in it. On a plain file system it is made where it isn't there."""
-    flags = os.O_RDONLY | os.O_DIRECTORY if follows else os.O_PATH
-    try:
-        found = os.open(name, flags, dir_fd=folder)
-    except FileNotFoundError as error:
-        if statfs_type(folder) != TMPFS:
-            raise
-        try:
+    """Goes from an open directory to one in it. On a plain file system each name is a directory: it is made first, as
+    another walker may do too; what is there already, a trigger too, is left alone by that, and met once, when it is opened."""
+    if statfs_type(folder) == TMPFS:
+        with contextlib.suppress(FileExistsError):
             os.mkdir(name, dir_fd=folder)
-        except FileExistsError:
-            raise error from None
-        found = os.open(name, flags, dir_fd=folder)
+    found = os.open(name, os.O_RDONLY | os.O_DIRECTORY if follows else os.O_PATH, dir_fd=folder)
     os.close(folder)
     return found
 
@@ -568,6 +567,8 @@ class Play:
         self.model = model
         root = first_agent()
         self.agents, self.keepers = [root], {0: root}
+        # Of each namespace that less privileged ones have their user namespace.
+        self.users = {}
         root.ask(do="begin")
         self.daemon = self.start(root)
         self.systems, self.readers, self.packets, self.open = {}, {}, [], {}
@@ -591,7 +592,7 @@ class Play:
     def end(self):
         for it in reversed(self.agents):
             it.kill()
-        for fd in self.readers.values():
+        for fd in [*self.readers.values(), *self.users.values()]:
             os.close(fd)
         # Whoever has begun another one stands before it, and by its end the other is this one's child.
         for it in self.agents:
@@ -719,27 +720,35 @@ class Play:
     def on_nscopy(self, at, namespace, form="full"):
         if int(namespace) not in self.keepers:
             return "err 1"
-        said = self.model.answers[at]
-        keeper = self.start(self.keepers[int(namespace)])
+        said, source, users = self.model.answers[at], int(namespace), None
+        keeper = self.start(self.keepers[source])
         try:
             if form == "reduced":
-                self.enter(keeper, self.keepers[int(namespace)])
+                users = self.enter(keeper, source, do="copy_reduced")
+            elif source in self.users:
+                # A copy by a process of another user namespace would be reduced.
+                users = self.enter(keeper, source, do="copy_of_others", fds=[self.users[source]])
             else:
                 keeper.ask(do="copy")
         except OSError as error:
             return f"err {number_of(error.errno)}"
         if said.startswith("ns "):
-            self.keepers[int(said.split()[1])] = keeper
+            number = int(said.split()[1])
+            self.keepers[number] = keeper
+            if users is not None:
+                self.users[number] = users
         return self.done_as(at, None)
 
-    def enter(self, keeper, source):
-        """Has a privileged process enter a copy of a namespace that less privileged ones have."""
-        first = self.start(source)
-        first.ask(do="copy_reduced")
+    def enter(self, keeper, source, **copy):
+        """Has a privileged process enter a copy of a namespace that less privileged ones have; gives their user namespace."""
+        first = self.start(self.keepers[source])
+        first.ask(**copy)
         place = os.open(f"/proc/{first.pid}/ns/mnt", os.O_RDONLY)
         keeper.ask(do="enter", fds=[place])
         os.close(place)
+        users = os.open(f"/proc/{first.pid}/ns/user", os.O_RDONLY)
         first.kill()
+        return users
 
     def on_nsdrop(self, at, namespace):
         # A namespace of Linux ends with its processes, and nothing refuses its end.
@@ -1075,8 +1084,11 @@ class Difference:
         return self.begins("bind") and self.ours == "err 5" and self.theirs == "done"
 
     def is_another_token(self):
-        """A walk opens a token of its own, or goes in before the READY."""
-        return self.begins("walk", "resume") and self.ours.startswith("wait") and self.theirs.startswith(("wait", "at")) and self.ours != self.theirs
+        """A walk opens a token of its own, or goes in before the READY. Where nobody reads the pipe, that is found out by
+        the token of its own, and the answer is ENOENT."""
+        goes_on = self.theirs.startswith(("wait", "at")) and self.ours != self.theirs
+        finds_out = self.words[-1] == "gone" and self.theirs == "err 1" and "did rmdir" in self.model.answers[:self.at]
+        return self.begins("walk", "resume") and self.ours.startswith("wait") and (goes_on or finds_out)
 
     def is_copy_goes_under(self):
         return self.begins("mount", "bind", "act") and bool(self.why) and is_covered(self.model.world(self.at + 1))
@@ -1094,7 +1106,9 @@ class Difference:
         return self.begins("expire") and self.ours == "err 6" and self.asks_more() and not self.fs()["is_direct"] and not self.has_tree()
 
     def is_expiry_of_a_bare_direct_trigger(self):
-        return self.begins("expire") and self.ours == "err 6" and self.asks_more() and self.fs()["is_direct"]
+        """It is picked; where nobody reads the pipe, that is found out, and the answer is ENOENT."""
+        picked = self.asks_more() or self.words[-1] == "gone" and self.theirs == "err 1"
+        return self.begins("expire") and self.ours == "err 6" and picked and self.fs()["is_direct"]
 
     def is_expiry_of_a_tree(self):
         return self.begins("expire") and self.ours == "err 6" and self.asks_more() and self.has_tree()
