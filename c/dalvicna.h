@@ -10,7 +10,8 @@
      NULL where the number is 0, and nowhere else. What is read and what is written must not overlap.
      A buffer is a pointer and its room in bytes. A call puts what it writes at the front of the
      buffer, as far as there is room, and leaves what stands behind it as it was. It tells how many
-     bytes there are, also where there is less room: call it with room 0 to learn the size.
+     bytes there are, also where there is less room: call it with room 0 to learn the size. But am_line
+     plays its event at each call, whatever the room; am_answer tells the size of its answer.
 
    Faults
      A fault is a number above 0. It leaves buffers and structs as they were, but for those that tell
@@ -24,8 +25,9 @@
      call may be made in a signal handler, or in the forked child of a program with threads.
 
    Formats of scripts, traces, pictures, worlds, packets, maps and master maps, and the numbers of all
-   faults: docs/FORMATS.md of the repository. That each call does as it says here is proved, for the machine
-   code of x86-64; what the checker doesn't see is this header, and the C program. */
+   faults: docs/FORMATS.md of the repository. That each call does as it says here is proved of the crate
+   am_c, built for x86-64; what the checker doesn't see is this header, and the C program. The header wants C99
+   or later, or C++11 or later. */
 #ifndef DALVICNA_H
 #define DALVICNA_H
 
@@ -63,9 +65,9 @@ enum am_script_fault {
 /* How a script went. */
 struct am_played {
     uint64_t bytes;   /* how many bytes were written, also where there is less room */
-    uint64_t lines;   /* how many events were answered, where there is no fault; else 0 */
-    uint64_t refused; /* how many of these answers say that nothing was done; 0 at a fault */
-    uint64_t line;    /* the line of the fault, from 1; 0 where there is none */
+    uint64_t lines;   /* how many events were answered; 0 at a fault, and of calls that play none */
+    uint64_t refused; /* how many of these answers say that nothing was done */
+    uint64_t line;    /* the line of the fault, from 1, of am_line always 1; 0 where there is none */
     uint32_t fault;   /* the fault (enum am_script_fault); 0 where there is none */
     uint32_t detail;  /* what is wrong with a line of a map or master map; else 0 */
 };
@@ -73,7 +75,8 @@ struct am_played {
 /* Each of these reads a script, plays it on a world of its own from the beginning, and returns 0 or the
    first fault, as *played tells it. What was written up to the fault is in the buffer: the whole lines
    of all events above it (of a world, nothing). An event that finds no memory is answered by `err 10`
-   and isn't a fault, but for a trace, a picture or a world where there is none for its line. */
+   and isn't a fault, but for a trace, a picture or a world where there is none for its line. A script that
+   ends before its line `events` has no events, and that is no fault. */
 
 /* The lines of the answers, as `automount_cli script` writes them. */
 uint8_t am_play(const uint8_t *script, size_t len, uint8_t *out, size_t cap, struct am_played *played);
@@ -82,19 +85,20 @@ uint8_t am_play(const uint8_t *script, size_t len, uint8_t *out, size_t cap, str
 uint8_t am_trace(const uint8_t *script, size_t len, uint8_t *out, size_t cap, struct am_played *played);
 
 /* The picture (SVG) of its events from number first to number last, from 1; all are 1 to UINT64_MAX, of
-   which at most 1,000,000 are drawn. */
+   which at most 1,000,000 are drawn. A picture without any of them has no rows, and is no fault; that of a
+   script without events has no bytes. */
 uint8_t am_draw(const uint8_t *script, size_t len, uint64_t first, uint64_t last, uint8_t *out, size_t cap,
                 struct am_played *played);
 
 /* The world that it leaves, as /proc/PID/mountinfo tells mounts, and what else there is in comments; where
-   all is false, only the mounts of the namespace with this number. */
+   all is false, only the mounts of the namespace with this number: no bytes where there is none. */
 uint8_t am_world(const uint8_t *script, size_t len, bool all, uint32_t namespace_number, uint8_t *out,
                  size_t cap, struct am_played *played);
 
 /* ---- A world from event to event ---- */
 
-/* A world that is asked event by event. It begins as AM_WORLD_NONE; the program writes neither field. A
-   copy of the struct is the same world, of which only the latest is handed in. */
+/* A world that is asked event by event. It begins as AM_WORLD_NONE; the program writes neither field. Hand
+   in one struct by its address: a copy of it that was made before a call isn't handed in after that call. */
 struct am_world {
     uint64_t held; /* 1 where there is a world, else 0 */
     void *kept;
@@ -106,7 +110,7 @@ struct am_world {
 #define AM_NO_WORLD 254  /* the struct has no world */
 #define AM_HAS_WORLD 255 /* the struct has a world already */
 
-/* Begins the world of a head, which is all of a script up to its line `events`. 0, or the fault, as
+/* Begins the world of a head, which is all of a script up to its line `events`, and with that. 0, or the fault, as
    *played tells it, and there is no world: AM_SCRIPT_BAD_SECTION with line 0 where the text ends before
    `events`, and AM_SCRIPT_BAD_EVENT where an event stands behind it. am_free lets the world go. */
 uint8_t am_new(const uint8_t *head, size_t len, struct am_world *world, struct am_played *played);
@@ -114,6 +118,8 @@ uint8_t am_new(const uint8_t *head, size_t len, struct am_world *world, struct a
 /* Plays one event, a line of a script with no line feed, and writes the line of its answer, which ends
    with a line feed: bytes is its length, lines 1, and refused 1 where nothing was done. A blank line and a
    comment have no answer: all three are 0. A line that is no event is a fault, and the world as it was.
+   Less room than the answer has bytes is no fault, and the event is played: don't make the call again for
+   the rest of its answer, which am_answer writes.
    AM_SCRIPT_WRITE_FAILED is no memory for the answer of an event that was played: am_answer has it. */
 uint8_t am_line(struct am_world *world, const uint8_t *line, size_t len, uint8_t *out, size_t cap,
                 struct am_played *played);
@@ -121,7 +127,8 @@ uint8_t am_line(struct am_world *world, const uint8_t *line, size_t len, uint8_t
 /* Writes the line of the last answer once more; nothing before the first. */
 uint8_t am_answer(struct am_world *world, uint8_t *out, size_t cap, struct am_played *played);
 
-/* Writes what the last event showed: the lines of a trace that tell its observations. */
+/* Writes what the last event showed: the lines of a trace that tell its observations. A blank line, a comment
+   and a line that is no event leave that as it was. */
 uint8_t am_observed(struct am_world *world, uint8_t *out, size_t cap, struct am_played *played);
 
 /* Writes the world as it is, as am_world writes the one that a script leaves. Of these three the only
@@ -136,13 +143,13 @@ void am_free(struct am_world *world);
 
 /* The faults of a text that is to be a trace. */
 enum am_trace_fault {
-    AM_TRACE_BAD_LINE = 1, /* a line that begins with a blank is no observation */
+    AM_TRACE_BAD_LINE = 1, /* a line that begins with a space is no observation */
     AM_TRACE_NO_MEMORY
 };
 
 /* What such a line was expected to go on with. */
 enum am_expected {
-    AM_EXPECTED_OBSERVATION = 1, /* an observation behind two blanks */
+    AM_EXPECTED_OBSERVATION = 1, /* an observation behind two spaces */
     AM_EXPECTED_NUMBER,
     AM_EXPECTED_TOKEN,
     AM_EXPECTED_ATTACH,
@@ -165,8 +172,10 @@ struct am_judged {
     uint32_t lawful;   /* 1 where the text is a trace that is lawful, else 0 */
 };
 
-/* Reads a trace, of am_trace or recorded elsewhere, and tells whether it is lawful. 0 where the text is a
-   trace, lawful or not; else the first fault. Lines that don't begin with a blank aren't looked at. */
+/* Reads a trace, of am_trace or recorded elsewhere, and tells whether it is lawful: docs/MODEL.md, "The laws of
+   a trace". 0 where the text is a trace, lawful or not; else the first fault. Lines that don't begin with a
+   space aren't looked at, so that a text without observations is lawful. The front of a lawful trace may
+   not be: those whom an answer releases stand right behind it. */
 uint8_t am_trace_holds(const uint8_t *text, size_t len, struct am_judged *judged);
 
 /* ---- Packets, requests, maps ---- */
@@ -176,9 +185,17 @@ uint8_t am_trace_holds(const uint8_t *text, size_t len, struct am_judged *judged
 /* Where the name begins in them. */
 #define AM_PACKET_NAME 44
 
+/* The kinds of packets: the numbers of autofs_ptype_missing_indirect and so on in linux/auto_fs.h. */
+enum am_packet_kind {
+    AM_KIND_MISSING_INDIRECT = 3,
+    AM_KIND_EXPIRE_INDIRECT,
+    AM_KIND_MISSING_DIRECT,
+    AM_KIND_EXPIRE_DIRECT
+};
+
 /* What a packet says (linux/auto_fs.h, struct autofs_v5_packet); its name stands in its bytes. */
 struct am_packet {
-    uint32_t kind;     /* 3 missing indirect, 4 expire indirect, 5 missing direct, 6 expire direct */
+    uint32_t kind;     /* enum am_packet_kind */
     uint32_t token;    /* wait_queue_token */
     uint32_t dev;
     uint32_t uid;
@@ -239,9 +256,10 @@ struct am_entry {
 };
 
 /* Reads a map, whose keys are paths where it is direct, and looks up a key: its first line, else the
-   first `*` line, with the key for each & of host and path. 0 also where there is no entry; else the
-   first fault of the map (enum am_map_fault), and *line its line, from 1, or 0 where the look-up
-   itself found no memory. */
+   first `*` line, with the key for each & of host and path. The key is compared byte for byte and isn't
+   tested: for a direct map hand in the canonical text, as /srv for /srv//. 0 also where there is no entry,
+   and *line is as it was; else the first fault of the map (enum am_map_fault), and *line its line, from 1, or 0
+   where the look-up itself found no memory, and *entry is as it was. */
 uint8_t am_map_look_up(const uint8_t *text, size_t len, bool direct, const uint8_t *key, size_t key_len,
                        uint8_t *out, size_t cap, struct am_entry *entry, uint64_t *line);
 
@@ -268,9 +286,9 @@ struct am_master_line {
     uint32_t pad;     /* 0 */
 };
 
-/* Reads a master map, and tells its line at a place, from 0. 0 also where there is no such line; else
-   the first fault (enum am_master_fault), and *line its line, from 1, or 0 where there was no memory
-   for what is told. */
+/* Reads a master map, and tells its line at a place, from 0. 0 also where there is no such line, and *line is
+   as it was; else the first fault (enum am_master_fault), and *line its line, from 1, or 0 where there was no
+   memory for what is told, and *told is as it was. */
 uint8_t am_master_line(const uint8_t *text, size_t len, size_t at, uint8_t *out, size_t cap,
                        struct am_master_line *told, uint64_t *line);
 

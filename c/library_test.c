@@ -163,6 +163,11 @@ union bytes {
     uint8_t bytes[sizeof(struct autofs_v5_packet)];
 };
 
+_Static_assert(AM_KIND_MISSING_INDIRECT == (int)autofs_ptype_missing_indirect, "kind 3");
+_Static_assert(AM_KIND_EXPIRE_INDIRECT == (int)autofs_ptype_expire_indirect, "kind 4");
+_Static_assert(AM_KIND_MISSING_DIRECT == (int)autofs_ptype_missing_direct, "kind 5");
+_Static_assert(AM_KIND_EXPIRE_DIRECT == (int)autofs_ptype_expire_direct, "kind 6");
+
 static union bytes packet_of(int kind, const char *name)
 {
     union bytes made;

@@ -108,7 +108,7 @@ class TraceFault(Fault):
 
     WORDS = (("BadLine", "a line of a trace"), ("NoMemory", "memory"))
     #: What is expected in a line, by its number from 1.
-    EXPECTED = ("an observation behind two blanks", "a number", "a token", "an attachment", "a file system", "a mount",
+    EXPECTED = ("an observation behind two spaces", "a number", "a token", "an attachment", "a file system", "a mount",
                 "ready or a failure", "the type of a packet", "a number of the packet", "the name in the packet",
                 "direct or a name", "an entry of the book", "the end of the line")
 
@@ -231,7 +231,11 @@ _library = _load()
 
 
 def _bytes(text: Text) -> bytes:
-    return text.encode(*ENCODING) if isinstance(text, str) else bytes(text)
+    if isinstance(text, str):
+        return text.encode(*ENCODING)
+    if isinstance(text, (bytes, bytearray, memoryview)):
+        return bytes(text)
+    raise TypeError(f"expected a str or bytes, not {type(text).__name__}")
 
 
 def _text(some: bytes) -> str:
@@ -327,6 +331,14 @@ def _section(first: bytes, text: Text) -> bytes:
     return first + b"\n" + some + (b"\n" if some and not some.endswith(b"\n") else b"") + b"end\n"
 
 
+def _word(name: Text) -> bytes:
+    """The name of a map, as it stands in a head."""
+    some = _bytes(name)
+    if not some or any(it in b" \t\n" for it in some):
+        raise ValueError(f"expected a word as the name of a map, not {name!r}")
+    return some
+
+
 class World:
     """A world that is asked event by event.
 
@@ -351,7 +363,7 @@ class World:
         head += _section(b"master", master)
         for name, text in (maps or {}).items():
             sections.append((name, head.count(b"\n") + 1))
-            head += _section(b"map " + _bytes(name), text)
+            head += _section(b"map " + _word(name), text)
         head += b"events\n"
         fault = _library.am_new(head, len(head), ctypes.byref(self._held), ctypes.byref(self._told))
         if fault:
@@ -385,8 +397,8 @@ class World:
         return ScriptFault(fault, self._told.line, 0, "")
 
     def ask(self, event: Text) -> str:
-        """The answer to one event, a line of a script: "" to a blank line and a comment. Raises ScriptFault where the
-        line is no event, and then nothing has changed."""
+        """The answer to one event, a line of a script without its line feed: "" to a blank line and a comment. Raises
+        ScriptFault where the line is no event, and then nothing has changed."""
         line = _bytes(event)
         with self._lock:
             fault = _library.am_line(self._held, line, len(line), self._out, len(self._out), self._told)
@@ -397,7 +409,8 @@ class World:
         return text[:-1]
 
     def observed(self) -> List[str]:
-        """What the last event showed, an observation each, as a line of a trace says it behind its two blanks."""
+        """What the last event showed, an observation each, as a line of a trace says it behind its two spaces: of many
+        such lists, `"".join(f"  {it}\n" for it in seen)` is a trace for `trace_holds`."""
         with self._lock:
             return [line[2:] for line in self._filled("am_observed").split("\n")[:-1]]
 
@@ -427,8 +440,9 @@ class World:
 # ---- Traces
 
 def trace_holds(text: Text) -> bool:
-    """Whether a trace is lawful, be it of `trace` or recorded elsewhere (docs/FORMATS.md, "Read back"). Raises
-    TraceFault where a line that begins with a blank is no observation."""
+    """Whether a trace is lawful (docs/MODEL.md, "The laws of a trace"), be it of `trace` or recorded elsewhere
+    (docs/FORMATS.md, "Read back"). Only lines that begin with two spaces are observations; a text without any is lawful.
+    Raises TraceFault where a line that begins with a space is no observation."""
     text, told = _bytes(text), _Judged()
     fault = _library.am_trace_holds(text, len(text), ctypes.byref(told))
     if fault:
@@ -462,12 +476,14 @@ class Packet:
     name: bytes
 
     def to_bytes(self) -> bytes:
-        """Its 304 bytes. Raises PacketFault where a field isn't one of the format."""
+        """Its 304 bytes. Raises PacketFault where kind or name isn't one of the format, and OverflowError where a number
+        is out of its range."""
         told = _Packet(kind=self.kind)
         for field in ("token", "dev", "uid", "gid", "pid", "tgid", "ino"):
             setattr(told, field, _number(getattr(self, field), _U64 if field == "ino" else 2**32 - 1, field))
         out = ctypes.create_string_buffer(PACKET_SIZE)
-        fault = _library.am_packet_write(ctypes.byref(told), self.name, len(self.name), out, PACKET_SIZE)
+        name = _bytes(self.name)
+        fault = _library.am_packet_write(ctypes.byref(told), name, len(name), out, PACKET_SIZE)
         if fault:
             raise PacketFault(fault)
         return out.raw
@@ -512,7 +528,7 @@ class Entry:
 
 def look_up(text: Text, key: Text, direct: bool = False) -> Optional[Entry]:
     """The entry that a map has for a key: of its line, else of the `*` line, else None. The keys of a direct map are
-    paths. Raises MapFault."""
+    paths. The key is compared as it stands: of a direct map the canonical text, as /srv for /srv//. Raises MapFault."""
     text, key, told, line = _bytes(text), _bytes(key), _Entry(), _U64C()
 
     def call(out: ctypes.Array, cap: int) -> int:

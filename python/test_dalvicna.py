@@ -164,6 +164,7 @@ class Worlds(unittest.TestCase):
                 self.assertEqual(answers, dalvicna.play(script))
                 told = [line[2:] for line in dalvicna.trace(script).split("\n") if line.startswith("  ")]
                 self.assertEqual(seen, told)
+                self.assertTrue(dalvicna.trace_holds("".join(f"  {it}\n" for it in seen)))
                 self.assertEqual(world.text(), dalvicna.world_text(script))
 
     def test_faults_of_events(self):
@@ -190,6 +191,14 @@ class Worlds(unittest.TestCase):
         self.assertEqual(raised.exception.word, "BadLimits")
         with self.assertRaises(ValueError):
             dalvicna.World(master="/a x", maps={"x": "k h:/k\nend\n"})
+        for name in ("", "n o", "a\nb"):
+            with self.assertRaises(ValueError):
+                dalvicna.World(maps={name: ""})
+
+    def test_what_is_no_text(self):
+        for call in (dalvicna.play, dalvicna.trace_holds, self.world().ask):
+            with self.assertRaises(TypeError):
+                call(3)
 
     def test_an_answer_for_which_there_is_no_room_at_first(self):
         world = dalvicna.World()

@@ -146,13 +146,14 @@ def build():
     os.symlink("libdalvicna.so.1", os.path.join(OUT, "libdalvicna.so"))
     shutil.copy(HEADER, OUT)
     shutil.copy(MODULE, OUT)
-    write_pc(OUT, OUT, OUT)
+    write_pc(OUT, "", "")
 
 
 def write_pc(folder, headers, libraries):
+    """Writes dalvicna.pc into a folder, with the ways from there to header and libraries: all may be moved together."""
     version = re.search(r"#define AM_VERSION (\d+)", text_of(HEADER))[1]
     with open(os.path.join(folder, "dalvicna.pc"), "w", encoding="utf-8") as file:
-        file.write(f"includedir={headers}\nlibdir={libraries}\n\n"
+        file.write(f"includedir=${{pcfiledir}}{headers}\nlibdir=${{pcfiledir}}{libraries}\n\n"
                    "Name: dalvicna\nDescription: a model of the Linux automounter\n"
                    f"Version: {version}\nCflags: -I${{includedir}}\nLibs: -L${{libdir}} -ldalvicna\n")
 
@@ -171,7 +172,7 @@ def install(prefix):
     link = os.path.join(libraries, "libdalvicna.so")
     if not os.path.lexists(link):
         os.symlink("libdalvicna.so.1", link)
-    write_pc(os.path.join(libraries, "pkgconfig"), headers, libraries)
+    write_pc(os.path.join(libraries, "pkgconfig"), "/../../include", "/..")
 
 
 # ---- The header and the crate
@@ -385,8 +386,10 @@ def with_sanitizer(tests, room):
 
 
 def installs(tests, room):
-    prefix = os.path.join(room, "prefix")
-    install(prefix)
+    install(os.path.join(room, "prefix"))
+    # An installed library may be moved.
+    prefix = os.path.join(room, "moved")
+    os.rename(os.path.join(room, "prefix"), prefix)
     if not shutil.which("pkg-config"):
         print("there is no pkg-config")
         return
