@@ -3,11 +3,11 @@
 
 usage: tools/quick.py
 
-The tests of each crate that has some are built without proof and run (`rt try`), and so is the program: it plays the
-examples and the files of `tests`, and sweeps over three scripts, runs its commands, and is driven over two pipes; the
-pages are compared with the repository, and what they show is run. What is loaded before a program, as where each
-allocation is refused in turn, takes the proved one. As many of these go on side by side as there are processors. The
-last line counts all.
+The tests of each crate that has some are built without proof and run (`rt try`), those of maps, packets and names
+once more, with an allocation of each test refused; and so is the program: it plays the examples and the files of
+`tests`, and sweeps over three scripts, runs its commands, and is driven over two pipes; the pages are compared with the repository,
+and what they show is run. What is loaded before a program, as where each allocation is refused in turn, takes the
+proved one. As many of these go on side by side as there are processors. The last line counts all.
 """
 
 import concurrent.futures
@@ -23,6 +23,8 @@ COUNTS = re.compile(r"^(\d+) passed, (\d+) failed$", re.M)
 TESTS = re.compile(r"^test result: \w+\. (\d+) passed; (\d+) failed", re.M)
 # How long the tests or a program of one crate may take, in seconds and in steps.
 PATIENCE = ("--seconds", "400", "--steps", "1000000000000")
+# The tests that are run once more with an allocation refused, and with which: a build for each.
+REFUSED = (("am_text_tests", 9),)
 # What plays the program that all of these share, which is built once.
 SHARED = ("examples.sh", "pipes.py", "commands.py", "scripts.py", "sweeps.py catatonic death_and_reattachment first", "run_pages")
 
@@ -47,9 +49,9 @@ def ran(words, folder=".", **how):
                           check=False, **how)
 
 
-def tests_of(crate):
+def tests_of(crate, *more):
     """Runs a crate's tests; returns how many passed and failed, and what was said."""
-    done = ran(["rt", "try", "--test", *PATIENCE], f"crates/{crate}")
+    done = ran(["rt", "try", "--test", *PATIENCE, *more], f"crates/{crate}")
     found = TESTS.findall(done.stdout + done.stderr)
     if done.returncode or not found:
         return 0, 1, (done.stdout + done.stderr)[-2000:]
@@ -80,6 +82,8 @@ def tasks():
     """What is done, by its name, that which takes longest first."""
     found = [("the program: examples, pipes, pages, scripts, sweeps", shared)]
     found += [(f"{it}: its tests", lambda it=it: tests_of(it)) for it in reversed(crates_with_tests())]
+    found += [(f"{it}: its tests, where allocation {number} is refused",
+               lambda it=it, number=number: tests_of(it, "--fail-alloc", str(number))) for it, number in REFUSED]
     return found + [("laws.py", lambda: tool("laws.py")), ("pages", lambda: tool("check_pages"))]
 
 
