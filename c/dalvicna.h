@@ -65,8 +65,8 @@ enum am_script_fault {
 /* How a script went. */
 struct am_played {
     uint64_t bytes;   /* how many bytes were written, also where there is less room */
-    uint64_t lines;   /* how many events were answered; 0 at a fault, and of calls that play none */
-    uint64_t refused; /* how many of these answers say that nothing was done */
+    uint64_t lines;   /* how many answers there are; 0 at a fault, and of am_new, am_observed and am_text */
+    uint64_t refused; /* how many of these say that nothing was done */
     uint64_t line;    /* the line of the fault, from 1, of am_line always 1; 0 where there is none */
     uint32_t fault;   /* the fault (enum am_script_fault); 0 where there is none */
     uint32_t detail;  /* what is wrong with a line of a map or master map; else 0 */
@@ -110,9 +110,9 @@ struct am_world {
 #define AM_NO_WORLD 254  /* the struct has no world */
 #define AM_HAS_WORLD 255 /* the struct has a world already */
 
-/* Begins the world of a head, which is all of a script up to its line `events`, and with that. 0, or the fault, as
-   *played tells it, and there is no world: AM_SCRIPT_BAD_SECTION with line 0 where the text ends before
-   `events`, and AM_SCRIPT_BAD_EVENT where an event stands behind it. am_free lets the world go. */
+/* Begins the world of a head, which is all of a script up to its line `events`, and with that. 0, or the
+   fault, as *played tells it, and there is no world: AM_SCRIPT_BAD_SECTION with line 0 where the text ends
+   before `events`, and AM_SCRIPT_BAD_EVENT where an event stands behind it. am_free lets the world go. */
 uint8_t am_new(const uint8_t *head, size_t len, struct am_world *world, struct am_played *played);
 
 /* Plays one event, a line of a script with no line feed, and writes the line of its answer, which ends

@@ -5,9 +5,9 @@ usage: tools/quick.py
 
 The tests of each crate that has some are built without proof and run (`rt try`), those of maps, packets and names
 once more, with an allocation of each test refused; and so is the program: it plays the examples and the files of
-`tests`, and sweeps over three scripts, runs its commands, and is driven over two pipes; the pages are compared with the repository,
-and what they show is run. What is loaded before a program, as where each allocation is refused in turn, takes the
-proved one. As many of these go on side by side as there are processors. The last line counts all.
+`tests`, and sweeps over three scripts, runs its commands, and is driven over two pipes; the pages are compared with
+the repository, and what they show is run. What is loaded before a program, as where each allocation is refused in
+turn, takes the proved one. As many of these go on side by side as there are processors. The last line counts all.
 """
 
 import concurrent.futures

@@ -276,7 +276,7 @@ def statfs_type(fd):
 
 def step(folder, name, follows):
     """Goes from an open directory to one in it. On a plain file system each name is a directory: it is made first, as
-    another walker may do too; what is there already, a trigger too, is left alone by that, and met once, when it is opened."""
+    another walker may do too. What is there already, a trigger too, is left alone by that, and met when it is opened."""
     if statfs_type(folder) == TMPFS:
         with contextlib.suppress(FileExistsError):
             os.mkdir(name, dir_fd=folder)
@@ -737,10 +737,13 @@ class Play:
             self.keepers[number] = keeper
             if users is not None:
                 self.users[number] = users
+        elif users is not None:
+            os.close(users)
         return self.done_as(at, None)
 
     def enter(self, keeper, source, **copy):
-        """Has a privileged process enter a copy of a namespace that less privileged ones have; gives their user namespace."""
+        """Has a privileged process enter a copy of a namespace that less privileged ones have. Gives the user namespace
+        of these."""
         first = self.start(self.keepers[source])
         first.ask(**copy)
         place = os.open(f"/proc/{first.pid}/ns/mnt", os.O_RDONLY)
@@ -1051,9 +1054,13 @@ class Difference:
     def begins(self, *words):
         return self.words[0] in words
 
+    def notifies(self):
+        """The kernel notifies the daemon: it waits, or, where nobody reads the pipe, finds that out, and has ENOENT."""
+        return self.theirs.startswith("wait") or self.words[-1] == "gone" and self.theirs in ("err 1", "fail 1")
+
     def asks_more(self):
         """The kernel notifies the daemon where the model doesn't."""
-        return self.theirs.startswith("wait") and self.ours.startswith("err")
+        return self.notifies() and self.ours.startswith("err") and self.ours != self.theirs
 
     def fs(self):
         return self.play.systems.get(int(self.words[2])) if self.begins("expire") else None
@@ -1084,11 +1091,11 @@ class Difference:
         return self.begins("bind") and self.ours == "err 5" and self.theirs == "done"
 
     def is_another_token(self):
-        """A walk opens a token of its own, or goes in before the READY. Where nobody reads the pipe, that is found out by
-        the token of its own, and the answer is ENOENT."""
-        goes_on = self.theirs.startswith(("wait", "at")) and self.ours != self.theirs
-        finds_out = self.words[-1] == "gone" and self.theirs == "err 1" and "did rmdir" in self.model.answers[:self.at]
-        return self.begins("walk", "resume") and self.ours.startswith("wait") and (goes_on or finds_out)
+        """A walk opens a token of its own, or goes in before the READY."""
+        waits = self.begins("walk", "resume") and self.ours.startswith("wait") and self.ours != self.theirs
+        if self.theirs.startswith(("wait", "at")):
+            return waits
+        return waits and self.notifies() and "did rmdir" in self.model.answers[:self.at]
 
     def is_copy_goes_under(self):
         return self.begins("mount", "bind", "act") and bool(self.why) and is_covered(self.model.world(self.at + 1))
@@ -1106,9 +1113,7 @@ class Difference:
         return self.begins("expire") and self.ours == "err 6" and self.asks_more() and not self.fs()["is_direct"] and not self.has_tree()
 
     def is_expiry_of_a_bare_direct_trigger(self):
-        """It is picked; where nobody reads the pipe, that is found out, and the answer is ENOENT."""
-        picked = self.asks_more() or self.words[-1] == "gone" and self.theirs == "err 1"
-        return self.begins("expire") and self.ours == "err 6" and picked and self.fs()["is_direct"]
+        return self.begins("expire") and self.ours == "err 6" and self.asks_more() and self.fs()["is_direct"]
 
     def is_expiry_of_a_tree(self):
         return self.begins("expire") and self.ours == "err 6" and self.asks_more() and self.has_tree()
@@ -1155,7 +1160,7 @@ class Difference:
         return self.begins("umount") and self.words[2].strip("/") == "" and self.ours == "err 3" and self.theirs == "done"
 
     def is_walk_elsewhere(self):
-        return self.begins("walk", "resume") and self.ours in ("err 7", "fail 7") and self.theirs.startswith("wait")
+        return self.begins("walk", "resume") and self.ours in ("err 7", "fail 7") and self.notifies()
 
 
 def unplayable(event):
