@@ -90,7 +90,7 @@ expiring_at seen trigger (Queued k attach packet) h =
     expiring_of seen trigger k (packet_of k seen) refl both.0 (open_from_test seen k both.1)
 expiring_at seen trigger _ h = absurd cc
 
-expiring_from_test : (seen : List Obs) (trigger : Trigger) → list_any (is_expiry seen trigger) seen ≡ true → IsExpiring seen trigger
+pub expiring_from_test : (seen : List Obs) (trigger : Trigger) → list_any (is_expiry seen trigger) seen ≡ true → IsExpiring seen trigger
 expiring_from_test seen trigger h = let found = any_some (is_expiry seen trigger) seen h in expiring_at seen trigger found.0 found.2
 
 -- releases
@@ -122,7 +122,7 @@ rows_from_test : (token : ℕ) (rest seen : List Obs) → all_released seen toke
 rows_from_test token rest [] h = λ walker q. absurd cc
 rows_from_test token rest (o ∷ seen) h = λ walker q. rows_at token rest seen walker o (waits walker token o) refl h (rows_from_test token rest seen) q
 
-released_true : (token : ℕ) (rest seen : List Obs) → AllReleased seen token rest → all_released seen token rest ≡ true
+pub released_true : (token : ℕ) (rest seen : List Obs) → AllReleased seen token rest → all_released seen token rest ≡ true
 released_true token rest seen h = rows_true token rest seen (λ walker q. in_row_true walker token rest (h walker (waits_from_test walker token seen q)))
 
 released_from_test : (token : ℕ) (rest seen : List Obs) → all_released seen token rest ≡ true → AllReleased seen token rest

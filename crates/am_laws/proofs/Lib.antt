@@ -8,3 +8,4 @@ pub mod Late
 pub mod Same
 pub mod Grows
 pub mod Rows
+pub mod Breaches

@@ -8,7 +8,7 @@ use Rattle.am_names.specs.{same_trigger, TokenKind}
 use Rattle.am_names.specs.declared.trigger.Trigger.{Trigger}
 use Rattle.am_names.specs.declared.row.TokenKind.TheVariants.{Missing, Expire}
 use Rattle.am_names.proofs.SameTriggers.{equal_by_same_trigger, same_trigger_itself}
-use Rattle.am_names.proofs.Basics.{both_of_and, and_of_both, equal_to_itself, equal_by_test}
+use Rattle.am_names.proofs.Basics.{both_of_and, and_of_both, equal_by_test}
 use Rattle.am_wire.specs.{kind_number, token_kind, Packet}
 use Rattle.am_wire.specs.declared.packet_type.PacketType.{PacketType}
 use Rattle.am_wire.proofs.PacketTypeLemmas.{kind_number_one}

@@ -2,14 +2,16 @@
 //! is, and look at no world.
 #![tactic(auto)]
 
-ghost use Rattle.std.specs.Prelude.{◌≡◌, ◌↔◌, IsTrue, [], ◌∷◌, ◌++◌, MatchOption, true, false};
+ghost use Rattle.std.specs.Prelude.{◌≡◌, ◌↔◌, IsTrue, [], ◌∷◌, ◌++◌, IfNone, IfSome, MatchOption, true, false};
 ghost use Rattle.std.specs.List.{list_any, list_all};
 ghost use Rattle.am_laws.specs.OneObservation.{queues};
 ghost use Rattle.am_laws.specs.TraceLaws.{Lawful};
-ghost use Rattle.am_laws.specs.Tests.{is_expiry, is_cause, ends_in_row, may_be_released, is_let_go, all_released, is_closed, is_lawful_at, are_lawful};
+ghost use Rattle.am_laws.specs.Tests.{is_expiry, is_cause, ends_in_row, may_be_released, is_let_go, all_released, is_closed, is_lawful_at};
+ghost use Rattle.am_laws.specs.Breaches.{IsFirstBreach, breach_from};
 ghost use Rattle.am_laws.specs.Lately.{AreUpTo, Remembers, is_lawful_lately};
 
 mod counts;
+mod law;
 mod one_observation;
 mod settled;
 
@@ -19,6 +21,8 @@ use counts::{
     all_unused, asks, fs_of_token, has_delivered, has_queued, has_released, has_waits, is_in_queue,
     is_in_row, is_open,
 };
+use law::broken_law;
+pub use law::{Breach, Law};
 use one_observation::{closes_as, is_fs, is_released};
 use settled::{greatest_with, is_greater, settled_at};
 
@@ -194,18 +198,30 @@ impl Past {
     }
 }
 
-/// Each place of a trace.
-fn are_lawful(trace: &[Obs]) -> bool
-    ensures { result ≡ are_lawful [] trace.now }
+/// The first place of a trace that isn't lawful.
+fn breach_in(trace: &[Obs]) -> Option<Breach>
+    ensures { result ≡ breach_from [] trace.now }
 {
     let mut past = Past::new();
     for (i, o) in trace.iter().enumerate() {
-        let Some(next) = past.next(&trace[..i], o, &trace[i + 1..]) else {
-            return false;
+        let before = &trace[..i];
+        let rest = &trace[i + 1..];
+        let Some(next) = past.next(before, o, rest) else {
+            let law = broken_law(before, o, rest)?;
+            return Some(Breach { place: i, law });
         };
         past = next;
     }
-    true
+    None
+}
+
+/// The first observation of a trace that breaks a law, with that law: of several the first, in the
+/// order of `Law`. None where the trace is lawful.
+pub fn first_breach(trace: &[Obs]) -> Option<Breach>
+    ensures none { IfNone result (Lawful trace.now) }
+    ensures some { IfSome result (IsFirstBreach trace.now) }
+{
+    breach_in(trace)
 }
 
 /// Whether a trace is lawful: walkers wait on open tokens, and what closes a token releases all
@@ -214,5 +230,5 @@ fn are_lawful(trace: &[Obs]) -> bool
 pub fn trace_holds(trace: &[Obs]) -> bool
     ensures { IsTrue result ↔ Lawful trace.now }
 {
-    are_lawful(trace)
+    breach_in(trace).is_none()
 }
