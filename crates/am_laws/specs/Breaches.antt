@@ -1,6 +1,6 @@
 -- Where a trace breaks a law first, and which law that is. The laws are those of `Lawful`, each by
 -- its clause there (own choice).
-use Rattle.std.specs.Prelude.{◌≡◌, ◌≤◌, ℕ, Bool, true, false, not, List, [], ◌∷◌, ◌++◌, length, Option, None, Some, option_map, pos, if◌then◌else◌}
+use Rattle.std.specs.Prelude.{◌≡◌, ◌≤◌, ℕ, Bool, true, false, not, List, [], ◌∷◌, ◌++◌, length, codes, Option, None, Some, option_map, pos, if◌then◌else◌}
 use Rattle.std.specs.List.{list_any, list_all, All}
 use Rattle.am_wire.specs.{Packet}
 use Rattle.am_state.specs.{Obs}
@@ -47,6 +47,22 @@ law_number laws.CatatonicReleasesAll = 8
 law_number laws.ReleasedByCause = 9
 law_number laws.PassesNoExpiry = 10
 law_number laws.UnmountsUnused = 11
+
+-- what a law asks, in a sentence
+abbrev pub sentence_of : Law → List ℕ
+sentence_of laws.QueuedOnce = codes "a packet of a token is queued once"
+sentence_of laws.WaitsOnOpen = codes "a walker waits on a token that is open"
+sentence_of laws.DeliveredFromQueue = codes "the packet that is delivered stands in the queue"
+sentence_of laws.DeliveredOnce = codes "the packet of a token is delivered once"
+sentence_of laws.AnsweredWhileOpen = codes "a token that is answered is open"
+sentence_of laws.AnsweredAfterDelivery = codes "a token is answered behind its delivery"
+sentence_of laws.AnswerReleasesAll = codes "an answer releases, at once, all who wait on its token"
+sentence_of laws.CatatonicReleasesAll =
+    codes "catatonic mode releases, at once, all who wait on open tokens of its file system"
+sentence_of laws.ReleasedByCause =
+    codes "a walker is released once from the token that it waits on, by what closes it"
+sentence_of laws.PassesNoExpiry = codes "no walk passes a trigger whose expiry is outstanding"
+sentence_of laws.UnmountsUnused = codes "no mount that is in use is unmounted"
 
 -- an observation of the trace breaks this law, the first of those that it breaks, and each before
 -- it is lawful where it stands

@@ -1,40 +1,28 @@
 //! The laws of a trace, one by one.
 
 ghost use Rattle.std.specs.Prelude.{◌≡◌};
-ghost use Rattle.am_laws.specs.Breaches.{broken_by_answer, broken_by_delivery, broken_law, law_number, unless};
+ghost use Rattle.am_laws.specs.Breaches.{broken_by_answer, broken_by_delivery, broken_law, law_number, sentence_of, unless};
 
 use crate::counts::{all_unused, has_delivered, has_queued, is_in_queue, is_open};
 use crate::{all_closed, all_released, is_expiring, may_be_released};
 use am_names::{Attach, Token};
 use am_state::Obs;
 use am_wire::Packet;
-use thiserror::Error;
 
 /// A law of traces: what it asks of the observations of one kind, wherever they stand (autofs.rst,
 /// "Communicating with autofs: the event pipe", "Catatonic mode" and "Mountpoint expiry").
-#[derive(Clone, Copy, Debug, PartialEq, Eq, Hash, Error)]
+#[derive(Clone, Copy, Debug, PartialEq, Eq, Hash)]
 pub enum Law {
-    #[error("a packet of a token is queued once")]
     QueuedOnce,
-    #[error("a walker waits on a token that is open")]
     WaitsOnOpen,
-    #[error("the packet that is delivered stands in the queue")]
     DeliveredFromQueue,
-    #[error("the packet of a token is delivered once")]
     DeliveredOnce,
-    #[error("a token that is answered is open")]
     AnsweredWhileOpen,
-    #[error("a token is answered behind its delivery")]
     AnsweredAfterDelivery,
-    #[error("an answer releases, at once, all who wait on its token")]
     AnswerReleasesAll,
-    #[error("catatonic mode releases, at once, all who wait on open tokens of its file system")]
     CatatonicReleasesAll,
-    #[error("a walker is released once from the token that it waits on, by what closes it")]
     ReleasedByCause,
-    #[error("no walk passes a trigger whose expiry is outstanding")]
     PassesNoExpiry,
-    #[error("no mount that is in use is unmounted")]
     UnmountsUnused,
 }
 
@@ -63,6 +51,27 @@ impl Law {
             Law::ReleasedByCause => 9,
             Law::PassesNoExpiry => 10,
             Law::UnmountsUnused => 11,
+        }
+    }
+
+    /// What the law asks, in a sentence.
+    pub fn sentence(self) -> &'static str
+        ensures { result.now ≡ sentence_of self }
+    {
+        match self {
+            Law::QueuedOnce => "a packet of a token is queued once",
+            Law::WaitsOnOpen => "a walker waits on a token that is open",
+            Law::DeliveredFromQueue => "the packet that is delivered stands in the queue",
+            Law::DeliveredOnce => "the packet of a token is delivered once",
+            Law::AnsweredWhileOpen => "a token that is answered is open",
+            Law::AnsweredAfterDelivery => "a token is answered behind its delivery",
+            Law::AnswerReleasesAll => "an answer releases, at once, all who wait on its token",
+            Law::CatatonicReleasesAll =>
+                "catatonic mode releases, at once, all who wait on open tokens of its file system",
+            Law::ReleasedByCause =>
+                "a walker is released once from the token that it waits on, by what closes it",
+            Law::PassesNoExpiry => "no walk passes a trigger whose expiry is outstanding",
+            Law::UnmountsUnused => "no mount that is in use is unmounted",
         }
     }
 }
