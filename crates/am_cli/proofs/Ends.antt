@@ -4,10 +4,13 @@ use Rattle.std.specs.Io.KnownBytes.{Appends}
 use Rattle.am_mountinfo.specs.{ShowsInput, StopsShowing}
 use Rattle.am_runner.specs.{IsTally, Tally}
 use Rattle.am_script.specs.{PlaysInput, StopsInput, ScriptFault, Summary}
-use Rattle.am_cli.specs.{fault_number, Exits, Played, Stopped, Traced, TraceStopped, Drawn, DrawStopped, Shown, ShowStopped, Ran, Untold, NotRun, Refused, rounds_line, ArgsFault}
+use Rattle.am_cli.specs.{fault_number, Exits, Played, Stopped, Traced, TraceStopped, Drawn, DrawStopped, Shown, ShowStopped, Judged, JudgeStopped, Ran, Untold, NotRun, Refused, rounds_line, status_of_verdict, ArgsFault}
 use Rattle.am_draw.specs.{DrawsInput, StopsDrawing}
+use Rattle.am_traces.specs.Judged.{JudgesInput, StopsJudging}
+use Rattle.am_traces.specs.declared.judge.JudgeFault.{JudgeFault}
+use Rattle.am_traces.specs.declared.judge.Verdict.{Verdict}
 use Rattle.am_views.specs.{TracesInput, StopsTrace}
-use Rattle.am_cli.specs.declared.args.Args.TheVariants.{Script, Trace, Draw, World, Threads}
+use Rattle.am_cli.specs.declared.args.Args.TheVariants.{Script, Trace, Draw, World, Judge, Threads}
 
 pub ends_played : (input rest old new quiet : Option (List ℕ)) (summary : Summary) → PlaysInput input rest old new summary → Exits (Some Script) input rest old new quiet quiet 0
 ends_played input rest old new quiet summary plays = record { end = Played summary; asked_is = refl; status_is = refl; streams = (plays, refl) }
@@ -32,6 +35,12 @@ ends_shown only ns is input rest old new quiet summary shows = record { end = Sh
 
 pub ends_show_stopped : (only ns : Option ℕ) → ns ≡ only → (input rest old new quiet told : Option (List ℕ)) (fault : ScriptFault) (status : ℕ) → StopsShowing ns input rest old new fault → status ≡ 1 → Exits (Some (World only)) input rest old new quiet told status
 ends_show_stopped only ns is input rest old new quiet told fault status stops e = record { end = ShowStopped ns fault; asked_is = cc; status_is = e; streams = stops }
+
+pub ends_judged : (input rest old new quiet : Option (List ℕ)) (verdict : Verdict) (status : ℕ) → JudgesInput input rest old new verdict → status ≡ status_of_verdict verdict → Exits (Some Judge) input rest old new quiet quiet status
+ends_judged input rest old new quiet verdict status judges e = record { end = Judged verdict; asked_is = refl; status_is = e; streams = (judges, refl) }
+
+pub ends_judge_stopped : (input rest old new quiet told : Option (List ℕ)) (fault : JudgeFault) (status : ℕ) → StopsJudging input rest old new fault → status ≡ 1 → Exits (Some Judge) input rest old new quiet told status
+ends_judge_stopped input rest old new quiet told fault status stops e = record { end = JudgeStopped fault; asked_is = refl; status_is = e; streams = stops }
 
 pub ends_refused : (input old quiet told : Option (List ℕ)) (fault : ArgsFault) (status : ℕ) → status ≡ fault_number fault → Exits None input input old old quiet told status
 ends_refused input old quiet told fault status e = record { end = Refused fault; asked_is = refl; status_is = e; streams = (refl, refl) }

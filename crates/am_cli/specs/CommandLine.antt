@@ -9,7 +9,7 @@ use Rattle.clap.specs.Simple.{on_top}
 use Rattle.clap.specs.declared.builder.action.ArgAction.TheVariants.{Set}
 use Rattle.clap.specs.declared.builder.value_parser.ValueParser.TheVariants.{Signed}
 use Rattle.am_cli.specs.declared.args.Args.{Args}
-use Rattle.am_cli.specs.declared.args.Args.TheVariants.{Script, Trace, Draw, World, Threads}
+use Rattle.am_cli.specs.declared.args.Args.TheVariants.{Script, Trace, Draw, World, Judge, Threads}
 
 -- ---- the commands
 
@@ -43,6 +43,10 @@ draw_app =
 abbrev pub world_app : App
 world_app = with_rule (new_app (codes "world")) (number_rule (codes "namespace"))
 
+-- the command `judge`, which has no options
+abbrev pub judge_app : App
+judge_app = new_app (codes "judge")
+
 -- the command `threads`, with how many walkers and workers there are, and rounds
 abbrev pub threads_app : App
 threads_app =
@@ -56,15 +60,17 @@ threads_app =
 abbrev pub bare_program : App
 bare_program = on_top (λ s. record s { subcommand_required = true }) (new_app (codes "automount_cli"))
 
--- the program, with its five commands
+-- the program, with its six commands
 abbrev pub cli : App
 cli =
     with_subcommand
     (with_subcommand
     (with_subcommand
+    (with_subcommand
     (with_subcommand (with_subcommand bare_program script_app.top) trace_app.top)
     draw_app.top)
     world_app.top)
+    judge_app.top)
     threads_app.top
 
 -- a command that is made so
@@ -94,6 +100,7 @@ AsksFor name rows (Draw first last) =
     (name ≡ codes "draw") × IsNumber rows (codes "from") first × IsNumber rows (codes "to") last
 AsksFor name rows (World namespace) =
     (name ≡ codes "world") × IsNumberIn rows (codes "namespace") namespace
+AsksFor name rows Judge = name ≡ codes "judge"
 AsksFor name rows (Threads walkers workers rounds) =
     (name ≡ codes "threads") × IsNumber rows (codes "walkers") walkers
     × IsNumber rows (codes "workers") workers × IsNumber rows (codes "rounds") rounds

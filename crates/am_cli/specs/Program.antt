@@ -5,12 +5,16 @@ use Rattle.am_mountinfo.specs.{ShowsInput, StopsShowing}
 use Rattle.am_runner.specs.{IsTally, Tally}
 use Rattle.am_script.specs.{PlaysInput, StopsInput, ScriptFault, Summary}
 use Rattle.am_draw.specs.{DrawsInput, StopsDrawing}
+use Rattle.am_traces.specs.Judged.{JudgesInput, StopsJudging}
+use Rattle.am_traces.specs.declared.judge.JudgeFault.{JudgeFault}
+use Rattle.am_traces.specs.declared.judge.Verdict.{Verdict}
+use Rattle.am_traces.specs.declared.judge.Verdict.TheVariants.{Lawful, Broken}
 use Rattle.am_views.specs.{TracesInput, StopsTrace}
 use Rattle.clap.specs.Words.{Text, subcommand_of}
 use Rattle.am_cli.specs.Args.{fault_number}
 use Rattle.am_cli.specs.CommandLine.{cli, Asks}
 use Rattle.am_cli.specs.declared.args.Args.{Args}
-use Rattle.am_cli.specs.declared.args.Args.TheVariants.{Script, Trace, Draw, World, Threads}
+use Rattle.am_cli.specs.declared.args.Args.TheVariants.{Script, Trace, Draw, World, Judge, Threads}
 use Rattle.am_cli.specs.declared.args.ArgsFault.{ArgsFault}
 
 -- the line that tells the rounds of threads
@@ -35,6 +39,10 @@ pub data End : Type 0 where
   Shown : Option ℕ → Summary → End
   -- it isn't printed to its end
   ShowStopped : Option ℕ → ScriptFault → End
+  -- the trace is judged, and its verdict is written
+  Judged : Verdict → End
+  -- its verdict isn't written whole
+  JudgeStopped : JudgeFault → End
   -- so many walkers and workers, of so many rounds each, have made them, and the line that tells
   -- them is written
   Ran : ℕ → ℕ → ℕ → Tally → End
@@ -44,6 +52,11 @@ pub data End : Type 0 where
   NotRun : ℕ → ℕ → ℕ → End
   -- the command line is none
   Refused : ArgsFault → End
+
+-- the exit status of a verdict
+abbrev pub status_of_verdict : Verdict → ℕ
+status_of_verdict Lawful = 0
+status_of_verdict (Broken line law) = 1
 
 -- the exit status
 abbrev pub status_of : End → ℕ
@@ -55,6 +68,8 @@ status_of (Drawn first last summary) = 0
 status_of (DrawStopped first last fault) = 1
 status_of (Shown only summary) = 0
 status_of (ShowStopped only fault) = 1
+status_of (Judged verdict) = status_of_verdict verdict
+status_of (JudgeStopped fault) = 1
 status_of (Ran walkers workers rounds tally) = 0
 status_of (Untold walkers workers rounds tally) = 1
 status_of (NotRun walkers workers rounds) = 1
@@ -70,13 +85,15 @@ asked_of (Drawn first last summary) = Some (Draw first last)
 asked_of (DrawStopped first last fault) = Some (Draw first last)
 asked_of (Shown only summary) = Some (World only)
 asked_of (ShowStopped only fault) = Some (World only)
+asked_of (Judged verdict) = Some Judge
+asked_of (JudgeStopped fault) = Some Judge
 asked_of (Ran walkers workers rounds tally) = Some (Threads walkers workers rounds)
 asked_of (Untold walkers workers rounds tally) = Some (Threads walkers workers rounds)
 asked_of (NotRun walkers workers rounds) = Some (Threads walkers workers rounds)
 asked_of (Refused fault) = None
 
 -- What is read and written, and what is told of it: nothing is told of a script that is played,
--- traced or drawn to its end, or whose world is printed, nor of threads whose rounds stand written.
+-- traced or drawn to its end, or whose world is printed, nor of a trace that is judged, nor of threads whose rounds stand written.
 -- Threads read nothing. Nothing is read or written where they don't run, or the command line is
 -- none.
 abbrev pub Leaves : End → Option (List ℕ) → Option (List ℕ) → Option (List ℕ) → Option (List ℕ) → Option (List ℕ) → Option (List ℕ) → Type 0
@@ -90,6 +107,8 @@ Leaves (DrawStopped first last fault) input rest old new quiet told =
     StopsDrawing first last input rest old new fault
 Leaves (Shown only summary) input rest old new quiet told = ShowsInput only input rest old new summary × (told ≡ quiet)
 Leaves (ShowStopped only fault) input rest old new quiet told = StopsShowing only input rest old new fault
+Leaves (Judged verdict) input rest old new quiet told = JudgesInput input rest old new verdict × (told ≡ quiet)
+Leaves (JudgeStopped fault) input rest old new quiet told = StopsJudging input rest old new fault
 Leaves (Ran walkers workers rounds tally) input rest old new quiet told =
     IsTally tally × (rest ≡ input) × Appends old new (rounds_line tally.rounds) × (told ≡ quiet)
 Leaves (Untold walkers workers rounds tally) input rest old new quiet told =

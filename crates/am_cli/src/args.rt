@@ -30,6 +30,8 @@ pub enum Args {
         /// Only the mounts of this namespace, if one is named.
         namespace: Option<u32>,
     },
+    /// Judges the trace on standard input.
+    Judge,
     /// Lets so many threads walk, each so many rounds, and so many serve them.
     Threads {
         /// 1 to 16.
@@ -127,6 +129,7 @@ fn asked(name: &str, given: &ArgMatches<'_>) -> Result<Args, ArgsFault>
         "trace" => Ok(Args::Trace),
         "draw" => draw(given),
         "world" => world(given),
+        "judge" => Ok(Args::Judge),
         "threads" => threads(given),
         _ => Err(ArgsFault::Usage),
     }

@@ -64,5 +64,6 @@ pub(crate) fn command<'a>(alloc: Global) -> Result<Command<'a>, AllocError>
         .subcommand(Command::new(alloc, "trace"))?
         .subcommand(draw_command(alloc)?)?
         .subcommand(world_command(alloc)?)?
+        .subcommand(Command::new(alloc, "judge"))?
         .subcommand(threads_command(alloc)?)
 }

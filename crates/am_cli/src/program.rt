@@ -4,7 +4,7 @@ ghost use Rattle.std.specs.Prelude.{◌≡◌, ◌<◌, ◌≤◌, ℕ, List, ma
 ghost use Rattle.std.specs.Io.KnownBytes.{Appends};
 ghost use Rattle.am_runner.specs.{IsTally};
 ghost use Rattle.clap.specs.Words.{Text};
-ghost use Rattle.am_cli.specs.Program.{Exits, ExitsWith, rounds_line};
+ghost use Rattle.am_cli.specs.Program.{Exits, ExitsWith, rounds_line, status_of_verdict};
 ghost use Rattle.am_cli.specs.Args.{fault_number, IsInRange};
 ghost use Rattle.am_cli.specs.declared.args.Args.TheVariants as asks;
 
@@ -14,6 +14,7 @@ use am_mountinfo::world_script;
 use am_names::NsId;
 use am_runner::{Tally, run_threads};
 use am_script::{ScriptFault, run_script};
+use am_traces::{JudgeFault, Verdict, judge_trace};
 use am_views::trace_script;
 use itoa::Buffer;
 use std::alloc::{AllocError, Global};
@@ -22,7 +23,7 @@ use std::io::{self, Read, Write};
 use std::sync::Wait;
 use std::thread::Threads;
 
-/// Runs the program and answers its exit status: 0 done, 1 a fault, 2 a bad command line. A fault
+/// Runs the program and answers its exit status: 0 done, 1 a fault, or a trace that breaks a law, 2 a bad command line. A fault
 /// is told on the last stream; where that takes no bytes, the status alone tells it.
 pub fn run_program<T: Threads + Wait + Sync, R: Read, W: Write, E: Write>(
     rt: &T,
@@ -60,6 +61,7 @@ fn run_asked<T: Threads + Wait + Sync, R: Read, W: Write, E: Write>(
         Args::Script => play(alloc, reader, writer, errors),
         Args::Trace => trace(alloc, reader, writer, errors),
         Args::Draw { first, last } => draw(alloc, first, last, reader, writer, errors),
+        Args::Judge => judge(alloc, reader, writer, errors),
         Args::World { namespace } => show(alloc, reader, writer, errors, namespace),
         Args::Threads {
             walkers,
@@ -149,6 +151,40 @@ fn show<R: Read, W: Write, E: Write>(
         Ok(_shown) => 0,
         Err(fault) => stop(errors, fault),
     }
+}
+
+fn status_of(verdict: Verdict) -> u8
+    ensures { result ≡ status_of_verdict verdict }
+{
+    match verdict {
+        Verdict::Lawful => 0,
+        Verdict::Broken { .. } => 1,
+    }
+}
+
+/// Judges the trace that the reader gives.
+fn judge<R: Read, W: Write, E: Write>(
+    alloc: Global,
+    reader: &mut R,
+    writer: &mut W,
+    errors: &mut E,
+) -> u8
+    ensures { Exits (Some asks.Judge) (R.remaining reader.old) (R.remaining reader.new)
+        (W.contents writer.old) (W.contents writer.new) (E.contents errors.old)
+        (E.contents errors.new) result }
+{
+    match judge_trace(alloc, reader, writer) {
+        Ok(verdict) => status_of(verdict),
+        Err(fault) => end_judging(errors, fault),
+    }
+}
+
+/// A verdict isn't written.
+fn end_judging<E: Write>(errors: &mut E, fault: JudgeFault) -> u8
+    ensures { result ≡ 1 }
+{
+    let _ = writeln!(errors, "fault: {fault}");
+    1
 }
 
 /// Runs walkers and workers as threads, and tells how many rounds they made.

@@ -4,3 +4,4 @@ pub mod Printed
 pub mod Read
 pub mod Says
 pub mod Texts
+pub mod Judged

@@ -2,6 +2,7 @@
 #![tactic(auto)]
 
 pub mod fault;
+pub mod judge;
 pub mod law;
 mod line;
 mod part;
@@ -10,4 +11,5 @@ pub mod trace;
 mod word;
 
 pub use fault::{Expected, TraceFault};
+pub use judge::{JudgeFault, Verdict, judge, judge_trace};
 pub use trace::read_trace;

@@ -13,7 +13,7 @@ use am_lines::{begins_with, cut_at_line_feed};
 use am_state::Obs;
 use std::alloc::Global;
 
-fn is_indented(line: &[u8]) -> bool
+pub(crate) fn is_indented(line: &[u8]) -> bool
     ensures { result ≡ is_indented line.now }
 {
     begins_with(line, b' ')

@@ -1,5 +1,5 @@
 use Rattle.std.proofs.lemmas.Result.{IfOk-weaker}
-use Rattle.am_cli.specs.{IsCommand, script_app, trace_app, draw_app, world_app, threads_app}
+use Rattle.am_cli.specs.{IsCommand, script_app, trace_app, draw_app, world_app, judge_app, threads_app}
 use Rattle.clap.specs.Words.{App}
 use Rattle.clap.specs.declared.builder.command.Command.{Command}
 use Rattle.am_cli.proofs.CommandLemmas.{adds}
@@ -13,4 +13,6 @@ returns c =
     let two = adds _ _ _ _ trace_app one trace c.in_ok-subcommand-2.ensures in
     let three = adds _ _ _ _ draw_app two c.in_ok-draw_command.ensures c.in_ok-subcommand-3.ensures in
     let four = adds _ _ _ _ world_app three c.in_ok-world_command.ensures c.in_ok-subcommand-4.ensures in
-    IfOk-weaker c.subcommand-5.result _ _ (λ all added. adds _ _ all _ threads_app four c.in_ok-threads_command.ensures added) c.subcommand-5.ensures
+    let judge : IsCommand judge_app c.new-3.result = record { shape = c.new-3.ensures.app; local = c.new-3.ensures.local } in
+    let five = adds _ _ _ _ judge_app four judge c.in_ok-subcommand-5.ensures in
+    IfOk-weaker c.subcommand-6.result _ _ (λ all added. adds _ _ all _ threads_app five c.in_ok-threads_command.ensures added) c.subcommand-6.ensures
