@@ -7,8 +7,8 @@ First every planted fault is read: where one doesn't apply, or the front end ref
 Then every crate and its tests are proved from nothing and run (`rt ci`), and beside that planted faults are
 tried, in rounds (tools/faults): those of the crates that the last commit changed, and those of a third of the
 others, another third at each commit; with --all those of all crates. Behind 110 minutes no more of them are begun; what is
-left is told by name. Then come the refused allocations, the program's commands, the examples, the program over
-two pipes, the library for C, and the pages.
+left is told by name. When all is proved, the refused allocations, the program's commands, the examples, the program
+over two pipes, the library for C, and the pages are run, beside the faults that are left.
 
 Each minute it says how far it is. At its end stands what each crate cost, in seconds of a processor, and the
 last line counts all. RT_JOBS is how many proofs run side by side; without it the toolchain chooses by the
@@ -33,7 +33,7 @@ PARTS = 3
 PROOFS = 0.75
 # Behind so many minutes no more planted faults are begun: a gate ends on a slow machine too, and says what it left out.
 LATEST = 110
-# What is left when all is proved.
+# What is run when all is proved.
 REST = ("refuse_all.sh", "commands.py", "examples.sh", "laws.py", "scripts.py", "sweeps.py", "pipes.py", "library.py test",
         "check_pages", "run_pages")
 COUNTS = re.compile(r"^(\d+) passed, (\d+) failed$", re.M)
@@ -205,9 +205,14 @@ def read_faults():
     return counts_in(ran.stdout)[1] if ran.stdout else 1
 
 
-def prove_and_try(is_all, costs):
-    """Runs the proofs, and the faults beside them; returns both outputs."""
-    begin = time.time()
+def is_over(process, log):
+    """Whether the proofs came to their end, so that what rests on them can be run."""
+    return process.poll() is not None and bool(COUNTS.search(text_of(log)))
+
+
+def prove_and_try(is_all, costs, pool):
+    """Runs the proofs, the faults beside them, and behind the proofs the rest; returns both outputs, and the runs of the rest."""
+    begin, rest = time.time(), []
     with tempfile.TemporaryDirectory(prefix="gate-") as room:
         logs = f"{room}/proofs", f"{room}/faults"
         words = [*tried_faults(is_all), "--minutes", str(LATEST)] if not is_all else tried_faults(is_all)
@@ -229,10 +234,12 @@ def prove_and_try(is_all, costs):
                     told = time.time()
                     say(far(begin, progress, logs[1]))
                 time.sleep(2)
+                if not rest and is_over(proofs, logs[0]):
+                    rest = [pool.submit(run_tool, tool) for tool in REST]
                 # Where the proofs died, nothing more will stand for the faults to rest on.
-                if proofs.poll() is not None and not COUNTS.search(text_of(logs[0])):
+                if proofs.poll() is not None and not is_over(proofs, logs[0]):
                     faults.terminate()
-        return text_of(logs[0]), text_of(logs[1])
+        return text_of(logs[0]), text_of(logs[1]), rest or [pool.submit(run_tool, tool) for tool in REST]
 
 
 def shown(text, at):
@@ -266,11 +273,11 @@ def main(words):
         return 1
     say(f"all planted faults are read, in {time.time() - begin:.0f} seconds")
     before = time.time()
-    proofs, faults = prove_and_try(words[1:] == ["--all"], costs)
-    rows.append(("proofs and tests", time.time() - before, counts_in(proofs)))
-    rows.append(("planted faults", 0, counts_in(faults)))
     with ThreadPoolExecutor(len(os.sched_getaffinity(0))) as pool:
-        for tool, said, seconds in pool.map(run_tool, REST):
+        proofs, faults, rest = prove_and_try(words[1:] == ["--all"], costs, pool)
+        rows.append(("proofs and tests", time.time() - before, counts_in(proofs)))
+        rows.append(("planted faults", 0, counts_in(faults)))
+        for tool, said, seconds in (it.result() for it in rest):
             print(said, end="", flush=True)
             rows.append((tool, seconds, counts_in(said)))
     print("\n".join(costs.table()))

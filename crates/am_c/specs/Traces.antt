@@ -1,13 +1,16 @@
--- Whether a trace is lawful, as C is told (docs/FORMATS.md, "Read back").
-use Rattle.std.specs.Prelude.{◌≡◌, ◌⊎◌, ◌↔◌, ℕ, Bool, true, false, IsTrue, List}
-use Rattle.am_laws.specs.{Lawful}
+-- Whether a trace is lawful, and which law it breaks, as C is told (docs/FORMATS.md, "Judged").
+use Rattle.std.specs.Prelude.{◌≡◌, ◌≢◌, ◌⊎◌, ℕ, List, []}
+use Rattle.am_laws.specs.{law_number, sentence_of}
+use Rattle.am_laws.specs.declared.law.Law.{Law}
 use Rattle.am_script.specs.{lines_of}
-use Rattle.am_state.specs.{Obs}
-use Rattle.am_traces.specs.Says.{IsTraceOf, IsUnread}
+use Rattle.am_traces.specs.Judged.{IsVerdict}
+use Rattle.am_traces.specs.Says.{IsUnread}
 use Rattle.am_traces.specs.declared.fault.Expected.{Expected}
 use Rattle.am_traces.specs.declared.fault.Expected.TheVariants.{Observation, Number, Token, Attach, Fs, Mount, Status, PacketType, PacketNumber, PacketName, Key, Entry, End}
 use Rattle.am_traces.specs.declared.fault.TraceFault.{TraceFault}
 use Rattle.am_traces.specs.declared.fault.TraceFault.TheVariants.{BadLine, NoMemory}
+use Rattle.am_traces.specs.declared.judge.Verdict.{Verdict}
+use Rattle.am_traces.specs.declared.judge.Verdict.TheVariants.{Lawful, Broken}
 use Rattle.am_c.specs.declared.trace.AmJudged.{AmJudged}
 
 -- ---- numbers
@@ -35,10 +38,16 @@ fault_number NoMemory = 2
 
 -- ---- what C is told
 
--- of a trace that holds, or doesn't
-abbrev pub judged_as : Bool → AmJudged
-judged_as true = record { line = 0; column = 0; expected = 0; lawful = 1 }
-judged_as false = record { line = 0; column = 0; expected = 0; lawful = 0 }
+-- of a trace that is lawful, or breaks a law
+abbrev pub judged_as : Verdict → AmJudged
+judged_as Lawful = record { line = 0; column = 0; expected = 0; lawful = 1; law = 0 }
+judged_as (Broken line law) = record {
+  line = line;
+  column = 0;
+  expected = 0;
+  lawful = 0;
+  law = law_number law;
+}
 
 -- of a fault
 abbrev pub unread_as : TraceFault → AmJudged
@@ -47,19 +56,17 @@ unread_as (BadLine line column expected) = record {
   column = column;
   expected = expected_number expected;
   lawful = 0;
+  law = 0;
 }
-unread_as NoMemory = record { line = 0; column = 0; expected = 0; lawful = 0 }
+unread_as NoMemory = record { line = 0; column = 0; expected = 0; lawful = 0; law = 0 }
 
 -- ---- a call
 
--- the text is a trace of these observations and of no others, and C is told whether they are lawful
+-- the text is a trace, and C is told what it comes to
 pub record IsJudged (text : List ℕ) (told : AmJudged) : Type 0 where
-  pub seen : List Obs
-  pub trace : IsTraceOf (lines_of text) seen
-  pub only : (other : List Obs) → IsTraceOf (lines_of text) other → other ≡ seen
-  pub holds : Bool
-  pub judged : IsTrue holds ↔ Lawful seen
-  pub is_told : told ≡ judged_as holds
+  pub verdict : Verdict
+  pub comes : IsVerdict (lines_of text) verdict
+  pub is_told : told ≡ judged_as verdict
 
 -- the first line that is no trace's is told, or memory ran out
 pub record IsNoTrace (text : List ℕ) (told : AmJudged) (number : ℕ) : Type 0 where
@@ -71,3 +78,9 @@ pub record IsNoTrace (text : List ℕ) (told : AmJudged) (number : ℕ) : Type 0
 -- the text is a trace, which is no fault; or there is one
 abbrev pub Judges : List ℕ → AmJudged → ℕ → Type 0
 Judges text told number = (IsJudged text told × (number ≡ 0)) ⊎ IsNoTrace text told number
+
+-- it is the sentence of the law with this number; there is none where no law has it
+abbrev pub IsSentenceOf : ℕ → List ℕ → Type 0
+IsSentenceOf number sentence =
+    ((law : Law) × (law_number law ≡ number) × (sentence ≡ sentence_of law))
+    ⊎ (((law : Law) → law_number law ≢ number) × (sentence ≡ []))

@@ -1,17 +1,20 @@
-//! Whether a trace is lawful.
+//! Whether a trace is lawful, and which law it breaks.
 
-ghost use Rattle.std.specs.Prelude.{◌≡◌};
-ghost use Rattle.am_c.specs.Traces.{Judges, expected_number, fault_number, judged_as, unread_as};
+ghost use Rattle.std.specs.Prelude.{◌≡◌, ℕ, List, length};
+ghost use Rattle.am_c.specs.Buffer.{with_front};
+ghost use Rattle.am_c.specs.Traces.{IsSentenceOf, Judges, expected_number, fault_number, judged_as, unread_as};
 
-use am_laws::trace_holds;
-use am_traces::{Expected, TraceFault, read_trace};
+use crate::buffer::put_front;
+use am_laws::Law;
+use am_traces::{Expected, TraceFault, Verdict, judge};
 use std::alloc::Global;
 
 /// What is found of a text that is to be a trace.
 #[repr(C)]
 #[derive(Clone, Copy)]
 pub struct AmJudged {
-    /// The line of the fault, from 1; 0 where there is none, or where it is out of memory.
+    /// The line of the fault, or else of the first observation that breaks a law, from 1; 0 where
+    /// there is neither, or where it is out of memory.
     pub line: u64,
     /// The byte of the line at which it doesn't go on as expected, from 1; else 0.
     pub column: u64,
@@ -19,19 +22,19 @@ pub struct AmJudged {
     pub expected: u32,
     /// 1 where the text is a trace that is lawful, else 0.
     pub lawful: u32,
+    /// The number of the law that is broken first; else 0.
+    pub law: u32,
 }
 
-/// Reads a trace, and tells whether it is lawful. 0 where the text is a trace; else the number of
+/// Reads a trace, and tells whether it is lawful, and else where it breaks a law, and which. 0 where the text is a trace; else the number of
 /// its fault.
 #[unsafe(no_mangle)]
 pub extern "C" fn am_trace_holds(alloc: Global, text: &[u8], judged: &mut AmJudged) -> u8
     ensures { Judges text.now judged.new result }
 {
-    match read_trace(alloc, text) {
-        Ok(seen) => {
-            let holds = trace_holds(seen.as_slice());
-            drop(seen);
-            *judged = judged_as(holds);
+    match judge(alloc, text) {
+        Ok(verdict) => {
+            *judged = judged_as(verdict);
             0
         }
         Err(fault) => {
@@ -41,14 +44,24 @@ pub extern "C" fn am_trace_holds(alloc: Global, text: &[u8], judged: &mut AmJudg
     }
 }
 
-fn judged_as(holds: bool) -> AmJudged
-    ensures { result ≡ judged_as holds }
+fn judged_as(verdict: Verdict) -> AmJudged
+    ensures { result ≡ judged_as verdict }
 {
-    AmJudged {
-        line: 0,
-        column: 0,
-        expected: 0,
-        lawful: if holds { 1 } else { 0 },
+    match verdict {
+        Verdict::Lawful => AmJudged {
+            line: 0,
+            column: 0,
+            expected: 0,
+            lawful: 1,
+            law: 0,
+        },
+        Verdict::Broken { line, law } => AmJudged {
+            line: line as u64,
+            column: 0,
+            expected: 0,
+            lawful: 0,
+            law: u32::from(law.number()),
+        },
     }
 }
 
@@ -65,12 +78,14 @@ fn unread_as(fault: TraceFault) -> AmJudged
             column: column as u64,
             expected: u32::from(expected_number(expected)),
             lawful: 0,
+            law: 0,
         },
         TraceFault::NoMemory => AmJudged {
             line: 0,
             column: 0,
             expected: 0,
             lawful: 0,
+            law: 0,
         },
     }
 }
@@ -101,5 +116,36 @@ fn expected_number(expected: Expected) -> u8
         Expected::Key => 11,
         Expected::Entry => 12,
         Expected::End => 13,
+    }
+}
+
+/// What the law of a number asks, in a sentence, as far as there is room. Returns how many bytes it
+/// has, 0 where no law has this number.
+#[unsafe(no_mangle)]
+pub extern "C" fn am_law_sentence(number: u32, out: &mut [u8]) -> usize
+    ensures { (sentence : List ℕ) × IsSentenceOf number sentence
+        × (out.new ≡ with_front sentence out.old) × (result ≡ length sentence) }
+{
+    let sentence = sentence_of(number);
+    put_front(sentence, out);
+    sentence.len()
+}
+
+fn sentence_of(number: u32) -> &'static [u8]
+    ensures { IsSentenceOf number result.now }
+{
+    match number {
+        1 => Law::QueuedOnce.sentence().as_bytes(),
+        2 => Law::WaitsOnOpen.sentence().as_bytes(),
+        3 => Law::DeliveredFromQueue.sentence().as_bytes(),
+        4 => Law::DeliveredOnce.sentence().as_bytes(),
+        5 => Law::AnsweredWhileOpen.sentence().as_bytes(),
+        6 => Law::AnsweredAfterDelivery.sentence().as_bytes(),
+        7 => Law::AnswerReleasesAll.sentence().as_bytes(),
+        8 => Law::CatatonicReleasesAll.sentence().as_bytes(),
+        9 => Law::ReleasedByCause.sentence().as_bytes(),
+        10 => Law::PassesNoExpiry.sentence().as_bytes(),
+        11 => Law::UnmountsUnused.sentence().as_bytes(),
+        _ => b"",
     }
 }

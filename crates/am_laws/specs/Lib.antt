@@ -6,7 +6,7 @@ pub mod Tests
 pub mod Lately
 pub mod Breaches
 -- what contracts cite, passed on from one place
-pub use Breaches.{Breaks, IsFirstBreach}
+pub use Breaches.{Breaks, IsFirstBreach, law_number, sentence_of}
 pub use Counts.{AsksToExpire, IsExpiring, IsInRow, IsOpen, IsQueued, dev_of, first_of, fs_of_token, packet_of, uses}
 pub use Fold.{AreLawful, IsLawfulAt, begins_with_released}
 pub use Lately.{AreSettled, AreUpTo, Remembers, Settles, WereLawful, WereSettled, can_close, greatest_with, is_lawful_lately, is_pending}

@@ -1,22 +1,8 @@
-use Rattle.std.proofs.Common.{◌↔◌, List, IsTrue, refl, subst, inl, inr}
-use Rattle.am_laws.specs.{Lawful}
-use Rattle.am_state.specs.{Obs}
+use Rattle.std.proofs.Common.{refl, inl, inr}
 use Rattle.am_c.proofs.trace.am_trace_holds.Goals as goal
 
 pub returns-in-Ok : goal.returns-in-Ok
-returns-in-Ok c =
-    let holds = c.trace_holds-holds.result in
-    inl (
-      record {
-        seen = c.in-Ok.seen.items;
-        trace = c.in-Ok.ensures.ok;
-        only = c.in-Ok.ensures.only;
-        holds = holds;
-        judged = subst (λ (seen : List Obs). IsTrue holds ↔ Lawful seen) c.as_slice.ensures.value c.trace_holds-holds.ensures;
-        is_told = c.judged_as.ensures;
-      },
-      refl,
-    )
+returns-in-Ok c = inl (record { verdict = c.in-Ok.verdict; comes = c.in-Ok.ensures.ok; is_told = c.judged_as.ensures }, refl)
 
 pub returns-in-Err : goal.returns-in-Err
 returns-in-Err c = inr (record {
