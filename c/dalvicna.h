@@ -166,10 +166,11 @@ enum am_expected {
 
 /* What is found of a text that is to be a trace. */
 struct am_judged {
-    uint64_t line;     /* of AM_TRACE_BAD_LINE the line, from 1; else 0 */
-    uint64_t column;   /* and the byte at which it doesn't go on as expected, from 1; else 0 */
+    uint64_t line;     /* of AM_TRACE_BAD_LINE, or of the first observation that breaks a law, from 1; else 0 */
+    uint64_t column;   /* of AM_TRACE_BAD_LINE the byte at which it doesn't go on as expected, from 1; else 0 */
     uint32_t expected; /* and what was expected there (enum am_expected); else 0 */
     uint32_t lawful;   /* 1 where the text is a trace that is lawful, else 0 */
+    uint32_t law;      /* the law that is broken first (am_law_sentence); 0 where none is */
 };
 
 /* Reads a trace, of am_trace or recorded elsewhere, and tells whether it is lawful: docs/MODEL.md, "The laws of
@@ -177,6 +178,10 @@ struct am_judged {
    space aren't looked at, so that a text without observations is lawful. The front of a lawful trace may
    not be: those whom an answer releases stand right behind it. */
 uint8_t am_trace_holds(const uint8_t *text, size_t len, struct am_judged *judged);
+
+/* Writes what the law of this number asks, in a sentence without a zero byte, and returns how many bytes it
+   has: 0 where no law has this number. The laws have the numbers 1 to 11: docs/FORMATS.md, "Judged". */
+size_t am_law_sentence(uint32_t number, uint8_t *out, size_t cap);
 
 /* ---- Packets, requests, maps ---- */
 
@@ -319,11 +324,12 @@ AM_HOLDS(sizeof(struct am_world) == 16);
 AM_AT(am_world, held, 0);
 AM_AT(am_world, kept, 8);
 
-AM_HOLDS(sizeof(struct am_judged) == 24);
+AM_HOLDS(sizeof(struct am_judged) == 32);
 AM_AT(am_judged, line, 0);
 AM_AT(am_judged, column, 8);
 AM_AT(am_judged, expected, 16);
 AM_AT(am_judged, lawful, 20);
+AM_AT(am_judged, law, 24);
 
 AM_HOLDS(sizeof(struct am_packet) == 40);
 AM_AT(am_packet, kind, 0);

@@ -419,11 +419,19 @@ static uint8_t judges(const char *of, struct am_judged *judged)
     return am_trace_holds((const uint8_t *)of, strlen(of), judged);
 }
 
-static int is_lawful(const char *of, uint32_t lawful)
+static int is_lawful(const char *of)
 {
     struct am_judged judged;
-    return judges(of, &judged) == 0 && judged.lawful == lawful && judged.line == 0 && judged.column == 0
-        && judged.expected == 0;
+    return judges(of, &judged) == 0 && judged.lawful == 1 && judged.line == 0 && judged.column == 0
+        && judged.expected == 0 && judged.law == 0;
+}
+
+/* The text is a trace, and the observation of this line is the first that breaks a law, and breaks this one. */
+static int breaks(const char *of, uint64_t line, uint32_t law)
+{
+    struct am_judged judged;
+    return judges(of, &judged) == 0 && judged.lawful == 0 && judged.line == line && judged.column == 0
+        && judged.expected == 0 && judged.law == law;
 }
 
 /* The text is no trace: this line doesn't go on so at this byte. */
@@ -431,7 +439,7 @@ static int misses(const char *of, uint64_t line, uint64_t column, uint32_t expec
 {
     struct am_judged judged;
     return judges(of, &judged) == AM_TRACE_BAD_LINE && judged.lawful == 0 && judged.line == line
-        && judged.column == column && judged.expected == expected;
+        && judged.column == column && judged.expected == expected && judged.law == 0;
 }
 
 #define QUEUED "  queued 1 attach 1 missing-indirect dev 2 ino 1 uid 0 gid 0 pid 7 tgid 7 name home\n"
@@ -439,10 +447,10 @@ static int misses(const char *of, uint64_t line, uint64_t column, uint32_t expec
 static void traces(void)
 {
     struct am_judged judged;
-    IS(is_lawful("", 1) && is_lawful("1: no event\n= no answer", 1));
-    IS(is_lawful(QUEUED "  waits 7 token 1\n", 1) && is_lawful(QUEUED "# odd\n  waits 7 token 1", 1));
-    IS(is_lawful("  waits 7 token 1\n", 0) && is_lawful(QUEUED QUEUED, 0));
-    IS(is_lawful(QUEUED "  answered 1 ready\n", 0));
+    IS(is_lawful("") && is_lawful("1: no event\n= no answer"));
+    IS(is_lawful(QUEUED "  waits 7 token 1\n") && is_lawful(QUEUED "# odd\n  waits 7 token 1"));
+    IS(breaks("  waits 7 token 1\n", 1, 2) && breaks("= a\n" QUEUED "= b\n" QUEUED, 4, 1));
+    IS(breaks(QUEUED "  answered 1 ready\n", 2, 6) && breaks("  answered 1 ready", 1, 5));
     IS(am_trace_holds(NULL, 0, &judged) == 0 && judged.lawful == 1);
     IS(misses(" died\n", 1, 1, AM_EXPECTED_OBSERVATION) && misses("\n  die\n", 2, 3, AM_EXPECTED_OBSERVATION));
     IS(misses("  died \n", 1, 7, AM_EXPECTED_END) && misses("  waits x\n", 1, 9, AM_EXPECTED_NUMBER));
@@ -470,6 +478,22 @@ static void traces_of_scripts(void)
     for (size_t end = 0; end <= played.bytes; end++)
         if (am_trace_holds(out, end, &judged) == 0 && judged.expected != 0)
             failed++, printf("failed: a trace of %zu bytes\n", end);
+}
+
+/* Each law has a sentence, and no other number has one. */
+static void sentences(void)
+{
+    static const char first[] = "a packet of a token is queued once", last[] = "no mount that is in use is unmounted";
+    for (uint32_t number = 1; number <= 11; number++) {
+        memset(out, CANARY, 128);
+        size_t size = am_law_sentence(number, out, 128);
+        IS(size > 20 && size < 128 && all_are(out + size, 128 - size, CANARY) && memchr(out, 0, size) == NULL);
+    }
+    IS(am_law_sentence(1, out, 128) == sizeof first - 1 && memcmp(out, first, sizeof first - 1) == 0);
+    IS(am_law_sentence(11, out, 128) == sizeof last - 1 && memcmp(out, last, sizeof last - 1) == 0);
+    memset(out, CANARY, 8);
+    IS(am_law_sentence(1, out, 3) == sizeof first - 1 && memcmp(out, first, 3) == 0 && all_are(out + 3, 5, CANARY));
+    IS(am_law_sentence(0, NULL, 0) == 0 && am_law_sentence(12, NULL, 0) == 0 && am_law_sentence(UINT32_MAX, NULL, 0) == 0);
 }
 
 /* ---- Worlds ---- */
@@ -809,6 +833,7 @@ int main(int words_in, char **word)
         scripts();
         traces();
         traces_of_scripts();
+        sentences();
         worlds(50 * (size_t)rounds);
         words();
         odd_bytes(rounds);

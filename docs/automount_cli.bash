@@ -2,7 +2,7 @@
 _automount_cli() {
     local word=${COMP_WORDS[COMP_CWORD]} words=
     case $COMP_CWORD-${COMP_WORDS[1]} in
-        1-*) words="script trace draw world threads" ;;
+        1-*) words="script trace draw world judge threads" ;;
         *-draw) words="--from --to" ;;
         *-world) words="--namespace" ;;
         *-threads) words="--walkers --workers --rounds" ;;

@@ -25,10 +25,10 @@ import enum
 import os
 import threading
 from dataclasses import dataclass
-from typing import Callable, List, Mapping, Optional, Tuple, Union
+from typing import Callable, List, Mapping, NamedTuple, Optional, Tuple, Union
 
 __all__ = ["ENCODING", "Entry", "Fault", "MapFault", "MasterFault", "MasterLine", "Packet", "PacketFault", "PacketKind",
-           "Played", "Request", "ScriptFault", "TraceFault", "draw", "error_name", "look_up", "master", "packet", "play",
+           "Played", "Request", "ScriptFault", "TraceFault", "draw", "error_name", "first_breach", "look_up", "master", "packet", "play",
            "played", "request_number", "trace", "trace_holds", "World", "world_text"]
 
 Text = Union[str, bytes]
@@ -167,7 +167,7 @@ class _World(ctypes.Structure):
 
 
 class _Judged(ctypes.Structure):
-    _fields_ = [("line", _U64C), ("column", _U64C), ("expected", _U32), ("lawful", _U32)]
+    _fields_ = [("line", _U64C), ("column", _U64C), ("expected", _U32), ("lawful", _U32), ("law", _U32)]
 
 
 class _Packet(ctypes.Structure):
@@ -200,6 +200,7 @@ _CALLS = {
     "am_text": (_U8, _HELD + (ctypes.c_bool, _U32) + _OUT + _PLAYED),
     "am_free": (None, _HELD),
     "am_trace_holds": (_U8, _TEXT + (ctypes.POINTER(_Judged),)),
+    "am_law_sentence": (_SIZE, (_U32,) + _OUT),
     "am_packet_read": (_U8, _TEXT + (ctypes.POINTER(_Packet),)),
     "am_packet_write": (_U8, (ctypes.POINTER(_Packet),) + _TEXT + _OUT),
     "am_request_number": (_U32, (_U32,)),
@@ -439,15 +440,37 @@ class World:
 
 # ---- Traces
 
-def trace_holds(text: Text) -> bool:
-    """Whether a trace is lawful (docs/MODEL.md, "The laws of a trace"), be it of `trace` or recorded elsewhere
-    (docs/FORMATS.md, "Read back"). Only lines that begin with two spaces are observations; a text without any is lawful.
-    Raises TraceFault where a line that begins with a space is no observation."""
+class Breach(NamedTuple):
+    """The first observation of a trace that breaks a law: its line, from 1, and the law, by its number and in a sentence."""
+
+    line: int
+    law: int
+    sentence: str
+
+
+def _judge(text: Text) -> _Judged:
     text, told = _bytes(text), _Judged()
     fault = _library.am_trace_holds(text, len(text), ctypes.byref(told))
     if fault:
         raise TraceFault(fault, told.line or None, told.column or None, told.expected)
-    return told.lawful == 1
+    return told
+
+
+def trace_holds(text: Text) -> bool:
+    """Whether a trace is lawful (docs/MODEL.md, "The laws of a trace"), be it of `trace` or recorded elsewhere
+    (docs/FORMATS.md, "Read back"). Only lines that begin with two spaces are observations; a text without any is lawful.
+    Raises TraceFault where a line that begins with a space is no observation."""
+    return _judge(text).lawful == 1
+
+
+def first_breach(text: Text) -> Optional[Breach]:
+    """Where a trace breaks a law first, and which (docs/FORMATS.md, "Judged"); None where it is lawful. Raises TraceFault
+    as `trace_holds` does."""
+    told = _judge(text)
+    if told.lawful:
+        return None
+    sentence = _text(_filled(lambda out, cap: _library.am_law_sentence(told.law, out, cap), 128))
+    return Breach(told.line, told.law, sentence)
 
 
 # ---- Packets and requests

@@ -249,6 +249,13 @@ class Traces(unittest.TestCase):
         self.assertFalse(dalvicna.trace_holds(self.QUEUED * 2))
         self.assertTrue(dalvicna.trace_holds(""))
 
+    def test_where_a_trace_breaks_a_law(self):
+        self.assertIsNone(dalvicna.first_breach(self.QUEUED + "  waits 7 token 1\n"))
+        found = dalvicna.first_breach("1: an event\n" + self.QUEUED + "  waits 7 token 2\n  waits 8 token 2\n")
+        self.assertEqual(found, (3, 2, "a walker waits on a token that is open"))
+        with self.assertRaises(dalvicna.TraceFault):
+            dalvicna.first_breach("  died now\n")
+
     def test_a_line_that_is_no_observation(self):
         with self.assertRaises(dalvicna.TraceFault) as raised:
             dalvicna.trace_holds("a\nb\n  waits 7 token x\n")

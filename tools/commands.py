@@ -47,6 +47,9 @@ PROPAGATED = (b"5 5 0:1 / / rw - plain none rw\n6 5 0:2 / /a rw shared:1 - plain
               b"8 5 0:2 / /c rw master:2 propagate_from:1 - plain none rw\n9 5 0:3 / /u rw unbindable - plain none rw\n")
 INITIAL = b"# namespace 0\n1 1 0:1 / / rw - plain none rw\n"
 SHORT = b"events\nmount 0 /a\nleave 1\n"
+# A trace that is lawful, and one of which the second line breaks a law.
+LAWFUL = b"  entered 7 mount 2\n  left 7 mount 2\n  unmounted 2\n"
+BROKEN = b"3: leave 7\n  waits 7 token 1"
 # What `script` and `trace` say of the two events of SHORT.
 ANSWERS = ((b"mount 2\n", b"err 10\n"), (b"err 5\n",))
 TRACES = ((b"2: mount 0 /a\n= mount 2\n  mounted 2\n", b"2: mount 0 /a\n= err 10\n"), (b"3: leave 1\n= err 5\n",))
@@ -61,7 +64,7 @@ def fault(line, word):
 NO_COMMAND_LINES = [
     [], ["--help"], ["help"], ["scrip"], ["script", "x"], ["script", "--help"], ["trace", "x"], [b"script\xff"],
     ["draw", "--from", "0"], ["draw", "--to", "4294967296"], ["draw", "--from"], ["draw", "x"],
-    ["world", "--namespace", "one"], ["world", "--namespace"], ["world", "1"], ["world", "--namespace", "4294967296"],
+    ["judge", "x"], ["judge", "--help"], ["world", "--namespace", "one"], ["world", "--namespace"], ["world", "1"], ["world", "--namespace", "4294967296"],
     ["threads", "--walkers", "0"], ["threads", "--walkers", "17"], ["threads", "--workers", "0"],
     ["threads", "--workers", "17"], ["threads", "--rounds", "0"], ["threads", "--rounds", "1001"],
     ["threads", "--rounds", "4294967297"], ["threads", "--rounds", "-1"], ["threads", "--rounds", "ten"],
@@ -80,6 +83,9 @@ COMMAND_LINES = [
     (["world", "--namespace", "2"], A_WORLD, (0, b"", b"")),
     (["world", "--namespace", "1"], PROPAGATION, (0, PROPAGATED, b"")),
     (["world"], b"events\nmount 0 /a\nx\n", (1, b"", fault(3, b"BadEvent"))),
+    (["judge"], b"", (0, b"lawful\n", b"")),
+    (["judge"], BROKEN, (1, b"line 2: a walker waits on a token that is open\n", b"")),
+    (["judge"], b"  left 1 mount 5\n  died now\n", (1, b"", b"fault: line 2, column 7: the end of the line expected\n")),
     (["threads"], b"", (0, b"rounds 40\n", b"")),
     (["threads", "--walkers", "2", "--workers", "1", "--rounds", "3"], b"", (0, b"rounds 6\n", b"")),
     (["threads", "--workers", "16", "--walkers", "1"], b"", (0, b"rounds 10\n", b"")),
@@ -96,11 +102,12 @@ PICTURES = [
     (["--from", "2", "--to", "2"], (False, True), b"1 of 2 events"),
     (["--from", "4294967295"], (False, False), b"0 of 2 events"),
 ]
-# What is shown, how many bytes are taken at once and how many in all, and the line at which the loss is told.
+# What is shown, how many bytes are taken at once and how many in all, and the line at which the loss is told, if it is at one.
 LOSSES = [
     ("trace", SHORT, 100, 0, 2), ("trace", SHORT, 7, 1, 2), ("trace", SHORT, 100, 35, 2), ("trace", SHORT, 7, 36, 3),
     ("trace", SHORT, 1, 40, 3), ("draw", SHORT, 100, 0, 2), ("draw", SHORT, 1, 1, 2), ("draw", SHORT, 100, 6000, 2),
     ("script", SHORT, 100, 0, 2), ("script", SHORT, 1, 8, 3),
+    ("judge", BROKEN, 100, 0, None), ("judge", BROKEN, 5, 20, None), ("judge", LAWFUL, 1, 6, None),
     *(("world", A_WORLD, 1 << 20, room, 11) for room in (0, 1, 100, 300)),
 ]
 
@@ -142,7 +149,8 @@ def is_lost(program, little, row):
     """Whether the beginning that is taken is written, and the rest told as lost at this line."""
     command, given, most, room, line = row
     whole = program.run([command], given)[1]
-    return program.run([command], given, little, MOST=most, ROOM=room) == (1, whole[:room], fault(line, b"WriteFailed"))
+    told = fault(line, b"WriteFailed") if line else b"fault: WriteFailed\n"
+    return program.run([command], given, little, MOST=most, ROOM=room) == (1, whole[:room], told)
 
 
 def is_whole(program, little, command, most):
@@ -193,6 +201,7 @@ def refusals(program, refuse):
     """The commands that are run with each allocation refused, each as its name and what does so."""
     rows = [
         (["script"], SHORT, beginnings(ANSWERS)), (["trace"], SHORT, beginnings(TRACES)),
+        (["judge"], LAWFUL, ([b""], [b"lawful\n"])),
         (["draw"], b"events\n", ([b""], [program.run(["draw"], b"events\n")[1]])),
         (["world"], b"events\n", ([b""], [INITIAL])), (["scrip"], b"", ([b""], [])),
         (["threads", "--walkers", "2", "--workers", "1", "--rounds", "2"], b"", ([b""], [b"rounds 4\n"])),
@@ -225,7 +234,7 @@ def checks(program):
     little, refuse = program.built("little"), program.built("refuse")
     for row in LOSSES:
         yield f"{row[0]}: {row[2]} bytes at once, {row[3]} in all", lambda row=row: is_lost(program, little, row)
-    for command in ("script", "trace", "draw", "world"):
+    for command in ("script", "trace", "draw", "world", "judge"):
         for most in (1, 7, 5000):
             yield f"{command}: {most} bytes at once", lambda command=command, most=most: is_whole(program, little, command, most)
     for words, run in refusals(program, refuse):
