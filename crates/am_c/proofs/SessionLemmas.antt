@@ -3,13 +3,13 @@ use Rattle.std.proofs.Common.{◌≡◌, ℕ, List, length, Option, Some, None, 
 use Rattle.am_script.specs.{ScriptFault, Summary}
 use Rattle.am_c.specs.declared.session.Session.{Session}
 use Rattle.am_c.specs.Buffer.{with_front}
-use Rattle.am_c.specs.Scripts.{fault_number, played_of}
+use Rattle.am_c.specs.Scripts.{IsTold, fault_number}
 use Rattle.am_c.specs.Sessions.{Held, IsNew, News, Uses, began, held_count, session_in}
 
 -- a world is there, and is put back
-pub uses_held : (does : Session → Session → List ℕ → Result Summary ScriptFault → Type 0) (inside : Option Session) (session next : Session) (old new : Held) (written : List ℕ) (went : Result Summary ScriptFault) (number : ℕ) → inside ≡ Some session → new.inside ≡ Some next → does session next written went → new.buffer ≡ with_front written old.buffer → new.told ≡ played_of (length written) went → number ≡ fault_number went → Uses does inside old new number
-uses_held does inside session next old new written went number there put d buffer told numbered =
-    subst (λ (k : Option Session). Uses does k old new number) (sym there) (record {
+pub uses_held : (does : Session → Session → List ℕ → Result Summary ScriptFault → Type 0) (text : List ℕ) (inside : Option Session) (session next : Session) (old new : Held) (written : List ℕ) (went : Result Summary ScriptFault) (number : ℕ) → inside ≡ Some session → new.inside ≡ Some next → does session next written went → new.buffer ≡ with_front written old.buffer → IsTold text (length written) went new.told → number ≡ fault_number went → Uses does text inside old new number
+uses_held does text inside session next old new written went number there put d buffer told numbered =
+    subst (λ (k : Option Session). Uses does text k old new number) (sym there) (record {
       next = next;
       inside = put;
       written = written;
@@ -26,7 +26,7 @@ none_held None count fits zero = refl
 none_held (Some session) count fits zero = absurd (omega (arith, fits, zero))
 
 -- a world is made, or none
-pub news_made : (head : List ℕ) (inside : Option Session) (old new : Held) (made : Result Session ScriptFault) (number : ℕ) → inside ≡ None → IsNew head made → new.inside ≡ session_in made → new.told ≡ played_of 0 (began made) → number ≡ fault_number (began made) → News head inside old new number
+pub news_made : (head : List ℕ) (inside : Option Session) (old new : Held) (made : Result Session ScriptFault) (number : ℕ) → inside ≡ None → IsNew head made → new.inside ≡ session_in made → IsTold head 0 (began made) new.told → number ≡ fault_number (began made) → News head inside old new number
 news_made head inside old new made number none is_new put told numbered =
     subst (λ (k : Option Session). News head k old new number) (sym none) (record {
       made = made;

@@ -5,6 +5,9 @@ use Rattle.am_master.specs.Fault as master_faults
 use Rattle.am_script.specs.{ScriptFault, ScriptFaultKind, Summary}
 use Rattle.am_script.specs.Fault.{kind_number}
 use Rattle.am_script.specs.declared.fault.ScriptFaultKind.TheVariants.{BadMaster, BadMap}
+use Rattle.am_diagnosis.specs.Scripts.{IsSlipIn}
+use Rattle.am_diagnosis.specs.Expectations.{expected_number}
+use Rattle.am_diagnosis.specs.declared.expected.Slip.{Slip}
 use Rattle.am_c.specs.declared.script.AmPlayed.{AmPlayed}
 use Rattle.am_c.specs.Buffer.{with_front}
 
@@ -21,24 +24,49 @@ detail_number (BadMaster kind) = master_faults.fault_number kind
 detail_number (BadMap kind) = map_faults.fault_number kind
 detail_number other = 0
 
--- what C is told where so many bytes were written
-abbrev pub played_of : ℕ → Result Summary ScriptFault → AmPlayed
-played_of bytes (Ok summary) = record {
+-- the byte of the line at which it isn't as expected, if it is told
+abbrev pub column_of : Option Slip → ℕ
+column_of None = 0
+column_of (Some slip) = slip.column
+
+-- the number of what was expected there
+abbrev pub expected_of : Option Slip → ℕ
+expected_of None = 0
+expected_of (Some slip) = expected_number slip.expected
+
+-- what C is told where so many bytes were written, and the line of the fault has this slip
+abbrev pub played_of : ℕ → Result Summary ScriptFault → Option Slip → AmPlayed
+played_of bytes (Ok summary) slip = record {
   bytes = bytes;
   lines = summary.lines;
   refused = summary.refused;
   line = 0;
+  column = 0;
   fault = 0;
   detail = 0;
+  expected = 0;
 }
-played_of bytes (Err fault) = record {
+played_of bytes (Err fault) slip = record {
   bytes = bytes;
   lines = 0;
   refused = 0;
   line = fault.line;
+  column = column_of slip;
   fault = kind_number fault.kind;
   detail = detail_number fault.kind;
+  expected = expected_of slip;
 }
+
+-- it is the slip of the fault in this text, if there is a fault
+abbrev pub IsPlaced : List ℕ → Result Summary ScriptFault → Option Slip → Type 0
+IsPlaced text (Ok summary) slip = slip ≡ None
+IsPlaced text (Err fault) slip = IsSlipIn text fault slip
+
+-- C is told how this text went, of which so many bytes were written
+pub record IsTold (text : List ℕ) (bytes : ℕ) (went : Result Summary ScriptFault) (told : AmPlayed) : Type 0 where
+  pub slip : Option Slip
+  pub placed : IsPlaced text went slip
+  pub same : told ≡ played_of bytes went slip
 
 -- ---- a call
 
@@ -55,7 +83,7 @@ pub record Fills (ends : Option (List ℕ) → Option (List ℕ) → Option (Lis
   pub went : Result Summary ScriptFault
   pub goes : Goes (ends (Some text) (Some rest) (Some []) (Some written)) (stops (Some text) (Some rest) (Some []) (Some written)) went
   pub buffer : new ≡ with_front written old
-  pub is_told : told ≡ played_of (length written) went
+  pub is_told : IsTold text (length written) went told
   pub numbered : number ≡ fault_number went
 
 -- the namespace that is asked for alone, if there is one

@@ -11,7 +11,7 @@ use Rattle.am_world.specs.Capacity.{state_of}
 use Rattle.am_c.specs.declared.script.AmPlayed.{AmPlayed}
 use Rattle.am_c.specs.declared.session.Session.{Session}
 use Rattle.am_c.specs.Buffer.{with_front}
-use Rattle.am_c.specs.Scripts.{fault_number, played_of}
+use Rattle.am_c.specs.Scripts.{IsTold, fault_number}
 
 -- ---- what a call writes
 
@@ -108,21 +108,22 @@ no_world = 254
 abbrev pub has_world : ℕ
 has_world = 255
 
--- the call makes this of the world, and what it writes stands at the front of the buffer
-pub record IsUsed (Does : Session → Session → List ℕ → Result Summary ScriptFault → Type 0) (session : Session) (old new : Held) (number : ℕ) : Type 0 where
+-- the call makes this of the world, what it writes stands at the front of the buffer, and C is told how
+-- it went, with the place of its fault in this text
+pub record IsUsed (Does : Session → Session → List ℕ → Result Summary ScriptFault → Type 0) (text : List ℕ) (session : Session) (old new : Held) (number : ℕ) : Type 0 where
   pub next : Session
   pub inside : new.inside ≡ Some next
   pub written : List ℕ
   pub went : Result Summary ScriptFault
   pub does : Does session next written went
   pub buffer : new.buffer ≡ with_front written old.buffer
-  pub is_told : new.told ≡ played_of (length written) went
+  pub is_told : IsTold text (length written) went new.told
   pub numbered : number ≡ fault_number went
 
 -- where there is a world, the call makes this of it; else nothing is touched
-abbrev pub Uses : (Session → Session → List ℕ → Result Summary ScriptFault → Type 0) → Option Session → Held → Held → ℕ → Type 0
-Uses Does None old new number = (new ≡ old) × (number ≡ no_world)
-Uses Does (Some session) old new number = IsUsed Does session old new number
+abbrev pub Uses : (Session → Session → List ℕ → Result Summary ScriptFault → Type 0) → List ℕ → Option Session → Held → Held → ℕ → Type 0
+Uses Does text None old new number = (new ≡ old) × (number ≡ no_world)
+Uses Does text (Some session) old new number = IsUsed Does text session old new number
 
 -- ---- a new world
 
@@ -180,7 +181,7 @@ pub record Begins (head : List ℕ) (old new : Held) (number : ℕ) : Type 0 whe
   pub made : Result Session ScriptFault
   pub is_new : IsNew head made
   pub inside : new.inside ≡ session_in made
-  pub is_told : new.told ≡ played_of 0 (began made)
+  pub is_told : IsTold head 0 (began made) new.told
   pub numbered : number ≡ fault_number (began made)
 
 -- where there is a world already, nothing is touched

@@ -6,9 +6,10 @@ ghost use Rattle.am_mountinfo.specs.{ShowsInput, StopsShowing};
 ghost use Rattle.am_script.specs.{PlaysInput, StopsInput};
 ghost use Rattle.am_views.specs.{TracesInput, StopsTrace};
 ghost use Rattle.am_c.specs.Buffer.{with_front};
-ghost use Rattle.am_c.specs.Scripts.{Fills, detail_number, fault_number, namespace_where, played_of};
+ghost use Rattle.am_c.specs.Scripts.{Fills, IsPlaced, IsTold, column_of, detail_number, expected_of, fault_number, namespace_where, played_of};
 
 use crate::buffer::put_front;
+use am_diagnosis::{Slip, slip_in};
 use am_draw::draw_script;
 use am_mountinfo::world_script;
 use am_names::NsId;
@@ -28,10 +29,14 @@ pub struct AmPlayed {
     pub refused: u64,
     /// The line of the fault, from 1; 0 where there is none.
     pub line: u64,
+    /// The byte of that line at which it isn't as expected, from 1; else 0.
+    pub column: u64,
     /// The number of the fault; 0 where there is none.
     pub fault: u32,
     /// What is wrong with the line of a map or of a master map, where that is the fault; else 0.
     pub detail: u32,
+    /// The number of what was expected at that byte; else 0.
+    pub expected: u32,
 }
 
 /// Plays a script, and puts the lines of its answers at the front of `out`. 0, or the number of its
@@ -43,7 +48,7 @@ pub extern "C" fn am_play(alloc: Global, script: &[u8], out: &mut [u8], played: 
     let mut reader = script;
     let mut writer = Vec::new(alloc);
     let went = run_script(alloc, &mut reader, &mut writer);
-    *played = tell(&writer, went, out);
+    *played = tell(script, &writer, went, out);
     drop(writer);
     fault_number(went)
 }
@@ -61,7 +66,7 @@ pub extern "C" fn am_trace(
     let mut reader = script;
     let mut writer = Vec::new(alloc);
     let went = trace_script(alloc, &mut reader, &mut writer);
-    *played = tell(&writer, went, out);
+    *played = tell(script, &writer, went, out);
     drop(writer);
     fault_number(went)
 }
@@ -82,7 +87,7 @@ pub extern "C" fn am_draw(
     let mut reader = script;
     let mut writer = Vec::new(alloc);
     let went = draw_script(alloc, &mut reader, &mut writer, first, last);
-    *played = tell(&writer, went, out);
+    *played = tell(script, &writer, went, out);
     drop(writer);
     fault_number(went)
 }
@@ -105,7 +110,7 @@ pub extern "C" fn am_world(
     let mut writer = Vec::new(alloc);
     let only = namespace_where(all, namespace);
     let went = world_script(alloc, &mut reader, &mut writer, only);
-    *played = tell(&writer, went, out);
+    *played = tell(script, &writer, went, out);
     drop(writer);
     fault_number(went)
 }
@@ -117,22 +122,39 @@ pub(crate) fn namespace_where(all: bool, namespace: u32) -> Option<NsId>
     if all { None } else { Some(NsId(namespace)) }
 }
 
-/// Puts what was written at the front of a buffer, and tells how the script went.
+/// Puts what was written at the front of a buffer, and tells how the text went.
 pub(crate) fn tell(
+    text: &[u8],
     written: &Vec<u8>,
     went: Result<Summary, ScriptFault>,
     out: &mut [u8],
 ) -> AmPlayed
     ensures buffer { out.new ≡ with_front written.now.items out.old }
-    ensures told { result ≡ played_of (length written.now.items) went }
+    ensures told { IsTold text.now (length written.now.items) went result }
 {
     put_front(written, out);
-    tell_of(written.len() as u64, went)
+    tell_of(text, written.len() as u64, went)
 }
 
-/// How a script went that wrote so many bytes.
-pub(crate) fn tell_of(bytes: u64, went: Result<Summary, ScriptFault>) -> AmPlayed
-    ensures { result ≡ played_of bytes went }
+/// How a text went of which so many bytes were written.
+pub(crate) fn tell_of(text: &[u8], bytes: u64, went: Result<Summary, ScriptFault>) -> AmPlayed
+    ensures { IsTold text.now bytes went result }
+{
+    played_of(bytes, went, place_of(text, went))
+}
+
+/// Where the line of the fault isn't as expected, and what was expected there.
+fn place_of(text: &[u8], went: Result<Summary, ScriptFault>) -> Option<Slip>
+    ensures { IsPlaced text.now went result }
+{
+    match went {
+        Ok(_summary) => None,
+        Err(fault) => slip_in(text, fault),
+    }
+}
+
+fn played_of(bytes: u64, went: Result<Summary, ScriptFault>, slip: Option<Slip>) -> AmPlayed
+    ensures { result ≡ played_of bytes went slip }
 {
     match went {
         Ok(summary) => AmPlayed {
@@ -140,17 +162,39 @@ pub(crate) fn tell_of(bytes: u64, went: Result<Summary, ScriptFault>) -> AmPlaye
             lines: summary.lines,
             refused: summary.refused,
             line: 0,
+            column: 0,
             fault: 0,
             detail: 0,
+            expected: 0,
         },
         Err(fault) => AmPlayed {
             bytes,
             lines: 0,
             refused: 0,
             line: fault.line,
+            column: column_of(slip),
             fault: u32::from(fault.kind.number()),
             detail: u32::from(detail_number(fault.kind)),
+            expected: expected_of(slip),
         },
+    }
+}
+
+fn column_of(slip: Option<Slip>) -> u64
+    ensures { result ≡ column_of slip }
+{
+    match slip {
+        Some(slip) => slip.column as u64,
+        None => 0,
+    }
+}
+
+fn expected_of(slip: Option<Slip>) -> u32
+    ensures { result ≡ expected_of slip }
+{
+    match slip {
+        Some(slip) => u32::from(slip.expected.number()),
+        None => 0,
     }
 }
 

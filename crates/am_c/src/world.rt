@@ -94,11 +94,11 @@ pub extern "C" fn am_new(
     match begin_boxed(alloc, head) {
         Ok(session) => {
             put(world, session);
-            *played = tell_of(0, Ok(no_event()));
+            *played = tell_of(head, 0, Ok(no_event()));
             0
         }
         Err(fault) => {
-            *played = tell_of(0, Err(fault));
+            *played = tell_of(head, 0, Err(fault));
             fault.kind.number()
         }
     }
@@ -128,7 +128,7 @@ pub extern "C" fn am_line(
     out: &mut [u8],
     played: &mut AmPlayed,
 ) -> u8
-    ensures { Uses (Plays line.now) world.old.kept.inside
+    ensures { Uses (Plays line.now) line.now world.old.kept.inside
         (record { inside = world.old.kept.inside; buffer = out.old; told = played.old })
         (record { inside = world.new.kept.inside; buffer = out.new; told = played.new }) result }
 {
@@ -137,7 +137,7 @@ pub extern "C" fn am_line(
     };
     let mut written = Vec::new(alloc);
     let went = play_line(alloc, &mut session, line, &mut written);
-    *played = tell(&written, went, out);
+    *played = tell(line, &written, went, out);
     drop(written);
     put(world, session);
     fault_number(went)
@@ -151,7 +151,7 @@ pub extern "C" fn am_answer(
     out: &mut [u8],
     played: &mut AmPlayed,
 ) -> u8
-    ensures { Uses TellsAnswer world.old.kept.inside
+    ensures { Uses TellsAnswer [] world.old.kept.inside
         (record { inside = world.old.kept.inside; buffer = out.old; told = played.old })
         (record { inside = world.new.kept.inside; buffer = out.new; told = played.new }) result }
 {
@@ -160,7 +160,7 @@ pub extern "C" fn am_answer(
     };
     let mut written = Vec::new(alloc);
     let went = tell_answer(&session, &mut written);
-    *played = tell(&written, went, out);
+    *played = tell(b"", &written, went, out);
     drop(written);
     put(world, session);
     fault_number(went)
@@ -174,7 +174,7 @@ pub extern "C" fn am_observed(
     out: &mut [u8],
     played: &mut AmPlayed,
 ) -> u8
-    ensures { Uses TellsSeen world.old.kept.inside
+    ensures { Uses TellsSeen [] world.old.kept.inside
         (record { inside = world.old.kept.inside; buffer = out.old; told = played.old })
         (record { inside = world.new.kept.inside; buffer = out.new; told = played.new }) result }
 {
@@ -183,7 +183,7 @@ pub extern "C" fn am_observed(
     };
     let mut written = Vec::new(alloc);
     let went = tell_seen(&session, &mut written);
-    *played = tell(&written, went, out);
+    *played = tell(b"", &written, went, out);
     drop(written);
     put(world, session);
     fault_number(went)
@@ -199,7 +199,7 @@ pub extern "C" fn am_text(
     out: &mut [u8],
     played: &mut AmPlayed,
 ) -> u8
-    ensures { Uses (TellsWorld (namespace_where all namespace)) world.old.kept.inside
+    ensures { Uses (TellsWorld (namespace_where all namespace)) [] world.old.kept.inside
         (record { inside = world.old.kept.inside; buffer = out.old; told = played.old })
         (record { inside = world.new.kept.inside; buffer = out.new; told = played.new }) result }
 {
@@ -209,7 +209,7 @@ pub extern "C" fn am_text(
     let only = namespace_where(all, namespace);
     let mut written = Vec::new(alloc);
     let went = tell_world(alloc, &session, only, &mut written);
-    *played = tell(&written, went, out);
+    *played = tell(b"", &written, went, out);
     drop(written);
     put(world, session);
     fault_number(went)
