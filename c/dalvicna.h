@@ -68,8 +68,12 @@ struct am_played {
     uint64_t lines;   /* how many answers there are; 0 at a fault, and of am_new, am_observed and am_text */
     uint64_t refused; /* how many of these say that nothing was done */
     uint64_t line;    /* the line of the fault, from 1, of am_line always 1; 0 where there is none */
+    uint64_t column;  /* the byte of that line at which it isn't as expected, from 1, one behind the last where it
+                         ends too early; 0 where no byte is at fault (no memory, a stream, a line that may not stand
+                         there by what stands above) */
     uint32_t fault;   /* the fault (enum am_script_fault); 0 where there is none */
     uint32_t detail;  /* what is wrong with a line of a map or master map; else 0 */
+    uint32_t expected; /* what was expected at that byte (am_expected_words); 0 where column is */
 };
 
 /* Each of these reads a script, plays it on a world of its own from the beginning, and returns 0 or the
@@ -94,6 +98,10 @@ uint8_t am_draw(const uint8_t *script, size_t len, uint64_t first, uint64_t last
    all is false, only the mounts of the namespace with this number: no bytes where there is none. */
 uint8_t am_world(const uint8_t *script, size_t len, bool all, uint32_t namespace_number, uint8_t *out,
                  size_t cap, struct am_played *played);
+
+/* Writes what this number of `expected` stands for, in words without a zero byte, as "a path, which begins
+   with /", and returns how many bytes they have: 0 where no expectation has this number. */
+size_t am_expected_words(uint32_t number, uint8_t *out, size_t cap);
 
 /* ---- A world from event to event ---- */
 
@@ -312,13 +320,15 @@ size_t am_error_name(uint32_t number, uint8_t *out, size_t cap);
 #endif
 #define AM_AT(type, field, at) AM_HOLDS(offsetof(struct type, field) == (at))
 
-AM_HOLDS(sizeof(struct am_played) == 40);
+AM_HOLDS(sizeof(struct am_played) == 56);
 AM_AT(am_played, bytes, 0);
 AM_AT(am_played, lines, 8);
 AM_AT(am_played, refused, 16);
 AM_AT(am_played, line, 24);
-AM_AT(am_played, fault, 32);
-AM_AT(am_played, detail, 36);
+AM_AT(am_played, column, 32);
+AM_AT(am_played, fault, 40);
+AM_AT(am_played, detail, 44);
+AM_AT(am_played, expected, 48);
 
 AM_HOLDS(sizeof(struct am_world) == 16);
 AM_AT(am_world, held, 0);

@@ -60,14 +60,16 @@ class Fault(ValueError):
     #: What was expected where each fault is, by its number from 1.
     WORDS: Tuple[Tuple[str, str], ...] = ()
 
-    def __init__(self, number: int, line: Optional[int] = None) -> None:
-        self.number, self.line = number, line
-        self.word, self.expected = self.WORDS[number - 1]
-        place = f"line {line}: " if line else ""
+    def __init__(self, number: int, line: Optional[int] = None, column: Optional[int] = None,
+                 expected: Optional[str] = None) -> None:
+        self.number, self.line, self.column = number, line or None, column or None
+        self.word = self.WORDS[number - 1][0]
+        self.expected = expected or self.WORDS[number - 1][1]
+        place = f"line {line}, column {column}: " if line and column else f"line {line}: " if line else ""
         super().__init__(f"{place}{self.word}: expected {self.expected}")
 
     def __reduce__(self) -> tuple:
-        return type(self), (self.number, self.line)
+        return type(self), (self.number, self.line, self.column, self.expected)
 
 
 class MapFault(Fault):
@@ -112,16 +114,6 @@ class TraceFault(Fault):
                 "ready or a failure", "the type of a packet", "a number of the packet", "the name in the packet",
                 "direct or a name", "an entry of the book", "the end of the line")
 
-    def __init__(self, number: int, line: Optional[int], column: Optional[int], expected: int) -> None:
-        super().__init__(number, line)
-        self.column, self.part = column, expected
-        if expected:
-            self.expected = self.EXPECTED[expected - 1]
-            self.args = (f"line {line}, column {column}: {self.word}: expected {self.expected}",)
-
-    def __reduce__(self) -> tuple:
-        return type(self), (self.number, self.line, self.column, self.part)
-
 
 class ScriptFault(Fault):
     """A script isn't played to its end.
@@ -141,15 +133,18 @@ class ScriptFault(Fault):
              ("ReadFailed", "a script of at most 16 TiB"),
              ("WriteFailed", "memory for what is written"))
 
-    def __init__(self, number: int, line: int, detail: int, written: str) -> None:
-        super().__init__(number, line)
+    def __init__(self, number: int, line: Optional[int], column: Optional[int] = None, expected: Optional[str] = None,
+                 detail: int = 0, written: str = "") -> None:
+        super().__init__(number, line, column, expected)
         self.written = written
-        self.cause: Optional[Fault] = {3: MasterFault, 4: MapFault}[number](detail, line) if detail else None
-        if self.cause:
+        self.cause: Optional[Fault] = None
+        if detail:
+            self.cause = {3: MasterFault, 4: MapFault}[number](detail, line, column, expected)
             self.word, self.expected, self.args = self.cause.word, self.cause.expected, self.cause.args
 
     def __reduce__(self) -> tuple:
-        return type(self), (self.number, self.line, self.cause.number if self.cause else 0, self.written)
+        return type(self), (self.number, self.line, self.column, self.expected, self.cause.number if self.cause else 0,
+                            self.written)
 
 
 # ---- The library
@@ -158,8 +153,8 @@ _U8, _U32, _U64C, _SIZE, _BYTES = ctypes.c_uint8, ctypes.c_uint32, ctypes.c_uint
 
 
 class _Played(ctypes.Structure):
-    _fields_ = [("bytes", _U64C), ("lines", _U64C), ("refused", _U64C), ("line", _U64C), ("fault", _U32),
-                ("detail", _U32)]
+    _fields_ = [("bytes", _U64C), ("lines", _U64C), ("refused", _U64C), ("line", _U64C), ("column", _U64C),
+                ("fault", _U32), ("detail", _U32), ("expected", _U32)]
 
 
 class _World(ctypes.Structure):
@@ -193,6 +188,7 @@ _CALLS = {
     "am_trace": (_U8, _TEXT + _OUT + _PLAYED),
     "am_draw": (_U8, _TEXT + (_U64C, _U64C) + _OUT + _PLAYED),
     "am_world": (_U8, _TEXT + (ctypes.c_bool, _U32) + _OUT + _PLAYED),
+    "am_expected_words": (_SIZE, (_U32,) + _OUT),
     "am_new": (_U8, _TEXT + _HELD + _PLAYED),
     "am_line": (_U8, _HELD + _TEXT + _OUT + _PLAYED),
     "am_answer": (_U8, _HELD + _OUT + _PLAYED),
@@ -282,6 +278,13 @@ class Played:
         return self.text
 
 
+def _expected(told: _Played) -> Optional[str]:
+    """What was expected where the fault is, in words, if it is at a byte."""
+    if not told.expected:
+        return None
+    return _text(_filled(lambda out, cap: _library.am_expected_words(told.expected, out, cap), 128))
+
+
 def _script(name: str, script: Text, room: int, *words: int) -> Played:
     given, told = _bytes(script), _Played()
 
@@ -290,7 +293,7 @@ def _script(name: str, script: Text, room: int, *words: int) -> Played:
         return told.bytes
 
     text = _text(_filled(call, room))
-    fault = ScriptFault(told.fault, told.line, told.detail, text) if told.fault else None
+    fault = ScriptFault(told.fault, told.line, told.column, _expected(told), told.detail, text) if told.fault else None
     return Played(text, told.lines, told.refused, fault)
 
 
@@ -375,12 +378,12 @@ class World:
         told = self._told
         name, first = [it for it in sections if it[1] < told.line or it is sections[0]][-1]
         if told.fault == 3:
-            return MasterFault(told.detail, told.line - first)
+            return MasterFault(told.detail, told.line - first, told.column, _expected(told))
         if told.fault == 4:
-            fault = MapFault(told.detail, told.line - first)
+            fault = MapFault(told.detail, told.line - first, told.column, _expected(told))
             fault.map = name
             return fault
-        return ScriptFault(told.fault, told.line - first if told.fault == 5 else told.line, 0, "")
+        return ScriptFault(told.fault, told.line - first if told.fault == 5 else told.line, told.column, _expected(told))
 
     def _filled(self, name: str, *words: object) -> str:
         """What a call writes that changes nothing; it is made again where there is less room."""
@@ -395,7 +398,7 @@ class World:
     def _fault(self, fault: int) -> Exception:
         if fault == NO_WORLD:
             return ValueError("expected a world that isn't closed")
-        return ScriptFault(fault, self._told.line, 0, "")
+        return ScriptFault(fault, self._told.line, self._told.column, _expected(self._told))
 
     def ask(self, event: Text) -> str:
         """The answer to one event, a line of a script without its line feed: "" to a blank line and a comment. Raises
@@ -452,7 +455,7 @@ def _judge(text: Text) -> _Judged:
     text, told = _bytes(text), _Judged()
     fault = _library.am_trace_holds(text, len(text), ctypes.byref(told))
     if fault:
-        raise TraceFault(fault, told.line or None, told.column or None, told.expected)
+        raise TraceFault(fault, told.line, told.column, TraceFault.EXPECTED[told.expected - 1] if told.expected else None)
     return told
 
 

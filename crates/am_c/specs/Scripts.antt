@@ -1,12 +1,13 @@
 -- How a script went, as C is told (docs/FORMATS.md, "Scripts").
-use Rattle.std.specs.Prelude.{◌≡◌, ℕ, Bool, true, false, List, [], length, Option, None, Some, Result, Ok, Err}
+use Rattle.std.specs.Prelude.{◌≡◌, ◌≢◌, ◌⊎◌, ℕ, Bool, true, false, List, [], length, Option, None, Some, Result, Ok, Err}
 use Rattle.am_map.specs.Fault as map_faults
 use Rattle.am_master.specs.Fault as master_faults
 use Rattle.am_script.specs.{ScriptFault, ScriptFaultKind, Summary}
 use Rattle.am_script.specs.Fault.{kind_number}
 use Rattle.am_script.specs.declared.fault.ScriptFaultKind.TheVariants.{BadMaster, BadMap}
 use Rattle.am_diagnosis.specs.Scripts.{IsSlipIn}
-use Rattle.am_diagnosis.specs.Expectations.{expected_number}
+use Rattle.am_diagnosis.specs.Expectations.{expected_number, expected_words}
+use Rattle.am_diagnosis.specs.declared.expected.Expected.{Expected}
 use Rattle.am_diagnosis.specs.declared.expected.Slip.{Slip}
 use Rattle.am_c.specs.declared.script.AmPlayed.{AmPlayed}
 use Rattle.am_c.specs.Buffer.{with_front}
@@ -67,6 +68,12 @@ pub record IsTold (text : List ℕ) (bytes : ℕ) (went : Result Summary ScriptF
   pub slip : Option Slip
   pub placed : IsPlaced text went slip
   pub same : told ≡ played_of bytes went slip
+
+-- they are the words of the expectation with this number; there are none where no expectation has it
+abbrev pub AreWordsOf : ℕ → List ℕ → Type 0
+AreWordsOf number words =
+    ((expected : Expected) × (expected_number expected ≡ number) × (words ≡ expected_words expected))
+    ⊎ (((expected : Expected) → expected_number expected ≢ number) × (words ≡ []))
 
 -- ---- a call
 

@@ -1,15 +1,15 @@
 //! Scripts: their answers, traces, pictures and worlds.
 
-ghost use Rattle.std.specs.Prelude.{◌≡◌, length, Some};
+ghost use Rattle.std.specs.Prelude.{◌≡◌, ℕ, List, length, Some};
 ghost use Rattle.am_draw.specs.{DrawsInput, StopsDrawing};
 ghost use Rattle.am_mountinfo.specs.{ShowsInput, StopsShowing};
 ghost use Rattle.am_script.specs.{PlaysInput, StopsInput};
 ghost use Rattle.am_views.specs.{TracesInput, StopsTrace};
 ghost use Rattle.am_c.specs.Buffer.{with_front};
-ghost use Rattle.am_c.specs.Scripts.{Fills, IsPlaced, IsTold, column_of, detail_number, expected_of, fault_number, namespace_where, played_of};
+ghost use Rattle.am_c.specs.Scripts.{AreWordsOf, Fills, IsPlaced, IsTold, column_of, detail_number, expected_of, fault_number, namespace_where, played_of};
 
 use crate::buffer::put_front;
-use am_diagnosis::{Slip, slip_in};
+use am_diagnosis::{Expected, Slip, slip_in};
 use am_draw::draw_script;
 use am_mountinfo::world_script;
 use am_names::NsId;
@@ -214,5 +214,26 @@ fn detail_number(kind: ScriptFaultKind) -> u8
         ScriptFaultKind::BadMaster { kind } => kind.number(),
         ScriptFaultKind::BadMap { kind } => kind.number(),
         _ => 0,
+    }
+}
+
+/// What the number of an expectation stands for, in words, as far as there is room. Returns how many
+/// bytes they have, 0 where no expectation has this number.
+#[unsafe(no_mangle)]
+pub extern "C" fn am_expected_words(number: u32, out: &mut [u8]) -> usize
+    ensures { (words : List ℕ) × AreWordsOf number words × (out.new ≡ with_front words out.old)
+        × (result ≡ length words) }
+{
+    let words = expected_words(number);
+    put_front(words, out);
+    words.len()
+}
+
+fn expected_words(number: u32) -> &'static [u8]
+    ensures { AreWordsOf number result.now }
+{
+    match Expected::numbered(number) {
+        Some(expected) => expected.words().as_bytes(),
+        None => b"",
     }
 }
