@@ -6,7 +6,8 @@ usage: tools/scripts.py                    plays all of them; the last line coun
        tools/scripts.py --refuse SCRIPT    plays NAME.script or NAME.twice with each allocation refused in turn
 
 - `NAME.script` is a script, with the answer lines of `NAME.out`, and the fault of `NAME.fault` where it ends in one;
-  where there is a `NAME.world`, it leaves that world (`tools/examples.sh` compares each `NAME.trace`).
+  where there is a `NAME.world`, it leaves that world, and where there is a `NAME.svg`, that is its picture
+  (`tools/examples.sh` compares each `NAME.trace`).
 - `.cases` has many scripts, and `.broken` those of a reader that fails behind them. What stands before the first mark
   `>>>` stands before the text of each case. Behind the rest of its mark's line comes a case's text, then a line of
   `---` and the words of the fault in which it ends, none where it ends well, and then what it writes. In a text `{0d}`
@@ -344,9 +345,10 @@ def script_at(path):
 def is_script(path):
     example = script_at(path)
     plays(example)
-    world = f"{path.rpartition('.')[0]}.world"
-    if os.path.exists(world):
-        compared("its world", example._replace(answers=bytes_of(world)), *program().run(["world"], example.script))
+    for command, ending, name in (("world", "world", "its world"), ("draw", "svg", "its picture")):
+        kept = f"{path.rpartition('.')[0]}.{ending}"
+        if os.path.exists(kept):
+            compared(name, example._replace(answers=bytes_of(kept)), *program().run([command], example.script))
 
 
 def is_event(line):
@@ -453,7 +455,7 @@ CASES = {"cases": is_case, "broken": is_broken_case, "cuts": is_piece, "short": 
 LINES = {"events": is_event, "traces": is_judged}
 SCRIPTS = ("script", "twice")
 #: What stands beside a script.
-BESIDE = ("out", "fault", "trace", "world")
+BESIDE = ("out", "fault", "trace", "world", "svg")
 
 
 def parts_of(path):

@@ -25,10 +25,20 @@ abbrev pub is_over : Look → Bool
 is_over Ended = true
 is_over look = false
 
+-- the walker neither waits nor is inside of a mount
+abbrev pub is_at_rest : Look → Bool
+is_at_rest Idle = true
+is_at_rest look = false
+
 -- another may take the lane: nobody has it, or a token that isn't open any more
 abbrev pub is_free : Option Holder → Bool
 is_free None = true
 is_free (Some holder) = is_over holder.look
+
+-- a walker has the lane that neither waits nor is inside of a mount
+abbrev pub is_idle : Option Holder → Bool
+is_idle None = false
+is_idle (Some holder) = is_at_rest holder.look
 
 -- ---- which lane
 
@@ -41,9 +51,14 @@ or_last lanes (Some lane) = lane
 abbrev pub lane_of : ℕ → List (Option Holder) → ℕ
 lane_of number lanes = or_last lanes (position (λ lane. is_of number lane) lanes)
 
--- the lane that is to be taken: the first that is free, or the last one
+-- this lane, or the first of a walker at rest, or the last one
+abbrev pub or_idle : List (Option Holder) → Option ℕ → ℕ
+or_idle lanes None = or_last lanes (position (λ lane. is_idle lane) lanes)
+or_idle lanes (Some lane) = lane
+
+-- the lane that is to be taken: the first that is free, or that of a walker at rest, or the last one
 abbrev pub free_lane : List (Option Holder) → ℕ
-free_lane lanes = or_last lanes (position (λ lane. is_free lane) lanes)
+free_lane lanes = or_idle lanes (position (λ lane. is_free lane) lanes)
 
 -- its own lane, or the one that is to be taken
 abbrev pub own_or_free : List (Option Holder) → Option ℕ → ℕ

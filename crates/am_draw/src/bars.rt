@@ -2,7 +2,7 @@
 
 ghost use Rattle.std.specs.Prelude.{◌≡◌, ◌≤◌, length, map, set};
 ghost use Rattle.std.specs.List.{position, list_any};
-ghost use Rattle.am_draw.specs.Bars.{is_of, is_over, is_free, or_last, lane_of, free_lane, lane_for, own_or_free, placed, sighted, answered_lane, look_behind, look_in, catatonic_lane, token_look, with_walker, changed, seen_behind, with_sighted, acted, behind, nothing_lasts};
+ghost use Rattle.am_draw.specs.Bars.{is_of, is_over, is_free, is_at_rest, is_idle, or_last, or_idle, lane_of, free_lane, lane_for, own_or_free, placed, sighted, answered_lane, look_behind, look_in, catatonic_lane, token_look, with_walker, changed, seen_behind, with_sighted, acted, behind, nothing_lasts};
 
 use am_names::{FsId, Token, WalkerId};
 use am_wire::PacketType;
@@ -32,7 +32,8 @@ pub struct Holder {
     pub look: Look,
 }
 
-/// The lanes of tokens and of walkers. The last one of each is taken over where there is no other.
+/// The lanes of tokens and of walkers. Where none is free, that of a walker at rest is taken over, or
+/// the last one.
 #[derive(Clone, Copy)]
 pub struct Lasting {
     pub tokens: [Option<Holder>; 8],
@@ -66,6 +67,25 @@ fn is_free(lane: &Option<Holder>) -> bool
     }
 }
 
+/// The walker neither waits nor is inside of a mount.
+fn is_at_rest(look: Look) -> bool
+    ensures { result ≡ is_at_rest look }
+{
+    match look {
+        Look::Idle => true,
+        _ => false,
+    }
+}
+
+fn is_idle(lane: &Option<Holder>) -> bool
+    ensures { result ≡ is_idle lane.now }
+{
+    match lane {
+        None => false,
+        Some(holder) => is_at_rest(holder.look),
+    }
+}
+
 fn own_lane(lanes: &[Option<Holder>], number: u32) -> Option<usize>
     ensures { result ≡ position (λ lane. is_of number lane) lanes.now }
 {
@@ -76,6 +96,12 @@ fn first_free(lanes: &[Option<Holder>]) -> Option<usize>
     ensures { result ≡ position (λ lane. is_free lane) lanes.now }
 {
     lanes.iter().position(|lane| is_free(lane))
+}
+
+fn first_idle(lanes: &[Option<Holder>]) -> Option<usize>
+    ensures { result ≡ position (λ lane. is_idle lane) lanes.now }
+{
+    lanes.iter().position(|lane| is_idle(lane))
 }
 
 fn or_last(lanes: &[Option<Holder>], lane: Option<usize>) -> usize
@@ -98,7 +124,10 @@ pub fn lane_of(lanes: &[Option<Holder>], number: u32) -> usize
 fn free_lane(lanes: &[Option<Holder>]) -> usize
     ensures { result ≡ free_lane lanes.now }
 {
-    or_last(lanes, first_free(lanes))
+    match first_free(lanes) {
+        None => or_last(lanes, first_idle(lanes)),
+        Some(lane) => lane,
+    }
 }
 
 fn lane_for(lanes: &[Option<Holder>], number: u32) -> usize
