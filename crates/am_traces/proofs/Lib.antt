@@ -6,3 +6,4 @@ pub mod PartLemmas
 pub mod PrintedLemmas
 pub mod SoundLemmas
 pub mod TraceLemmas
+pub mod JudgeLemmas

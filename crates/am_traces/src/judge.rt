@@ -9,7 +9,7 @@ ghost use Rattle.am_traces.specs.Says.{is_indented, IsUnread};
 
 use crate::fault::{Expected, TraceFault};
 use crate::trace::{is_indented, read_trace};
-use am_laws::{Breach, Law, first_breach};
+use am_laws::{Law, first_breach};
 use am_lines::cut_at_line_feed;
 use am_script::output::write_bytes;
 use itoa::Buffer;
@@ -72,27 +72,21 @@ fn indented_line(text: &[u8], place: usize) -> Option<usize>
     }
 }
 
-/// What the trace comes to whose first breach this is.
-fn verdict_of(text: &[u8], breach: Option<Breach>) -> Option<Verdict> {
-    let Some(breach) = breach else {
-        return Some(Verdict::Lawful);
-    };
-    Some(Verdict::Broken {
-        line: indented_line(text, breach.place)?,
-        law: breach.law,
-    })
-}
-
 /// Reads a trace, and judges it.
 pub fn judge(alloc: Global, text: &[u8]) -> Result<Verdict, TraceFault>
     ensures ok { IfOk result (IsVerdict (lines_of text.now)) }
     ensures err { IfErr result (IsUnread (lines_of text.now)) }
 {
     let seen = read_trace(alloc, text)?;
-    let breach = first_breach(seen.as_slice());
-    drop(seen);
-    match verdict_of(text, breach) {
-        Some(verdict) => Ok(verdict),
+    let Some(breach) = first_breach(seen.as_slice()) else {
+        return Ok(Verdict::Lawful);
+    };
+    match indented_line(text, breach.place) {
+        Some(line) => Ok(Verdict::Broken {
+            line,
+            law: breach.law,
+        }),
+        // Each observation has its line.
         None => unreachable!(),
     }
 }
