@@ -9,8 +9,8 @@ use Rattle.am_traces.specs.declared.fault.Expected.{Expected}
 use Rattle.am_traces.specs.declared.fault.Expected.TheVariants.{Observation, Number, Token, Attach, Fs, Mount, Status, PacketType, PacketNumber, PacketName, Key, Entry, End}
 use Rattle.am_traces.specs.declared.fault.TraceFault.{TraceFault}
 use Rattle.am_traces.specs.declared.fault.TraceFault.TheVariants.{BadLine, NoMemory}
-use Rattle.am_traces.specs.declared.judge.Verdict.{Verdict}
-use Rattle.am_traces.specs.declared.judge.Verdict.TheVariants.{Lawful, Broken}
+use Rattle.am_traces.specs.declared.verdict.Verdict.{Verdict}
+use Rattle.am_traces.specs.declared.verdict.Verdict.TheVariants.{Lawful, Broken}
 use Rattle.am_c.specs.declared.trace.AmJudged.{AmJudged}
 
 -- ---- numbers

@@ -7,8 +7,8 @@ use Rattle.am_script.specs.{PlaysInput, StopsInput, ScriptFault, Summary}
 use Rattle.am_cli.specs.{fault_number, Exits, Played, Stopped, Traced, TraceStopped, Drawn, DrawStopped, Shown, ShowStopped, Judged, JudgeStopped, Ran, Untold, NotRun, Refused, rounds_line, status_of_verdict, ArgsFault}
 use Rattle.am_draw.specs.{DrawsInput, StopsDrawing}
 use Rattle.am_traces.specs.Judged.{JudgesInput, StopsJudging}
-use Rattle.am_traces.specs.declared.judge.JudgeFault.{JudgeFault}
-use Rattle.am_traces.specs.declared.judge.Verdict.{Verdict}
+use Rattle.am_traces.specs.declared.verdict.JudgeFault.{JudgeFault}
+use Rattle.am_traces.specs.declared.verdict.Verdict.{Verdict}
 use Rattle.am_views.specs.{TracesInput, StopsTrace}
 use Rattle.am_cli.specs.declared.args.Args.TheVariants.{Script, Trace, Draw, World, Judge, Threads}
 

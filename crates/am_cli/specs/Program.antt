@@ -6,9 +6,9 @@ use Rattle.am_runner.specs.{IsTally, Tally}
 use Rattle.am_script.specs.{PlaysInput, StopsInput, ScriptFault, Summary}
 use Rattle.am_draw.specs.{DrawsInput, StopsDrawing}
 use Rattle.am_traces.specs.Judged.{JudgesInput, StopsJudging}
-use Rattle.am_traces.specs.declared.judge.JudgeFault.{JudgeFault}
-use Rattle.am_traces.specs.declared.judge.Verdict.{Verdict}
-use Rattle.am_traces.specs.declared.judge.Verdict.TheVariants.{Lawful, Broken}
+use Rattle.am_traces.specs.declared.verdict.JudgeFault.{JudgeFault}
+use Rattle.am_traces.specs.declared.verdict.Verdict.{Verdict}
+use Rattle.am_traces.specs.declared.verdict.Verdict.TheVariants.{Lawful, Broken}
 use Rattle.am_views.specs.{TracesInput, StopsTrace}
 use Rattle.clap.specs.Words.{Text, subcommand_of}
 use Rattle.am_cli.specs.Args.{fault_number}

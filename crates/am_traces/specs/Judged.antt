@@ -12,10 +12,10 @@ use Rattle.am_traces.specs.Says.{is_indented, IsTraceOf, IsFirstBad}
 use Rattle.am_traces.specs.declared.fault.Expected.{Expected}
 use Rattle.am_traces.specs.declared.fault.TraceFault.{TraceFault}
 use Rattle.am_traces.specs.declared.fault.TraceFault.TheVariants as traces_unread
-use Rattle.am_traces.specs.declared.judge.JudgeFault.{JudgeFault}
-use Rattle.am_traces.specs.declared.judge.JudgeFault.TheVariants.{BadLine, NoMemory, ReadFailed, WriteFailed}
-use Rattle.am_traces.specs.declared.judge.Verdict.{Verdict}
-use Rattle.am_traces.specs.declared.judge.Verdict.TheVariants.{Lawful, Broken}
+use Rattle.am_traces.specs.declared.verdict.JudgeFault.{JudgeFault}
+use Rattle.am_traces.specs.declared.verdict.JudgeFault.TheVariants.{BadLine, NoMemory, ReadFailed, WriteFailed}
+use Rattle.am_traces.specs.declared.verdict.Verdict.{Verdict}
+use Rattle.am_traces.specs.declared.verdict.Verdict.TheVariants.{Lawful, Broken}
 
 -- ---- a text
 

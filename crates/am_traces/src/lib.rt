@@ -2,14 +2,14 @@
 #![tactic(auto)]
 
 pub mod fault;
-pub mod judge;
 pub mod law;
 mod line;
 mod part;
 mod rest;
 pub mod trace;
+pub mod verdict;
 mod word;
 
 pub use fault::{Expected, TraceFault};
-pub use judge::{JudgeFault, Verdict, judge, judge_trace};
 pub use trace::read_trace;
+pub use verdict::{JudgeFault, Verdict, judge, judge_trace};

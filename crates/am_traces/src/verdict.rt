@@ -1,6 +1,6 @@
 //! Traces are judged by their laws.
 
-ghost use Rattle.std.specs.Prelude.{◌≡◌, ◌≤◌, ℕ, List, IfNone, IfOk, IfErr, IfSome, OnErr, OnOk};
+ghost use Rattle.std.specs.Prelude.{◌≡◌, ◌≤◌, ◌+◌, ℕ, List, cond, true, IfNone, IfOk, IfErr, IfSome, OnErr, OnOk};
 ghost use Rattle.std.specs.Io.KnownBytes.{Appends, Consumes, IsAtEnd};
 ghost use Rattle.std.specs.List.{count_by};
 ghost use Rattle.am_script.specs.{lines_of};
@@ -48,6 +48,18 @@ pub enum JudgeFault {
     WriteFailed,
 }
 
+/// Of so many indented lines that are still to be passed over, how many are left behind this line;
+/// none where it is the one behind them.
+fn left_behind(line: &[u8], left: usize) -> Option<usize>
+    ensures none { IfNone result ((is_indented line.now ≡ true) × (left ≡ 0)) }
+    ensures some { IfSome result (λ fewer. left ≡ fewer + cond (is_indented line.now) 1 0) }
+{
+    if is_indented(line) {
+        return left.checked_sub(1);
+    }
+    Some(left)
+}
+
 /// The number of the indented line before which so many stand, from 1.
 fn indented_line(text: &[u8], place: usize) -> Option<usize>
     ensures none { IfNone result (count_by is_indented (lines_of text.now) ≤ place) }
@@ -58,17 +70,15 @@ fn indented_line(text: &[u8], place: usize) -> Option<usize>
     let mut left = place;
     loop {
         let (line, behind) = cut_at_line_feed(rest);
-        if is_indented(line) {
-            if left == 0 {
-                return Some(above + 1);
-            }
-            left -= 1;
-        }
+        let Some(fewer) = left_behind(line, left) else {
+            return Some(above + 1);
+        };
         let Some(next) = behind else {
             return None;
         };
         rest = next;
         above += 1;
+        left = fewer;
     }
 }
 
