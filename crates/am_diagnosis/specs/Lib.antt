@@ -1,0 +1,4 @@
+pub mod Columns
+pub mod Events
+pub mod Fits
+pub mod Misfits
