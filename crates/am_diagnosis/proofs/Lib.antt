@@ -1,0 +1,4 @@
+pub mod ColumnLemmas
+pub mod EventLemmas
+pub mod LawLemmas
+pub mod MisfitLemmas

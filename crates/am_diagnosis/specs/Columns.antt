@@ -1,5 +1,5 @@
 -- The bytes of a line at which its words stand: own choice (docs/FORMATS.md, "Faults").
-use Rattle.std.specs.Prelude.{◌≡◌, ◌⊎◌, ⊤, ⊥, ℕ, ◌+◌, Bool, false, true, not, All, List, [], ◌∷◌, ◌++◌, length, take, drop, Option, None, Some}
+use Rattle.std.specs.Prelude.{◌≡◌, ◌⊎◌, ⊤, ℕ, ◌+◌, Bool, false, true, not, All, List, [], ◌∷◌, ◌++◌, length, take, drop, Option, None, Some}
 use Rattle.am_lines.specs.{words_of, is_blank}
 use Rattle.am_diagnosis.specs.declared.expected.Slip.{Slip}
 use Rattle.am_diagnosis.specs.declared.misfit.Misfit.{Misfit}
@@ -31,14 +31,14 @@ BeginsWord front (b ∷ back) = EndsBlank front × (is_blank b ≡ false)
 
 -- The word at this place, from 0, begins at this byte of the line, from 1. Where there is no word at
 -- that place, it is the byte behind the line's last.
-pub record IsColumn (line : List ℕ) (place column : ℕ) : Type 0 where
+pub record IsColumn (line : List ℕ) (place byte : ℕ) : Type 0 where
   pub front : List ℕ
   pub back : List ℕ
   pub parts : line ≡ front ++ back
   pub before : words_of front ≡ take place (words_of line)
   pub behind : words_of back ≡ drop place (words_of line)
   pub begins : BeginsWord front back
-  pub column : column ≡ length front + 1
+  pub counted : byte ≡ length front + 1
 
 -- where the line has this misfit, or none, its slip is this one, or none
 abbrev pub IsSlipOf : List ℕ → Option Misfit → Option Slip → Type 0

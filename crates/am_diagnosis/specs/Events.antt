@@ -1,41 +1,14 @@
 -- What is expected of the line of an event: own choice (docs/FORMATS.md, "Events").
-use Rattle.std.specs.Prelude.{◌≡◌, ℕ, true, is_some, List, [], ◌∷◌, codes, bytes_eq, Option, None, Some, if◌then◌else◌}
+use Rattle.std.specs.Prelude.{◌≡◌, true, is_some, Option}
 use Rattle.am_script.specs.Events.{event_read}
-use Rattle.am_diagnosis.specs.declared.expected.Expected.{Expected}
-use Rattle.am_diagnosis.specs.declared.expected.Expected.TheVariants.{Event, Walker, Namespace, FileSystem, Token, Job, Attachment, Seconds, Moment, Path, Pipe, Expiry, Change, Reduced, Packet, Outcome, Failure, Status, Name}
+use Rattle.am_diagnosis.specs.declared.expected.Expected.TheVariants.{Event}
 use Rattle.am_diagnosis.specs.declared.misfit.Misfit.{Misfit}
-use Rattle.am_diagnosis.specs.Misfits.{Words, misfit_at, misfit_by}
-
--- the parameters of an event by its word: a line of this table for each word
-unfoldable pub parameters : List ℕ → Option (List Expected)
-parameters word =
-    if bytes_eq word (codes "attach") then Some (Path ∷ [])
-    else if bytes_eq word (codes "mount") then Some (Namespace ∷ Path ∷ [])
-    else if bytes_eq word (codes "bind") then Some (Namespace ∷ Path ∷ Path ∷ [])
-    else if bytes_eq word (codes "umount") then Some (Namespace ∷ Path ∷ [])
-    else if bytes_eq word (codes "change") then Some (Namespace ∷ Path ∷ Change ∷ [])
-    else if bytes_eq word (codes "kind") then Some (Namespace ∷ Path ∷ [])
-    else if bytes_eq word (codes "nscopy") then Some (Namespace ∷ Reduced ∷ [])
-    else if bytes_eq word (codes "nsdrop") then Some (Namespace ∷ [])
-    else if bytes_eq word (codes "walk") then Some (Walker ∷ Namespace ∷ Path ∷ Moment ∷ Pipe ∷ [])
-    else if bytes_eq word (codes "resume") then Some (Walker ∷ Moment ∷ Pipe ∷ [])
-    else if bytes_eq word (codes "leave") then Some (Walker ∷ [])
-    else if bytes_eq word (codes "expire") then Some (Walker ∷ FileSystem ∷ Moment ∷ Expiry ∷ Pipe ∷ [])
-    else if bytes_eq word (codes "deliver") then Some (Token ∷ Packet ∷ [])
-    else if bytes_eq word (codes "act") then Some (Job ∷ Outcome ∷ Failure ∷ [])
-    else if bytes_eq word (codes "repeat") then Some (Attachment ∷ Token ∷ Status ∷ [])
-    else if bytes_eq word (codes "catatonic") then Some (Attachment ∷ FileSystem ∷ [])
-    else if bytes_eq word (codes "admincat") then Some (FileSystem ∷ [])
-    else if bytes_eq word (codes "timeout") then Some (Attachment ∷ FileSystem ∷ Seconds ∷ [])
-    else if bytes_eq word (codes "die") then Some []
-    else if bytes_eq word (codes "reattach") then Some (FileSystem ∷ [])
-    else if bytes_eq word (codes "record") then Some (FileSystem ∷ Name ∷ [])
-    else None
+use Rattle.am_diagnosis.specs.Parameters.{parameters}
+use Rattle.am_diagnosis.specs.Misfits.{Words, misfit_in}
 
 -- where a line with these words isn't the line of an event
 abbrev pub event_misfit : Words → Option Misfit
-event_misfit [] = Some (misfit_at 0 Event)
-event_misfit (word ∷ words) = misfit_by Event (parameters word) words
+event_misfit words = misfit_in Event parameters words
 
 -- a line with these words is an event's
 abbrev pub IsEvent : Words → Type 0

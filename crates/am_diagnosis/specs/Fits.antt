@@ -6,7 +6,16 @@ use Rattle.am_names.specs.{path_read}
 use Rattle.am_script.specs.Numbers.{u32_read, u64_read}
 use Rattle.am_script.specs.EventWords.{pipe_read, change_read, form_read, immediate_read, failure_read, outcome_word_read, status_read, trigger_name_read, packet_read}
 use Rattle.am_diagnosis.specs.declared.expected.Expected.{Expected}
-use Rattle.am_diagnosis.specs.declared.expected.Expected.TheVariants.{Walker, Namespace, FileSystem, Token, Job, Attachment, Seconds, Moment, Path, Pipe, Expiry, Change, Reduced, Packet, Outcome, Failure, Status, Name, End, Limit, Waits, Lasting, MapName}
+use Rattle.am_diagnosis.specs.declared.expected.Expected.TheVariants.{Event, Walker, Namespace, FileSystem, Token, Job, Attachment, Seconds, Moment, Path, Pipe, Expiry, Change, Reduced, Packet, Outcome, Failure, Status, Name, End, Part, Limit, Waits, Lasting, MapName}
+use Rattle.am_diagnosis.specs.Parameters.{parameters, part_parameters}
+
+-- the word is one of those with which the line of an event begins
+abbrev pub is_event_word : List ℕ → Bool
+is_event_word word = is_some (parameters word)
+
+-- the word is one of those with which a part of a head begins
+abbrev pub is_part_word : List ℕ → Bool
+is_part_word word = is_some (part_parameters word)
 
 -- the word is a number of 32 bits
 abbrev pub is_u32 : List ℕ → Bool
@@ -21,8 +30,10 @@ abbrev pub is_up_to : ℕ → Option ℕ → Bool
 is_up_to most None = false
 is_up_to most (Some n) = nat_le 1 n && nat_le n most
 
--- the word may stand where this is expected, if it is a parameter of an event or of a head's line
+-- the word may stand where this is expected, in the line of an event or of a part of a head
 abbrev pub fits : Expected → List ℕ → Bool
+fits Event word = is_event_word word
+fits Part word = is_part_word word
 fits Walker word = is_u32 word
 fits Namespace word = is_u32 word
 fits FileSystem word = is_u32 word

@@ -1,5 +1,5 @@
 -- Where the words of a line leave what is expected of them: own choice (docs/FORMATS.md, "Faults").
-use Rattle.std.specs.Prelude.{◌≡◌, ◌≤◌, ◌<◌, ⊥, ℕ, ◌+◌, List, [], ◌∷◌, ◌++◌, codes, bytes_eq, length, take, Option, None, Some, if◌then◌else◌}
+use Rattle.std.specs.Prelude.{◌≡◌, ◌↔◌, ◌≤◌, ◌<◌, ℕ, true, ◌+◌, List, [], ◌∷◌, ◌++◌, codes, bytes_eq, length, take, Option, None, Some, if◌then◌else◌}
 use Rattle.am_diagnosis.specs.declared.expected.Expected.{Expected}
 use Rattle.am_diagnosis.specs.declared.expected.Expected.TheVariants.{Outcome, End}
 use Rattle.am_diagnosis.specs.declared.misfit.Misfit.{Misfit}
@@ -22,6 +22,12 @@ pub record IsFirstMisfit (Good : Words → Type 0) (words : Words) (place : ℕ)
   pub good_before : IsBeginning Good (take place words)
   pub bad_behind : place < length words → IsBeginning Good (take (place + 1) words) → ⊥
   pub is_bad : Good words → ⊥
+
+-- What is expected at this place is what good lines have there that begin with the words before it:
+-- just the words that fit, or the end where it may stand there.
+pub record TellsWhatFits (Good : Words → Type 0) (words : Words) (place : ℕ) (expected : Expected) : Type 0 where
+  pub fitting : (word : List ℕ) → (fits expected word ≡ true) ↔ IsBeginning Good (take place words ++ word ∷ [])
+  pub ending : (may_end expected ≡ true) ↔ Good (take place words)
 
 -- ---- the misfit of words by their parameters
 
@@ -53,7 +59,13 @@ misfit_of place parameters (word ∷ words) =
     if fits (next_of parameters) word then misfit_of (place + 1) (left_behind word parameters) words
     else Some (misfit_at place (next_of parameters))
 
--- the same of a line whose first word, where this is expected, has these parameters, or is none
+-- the same of the words behind a first one, where this is expected, that has these parameters or is
+-- no such word
 abbrev pub misfit_by : Expected → Option (List Expected) → Words → Option Misfit
 misfit_by expected None words = Some (misfit_at 0 expected)
 misfit_by expected (Some parameters) words = misfit_of 1 parameters words
+
+-- the same of a line in which this is expected first, by a table of what stands behind that
+abbrev pub misfit_in : Expected → (List ℕ → Option (List Expected)) → Words → Option Misfit
+misfit_in expected table [] = Some (misfit_at 0 expected)
+misfit_in expected table (word ∷ words) = misfit_by expected (table word) words

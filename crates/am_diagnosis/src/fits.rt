@@ -4,21 +4,24 @@ ghost use Rattle.std.specs.Prelude.{◌≡◌, ◌||◌, bytes_eq, is_some};
 ghost use Rattle.std.specs.Result.{result_ok};
 ghost use Rattle.am_names.specs.{path_read};
 ghost use Rattle.am_script.specs.EventWords.{pipe_read, change_read, form_read, immediate_read, failure_read, outcome_word_read, status_read, trigger_name_read, packet_read};
-ghost use Rattle.am_diagnosis.specs.Fits.{fits, may_end, is_up_to};
+ghost use Rattle.am_diagnosis.specs.Fits.{fits, may_end, is_up_to, is_event_word, is_part_word};
 ghost use Rattle.am_script.specs.Numbers.{u32_read};
 
 use crate::expected::Expected;
 use crate::number::{is_u32, is_u64, read_u8, read_u32};
+use crate::parameters::{parameters, part_parameters};
 use crate::word::{is_either, is_word};
 use am_names::{AbsPath, FailNo, Name};
 use hex::decode_to_slice;
 
-/// Whether the word may stand where this is expected, if it is a parameter of an event or of a
-/// line of a head; nothing may where something else is.
+/// Whether the word may stand where this is expected, in the line of an event or of a part of a
+/// head.
 pub(crate) fn fits(expected: Expected, word: &[u8]) -> bool
     ensures { result ≡ fits expected word.now }
 {
     match expected {
+        Expected::Event => is_event_word(word),
+        Expected::Part => is_part_word(word),
         Expected::Walker
         | Expected::Namespace
         | Expected::FileSystem
@@ -52,6 +55,18 @@ pub(crate) fn may_end(expected: Expected) -> bool
         Expected::Reduced | Expected::Packet | Expected::Failure | Expected::End => true,
         _ => false,
     }
+}
+
+fn is_event_word(word: &[u8]) -> bool
+    ensures { result ≡ is_event_word word.now }
+{
+    parameters(word).is_some()
+}
+
+fn is_part_word(word: &[u8]) -> bool
+    ensures { result ≡ is_part_word word.now }
+{
+    part_parameters(word).is_some()
 }
 
 fn is_path(word: &[u8]) -> bool

@@ -5,6 +5,7 @@ mod column;
 pub mod event;
 pub mod expected;
 mod fits;
+pub mod law;
 mod misfit;
 mod number;
 mod parameters;

@@ -1,15 +1,15 @@
-//! The parameters of events.
+//! What stands behind the first word of a line.
 
 ghost use Rattle.std.specs.Prelude.{◌≡◌};
 ghost use Rattle.std.specs.Option.{option_copied};
-ghost use Rattle.am_diagnosis.specs.Events.{parameters};
+ghost use Rattle.am_diagnosis.specs.Parameters.{parameters, part_parameters};
 
 use crate::expected::Expected;
 use crate::word::is_word;
 
 /// The parameters of an event by its word: an arm for each word of the table of events
 /// (docs/FORMATS.md, "Events").
-#[tactic(auto, unfolding(crate::specs::Events::parameters))]
+#[tactic(auto, unfolding(crate::specs::Parameters::parameters))]
 pub(crate) fn parameters(word: &[u8]) -> Option<&'static [Expected]>
     ensures { option_copied result ≡ parameters word.now }
 {
@@ -63,6 +63,21 @@ pub(crate) fn parameters(word: &[u8]) -> Option<&'static [Expected]>
         _ if is_word(word, b"die") => Some(&[]),
         _ if is_word(word, b"reattach") => Some(&[Expected::FileSystem]),
         _ if is_word(word, b"record") => Some(&[Expected::FileSystem, Expected::Name]),
+        _ => None,
+    }
+}
+
+/// The parameters of a part of the head by its first word.
+#[tactic(auto, unfolding(crate::specs::Parameters::part_parameters))]
+pub(crate) fn part_parameters(word: &[u8]) -> Option<&'static [Expected]>
+    ensures { option_copied result ≡ part_parameters word.now }
+{
+    match word {
+        _ if is_word(word, b"limits") => Some(&[Expected::Limit, Expected::Waits, Expected::Limit]),
+        _ if is_word(word, b"negative") => Some(&[Expected::Lasting]),
+        _ if is_word(word, b"master") => Some(&[]),
+        _ if is_word(word, b"map") => Some(&[Expected::MapName]),
+        _ if is_word(word, b"events") => Some(&[]),
         _ => None,
     }
 }
