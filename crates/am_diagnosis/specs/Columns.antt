@@ -1,5 +1,6 @@
 -- The bytes of a line at which its words stand: own choice (docs/FORMATS.md, "Faults").
-use Rattle.std.specs.Prelude.{◌≡◌, ◌⊎◌, ⊤, ℕ, ◌+◌, Bool, false, true, not, All, List, [], ◌∷◌, ◌++◌, length, take, drop, Option, None, Some}
+use Rattle.std.specs.Prelude.{◌≡◌, ◌⊎◌, ⊤, ℕ, ◌+◌, Bool, false, true, not, List, [], ◌∷◌, ◌++◌, length, take, drop, Option, None, Some}
+use Rattle.std.specs.List.{list_all}
 use Rattle.am_lines.specs.{words_of, is_blank}
 use Rattle.am_diagnosis.specs.declared.expected.Slip.{Slip}
 use Rattle.am_diagnosis.specs.declared.misfit.Misfit.{Misfit}
@@ -17,7 +18,7 @@ BeginsElse p (b ∷ bytes) = p b ≡ false
 pub record IsSkipped (p : ℕ → Bool) (bytes rest : List ℕ) : Type 0 where
   pub front : List ℕ
   pub parts : bytes ≡ front ++ rest
-  pub passed : All (λ b. p b ≡ true) front
+  pub passed : list_all p front ≡ true
   pub ends : BeginsElse p rest
 
 -- these bytes are none, or end in a blank
