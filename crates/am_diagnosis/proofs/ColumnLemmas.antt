@@ -177,7 +177,7 @@ behind_blanks line words rest left l s = record {
 
 -- ---- one word more
 
-one_more : (n : ℕ) (words : List (List ℕ)) (word : List ℕ) (others : List (List ℕ)) → word ∷ others ≡ drop n words → (take (n + 1) words ≡ take n words ++ word ∷ []) × (drop (n + 1) words ≡ others)
+pub one_more : (n : ℕ) (words : List (List ℕ)) (word : List ℕ) (others : List (List ℕ)) → word ∷ others ≡ drop n words → (take (n + 1) words ≡ take n words ++ word ∷ []) × (drop (n + 1) words ≡ others)
 one_more n words word others e = (more n words e, rest n words e)
   where
     more : (n : ℕ) (words : List (List ℕ)) → word ∷ others ≡ drop n words → take (n + 1) words ≡ take n words ++ word ∷ []

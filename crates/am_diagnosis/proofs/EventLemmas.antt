@@ -23,24 +23,15 @@ use Rattle.am_diagnosis.specs.declared.expected.Expected.{Expected}
 use Rattle.am_diagnosis.specs.declared.expected.Expected.TheVariants as expected
 use Rattle.am_diagnosis.specs.declared.expected.Expected.TheVariants.{Walker, Namespace, FileSystem, Token, Job, Attachment, Seconds, Moment, Path, Pipe, Expiry, Reduced, Packet, Outcome, Failure, Name}
 use Rattle.am_diagnosis.specs.declared.misfit.Misfit.{Misfit}
-use Rattle.am_diagnosis.specs.Misfits.{Words, misfit_at, next_of, left_behind, misfit_of, misfit_by}
-use Rattle.am_diagnosis.specs.Fits.{fits}
+use Rattle.am_diagnosis.specs.Misfits.{Words, misfit_at, misfit_of, misfit_by}
 use Rattle.am_diagnosis.specs.Parameters.{parameters}
 use Rattle.am_diagnosis.specs.Events.{event_misfit, IsEvent}
-use Rattle.am_diagnosis.proofs.MisfitLemmas.{is_met}
+use Rattle.am_diagnosis.proofs.MisfitLemmas.{is_met, shut}
 use Rattle.am_diagnosis.proofs.LawLemmas.{AreMet, IsTable, ReadsJust}
 
 -- these words are read as an event just where they are as the parameters say
 abbrev Agrees : Option Event → List Expected → Words → Type 0
 Agrees event parameters words = is_some event ≡ is_none (misfit_of 1 parameters words)
-
--- where a later word is no parameter, neither are all
-shut : (place : ℕ) (kinds : List Expected) (word : List ℕ) (words : Words) → is_none (misfit_of (place + 1) (left_behind word kinds) words) ≡ false → is_none (misfit_of place kinds (word ∷ words)) ≡ false
-shut place kinds word words h = go (fits (next_of kinds) word)
-  where
-    go : (b : Bool) → is_none (cond b (misfit_of (place + 1) (left_behind word kinds) words) (Some (misfit_at place (next_of kinds)))) ≡ false
-    go true = h
-    go false = refl
 
 -- ---- events with so many words
 

@@ -52,7 +52,7 @@ at_first first table t words bad is_bad = record {
   told = record {
     fitting = λ word. (
       λ f. begun first (table word) (t.met word) (sym (t.fits_rows word) ∙ f),
-      λ b. t.fits_rows word ∙ begins first (table word) b.0 b.1
+      λ b. t.fits_rows word ∙ begins first (table word) b.0 b.1,
     );
     ending = (λ e. absurd (let no = t.goes_on in cc), λ e. absurd cc);
   };
@@ -71,7 +71,7 @@ behind_first first table word words parameters m is e s = record {
   told = record {
     fitting = λ w. (
       λ f. let d = s.makes w f in (d.0, rw (is, append_assoc (take s.behind words) (w ∷ []) d.0) d.1),
-      λ b. s.meets w b.0 (let read = rw is at b.1 in rw (append_assoc (take s.behind words) (w ∷ []) b.0) at read)
+      λ b. s.meets w b.0 (let read = rw is at b.1 in rw (append_assoc (take s.behind words) (w ∷ []) b.0) at read),
     );
     ending = (λ h. rw is (s.ends h), λ h. s.ended (rw is at h));
   };
@@ -119,7 +119,7 @@ told Good first table t r words m e =
       told = record {
         fitting = λ word. (
           λ f. let b = (x.told.fitting word).0 f in (b.0, r.good _ b.1),
-          λ b. (x.told.fitting word).1 (b.0, r.read _ b.1)
+          λ b. (x.told.fitting word).1 (b.0, r.read _ b.1),
         );
         ending = (λ h. r.good _ (x.told.ending.0 h), λ g. x.told.ending.1 (r.read _ g));
       };

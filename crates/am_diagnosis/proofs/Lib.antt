@@ -1,4 +1,6 @@
 pub mod ColumnLemmas
 pub mod EventLemmas
 pub mod LawLemmas
+pub mod MapLemmas
 pub mod MisfitLemmas
+pub mod ScriptLemmas

@@ -1,10 +1,13 @@
 -- What the first misfit of a line's words says of the lines that begin with them.
 use Rattle.std.proofs.Common.{◌≡◌, ℕ, suc, ◌+◌, ◌<◌, ◌≤◌, Bool, true, false, cond, ◌||◌, List, [], ◌∷◌, ◌++◌, length, take, Option, Some, None, refl, subst, arith}
+use Rattle.std.specs.Prelude.{is_none}
 use Rattle.std.specs.Prelude.{codes, bytes_eq}
 use Rattle.std.specs.List.{list_all}
+use Rattle.am_lines.specs.{begins_with}
+use Rattle.am_master.specs.Timeout.{takes_next}
 use Rattle.am_names.proofs.Basics.{left_of_and, right_of_and}
 use Rattle.am_diagnosis.specs.declared.expected.Expected.{Expected}
-use Rattle.am_diagnosis.specs.declared.expected.Expected.TheVariants.{Walker, Namespace, FileSystem, Token, Job, Attachment, Seconds, Moment, Path, Pipe, Expiry, Change, Outcome, Status, Name, Limit, Waits, Lasting, MapName}
+use Rattle.am_diagnosis.specs.declared.expected.Expected.TheVariants.{Walker, Namespace, FileSystem, Token, Job, Attachment, Seconds, Moment, Path, Pipe, Expiry, Change, Outcome, Status, Name, Limit, Waits, Lasting, MapName, Map, MasterOption, Timeout, Entry, Location}
 use Rattle.am_diagnosis.specs.declared.misfit.Misfit.{Misfit}
 use Rattle.am_diagnosis.specs.Fits.{fits, may_end}
 use Rattle.am_diagnosis.specs.Misfits.{Words, misfit_at, next_of, behind_outcome, left_behind, misfit_of}
@@ -30,6 +33,10 @@ sample Limit = codes "1"
 sample Waits = codes "1"
 sample Lasting = codes "0"
 sample MapName = codes "a"
+sample Map = codes "a"
+sample Timeout = codes "0"
+sample Entry = codes ":/"
+sample Location = codes ":/"
 sample expected = []
 
 -- the line may end where this is expected, or some word may stand there
@@ -53,6 +60,9 @@ completed_more place e parameters same met rest = go (may_end e) refl
 pub completed : (place : ℕ) (parameters : List Expected) → list_all is_met parameters ≡ true → Completes place parameters
 completed place [] h = record { words = []; complete = refl }
 completed place (Outcome ∷ others) h = record { words = codes "ok" ∷ []; complete = refl }
+completed place (Entry ∷ others) h = record { words = codes ":/" ∷ []; complete = refl }
+completed place (MasterOption ∷ others) h = record { words = []; complete = refl }
+completed place (Timeout ∷ others) h = record { words = codes "0" ∷ []; complete = refl }
 completed place (e ∷ others) h =
     completed_more place e others refl (left_of_and (is_met e) (list_all is_met others) h)
     (completed (place + 1) others (right_of_and (is_met e) (list_all is_met others) h))
@@ -64,6 +74,17 @@ left_met word (Outcome ∷ others) h = go (bytes_eq word (codes "ok"))
     go : (b : Bool) → list_all is_met (cond b [] others) ≡ true
     go true = refl
     go false = right_of_and (is_met Outcome) (list_all is_met others) h
+left_met word (Entry ∷ others) h = go (begins_with 45 word)
+  where
+    go : (b : Bool) → list_all is_met (cond b others []) ≡ true
+    go true = right_of_and (is_met Entry) (list_all is_met others) h
+    go false = refl
+left_met word (MasterOption ∷ others) h = go (takes_next word)
+  where
+    go : (b : Bool) → list_all is_met (cond b (Timeout ∷ []) (MasterOption ∷ [])) ≡ true
+    go true = refl
+    go false = refl
+left_met word (Timeout ∷ others) h = refl
 left_met word (e ∷ others) h = right_of_and (is_met e) (list_all is_met others) h
 
 -- ---- the first word alone
@@ -81,6 +102,14 @@ line_ends place parameters e = go (may_end (next_of parameters)) refl
     go : (b : Bool) → may_end (next_of parameters) ≡ b → may_end (next_of parameters) ≡ true
     go true m = m
     go false m = absurd (let e2 = rw m at e in cc)
+
+-- where later words are not as the parameters say, neither are all
+pub shut : (place : ℕ) (kinds : List Expected) (word : List ℕ) (words : Words) → is_none (misfit_of (place + 1) (left_behind word kinds) words) ≡ false → is_none (misfit_of place kinds (word ∷ words)) ≡ false
+shut place kinds word words h = go (fits (next_of kinds) word)
+  where
+    go : (b : Bool) → is_none (cond b (misfit_of (place + 1) (left_behind word kinds) words) (Some (misfit_at place (next_of kinds)))) ≡ false
+    go true = h
+    go false = refl
 
 -- ---- the misfit of all words
 

@@ -1,7 +1,9 @@
 -- Where the words of a line leave what is expected of them: own choice (docs/FORMATS.md, "Faults").
 use Rattle.std.specs.Prelude.{◌≡◌, ◌↔◌, ◌≤◌, ◌<◌, ℕ, true, ◌+◌, List, [], ◌∷◌, ◌++◌, codes, bytes_eq, length, take, Option, None, Some, if◌then◌else◌}
+use Rattle.am_lines.specs.{begins_with}
+use Rattle.am_master.specs.Timeout.{takes_next}
 use Rattle.am_diagnosis.specs.declared.expected.Expected.{Expected}
-use Rattle.am_diagnosis.specs.declared.expected.Expected.TheVariants.{Outcome, End}
+use Rattle.am_diagnosis.specs.declared.expected.Expected.TheVariants.{Outcome, End, Entry, MasterOption, Timeout}
 use Rattle.am_diagnosis.specs.declared.misfit.Misfit.{Misfit}
 use Rattle.am_diagnosis.specs.Fits.{fits, may_end}
 
@@ -44,10 +46,21 @@ next_of (expected ∷ others) = expected
 abbrev pub behind_outcome : List ℕ → List Expected → List Expected
 behind_outcome word others = if bytes_eq word (codes "ok") then [] else others
 
+-- the parameters behind the first word of an entry: none behind a location, the others behind options
+abbrev pub behind_entry : List ℕ → List Expected → List Expected
+behind_entry word others = if begins_with 45 word then others else []
+
+-- the parameters behind an option of a master map: seconds where it takes the next word, else options
+abbrev pub behind_option : List ℕ → List Expected
+behind_option word = if takes_next word then Timeout ∷ [] else MasterOption ∷ []
+
 -- the parameters behind a word that is as expected
 abbrev pub left_behind : List ℕ → List Expected → List Expected
 left_behind word [] = []
 left_behind word (Outcome ∷ others) = behind_outcome word others
+left_behind word (Entry ∷ others) = behind_entry word others
+left_behind word (MasterOption ∷ others) = behind_option word
+left_behind word (Timeout ∷ others) = MasterOption ∷ []
 left_behind word (expected ∷ others) = others
 
 -- the first of these words, the first of which stands at this place, that isn't as these parameters

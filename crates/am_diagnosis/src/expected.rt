@@ -65,16 +65,16 @@ pub enum Expected {
     Point,
     #[error("a mount point that no line above has")]
     FreePoint,
-    #[error("the map of the mount point")]
+    #[error("a map, its name or file:name")]
     Map,
-    #[error("a map of the type file or file,sun")]
-    MapType,
-    #[error("seconds of a timeout, a number below 2^32")]
+    #[error("--timeout with seconds below 2^32, another option, or the end of the line")]
+    MasterOption,
+    #[error("the seconds of a timeout, a number below 2^32")]
     Timeout,
     #[error("a key of this kind of map")]
     Key,
-    #[error("options behind a dash")]
-    Options,
+    #[error("options behind a dash, or a location host:/path")]
+    Entry,
     #[error("a location host:/path")]
     Location,
 }

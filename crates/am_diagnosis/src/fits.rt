@@ -4,18 +4,20 @@ ghost use Rattle.std.specs.Prelude.{◌≡◌, ◌||◌, bytes_eq, is_some};
 ghost use Rattle.std.specs.Result.{result_ok};
 ghost use Rattle.am_names.specs.{path_read};
 ghost use Rattle.am_script.specs.EventWords.{pipe_read, change_read, form_read, immediate_read, failure_read, outcome_word_read, status_read, trigger_name_read, packet_read};
-ghost use Rattle.am_diagnosis.specs.Fits.{fits, may_end, is_up_to, is_event_word, is_part_word};
+ghost use Rattle.am_diagnosis.specs.Fits.{fits, may_end, is_limit, is_waits, is_event_word, is_part_word};
 ghost use Rattle.am_script.specs.Numbers.{u32_read};
 
 use crate::expected::Expected;
+use crate::map_words::{is_entry_word, is_location};
+use crate::master_words::{is_map, is_option, is_seconds};
 use crate::number::{is_u32, is_u64, read_u8, read_u32};
 use crate::parameters::{parameters, part_parameters};
 use crate::word::{is_either, is_word};
 use am_names::{AbsPath, FailNo, Name};
 use hex::decode_to_slice;
 
-/// Whether the word may stand where this is expected, in the line of an event or of a part of a
-/// head.
+/// Whether the word may stand where this is expected, in the line of an event, of a part of a
+/// head, of a map or of a master map.
 pub(crate) fn fits(expected: Expected, word: &[u8]) -> bool
     ensures { result ≡ fits expected word.now }
 {
@@ -40,9 +42,14 @@ pub(crate) fn fits(expected: Expected, word: &[u8]) -> bool
         Expected::Failure => is_failure(word),
         Expected::Status => is_either(word, b"ready", b"fail"),
         Expected::Name => is_trigger_name(word),
-        Expected::Limit => is_up_to(4_294_967_295, word),
-        Expected::Waits => is_up_to(65_536, word),
+        Expected::Limit => is_limit(word),
+        Expected::Waits => is_waits(word),
         Expected::MapName => true,
+        Expected::Map => is_map(word),
+        Expected::MasterOption => is_option(word),
+        Expected::Timeout => is_seconds(word),
+        Expected::Entry => is_entry_word(word),
+        Expected::Location => is_location(word),
         _ => false,
     }
 }
@@ -52,7 +59,11 @@ pub(crate) fn may_end(expected: Expected) -> bool
     ensures { result ≡ may_end expected }
 {
     match expected {
-        Expected::Reduced | Expected::Packet | Expected::Failure | Expected::End => true,
+        Expected::Reduced
+        | Expected::Packet
+        | Expected::Failure
+        | Expected::MasterOption
+        | Expected::End => true,
         _ => false,
     }
 }
@@ -110,12 +121,22 @@ fn is_trigger_name(word: &[u8]) -> bool
     is_word(word, b"-") || Name::read(word).ok().is_some()
 }
 
-/// Whether the word is a number from 1 to this one.
-fn is_up_to(most: u32, word: &[u8]) -> bool
-    ensures { result ≡ is_up_to most (u32_read word.now) }
+/// Whether the word is a number of at least 1.
+fn is_limit(word: &[u8]) -> bool
+    ensures { result ≡ is_limit (u32_read word.now) }
 {
     match read_u32(word) {
-        Some(number) => 1 <= number && number <= most,
+        Some(number) => 1 <= number,
+        None => false,
+    }
+}
+
+/// Whether the word is a number from 1 to 65,536.
+fn is_waits(word: &[u8]) -> bool
+    ensures { result ≡ is_waits (u32_read word.now) }
+{
+    match read_u32(word) {
+        Some(number) => 1 <= number && number <= 65_536,
         None => false,
     }
 }

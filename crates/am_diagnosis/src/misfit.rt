@@ -3,13 +3,14 @@
 ghost use Rattle.std.specs.Prelude.{◌≡◌, ◌+◌, ◌<◌, ◌^◌, length};
 ghost use Rattle.std.specs.Option.{option_copied};
 ghost use Rattle.am_lines.specs.{words_of};
-ghost use Rattle.am_diagnosis.specs.Misfits.{misfit_at, next_of, behind_outcome, left_behind, misfit_of};
+ghost use Rattle.am_diagnosis.specs.Misfits.{misfit_at, next_of, behind_outcome, behind_entry, behind_option, left_behind, misfit_of};
 ghost use Rattle.am_diagnosis.specs.Fits.{may_end};
 
 use crate::expected::Expected;
 use crate::fits::{fits, may_end};
+use crate::master_words::takes_next;
 use crate::word::is_word;
-use am_lines::next_word;
+use am_lines::{begins_with, next_word};
 
 /// Which word of a line isn't as expected.
 #[derive(Clone, Copy)]
@@ -41,6 +42,9 @@ fn left_behind<'a>(word: &[u8], parameters: &'a [Expected]) -> &'a [Expected]
 {
     match parameters {
         [Expected::Outcome, others @ ..] => behind_outcome(word, others),
+        [Expected::Entry, others @ ..] => behind_entry(word, others),
+        [Expected::MasterOption, ..] => behind_option(word),
+        [Expected::Timeout, ..] => &[Expected::MasterOption],
         [_, others @ ..] => others,
         [] => &[],
     }
@@ -51,6 +55,23 @@ fn behind_outcome<'a>(word: &[u8], others: &'a [Expected]) -> &'a [Expected]
     ensures { result.now ≡ behind_outcome word.now others.now }
 {
     if is_word(word, b"ok") { &[] } else { others }
+}
+
+/// The parameters behind the first word of an entry: none behind a location.
+fn behind_entry<'a>(word: &[u8], others: &'a [Expected]) -> &'a [Expected]
+    ensures { result.now ≡ behind_entry word.now others.now }
+{
+    if begins_with(word, b'-') { others } else { &[] }
+}
+
+/// The parameters behind an option of a master map.
+fn behind_option(word: &[u8]) -> &'static [Expected]
+    ensures { result.now ≡ behind_option word.now }
+{
+    if takes_next(word) {
+        return &[Expected::Timeout];
+    }
+    &[Expected::MasterOption]
 }
 
 /// The first of these words, the first of which is the line's second, that isn't as the parameters
