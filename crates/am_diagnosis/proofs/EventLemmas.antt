@@ -23,11 +23,11 @@ use Rattle.am_diagnosis.specs.declared.expected.Expected.{Expected}
 use Rattle.am_diagnosis.specs.declared.expected.Expected.TheVariants as expected
 use Rattle.am_diagnosis.specs.declared.expected.Expected.TheVariants.{Walker, Namespace, FileSystem, Token, Job, Attachment, Seconds, Moment, Path, Pipe, Expiry, Reduced, Packet, Outcome, Failure, Name}
 use Rattle.am_diagnosis.specs.declared.misfit.Misfit.{Misfit}
-use Rattle.am_diagnosis.specs.Misfits.{Words, misfit_at, misfit_of, misfit_by}
+use Rattle.am_diagnosis.specs.Misfits.{Words, ReadsJust, misfit_at, misfit_of, misfit_by}
 use Rattle.am_diagnosis.specs.Parameters.{parameters}
 use Rattle.am_diagnosis.specs.Events.{event_misfit, IsEvent}
 use Rattle.am_diagnosis.proofs.MisfitLemmas.{is_met, shut}
-use Rattle.am_diagnosis.proofs.LawLemmas.{AreMet, IsTable, ReadsJust}
+use Rattle.am_diagnosis.proofs.LawLemmas.{AreMet, IsTable, just_by_tests}
 
 -- these words are read as an event just where they are as the parameters say
 abbrev Agrees : Option Event → List Expected → Words → Type 0
@@ -387,12 +387,5 @@ events_are_a_table = record {
   some_read = refl;
 }
 
-none_of : {A : Type 0} (o : Option A) → is_none o ≡ true → o ≡ None
-none_of None h = refl
-none_of (Some x) h = absurd cc
-
-pub events_are_read : ReadsJust IsEvent expected.Event parameters
-events_are_read = record {
-  good = λ words e. event_agrees words ∙ ap is_none e;
-  read = λ words e. none_of (event_misfit words) (sym (event_agrees words) ∙ e);
-}
+pub events_are_read : ReadsJust IsEvent event_misfit
+events_are_read = just_by_tests (λ words. is_some (event_read words)) event_misfit event_agrees

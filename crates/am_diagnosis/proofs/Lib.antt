@@ -1,5 +1,6 @@
 pub mod ColumnLemmas
 pub mod EventLemmas
+pub mod HeadLemmas
 pub mod LawLemmas
 pub mod MapLemmas
 pub mod MisfitLemmas

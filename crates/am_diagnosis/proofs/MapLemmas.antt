@@ -2,6 +2,7 @@
 use Rattle.std.proofs.Common.{◌≡◌, ℕ, ◌+◌, Bool, true, false, cond, List, [], ◌∷◌, ◌++◌, drop, Option, Some, None, Result, Ok, Err, refl, sym, ap, ◌∙◌}
 use Rattle.std.specs.Prelude.{codes, bytes_eq, is_ok, is_none, nat_eq}
 use Rattle.std.specs.List.{starts_with}
+use Rattle.std.proofs.lemmas.List.{append-nil}
 use Rattle.std.proofs.lemmas.Slice.Eq.{bytes_eq-Decides}
 use Rattle.am_lines.specs.{begins_with}
 use Rattle.am_map.specs.Words.{is_options, is_location}
@@ -14,9 +15,10 @@ use Rattle.am_diagnosis.specs.declared.expected.Expected.{Expected}
 use Rattle.am_diagnosis.specs.declared.expected.Expected.TheVariants.{Entry, Location, Map, MasterOption, Timeout}
 use Rattle.am_diagnosis.specs.declared.misfit.Misfit.{Misfit}
 use Rattle.am_diagnosis.specs.Fits.{fits}
-use Rattle.am_diagnosis.specs.Misfits.{Words, misfit_at, next_of, left_behind, behind_option, misfit_of}
-use Rattle.am_diagnosis.specs.Maps.{entry_parameters, served_parameters}
+use Rattle.am_diagnosis.specs.Misfits.{Words, ReadsJust, misfit_at, next_of, left_behind, behind_option, misfit_of}
+use Rattle.am_diagnosis.specs.Maps.{entry_parameters, served_parameters, IsEntry, IsServed}
 use Rattle.am_diagnosis.proofs.MisfitLemmas.{shut}
+use Rattle.am_diagnosis.proofs.LawLemmas.{just_by_tests}
 
 -- ---- entries
 
@@ -39,7 +41,7 @@ alone_agrees place word [] e = go (is_location word) refl
     go false h = rw (e, h) refl
 alone_agrees place word (other ∷ words) e = sym (shut place entry_parameters word (other ∷ words) (rw e refl))
 
-pub entry_agrees : (place : ℕ) (words : Words) → is_ok (entry_read words) ≡ is_none (misfit_of place entry_parameters words)
+entry_agrees : (place : ℕ) (words : Words) → is_ok (entry_read words) ≡ is_none (misfit_of place entry_parameters words)
 entry_agrees place [] = refl
 entry_agrees place (word ∷ words) = go (begins_with 45 word) refl (is_options word) refl
   where
@@ -66,15 +68,39 @@ option_agrees place timeout word values words none rest = go (starts_with nat_eq
     go true h false s = rw (h, s) refl
     go false h s e = rw (h, none) (rest timeout)
 
+-- a timeout's value, behind which options are read
+value_agrees : (place : ℕ) (timeout : ℕ) (value : List ℕ) (words : Words) → ((t : ℕ) → is_ok (timeout_of t (timeout_values words)) ≡ is_none (misfit_of (place + 1) (MasterOption ∷ []) words)) → is_ok (timeout_of timeout (value ∷ timeout_values words)) ≡ is_none (misfit_of place (Timeout ∷ []) (value ∷ words))
+value_agrees place timeout value words rest = go (is_seconds value) refl
+  where
+    go : (b : Bool) → is_seconds value ≡ b → is_ok (timeout_of timeout (value ∷ timeout_values words)) ≡ is_none (misfit_of place (Timeout ∷ []) (value ∷ words))
+    go true h = rw h (rest _)
+    go false h = rw h refl
+
 options_agree : (place : ℕ) (timeout : ℕ) (words : Words) → is_ok (timeout_of timeout (timeout_values words)) ≡ is_none (misfit_of place (MasterOption ∷ []) words)
 options_agree place timeout [] = refl
 options_agree place timeout (word ∷ []) = go (takes_next word) refl
   where
     go : (b : Bool) → takes_next word ≡ b → is_ok (timeout_of timeout (timeout_values (word ∷ []))) ≡ is_none (misfit_of place (MasterOption ∷ []) (word ∷ []))
     go true h = rw (h, no_value word h) refl
-    go false h = ?
-options_agree place timeout (word ∷ next ∷ words) = ?
+    go false h = rw h (let o = option_agrees place timeout word [] [] h (λ t. refl) in rw (append-nil (value_in word), h) at o)
+options_agree place timeout (word ∷ next ∷ words) = go (takes_next word) refl (λ t. options_agree (place + 1 + 1) t words) (λ t. options_agree (place + 1) t (next ∷ words))
+  where
+    go : (b : Bool) → takes_next word ≡ b → ((t : ℕ) → is_ok (timeout_of t (timeout_values words)) ≡ is_none (misfit_of (place + 1 + 1) (MasterOption ∷ []) words)) → ((t : ℕ) → is_ok (timeout_of t (timeout_values (next ∷ words))) ≡ is_none (misfit_of (place + 1) (MasterOption ∷ []) (next ∷ words))) → is_ok (timeout_of timeout (timeout_values (word ∷ next ∷ words))) ≡ is_none (misfit_of place (MasterOption ∷ []) (word ∷ next ∷ words))
+    go true h behind rest = rw (h, no_value word h) (value_agrees (place + 1) timeout next words behind)
+    go false h behind rest = rw h (let o = option_agrees place timeout word (timeout_values (next ∷ words)) (next ∷ words) h rest in rw h at o)
 
-pub served_agrees : (place : ℕ) (words : Words) → is_ok (served_read words) ≡ is_none (misfit_of place served_parameters words)
+map_agrees : (place : ℕ) (name : Result (List ℕ) MasterFaultKind) (timeout : Result ℕ MasterFaultKind) (others : Option Misfit) → is_ok timeout ≡ is_none others → is_ok (served name timeout) ≡ is_none (cond (is_ok name) others (Some (misfit_at place Map)))
+map_agrees place (Ok name) (Ok timeout) others h = h
+map_agrees place (Ok name) (Err fault) others h = h
+map_agrees place (Err fault) timeout others h = refl
+
+served_agrees : (place : ℕ) (words : Words) → is_ok (served_read words) ≡ is_none (misfit_of place served_parameters words)
 served_agrees place [] = refl
-served_agrees place (word ∷ options) = ?
+served_agrees place (word ∷ options) =
+    map_agrees place (name_read word) (timeout_read options) (misfit_of (place + 1) (MasterOption ∷ []) options) (options_agree (place + 1) 300 options)
+
+pub entries_are_read : ReadsJust IsEntry (misfit_of 1 entry_parameters)
+entries_are_read = just_by_tests (λ words. is_ok (entry_read words)) (misfit_of 1 entry_parameters) (entry_agrees 1)
+
+pub served_points_are_read : ReadsJust IsServed (misfit_of 1 served_parameters)
+served_points_are_read = just_by_tests (λ words. is_ok (served_read words)) (misfit_of 1 served_parameters) (served_agrees 1)

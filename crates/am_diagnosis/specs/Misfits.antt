@@ -31,6 +31,23 @@ pub record TellsWhatFits (Good : Words → Type 0) (words : Words) (place : ℕ)
   pub fitting : (word : List ℕ) → (fits expected word ≡ true) ↔ IsBeginning Good (take place words ++ word ∷ [])
   pub ending : (may_end expected ≡ true) ↔ Good (take place words)
 
+-- Of words the first of which stands at this place of its line, the misfit is the first, and tells
+-- what fits.
+pub record IsTold (Good : Words → Type 0) (words : Words) (from : ℕ) (misfit : Misfit) : Type 0 where
+  pub behind : ℕ
+  pub at : misfit.place ≡ from + behind
+  pub first : IsFirstMisfit Good words behind
+  pub told : TellsWhatFits Good words behind misfit.expected
+
+-- words have no misfit just where they are good
+abbrev pub ReadsJust : (Words → Type 0) → (Words → Option Misfit) → Type 0
+ReadsJust Good found = (words : Words) → (found words ≡ None) ↔ Good words
+
+-- each misfit is the first, and tells what fits, of words the first of which stands at this place
+abbrev pub TellsMisfits : (Words → Type 0) → (Words → Option Misfit) → ℕ → Type 0
+TellsMisfits Good found from =
+    (words : Words) (misfit : Misfit) → found words ≡ Some misfit → IsTold Good words from misfit
+
 -- ---- the misfit of words by their parameters
 
 -- at this place this was expected

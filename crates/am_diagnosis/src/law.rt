@@ -1,17 +1,34 @@
 //! What is true of the words of each line.
 
-ghost use Rattle.std.specs.Prelude.{◌≡◌, ◌↔◌, ℕ, List, None, Some};
+ghost use Rattle.std.specs.Prelude.{◌≡◌, ◌+◌, ◌↔◌, ℕ, List, None, Some, true};
 ghost use Rattle.am_diagnosis.specs.declared.misfit.Misfit.{Misfit};
 ghost use Rattle.am_diagnosis.specs.Events.{event_misfit, IsEvent};
-ghost use Rattle.am_diagnosis.specs.Misfits.{Words, IsFirstMisfit, TellsWhatFits};
+ghost use Rattle.am_diagnosis.specs.Heads.{part_misfit, IsPart};
+ghost use Rattle.am_diagnosis.specs.Maps.{entry_parameters, served_parameters, IsEntry, IsServed};
+ghost use Rattle.am_diagnosis.specs.Misfits.{Words, IsFirstMisfit, TellsWhatFits, ReadsJust, TellsMisfits, misfit_of};
 
 /// The words of a line have no misfit just where they are an event's; else they have theirs at the
 /// first word with which no event's line begins any more, and what is expected there is what lines of
 /// events can go on with.
 pub fn events_begin_before_their_misfit()
-    ensures read { (words : Words) → (event_misfit words ≡ None) ↔ IsEvent words }
-    ensures first { (words : Words) (misfit : Misfit) → event_misfit words ≡ Some misfit →
-        IsFirstMisfit IsEvent words misfit.place }
-    ensures told { (words : Words) (misfit : Misfit) → event_misfit words ≡ Some misfit →
-        TellsWhatFits IsEvent words misfit.place misfit.expected }
+    ensures read { ReadsJust IsEvent event_misfit }
+    ensures told { TellsMisfits IsEvent event_misfit 0 }
+{}
+
+/// The same of the lines of a head outside of its sections.
+pub fn parts_begin_before_their_misfit()
+    ensures read { ReadsJust IsPart part_misfit }
+    ensures told { TellsMisfits IsPart part_misfit 0 }
+{}
+
+/// The same of the words behind the key of a map's line, the first of which is the line's second.
+pub fn entries_begin_before_their_misfit()
+    ensures read { ReadsJust IsEntry (misfit_of 1 entry_parameters) }
+    ensures told { TellsMisfits IsEntry (misfit_of 1 entry_parameters) 1 }
+{}
+
+/// The same of the words behind the mount point of a master map's line.
+pub fn served_points_begin_before_their_misfit()
+    ensures read { ReadsJust IsServed (misfit_of 1 served_parameters) }
+    ensures told { TellsMisfits IsServed (misfit_of 1 served_parameters) 1 }
 {}
