@@ -41,21 +41,3 @@ pub(crate) fn slip_of(line: &[u8], misfit: Option<Misfit>) -> Option<Slip>
         expected: misfit.expected,
     })
 }
-
-#[cfg(test)]
-mod tests {
-    use super::event_slip;
-    use crate::expected::{Expected, Slip};
-
-    fn is_at(line: &[u8], column: usize, expected: Expected) -> bool {
-        event_slip(line) == Some(Slip { column, expected })
-    }
-
-    #[test]
-    fn slips_are_told(rt: HostRuntime) {
-        assert!(rt; is_at(b"mount x /a", 7, Expected::Namespace));
-        assert!(rt; is_at(b"  mount 1\t/a b ", 14, Expected::End));
-        assert!(rt; is_at(b"mount 1 ", 9, Expected::Path));
-        assert!(rt; is_at(b"", 1, Expected::Event));
-    }
-}
