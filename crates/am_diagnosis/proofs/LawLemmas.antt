@@ -113,7 +113,7 @@ other_word Good Read good read words place expected x = record {
   told = record {
     fitting = λ word. (
       λ f. let b = (x.told.fitting word).0 f in (b.0, good _ b.1),
-      λ b. (x.told.fitting word).1 (b.0, read _ b.1)
+      λ b. (x.told.fitting word).1 (b.0, read _ b.1),
     );
     ending = (λ h. good _ (x.told.ending.0 h), λ g. x.told.ending.1 (read _ g));
   };
@@ -135,7 +135,7 @@ words_told from parameters words m e s = record {
   told = record {
     fitting = λ w. (
       λ f. let d = s.makes w f in (d.0, rw (append_assoc (take s.behind words) (w ∷ []) d.0) d.1),
-      λ b. s.meets w b.0 (rw (append_assoc (take s.behind words) (w ∷ []) b.0) at b.1)
+      λ b. s.meets w b.0 (rw (append_assoc (take s.behind words) (w ∷ []) b.0) at b.1),
     );
     ending = (s.ends, s.ended);
   };
