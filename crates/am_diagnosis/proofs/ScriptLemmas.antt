@@ -21,7 +21,7 @@ lines_at_is (suc above) lines h =
     let same : above ≡ suc above - 1 = omega arith in
     ap (λ (n : ℕ). drop n lines) same
 
-drop_nil : (n : ℕ) → drop {A = List ℕ} n [] ≡ []
+pub drop_nil : (n : ℕ) → drop {A = List ℕ} n [] ≡ []
 drop_nil zero = refl
 drop_nil (suc n) = refl
 

@@ -1,7 +1,8 @@
 -- What is expected of the lines of maps and master maps (autofs(5), "SUN FORMAT"; auto.master(5),
 -- "FORMAT").
-use Rattle.std.specs.Prelude.{◌≡◌, ℕ, true, is_ok, List, [], ◌∷◌, ◌++◌, drop, Option, None, Some, if◌then◌else◌}
-use Rattle.am_lines.specs.{is_joined, before_backslash}
+use Rattle.std.specs.Prelude.{◌≡◌, ℕ, Bool, true, not, ◌&&◌, is_ok, List, [], ◌∷◌, ◌++◌, drop, Option, None, Some, if◌then◌else◌}
+use Rattle.std.specs.List.{flat_map, list_any}
+use Rattle.am_lines.specs.{is_line_feed, is_joined, before_backslash}
 use Rattle.am_map.specs.Grammar.{entry_read}
 use Rattle.am_map.specs.declared.fault.MapFaultKind.{MapFaultKind}
 use Rattle.am_map.specs.declared.fault.MapFaultKind.TheVariants as map_faults
@@ -22,6 +23,14 @@ joined_in (raw ∷ below) =
     if is_end raw then []
     else if is_joined raw then before_backslash raw ++ joined_in below
     else raw
+
+-- the text of a section that has these lines
+abbrev pub section_text : List (List ℕ) → List ℕ
+section_text lines = flat_map (λ line. line ++ 10 ∷ []) lines
+
+-- the line doesn't end a section, and is one
+abbrev pub is_within : List ℕ → Bool
+is_within line = not (is_end line) && not (list_any is_line_feed line)
 
 -- what stands behind a key: options and a location, or a location
 abbrev pub entry_parameters : List Expected

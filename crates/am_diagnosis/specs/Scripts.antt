@@ -39,3 +39,10 @@ IsPlain (BadMaster kind) = ⊥
 IsPlain (BadMap kind) = ⊥
 IsPlain NoSuchMap = ⊥
 IsPlain kind = ⊤
+
+-- the fault is one of a line of a map or of the master map, which may be joined of several
+abbrev pub IsJoined : ScriptFaultKind → Type 0
+IsJoined (BadMaster kind) = ⊤
+IsJoined (BadMap kind) = ⊤
+IsJoined NoSuchMap = ⊤
+IsJoined kind = ⊥

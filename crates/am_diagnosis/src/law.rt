@@ -1,11 +1,12 @@
 //! What is true of the words of each line.
 
-ghost use Rattle.std.specs.Prelude.{◌≡◌, ◌+◌, ◌↔◌, ℕ, List, None, Some, true};
-ghost use Rattle.am_diagnosis.specs.declared.misfit.Misfit.{Misfit};
+ghost use Rattle.std.specs.Prelude.{◌≡◌, ◌-◌, ◌∷◌, ◌++◌, ℕ, List, true, codes, drop};
+ghost use Rattle.std.specs.List.{All, list_all};
+ghost use Rattle.am_lines.specs.{lines_from};
 ghost use Rattle.am_diagnosis.specs.Events.{event_misfit, IsEvent};
 ghost use Rattle.am_diagnosis.specs.Heads.{part_misfit, IsPart};
-ghost use Rattle.am_diagnosis.specs.Maps.{entry_parameters, served_parameters, IsEntry, IsServed};
-ghost use Rattle.am_diagnosis.specs.Misfits.{Words, IsFirstMisfit, TellsWhatFits, ReadsJust, TellsMisfits, misfit_of};
+ghost use Rattle.am_diagnosis.specs.Maps.{entry_parameters, served_parameters, IsEntry, IsServed, is_within, joined_in, section_text};
+ghost use Rattle.am_diagnosis.specs.Misfits.{ReadsJust, TellsMisfits, misfit_of};
 
 /// The words of a line have no misfit just where they are an event's; else they have theirs at the
 /// first word with which no event's line begins any more, and what is expected there is what lines of
@@ -31,4 +32,12 @@ pub fn entries_begin_before_their_misfit()
 pub fn served_points_begin_before_their_misfit()
     ensures read { ReadsJust IsServed (misfit_of 1 served_parameters) }
     ensures told { TellsMisfits IsServed (misfit_of 1 served_parameters) 1 }
+{}
+
+/// The lines that are read of a section's text are joined of its lines in the script, from that of
+/// their number on.
+pub fn lines_of_sections_join_as_in_the_script()
+    ensures { (lines below : List (List ℕ)) → list_all is_within lines ≡ true →
+        All (λ line. line.bytes ≡ joined_in (drop (line.number - 1) lines ++ codes "end" ∷ below))
+        (lines_from 1 (section_text lines)) }
 {}

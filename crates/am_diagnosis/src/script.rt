@@ -1,11 +1,11 @@
 //! The slip of a fault of a script.
 
-ghost use Rattle.std.specs.Prelude.{◌≡◌, IfOk};
+ghost use Rattle.std.specs.Prelude.{◌≡◌, IfOk, IfErr};
 ghost use Rattle.std.specs.Option.{option_copied};
 ghost use Rattle.am_script.specs.Lines.{lines_in, lines_of};
 ghost use Rattle.am_script.specs.declared.fault.ScriptFaultKind.TheVariants.{BadMaster, BadMap};
 ghost use Rattle.am_diagnosis.specs.Maps.{joined_in};
-ghost use Rattle.am_diagnosis.specs.Scripts.{IsPlain, IsSlipIn, lines_at};
+ghost use Rattle.am_diagnosis.specs.Scripts.{IsJoined, IsPlain, IsSlipIn, lines_at};
 
 use crate::event::{event_slip, slip_of};
 use crate::expected::{Expected, Slip};
@@ -21,7 +21,8 @@ use std::alloc::{AllocError, Global};
 /// well formed. A line of a map or of the master map may be joined of several by backslashes: its
 /// column counts on over the joined line. Only such lines take memory, to join them.
 pub fn slip_in(alloc: Global, script: &[u8], fault: ScriptFault) -> Result<Option<Slip>, AllocError>
-    ensures { IfOk result (IsSlipIn fault.kind (lines_at fault.line (lines_of script.now))) }
+    ensures slip { IfOk result (IsSlipIn fault.kind (lines_at fault.line (lines_of script.now))) }
+    ensures memory { IfErr result (λ _. IsJoined fault.kind) }
 {
     match text_at(script, fault.line) {
         Some(text) => slip_at(alloc, fault.kind, text),
@@ -49,7 +50,8 @@ fn text_at(script: &[u8], number: u64) -> Option<&[u8]>
 
 /// The slip of a fault at the first line of this text.
 fn slip_at(alloc: Global, kind: ScriptFaultKind, text: &[u8]) -> Result<Option<Slip>, AllocError>
-    ensures { IfOk result (IsSlipIn kind (lines_of text.now)) }
+    ensures slip { IfOk result (IsSlipIn kind (lines_of text.now)) }
+    ensures memory { IfErr result (λ _. IsJoined kind) }
 {
     match kind {
         ScriptFaultKind::BadMaster { kind } => {
