@@ -1,5 +1,5 @@
 -- A part of a head is read just of a line whose words are as its parameters say.
-use Rattle.std.proofs.Common.{◌≡◌, ℕ, ◌+◌, Bool, true, false, cond, ◌&&◌, ◌||◌, List, [], ◌∷◌, Option, Some, None, refl, sym, subst, ◌∙◌}
+use Rattle.std.proofs.Common.{◌≡◌, ℕ, Bool, true, false, cond, ◌&&◌, ◌||◌, List, [], ◌∷◌, Option, Some, None, refl, sym, subst, ◌∙◌}
 use Rattle.std.specs.Prelude.{codes, bytes_eq, is_some, is_none, nat_le}
 use Rattle.std.specs.List.{list_all}
 use Rattle.std.proofs.lemmas.Slice.Eq.{bytes_eq-Decides}
@@ -8,10 +8,10 @@ use Rattle.am_script.specs.Numbers.{u32_read, u64_read}
 use Rattle.am_script.specs.Limits.{limits_of, limits_read, negative_read}
 use Rattle.am_script.specs.Sections.{are_only}
 use Rattle.am_diagnosis.specs.declared.expected.Expected.{Expected}
-use Rattle.am_diagnosis.specs.declared.expected.Expected.TheVariants.{Part, Limit, Waits, Lasting, MapName}
+use Rattle.am_diagnosis.specs.declared.expected.Expected.TheVariants.{Part, Limit, Waits, Lasting}
 use Rattle.am_diagnosis.specs.declared.misfit.Misfit.{Misfit}
 use Rattle.am_diagnosis.specs.Fits.{is_limit, is_waits}
-use Rattle.am_diagnosis.specs.Misfits.{Words, ReadsJust, misfit_at, misfit_of, misfit_by}
+use Rattle.am_diagnosis.specs.Misfits.{Words, ReadsJust, misfit_at, misfit_of}
 use Rattle.am_diagnosis.specs.Parameters.{part_parameters}
 use Rattle.am_diagnosis.specs.Heads.{part_misfit, is_part, is_section, IsPart}
 use Rattle.am_diagnosis.proofs.MisfitLemmas.{is_met, shut}

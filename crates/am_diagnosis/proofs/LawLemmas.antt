@@ -1,13 +1,13 @@
 -- What a misfit says of lines that are read by a table of what stands behind their first word.
-use Rattle.std.proofs.Common.{◌≡◌, ◌↔◌, ℕ, suc, ◌+◌, ◌<◌, Bool, true, false, List, [], ◌∷◌, ◌++◌, length, take, Option, Some, None, refl, sym, ap, subst, arith, ◌∙◌, add-one}
+use Rattle.std.proofs.Common.{◌≡◌, ℕ, suc, ◌<◌, Bool, true, false, List, [], ◌∷◌, ◌++◌, length, take, Option, Some, None, refl, sym, ap, subst, arith, ◌∙◌, add-one}
 use Rattle.std.specs.Prelude.{is_some, is_none}
 use Rattle.std.specs.List.{list_all}
 use Rattle.std.proofs.lemmas.List.{append_assoc}
 use Rattle.am_diagnosis.specs.declared.expected.Expected.{Expected}
 use Rattle.am_diagnosis.specs.declared.misfit.Misfit.{Misfit}
 use Rattle.am_diagnosis.specs.Fits.{fits, may_end}
-use Rattle.am_diagnosis.specs.Misfits.{Words, IsBeginning, IsFirstMisfit, TellsWhatFits, IsTold, ReadsJust, TellsMisfits, misfit_at, misfit_of, misfit_by, misfit_in}
-use Rattle.am_diagnosis.proofs.MisfitLemmas.{Completes, completed, Stops, stops, is_met}
+use Rattle.am_diagnosis.specs.Misfits.{Words, IsFirstMisfit, TellsWhatFits, ReadsJust, TellsMisfits, misfit_at, misfit_of, misfit_by, misfit_in}
+use Rattle.am_diagnosis.proofs.MisfitLemmas.{completed, Stops, stops, is_met}
 
 -- each of the parameters can be met
 abbrev pub AreMet : Option (List Expected) → Type 0

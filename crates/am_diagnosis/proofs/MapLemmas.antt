@@ -1,5 +1,5 @@
 -- The words behind a key or a mount point are read just where they are as the parameters say.
-use Rattle.std.proofs.Common.{◌≡◌, ℕ, ◌+◌, Bool, true, false, cond, List, [], ◌∷◌, ◌++◌, drop, Option, Some, None, Result, Ok, Err, refl, sym, ap, ◌∙◌}
+use Rattle.std.proofs.Common.{◌≡◌, ℕ, ◌+◌, Bool, true, false, cond, List, [], ◌∷◌, ◌++◌, drop, Option, Some, None, Result, Ok, Err, refl, sym}
 use Rattle.std.specs.Prelude.{codes, bytes_eq, is_ok, is_none, nat_eq}
 use Rattle.std.specs.List.{starts_with}
 use Rattle.std.proofs.lemmas.List.{append-nil}
@@ -11,11 +11,9 @@ use Rattle.am_master.specs.Words.{name_read}
 use Rattle.am_master.specs.Grammar.{served_read, served}
 use Rattle.am_master.specs.Timeout.{takes_next, value_in, is_seconds, timeout_values, timeout_of, timeout_read}
 use Rattle.am_master.specs.declared.fault.MasterFaultKind.{MasterFaultKind}
-use Rattle.am_diagnosis.specs.declared.expected.Expected.{Expected}
-use Rattle.am_diagnosis.specs.declared.expected.Expected.TheVariants.{Entry, Location, Map, MasterOption, Timeout}
+use Rattle.am_diagnosis.specs.declared.expected.Expected.TheVariants.{Location, Map, MasterOption, Timeout}
 use Rattle.am_diagnosis.specs.declared.misfit.Misfit.{Misfit}
-use Rattle.am_diagnosis.specs.Fits.{fits}
-use Rattle.am_diagnosis.specs.Misfits.{Words, ReadsJust, misfit_at, next_of, left_behind, behind_option, misfit_of}
+use Rattle.am_diagnosis.specs.Misfits.{Words, ReadsJust, misfit_at, misfit_of}
 use Rattle.am_diagnosis.specs.Maps.{entry_parameters, served_parameters, IsEntry, IsServed}
 use Rattle.am_diagnosis.proofs.MisfitLemmas.{shut}
 use Rattle.am_diagnosis.proofs.LawLemmas.{just_by_tests}

@@ -1,5 +1,5 @@
 -- What the first misfit of a line's words says of the lines that begin with them.
-use Rattle.std.proofs.Common.{◌≡◌, ℕ, suc, ◌+◌, ◌<◌, ◌≤◌, Bool, true, false, cond, ◌||◌, List, [], ◌∷◌, ◌++◌, length, take, Option, Some, None, refl, subst, arith}
+use Rattle.std.proofs.Common.{◌≡◌, ℕ, suc, ◌+◌, ◌<◌, ◌≤◌, Bool, true, false, cond, ◌||◌, List, [], ◌∷◌, ◌++◌, length, take, Some, None, refl, subst, arith}
 use Rattle.std.specs.Prelude.{is_none}
 use Rattle.std.specs.Prelude.{codes, bytes_eq}
 use Rattle.std.specs.List.{list_all}
@@ -10,7 +10,7 @@ use Rattle.am_diagnosis.specs.declared.expected.Expected.{Expected}
 use Rattle.am_diagnosis.specs.declared.expected.Expected.TheVariants.{Walker, Namespace, FileSystem, Token, Job, Attachment, Seconds, Moment, Path, Pipe, Expiry, Change, Outcome, Status, Name, Limit, Waits, Lasting, MapName, Map, MasterOption, Timeout, Entry, Location}
 use Rattle.am_diagnosis.specs.declared.misfit.Misfit.{Misfit}
 use Rattle.am_diagnosis.specs.Fits.{fits, may_end}
-use Rattle.am_diagnosis.specs.Misfits.{Words, misfit_at, next_of, behind_outcome, left_behind, misfit_of}
+use Rattle.am_diagnosis.specs.Misfits.{Words, misfit_at, next_of, left_behind, misfit_of}
 
 -- a word that may stand where this is expected, if one may
 abbrev pub sample : Expected → List ℕ

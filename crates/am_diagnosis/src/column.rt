@@ -1,6 +1,6 @@
 //! The bytes of a line at which its words stand.
 
-ghost use Rattle.std.specs.Prelude.{◌≡◌, position, not};
+ghost use Rattle.std.specs.Prelude.{◌≡◌, position};
 ghost use Rattle.am_lines.specs.{is_blank};
 ghost use Rattle.am_diagnosis.specs.Columns.{IsColumn, IsSkipped, is_letter};
 

@@ -1,9 +1,9 @@
 //! Which words may stand where something is expected.
 
-ghost use Rattle.std.specs.Prelude.{◌≡◌, ◌||◌, bytes_eq, is_some};
+ghost use Rattle.std.specs.Prelude.{◌≡◌, ◌||◌, is_some};
 ghost use Rattle.std.specs.Result.{result_ok};
 ghost use Rattle.am_names.specs.{path_read};
-ghost use Rattle.am_script.specs.EventWords.{pipe_read, change_read, form_read, immediate_read, failure_read, outcome_word_read, status_read, trigger_name_read, packet_read};
+ghost use Rattle.am_script.specs.EventWords.{pipe_read, change_read, failure_read, trigger_name_read, packet_read};
 ghost use Rattle.am_diagnosis.specs.Fits.{fits, may_end, is_limit, is_waits, is_event_word, is_part_word};
 ghost use Rattle.am_script.specs.Numbers.{u32_read};
 

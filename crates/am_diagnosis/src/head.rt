@@ -1,13 +1,12 @@
 //! Where a line of a head isn't as expected, outside of its sections.
 
-ghost use Rattle.std.specs.Prelude.{◌≡◌, ◌||◌, is_some};
+ghost use Rattle.std.specs.Prelude.{◌≡◌, ◌||◌};
 ghost use Rattle.std.specs.List.{list_any};
 ghost use Rattle.am_lines.specs.{words_of};
-ghost use Rattle.am_script.specs.Head.{is_limits, is_negative};
 ghost use Rattle.am_script.specs.Lines.{lines_in};
 ghost use Rattle.std.specs.Option.{option_copied};
 ghost use Rattle.am_script.specs.Sections.{is_end};
-ghost use Rattle.am_diagnosis.specs.Heads.{begins_with_word, part_misfit, is_section, misplaced, or_at_first, section_misfit};
+ghost use Rattle.am_diagnosis.specs.Heads.{begins_with_word, part_misfit, is_section, misplaced, section_misfit};
 
 use crate::expected::Expected;
 use crate::misfit::{Misfit, misfit_at, misfit_of};

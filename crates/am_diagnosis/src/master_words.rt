@@ -1,6 +1,6 @@
 //! What the words of a master map's line may be.
 
-ghost use Rattle.std.specs.Prelude.{◌≡◌, ◌||◌, nat_le, bytes_eq, is_ok, Some, None, if◌then◌else◌};
+ghost use Rattle.std.specs.Prelude.{◌≡◌, nat_le, is_ok};
 ghost use Rattle.std.specs.List.{list_any};
 ghost use Rattle.std.specs.Option.{option_copied, option_to_list};
 ghost use Rattle.am_lines.specs.{is_colon};

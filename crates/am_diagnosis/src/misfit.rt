@@ -1,10 +1,8 @@
 //! The first word of a line that isn't as expected.
 
-ghost use Rattle.std.specs.Prelude.{◌≡◌, ◌+◌, ◌<◌, ◌^◌, length};
-ghost use Rattle.std.specs.Option.{option_copied};
+ghost use Rattle.std.specs.Prelude.{◌≡◌};
 ghost use Rattle.am_lines.specs.{words_of};
 ghost use Rattle.am_diagnosis.specs.Misfits.{misfit_at, next_of, behind_outcome, behind_entry, behind_option, left_behind, misfit_of};
-ghost use Rattle.am_diagnosis.specs.Fits.{may_end};
 
 use crate::expected::Expected;
 use crate::fits::{fits, may_end};

@@ -3,8 +3,6 @@
 ghost use Rattle.std.specs.Prelude.{◌≡◌, IfOk, IfErr};
 ghost use Rattle.std.specs.Option.{option_copied};
 ghost use Rattle.am_script.specs.Lines.{lines_in, lines_of};
-ghost use Rattle.am_script.specs.declared.fault.ScriptFaultKind.TheVariants.{BadMaster, BadMap};
-ghost use Rattle.am_diagnosis.specs.Maps.{joined_in};
 ghost use Rattle.am_diagnosis.specs.Scripts.{IsJoined, IsPlain, IsSlipIn, lines_at};
 
 use crate::event::{event_slip, slip_of};

@@ -1,4 +1,4 @@
-use Rattle.std.proofs.Common.{◌≡◌, List, ℕ, ap, sym, subst, ◌∙◌}
+use Rattle.std.proofs.Common.{List, ℕ, ap, sym, subst, ◌∙◌}
 use Rattle.am_lines.specs.{words_of}
 use Rattle.am_script.specs.Lines.{lines_of}
 use Rattle.am_script.specs.declared.fault.ScriptFaultKind.{ScriptFaultKind}

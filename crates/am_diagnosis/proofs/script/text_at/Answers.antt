@@ -1,4 +1,4 @@
-use Rattle.std.proofs.Common.{◌≡◌, ◌+◌, ◌≤◌, ◌<◌, ◌-◌, List, [], ◌∷◌, ℕ, arith, sym, ap, drop, ◌∙◌}
+use Rattle.std.proofs.Common.{◌≡◌, ◌+◌, ◌≤◌, ◌<◌, ◌-◌, [], ◌∷◌, ℕ, arith, sym, ap, drop, ◌∙◌}
 use Rattle.am_script.specs.Lines.{lines_of}
 use Rattle.am_diagnosis.proofs.ColumnLemmas.{one_more}
 use Rattle.am_diagnosis.proofs.ScriptLemmas.{lines_at_is, none_past}
