@@ -1,0 +1,8 @@
+pub mod Columns
+pub mod Events
+pub mod Fits
+pub mod Heads
+pub mod Maps
+pub mod Misfits
+pub mod Parameters
+pub mod Scripts
