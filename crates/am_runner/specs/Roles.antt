@@ -1,160 +1,176 @@
--- What each role of a run makes, the receipts of the caller that comes back: own choice
--- (docs/DECISIONS.md, "A worker gives up a job at any refusal" and "A thread that finds no memory
--- tries again, and then nobody waits").
-use Rattle.std.specs.Prelude.{◌≡◌, ◌⊎◌, ⊤, ℕ, Bool, true, false, zero, suc, List, [], ◌∷◌, ◌++◌, All, Any, Option, Some}
-use Rattle.am_names.specs.declared.errno.Errno.TheVariants.{NoMemory}
+-- What each role of a run makes, the receipts of its caller: own choice (docs/DECISIONS.md, "A
+-- worker gives up a job at any refusal").
+use Rattle.std.specs.Prelude.{◌≡◌, ◌⊎◌, ℕ, zero, suc, Bool, true, false, List, [], ◌∷◌, ◌++◌, All, Any, Option, Some, None}
 use Rattle.am_names.specs.declared.fail_no.FailNo.{FailNo}
 use Rattle.am_names.specs.declared.trigger.PipeState.TheVariants.{Room}
-use Rattle.am_machine.specs.{Event, Answer}
+use Rattle.am_machine.specs.{Event}
 use Rattle.am_machine.specs.declared.event.Event.TheVariants as events
 use Rattle.am_machine.specs.declared.answer.Answer.TheVariants as answers
 use Rattle.am_pipe.specs.{Note}
 use Rattle.am_shared.specs.{Receipt}
 use Rattle.am_runner.specs.declared.calls.Reply.{Reply}
 use Rattle.am_runner.specs.declared.calls.Reply.TheVariants as replies
+use Rattle.am_runner.specs.Calls.{AreMany, IsCall, IsOf, is_arrival, is_wait, job_of}
 
--- the receipts that a caller came with, and behind them only such as a role makes
-pub record Adds (role : Receipt → Type 0) (old new : List Receipt) : Type 0 where
-  pub made : List Receipt
-  pub behind : new ≡ old ++ made
-  pub each : All role made
-
--- the receipts that a caller came with, and behind them these
-pub record Makes (what : List Receipt → Type 0) (old new : List Receipt) : Type 0 where
-  pub made : List Receipt
-  pub behind : new ≡ old ++ made
-  pub are : what made
-
--- it is a receipt of this event
-abbrev pub IsOf : Event → Receipt → Type 0
-IsOf event receipt = receipt.event ≡ event
+-- ---- walkers, and who expires
 
 -- a walker resumes its own walk or expiry, at moment 0, where the pipe has room
-abbrev pub Resumes : ℕ → Receipt → Type 0
-Resumes walker receipt = IsOf (events.Resume walker 0 Room) receipt
+abbrev pub resume : ℕ → Event
+resume walker = events.Resume walker 0 Room
 
--- a walker makes this walk, resumes, or leaves
+-- a walker begins a walk along this path in the first namespace
+abbrev pub walk : ℕ → List (List ℕ) → Event
+walk walker path = events.Walk walker 0 path 0 Room
+
+-- who expires asks for an immediate expiry of this file system
+abbrev pub expiry : ℕ → ℕ → Event
+expiry walker fs = events.Expire walker fs 0 true Room
+
+-- resumes, each of which has to wait, and then one that hasn't; this is the reply to that
+pub record GoesOn (walker : ℕ) (reply : Reply) (made : List Receipt) : Type 0 where
+  pub count : ℕ
+  pub waits : List Receipt
+  pub last : List Receipt
+  pub in_turn : made ≡ waits ++ last
+  pub are_waits : AreMany (IsCall (resume walker) replies.Wait) count waits
+  pub resumes : IsCall (resume walker) reply last
+  pub is_over : is_wait reply ≡ false
+
+-- an event of a walker that has to wait, and then resumes
+pub record Waits (event : Event) (walker : ℕ) (reply : Reply) (made : List Receipt) : Type 0 where
+  pub first : List Receipt
+  pub rest : List Receipt
+  pub in_turn : made ≡ first ++ rest
+  pub waits : IsCall event replies.Wait first
+  pub goes_on : GoesOn walker reply rest
+
+-- an event of a walker, which then resumes as long as it has to wait; the last reply
+abbrev pub Settles : Event → ℕ → Reply → List Receipt → Type 0
+Settles event walker reply made =
+    (IsCall event reply made × (is_wait reply ≡ false)) ⊎ Waits event walker reply made
+
+-- a walker that has arrived leaves, and no other
+abbrev pub Leaves : ℕ → Bool → List Receipt → Type 0
+Leaves walker true made = (reply : Reply) × IsCall (events.Leave walker) reply made
+Leaves walker false made = made ≡ []
+
+-- a round of a walker: it walks, resumes as long as it has to wait, and leaves where it has arrived
+pub record IsRound (walk : Event) (walker : ℕ) (made : List Receipt) : Type 0 where
+  pub walks : List Receipt
+  pub leaves : List Receipt
+  pub reply : Reply
+  pub in_turn : made ≡ walks ++ leaves
+  pub settles : Settles walk walker reply walks
+  pub ends : Leaves walker (is_arrival reply) leaves
+
+-- a round of who expires: it asks for an expiry, and resumes as long as it has to wait
+abbrev pub IsExpiry : ℕ → ℕ → List Receipt → Type 0
+IsExpiry walker fs made = (reply : Reply) × Settles (expiry walker fs) walker reply made
+
+-- an event of a walker, or a resume
+abbrev pub IsOfSettling : Event → ℕ → Receipt → Type 0
+IsOfSettling event walker receipt = IsOf event receipt ⊎ IsOf (resume walker) receipt
+
+-- this walk, a resume or a leave of a walker
 abbrev pub IsOfRound : Event → ℕ → Receipt → Type 0
 IsOfRound walk walker receipt =
-    IsOf walk receipt ⊎ Resumes walker receipt ⊎ IsOf (events.Leave walker) receipt
+    IsOfSettling walk walker receipt ⊎ IsOf (events.Leave walker) receipt
 
--- a walker begins a walk along its path in the first namespace, resumes it, or leaves
-abbrev pub IsOfWalker : ℕ → List (List ℕ) → Receipt → Type 0
-IsOfWalker walker path receipt = IsOfRound (events.Walk walker 0 path 0 Room) walker receipt
-
--- an expirer asks for an immediate expiry of its file system, or resumes
+-- an expiry or a resume of who expires
 abbrev pub IsOfExpirer : ℕ → ℕ → Receipt → Type 0
-IsOfExpirer walker fs receipt =
-    IsOf (events.Expire walker fs 0 true Room) receipt ⊎ Resumes walker receipt
+IsOfExpirer walker fs receipt = IsOfSettling (expiry walker fs) walker receipt
+
+-- ---- who breaks
+
+-- this event was called for
+abbrev pub IsCallOf : Event → List Receipt → Type 0
+IsCallOf event made = (reply : Reply) × IsCall event reply made
 
 -- A round of a breaker: the daemon dies, the file system becomes catatonic, and the daemon attaches
--- to it again, each again and again where memory runs out.
+-- to it again, each once.
 pub record IsBreak (fs : ℕ) (made : List Receipt) : Type 0 where
-  pub deaths : List Receipt
-  pub catatonics : List Receipt
-  pub reattachments : List Receipt
-  pub in_turn : made ≡ deaths ++ catatonics ++ reattachments
-  pub dies : All (IsOf events.Die) deaths
-  pub is_catatonic : All (IsOf (events.AdminCatatonic fs)) catatonics
-  pub reattaches : All (IsOf (events.Reattach fs)) reattachments
+  pub death : List Receipt
+  pub catatonic : List Receipt
+  pub reattachment : List Receipt
+  pub in_turn : made ≡ (death ++ catatonic) ++ reattachment
+  pub dies : IsCallOf events.Die death
+  pub is_catatonic : IsCallOf (events.AdminCatatonic fs) catatonic
+  pub reattaches : IsCallOf (events.Reattach fs) reattachment
 
--- these are so many rounds of a breaker, one behind the other
-abbrev pub AreBreaks : ℕ → ℕ → List Receipt → Type 0
-AreBreaks fs zero made = made ≡ []
-AreBreaks fs (suc rounds) made =
-    (before : List Receipt) × (last : List Receipt) × (made ≡ before ++ last)
-    × AreBreaks fs rounds before × IsBreak fs last
+-- one of the three
+abbrev pub IsOfBreaker : ℕ → Receipt → Type 0
+IsOfBreaker fs receipt =
+    IsOf events.Die receipt ⊎ IsOf (events.AdminCatatonic fs) receipt ⊎ IsOf (events.Reattach fs) receipt
 
--- a breaker makes so many rounds
-pub record Breaks (fs rounds : ℕ) (old new : List Receipt) : Type 0 where
-  pub made : List Receipt
-  pub behind : new ≡ old ++ made
-  pub are_breaks : AreBreaks fs rounds made
+-- ---- workers
 
--- the event was refused, and not for want of memory
-abbrev pub is_refusal : Answer → Bool
-is_refusal (answers.Refused NoMemory) = false
-is_refusal (answers.Refused errno) = true
-is_refusal answer = false
-
--- it is no receipt of a refusal
-abbrev pub GoesOn : Receipt → Type 0
-GoesOn receipt = is_refusal receipt.answer ≡ false
-
--- a receipt of a refusal is the last of these
-abbrev pub EndAtRefusal : List Receipt → Type 0
-EndAtRefusal [] = ⊤
-EndAtRefusal (receipt ∷ rest) = (GoesOn receipt ⊎ (rest ≡ [])) × EndAtRefusal rest
-
--- the packet of this note is delivered, byte for byte
-abbrev pub IsDelivery : ℕ × Note → Receipt → Type 0
-IsDelivery taken receipt = IsOf (events.Deliver taken.1.token (Some taken.1.bytes)) receipt
+-- the daemon takes the packet of this note up, byte for byte
+abbrev pub delivery : ℕ × Note → Event
+delivery taken = events.Deliver taken.1.token (Some taken.1.bytes)
 
 -- an act of this job, which may have failed with any number
 abbrev pub IsActOf : ℕ → Receipt → Type 0
 IsActOf job receipt = (failure : Option FailNo) × IsOf (events.Act job failure) receipt
 
--- acts of this job, one by one, and none behind one that is refused
-abbrev pub AreActs : ℕ → List Receipt → Type 0
-AreActs job made = All (IsActOf job) made × EndAtRefusal made
+-- it was called for, with this reply
+abbrev pub IsAct : ℕ → Reply → List Receipt → Type 0
+IsAct job reply made = (failure : Option FailNo) × IsCall (events.Act job failure) reply made
 
--- these are acts of the job which one of these deliveries began
-abbrev pub IsWorkOf : List Receipt → List Receipt → Type 0
-IsWorkOf deliveries acts =
-    (job : ℕ) × Any (λ receipt. receipt.answer ≡ answers.Job job) deliveries × AreActs job acts
+-- nothing more, or one more act
+abbrev pub IsEnd : ℕ → List Receipt → Type 0
+IsEnd job made = (made ≡ []) ⊎ ((reply : Reply) × IsAct job reply made)
 
--- A note is served: its packet is delivered, again and again where memory runs out, and then come
--- the acts of the job which that began, if there are any.
+-- the work of a job: acts one by one, each of which was done, and none behind one that wasn't
+pub record IsWork (job : ℕ) (made : List Receipt) : Type 0 where
+  pub count : ℕ
+  pub done : List Receipt
+  pub last : List Receipt
+  pub in_turn : made ≡ done ++ last
+  pub are_done : AreMany (IsAct job replies.Done) count done
+  pub ends : IsEnd job last
+
+-- the work of a job, if one was begun
+abbrev pub IsWorkOf : Option ℕ → List Receipt → Type 0
+IsWorkOf (Some job) made = IsWork job made
+IsWorkOf None made = made ≡ []
+
+-- a note is served: its packet is delivered, and then comes the work of the job which that began
 pub record IsService (taken : ℕ × Note) (made : List Receipt) : Type 0 where
-  pub deliveries : List Receipt
-  pub acts : List Receipt
-  pub in_turn : made ≡ deliveries ++ acts
-  pub delivers : All (IsDelivery taken) deliveries
-  pub works : (acts ≡ []) ⊎ IsWorkOf deliveries acts
+  pub delivers : List Receipt
+  pub works : List Receipt
+  pub reply : Reply
+  pub in_turn : made ≡ delivers ++ works
+  pub delivered : IsCall (delivery taken) reply delivers
+  pub worked : IsWorkOf (job_of reply) works
 
--- these are the services of the notes, one behind the other
-abbrev pub AreServices : List (ℕ × Note) → List Receipt → Type 0
-AreServices [] made = made ≡ []
-AreServices (x ∷ taken) made =
+-- acts of the job that the delivery of this packet began
+abbrev pub AreActsBehind : ℕ × Note → List Receipt → List Receipt → Type 0
+AreActsBehind taken delivers made =
+    (job : ℕ) × IsCall (delivery taken) (replies.Job job) delivers × All (IsActOf job) made
+
+-- a service that was broken off where memory ran out
+pub record IsBrokenOff (taken : ℕ × Note) (made : List Receipt) : Type 0 where
+  pub delivers : List Receipt
+  pub works : List Receipt
+  pub in_turn : made ≡ delivers ++ works
+  pub each : All (IsOf (delivery taken)) delivers
+  pub acts : (works ≡ []) ⊎ AreActsBehind taken delivers works
+
+-- a service, or one that was broken off
+abbrev pub IsTried : ℕ × Note → List Receipt → Type 0
+IsTried taken made = IsService taken made ⊎ IsBrokenOff taken made
+
+-- what was made of these notes, one behind the other
+abbrev pub AreEach : (ℕ × Note → List Receipt → Type 0) → List (ℕ × Note) → List Receipt → Type 0
+AreEach what [] made = made ≡ []
+AreEach what (x ∷ taken) made =
     (first : List Receipt) × (rest : List Receipt) × (made ≡ first ++ rest)
-    × IsService x first × AreServices taken rest
+    × what x first × AreEach what taken rest
 
--- A worker took notes out of the pipe, and served them in turn: behind the delivery of a packet
--- come acts of its job alone, and none behind one that is refused.
-pub record Serves (got_old got_new : List (ℕ × Note)) (old new : List Receipt) : Type 0 where
+-- a worker took notes out of the pipe, and made this of them in turn
+pub record Serves (what : ℕ × Note → List Receipt → Type 0) (got_old got_new : List (ℕ × Note)) (old new : List Receipt) : Type 0 where
   pub taken : List (ℕ × Note)
   pub takes : got_new ≡ got_old ++ taken
   pub made : List Receipt
   pub behind : new ≡ old ++ made
-  pub are_services : AreServices taken made
-
--- one of these receipts says that a job was begun, where the reply does; none is of a refusal,
--- unless the reply says so; and there is one, unless the reply is a refusal or memory ran out
-abbrev pub Tells : Reply → List Receipt → Type 0
-Tells (replies.Job job) made = Any (λ receipt. receipt.answer ≡ answers.Job job) made
-Tells replies.Refused made = ⊤
-Tells replies.NoMemory made = All GoesOn made
-Tells reply made = All GoesOn made × Any GoesOn made
-
--- such events were made, none behind one that was refused, and this is the reply
-pub record Tries (role : Receipt → Type 0) (reply : Reply) (old new : List Receipt) : Type 0 where
-  pub made : List Receipt
-  pub behind : new ≡ old ++ made
-  pub each : All role made
-  pub end : EndAtRefusal made
-  pub told : Tells reply made
-
--- an event was made, again and again where memory ran out, and this is the reply
-abbrev pub Calls : Event → Reply → List Receipt → List Receipt → Type 0
-Calls event reply old new = Tries (IsOf event) reply old new
-
--- the reply is that to this answer
-abbrev pub IsReplyTo : Answer → Reply → Type 0
-IsReplyTo answer (replies.Job job) = answer ≡ answers.Job job
-IsReplyTo answer replies.Refused = ⊤
-IsReplyTo answer reply = is_refusal answer ≡ false
-
--- it is done
-abbrev pub is_done : Reply → Bool
-is_done replies.Done = true
-is_done reply = false
+  pub are : AreEach what taken made

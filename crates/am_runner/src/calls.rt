@@ -1,12 +1,14 @@
 //! The calls of a thread, made again where memory runs out.
 
+ghost use Rattle.std.specs.Prelude.{◌≡◌, IfOk, OnErr};
 ghost use Rattle.am_machine.specs.declared.answer.Answer.TheVariants.{Refused};
-ghost use Rattle.am_runner.specs.Roles.{Calls, IsReplyTo};
+ghost use Rattle.am_runner.specs.Calls.{Adds, IsCall, Makes, RanOut, is_arrival, is_done, is_wait};
+ghost use Rattle.am_runner.specs.Calls.{job_of, reply_of};
 
 use am_machine::{Answer, Event};
 use am_names::{Errno, JobId};
 use am_shared::{Caller, Opened};
-use std::alloc::Global;
+use std::alloc::{AllocError, Global};
 use std::sync::Wait;
 use std::thread;
 
@@ -16,8 +18,6 @@ pub const TRIES: u32 = 1_000;
 /// What a thread goes by of the answer to a call.
 #[derive(Clone, Copy)]
 pub enum Reply {
-    /// Memory ran out, and nothing was done.
-    NoMemory,
     /// A walker has to wait.
     Wait,
     /// A walk has arrived.
@@ -30,27 +30,60 @@ pub enum Reply {
     Done,
 }
 
-/// The reply to a refusal.
-fn refusal(errno: Errno) -> Reply
-    ensures { IsReplyTo (Refused errno) result }
-{
-    match errno {
-        Errno::NoMemory => Reply::NoMemory,
-        _ => Reply::Refused,
+impl Reply {
+    /// Whether a walker has to wait.
+    pub fn is_wait(self) -> bool
+        ensures { result ≡ is_wait self }
+    {
+        matches!(self, Reply::Wait)
+    }
+
+    /// Whether a walk has arrived.
+    pub fn is_arrival(self) -> bool
+        ensures { result ≡ is_arrival self }
+    {
+        matches!(self, Reply::Arrived)
+    }
+
+    /// Whether it is done.
+    pub fn is_done(self) -> bool
+        ensures { result ≡ is_done self }
+    {
+        matches!(self, Reply::Done)
+    }
+
+    /// The job as which a packet was taken up.
+    pub fn job(self) -> Option<JobId>
+        ensures { result ≡ job_of self }
+    {
+        match self {
+            Reply::Job { job } => Some(job),
+            _ => None,
+        }
     }
 }
 
-/// The reply to an answer.
-fn reply_to(answer: &Answer) -> Reply
-    ensures { IsReplyTo answer.now result }
+/// The reply to a refusal; none where memory ran out.
+fn refusal(errno: Errno) -> Option<Reply>
+    ensures { result ≡ reply_of (Refused errno) }
+{
+    match errno {
+        Errno::NoMemory => None,
+        _ => Some(Reply::Refused),
+    }
+}
+
+/// The reply to an answer; none where memory ran out.
+fn reply_to(answer: &Answer) -> Option<Reply>
+    ensures { result ≡ reply_of answer.now }
 {
     match answer {
-        Answer::Wait { .. } => Reply::Wait,
-        Answer::At { .. } => Reply::Arrived,
-        Answer::Job { job } => Reply::Job { job: *job },
+        Answer::Wait { .. } => Some(Reply::Wait),
+        Answer::At { .. } => Some(Reply::Arrived),
+        Answer::Job { job } => Some(Reply::Job { job: *job }),
         Answer::Refused { errno } => refusal(*errno),
-        Answer::Failed { .. } => Reply::Refused,
-        _ => Reply::Done,
+        Answer::Failed { .. } => Some(Reply::Refused),
+        _ => Some(Reply::Done),
     }
 }
 
@@ -60,32 +93,31 @@ fn call_once<L: Opened, R: Wait>(
     alloc: Global,
     caller: &mut Caller<L>,
     event: &Event,
-) -> Reply
-    ensures { Calls event.now result caller.old caller.new }
+) -> Result<Reply, AllocError>
+    ensures ok { IfOk result (λ reply. Makes (IsCall event.now reply) caller.old caller.new) }
+    ensures err { OnErr result (Adds (RanOut event.now) caller.old caller.new) }
 {
-    let Ok(event) = event.copy(alloc) else {
-        return Reply::NoMemory;
-    };
-    match caller.call(rt, alloc, event) {
-        Ok(receipt) => reply_to(&receipt.answer),
-        Err(_) => Reply::NoMemory,
-    }
+    let event = event.copy(alloc)?;
+    let receipt = caller.call(rt, alloc, event)?;
+    reply_to(&receipt.answer).ok_or(AllocError)
 }
 
-/// Makes an event, and makes it again where memory runs out.
+/// Makes an event, and makes it again where memory runs out, up to 1,000 times. Tells the reply to
+/// its answer.
 pub fn call<L: Opened, R: Wait>(
     rt: &R,
     alloc: Global,
     caller: &mut Caller<L>,
     event: &Event,
-) -> Reply
-    ensures { Calls event.now result caller.old caller.new }
+) -> Result<Reply, AllocError>
+    ensures ok { IfOk result (λ reply. Makes (IsCall event.now reply) caller.old caller.new) }
+    ensures err { OnErr result (Adds (RanOut event.now) caller.old caller.new) }
 {
     for _ in 0..TRIES {
         match call_once(rt, alloc, caller, event) {
-            Reply::NoMemory => thread::yield_now(),
-            reply => return reply,
+            Ok(reply) => return Ok(reply),
+            Err(_) => thread::yield_now(),
         }
     }
-    Reply::NoMemory
+    Err(AllocError)
 }

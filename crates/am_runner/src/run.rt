@@ -86,10 +86,10 @@ fn make_beginning(alloc: Global) -> Result<Beginning, AllocError> {
 fn walks<L: Opened, R: Wait>(
     rt: &R,
     alloc: Global,
-    caller: Caller<L>,
+    caller: &mut Caller<L>,
     number: u32,
     rounds: u32,
-) -> Caller<L> {
+) -> Result<(), AllocError> {
     let text: &[u8] = if number % 2 == 1 {
         b"/auto/k0"
     } else {
@@ -97,33 +97,44 @@ fn walks<L: Opened, R: Wait>(
     };
     match AbsPath::read(text) {
         Ok(path) => walker(rt, alloc, caller, WalkerId(number), &path, rounds),
-        Err(_) => caller,
+        Err(_) => Err(AllocError),
     }
 }
 
-/// Number 0 asks for expiries, and the others walk.
+/// Number 0 asks for expiries, and the others walk. The caller comes back, unless memory ran out.
 fn asks<L: Opened, R: Wait>(
     rt: &R,
     alloc: Global,
-    caller: Caller<L>,
+    mut caller: Caller<L>,
     number: u32,
     fs: FsId,
     rounds: u32,
-) -> Caller<L> {
+) -> Result<Caller<L>, AllocError> {
     if number == 0 {
-        return expirer(rt, alloc, caller, WalkerId(0), fs, rounds);
+        expirer(rt, alloc, &mut caller, WalkerId(0), fs, rounds)?;
+    } else {
+        walks(rt, alloc, &mut caller, number, rounds)?;
     }
-    walks(rt, alloc, caller, number, rounds)
+    Ok(caller)
 }
 
 fn works<L: Opened, R: Wait>(
     rt: &R,
     alloc: Global,
-    caller: Caller<L>,
-    taker: TakeEnd,
+    mut caller: Caller<L>,
+    mut taker: TakeEnd,
     stop: &AtomicBool,
-) -> Caller<L> {
-    daemon_worker(rt, alloc, caller, taker, &Open, Succeeds, stop).0
+) -> Result<Caller<L>, AllocError> {
+    daemon_worker(
+        rt,
+        alloc,
+        &mut caller,
+        &mut taker,
+        &Open,
+        &mut Succeeds,
+        stop,
+    )?;
+    Ok(caller)
 }
 
 fn start_asking<'s, E, L: Opened + Send + 's, R: Wait + Sync>(
@@ -134,7 +145,7 @@ fn start_asking<'s, E, L: Opened + Send + 's, R: Wait + Sync>(
     number: u32,
     fs: FsId,
     rounds: u32,
-) -> Option<JoinHandle<Caller<L>>> {
+) -> Option<JoinHandle<Result<Caller<L>, AllocError>>> {
     scope
         .spawn(move || asks(rt, alloc, caller, number, fs, rounds))
         .ok()
@@ -147,7 +158,7 @@ fn start_working<'s, E, L: Opened + Send + 's, R: Wait + Sync>(
     caller: Caller<L>,
     taker: TakeEnd,
     stop: &'s AtomicBool,
-) -> Option<JoinHandle<Caller<L>>> {
+) -> Option<JoinHandle<Result<Caller<L>, AllocError>>> {
     scope
         .spawn(move || works(rt, alloc, caller, taker, stop))
         .ok()
@@ -190,11 +201,15 @@ fn all_back<'s, E, L: Opened + Send + 's, R: Threads + Wait + Sync>(
         number = number.wrapping_add(1);
     }
     for thread in asking {
-        back.push_reserved(thread.join(rt));
+        if let Ok(caller) = thread.join(rt) {
+            back.push_reserved(caller);
+        }
     }
     stop.store(true, Ordering::SeqCst);
     for thread in working {
-        back.push_reserved(thread.join(rt));
+        if let Ok(caller) = thread.join(rt) {
+            back.push_reserved(caller);
+        }
     }
     if back.len() != count {
         return Err(AllocError);

@@ -1,9 +1,12 @@
 //! Who serves: the daemon's workers.
 
-ghost use Rattle.std.specs.Prelude.{◌≡◌};
-ghost use Rattle.am_runner.specs.Roles.{AreActs, IsActOf, IsService, Makes, Serves, Tries, is_done};
+ghost use Rattle.std.specs.Prelude.{◌≡◌, IfOk, MatchBool, OnErr, OnOk};
+ghost use Rattle.am_runner.specs.declared.calls.Reply.TheVariants.{Done};
+ghost use Rattle.am_runner.specs.Calls.{Adds, Makes};
+ghost use Rattle.am_runner.specs.Roles.{IsAct, IsActOf, IsBrokenOff, IsEnd, IsService, IsTried};
+ghost use Rattle.am_runner.specs.Roles.{IsWork, Serves};
 
-use crate::calls::{Reply, TRIES, call};
+use crate::calls::{TRIES, call};
 use am_job::Act;
 use am_machine::Event;
 use am_map::Entry;
@@ -66,39 +69,25 @@ fn next_act<L: Opened, R: Wait>(
     Err(AllocError)
 }
 
-/// Makes the next act of a job.
+/// Makes the next act of a job. Tells whether that is done; there may be none.
 fn act<L: Opened, B: Backend, R: Wait>(
     rt: &R,
     alloc: Global,
     caller: &mut Caller<L>,
     job: JobId,
     backend: &mut B,
-) -> Reply
-    ensures { Tries (IsActOf job) result caller.old caller.new }
+) -> Result<bool, AllocError>
+    ensures ok { IfOk result (λ is_done. MatchBool is_done
+        (Makes (IsAct job Done) caller.old caller.new)
+        (Makes (IsEnd job) caller.old caller.new)) }
+    ensures err { OnErr result (Adds (IsActOf job) caller.old caller.new) }
 {
-    match next_act(rt, alloc, caller, job) {
-        Ok(Some(act)) => {
-            let failure = perform(backend, &act);
-            call(rt, alloc, caller, &Event::Act { job, failure })
-        }
-        Ok(None) => Reply::Refused,
-        Err(_) => Reply::NoMemory,
-    }
-}
-
-/// Whether a job goes on behind this reply. Where memory ran out for good, nobody is to wait for
-/// it.
-fn goes_on<L: Opened, R: Wait>(rt: &R, caller: &Caller<L>, reply: Reply) -> bool
-    ensures { result ≡ is_done reply }
-{
-    match reply {
-        Reply::Done => true,
-        Reply::NoMemory => {
-            caller.give_up(rt);
-            false
-        }
-        _ => false,
-    }
+    let Some(act) = next_act(rt, alloc, caller, job)? else {
+        return Ok(false);
+    };
+    let failure = perform(backend, &act);
+    let reply = call(rt, alloc, caller, &Event::Act { job, failure })?;
+    Ok(reply.is_done())
 }
 
 /// Makes the acts of a job one by one, until there are no more or one is refused.
@@ -108,15 +97,16 @@ fn finish<L: Opened, B: Backend, R: Wait>(
     caller: &mut Caller<L>,
     job: JobId,
     backend: &mut B,
-)
-    ensures { Makes (AreActs job) caller.old caller.new }
+) -> Result<(), AllocError>
+    ensures ok { OnOk result (Makes (IsWork job) caller.old caller.new) }
+    ensures err { OnErr result (Adds (IsActOf job) caller.old caller.new) }
 {
     for _ in rt.forever() {
-        let reply = act(rt, alloc, caller, job, backend);
-        if !goes_on(rt, caller, reply) {
-            break;
+        if !act(rt, alloc, caller, job, backend)? {
+            return Ok(());
         }
     }
+    unreachable!()
 }
 
 /// Delivers the packet of a note, and does what its job asks for. A packet that is refused is given
@@ -128,50 +118,58 @@ fn serve<L: Opened, G: Gate, B: Backend, R: Wait>(
     taken: &(u64, Note),
     gate: &G,
     backend: &mut B,
-)
-    ensures { Makes (IsService taken.now) caller.old caller.new }
+) -> Result<(), AllocError>
+    ensures ok { OnOk result (Makes (IsService taken.now) caller.old caller.new) }
+    ensures err { OnErr result (Makes (IsBrokenOff taken.now) caller.old caller.new) }
 {
     let note = &taken.1;
     let deliver = Event::Deliver {
         token: note.token,
         bytes: Some(note.bytes),
     };
-    match call(rt, alloc, caller, &deliver) {
-        Reply::Job { job } => {
-            gate.pass(job.0);
-            finish(rt, alloc, caller, job, backend);
-        }
-        Reply::NoMemory => caller.give_up(rt),
-        _ => {}
-    }
+    let reply = call(rt, alloc, caller, &deliver)?;
+    let Some(job) = reply.job() else {
+        return Ok(());
+    };
+    gate.pass(job.0);
+    finish(rt, alloc, caller, job, backend)
 }
 
-/// Takes notes and serves them, until it is told to stop and finds none. Gives its caller and its
-/// end of the pipe back.
-pub fn daemon_worker<L: Opened, G: Gate, B: Backend + Drop, R: Wait>(
+/// Takes notes and serves them, until it is told to stop and finds none. Where memory runs out for
+/// good, nobody is to wait for what isn't done: it tells that, goes on with the next note, and tells
+/// in the end that memory ran out.
+pub fn daemon_worker<L: Opened, G: Gate, B: Backend, R: Wait>(
     rt: &R,
     alloc: Global,
-    mut caller: Caller<L>,
-    mut taker: TakeEnd,
+    caller: &mut Caller<L>,
+    taker: &mut TakeEnd,
     gate: &G,
-    mut backend: B,
+    backend: &mut B,
     stop: &AtomicBool,
-) -> (Caller<L>, TakeEnd)
-    ensures pipe { result.1.pipe ≡ taker.pipe }
-    ensures receipts { Serves taker.got result.1.got caller result.0 }
+) -> Result<(), AllocError>
+    ensures pipe { taker.new.pipe ≡ taker.old.pipe }
+    ensures ok { OnOk result (Serves IsService taker.old.got taker.new.got caller.old caller.new) }
+    ensures err { OnErr result (Serves IsTried taker.old.got taker.new.got caller.old caller.new) }
 {
+    let mut outcome = Ok(());
     for _ in rt.forever() {
         // Read before the take: what was put before the flag was set is found.
         let is_over = stop.load(Ordering::SeqCst);
         match taker.take(rt) {
-            Some(taken) => serve(rt, alloc, &mut caller, &taken, gate, &mut backend),
+            Some(taken) => match serve(rt, alloc, caller, &taken, gate, backend) {
+                Ok(()) => {}
+                Err(_) => {
+                    caller.give_up(rt);
+                    outcome = Err(AllocError);
+                }
+            },
             None => {
                 if is_over {
-                    break;
+                    return outcome;
                 }
                 thread::yield_now();
             }
         }
     }
-    (caller, taker)
+    unreachable!()
 }

@@ -90,24 +90,17 @@ fn walks<L: Opened, R: Wait>(
     rt: &R,
     alloc: Global,
     common: &Common,
-    caller: Caller<L>,
+    caller: &mut Caller<L>,
     number: u32,
-) -> Caller<L> {
+) {
     let text: &[u8] = match number % 3 {
         0 => b"/auto/k0",
         1 => b"/auto/k1",
         _ => b"/auto/k2",
     };
-    match AbsPath::read(text) {
-        Ok(path) => walker(
-            rt,
-            alloc,
-            caller,
-            WalkerId(number),
-            &path,
-            common.size.rounds,
-        ),
-        Err(_) => caller,
+    if let Ok(path) = AbsPath::read(text) {
+        let rounds = common.size.rounds;
+        let _ = walker(rt, alloc, caller, WalkerId(number), &path, rounds);
     }
 }
 
@@ -116,31 +109,30 @@ fn asks<L: Opened, R: Wait>(
     rt: &R,
     alloc: Global,
     common: &Common,
-    caller: Caller<L>,
+    caller: &mut Caller<L>,
     number: u32,
-) -> Caller<L> {
-    let back = if number.wrapping_add(1) == all_seats(common.size) {
-        breaker(rt, alloc, caller, common.fs, common.size.breaks)
+) {
+    if number.wrapping_add(1) == all_seats(common.size) {
+        let _ = breaker(rt, alloc, caller, common.fs, common.size.breaks);
     } else {
-        walks(rt, alloc, common, caller, number)
-    };
+        walks(rt, alloc, common, caller, number);
+    }
     if common.back.fetch_add(1, Ordering::SeqCst) == common.size.walkers {
         common.stop.store(true, Ordering::SeqCst);
     }
-    back
 }
 
 fn works<L: Opened, R: Wait>(
     rt: &R,
     alloc: Global,
     common: &Common,
-    caller: Caller<L>,
-    taker: TakeEnd,
-) -> Caller<L> {
-    let backend = FailsInTurn {
+    caller: &mut Caller<L>,
+    taker: &mut TakeEnd,
+) {
+    let mut backend = FailsInTurn {
         mounts: &common.mounts,
     };
-    daemon_worker(rt, alloc, caller, taker, &Open, backend, &common.stop).0
+    let _ = daemon_worker(rt, alloc, caller, taker, &Open, &mut backend, &common.stop);
 }
 
 fn takes_part<L: Opened, R: Wait>(
@@ -150,14 +142,13 @@ fn takes_part<L: Opened, R: Wait>(
     index: usize,
     seat: &mut Seat<L>,
 ) {
-    let Some(caller) = seat.caller.take() else {
-        return;
-    };
-    let back = match seat.taker.take() {
-        Some(taker) => works(rt, alloc, common, caller, taker),
-        None => asks(rt, alloc, common, caller, u32::try_from(index).unwrap_or(0)),
-    };
-    seat.caller = Some(back);
+    match &mut seat.taker {
+        Some(taker) => works(rt, alloc, common, &mut seat.caller, taker),
+        None => {
+            let number = u32::try_from(index).unwrap_or(0);
+            asks(rt, alloc, common, &mut seat.caller, number);
+        }
+    }
 }
 
 /// So many callers, when all have made their rounds and the workers have stopped.

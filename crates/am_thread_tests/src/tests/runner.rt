@@ -78,41 +78,35 @@ fn walks<L: Opened, R: Wait>(
     rt: &R,
     alloc: Global,
     held: &Held,
-    caller: Caller<L>,
+    caller: &mut Caller<L>,
     index: usize,
-) -> Caller<L> {
+) {
     let (number, text): (u32, &[u8]) = if index == 2 {
         (7, b"/auto/k0")
     } else {
         (8, b"/auto/k1")
     };
-    let back = match AbsPath::read(text) {
-        Ok(path) => walker(rt, alloc, caller, WalkerId(number), &path, 1),
-        Err(_) => caller,
-    };
+    if let Ok(path) = AbsPath::read(text) {
+        let _ = walker(rt, alloc, caller, WalkerId(number), &path, 1);
+    }
     comes_back(held);
-    back
 }
 
 fn works<L: Opened, R: Wait>(
     rt: &R,
     alloc: Global,
     held: &Held,
-    caller: Caller<L>,
-    taker: TakeEnd,
-) -> Caller<L> {
-    daemon_worker(rt, alloc, caller, taker, held, Succeeds, &held.stop).0
+    caller: &mut Caller<L>,
+    taker: &mut TakeEnd,
+) {
+    let _ = daemon_worker(rt, alloc, caller, taker, held, &mut Succeeds, &held.stop);
 }
 
 fn acts<L: Opened, R: Wait>(rt: &R, alloc: Global, held: &Held, index: usize, seat: &mut Seat<L>) {
-    let Some(caller) = seat.caller.take() else {
-        return;
-    };
-    let back = match seat.taker.take() {
-        Some(taker) => works(rt, alloc, held, caller, taker),
-        None => walks(rt, alloc, held, caller, index),
-    };
-    seat.caller = Some(back);
+    match &mut seat.taker {
+        Some(taker) => works(rt, alloc, held, &mut seat.caller, taker),
+        None => walks(rt, alloc, held, &mut seat.caller, index),
+    }
 }
 
 /// All four callers, when the walkers have walked and the workers have stopped.

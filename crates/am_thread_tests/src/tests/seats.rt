@@ -7,7 +7,7 @@ use std::alloc::{AllocError, Global};
 /// The seat of a worker, if it has an end of the pipe, and else of another.
 #[derive(Drop)]
 pub struct Seat<L: Opened> {
-    pub caller: Option<Caller<L>>,
+    pub caller: Caller<L>,
     pub taker: Option<TakeEnd>,
 }
 
@@ -20,7 +20,7 @@ pub fn seats_of<L: Opened>(
     let mut seats = Vec::with_capacity(alloc, callers.len())?;
     for caller in callers {
         seats.push(Seat {
-            caller: Some(caller),
+            caller,
             taker: takers.pop(),
         })?;
     }
@@ -35,9 +35,7 @@ pub fn callers_of<L: Opened>(
     let mut back = Vec::with_capacity(alloc, seats.len())?;
     for seat in seats {
         let Seat { caller, taker: _ } = seat;
-        if let Some(caller) = caller {
-            back.push(caller)?;
-        }
+        back.push(caller)?;
     }
     Ok(back)
 }

@@ -1,5 +1,9 @@
-use Rattle.am_runner.specs.{Adds, IsOfExpirer}
+use Rattle.std.proofs.Common.{◌≡◌}
+use Rattle.am_runner.specs.{AreMany, IsExpiry, Makes, expiry}
 use Rattle.am_runner.proofs.walkers.expirer.Given as goal
 
-abbrev pub invariant-loop : goal.invariant-loop
-invariant-loop g l = Adds (IsOfExpirer l.fn.walker l.fn.fs) l.initial.caller l.caller
+abbrev pub invariant-loop-made : goal.invariant-loop-made
+invariant-loop-made g l = record {
+  same : l.expire ≡ expiry l.walker l.fn.fs;
+  rounds : Makes (AreMany (IsExpiry l.walker l.fn.fs) l._made) l.initial.caller l.caller;
+}

@@ -1,10 +1,18 @@
-use Rattle.am_runner.proofs.RoleLemmas.{adds_round, adds_leave}
+use Rattle.std.proofs.Common.{sym, ◌∙◌}
+use Rattle.am_runner.specs.{Adds, IsOfRound}
+use Rattle.am_runner.proofs.CallLemmas.{on_err}
+use Rattle.am_runner.proofs.RoleLemmas.{leave_out, round_over}
 use Rattle.am_runner.proofs.walkers.round.Goals as goal
 
-pub returns-then-matches : goal.returns-then-matches
-returns-then-matches g c =
-    adds_leave c.args.walk.now c.args.walker c.call.result c.args.caller.now c.settle-reply.new.caller
-    c.call.new.caller
-    (adds_round c.args.walk.now c.args.walker c.call-begun.result c.args.caller.now
-    c.call-begun.new.caller c.settle-reply.new.caller c.call-begun.ensures c.settle-reply.ensures)
-    c.call.ensures
+pub returns-in_err-call-clause-err : goal.returns-in_err-call-clause-err
+returns-in_err-call-clause-err g c =
+    on_err c.from_residual-in_err-call.result
+    (Adds (IsOfRound c.args.walk.now c.args.walker) c.args.caller.now c.call.new.caller)
+    (leave_out c.args.walk.now c.args.walker c.in_ok-reply.reply c.args.caller.now
+    c.settle.new.caller c.call.new.caller c.in_ok-reply.ensures.ok c.in_err-call.ensures.err)
+
+pub returns-else-is_arrival-clause-ok : goal.returns-else-is_arrival-clause-ok
+returns-else-is_arrival-clause-ok g c =
+    round_over c.args.walk.now c.args.walker c.in_ok-reply.reply c.args.caller.now
+    c.settle.new.caller (sym c.is_arrival.ensures ∙ c.if-is_arrival.false)
+    c.in_ok-reply.ensures.ok

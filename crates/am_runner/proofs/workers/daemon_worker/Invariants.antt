@@ -1,5 +1,6 @@
 use Rattle.std.proofs.Common.{◌≡◌}
-use Rattle.am_runner.specs.{Serves}
+use Rattle.std.specs.Prelude.{OnOk}
+use Rattle.am_runner.specs.{IsService, IsTried, Serves}
 use Rattle.am_runner.proofs.workers.daemon_worker.Given as goal
 
 abbrev pub invariant-loop : goal.invariant-loop
@@ -7,5 +8,6 @@ invariant-loop g l = record {
   can : (goal.iterator-loop g).can_next l.iterator';
   finite : (goal.iterator-loop g).is_finite l.iterator';
   pipe : l.taker.pipe ≡ l.fn.taker.pipe;
-  serves : Serves l.fn.taker.got l.taker.got l.fn.caller l.caller;
+  tried : Serves IsTried l.fn.taker.got l.taker.got l.fn.caller l.caller;
+  served : OnOk l.outcome (Serves IsService l.fn.taker.got l.taker.got l.fn.caller l.caller);
 }

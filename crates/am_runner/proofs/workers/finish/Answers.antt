@@ -1,22 +1,28 @@
-use Rattle.std.proofs.Common.{sym, ◌∙◌}
-use Rattle.am_runner.specs.{IsActOf}
-use Rattle.am_runner.proofs.RoleLemmas.{tries_more, acts_more, acts_end, acts_of_tries}
-use Rattle.am_runner.proofs.workers.finish.Goals.{in-None, in-Some+then-not-goes_on}
+use Rattle.std.proofs.Common.{◌+◌}
+use Rattle.am_runner.specs.{Adds, IsAct, IsActOf, IsEnd, Makes}
+use Rattle.am_runner.specs.declared.calls.Reply.TheVariants.{Done}
+use Rattle.am_runner.proofs.CallLemmas.{many_more, many_out, match_true, on_err}
+use Rattle.am_runner.proofs.RoleLemmas.{each_of_act}
 use Rattle.am_runner.proofs.workers.finish.Goals as goal
 
-pub loop-preserved : goal.loop-preserved
-loop-preserved g c = record {
-  can = tt;
-  finite = tt;
-  adds = acts_more c.args.job c.act-reply.result c.args.caller.now c.loop.caller c.act-reply.new.caller
-      (sym c.goes_on.ensures ∙ c.if-not-goes_on.false) c.loop.invariant.adds c.act-reply.ensures;
-}
+pub returns-in_err-act-clause-err : goal.returns-in_err-act-clause-err
+returns-in_err-act-clause-err g c =
+    let job = c.args.job in
+    let done = c.loop.invariant.done in
+    on_err c.from_residual.result (Adds (IsActOf job) c.args.caller.now c.act.new.caller)
+    (many_out (IsAct job Done) (IsActOf job) (each_of_act job Done) done.0 c.args.caller.now
+    c.loop.caller c.act.new.caller done.1 c.in_err-act.ensures.err)
 
-pub returns : goal.returns
-returns g c = elim c.match-next.branch [
-  | in-None w ↦ rw w.caller-is (acts_end c.args.job c.args.caller.now c.loop.caller
-      c.loop.invariant.adds)
-  | in-Some+then-not-goes_on w ↦ rw w.caller-is (acts_of_tries c.args.job w.act-reply.result
-      c.args.caller.now w.act-reply.new.caller (tries_more (IsActOf c.args.job) w.act-reply.result
-      c.args.caller.now c.loop.caller w.act-reply.new.caller c.loop.invariant.adds w.act-reply.ensures))
-]
+pub loop-preserved : goal.loop-preserved
+loop-preserved g c =
+    let done = c.loop.invariant.done in record {
+      can = tt;
+      finite = tt;
+      done = (
+        done.0 + 1,
+        many_more (IsAct c.args.job Done) done.0 c.args.caller.now c.loop.caller c.act.new.caller
+            done.1 (match_true c.in_ok-act.field-0 (Makes (IsAct c.args.job Done) c.loop.caller c.act.new.caller)
+            (Makes (IsEnd c.args.job) c.loop.caller c.act.new.caller) c.if-not-branch.false
+            c.in_ok-act.ensures.ok),
+      );
+    }

@@ -1,14 +1,24 @@
-use Rattle.am_runner.proofs.RoleLemmas.{service_job, service_call}
+use Rattle.std.proofs.Common.{sym, ◌∙◌}
+use Rattle.am_runner.specs.{Adds, IsActOf, IsBrokenOff, Makes}
+use Rattle.am_runner.proofs.CallLemmas.{err_as, on_err}
+use Rattle.am_runner.proofs.RoleLemmas.{delivery_out, service_none, work_out}
 use Rattle.am_runner.proofs.workers.serve.Goals as goal
 
-pub returns-in-Job : goal.returns-in-Job
-returns-in-Job g c = service_job c.args.taken.now c.in-Job.job c.args.caller.now c.call.new.caller
-    c.finish.new.caller c.in-Job.ensures c.finish.ensures
+pub returns-in_err-reply-clause-err : goal.returns-in_err-reply-clause-err
+returns-in_err-reply-clause-err g c =
+    on_err c.from_residual.result
+    (Makes (IsBrokenOff c.args.taken.now) c.args.caller.now c.call.new.caller)
+    (delivery_out c.args.taken.now c.args.caller.now c.call.new.caller c.in_err-reply.ensures.err)
 
-pub returns-in-NoMemory : goal.returns-in-NoMemory
-returns-in-NoMemory g c =
-    service_call c.args.taken.now c.call.result c.args.caller.now c.call.new.caller c.call.ensures
+pub returns-in_default-clause-ok : goal.returns-in_default-clause-ok
+returns-in_default-clause-ok g c =
+    service_none c.args.taken.now c.in_ok-reply.reply c.args.caller.now c.call.new.caller
+    (sym c.job.ensures ∙ c.in_default.is) c.in_ok-reply.ensures.ok
 
-pub returns : goal.returns
-returns g c =
-    service_call c.args.taken.now c.call.result c.args.caller.now c.call.new.caller c.call.ensures
+pub returns-clause-err : goal.returns-clause-err
+returns-clause-err g c =
+    err_as c.finish.result (Adds (IsActOf c.in-Some.job) c.call.new.caller c.finish.new.caller)
+    (Makes (IsBrokenOff c.args.taken.now) c.args.caller.now c.finish.new.caller)
+    (work_out c.args.taken.now c.in_ok-reply.reply c.in-Some.job c.args.caller.now
+    c.call.new.caller c.finish.new.caller (sym c.job.ensures ∙ c.in-Some.is)
+    c.in_ok-reply.ensures.ok) c.finish.ensures.err
