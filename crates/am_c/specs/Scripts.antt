@@ -2,10 +2,10 @@
 use Rattle.std.specs.Prelude.{◌≡◌, ◌≢◌, ◌⊎◌, ℕ, Bool, true, false, List, [], length, Option, None, Some, Result, Ok, Err}
 use Rattle.am_map.specs.Fault as map_faults
 use Rattle.am_master.specs.Fault as master_faults
-use Rattle.am_script.specs.{ScriptFault, ScriptFaultKind, Summary}
+use Rattle.am_script.specs.{ScriptFault, ScriptFaultKind, Summary, lines_of}
 use Rattle.am_script.specs.Fault.{kind_number}
 use Rattle.am_script.specs.declared.fault.ScriptFaultKind.TheVariants.{BadMaster, BadMap}
-use Rattle.am_diagnosis.specs.Scripts.{IsSlipIn}
+use Rattle.am_diagnosis.specs.Scripts.{IsJoined, IsSlipIn, lines_at}
 use Rattle.am_diagnosis.specs.Expectations.{expected_number, expected_words}
 use Rattle.am_diagnosis.specs.declared.expected.Expected.{Expected}
 use Rattle.am_diagnosis.specs.declared.expected.Slip.{Slip}
@@ -58,10 +58,12 @@ played_of bytes (Err fault) slip = record {
   expected = expected_of slip;
 }
 
--- it is the slip of the fault in this text, if there is a fault
+-- it is the slip of the fault in this text, if there is a fault; or there is no memory for that of a
+-- line of a map, which is joined for it
 abbrev pub IsPlaced : List ℕ → Result Summary ScriptFault → Option Slip → Type 0
 IsPlaced text (Ok summary) slip = slip ≡ None
-IsPlaced text (Err fault) slip = IsSlipIn text fault slip
+IsPlaced text (Err fault) slip =
+    IsSlipIn fault.kind (lines_at fault.line (lines_of text)) slip ⊎ (IsJoined fault.kind × (slip ≡ None))
 
 -- C is told how this text went, of which so many bytes were written
 pub record IsTold (text : List ℕ) (bytes : ℕ) (went : Result Summary ScriptFault) (told : AmPlayed) : Type 0 where

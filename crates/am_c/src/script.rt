@@ -48,7 +48,7 @@ pub extern "C" fn am_play(alloc: Global, script: &[u8], out: &mut [u8], played: 
     let mut reader = script;
     let mut writer = Vec::new(alloc);
     let went = run_script(alloc, &mut reader, &mut writer);
-    *played = tell(script, &writer, went, out);
+    *played = tell(alloc, script, &writer, went, out);
     drop(writer);
     fault_number(went)
 }
@@ -66,7 +66,7 @@ pub extern "C" fn am_trace(
     let mut reader = script;
     let mut writer = Vec::new(alloc);
     let went = trace_script(alloc, &mut reader, &mut writer);
-    *played = tell(script, &writer, went, out);
+    *played = tell(alloc, script, &writer, went, out);
     drop(writer);
     fault_number(went)
 }
@@ -87,7 +87,7 @@ pub extern "C" fn am_draw(
     let mut reader = script;
     let mut writer = Vec::new(alloc);
     let went = draw_script(alloc, &mut reader, &mut writer, first, last);
-    *played = tell(script, &writer, went, out);
+    *played = tell(alloc, script, &writer, went, out);
     drop(writer);
     fault_number(went)
 }
@@ -110,7 +110,7 @@ pub extern "C" fn am_world(
     let mut writer = Vec::new(alloc);
     let only = namespace_where(all, namespace);
     let went = world_script(alloc, &mut reader, &mut writer, only);
-    *played = tell(script, &writer, went, out);
+    *played = tell(alloc, script, &writer, went, out);
     drop(writer);
     fault_number(went)
 }
@@ -124,6 +124,7 @@ pub(crate) fn namespace_where(all: bool, namespace: u32) -> Option<NsId>
 
 /// Puts what was written at the front of a buffer, and tells how the text went.
 pub(crate) fn tell(
+    alloc: Global,
     text: &[u8],
     written: &Vec<u8>,
     went: Result<Summary, ScriptFault>,
@@ -133,23 +134,32 @@ pub(crate) fn tell(
     ensures told { IsTold text.now (length written.now.items) went result }
 {
     put_front(written, out);
-    tell_of(text, written.len() as u64, went)
+    tell_of(alloc, text, written.len() as u64, went)
 }
 
 /// How a text went of which so many bytes were written.
-pub(crate) fn tell_of(text: &[u8], bytes: u64, went: Result<Summary, ScriptFault>) -> AmPlayed
+pub(crate) fn tell_of(
+    alloc: Global,
+    text: &[u8],
+    bytes: u64,
+    went: Result<Summary, ScriptFault>,
+) -> AmPlayed
     ensures { IsTold text.now bytes went result }
 {
-    played_of(bytes, went, place_of(text, went))
+    played_of(bytes, went, place_of(alloc, text, went))
 }
 
-/// Where the line of the fault isn't as expected, and what was expected there.
-fn place_of(text: &[u8], went: Result<Summary, ScriptFault>) -> Option<Slip>
+/// Where the line of the fault isn't as expected, and what was expected there. None too where there
+/// is no memory to join the line.
+fn place_of(alloc: Global, text: &[u8], went: Result<Summary, ScriptFault>) -> Option<Slip>
     ensures { IsPlaced text.now went result }
 {
     match went {
         Ok(_summary) => None,
-        Err(fault) => slip_in(text, fault),
+        Err(fault) => match slip_in(alloc, text, fault) {
+            Ok(slip) => slip,
+            Err(_) => None,
+        },
     }
 }
 

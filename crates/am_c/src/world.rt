@@ -94,11 +94,11 @@ pub extern "C" fn am_new(
     match begin_boxed(alloc, head) {
         Ok(session) => {
             put(world, session);
-            *played = tell_of(head, 0, Ok(no_event()));
+            *played = tell_of(alloc, head, 0, Ok(no_event()));
             0
         }
         Err(fault) => {
-            *played = tell_of(head, 0, Err(fault));
+            *played = tell_of(alloc, head, 0, Err(fault));
             fault.kind.number()
         }
     }
@@ -137,7 +137,7 @@ pub extern "C" fn am_line(
     };
     let mut written = Vec::new(alloc);
     let went = play_line(alloc, &mut session, line, &mut written);
-    *played = tell(line, &written, went, out);
+    *played = tell(alloc, line, &written, went, out);
     drop(written);
     put(world, session);
     fault_number(went)
@@ -160,7 +160,7 @@ pub extern "C" fn am_answer(
     };
     let mut written = Vec::new(alloc);
     let went = tell_answer(&session, &mut written);
-    *played = tell(b"", &written, went, out);
+    *played = tell(alloc, b"", &written, went, out);
     drop(written);
     put(world, session);
     fault_number(went)
@@ -183,7 +183,7 @@ pub extern "C" fn am_observed(
     };
     let mut written = Vec::new(alloc);
     let went = tell_seen(&session, &mut written);
-    *played = tell(b"", &written, went, out);
+    *played = tell(alloc, b"", &written, went, out);
     drop(written);
     put(world, session);
     fault_number(went)
@@ -209,7 +209,7 @@ pub extern "C" fn am_text(
     let only = namespace_where(all, namespace);
     let mut written = Vec::new(alloc);
     let went = tell_world(alloc, &session, only, &mut written);
-    *played = tell(b"", &written, went, out);
+    *played = tell(alloc, b"", &written, went, out);
     drop(written);
     put(world, session);
     fault_number(went)

@@ -1,3 +1,4 @@
+pub mod Expectations
 pub mod Columns
 pub mod Events
 pub mod Fits
