@@ -337,9 +337,49 @@ static int is_same(enum view view, const char *of, const char *written)
 {
     struct am_played played;
     uint8_t number = plays(view, of, &played);
-    return number == 0 && played.fault == 0 && played.line == 0 && played.detail == 0
+    return number == 0 && played.fault == 0 && played.line == 0 && played.detail == 0 && played.column == 0
+        && played.expected == 0
         && played.bytes == strlen(written) && memcmp(out, written, strlen(written)) == 0
         && all_are(out + strlen(written), sizeof out - strlen(written), CANARY);
+}
+
+/* The fault of the script stands at this byte of its line, where this was expected. */
+static int slips(const char *of, uint64_t column, const char *words)
+{
+    struct am_played played;
+    uint8_t said[128];
+    size_t size = strlen(words);
+    return plays(PLAY, of, &played) != 0 && played.column == column
+        && am_expected_words(played.expected, said, sizeof said) == size && memcmp(said, words, size) == 0;
+}
+
+static void places_of_faults(void)
+{
+    static const char event[] = "the word of an event", path[] = "a path, which begins with /", end[] = "the end of the line";
+    IS(slips("events\ndead\n", 1, event) && slips("events\n  walks 1", 3, event));
+    IS(slips("events\nattach", 7, path) && slips("events\nattach \n", 8, path));
+    IS(slips("events\nwalk 7 0 auto 5 room\n", 10, path) && slips("events\nwalk\t7  0 auto 5 room\n", 11, path));
+    IS(slips("events\nwalk 7 0 /a 5 rom\n", 15, "room, full or gone"));
+    IS(slips("events\nwalk x 0 / 0 room\n", 6, "a walker, a number below 2^32"));
+    IS(slips("events\nresume 1 18446744073709551616 room\n", 10, "a moment in seconds, a number below 2^64"));
+    IS(slips("events\nact 1 ok 3\n", 10, end) && slips("events\ndie now\n", 5, end));
+    IS(slips("events\nact 1 fail 10\n", 12, "the number of an error, 1 to 9, or the end of the line"));
+    IS(slips("events\nnscopy 0 full\n", 10, "reduced or the end of the line"));
+    IS(slips("walk\n", 1, "limits, negative, master, map or events"));
+    IS(slips("\nmaster\n/auto auto.home\n", 1, "a line that is just end, below this one"));
+    IS(slips("limits 0 1 1\n", 8, "a limit, a number from 1 to 4294967295"));
+    IS(slips("limits 1 65537 1\n", 10, "the most waits, a number from 1 to 65536"));
+    IS(slips("master\n/a x\n/a y\nend\n", 1, "a mount point that no line above has"));
+    IS(slips("master\nauto x\nend\n", 1, "/- or a path below /"));
+    IS(slips("master\n/a x\nend\nmap x\nk srv\nend\nevents\n", 3, "a location host:/path"));
+    IS(slips("master\n/a x\nend\nmap x\nk \\\n  srv\nend\nevents\n", 5, "a location host:/path"));
+    IS(slips("master\n/a x\nend\nevents\n", 4, "the name of a map that has a section"));
+    memset(text, 'x', 8193);
+    text[8193] = 0;
+    IS(slips((const char *)text, 8193, end));
+    IS(am_expected_words(0, NULL, 0) == 0 && am_expected_words(UINT32_MAX, NULL, 0) == 0);
+    memset(out, CANARY, 8);
+    IS(am_expected_words(1, out, 3) == sizeof event - 1 && memcmp(out, "the", 3) == 0 && all_are(out + 3, 5, CANARY));
 }
 
 static void faults_of_scripts(void)
@@ -375,6 +415,7 @@ static void scripts(void)
         IS(view_of(view, NULL, 0, NULL, 0, &played) == 0 && all_are((uint8_t *)&played, sizeof played, 0));
     }
     faults_of_scripts();
+    places_of_faults();
 
     static const char two[] = "events\nchange 0 / shared\nnscopy 0\nmount 1 /a\n";
     uint64_t sizes[3];
@@ -761,6 +802,7 @@ static void odd_bytes(int rounds)
         for (enum view view = PLAY; view <= WORLD; view++) {
             uint8_t fault = view_of(view, text, len, out, 64, &played);
             IS(fault <= AM_SCRIPT_LONG_LINE && fault == played.fault && (fault > 0) == (played.line > 0));
+            IS((fault > 0) == (played.column > 0) && (fault > 0) == (played.expected > 0));
         }
     }
 }

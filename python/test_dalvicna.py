@@ -68,9 +68,12 @@ class Scripts(unittest.TestCase):
         with self.assertRaises(dalvicna.ScriptFault) as raised:
             dalvicna.play(HEAD + "attach /auto\nwalk\n")
         fault = raised.exception
-        self.assertEqual((fault.number, fault.word, fault.line, fault.expected), (6, "BadEvent", 9, "an event"))
+        self.assertEqual((fault.number, fault.word, fault.line, fault.expected), (6, "BadEvent", 9, "a walker, a number below 2^32"))
+        self.assertEqual(fault.column, 5)
         self.assertEqual(fault.written, "fs 2 attach 1 mount 2\n")
-        self.assertEqual(str(fault), "line 9: BadEvent: expected an event")
+        self.assertEqual(str(fault), "line 9, column 5: BadEvent: expected a walker, a number below 2^32")
+        again = pickle.loads(pickle.dumps(fault))
+        self.assertEqual((str(again), again.column, again.written), (str(fault), 5, fault.written))
         self.assertIsNone(fault.cause)
 
     def test_faults_of_maps(self):
@@ -169,17 +172,18 @@ class Worlds(unittest.TestCase):
 
     def test_faults_of_events(self):
         world = self.world()
-        for line in ("walk", "leave 7\n", "x" * 9000):
+        for line, column in (("walk", 5), ("leave 7\n", None), ("act 1 done", 7), ("x" * 9000, 8193)):
             with self.assertRaises(dalvicna.ScriptFault) as raised:
                 world.ask(line)
-            self.assertEqual((raised.exception.line, raised.exception.column), (1, None))
-        self.assertEqual((raised.exception.word, raised.exception.expected), ("LongLine", "a line of at most 8192 bytes"))
+            self.assertEqual((raised.exception.line, raised.exception.column), (1, column))
+        self.assertEqual((raised.exception.word, raised.exception.expected), ("LongLine", "the end of the line"))
         self.assertEqual(world.ask("attach /auto"), "fs 2 attach 1 mount 2")
 
     def test_faults_of_heads(self):
         with self.assertRaises(dalvicna.MasterFault) as raised:
             dalvicna.World(master="/a x\n/a y")
         self.assertEqual((raised.exception.word, raised.exception.line), ("Twice", 2))
+        self.assertEqual(str(raised.exception), "line 2, column 1: Twice: expected a mount point that no line above has")
         with self.assertRaises(dalvicna.MapFault) as raised:
             dalvicna.World((1000, 10, 10), "/a x\n/b y\n", {"x": "k h:/k", "y": "\nk"})
         self.assertEqual((raised.exception.word, raised.exception.line, raised.exception.map), ("NoLocation", 2, "y"))
@@ -188,7 +192,7 @@ class Worlds(unittest.TestCase):
         self.assertEqual((raised.exception.word, raised.exception.line), ("NoSuchMap", 2))
         with self.assertRaises(dalvicna.ScriptFault) as raised:
             dalvicna.World(limits=(0, 1, 1))
-        self.assertEqual(raised.exception.word, "BadLimits")
+        self.assertEqual((raised.exception.word, raised.exception.column), ("BadLimits", 8))
         with self.assertRaises(ValueError):
             dalvicna.World(master="/a x", maps={"x": "k h:/k\nend\n"})
         for name in ("", "n o", "a\nb"):
