@@ -249,3 +249,55 @@ is_column line words left a = record {
   begins = a.begins;
   counted = omega (arith, ap length a.parts, length-append a.front left);
 }
+
+-- ---- a word has one column
+
+some_word : (b : ℕ) (bytes : List ℕ) → is_blank b ≡ false → 0 < length (words_of (b ∷ bytes))
+some_word b bytes h = go (slice_split is_blank bytes) refl
+  where
+    go : (parts : List (List ℕ)) → slice_split is_blank bytes ≡ parts → 0 < length (words_of (b ∷ bytes))
+    go [] e = absurd (let none = ap length e in omega (arith, some_parts is_blank bytes))
+    go (part ∷ parts) e =
+        let kept : some_bytes (b ∷ part) ≡ true = grind (arith, nat_tests) in
+        rw (h, e, kept) (omega arith)
+
+-- of two fronts of one line the one goes on where the other ends
+data OneLonger (a b c d : List ℕ) : Type 0 where
+  first : (more : List ℕ) → a ≡ c ++ more → d ≡ more ++ b → OneLonger a b c d
+  second : (more : List ℕ) → c ≡ a ++ more → b ≡ more ++ d → OneLonger a b c d
+
+one_longer : (a b c d : List ℕ) → a ++ b ≡ c ++ d → OneLonger a b c d
+one_longer [] b c d e = second c refl e
+one_longer (x ∷ a) b [] d e = first (x ∷ a) refl (sym e)
+one_longer (x ∷ a) b (y ∷ c) d e = go (one_longer a b c d (let t : a ++ b ≡ c ++ d = cc in t))
+  where
+    same : x ≡ y
+    same = cc
+
+    go : OneLonger a b c d → OneLonger (x ∷ a) b (y ∷ c) d
+    go (first more p q) = first more (rw (same, p) refl) q
+    go (second more p q) = second more (rw (same, p) refl) q
+
+-- no word begins between two columns of one word
+none_between : (front more back : List ℕ) (words : List (List ℕ)) → BeginsWord front (more ++ back) → words_of front ≡ words → words_of (front ++ more) ≡ words → more ≡ []
+none_between front [] back words begins short long = refl
+none_between front (b ∷ more) back words begins short long =
+    absurd (omega (
+      arith,
+      some_word b more begins.1,
+      ap length (words_behind front (b ∷ more) begins.0),
+      ap length short,
+      ap length long,
+      length-append (words_of front) (words_of (b ∷ more)),
+    ))
+
+pub one_column : (line : List ℕ) (place a b : ℕ) → IsColumn line place a → IsColumn line place b → a ≡ b
+one_column line place a b p q = go (one_longer p.front p.back q.front q.back (sym p.parts ∙ q.parts))
+  where
+    go : OneLonger p.front p.back q.front q.back → a ≡ b
+    go (first more is rest) =
+        let none : more ≡ [] = none_between q.front more p.back (take place (words_of line)) (subst (BeginsWord q.front) rest q.begins) q.before (ap words_of (sym is) ∙ p.before) in
+        omega (arith, p.counted, q.counted, ap length is, length-append q.front more, ap length none)
+    go (second more is rest) =
+        let none : more ≡ [] = none_between p.front more q.back (take place (words_of line)) (subst (BeginsWord p.front) rest p.begins) p.before (ap words_of (sym is) ∙ q.before) in
+        omega (arith, p.counted, q.counted, ap length is, length-append p.front more, ap length none)

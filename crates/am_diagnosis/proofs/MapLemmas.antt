@@ -55,7 +55,7 @@ no_value word e = go (bytes_eq word (codes "--timeout")) refl
   where
     go : (b : Bool) → bytes_eq word (codes "--timeout") ≡ b → value_in word ≡ []
     go true h = rw ((bytes_eq-Decides word (codes "--timeout")).0 h) refl
-    go false h = let t : bytes_eq word (codes "-t") ≡ true = rw h at e in rw ((bytes_eq-Decides word (codes "-t")).0 t) refl
+    go false h = let t : bytes_eq word (codes "-t") ≡ true = rw h at e in rw ((bytes_eq-Decides word (codes "-t")).0 t) (refl {a = []})
 
 -- one option, behind which the others are read
 option_agrees : (place : ℕ) (timeout : ℕ) (word : List ℕ) (values words : Words) → takes_next word ≡ false → ((t : ℕ) → is_ok (timeout_of t values) ≡ is_none (misfit_of (place + 1) (MasterOption ∷ []) words)) → is_ok (timeout_of timeout (value_in word ++ values)) ≡ is_none (misfit_of place (MasterOption ∷ []) (word ∷ words))

@@ -3,6 +3,7 @@
 ghost use Rattle.std.specs.Prelude.{◌≡◌, ◌-◌, ◌∷◌, ◌++◌, ℕ, List, true, codes, drop};
 ghost use Rattle.std.specs.List.{All, list_all};
 ghost use Rattle.am_lines.specs.{lines_from};
+ghost use Rattle.am_diagnosis.specs.Columns.{IsColumn};
 ghost use Rattle.am_diagnosis.specs.Events.{event_misfit, IsEvent};
 ghost use Rattle.am_diagnosis.specs.Heads.{part_misfit, IsPart};
 ghost use Rattle.am_diagnosis.specs.Maps.{entry_parameters, served_parameters, IsEntry, IsServed, is_within, joined_in, section_text};
@@ -40,4 +41,10 @@ pub fn lines_of_sections_join_as_in_the_script()
     ensures { (lines below : List (List ℕ)) → list_all is_within lines ≡ true →
         All (λ line. line.bytes ≡ joined_in (drop (line.number - 1) lines ++ codes "end" ∷ below))
         (lines_from 1 (section_text lines)) }
+{}
+
+/// A word of a line begins at one byte alone.
+pub fn words_have_one_column()
+    ensures { (line : List ℕ) (place byte other : ℕ) → IsColumn line place byte →
+        IsColumn line place other → byte ≡ other }
 {}

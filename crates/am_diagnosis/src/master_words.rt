@@ -68,11 +68,11 @@ pub(crate) fn is_seconds(text: &[u8]) -> bool
     if text.is_empty() || !are_digits(text) {
         return false;
     }
-    fits(text)
+    fits_seconds(text)
 }
 
 /// Whether the number that digits write is one of 32 bits.
-fn fits(digits: &[u8]) -> bool
+fn fits_seconds(digits: &[u8]) -> bool
     ensures { result ≡ nat_le (number_of digits.now) 4294967295 }
 {
     let mut number: u64 = 0;

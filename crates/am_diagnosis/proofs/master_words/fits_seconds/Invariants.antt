@@ -1,7 +1,7 @@
 use Rattle.std.proofs.Common.{◌≡◌, ◌≤◌, ◌+◌, ◌*◌, ◌-◌, length}
 use Rattle.std.specs.Prelude.{fold}
 use Rattle.am_master.specs.Timeout.{number_of}
-use Rattle.am_diagnosis.proofs.master_words.fits.Given as goal
+use Rattle.am_diagnosis.proofs.master_words.fits_seconds.Given as goal
 
 abbrev pub invariant-loop-rest : goal.invariant-loop-rest
 invariant-loop-rest l = record {

@@ -1,6 +1,6 @@
 use Rattle.std.proofs.Common.{◌<◌, ◌+◌, ◌*◌, ◌-◌, get_or, refl, arith}
 use Rattle.am_master.proofs.DecimalLemmas.{too_big}
-use Rattle.am_diagnosis.proofs.master_words.fits.Goals as goal
+use Rattle.am_diagnosis.proofs.master_words.fits_seconds.Goals as goal
 
 pub returns-then-number-gt4294967295 : goal.returns-then-number-gt4294967295
 returns-then-number-gt4294967295 c =
