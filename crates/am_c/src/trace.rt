@@ -1,6 +1,8 @@
 //! Whether a trace is lawful, and which law it breaks.
 
-ghost use Rattle.std.specs.Prelude.{◌≡◌, ℕ, List, length};
+ghost use Rattle.std.specs.Prelude.{◌≡◌, ◌≢◌, ℕ, List, length, IfNone, IfSome};
+ghost use Rattle.am_laws.specs.{law_number};
+ghost use Rattle.am_laws.specs.declared.law.Law.{Law};
 ghost use Rattle.am_c.specs.Buffer.{with_front};
 ghost use Rattle.am_c.specs.Traces.{IsSentenceOf, Judges, expected_number, fault_number, judged_as, unread_as};
 
@@ -134,18 +136,28 @@ pub extern "C" fn am_law_sentence(number: u32, out: &mut [u8]) -> usize
 fn sentence_of(number: u32) -> &'static [u8]
     ensures { IsSentenceOf number result.now }
 {
+    match law_numbered(number) {
+        Some(law) => law.sentence().as_bytes(),
+        None => b"",
+    }
+}
+
+fn law_numbered(number: u32) -> Option<Law>
+    ensures some { IfSome result (λ law. law_number law ≡ number) }
+    ensures none { IfNone result ((law : Law) → law_number law ≢ number) }
+{
     match number {
-        1 => Law::QueuedOnce.sentence().as_bytes(),
-        2 => Law::WaitsOnOpen.sentence().as_bytes(),
-        3 => Law::DeliveredFromQueue.sentence().as_bytes(),
-        4 => Law::DeliveredOnce.sentence().as_bytes(),
-        5 => Law::AnsweredWhileOpen.sentence().as_bytes(),
-        6 => Law::AnsweredAfterDelivery.sentence().as_bytes(),
-        7 => Law::AnswerReleasesAll.sentence().as_bytes(),
-        8 => Law::CatatonicReleasesAll.sentence().as_bytes(),
-        9 => Law::ReleasedByCause.sentence().as_bytes(),
-        10 => Law::PassesNoExpiry.sentence().as_bytes(),
-        11 => Law::UnmountsUnused.sentence().as_bytes(),
-        _ => b"",
+        1 => Some(Law::QueuedOnce),
+        2 => Some(Law::WaitsOnOpen),
+        3 => Some(Law::DeliveredFromQueue),
+        4 => Some(Law::DeliveredOnce),
+        5 => Some(Law::AnsweredWhileOpen),
+        6 => Some(Law::AnsweredAfterDelivery),
+        7 => Some(Law::AnswerReleasesAll),
+        8 => Some(Law::CatatonicReleasesAll),
+        9 => Some(Law::ReleasedByCause),
+        10 => Some(Law::PassesNoExpiry),
+        11 => Some(Law::UnmountsUnused),
+        _ => None,
     }
 }
