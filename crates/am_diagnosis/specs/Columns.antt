@@ -23,7 +23,8 @@ pub record IsSkipped (p : ℕ → Bool) (bytes rest : List ℕ) : Type 0 where
 
 -- these bytes are none, or end in a blank
 abbrev pub EndsBlank : List ℕ → Type 0
-EndsBlank bytes = (bytes ≡ []) ⊎ ((front : List ℕ) × (b : ℕ) × (bytes ≡ front ++ b ∷ []) × (is_blank b ≡ true))
+EndsBlank bytes =
+    (bytes ≡ []) ⊎ ((front : List ℕ) × (b : ℕ) × (bytes ≡ front ++ b ∷ []) × (is_blank b ≡ true))
 
 -- behind these bytes a word begins with those, or nothing is left
 abbrev pub BeginsWord : List ℕ → List ℕ → Type 0

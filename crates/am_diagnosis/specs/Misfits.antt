@@ -28,7 +28,8 @@ pub record IsFirstMisfit (Good : Words → Type 0) (words : Words) (place : ℕ)
 -- What is expected at this place is what good lines have there that begin with the words before it:
 -- just the words that fit, or the end where it may stand there.
 pub record TellsWhatFits (Good : Words → Type 0) (words : Words) (place : ℕ) (expected : Expected) : Type 0 where
-  pub fitting : (word : List ℕ) → (fits expected word ≡ true) ↔ IsBeginning Good (take place words ++ word ∷ [])
+  pub fitting : (word : List ℕ) →
+      (fits expected word ≡ true) ↔ IsBeginning Good (take place words ++ word ∷ [])
   pub ending : (may_end expected ≡ true) ↔ Good (take place words)
 
 -- Of words the first of which stands at this place of its line, the misfit is the first, and tells
