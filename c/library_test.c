@@ -134,6 +134,18 @@ static int short_of_a_world(void)
     return holds && fault == 0 && played.bytes == bytes && memcmp(mine, whole, bytes) == 0;
 }
 
+/* The fault of a line that is joined has its place, unless there is no memory to join it. */
+static int short_of_a_joined_line(void)
+{
+    static const char joined[] = "master\n/a x\nend\nmap x\nk \\\n srv\nend\nevents\n";
+    struct am_played played;
+    uint8_t fault = am_play((const uint8_t *)joined, sizeof joined - 1, out, sizeof out, &played);
+    if (fault == AM_SCRIPT_NO_MEMORY)
+        return played.column == 0 && played.expected == 0;
+    return fault == AM_SCRIPT_BAD_MAP && played.line == 5
+        && (played.column == 4 || (played.column == 0 && played.expected == 0));
+}
+
 static int short_of_memory(void)
 {
     static const char map[] = "home -ro srv:/export/&\n", master[] = "/auto auto.home --timeout=60\n";
@@ -152,7 +164,7 @@ static int short_of_memory(void)
     holds &= fault == 0 ? judged.lawful == 1 : fault == AM_TRACE_NO_MEMORY && judged.line == 0;
     for (enum view view = PLAY; view <= WORLD; view++)
         holds &= short_of_room(view);
-    holds &= short_of_a_world();
+    holds &= short_of_a_world() && short_of_a_joined_line();
     return !holds;
 }
 
