@@ -383,8 +383,9 @@ static void places_of_faults(void)
     IS(slips("limits 1 65537 1\n", 10, "the most waits, a number from 1 to 65536"));
     IS(slips("master\n/a x\n/a y\nend\n", 1, "a mount point that no line above has"));
     IS(slips("master\nauto x\nend\n", 1, "/- or a path below /"));
-    IS(slips("master\n/a x\nend\nmap x\nk srv\nend\nevents\n", 3, "a location host:/path"));
-    IS(slips("master\n/a x\nend\nmap x\nk \\\n  srv\nend\nevents\n", 5, "a location host:/path"));
+    IS(slips("master\n/a x\nend\nmap x\nk -ro srv\nend\nevents\n", 7, "a location host:/path"));
+    IS(slips("master\n/a x\nend\nmap x\nk \\\n  srv\nend\nevents\n", 5,
+             "options behind a dash, or a location host:/path"));
     IS(slips("master\n/a x\nend\nevents\n", 4, "the name of a map that has a section"));
     memset(text, 'x', 8193);
     text[8193] = 0;

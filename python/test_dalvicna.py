@@ -82,7 +82,7 @@ class Scripts(unittest.TestCase):
         self.assertIsInstance(told.cause, dalvicna.MasterFault)
         told = dalvicna.played("master\n/a x\nend\nmap x\nk\nend\nevents\n").fault
         self.assertEqual((told.number, told.word), (4, "NoLocation"))
-        self.assertEqual(str(told), "line 5: NoLocation: expected a location")
+        self.assertEqual(str(told), "line 5, column 2: NoLocation: expected options behind a dash, or a location host:/path")
 
     def test_a_fault_is_pickled(self):
         fault = dalvicna.played("master\n/a x\n/a y\nend\n").fault
