@@ -24,7 +24,7 @@ usage: tools/scripts.py                    plays all of them; the last line coun
   says.
 - `.twice` is a script that says each event twice, with the answers of `NAME.out`.
 - `.events` has lines of events: in the trace each is the event that is spelled so.
-- `.traces` has short traces, each lawful or not (tools/laws.py).
+- `.traces` has short traces, each lawful or not (tools/laws.py); `.lines` is tools/judge.py's.
 
 Each script is played whole, from a reader that gives 1, 7, 4,095 or 4,096 bytes at a time, and whole by `trace`, of
 which the answers are the same and the laws hold. Long scripts and long lines are played besides.
@@ -454,8 +454,8 @@ CASES = {"cases": is_case, "broken": is_broken_case, "cuts": is_piece, "short": 
          "digits": is_case_with_each}
 LINES = {"events": is_event, "traces": is_judged}
 SCRIPTS = ("script", "twice")
-#: What stands beside a script.
-BESIDE = ("out", "fault", "trace", "world", "svg")
+#: What stands beside a script, and what tools/judge.py reads.
+BESIDE = ("out", "fault", "trace", "world", "svg", "lines")
 
 
 def parts_of(path):
