@@ -91,9 +91,9 @@ Leaves (DrawStopped first last fault) input rest old new quiet told =
 Leaves (Shown only summary) input rest old new quiet told = ShowsInput only input rest old new summary × (told ≡ quiet)
 Leaves (ShowStopped only fault) input rest old new quiet told = StopsShowing only input rest old new fault
 Leaves (Ran walkers workers rounds tally) input rest old new quiet told =
-    IsTally tally × (rest ≡ input) × Appends old new (rounds_line tally.rounds) × (told ≡ quiet)
+    IsTally walkers workers rounds tally × (rest ≡ input) × Appends old new (rounds_line tally.rounds) × (told ≡ quiet)
 Leaves (Untold walkers workers rounds tally) input rest old new quiet told =
-    IsTally tally × (rest ≡ input)
+    IsTally walkers workers rounds tally × (rest ≡ input)
 Leaves (NotRun walkers workers rounds) input rest old new quiet told = (rest ≡ input) × (new ≡ old)
 Leaves (Refused fault) input rest old new quiet told = (rest ≡ input) × (new ≡ old)
 
