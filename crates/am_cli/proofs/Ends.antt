@@ -45,10 +45,10 @@ ends_judge_stopped input rest old new quiet told fault status stops e = record {
 pub ends_refused : (input old quiet told : Option (List ℕ)) (fault : ArgsFault) (status : ℕ) → status ≡ fault_number fault → Exits None input input old old quiet told status
 ends_refused input old quiet told fault status e = record { end = Refused fault; asked_is = refl; status_is = e; streams = (refl, refl) }
 
-pub ends_ran : (walkers workers rounds : ℕ) (input old new quiet : Option (List ℕ)) (tally : Tally) → IsTally tally → Appends old new (rounds_line tally.rounds) → Exits (Some (Threads walkers workers rounds)) input input old new quiet quiet 0
+pub ends_ran : (walkers workers rounds : ℕ) (input old new quiet : Option (List ℕ)) (tally : Tally) → IsTally walkers workers rounds tally → Appends old new (rounds_line tally.rounds) → Exits (Some (Threads walkers workers rounds)) input input old new quiet quiet 0
 ends_ran walkers workers rounds input old new quiet tally counted written = record { end = Ran walkers workers rounds tally; asked_is = refl; status_is = refl; streams = (counted, refl, written, refl) }
 
-pub ends_untold : (walkers workers rounds : ℕ) (input old new quiet told : Option (List ℕ)) (tally : Tally) → IsTally tally → Exits (Some (Threads walkers workers rounds)) input input old new quiet told 1
+pub ends_untold : (walkers workers rounds : ℕ) (input old new quiet told : Option (List ℕ)) (tally : Tally) → IsTally walkers workers rounds tally → Exits (Some (Threads walkers workers rounds)) input input old new quiet told 1
 ends_untold walkers workers rounds input old new quiet told tally counted = record { end = Untold walkers workers rounds tally; asked_is = refl; status_is = refl; streams = (counted, refl) }
 
 pub ends_not_run : (walkers workers rounds : ℕ) (input old quiet told : Option (List ℕ)) (status : ℕ) → status ≡ 1 → Exits (Some (Threads walkers workers rounds)) input input old old quiet told status

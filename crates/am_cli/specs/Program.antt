@@ -110,9 +110,9 @@ Leaves (ShowStopped only fault) input rest old new quiet told = StopsShowing onl
 Leaves (Judged verdict) input rest old new quiet told = JudgesInput input rest old new verdict × (told ≡ quiet)
 Leaves (JudgeStopped fault) input rest old new quiet told = StopsJudging input rest old new fault
 Leaves (Ran walkers workers rounds tally) input rest old new quiet told =
-    IsTally tally × (rest ≡ input) × Appends old new (rounds_line tally.rounds) × (told ≡ quiet)
+    IsTally walkers workers rounds tally × (rest ≡ input) × Appends old new (rounds_line tally.rounds) × (told ≡ quiet)
 Leaves (Untold walkers workers rounds tally) input rest old new quiet told =
-    IsTally tally × (rest ≡ input)
+    IsTally walkers workers rounds tally × (rest ≡ input)
 Leaves (NotRun walkers workers rounds) input rest old new quiet told = (rest ≡ input) × (new ≡ old)
 Leaves (Refused fault) input rest old new quiet told = (rest ≡ input) × (new ≡ old)
 

@@ -210,9 +210,9 @@ fn run_crowd<T: Threads + Wait + Sync, W: Write, E: Write>(
 }
 
 fn tell<W: Write, E: Write>(writer: &mut W, errors: &mut E, tally: Tally) -> u8
-    requires { IsTally tally }
-    ensures { (walkers workers rounds : ℕ) (input : Option (List ℕ)) → Exits
-        (Some (asks.Threads walkers workers rounds)) input input (W.contents writer.old)
+    ensures { (walkers workers rounds : ℕ) (input : Option (List ℕ))
+        → IsTally walkers workers rounds tally
+        → Exits (Some (asks.Threads walkers workers rounds)) input input (W.contents writer.old)
         (W.contents writer.new) (E.contents errors.old) (E.contents errors.new) result }
 {
     match write_rounds(writer, tally.rounds) {

@@ -1,6 +1,6 @@
 //! What a run came to.
 
-ghost use Rattle.std.specs.Prelude.{◌≡◌, is_some, IfSome};
+ghost use Rattle.std.specs.Prelude.{◌≡◌};
 ghost use Rattle.std.specs.List.{count_by};
 ghost use Rattle.am_machine.specs.declared.answer.Answer.TheVariants.{Refused};
 ghost use Rattle.am_runner.specs.Runs.{is_out_of_memory, is_walk, is_round, is_entered, is_left, IsTallyOf};
@@ -106,18 +106,14 @@ fn left_in(trace: &[Obs]) -> usize
     left
 }
 
-/// The tally of a world; none where the receipts of the callers don't match its history.
-pub fn tally_of(shared: &Shared, is_matched: bool) -> Option<Tally>
-    ensures tally { IfSome result (λ tally. IsTallyOf tally shared.now) }
-    ensures matched { is_some result ≡ is_matched }
+/// The tally of a world.
+pub fn tally_of(shared: &Shared) -> Tally
+    ensures { IsTallyOf result shared.now }
 {
-    if !is_matched {
-        return None;
-    }
     let trace = shared.world().trace();
-    Some(Tally {
+    Tally {
         rounds: rounds_in(shared.history()) as u64,
         entered: entered_in(trace) as u64,
         left: left_in(trace) as u64,
-    })
+    }
 }

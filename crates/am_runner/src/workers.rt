@@ -27,15 +27,17 @@ pub trait Gate {
 /// What mounts and unmounts for a worker, and tells with which number that failed, if it did. The
 /// worker doesn't hold the lock meanwhile.
 pub trait Backend {
-    fn mount(&mut self, entry: &Entry) -> Result<(), FailNo>;
+    /// Mounts what the entry of a map says where the trigger is.
+    fn mount(&mut self, trigger: &Trigger, entry: &Entry) -> Result<(), FailNo>;
 
+    /// Unmounts what is mounted there.
     fn umount(&mut self, trigger: &Trigger) -> Result<(), FailNo>;
 }
 
 /// Does without the lock what an act asks for. Tells the number of its failure, if it failed.
 fn perform<B: Backend>(backend: &mut B, act: &Act) -> Option<FailNo> {
     match act {
-        Act::Mount { entry, .. } => backend.mount(entry).err(),
+        Act::Mount { trigger, entry } => backend.mount(trigger, entry).err(),
         Act::Umount { trigger } => backend.umount(trigger).err(),
         _ => None,
     }

@@ -8,7 +8,6 @@ mod events;
 mod releases;
 mod rows;
 mod runner;
-mod seats;
 mod shared;
 mod sizes;
 mod worlds;

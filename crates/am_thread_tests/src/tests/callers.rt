@@ -3,9 +3,10 @@
 
 ghost use Rattle.std.specs.Prelude.{◌≡◌, ◌<◌, []};
 
-use crate::tests::worlds::{Beginning, call, is_line, world_and_ends};
+use crate::tests::worlds::{call, is_line, world_and_ends};
 use am_names::Errno;
 use am_pipe::{Note, PutEnd, TakeEnd, pipe};
+use am_runner::Opening;
 use am_shared::{Caller, Opened, Receipt, Shared, gather, share};
 use am_world::Answer;
 use std::alloc::{AllocError, Global};
@@ -161,7 +162,7 @@ fn played<L: Opened, R: Wait + Abort>(
     rt: &R,
     alloc: Global,
     blank: Blank,
-    begun: Beginning,
+    begun: Opening,
     put: PutEnd,
     callers: u32,
 ) -> Result<(), AllocError>
@@ -174,7 +175,7 @@ fn played<L: Opened, R: Wait + Abort>(
     } }
     requires put { put.sent ≡ [] }
 {
-    let Beginning {
+    let Opening {
         limits,
         master,
         maps,

@@ -3,10 +3,11 @@
 ghost use Rattle.std.specs.Prelude.{◌≡◌, ◌<◌, []};
 
 use crate::tests::sizes::number;
-use crate::tests::worlds::{Beginning, call, world_and_ends, world_of};
+use crate::tests::worlds::{call, world_and_ends, world_of};
 use am_machine::Entry;
 use am_names::{JobId, Token, WalkerId};
 use am_pipe::{PutEnd, pipe};
+use am_runner::Opening;
 use am_shared::{Caller, Opened, Shared, gather, share};
 use am_state::Obs;
 use am_world::laws::trace_holds;
@@ -259,7 +260,7 @@ fn crowd<L: Opened + Send + Sync, R: Threads + Wait + Abort + Sync>(
     rt: &R,
     alloc: Global,
     blank: Blank,
-    begun: Beginning,
+    begun: Opening,
     put: PutEnd,
     size: Size,
 ) -> Result<(), AllocError>
@@ -272,7 +273,7 @@ fn crowd<L: Opened + Send + Sync, R: Threads + Wait + Abort + Sync>(
     } }
     requires put { put.sent ≡ [] }
 {
-    let Beginning {
+    let Opening {
         limits,
         master,
         maps,

@@ -1,30 +1,25 @@
 //! The daemon dies, again and again, while walkers walk and workers serve. What is seen stays
 //! lawful, and what fails has the number that the backend told.
 
-ghost use Rattle.std.specs.Prelude.{◌≡◌, ◌<◌, [], vec_len, IfOk};
-
-use crate::tests::seats::{Seat, callers_of, seats_of};
 use crate::tests::sizes::number;
-use crate::tests::worlds::{Beginning, call, world_and_failures};
+use crate::tests::worlds::world_and_failures;
 use am_machine::{Answer, Entry, Event};
 use am_map::Entry as MapEntry;
-use am_names::{AbsPath, FailNo, FsId, Seconds, Trigger, WalkerId};
-use am_pipe::{PutEnd, TakeEnd, pipe};
-use am_runner::{Backend, Gate, breaker, daemon_worker, walker};
-use am_shared::{Caller, Opened, Shared, gather, share};
+use am_names::{Errno, FailNo, Seconds, Trigger};
+use am_runner::{Backend, Gate, Run, run_with};
+use am_shared::Shared;
 use am_world::laws::trace_holds;
 use std::alloc::{AllocError, Global};
-use std::marker::Brand;
 use std::process::Abort;
 use std::sync::Wait;
-use std::sync::atomic::{AtomicBool, AtomicU32, Ordering};
-use std::sync::ledger::Blank;
+use std::sync::atomic::{AtomicU32, Ordering};
 use std::test::*;
-use std::thread;
 use std::thread::Threads;
 
 /// Every key is mounted from one place.
 const ANY: &[u8] = b"* srv:/any";
+
+static PATHS: [&[u8]; 3] = [b"/auto/k0", b"/auto/k1", b"/auto/k2"];
 
 /// How many walkers make how many rounds beside how many workers, and how often the daemon dies.
 #[derive(Clone, Copy)]
@@ -57,7 +52,7 @@ struct FailsInTurn<'a> {
 }
 
 impl Backend for FailsInTurn<'_> {
-    fn mount(&mut self, _entry: &MapEntry) -> Result<(), FailNo> {
+    fn mount(&mut self, _trigger: &Trigger, _entry: &MapEntry) -> Result<(), FailNo> {
         match self.mounts.fetch_add(1, Ordering::SeqCst) % 4 {
             1 => Err(FailNo::EPERM),
             3 => Err(FailNo::ENOSPC),
@@ -70,122 +65,15 @@ impl Backend for FailsInTurn<'_> {
     }
 }
 
-/// What the threads of a run have in common.
-#[derive(Drop)]
-struct Common {
-    size: Size,
-    fs: FsId,
-    /// How many walkers, and who breaks, are back.
-    back: AtomicU32,
-    stop: AtomicBool,
-    /// How many mounts the workers have tried.
-    mounts: AtomicU32,
-}
-
-fn all_seats(size: Size) -> u32 {
-    size.walkers.wrapping_add(size.workers).wrapping_add(1)
-}
-
-fn walks<L: Opened, R: Wait>(
-    rt: &R,
-    alloc: Global,
-    common: &Common,
-    caller: &mut Caller<L>,
-    number: u32,
-) {
-    let text: &[u8] = match number % 3 {
-        0 => b"/auto/k0",
-        1 => b"/auto/k1",
-        _ => b"/auto/k2",
-    };
-    if let Ok(path) = AbsPath::read(text) {
-        let rounds = common.size.rounds;
-        let _ = walker(rt, alloc, caller, WalkerId(number), &path, rounds);
-    }
-}
-
-/// The last that comes back tells the workers to stop.
-fn asks<L: Opened, R: Wait>(
-    rt: &R,
-    alloc: Global,
-    common: &Common,
-    caller: &mut Caller<L>,
-    number: u32,
-) {
-    if number.wrapping_add(1) == all_seats(common.size) {
-        let _ = breaker(rt, alloc, caller, common.fs, common.size.breaks);
-    } else {
-        walks(rt, alloc, common, caller, number);
-    }
-    if common.back.fetch_add(1, Ordering::SeqCst) == common.size.walkers {
-        common.stop.store(true, Ordering::SeqCst);
-    }
-}
-
-fn works<L: Opened, R: Wait>(
-    rt: &R,
-    alloc: Global,
-    common: &Common,
-    caller: &mut Caller<L>,
-    taker: &mut TakeEnd,
-) {
-    let mut backend = FailsInTurn {
-        mounts: &common.mounts,
-    };
-    let _ = daemon_worker(rt, alloc, caller, taker, &Open, &mut backend, &common.stop);
-}
-
-fn takes_part<L: Opened, R: Wait>(
-    rt: &R,
-    alloc: Global,
-    common: &Common,
-    index: usize,
-    seat: &mut Seat<L>,
-) {
-    match &mut seat.taker {
-        Some(taker) => works(rt, alloc, common, &mut seat.caller, taker),
-        None => {
-            let number = u32::try_from(index).unwrap_or(0);
-            asks(rt, alloc, common, &mut seat.caller, number);
-        }
-    }
-}
-
-/// So many callers, when all have made their rounds and the workers have stopped.
-fn all_back<L: Opened + Send + Sync, R: Threads + Wait + Abort + Sync>(
-    rt: &R,
-    alloc: Global,
-    common: &Common,
-    count: u32,
-    callers: Vec<Caller<L>>,
-    takers: Vec<TakeEnd>,
-) -> Result<Vec<Caller<L>>, AllocError>
-    requires { 0 < count }
-    ensures { IfOk result (λ back. vec_len back ≡ count) }
-{
-    let mut seats = seats_of(alloc, callers, takers)?;
-    thread::for_each_mut(
-        rt,
-        seats.as_mut_slice(),
-        count as usize,
-        &|index, seat| takes_part(rt, alloc, common, index, seat),
-    );
-    let back = callers_of(alloc, seats)?;
-    if back.len() != count as usize {
-        return Err(AllocError);
-    }
-    Ok(back)
-}
-
 /// What is left when all is over.
 #[derive(Clone, Copy)]
 struct End {
-    count: u64,
-    calls: usize,
-    test: bool,
     is_lawful: bool,
     /// How many acts failed with one number, and with the other.
-    failed: [u64; 2],
+    failed: [usize; 2],
+    /// How often the daemon died, and attached again.
+    deaths: usize,
+    reattachments: usize,
 }
 
 fn is_failed(entry: &Entry, no: FailNo) -> bool {
@@ -195,87 +83,40 @@ fn is_failed(entry: &Entry, no: FailNo) -> bool {
     }
 }
 
-/// How many acts failed with this number.
-fn failed(history: &[Entry], no: FailNo) -> u64 {
-    let mut count = 0_u64;
-    for entry in history {
-        if is_failed(entry, no) {
-            count = count.wrapping_add(1);
-        }
+fn is_out_of_memory(entry: &Entry) -> bool {
+    match &entry.answer {
+        Answer::Refused { errno } => *errno == Errno::NoMemory,
+        _ => false,
     }
-    count
 }
 
-fn end_of(shared: &Shared, count: u64, test: bool) -> End {
+fn is_death(entry: &Entry) -> bool {
+    matches!(entry.event, Event::Die) && !is_out_of_memory(entry)
+}
+
+fn is_reattachment(entry: &Entry) -> bool {
+    matches!(entry.event, Event::Reattach { .. }) && !is_out_of_memory(entry)
+}
+
+/// How many acts failed with this number.
+fn failed(history: &[Entry], no: FailNo) -> usize {
+    history.iter().filter(|entry| is_failed(*entry, no)).count()
+}
+
+fn end_of(shared: &Shared) -> End {
     let history = shared.history();
     End {
-        count,
-        calls: history.len(),
-        test,
         is_lawful: trace_holds(shared.world().trace()),
         failed: [
             failed(history, FailNo::EPERM),
             failed(history, FailNo::ENOSPC),
         ],
+        deaths: history.iter().filter(|entry| is_death(*entry)).count(),
+        reattachments: history
+            .iter()
+            .filter(|entry| is_reattachment(*entry))
+            .count(),
     }
-}
-
-/// An autofs at /auto.
-fn attach<L: Opened, R: Wait>(rt: &R, alloc: Global, callers: &mut [Caller<L>]) -> Option<FsId> {
-    let first = callers.first_mut()?;
-    match call(rt, alloc, first, b"attach /auto")?.answer {
-        Answer::Attached { fs, .. } => Some(fs),
-        _ => None,
-    }
-}
-
-fn dies<L: Opened + Send + Sync, R: Threads + Wait + Abort + Sync>(
-    rt: &R,
-    alloc: Global,
-    blank: Blank,
-    begun: Beginning,
-    put: PutEnd,
-    takers: Vec<TakeEnd>,
-    size: Size,
-    seats: u32,
-) -> Result<(), AllocError>
-    requires blank { (blank.name ≡ L.name) × (blank.parts ≡ L.parts) }
-    requires seats { (blank.parts ≡ seats) × (0 < seats) }
-    requires opening { L.opening ≡ record {
-      limits = begun.limits;
-      master = begun.master;
-      maps = begun.maps.items;
-    } }
-    requires put { put.sent ≡ [] }
-{
-    let Beginning {
-        limits,
-        master,
-        maps,
-    } = begun;
-    let mut callers = share::<L>(alloc, blank, limits, master, maps, put, seats)?;
-    let Some(fs) = attach(rt, alloc, callers.as_mut_slice()) else {
-        panic!(rt; "no autofs");
-    };
-    let common = Common {
-        size,
-        fs,
-        back: AtomicU32::new(0),
-        stop: AtomicBool::new(false),
-        mounts: AtomicU32::new(0),
-    };
-    let back = all_back(rt, alloc, &common, seats, callers, takers)?;
-    let end = gather(rt, back, |shared, count, test| end_of(shared, count, test));
-    assert!(rt; end.count == end.calls as u64, "each call is counted");
-    assert!(rt; end.test, "each call has its receipt");
-    assert!(rt; end.is_lawful, "the trace is lawful");
-    let mounts = common.mounts.load(Ordering::SeqCst) as u64;
-    assert!(rt;
-        end.failed[0] == (mounts + 2) / 4,
-        "each first failure is told"
-    );
-    assert!(rt; end.failed[1] == mounts / 4, "each second failure is told");
-    Ok(())
 }
 
 fn size_of(rt: &HostRuntime) -> Size {
@@ -294,13 +135,45 @@ fn plays<R: Threads + Wait + Abort + Sync>(
     size: Size,
     negative: Seconds,
 ) -> Result<(), AllocError> {
-    let seats = all_seats(size);
-    assert!(rt; seats > 0, "a seat at least");
-    assert!(rt; size.workers > 0, "a worker at least");
-    let begun = world_and_failures(alloc, ANY, negative)?;
-    let (put, takers) = pipe(alloc, 64, size.workers as usize)?;
-    let blank = Blank::new(seats as u64);
-    dies::<Brand, R>(rt, alloc, blank, begun, put, takers, size, seats)
+    let mounts = AtomicU32::new(0);
+    let mut backends = Vec::new(alloc);
+    for _ in 0..size.workers {
+        backends.push(FailsInTurn { mounts: &mounts })?;
+    }
+    let run = Run {
+        point: b"/auto",
+        paths: &PATHS,
+        walkers: size.walkers,
+        rounds: size.rounds,
+        breaks: size.breaks,
+        capacity: 64,
+    };
+    assert!(rt;
+        !backends.is_empty() && backends.len() < 1_000,
+        "some workers"
+    );
+    assert!(rt; run.walkers < 1_000, "some walkers");
+    let opening = world_and_failures(alloc, ANY, negative)?;
+    let end = run_with(
+        rt,
+        alloc,
+        opening,
+        run,
+        &Open,
+        backends,
+        |shared| end_of(shared),
+    )?
+    .found;
+    assert!(rt; end.is_lawful, "the trace is lawful");
+    let mounts = mounts.load(Ordering::SeqCst) as usize;
+    assert!(rt;
+        end.failed[0] == (mounts + 2) / 4,
+        "each first failure is told"
+    );
+    assert!(rt; end.failed[1] == mounts / 4, "each second failure is told");
+    assert_eq!(rt; end.deaths, size.breaks as usize);
+    assert_eq!(rt; end.reattachments, size.breaks as usize);
+    Ok(())
 }
 
 #[test]

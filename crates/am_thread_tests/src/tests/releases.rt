@@ -2,9 +2,10 @@
 
 ghost use Rattle.std.specs.Prelude.{◌≡◌, []};
 
-use crate::tests::worlds::{Beginning, call, is_line, world_and_ends};
+use crate::tests::worlds::{call, is_line, world_and_ends};
 use am_names::WalkerId;
 use am_pipe::{PutEnd, pipe};
+use am_runner::Opening;
 use am_shared::{Caller, Opened, gather, share};
 use std::alloc::{AllocError, Global};
 use std::marker::Brand;
@@ -29,10 +30,16 @@ fn answers<L: Opened, R: Wait>(
     }
 }
 
-/// Once it is released, the walk goes on at once.
-fn walks<L: Opened, R: Wait>(rt: &R, alloc: Global, caller: &mut Caller<L>) -> bool {
+/// Once it is released, the walk goes on at once. Where nobody serves it any more, it isn't released.
+fn walks<L: Opened, R: Wait>(
+    rt: &R,
+    alloc: Global,
+    caller: &mut Caller<L>,
+    is_served: bool,
+) -> bool {
     caller.wait_release(rt, WalkerId(7));
-    answers(rt, alloc, caller, b"resume 7 101 room", b"at 3 /\n")
+    let wanted: &[u8] = if is_served { b"at 3 /\n" } else { b"err 11\n" };
+    answers(rt, alloc, caller, b"resume 7 101 room", wanted)
 }
 
 fn serves<L: Opened, R: Wait>(rt: &R, alloc: Global, caller: &mut Caller<L>) -> bool {
@@ -43,6 +50,20 @@ fn serves<L: Opened, R: Wait>(rt: &R, alloc: Global, caller: &mut Caller<L>) -> 
         && answers(rt, alloc, caller, b"act 1 ok", b"did reply\n")
 }
 
+/// Serves the walk, or gives up.
+fn serves_or_not<L: Opened, R: Wait>(
+    rt: &R,
+    alloc: Global,
+    caller: &mut Caller<L>,
+    is_served: bool,
+) -> bool {
+    if is_served {
+        return serves(rt, alloc, caller);
+    }
+    caller.give_up(rt);
+    true
+}
+
 /// The first caller is the walker, and the second the daemon.
 fn takes_part<L: Opened, R: Wait>(
     rt: &R,
@@ -50,11 +71,12 @@ fn takes_part<L: Opened, R: Wait>(
     done: &AtomicU32,
     index: usize,
     caller: &mut Caller<L>,
+    is_served: bool,
 ) {
     let right = if index == 0 {
-        walks(rt, alloc, caller)
+        walks(rt, alloc, caller, is_served)
     } else {
-        serves(rt, alloc, caller)
+        serves_or_not(rt, alloc, caller, is_served)
     };
     if right {
         done.fetch_add(1, Ordering::SeqCst);
@@ -84,8 +106,9 @@ fn released<L: Opened + Send + Sync, R: Threads + Wait + Abort + Sync>(
     rt: &R,
     alloc: Global,
     blank: Blank,
-    begun: Beginning,
+    begun: Opening,
     put: PutEnd,
+    is_served: bool,
 ) -> Result<(), AllocError>
     requires blank { (blank.name ≡ L.name) × (blank.parts ≡ L.parts) × (blank.parts ≡ 2) }
     requires opening { L.opening ≡ record {
@@ -95,7 +118,7 @@ fn released<L: Opened + Send + Sync, R: Threads + Wait + Abort + Sync>(
     } }
     requires put { put.sent ≡ [] }
 {
-    let Beginning {
+    let Opening {
         limits,
         master,
         maps,
@@ -110,19 +133,33 @@ fn released<L: Opened + Send + Sync, R: Threads + Wait + Abort + Sync>(
         rt,
         callers.as_mut_slice(),
         2,
-        &|index, caller| takes_part(rt, alloc, &done, index, caller),
+        &|index, caller| takes_part(rt, alloc, &done, index, caller, is_served),
     );
     assert_eq!(rt; done.load(Ordering::SeqCst), 2);
     let (count, test) = gather(rt, callers, |_shared, count, test| (count, test));
-    assert!(rt; count == 8 && test, "eight calls");
+    let calls = if is_served { 8 } else { 3 };
+    assert!(rt; count == calls && test, "each call");
     Ok(())
+}
+
+fn plays<R: Threads + Wait + Abort + Sync>(
+    rt: &R,
+    alloc: Global,
+    is_served: bool,
+) -> Result<(), AllocError> {
+    let begun = world_and_ends(alloc, b"home srv:/home")?;
+    let (put, _takers) = pipe(alloc, 1, 1)?;
+    released::<Brand, R>(rt, alloc, Blank::new(2), begun, put, is_served)
 }
 
 #[test]
 fn a_walker_waits_for_its_release(rt: HostRuntime) -> Result<(), Fail> {
-    let alloc = rt.alloc();
-    let begun = world_and_ends(alloc, b"home srv:/home")?;
-    let (put, _takers) = pipe(alloc, 1, 1)?;
-    released::<Brand, HostRuntime>(&rt, alloc, Blank::new(2), begun, put)?;
+    plays(&rt, rt.alloc(), true)?;
+    Ok(())
+}
+
+#[test]
+fn nobody_waits_for_who_gave_up(rt: HostRuntime) -> Result<(), Fail> {
+    plays(&rt, rt.alloc(), false)?;
     Ok(())
 }

@@ -1,12 +1,10 @@
 //! What a shared world begins with, events that are read from their lines, and the calls that are
 //! made.
 
-ghost use Rattle.std.specs.Prelude.{◌≡◌, length};
-ghost use Rattle.am_names.specs.{IsInRange};
-
 use am_map::{Map, MapKind};
 use am_master::Master;
 use am_names::{Errno, Limits, Seconds};
+use am_runner::Opening;
 use am_script::answer_line::push_answer;
 use am_script::event_line::read_event;
 use am_shared::{Caller, Opened, Receipt};
@@ -24,45 +22,27 @@ const LIMITS: Limits = Limits {
 /// An autofs at /auto.
 const POINTS: &[u8] = b"/auto auto.home --timeout=10";
 
-/// What a world begins with, as `share` and `World::new` want it.
-#[derive(Drop)]
-pub struct Beginning {
-    pub limits: Limits,
-    pub master: Master,
-    pub maps: Vec<Map>,
-    ghost limits_fit: { IsInRange limits },
-    ghost maps_fit: { length maps.items ≡ length master },
-}
-
 /// A world with an autofs at /auto, of this map, in which a failure lasts so many seconds.
 pub fn world_and_failures(
     alloc: Global,
     map: &[u8],
     negative: Seconds,
-) -> Result<Beginning, AllocError> {
+) -> Result<Opening, AllocError> {
     let master = Master::read(alloc, POINTS).map_err(|_fault| AllocError)?;
     let map = Map::read(alloc, map, MapKind::Indirect).map_err(|_fault| AllocError)?;
     let mut maps = Vec::new(alloc);
     maps.push(map)?;
-    let limits = Limits { negative, ..LIMITS };
-    if !limits.is_in_range() || maps.len() != master.entries().len() {
-        return Err(AllocError);
-    }
-    Ok(Beginning {
-        limits,
-        master,
-        maps,
-    })
+    Opening::new(Limits { negative, ..LIMITS }, master, maps).ok_or(AllocError)
 }
 
 /// The same world, in which no failure lasts.
-pub fn world_and_ends(alloc: Global, map: &[u8]) -> Result<Beginning, AllocError> {
+pub fn world_and_ends(alloc: Global, map: &[u8]) -> Result<Opening, AllocError> {
     world_and_failures(alloc, map, Seconds(0))
 }
 
 /// The same world, for one thread.
 pub fn world_of(alloc: Global, map: &[u8]) -> Result<World, Errno> {
-    let Beginning {
+    let Opening {
         limits,
         master,
         maps,

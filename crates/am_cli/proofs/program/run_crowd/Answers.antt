@@ -7,4 +7,5 @@ returns-in-Err g c input =
     ends_not_run c.args.walkers c.args.workers c.args.rounds input (g.W.Write.contents c.args.writer.now) (tells c.args.errors.now) (tells c.refuse.new.errors) c.refuse.result c.refuse.ensures
 
 pub returns-in-Ok : goal.returns-in-Ok
-returns-in-Ok g c input = c.tell.ensures c.args.walkers c.args.workers c.args.rounds input
+returns-in-Ok g c input =
+    c.tell.ensures c.args.walkers c.args.workers c.args.rounds input c.in-Ok.ensures

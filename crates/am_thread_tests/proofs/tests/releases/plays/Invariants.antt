@@ -1,4 +1,4 @@
-use Rattle.am_thread_tests.proofs.tests.releases.a_walker_waits_for_its_release.Given as goal
+use Rattle.am_thread_tests.proofs.tests.releases.plays.Given as goal
 
 abbrev pub ghosts-released-L-Opened : goal.ghosts-released-L-Opened
 ghosts-released-L-Opened g a = record {
