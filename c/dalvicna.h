@@ -258,6 +258,14 @@ enum am_map_fault {
     AM_MAP_NO_MEMORY
 };
 
+/* Where a map or a master map isn't as expected. */
+struct am_place {
+    uint64_t line;     /* the line, from 1; of a line that is joined of several the first */
+    uint64_t column;   /* the byte of that line, from 1, as of am_played; else 0 */
+    uint32_t expected; /* what was expected there (am_expected_words); else 0 */
+    uint32_t pad;      /* 0 */
+};
+
 /* An entry. Its options lie in the buffer from 0 to host_at, its host from there to path_at, and its
    path from there to bytes. */
 struct am_entry {
@@ -271,10 +279,10 @@ struct am_entry {
 /* Reads a map, whose keys are paths where it is direct, and looks up a key: its first line, else the
    first `*` line, with the key for each & of host and path. The key is compared byte for byte and isn't
    tested: for a direct map hand in the canonical text, as /srv for /srv//. 0 also where there is no entry,
-   and *line is as it was; else the first fault of the map (enum am_map_fault), and *line its line, from 1, or 0
-   where the look-up itself found no memory, and *entry is as it was. */
+   and *place is as it was; else the first fault of the map (enum am_map_fault), and *place where it is, of which
+   line is 0 where the look-up itself found no memory, and *entry is as it was. */
 uint8_t am_map_look_up(const uint8_t *text, size_t len, bool direct, const uint8_t *key, size_t key_len,
-                       uint8_t *out, size_t cap, struct am_entry *entry, uint64_t *line);
+                       uint8_t *out, size_t cap, struct am_entry *entry, struct am_place *place);
 
 /* The faults of a master map's line. */
 enum am_master_fault {
@@ -299,11 +307,11 @@ struct am_master_line {
     uint32_t pad;     /* 0 */
 };
 
-/* Reads a master map, and tells its line at a place, from 0. 0 also where there is no such line, and *line is
-   as it was; else the first fault (enum am_master_fault), and *line its line, from 1, or 0 where there was no
-   memory for what is told, and *told is as it was. */
+/* Reads a master map, and tells its line at a place, from 0. 0 also where there is no such line, and *place is
+   as it was; else the first fault (enum am_master_fault), and *place where it is, of which line is 0 where there
+   was no memory for what is told, and *told is as it was. */
 uint8_t am_master_line(const uint8_t *text, size_t len, size_t at, uint8_t *out, size_t cap,
-                       struct am_master_line *told, uint64_t *line);
+                       struct am_master_line *told, struct am_place *place);
 
 /* ---- Words ---- */
 
@@ -351,6 +359,12 @@ AM_AT(am_packet, pid, 20);
 AM_AT(am_packet, tgid, 24);
 AM_AT(am_packet, name_len, 28);
 AM_AT(am_packet, ino, 32);
+
+AM_HOLDS(sizeof(struct am_place) == 24);
+AM_AT(am_place, line, 0);
+AM_AT(am_place, column, 8);
+AM_AT(am_place, expected, 16);
+AM_AT(am_place, pad, 20);
 
 AM_HOLDS(sizeof(struct am_entry) == 32);
 AM_AT(am_entry, bytes, 0);

@@ -153,12 +153,12 @@ static int short_of_memory(void)
     struct am_judged judged;
     struct am_entry entry;
     struct am_master_line told;
-    uint64_t line = 0;
+    struct am_place place = { .line = 0 };
     int holds = 1;
     uint8_t fault = am_map_look_up((const uint8_t *)map, sizeof map - 1, false, (const uint8_t *)"home", 4,
-                                   out, sizeof out, &entry, &line);
+                                   out, sizeof out, &entry, &place);
     holds &= fault == 0 ? entry.bytes == 17 : fault == AM_MAP_NO_MEMORY;
-    fault = am_master_line((const uint8_t *)master, sizeof master - 1, 0, out, sizeof out, &told, &line);
+    fault = am_master_line((const uint8_t *)master, sizeof master - 1, 0, out, sizeof out, &told, &place);
     holds &= fault == 0 ? told.timeout == 60 : fault == AM_MASTER_NO_MEMORY;
     fault = am_trace_holds((const uint8_t *)trace, sizeof trace - 1, &judged);
     holds &= fault == 0 ? judged.lawful == 1 : fault == AM_TRACE_NO_MEMORY && judged.line == 0;
@@ -257,72 +257,90 @@ static void requests(void)
 
 /* ---- Maps ---- */
 
-static uint8_t look_up(const char *map, bool direct, const char *key, struct am_entry *entry, uint64_t *line)
+#define ENTRY "options behind a dash, or a location host:/path"
+#define MAP "a map, its name or file:name"
+#define OPTION "--timeout with seconds below 2^32, another option, or the end of the line"
+
+/* The fault stands at this byte of this line, where this was expected. */
+static int is_at(const struct am_place *place, uint64_t line, uint64_t column, const char *words)
+{
+    uint8_t said[128];
+    size_t size = strlen(words);
+    return place->line == line && place->column == column && place->pad == 0
+        && am_expected_words(place->expected, said, sizeof said) == size && memcmp(said, words, size) == 0;
+}
+
+static int is_kept(const struct am_place *place)
+{
+    return place->line == 77 && place->column == 77 && place->expected == 77 && place->pad == 77;
+}
+
+static uint8_t look_up(const char *map, bool direct, const char *key, struct am_entry *entry, struct am_place *place)
 {
     memset(out, CANARY, 256);
     return am_map_look_up((const uint8_t *)map, strlen(map), direct, (const uint8_t *)key, strlen(key), out,
-                          128, entry, line);
+                          128, entry, place);
 }
 
 static void maps(void)
 {
     static const char map[] = "# homes\nhome -ro,soft srv:/export/&\n* big:/all/&\n";
     struct am_entry entry, before;
-    uint64_t line = 77;
-    IS(look_up(map, false, "home", &entry, &line) == 0 && line == 77);
+    struct am_place place = { .line = 77, .column = 77, .expected = 77, .pad = 77 };
+    IS(look_up(map, false, "home", &entry, &place) == 0 && is_kept(&place));
     IS(entry.found == 1 && entry.has_options == 1 && entry.host_at == 7 && entry.path_at == 10);
     IS(entry.bytes == 22 && memcmp(out, "ro,softsrv/export/home", 22) == 0 && all_are(out + 22, 100, CANARY));
-    IS(look_up(map, false, "work", &entry, &line) == 0 && entry.has_options == 0 && entry.host_at == 0);
+    IS(look_up(map, false, "work", &entry, &place) == 0 && entry.has_options == 0 && entry.host_at == 0);
     IS(entry.bytes == 12 && entry.path_at == 3 && memcmp(out, "big/all/work", 12) == 0);
-    IS(look_up("home srv:/home", false, "work", &entry, &line) == 0 && line == 77);
+    IS(look_up("home srv:/home", false, "work", &entry, &place) == 0 && is_kept(&place));
     IS(entry.found == 0 && entry.bytes == 0 && all_are(out, 128, CANARY));
-    IS(look_up("/a//b srv:/home", true, "/a/b", &entry, &line) == 0 && entry.found == 1);
+    IS(look_up("/a//b srv:/home", true, "/a/b", &entry, &place) == 0 && entry.found == 1);
     memset(&before, CANARY, sizeof before);
     entry = before;
-    IS(look_up("a srv:/a\n\n/b srv:/b\n", false, "a", &entry, &line) == AM_MAP_BAD_KEY && line == 3);
-    IS(look_up("a - srv:/a", false, "a", &entry, &line) == AM_MAP_BAD_OPTION && line == 1);
-    IS(look_up("a", false, "a", &entry, &line) == AM_MAP_NO_LOCATION && line == 1);
-    IS(look_up("a srv", false, "a", &entry, &line) == AM_MAP_BAD_LOCATION && line == 1);
+    IS(look_up("a srv:/a\n\n/b srv:/b\n", false, "a", &entry, &place) == AM_MAP_BAD_KEY && is_at(&place, 3, 1, "a key of this kind of map"));
+    IS(look_up("a - srv:/a", false, "a", &entry, &place) == AM_MAP_BAD_OPTION && is_at(&place, 1, 3, ENTRY));
+    IS(look_up("a", false, "a", &entry, &place) == AM_MAP_NO_LOCATION && is_at(&place, 1, 2, ENTRY));
+    IS(look_up("a srv", false, "a", &entry, &place) == AM_MAP_BAD_LOCATION && is_at(&place, 1, 3, ENTRY));
     IS(memcmp(&entry, &before, sizeof entry) == 0 && all_are(out, 128, CANARY));
-    IS(am_map_look_up(NULL, 0, false, NULL, 0, NULL, 0, &entry, &line) == 0 && entry.found == 0);
+    IS(am_map_look_up(NULL, 0, false, NULL, 0, NULL, 0, &entry, &place) == 0 && entry.found == 0);
     for (size_t cap = 0; cap <= 24; cap++) {
         size_t part = cap < 22 ? cap : 22;
         memset(out, CANARY, 64);
         am_map_look_up((const uint8_t *)map, sizeof map - 1, false, (const uint8_t *)"home", 4, out, cap, &entry,
-                       &line);
+                       &place);
         if (entry.bytes != 22 || memcmp(out, "ro,softsrv/export/home", part) != 0
             || !all_are(out + part, 64 - part, CANARY))
             failed++, printf("failed: an entry into %zu bytes\n", cap);
     }
 }
 
-static uint8_t line_of(const char *master, size_t at, struct am_master_line *told, uint64_t *line)
+static uint8_t line_of(const char *master, size_t at, struct am_master_line *told, struct am_place *place)
 {
     memset(out, CANARY, 256);
-    return am_master_line((const uint8_t *)master, strlen(master), at, out, 128, told, line);
+    return am_master_line((const uint8_t *)master, strlen(master), at, out, 128, told, place);
 }
 
 static void masters(void)
 {
     static const char master[] = "/auto auto.home --timeout=60\n\n/- auto.direct\n";
     struct am_master_line told, before;
-    uint64_t line = 77;
-    IS(line_of(master, 0, &told, &line) == 0 && told.found == 1 && told.lines == 2 && told.line == 1);
+    struct am_place place = { .line = 77, .column = 77, .expected = 77, .pad = 77 };
+    IS(line_of(master, 0, &told, &place) == 0 && told.found == 1 && told.lines == 2 && told.line == 1);
     IS(told.timeout == 60 && told.direct == 0 && told.map_at == 5 && told.bytes == 14 && told.pad == 0);
     IS(memcmp(out, "/autoauto.home", 14) == 0 && all_are(out + 14, 100, CANARY));
-    IS(line_of(master, 1, &told, &line) == 0 && told.direct == 1 && told.line == 3 && told.map_at == 0);
+    IS(line_of(master, 1, &told, &place) == 0 && told.direct == 1 && told.line == 3 && told.map_at == 0);
     IS(memcmp(out, "auto.direct", 11) == 0);
-    IS(line_of(master, 2, &told, &line) == 0 && told.found == 0 && told.lines == 2 && told.bytes == 0);
-    IS(line_of(master, SIZE_MAX, &told, &line) == 0 && told.found == 0 && line == 77);
+    IS(line_of(master, 2, &told, &place) == 0 && told.found == 0 && told.lines == 2 && told.bytes == 0);
+    IS(line_of(master, SIZE_MAX, &told, &place) == 0 && told.found == 0 && is_kept(&place));
     memset(&before, CANARY, sizeof before);
     told = before;
-    IS(line_of("auto x", 0, &told, &line) == AM_MASTER_BAD_POINT && line == 1);
-    IS(line_of("/auto", 0, &told, &line) == AM_MASTER_NO_MAP && line == 1);
-    IS(line_of("/a yp:x", 0, &told, &line) == AM_MASTER_BAD_TYPE && line == 1);
-    IS(line_of("/a x --timeout=y", 0, &told, &line) == AM_MASTER_BAD_TIMEOUT && line == 1);
-    IS(line_of("/a x\n/a y\n", 0, &told, &line) == AM_MASTER_TWICE && line == 2);
+    IS(line_of("auto x", 0, &told, &place) == AM_MASTER_BAD_POINT && is_at(&place, 1, 1, "/- or a path below /"));
+    IS(line_of("/auto", 0, &told, &place) == AM_MASTER_NO_MAP && is_at(&place, 1, 6, MAP));
+    IS(line_of("/a yp:x", 0, &told, &place) == AM_MASTER_BAD_TYPE && is_at(&place, 1, 4, MAP));
+    IS(line_of("/a x --timeout=y", 0, &told, &place) == AM_MASTER_BAD_TIMEOUT && is_at(&place, 1, 6, OPTION));
+    IS(line_of("/a x\n/a y\n", 0, &told, &place) == AM_MASTER_TWICE && is_at(&place, 2, 1, "a mount point that no line above has"));
     IS(memcmp(&told, &before, sizeof told) == 0 && all_are(out, 128, CANARY));
-    IS(am_master_line(NULL, 0, 0, NULL, 0, &told, &line) == 0 && told.lines == 0);
+    IS(am_master_line(NULL, 0, 0, NULL, 0, &told, &place) == 0 && told.lines == 0);
 }
 
 /* ---- Scripts ---- */
@@ -807,9 +825,9 @@ static void odd_bytes(int rounds)
         struct am_packet packet;
         struct am_judged judged;
         struct am_played played;
-        uint64_t line = 0;
-        IS(am_map_look_up(text, len, round & 1, text, len / 2, out, 64, &entry, &line) <= AM_MAP_NO_MEMORY);
-        IS(am_master_line(text, len, 0, out, 64, &told, &line) <= AM_MASTER_NO_MEMORY);
+        struct am_place place;
+        IS(am_map_look_up(text, len, round & 1, text, len / 2, out, 64, &entry, &place) <= AM_MAP_NO_MEMORY);
+        IS(am_master_line(text, len, 0, out, 64, &told, &place) <= AM_MASTER_NO_MEMORY);
         IS(am_packet_read(text, round & 1 ? 304 : 300, &packet) <= AM_PACKET_BAD_NAME);
         IS(am_trace_holds(text, len, &judged) <= AM_TRACE_BAD_LINE && judged.lawful <= 1);
         for (enum view view = PLAY; view <= WORLD; view++) {
@@ -824,10 +842,10 @@ static void odd_bytes(int rounds)
 static void many_lines(size_t lines)
 {
     struct am_entry entry;
-    uint64_t line = 77;
+    struct am_place place = { .line = 77, .column = 77, .expected = 77, .pad = 77 };
     for (len = 0; lines > 0; lines--)
         len += (size_t)sprintf((char *)text + len, "k%zu h:/%zu\n", lines, lines);
-    IS(am_map_look_up(text, len, false, (const uint8_t *)"k1", 2, out, sizeof out, &entry, &line) == 0 && line == 77);
+    IS(am_map_look_up(text, len, false, (const uint8_t *)"k1", 2, out, sizeof out, &entry, &place) == 0 && is_kept(&place));
     IS(entry.found == 1 && entry.bytes == 3 && memcmp(out, "h/1", 3) == 0);
 }
 
@@ -841,11 +859,11 @@ static void *look_often(void *matches)
     struct am_entry entry;
     struct am_world world = AM_WORLD_NONE;
     struct am_played begun;
-    uint64_t line = 0;
+    struct am_place place;
     *(int *)matches = am_new((const uint8_t *)HEAD, sizeof HEAD - 1, &world, &begun) == 0;
     for (int round = 0; round < 3000; round++) {
         uint8_t fault = am_map_look_up((const uint8_t *)map, sizeof map - 1, false, (const uint8_t *)"home", 4, mine,
-                                       sizeof mine, &entry, &line);
+                                       sizeof mine, &entry, &place);
         *(int *)matches &= fault == 0 && entry.bytes == 15 && memcmp(mine, "srv/export/home", 15) == 0;
         struct am_played played;
         fault = am_play((const uint8_t *)script, sizeof script - 1, mine, sizeof mine, &played);

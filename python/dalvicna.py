@@ -170,6 +170,10 @@ class _Packet(ctypes.Structure):
                 ("tgid", _U32), ("name_len", _U32), ("ino", _U64C)]
 
 
+class _Place(ctypes.Structure):
+    _fields_ = [("line", _U64C), ("column", _U64C), ("expected", _U32), ("pad", _U32)]
+
+
 class _Entry(ctypes.Structure):
     _fields_ = [("bytes", _U64C), ("host_at", _U64C), ("path_at", _U64C), ("has_options", _U32), ("found", _U32)]
 
@@ -200,8 +204,8 @@ _CALLS = {
     "am_packet_read": (_U8, _TEXT + (ctypes.POINTER(_Packet),)),
     "am_packet_write": (_U8, (ctypes.POINTER(_Packet),) + _TEXT + _OUT),
     "am_request_number": (_U32, (_U32,)),
-    "am_map_look_up": (_U8, _TEXT + (ctypes.c_bool,) + _TEXT + _OUT + (ctypes.POINTER(_Entry), ctypes.POINTER(_U64C))),
-    "am_master_line": (_U8, _TEXT + (_SIZE,) + _OUT + (ctypes.POINTER(_MasterLine), ctypes.POINTER(_U64C))),
+    "am_map_look_up": (_U8, _TEXT + (ctypes.c_bool,) + _TEXT + _OUT + (ctypes.POINTER(_Entry), ctypes.POINTER(_Place))),
+    "am_master_line": (_U8, _TEXT + (_SIZE,) + _OUT + (ctypes.POINTER(_MasterLine), ctypes.POINTER(_Place))),
     "am_error_name": (_SIZE, (_U32,) + _OUT),
 }
 
@@ -278,7 +282,7 @@ class Played:
         return self.text
 
 
-def _expected(told: _Played) -> Optional[str]:
+def _expected(told: Union[_Played, _Place]) -> Optional[str]:
     """What was expected where the fault is, in words, if it is at a byte."""
     if not told.expected:
         return None
@@ -555,13 +559,13 @@ class Entry:
 def look_up(text: Text, key: Text, direct: bool = False) -> Optional[Entry]:
     """The entry that a map has for a key: of its line, else of the `*` line, else None. The keys of a direct map are
     paths. The key is compared as it stands: of a direct map the canonical text, as /srv for /srv//. Raises MapFault."""
-    text, key, told, line = _bytes(text), _bytes(key), _Entry(), _U64C()
+    text, key, told, place = _bytes(text), _bytes(key), _Entry(), _Place()
 
     def call(out: ctypes.Array, cap: int) -> int:
         fault = _library.am_map_look_up(text, len(text), direct, key, len(key), out, cap, ctypes.byref(told),
-                                        ctypes.byref(line))
+                                        ctypes.byref(place))
         if fault:
-            raise MapFault(fault, line.value or None)
+            raise MapFault(fault, place.line, place.column, _expected(place))
         return told.bytes
 
     some = _filled(call, 1024)
@@ -589,12 +593,12 @@ class MasterLine:
 
 def _master_line(text: bytes, at: int) -> Tuple[int, Optional[MasterLine]]:
     """How many lines there are, and the one at this place, from 0."""
-    told, line = _MasterLine(), _U64C()
+    told, place = _MasterLine(), _Place()
 
     def call(out: ctypes.Array, cap: int) -> int:
-        fault = _library.am_master_line(text, len(text), at, out, cap, ctypes.byref(told), ctypes.byref(line))
+        fault = _library.am_master_line(text, len(text), at, out, cap, ctypes.byref(told), ctypes.byref(place))
         if fault:
-            raise MasterFault(fault, line.value or None)
+            raise MasterFault(fault, place.line, place.column, _expected(place))
         return told.bytes
 
     some = _filled(call, 1024)

@@ -43,9 +43,9 @@ static int mounts(const char *point, const uint8_t *name, size_t name_len)
 {
     char found[4096];
     struct am_entry entry;
-    uint64_t line;
+    struct am_place place;
     uint8_t fault = am_map_look_up((const uint8_t *)map, sizeof map - 1, false, name, name_len,
-                                   (uint8_t *)found, sizeof found, &entry, &line);
+                                   (uint8_t *)found, sizeof found, &entry, &place);
     if (fault || !entry.found || entry.bytes > sizeof found)
         return 0;
     printf("mount -o '%.*s' %.*s:%.*s %s/%.*s\n", size(0, entry.host_at), found,
@@ -75,13 +75,13 @@ int main(void)
 {
     char point[256];
     struct am_master_line line;
-    uint64_t fault_line;
+    struct am_place place;
     int ends[2];
     uint8_t bytes[AM_PACKET_SIZE];
     ssize_t got;
 
     uint8_t fault = am_master_line((const uint8_t *)master, sizeof master - 1, 0, (uint8_t *)point,
-                                   sizeof point - 1, &line, &fault_line);
+                                   sizeof point - 1, &line, &place);
     if (fault || !line.found || line.bytes >= sizeof point || pipe(ends))
         return 1;
     point[line.map_at] = '\0';

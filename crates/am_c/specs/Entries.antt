@@ -9,8 +9,12 @@ use Rattle.am_map.specs.declared.fault.MapFault.{MapFault}
 use Rattle.am_map.specs.declared.fault.MapFaultKind.TheVariants.{NoMemory}
 use Rattle.am_map.specs.declared.kind.MapKind.{MapKind}
 use Rattle.am_map.specs.declared.kind.MapKind.TheVariants.{Indirect, Direct}
+use Rattle.am_script.specs.{fault_at}
+use Rattle.am_script.specs.declared.fault.ScriptFaultKind.TheVariants.{BadMap}
 use Rattle.am_c.specs.declared.entry.AmEntry.{AmEntry}
+use Rattle.am_c.specs.declared.place.AmPlace.{AmPlace}
 use Rattle.am_c.specs.Buffer.{with_front}
+use Rattle.am_c.specs.Places.{IsPlaceOf}
 
 -- the kind of a map whose keys are paths, or names
 abbrev pub kind_where : Bool → MapKind
@@ -61,13 +65,13 @@ abbrev pub IsWithin : MapKind → List ℕ → MapFault → Type 0
 IsWithin kind text fault =
     IsReached (AreRows kind) text fault.line ⊎ (fault ≡ record { line = 0; kind = NoMemory })
 
--- the text is no map of this kind, or memory ran out: C has the number of the fault and its line
-pub record IsNoMap (kind : MapKind) (text : List ℕ) (number line : ℕ) : Type 0 where
+-- the text is no map of this kind, or memory ran out: C has the number of the fault and its place
+pub record IsNoMap (kind : MapKind) (text : List ℕ) (number : ℕ) (place : AmPlace) : Type 0 where
   pub fault : MapFault
   pub is : IsFaultOf (map_read kind text) fault
   pub reached : IsWithin kind text fault
   pub numbered : number ≡ fault_number fault.kind
-  pub lined : line ≡ fault.line
+  pub placed : IsPlaceOf text (fault_at fault.line (BadMap fault.kind)) place
 
 -- what C hands in: whether the map is direct, its text, and a key
 pub record Asked : Type 0 where
@@ -75,22 +79,22 @@ pub record Asked : Type 0 where
   pub text : List ℕ
   pub key : List ℕ
 
--- what C has: its buffer, an entry, and a line
+-- what C has: its buffer, an entry, and a place
 pub record Held : Type 0 where
   pub buffer : List ℕ
   pub entry : AmEntry
-  pub line : ℕ
+  pub place : AmPlace
 
--- the key is looked up, and the line is as it was
+-- the key is looked up, and the place is as it was
 pub record Finds (asked : Asked) (old new : Held) : Type 0 where
   pub bytes : List ℕ
   pub found : IsFound (kind_where asked.direct) asked.text asked.key bytes new.entry
   pub buffer : new.buffer ≡ with_front bytes old.buffer
-  pub line : new.line ≡ old.line
+  pub place : new.place ≡ old.place
 
 -- there is a fault, and nothing else is told
 pub record FindsNoMap (asked : Asked) (old new : Held) (number : ℕ) : Type 0 where
-  pub fault : IsNoMap (kind_where asked.direct) asked.text number new.line
+  pub fault : IsNoMap (kind_where asked.direct) asked.text number new.place
   pub entry : new.entry ≡ old.entry
   pub buffer : new.buffer ≡ old.buffer
 

@@ -4,6 +4,7 @@ pub mod Errors
 pub mod Kept
 pub mod MasterLines
 pub mod Packets
+pub mod Places
 pub mod Requests
 pub mod Scripts
 pub mod Sessions

@@ -9,8 +9,12 @@ use Rattle.am_master.specs.declared.fault.MasterFault.{MasterFault}
 use Rattle.am_master.specs.declared.fault.MasterFaultKind.TheVariants.{NoMemory}
 use Rattle.am_master.specs.declared.point.Point.{Point}
 use Rattle.am_master.specs.declared.point.Point.TheVariants.{Direct, Indirect}
+use Rattle.am_script.specs.{fault_at}
+use Rattle.am_script.specs.declared.fault.ScriptFaultKind.TheVariants.{BadMaster}
 use Rattle.am_c.specs.declared.master_line.AmMasterLine.{AmMasterLine}
+use Rattle.am_c.specs.declared.place.AmPlace.{AmPlace}
 use Rattle.am_c.specs.Buffer.{with_front}
+use Rattle.am_c.specs.Places.{IsPlaceOf}
 
 -- the canonical text of a point; `/-` has none
 abbrev pub point_bytes : Point → List ℕ
@@ -67,30 +71,30 @@ abbrev pub IsWithin : List ℕ → MasterFault → Type 0
 IsWithin text fault =
     IsReached AreRows text fault.line ⊎ (fault ≡ record { line = 0; kind = NoMemory })
 
--- the text is no master map, or memory ran out: C has the number of the fault and its line
-pub record IsNoMaster (text : List ℕ) (number line : ℕ) : Type 0 where
+-- the text is no master map, or memory ran out: C has the number of the fault and its place
+pub record IsNoMaster (text : List ℕ) (number : ℕ) (place : AmPlace) : Type 0 where
   pub fault : MasterFault
   pub is : IsFaultOf (master_read text) fault
   pub reached : IsWithin text fault
   pub numbered : number ≡ fault_number fault.kind
-  pub lined : line ≡ fault.line
+  pub placed : IsPlaceOf text (fault_at fault.line (BadMaster fault.kind)) place
 
--- what C has: its buffer, a line, and the number of a raw line
+-- what C has: its buffer, a line, and a place
 pub record Held : Type 0 where
   pub buffer : List ℕ
   pub told : AmMasterLine
-  pub line : ℕ
+  pub place : AmPlace
 
--- the line is told, and the number is as it was
+-- the line is told, and the place is as it was
 pub record Finds (text : List ℕ) (at : ℕ) (old new : Held) : Type 0 where
   pub bytes : List ℕ
   pub found : IsFound text at bytes new.told
   pub buffer : new.buffer ≡ with_front bytes old.buffer
-  pub line : new.line ≡ old.line
+  pub place : new.place ≡ old.place
 
 -- there is a fault, and nothing else is told
 pub record FindsNoMaster (text : List ℕ) (old new : Held) (number : ℕ) : Type 0 where
-  pub fault : IsNoMaster text number new.line
+  pub fault : IsNoMaster text number new.place
   pub told : new.told ≡ old.told
   pub buffer : new.buffer ≡ old.buffer
 

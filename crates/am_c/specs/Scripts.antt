@@ -2,15 +2,15 @@
 use Rattle.std.specs.Prelude.{◌≡◌, ◌≢◌, ◌⊎◌, ℕ, Bool, true, false, List, [], length, Option, None, Some, Result, Ok, Err}
 use Rattle.am_map.specs.Fault as map_faults
 use Rattle.am_master.specs.Fault as master_faults
-use Rattle.am_script.specs.{ScriptFault, ScriptFaultKind, Summary, lines_of}
+use Rattle.am_script.specs.{ScriptFault, ScriptFaultKind, Summary}
 use Rattle.am_script.specs.Fault.{kind_number}
 use Rattle.am_script.specs.declared.fault.ScriptFaultKind.TheVariants.{BadMaster, BadMap}
-use Rattle.am_diagnosis.specs.Scripts.{IsJoined, IsSlipIn, lines_at}
 use Rattle.am_diagnosis.specs.Expectations.{expected_number, expected_words}
 use Rattle.am_diagnosis.specs.declared.expected.Expected.{Expected}
 use Rattle.am_diagnosis.specs.declared.expected.Slip.{Slip}
 use Rattle.am_c.specs.declared.script.AmPlayed.{AmPlayed}
 use Rattle.am_c.specs.Buffer.{with_front}
+use Rattle.am_c.specs.Places.{HasSlip, column_of, expected_of}
 
 -- ---- what C is told
 
@@ -24,16 +24,6 @@ abbrev pub detail_number : ScriptFaultKind → ℕ
 detail_number (BadMaster kind) = master_faults.fault_number kind
 detail_number (BadMap kind) = map_faults.fault_number kind
 detail_number other = 0
-
--- the byte of the line at which it isn't as expected, if it is told
-abbrev pub column_of : Option Slip → ℕ
-column_of None = 0
-column_of (Some slip) = slip.column
-
--- the number of what was expected there
-abbrev pub expected_of : Option Slip → ℕ
-expected_of None = 0
-expected_of (Some slip) = expected_number slip.expected
 
 -- what C is told where so many bytes were written, and the line of the fault has this slip
 abbrev pub played_of : ℕ → Result Summary ScriptFault → Option Slip → AmPlayed
@@ -58,12 +48,10 @@ played_of bytes (Err fault) slip = record {
   expected = expected_of slip;
 }
 
--- it is the slip of the fault in this text, if there is a fault; or there is no memory for that of a
--- line of a map, which is joined for it
+-- it is the slip of the fault in this text, if there is a fault
 abbrev pub IsPlaced : List ℕ → Result Summary ScriptFault → Option Slip → Type 0
 IsPlaced text (Ok summary) slip = slip ≡ None
-IsPlaced text (Err fault) slip =
-    IsSlipIn fault.kind (lines_at fault.line (lines_of text)) slip ⊎ (IsJoined fault.kind × (slip ≡ None))
+IsPlaced text (Err fault) slip = HasSlip text fault slip
 
 -- C is told how this text went, of which so many bytes were written
 pub record IsTold (text : List ℕ) (bytes : ℕ) (went : Result Summary ScriptFault) (told : AmPlayed) : Type 0 where

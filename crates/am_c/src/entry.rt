@@ -3,10 +3,14 @@
 ghost use Rattle.std.specs.Prelude.{◌≡◌, IsOk, IfOk, IfErr, OnOk, Some};
 ghost use Rattle.am_map.specs.Fault.{IsFaultOf};
 ghost use Rattle.am_map.specs.Grammar.{map_read};
+ghost use Rattle.am_script.specs.{fault_at};
+ghost use Rattle.am_script.specs.declared.fault.ScriptFaultKind.TheVariants.{BadMap};
 ghost use Rattle.am_c.specs.Entries.{IsEntry, IsFound, IsWithin, LooksUp, entry_told, kind_where};
 
 use crate::buffer::put_front;
+use crate::place::{AmPlace, place_of};
 use am_map::{Entry, Map, MapFault, MapFaultKind, MapKind};
+use am_script::{ScriptFault, ScriptFaultKind};
 use std::alloc::{AllocError, Global};
 
 /// Where the parts of an entry lie in the caller's buffer: its options from 0 to `host_at`, its host
@@ -32,7 +36,7 @@ struct Found {
 }
 
 /// Reads a map, and looks up a key. 0 where the text is a map, also where it has no entry for the
-/// key; else the number of its fault, of which `line` is the line, and all else is as it was. Line
+/// key; else the number of its fault, of which `place` is the place, and all else is as it was. Line
 /// 0 is the look-up itself, for which there was no memory.
 #[unsafe(no_mangle)]
 pub extern "C" fn am_map_look_up(
@@ -42,11 +46,11 @@ pub extern "C" fn am_map_look_up(
     key: &[u8],
     out: &mut [u8],
     entry: &mut AmEntry,
-    line: &mut u64,
+    place: &mut AmPlace,
 ) -> u8
     ensures { LooksUp (record { direct = direct; text = text.now; key = key.now })
-        (record { buffer = out.old; entry = entry.old; line = line.old })
-        (record { buffer = out.new; entry = entry.new; line = line.new }) result }
+        (record { buffer = out.old; entry = entry.old; place = place.old })
+        (record { buffer = out.new; entry = entry.new; place = place.new }) result }
 {
     match look_up(alloc, text, kind_where(direct), key) {
         Ok(found) => {
@@ -56,9 +60,19 @@ pub extern "C" fn am_map_look_up(
             0
         }
         Err(fault) => {
-            *line = fault.line as u64;
+            *place = place_of(alloc, text, fault_in(fault));
             fault.kind.number()
         }
+    }
+}
+
+/// The fault of a map as one of a script.
+fn fault_in(fault: MapFault) -> ScriptFault
+    ensures { result ≡ fault_at fault.line (BadMap fault.kind) }
+{
+    ScriptFault {
+        line: fault.line as u64,
+        kind: ScriptFaultKind::BadMap { kind: fault.kind },
     }
 }
 

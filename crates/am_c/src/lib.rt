@@ -8,6 +8,7 @@ mod kept;
 mod loose;
 pub mod master_line;
 pub mod packet;
+pub mod place;
 pub mod request;
 pub mod script;
 mod session;

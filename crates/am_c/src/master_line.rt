@@ -3,10 +3,14 @@
 ghost use Rattle.std.specs.Prelude.{◌≡◌, IfOk, IfErr, OnOk, length, slice_get, Some};
 ghost use Rattle.am_master.specs.Fault.{IsFaultOf};
 ghost use Rattle.am_master.specs.Grammar.{master_read};
+ghost use Rattle.am_script.specs.{fault_at};
+ghost use Rattle.am_script.specs.declared.fault.ScriptFaultKind.TheVariants.{BadMaster};
 ghost use Rattle.am_c.specs.MasterLines.{IsFound, IsLine, IsWithin, TellsLine, row_bytes, row_told};
 
 use crate::buffer::put_front;
+use crate::place::{AmPlace, place_of};
 use am_master::{Master, MasterEntry, MasterFault, MasterFaultKind, Point};
+use am_script::{ScriptFault, ScriptFaultKind};
 use std::alloc::{AllocError, Global};
 
 /// A line of a master map; its point lies in the caller's buffer from 0 to `map_at`, and the name of
@@ -38,8 +42,8 @@ struct Found {
 }
 
 /// Reads a master map, and tells its line at a place, from 0. 0 where the text is a master map, also
-/// where it has no such line; else the number of its fault, of which `line` is the line, and all
-/// else is as it was. Line 0 is what is told itself, for which there was no memory.
+/// where it has no such line; else the number of its fault, of which `place` is the place, and
+/// all else is as it was. Line 0 is what is told itself, for which there was no memory.
 #[unsafe(no_mangle)]
 pub extern "C" fn am_master_line(
     alloc: Global,
@@ -47,11 +51,11 @@ pub extern "C" fn am_master_line(
     at: usize,
     out: &mut [u8],
     told: &mut AmMasterLine,
-    line: &mut u64,
+    place: &mut AmPlace,
 ) -> u8
     ensures { TellsLine text.now at
-        (record { buffer = out.old; told = told.old; line = line.old })
-        (record { buffer = out.new; told = told.new; line = line.new }) result }
+        (record { buffer = out.old; told = told.old; place = place.old })
+        (record { buffer = out.new; told = told.new; place = place.new }) result }
 {
     match line_at(alloc, text, at) {
         Ok(found) => {
@@ -61,9 +65,19 @@ pub extern "C" fn am_master_line(
             0
         }
         Err(fault) => {
-            *line = fault.line as u64;
+            *place = place_of(alloc, text, fault_in(fault));
             fault.kind.number()
         }
+    }
+}
+
+/// The fault of a master map as one of a script.
+fn fault_in(fault: MasterFault) -> ScriptFault
+    ensures { result ≡ fault_at fault.line (BadMaster fault.kind) }
+{
+    ScriptFault {
+        line: fault.line as u64,
+        kind: ScriptFaultKind::BadMaster { kind: fault.kind },
     }
 }
 

@@ -6,10 +6,11 @@ ghost use Rattle.am_mountinfo.specs.{ShowsInput, StopsShowing};
 ghost use Rattle.am_script.specs.{PlaysInput, StopsInput};
 ghost use Rattle.am_views.specs.{TracesInput, StopsTrace};
 ghost use Rattle.am_c.specs.Buffer.{with_front};
-ghost use Rattle.am_c.specs.Scripts.{AreWordsOf, Fills, IsPlaced, IsTold, column_of, detail_number, expected_of, fault_number, namespace_where, played_of};
+ghost use Rattle.am_c.specs.Scripts.{AreWordsOf, Fills, IsPlaced, IsTold, detail_number, fault_number, namespace_where, played_of};
 
 use crate::buffer::put_front;
-use am_diagnosis::{Expected, Slip, slip_in};
+use crate::place::{column_of, expected_of, slip_of};
+use am_diagnosis::{Expected, Slip};
 use am_draw::draw_script;
 use am_mountinfo::world_script;
 use am_names::NsId;
@@ -146,20 +147,16 @@ pub(crate) fn tell_of(
 ) -> AmPlayed
     ensures { IsTold text.now bytes went result }
 {
-    played_of(bytes, went, place_of(alloc, text, went))
+    played_of(bytes, went, placed(alloc, text, went))
 }
 
-/// Where the line of the fault isn't as expected, and what was expected there. None too where there
-/// is no memory to join the line.
-fn place_of(alloc: Global, text: &[u8], went: Result<Summary, ScriptFault>) -> Option<Slip>
+/// Where the line of the fault isn't as expected, if there is a fault.
+fn placed(alloc: Global, text: &[u8], went: Result<Summary, ScriptFault>) -> Option<Slip>
     ensures { IsPlaced text.now went result }
 {
     match went {
         Ok(_summary) => None,
-        Err(fault) => match slip_in(alloc, text, fault) {
-            Ok(slip) => slip,
-            Err(_) => None,
-        },
+        Err(fault) => slip_of(alloc, text, fault),
     }
 }
 
@@ -187,24 +184,6 @@ fn played_of(bytes: u64, went: Result<Summary, ScriptFault>, slip: Option<Slip>)
             detail: u32::from(detail_number(fault.kind)),
             expected: expected_of(slip),
         },
-    }
-}
-
-fn column_of(slip: Option<Slip>) -> u64
-    ensures { result ≡ column_of slip }
-{
-    match slip {
-        Some(slip) => slip.column as u64,
-        None => 0,
-    }
-}
-
-fn expected_of(slip: Option<Slip>) -> u32
-    ensures { result ≡ expected_of slip }
-{
-    match slip {
-        Some(slip) => u32::from(slip.expected.number()),
-        None => 0,
     }
 }
 
