@@ -304,7 +304,8 @@ class Maps(unittest.TestCase):
         self.assertEqual(dalvicna.look_up("/a//b srv:/x", "/a/b", direct=True).host, "srv")
         with self.assertRaises(dalvicna.MapFault) as raised:
             dalvicna.look_up("a srv:/a\nb\n", "a")
-        self.assertEqual((raised.exception.word, raised.exception.line), ("NoLocation", 2))
+        self.assertEqual((raised.exception.word, raised.exception.line, raised.exception.column), ("NoLocation", 2, 2))
+        self.assertEqual(raised.exception.expected, "options behind a dash, or a location host:/path")
 
     def test_lines_of_a_master_map(self):
         lines = dalvicna.master("/auto auto.home --timeout=60\n\n/- auto.direct\n")
@@ -313,7 +314,7 @@ class Maps(unittest.TestCase):
         self.assertEqual(dalvicna.master(""), [])
         with self.assertRaises(dalvicna.MasterFault) as raised:
             dalvicna.master("/a x\n/a y\n")
-        self.assertEqual((raised.exception.word, raised.exception.line), ("Twice", 2))
+        self.assertEqual(str(raised.exception), "line 2, column 1: Twice: expected a mount point that no line above has")
 
 
 class Header(unittest.TestCase):
