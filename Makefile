@@ -2,10 +2,12 @@
 SCRIPT ?= examples/first.script
 # Where run, show, trace, world and draw write; without it to standard output.
 OUT =
+# Where install puts things; with DESTDIR below that folder.
 PREFIX ?= /usr/local
-export SCRIPT OUT PREFIX
+DESTDIR ?=
+export SCRIPT OUT PREFIX DESTDIR
 
-.PHONY: help run show trace world draw threads examples build library install pages live quick faults test
+.PHONY: help run show trace world draw threads examples build library install uninstall pages live quick faults test
 
 # plays a script, and writes its answers
 run:
@@ -43,9 +45,14 @@ build:
 library:
 	@tools/library.py build
 
-# copies the program, its manual page and, where it is built, the library for C below a folder
+# copies the program, its manual page, its completion for three shells and, where it is built, the library for C below
+# the folder PREFIX
 install:
 	@tools/install.sh "$$PREFIX"
+
+# removes what install copies below the folder PREFIX
+uninstall:
+	@tools/install.sh --remove "$$PREFIX"
 
 # compares what the pages name with what there is, and runs what they show
 pages:
@@ -72,4 +79,4 @@ test:
 # lists these
 help:
 	@awk '/^# / { text = text (text == "" ? "" : " ") substr($$0, 3); next } \
-		/^[a-z]+:/ { sub(":.*", ""); printf "make %-8s %s\n", $$0, text } { text = "" }' Makefile
+		/^[a-z]+:/ { sub(":.*", ""); printf "make %-9s %s\n", $$0, text } { text = "" }' Makefile

@@ -24,7 +24,7 @@ newer() {
     find .. ../../crates.txt -name out -prune -o -type f -newer "$program" -print
 }
 if [ ! -x "$program" ] || [ -n "$(newer)" ]; then
-    echo "bench: the program is proved and built first, which takes most of an hour of processor time" >&2
+    echo "bench: the program is proved and built first, which takes some 65 minutes of a processor" >&2
     rt run -- script < /dev/null >&2
 fi
 exec python3 -B "$bench/measure.py" "$PWD/$program" "$@"

@@ -1,12 +1,18 @@
-# Completes the words of automount_cli in bash; tools/check_pages compares them with docs/FORMATS.md.
+# Completes the words of automount_cli in bash; tools/check_pages compares them with the program's commands.
 _automount_cli() {
-    local word=${COMP_WORDS[COMP_CWORD]} words=
-    case $COMP_CWORD-${COMP_WORDS[1]} in
-        1-*) words="script trace draw world judge threads" ;;
-        *-draw) words="--from --to" ;;
-        *-world) words="--namespace" ;;
-        *-threads) words="--walkers --workers --rounds" ;;
-    esac
+    local word=${COMP_WORDS[COMP_CWORD]} before=${COMP_WORDS[COMP_CWORD - 1]} words=
+    if [[ $COMP_CWORD -eq 1 ]]; then
+        words="script trace draw world judge import threads"
+    elif [[ $before == --* || $before == = ]]; then
+        # A number: nothing can be completed, and a file is none.
+        compopt +o default 2> /dev/null
+    elif [[ $before != [\<\>]* ]]; then
+        case ${COMP_WORDS[1]} in
+            draw) words="--from --to" ;;
+            world) words="--namespace" ;;
+            threads) words="--walkers --workers --rounds" ;;
+        esac
+    fi
     mapfile -t COMPREPLY < <(compgen -W "$words" -- "$word")
 }
 complete -o default -F _automount_cli automount_cli

@@ -61,10 +61,55 @@ def fault(line, word):
 
 # Command lines: the words, the input, and what comes of it.
 
+# Two namespaces, and the script for their mounts.
+MOUNTS = b"""# namespace a
+1 0 8:1 / / rw shared:1 - ext4 x rw
+2 1 0:9 / /a rw - tmpfs x rw
+# namespace b
+3 0 8:1 / / rw master:1 - ext4 x rw
+4 3 0:9 / /a rw - tmpfs x rw
+"""
+IMPORTED = b"""events
+mount 0 /a
+change 0 / shared
+nscopy 0 reduced
+# namespace 0 mount 1: mount 1
+# namespace 0 mount 2: mount 2
+# namespace 1 mount 3: mount 3
+# namespace 1 mount 4: mount 4
+"""
+# An autofs with a mount, and a namespace in which a mount is elsewhere and another one is missing.
+TRAPS = b"""1 0 8:1 / / rw shared:1 - ext4 x rw
+2 1 0:9 / /auto rw shared:2 - autofs x rw,timeout=9,indirect
+3 2 0:10 / /auto/key rw shared:3 - nfs x:/y rw
+4 1 0:11 / /b rw shared:4 - tmpfs x rw
+# namespace
+5 0 8:1 / / rw master:1 - ext4 x rw
+6 5 0:9 / /auto rw master:2 - autofs x rw,timeout=9,indirect
+7 6 0:10 / /auto/key rw master:3 - nfs x:/y rw
+8 5 0:11 / /c rw shared:5 master:4 - tmpfs x rw
+"""
+# Lines that are none of a mountinfo: where each isn't as expected, and what was expected there.
+MISREAD = [
+    (b"x 0 8:1 / / rw - ext4 x rw", 1, b"the number of a mount"),
+    (b"1 18446744073709551616 8:1 / / rw - t x", 3, b"the number of the mount that it is mounted on"),
+    (b"1 0", 4, b"a device"), (b"1 0  8:1", 9, b"the folder of the device that is shown"),
+    (b"1 0 8:1 / a rw - ext4 x", 11, b"the path of the mount"), (b"1 0 8:1 / /a\\041 rw - t x", 11, b"the path of the mount"),
+    (b"1 0 8:1 / /..", 11, b"the path of the mount"), (b"1 0 8:1 / /", 12, b"the options of the mount"),
+    (b"1 0 8:1 / / rw x shared:x - t x", 18, b"the number of a peer group"),
+    (b"1 0 8:1 / / rw master: - t x rw", 16, b"the number of a peer group"),
+    (b"1 0 8:1 / / rw shared:1 t x", 28, b"- behind the optional fields"), (b"1 0 8:1 / / rw -", 17, b"the type of the file system"),
+]
+
+
+def misread(line, column, what):
+    return b"fault: line %d, column %d: %s expected\n" % (line, column, what)
+
+
 NO_COMMAND_LINES = [
     [], ["--help"], ["help"], ["scrip"], ["script", "x"], ["script", "--help"], ["trace", "x"], [b"script\xff"],
     ["draw", "--from", "0"], ["draw", "--to", "4294967296"], ["draw", "--from"], ["draw", "x"],
-    ["judge", "x"], ["judge", "--help"], ["world", "--namespace", "one"], ["world", "--namespace"], ["world", "1"], ["world", "--namespace", "4294967296"],
+    ["judge", "x"], ["judge", "--help"], ["import", "x"], ["import", "--help"], ["world", "--namespace", "one"], ["world", "--namespace"], ["world", "1"], ["world", "--namespace", "4294967296"],
     ["threads", "--walkers", "0"], ["threads", "--walkers", "17"], ["threads", "--workers", "0"],
     ["threads", "--workers", "17"], ["threads", "--rounds", "0"], ["threads", "--rounds", "1001"],
     ["threads", "--rounds", "4294967297"], ["threads", "--rounds", "-1"], ["threads", "--rounds", "ten"],
@@ -86,6 +131,10 @@ COMMAND_LINES = [
     (["judge"], b"", (0, b"lawful\n", b"")),
     (["judge"], BROKEN, (1, b"line 2: a walker waits on a token that is open\n", b"")),
     (["judge"], b"  left 1 mount 5\n  died now\n", (1, b"", b"fault: line 2, column 7: the end of the line expected\n")),
+    (["import"], b"", (0, b"events\n", b"")),
+    (["import"], MOUNTS, (0, IMPORTED, b"")),
+    (["import"], b"# x\n" + MOUNTS.replace(b"\n", b"\n\n \n"), (0, IMPORTED, b"")),
+    *((["import"], b"# c\n\n" + line + b"\n", (1, b"", misread(3, column, what))) for line, column, what in MISREAD),
     (["threads"], b"", (0, b"rounds 40\n", b"")),
     (["threads", "--walkers", "2", "--workers", "1", "--rounds", "3"], b"", (0, b"rounds 6\n", b"")),
     (["threads", "--workers", "16", "--walkers", "1"], b"", (0, b"rounds 10\n", b"")),
@@ -107,6 +156,7 @@ LOSSES = [
     ("trace", SHORT, 100, 0, 2), ("trace", SHORT, 7, 1, 2), ("trace", SHORT, 100, 35, 2), ("trace", SHORT, 7, 36, 3),
     ("trace", SHORT, 1, 40, 3), ("draw", SHORT, 100, 0, 2), ("draw", SHORT, 1, 1, 2), ("draw", SHORT, 100, 6000, 2),
     ("script", SHORT, 100, 0, 2), ("script", SHORT, 1, 8, 3),
+    ("import", MOUNTS, 100, 0, None), ("import", MOUNTS, 7, 33, None), ("import", MOUNTS, 1, 140, None),
     ("judge", BROKEN, 100, 0, None), ("judge", BROKEN, 5, 20, None), ("judge", LAWFUL, 1, 6, None),
     *(("world", A_WORLD, 1 << 20, room, 11) for room in (0, 1, 100, 300)),
 ]
@@ -201,7 +251,8 @@ def refusals(program, refuse):
     """The commands that are run with each allocation refused, each as its name and what does so."""
     rows = [
         (["script"], SHORT, beginnings(ANSWERS)), (["trace"], SHORT, beginnings(TRACES)),
-        (["judge"], LAWFUL, ([b""], [b"lawful\n"])),
+        (["judge"], LAWFUL, ([b""], [b"lawful\n"])), (["import"], MOUNTS, ([b""], [IMPORTED])),
+        (["import"], TRAPS, ([b""], [program.run(["import"], TRAPS)[1]])),
         (["draw"], b"events\n", ([b""], [program.run(["draw"], b"events\n")[1]])),
         (["world"], b"events\n", ([b""], [INITIAL])), (["scrip"], b"", ([b""], [])),
         (["threads", "--walkers", "2", "--workers", "1", "--rounds", "2"], b"", ([b""], [b"rounds 4\n"])),

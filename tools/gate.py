@@ -5,9 +5,9 @@ usage: tools/gate.py [--all]
 
 First every planted fault is read: where one doesn't apply, or the front end refuses it, the gate ends there.
 Then every crate and its tests are proved from nothing and run (`rt ci`), and beside that planted faults are
-tried, in rounds (tools/faults): those of the crates that the last commit changed, and those of a third of the
-others, another third at each commit; with --all those of all crates. Behind 110 minutes no more of them are begun; what is
-left is told by name. When all is proved, the refused allocations, the program's commands, the examples, the program
+tried, in rounds (tools/faults): those of the crates that the last commit changed, and those of a quarter of
+the others, another quarter at each commit; with --all those of all crates. After 110 minutes no more of them are begun;
+what is left is told by name. When all is proved, the refused allocations, the program's commands, the examples, the program
 over two pipes, the library for C, and the pages are run, beside the faults that are left.
 
 Each minute it says how far it is. At its end stands what each crate cost, in seconds of a processor, and the
@@ -28,13 +28,13 @@ TICKS = os.sysconf("SC_CLK_TCK")
 PAGE = os.sysconf("SC_PAGE_SIZE")
 KINDS = ("proof", "tests", "faults")
 # How many parts the faults of the crates are tried in.
-PARTS = 3
+PARTS = 4
 # Which share of the work the proofs are; the planted faults are the rest.
 PROOFS = 0.75
 # Behind so many minutes no more planted faults are begun: a gate ends on a slow machine too, and says what it left out.
 LATEST = 110
 # What is run when all is proved.
-REST = ("refuse_all.sh", "commands.py", "examples.sh", "laws.py", "judge.py", "scripts.py", "sweeps.py", "pipes.py", "library.py test",
+REST = ("refuse_all.sh", "commands.py", "examples.sh", "laws.py", "judge.py", "imports.py", "scripts.py", "sweeps.py", "pipes.py", "library.py test",
         "check_pages", "run_pages")
 COUNTS = re.compile(r"^(\d+) passed, (\d+) failed$", re.M)
 

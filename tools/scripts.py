@@ -497,7 +497,7 @@ def name_of(task):
 
 
 def play_all(paths):
-    for path in paths or sorted(glob.glob(f"{FOLDER}/*")):
+    for path in paths or sorted(it for it in glob.glob(f"{FOLDER}/*") if os.path.isfile(it)):
         if path.rpartition(".")[2] not in (*SCRIPTS, *CASES, *LINES, *BESIDE):
             stop(f"expected a file that is played by what its name ends in, not {path}")
     long = [] if paths else [("", at) for at in range(len(LONG))]

@@ -4,13 +4,14 @@ use Rattle.std.specs.Io.KnownBytes.{Appends}
 use Rattle.am_mountinfo.specs.{ShowsInput, StopsShowing}
 use Rattle.am_runner.specs.{IsTally, Tally}
 use Rattle.am_script.specs.{PlaysInput, StopsInput, ScriptFault, Summary}
-use Rattle.am_cli.specs.{fault_number, Exits, Played, Stopped, Traced, TraceStopped, Drawn, DrawStopped, Shown, ShowStopped, Judged, JudgeStopped, Ran, Untold, NotRun, Refused, rounds_line, status_of_verdict, ArgsFault}
+use Rattle.am_cli.specs.{fault_number, Exits, Played, Stopped, Traced, TraceStopped, Drawn, DrawStopped, Shown, ShowStopped, Judged, JudgeStopped, Imported, ImportStopped, Ran, Untold, NotRun, Refused, rounds_line, status_of_verdict, ArgsFault}
 use Rattle.am_draw.specs.{DrawsInput, StopsDrawing}
+use Rattle.am_import.specs.{ImportsInput, StopsImporting, ImportFault}
 use Rattle.am_traces.specs.Judged.{JudgesInput, StopsJudging}
 use Rattle.am_traces.specs.declared.verdict.JudgeFault.{JudgeFault}
 use Rattle.am_traces.specs.declared.verdict.Verdict.{Verdict}
 use Rattle.am_views.specs.{TracesInput, StopsTrace}
-use Rattle.am_cli.specs.declared.args.Args.TheVariants.{Script, Trace, Draw, World, Judge, Threads}
+use Rattle.am_cli.specs.declared.args.Args.TheVariants.{Script, Trace, Draw, World, Judge, Import, Threads}
 
 pub ends_played : (input rest old new quiet : Option (List ℕ)) (summary : Summary) → PlaysInput input rest old new summary → Exits (Some Script) input rest old new quiet quiet 0
 ends_played input rest old new quiet summary plays = record { end = Played summary; asked_is = refl; status_is = refl; streams = (plays, refl) }
@@ -41,6 +42,12 @@ ends_judged input rest old new quiet verdict status judges e = record { end = Ju
 
 pub ends_judge_stopped : (input rest old new quiet told : Option (List ℕ)) (fault : JudgeFault) (status : ℕ) → StopsJudging input rest old new fault → status ≡ 1 → Exits (Some Judge) input rest old new quiet told status
 ends_judge_stopped input rest old new quiet told fault status stops e = record { end = JudgeStopped fault; asked_is = refl; status_is = e; streams = stops }
+
+pub ends_imported : (input rest old new quiet : Option (List ℕ)) (status : ℕ) → ImportsInput input rest old new → status ≡ 0 → Exits (Some Import) input rest old new quiet quiet status
+ends_imported input rest old new quiet status imports e = record { end = Imported; asked_is = refl; status_is = e; streams = (imports, refl) }
+
+pub ends_import_stopped : (input rest old new quiet told : Option (List ℕ)) (fault : ImportFault) (status : ℕ) → StopsImporting input rest old new fault → status ≡ 1 → Exits (Some Import) input rest old new quiet told status
+ends_import_stopped input rest old new quiet told fault status stops e = record { end = ImportStopped fault; asked_is = refl; status_is = e; streams = stops }
 
 pub ends_refused : (input old quiet told : Option (List ℕ)) (fault : ArgsFault) (status : ℕ) → status ≡ fault_number fault → Exits None input input old old quiet told status
 ends_refused input old quiet told fault status e = record { end = Refused fault; asked_is = refl; status_is = e; streams = (refl, refl) }

@@ -9,7 +9,7 @@ use Rattle.clap.specs.Simple.{on_top}
 use Rattle.clap.specs.declared.builder.action.ArgAction.TheVariants.{Set}
 use Rattle.clap.specs.declared.builder.value_parser.ValueParser.TheVariants.{Signed}
 use Rattle.am_cli.specs.declared.args.Args.{Args}
-use Rattle.am_cli.specs.declared.args.Args.TheVariants.{Script, Trace, Draw, World, Judge, Threads}
+use Rattle.am_cli.specs.declared.args.Args.TheVariants.{Script, Trace, Draw, World, Judge, Import, Threads}
 
 -- ---- the commands
 
@@ -47,6 +47,10 @@ world_app = with_rule (new_app (codes "world")) (number_rule (codes "namespace")
 abbrev pub judge_app : App
 judge_app = new_app (codes "judge")
 
+-- the command `import`, which has no options
+abbrev pub import_app : App
+import_app = new_app (codes "import")
+
 -- the command `threads`, with how many walkers and workers there are, and rounds
 abbrev pub threads_app : App
 threads_app =
@@ -60,10 +64,11 @@ threads_app =
 abbrev pub bare_program : App
 bare_program = on_top (λ s. record s { subcommand_required = true }) (new_app (codes "automount_cli"))
 
--- the program, with its six commands
+-- the program, with its seven commands
 abbrev pub cli : App
 cli =
     with_subcommand
+    (with_subcommand
     (with_subcommand
     (with_subcommand
     (with_subcommand
@@ -71,6 +76,7 @@ cli =
     draw_app.top)
     world_app.top)
     judge_app.top)
+    import_app.top)
     threads_app.top
 
 -- a command that is made so
@@ -101,6 +107,7 @@ AsksFor name rows (Draw first last) =
 AsksFor name rows (World namespace) =
     (name ≡ codes "world") × IsNumberIn rows (codes "namespace") namespace
 AsksFor name rows Judge = name ≡ codes "judge"
+AsksFor name rows Import = name ≡ codes "import"
 AsksFor name rows (Threads walkers workers rounds) =
     (name ≡ codes "threads") × IsNumber rows (codes "walkers") walkers
     × IsNumber rows (codes "workers") workers × IsNumber rows (codes "rounds") rounds

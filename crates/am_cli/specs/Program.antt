@@ -1,6 +1,7 @@
 -- How a run of the program ends: own choice (docs/FORMATS.md, "The program").
 use Rattle.std.specs.Prelude.{◌≡◌, ⊤, ◌++◌, ℕ, List, Option, None, Some, codes, decimal}
 use Rattle.std.specs.Io.KnownBytes.{Appends}
+use Rattle.am_import.specs.{ImportsInput, StopsImporting, ImportFault}
 use Rattle.am_mountinfo.specs.{ShowsInput, StopsShowing}
 use Rattle.am_runner.specs.{IsTally, Tally}
 use Rattle.am_script.specs.{PlaysInput, StopsInput, ScriptFault, Summary}
@@ -14,7 +15,7 @@ use Rattle.clap.specs.Words.{Text, subcommand_of}
 use Rattle.am_cli.specs.Args.{fault_number}
 use Rattle.am_cli.specs.CommandLine.{cli, Asks}
 use Rattle.am_cli.specs.declared.args.Args.{Args}
-use Rattle.am_cli.specs.declared.args.Args.TheVariants.{Script, Trace, Draw, World, Judge, Threads}
+use Rattle.am_cli.specs.declared.args.Args.TheVariants.{Script, Trace, Draw, World, Judge, Import, Threads}
 use Rattle.am_cli.specs.declared.args.ArgsFault.{ArgsFault}
 
 -- the line that tells the rounds of threads
@@ -43,6 +44,10 @@ pub data End : Type 0 where
   Judged : Verdict → End
   -- its verdict isn't written whole
   JudgeStopped : JudgeFault → End
+  -- the mountinfo is imported, and its script is written
+  Imported : End
+  -- its script isn't written whole
+  ImportStopped : ImportFault → End
   -- so many walkers and workers, of so many rounds each, have made them, and the line that tells
   -- them is written
   Ran : ℕ → ℕ → ℕ → Tally → End
@@ -70,6 +75,8 @@ status_of (Shown only summary) = 0
 status_of (ShowStopped only fault) = 1
 status_of (Judged verdict) = status_of_verdict verdict
 status_of (JudgeStopped fault) = 1
+status_of Imported = 0
+status_of (ImportStopped fault) = 1
 status_of (Ran walkers workers rounds tally) = 0
 status_of (Untold walkers workers rounds tally) = 1
 status_of (NotRun walkers workers rounds) = 1
@@ -87,13 +94,16 @@ asked_of (Shown only summary) = Some (World only)
 asked_of (ShowStopped only fault) = Some (World only)
 asked_of (Judged verdict) = Some Judge
 asked_of (JudgeStopped fault) = Some Judge
+asked_of Imported = Some Import
+asked_of (ImportStopped fault) = Some Import
 asked_of (Ran walkers workers rounds tally) = Some (Threads walkers workers rounds)
 asked_of (Untold walkers workers rounds tally) = Some (Threads walkers workers rounds)
 asked_of (NotRun walkers workers rounds) = Some (Threads walkers workers rounds)
 asked_of (Refused fault) = None
 
 -- What is read and written, and what is told of it: nothing is told of a script that is played,
--- traced or drawn to its end, or whose world is printed, nor of a trace that is judged, nor of threads whose rounds stand written.
+-- traced or drawn to its end, or whose world is printed, nor of a trace that is judged, a mountinfo that is imported,
+-- or threads whose rounds stand written.
 -- Threads read nothing. Nothing is read or written where they don't run, or the command line is
 -- none.
 abbrev pub Leaves : End → Option (List ℕ) → Option (List ℕ) → Option (List ℕ) → Option (List ℕ) → Option (List ℕ) → Option (List ℕ) → Type 0
@@ -109,6 +119,8 @@ Leaves (Shown only summary) input rest old new quiet told = ShowsInput only inpu
 Leaves (ShowStopped only fault) input rest old new quiet told = StopsShowing only input rest old new fault
 Leaves (Judged verdict) input rest old new quiet told = JudgesInput input rest old new verdict × (told ≡ quiet)
 Leaves (JudgeStopped fault) input rest old new quiet told = StopsJudging input rest old new fault
+Leaves Imported input rest old new quiet told = ImportsInput input rest old new × (told ≡ quiet)
+Leaves (ImportStopped fault) input rest old new quiet told = StopsImporting input rest old new fault
 Leaves (Ran walkers workers rounds tally) input rest old new quiet told =
     IsTally walkers workers rounds tally × (rest ≡ input) × Appends old new (rounds_line tally.rounds) × (told ≡ quiet)
 Leaves (Untold walkers workers rounds tally) input rest old new quiet told =

@@ -32,6 +32,8 @@ pub enum Args {
     },
     /// Judges the trace on standard input.
     Judge,
+    /// Makes a script of the mountinfo on standard input.
+    Import,
     /// Lets so many threads walk, each so many rounds, and so many serve them.
     Threads {
         /// 1 to 16.
@@ -130,6 +132,7 @@ fn asked(name: &str, given: &ArgMatches<'_>) -> Result<Args, ArgsFault>
         "draw" => draw(given),
         "world" => world(given),
         "judge" => Ok(Args::Judge),
+        "import" => Ok(Args::Import),
         "threads" => threads(given),
         _ => Err(ArgsFault::Usage),
     }

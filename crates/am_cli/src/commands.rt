@@ -65,5 +65,6 @@ pub(crate) fn command<'a>(alloc: Global) -> Result<Command<'a>, AllocError>
         .subcommand(draw_command(alloc)?)?
         .subcommand(world_command(alloc)?)?
         .subcommand(Command::new(alloc, "judge"))?
+        .subcommand(Command::new(alloc, "import"))?
         .subcommand(threads_command(alloc)?)
 }

@@ -10,6 +10,7 @@ ghost use Rattle.am_cli.specs.declared.args.Args.TheVariants as asks;
 
 use crate::args::{Args, ArgsFault, read_args};
 use am_draw::draw_script;
+use am_import::{ImportFault, import};
 use am_mountinfo::world_script;
 use am_names::NsId;
 use am_runner::{Tally, run_threads};
@@ -62,6 +63,7 @@ fn run_asked<T: Threads + Wait + Sync, R: Read, W: Write, E: Write>(
         Args::Trace => trace(alloc, reader, writer, errors),
         Args::Draw { first, last } => draw(alloc, first, last, reader, writer, errors),
         Args::Judge => judge(alloc, reader, writer, errors),
+        Args::Import => import_mounts(alloc, reader, writer, errors),
         Args::World { namespace } => show(alloc, reader, writer, errors, namespace),
         Args::Threads {
             walkers,
@@ -181,6 +183,31 @@ fn judge<R: Read, W: Write, E: Write>(
 
 /// A verdict isn't written.
 fn end_judging<E: Write>(errors: &mut E, fault: JudgeFault) -> u8
+    ensures { result ≡ 1 }
+{
+    let _ = writeln!(errors, "fault: {fault}");
+    1
+}
+
+/// Imports the mountinfo that the reader gives.
+fn import_mounts<R: Read, W: Write, E: Write>(
+    alloc: Global,
+    reader: &mut R,
+    writer: &mut W,
+    errors: &mut E,
+) -> u8
+    ensures { Exits (Some asks.Import) (R.remaining reader.old) (R.remaining reader.new)
+        (W.contents writer.old) (W.contents writer.new) (E.contents errors.old)
+        (E.contents errors.new) result }
+{
+    match import(alloc, reader, writer) {
+        Ok(()) => 0,
+        Err(fault) => end_importing(errors, fault),
+    }
+}
+
+/// A script isn't made, or not written.
+fn end_importing<E: Write>(errors: &mut E, fault: ImportFault) -> u8
     ensures { result ≡ 1 }
 {
     let _ = writeln!(errors, "fault: {fault}");

@@ -7,3 +7,5 @@ pub mod Maps
 pub mod Misfits
 pub mod Parameters
 pub mod Scripts
+-- what contracts cite, passed on from one place
+pub use Columns.{IsColumn}

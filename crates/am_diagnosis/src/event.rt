@@ -5,7 +5,7 @@ ghost use Rattle.am_lines.specs.{words_of};
 ghost use Rattle.am_diagnosis.specs.Columns.{IsSlipOf};
 ghost use Rattle.am_diagnosis.specs.Events.{event_misfit};
 
-use crate::column::column;
+use crate::columns::column;
 use crate::expected::{Expected, Slip};
 use crate::misfit::{Misfit, misfit_at, misfit_of};
 use crate::parameters::parameters;

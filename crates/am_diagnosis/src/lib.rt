@@ -1,7 +1,7 @@
 //! Where a line that a reader refuses isn't as expected, and what was expected there.
 #![tactic(auto)]
 
-mod column;
+mod columns;
 pub mod event;
 pub mod expected;
 mod fits;
@@ -16,6 +16,7 @@ mod parameters;
 pub mod script;
 mod word;
 
+pub use columns::column;
 pub use event::event_slip;
 pub use expected::{Expected, Slip};
 pub use script::slip_in;

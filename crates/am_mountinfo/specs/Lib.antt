@@ -8,7 +8,7 @@ pub mod Residents
 pub mod Tables
 pub mod WorldText
 -- what contracts cite, passed on from one place
-pub use Mountinfo.{AreNamespaces, ArePlaced, below, byte_text, dominating, has_peer, masters_from, mount_line, namespace_text, namespaces_text, parent_in, parent_of, path_among, path_of}
+pub use Mountinfo.{AreNamespaces, ArePlaced, below, byte_text, dominating, has_peer, is_number, masters_from, mount_line, namespace_text, namespaces_text, parent_in, parent_of, path_among, path_of}
 pub use Notes.{fs_notes, job_note, packet_note, record_note, token_note, use_note, walk_note, walkers_text}
 pub use Opens.{opens_text, row_note}
 pub use Paths.{ArePaths, HasOneMore}

@@ -1,12 +1,12 @@
 //! The world after a script, as /proc/PID/mountinfo tells the mounts of its namespaces (proc(5)).
 #![tactic(auto)]
 
-mod masters;
+pub mod masters;
 mod mount_line;
 mod namespaces;
 mod notes;
-mod paths;
-mod peers;
+pub mod paths;
+pub mod peers;
 mod residents;
 mod tables;
 pub mod world_text;

@@ -10,7 +10,7 @@ use am_names::{GroupId, MountId, MountRow};
 use am_world::World;
 
 /// The master of a mount.
-pub(crate) fn master_of(world: &World, mount: MountId) -> Option<GroupId>
+pub fn master_of(world: &World, mount: MountId) -> Option<GroupId>
     ensures { result ≡ master_of world.now.kernel.table.groups mount }
 {
     let row = world.member(mount)?;

@@ -16,7 +16,7 @@ pub struct Peers {
 }
 
 /// The peer group that a mount is in.
-pub(crate) fn group_of(world: &World, mount: MountId) -> Option<GroupId>
+pub fn group_of(world: &World, mount: MountId) -> Option<GroupId>
     ensures { result ≡ group_of world.now.kernel.table.groups mount }
 {
     world.member(mount)?.group()

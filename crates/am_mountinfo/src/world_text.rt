@@ -116,13 +116,13 @@ fn show_opened<W: Write>(
 
 /// How the events went, and the line of the last, or of `events` where there is none.
 #[derive(Clone, Copy)]
-struct Played {
-    summary: Summary,
-    line: u64,
+pub struct Played {
+    pub summary: Summary,
+    pub line: u64,
 }
 
 /// Plays the events of these lines, of which the first is behind the line with this number.
-fn play_events(
+pub fn play_events(
     alloc: Global,
     world: &mut World,
     rest: Option<&[u8]>,

@@ -1,0 +1,4 @@
+mod LineLemmas
+mod NoteLemmas
+mod PlayLemmas
+mod ShownLemmas

@@ -1,0 +1,4 @@
+pub mod Escaping
+pub mod Found
+pub mod Numbers
+pub mod Tails
