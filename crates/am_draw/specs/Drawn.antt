@@ -1,21 +1,23 @@
 -- How a script is drawn: its run, a row for each event, between a head and a tail. Own choice
 -- (docs/FORMATS.md, "Pictures").
-use Rattle.std.specs.Prelude.{◌≡◌, ◌⊎◌, ◌<◌, ℕ, ◌+◌, ◌==◌, Bool, nat_lt, List, [], ◌∷◌, ◌++◌, map, length, take, count_by, Option, None, Some, Result, Ok, Err, if◌then◌else◌}
+use Rattle.std.specs.Prelude.{◌≡◌, ◌⊎◌, ◌<◌, ℕ, ◌+◌, ◌==◌, Bool, true, false, nat_lt, List, [], ◌∷◌, ◌++◌, map, length, take, count_by, Option, None, Some, Result, Ok, Err, if◌then◌else◌}
 use Rattle.std.specs.List.{flat_map}
 use Rattle.std.specs.Io.KnownBytes.{Appends, Consumes, IsAtEnd}
 use Rattle.am_names.specs.{MountRow}
 use Rattle.am_machine.specs.State.{State}
 use Rattle.am_machine.specs.{Setup, initial_state_of, Answer, Event, Step}
+use Rattle.am_machine.specs.declared.answer.Answer.TheVariants.{Refused}
+use Rattle.am_names.specs.declared.errno.Errno.TheVariants as errnos
 use Rattle.am_state.specs.{Obs}
-use Rattle.am_script.specs.{ScriptFault, ScriptFaultKind, Output, Summary, is_refused, lines_of, Owed, owed_by, Stands, PutsOut, NothingPlayed, WasRead, played, Numbered, Told, script_of, fault_at, IsWhole, IsShort}
+use Rattle.am_script.specs.{ScriptFault, ScriptFaultKind, Output, Summary, is_refused, lines_of, Owed, owed_by, Stands, PutsOut, NothingPlayed, WasRead, played, broken, Numbered, Told, script_of, fault_at, IsWhole, IsShort}
 use Rattle.am_script.specs.declared.fault.ScriptFaultKind.TheVariants.{NoMemory, WriteFailed}
 use Rattle.am_script.specs.Script.{Script}
 use Rattle.am_views.specs.{HeadStops}
-use Rattle.am_draw.specs.declared.bars.Lasting.{Lasting}
 use Rattle.am_draw.specs.declared.part.Part.{Part}
-use Rattle.am_draw.specs.Bars.{behind, nothing_lasts}
+use Rattle.am_draw.specs.declared.part.Size.{Size}
+use Rattle.am_draw.specs.Lasts.{Lasts, behind, added, nothing_lasts}
 use Rattle.am_draw.specs.Head.{head_text, tail_text}
-use Rattle.am_draw.specs.Parts.{part_of, is_drawn, row_y}
+use Rattle.am_draw.specs.Parts.{part_of, is_drawn, is_past}
 use Rattle.am_draw.specs.Rows.{row_text, sides_of}
 use Rattle.am_draw.specs.Trees.{rows_before}
 
@@ -38,9 +40,16 @@ asked_in rows = map (λ row. row.asked) rows
 abbrev pub answers_in : List Viewed → List Answer
 answers_in rows = map (λ row. row.answer) rows
 
--- the event comes, with its answer and what is seen of it, between these mounts
+-- the event is refused for want of memory
+abbrev pub is_out_of_memory : Answer → Bool
+is_out_of_memory (Refused errnos.NoMemory) = true
+is_out_of_memory answer = false
+
+-- the event comes, with its answer and what is seen of it, between these mounts; it isn't refused for
+-- want of memory
 pub record Views (old : State) (row : Viewed) (new : State) : Type 0 where
   pub step : Step old row.asked.event row.answer row.seen new
+  pub has_room : is_out_of_memory row.answer ≡ false
   pub before : row.before ≡ rows_before old row.asked.event
   pub after : row.after ≡ new.kernel.table.rows
 
@@ -49,22 +58,50 @@ abbrev pub ViewedRun : State → List Viewed → State → Type 0
 ViewedRun old [] new = new ≡ old
 ViewedRun old (row ∷ rows) new = (mid : State) × Views old row mid × ViewedRun mid rows new
 
+-- ---- how wide it is
+
+-- what lasts behind these events, of which the first has this number, where a lane is added for
+-- whoever may take none
+abbrev pub added_behind : ℕ → Lasts → List Viewed → Lasts
+added_behind number lasts [] = lasts
+added_behind number lasts (row ∷ rows) =
+    added_behind (number + 1) (added number lasts row.asked.event row.seen) rows
+
+-- the lanes that these events come to, from none
+abbrev pub lanes_for : List Viewed → Lasts
+lanes_for rows = added_behind 1 (nothing_lasts 0 0) rows
+
+-- how many events there are, and how many lanes they come to
+abbrev pub size_of : List Viewed → Size
+size_of rows = record {
+  events = length rows;
+  walkers = length (lanes_for rows).walkers;
+  tokens = length (lanes_for rows).tokens;
+}
+
+-- a run of all events of the script has this size
+pub record IsSizeOf (start : State) (told : Told) (size : Size) : Type 0 where
+  pub all : List Viewed
+  pub asked : told.events ≡ asked_in all
+  pub ends : State
+  pub run : ViewedRun start all ends
+  pub size : size ≡ size_of all
+
 -- ---- what is drawn
 
 -- the row of the event with this number, if it is drawn
-abbrev pub row_in : List MountRow → List MountRow → Part → ℕ → Lasting → Event → List Obs → List ℕ → List ℕ
-row_in before after part number lasting event seen sides =
-    if is_drawn part number then row_text before after (row_y part number) lasting event seen sides
-    else []
+abbrev pub row_in : List MountRow → List MountRow → Part → ℕ → Lasts → Event → List Obs → List ℕ → List ℕ
+row_in before after part number lasts event seen sides =
+    if is_drawn part number then row_text before after part number lasts event seen sides else []
 
 -- the head stands before the first event
 abbrev pub head_in : Part → ℕ → List ℕ
-head_in part number = if number == 1 then head_text part.rows part.events else []
+head_in part number = if number == 1 then head_text part else []
 
 -- what is drawn for the event with this number: the head before the first, and its row
-abbrev pub drawn_for : List MountRow → List MountRow → Part → ℕ → Lasting → Event → List Obs → List ℕ → List ℕ
-drawn_for before after part number lasting event seen sides =
-    head_in part number ++ row_in before after part number lasting event seen sides
+abbrev pub drawn_for : List MountRow → List MountRow → Part → ℕ → Lasts → Event → List Obs → List ℕ → List ℕ
+drawn_for before after part number lasts event seen sides =
+    head_in part number ++ row_in before after part number lasts event seen sides
 
 -- what is drawn for a line of the script
 pub record Piece : Type 0 where
@@ -72,30 +109,50 @@ pub record Piece : Type 0 where
   pub bytes : List ℕ
 
 -- what is drawn for the event's line
-abbrev pub event_piece : Part → ℕ → Lasting → Viewed → Piece
-event_piece part number lasting row = record {
+abbrev pub event_piece : Part → ℕ → Lasts → Viewed → Piece
+event_piece part number lasts row = record {
   line = row.asked.line;
   bytes =
-      drawn_for row.before row.after part number lasting row.asked.event row.seen
+      drawn_for row.before row.after part number lasts row.asked.event row.seen
       (sides_of number row.asked.event row.answer);
 }
 
--- events from this number on, before which this lasts
-abbrev pub event_pieces : Part → ℕ → Lasting → List Viewed → List Piece
-event_pieces part number lasting [] = []
-event_pieces part number lasting (row ∷ rows) =
-    event_piece part number lasting row
-    ∷ event_pieces part (number + 1) (behind lasting row.asked.event row.seen) rows
+-- what lasts behind the event with this number; what comes behind the part doesn't matter
+abbrev pub next_lasts : Part → ℕ → Lasts → Event → List Obs → Lasts
+next_lasts part number lasts event seen =
+    if is_past part number then lasts else behind number lasts event seen
 
--- the tail stands behind the last event, and is of its line
-abbrev pub tail_pieces : List Viewed → List Piece
-tail_pieces [] = []
-tail_pieces (row ∷ []) = record { line = row.asked.line; bytes = tail_text } ∷ []
-tail_pieces (row ∷ next ∷ rows) = tail_pieces (next ∷ rows)
+-- events from this number on, before which this lasts
+abbrev pub event_pieces : Part → ℕ → Lasts → List Viewed → List Piece
+event_pieces part number lasts [] = []
+event_pieces part number lasts (row ∷ rows) =
+    event_piece part number lasts row
+    ∷ event_pieces part (number + 1) (next_lasts part number lasts row.asked.event row.seen) rows
+
+-- what lasts behind these events
+abbrev pub lasts_behind : Part → ℕ → Lasts → List Viewed → Lasts
+lasts_behind part number lasts [] = lasts
+lasts_behind part number lasts (row ∷ rows) =
+    lasts_behind part (number + 1) (next_lasts part number lasts row.asked.event row.seen) rows
+
+-- what stands behind the last event, and is of its line
+abbrev pub tail_pieces : List ℕ → List Viewed → List Piece
+tail_pieces bytes [] = []
+tail_pieces bytes (row ∷ []) = record { line = row.asked.line; bytes = bytes } ∷ []
+tail_pieces bytes (row ∷ next ∷ rows) = tail_pieces bytes (next ∷ rows)
+
+-- in the beginning nobody holds one of the lanes
+abbrev pub first_lasts : Part → Lasts
+first_lasts part = nothing_lasts part.size.tokens part.size.walkers
+
+-- the tail of the picture of these events
+abbrev pub tail_for : Part → List Viewed → List ℕ
+tail_for part rows = tail_text part (length rows) (lasts_behind part 1 (first_lasts part) rows)
 
 -- all that is drawn of a run of these events
 abbrev pub pieces_of : Part → List Viewed → List Piece
-pieces_of part rows = event_pieces part 1 nothing_lasts rows ++ tail_pieces rows
+pieces_of part rows =
+    event_pieces part 1 (first_lasts part) rows ++ tail_pieces (tail_for part rows) rows
 
 -- the bytes of these pieces
 abbrev pub bytes_in : List Piece → List ℕ
@@ -107,33 +164,35 @@ picture part rows = bytes_in (pieces_of part rows)
 
 -- ---- a script with a world
 
--- what is drawn of these events, from one number to another
-abbrev pub part_in : ℕ → ℕ → Told → Part
-part_in first last told = part_of first last (length told.events)
-
 -- all events come, and nothing but their picture is written
 pub record AllDrawn (first last : ℕ) (start : State) (told : Told) (old new : Option (List ℕ)) (summary : Summary) : Type 0 where
   pub no_fault : told.fault ≡ None
+  pub size : Size
+  pub sized : IsSizeOf start told size
   pub rows : List Viewed
   pub asked : told.events ≡ asked_in rows
   pub ends : State
   pub run : ViewedRun start rows ends
-  pub written : Appends old new (picture (part_in first last told) rows)
+  pub written : Appends old new (picture (part_of first last size) rows)
   pub lines : summary.lines ≡ length rows
   pub refused : summary.refused ≡ count_by is_refused (answers_in rows)
 
 -- the script's own fault comes behind its events, whose picture is written
 pub record DrawnToFault (first last : ℕ) (start : State) (told : Told) (old new : Option (List ℕ)) (fault : ScriptFault) : Type 0 where
   pub found : told.fault ≡ Some fault
+  pub size : Size
+  pub sized : IsSizeOf start told size
   pub rows : List Viewed
   pub asked : told.events ≡ asked_in rows
   pub ends : State
   pub run : ViewedRun start rows ends
-  pub written : Appends old new (picture (part_in first last told) rows)
+  pub written : Appends old new (picture (part_of first last size) rows)
 
 -- memory runs out for an event; the picture of those before it is written
 pub record DrawnToRoom (first last : ℕ) (start : State) (told : Told) (old new : Option (List ℕ)) (fault : ScriptFault) : Type 0 where
   pub kind : fault.kind ≡ NoMemory
+  pub size : Size
+  pub sized : IsSizeOf start told size
   pub rows : List Viewed
   pub here : Numbered
   pub others : List Numbered
@@ -141,11 +200,13 @@ pub record DrawnToRoom (first last : ℕ) (start : State) (told : Told) (old new
   pub line : fault.line ≡ here.line
   pub ends : State
   pub run : ViewedRun start rows ends
-  pub written : Appends old new (picture (part_in first last told) rows)
+  pub written : Appends old new (picture (part_of first last size) rows)
 
 -- what is drawn for a line isn't taken whole, but for a beginning; all before it is written
 pub record DrawnToLoss (first last : ℕ) (start : State) (told : Told) (old new : Option (List ℕ)) (fault : ScriptFault) : Type 0 where
   pub loss : fault.kind ≡ WriteFailed
+  pub size : Size
+  pub sized : IsSizeOf start told size
   pub rows : List Viewed
   pub left : List Numbered
   pub asked : told.events ≡ asked_in rows ++ left
@@ -154,7 +215,7 @@ pub record DrawnToLoss (first last : ℕ) (start : State) (told : Told) (old new
   pub done : List Piece
   pub here : Piece
   pub others : List Piece
-  pub parted : pieces_of (part_in first last told) rows ≡ done ++ here ∷ others
+  pub parted : pieces_of (part_of first last size) rows ≡ done ++ here ∷ others
   pub line : fault.line ≡ here.line
   pub taken : ℕ
   pub short : taken < length here.bytes
@@ -222,16 +283,35 @@ pub record StopsDrawing (first last : ℕ) (input rest old new : Option (List �
       HeadStops (length (lines_of (played broke text))) (script_of broke text) old new fault
       ⊎ EventsStop first last (script_of broke text) old new fault
 
+-- a script that was counted is drawn: it has a world, whose events have this size
+abbrev pub IsSizeOfScript : Script → Size → Type 0
+IsSizeOfScript script size =
+    (opening : Setup) → script.opening ≡ Some opening → IsSizeOf (initial_state_of opening) script.told size
+
+-- what comes of a script that is opened once more, and whose events have this size
+abbrev pub DrawsFrom : ℕ → ℕ → Option ScriptFaultKind → List ℕ → Option (List ℕ) → Option (List ℕ) → Result Summary ScriptFault → Type 0
+DrawsFrom first last broke text old new (Ok summary) =
+    (broken broke text ≡ None)
+    × DrawnFrom first last (script_of broke text).opening (script_of broke text).told old new summary
+DrawsFrom first last broke text old new (Err fault) =
+    HeadStops (length (lines_of (played broke text))) (script_of broke text) old new fault
+    ⊎ EventsStop first last (script_of broke text) old new fault
+
+-- the same, if that is its size
+abbrev pub DrawsAgain : ℕ → ℕ → Option ScriptFaultKind → List ℕ → Size → Option (List ℕ) → Option (List ℕ) → Result Summary ScriptFault → Type 0
+DrawsAgain first last broke text size old new result =
+    IsSizeOfScript (script_of broke text) size → DrawsFrom first last broke text old new result
+
 -- ---- one event
 
 -- the event comes, and what is drawn of it is put out
-pub record IsDrawn (part : Part) (number : ℕ) (s : State) (asked : Numbered) (next : State) (before after : Lasting) (kept keeps : Output) (old new : Option (List ℕ)) (refused : Bool) : Type 0 where
+pub record IsDrawn (part : Part) (number : ℕ) (s : State) (asked : Numbered) (next : State) (before after : Lasts) (kept keeps : Output) (old new : Option (List ℕ)) (refused : Bool) : Type 0 where
   pub row : Viewed
   pub is : row.asked ≡ asked
   pub views : Views s row next
   pub puts : PutsOut kept keeps (owed_by row.asked.line (event_piece part number before row).bytes) old new
   pub line : keeps.line ≡ row.asked.line
-  pub lasts : after ≡ behind before row.asked.event row.seen
+  pub lasts : after ≡ next_lasts part number before row.asked.event row.seen
   pub test : refused ≡ is_refused row.answer
 
 -- memory runs out for it, and nothing is put out
@@ -243,15 +323,24 @@ pub record IsUndrawn (line : ℕ) (kept keeps : Output) (old new : Option (List 
 -- ---- the end
 
 -- behind so many events stands the tail, if there are any
-abbrev pub tail_behind : ℕ → List ℕ
-tail_behind events = if nat_lt 0 events then tail_text else []
+abbrev pub tail_behind : Part → ℕ → Lasts → List ℕ
+tail_behind part events lasts = if nat_lt 0 events then tail_text part events lasts else []
 
 -- the tail is put out, and what is kept goes to the writer
-abbrev pub Finishes : Output → ℕ → Result Summary ScriptFault → Option (List ℕ) → Option (List ℕ) → Result Summary ScriptFault → Type 0
-Finishes output events ended held holds result =
+abbrev pub Finishes : Output → List ℕ → Result Summary ScriptFault → Option (List ℕ) → Option (List ℕ) → Result Summary ScriptFault → Type 0
+Finishes output tail ended held holds result =
     (all : List Owed) → (start : Option (List ℕ)) → Stands output all start held
-    → IsWhole ended result (all ++ owed_by output.line (tail_behind events)) start holds
-    ⊎ IsShort result (all ++ owed_by output.line (tail_behind events)) start holds
+    → IsWhole ended result (all ++ owed_by output.line tail) start holds
+    ⊎ IsShort result (all ++ owed_by output.line tail) start holds
+
+-- ---- counting
+
+-- the event comes, and lanes are added for it
+pub record IsCounted (number : ℕ) (s : State) (asked : Numbered) (next : State) (before after : Lasts) : Type 0 where
+  pub row : Viewed
+  pub is : row.asked ≡ asked
+  pub views : Views s row next
+  pub adds : after ≡ added number before row.asked.event row.seen
 
 -- where counting ends at a fault, it counts the events before it, unless memory ran out
 abbrev pub counted_to : ℕ → ScriptFaultKind → ScriptFault → Result ℕ ScriptFault

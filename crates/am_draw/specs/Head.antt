@@ -1,36 +1,114 @@
 -- What stands before the rows of a picture, and behind them: own choice (docs/FORMATS.md,
 -- "Pictures").
-use Rattle.std.specs.Prelude.{ℕ, ◌+◌, ◌*◌, List, ◌++◌, codes, decimal}
-use Rattle.am_draw.specs.Marks.{label}
-use Rattle.am_draw.specs.Look.{look_text}
+use Rattle.std.specs.Prelude.{ℕ, ◌+◌, ◌-◌, ◌*◌, nat_lt, List, ◌++◌, [], codes, decimal, if◌then◌else◌}
+use Rattle.am_draw.specs.declared.part.Part.{Part}
+use Rattle.am_draw.specs.declared.stretch.Until.{Until}
+use Rattle.am_draw.specs.Lasts.{Lasts}
+use Rattle.am_draw.specs.Look.{look_text, right_text}
+use Rattle.am_draw.specs.Marks.{label, shift}
+use Rattle.am_draw.specs.Parts.{wide, rows_shown}
+use Rattle.am_draw.specs.Stretches.{all_bars}
 
 -- how high a picture of so many rows is, in pixels
 abbrev pub height : ℕ → ℕ
 height rows = 140 + 26 * rows
 
--- the element that holds all others, as high as so many rows
-abbrev pub size_text : ℕ → List ℕ
-size_text rows =
-    codes "<svg xmlns='http://www.w3.org/2000/svg' width='1312' height='" ++ decimal (height rows)
-    ++ (codes "' viewBox='0 0 1312 " ++ decimal (height rows))
+-- how wide one is with room for so many lanes of walkers and of tokens, in pixels
+abbrev pub width : ℕ → ℕ → ℕ
+width walkers tokens = 844 + 44 * walkers + 20 * tokens
 
--- what all rows stand on
-abbrev pub ground : ℕ → List ℕ
-ground rows =
-    codes "<rect fill='url(#rows)' y='118' width='1312' height='"
-    ++ decimal (26 * rows)
-    ++ codes "'/>\n"
+-- ---- the element that holds all others
+
+-- how wide and how high it is
+abbrev pub size_text : ℕ → ℕ → List ℕ
+size_text across down =
+    codes "<svg xmlns='http://www.w3.org/2000/svg' width='" ++ decimal across
+    ++ (codes "' height='" ++ decimal down)
+
+-- the same once more, for those that show it at another size
+abbrev pub box_text : ℕ → ℕ → List ℕ
+box_text across down = codes "' viewBox='0 0 " ++ decimal across ++ (codes " " ++ decimal down)
 
 -- how many rows there are, of how many events
 abbrev pub count_words : ℕ → ℕ → List ℕ
 count_words rows events = decimal rows ++ ((codes " of " ++ decimal events) ++ codes " events")
 
--- so many rows of so many events
-abbrev pub head_text : ℕ → ℕ → List ℕ
-head_text rows events =
-    size_text rows
-    ++ (look_text ++ (ground rows ++ label (codes "h") 46 84 (count_words rows events)))
+-- its title
+abbrev pub title_text : ℕ → ℕ → List ℕ
+title_text rows events =
+    codes "' class='am' role='img'>\n<title>" ++ (count_words rows events ++ codes "</title>\n")
 
--- what stands behind the rows
-abbrev pub tail_text : List ℕ
-tail_text = codes "</svg>\n"
+-- the tag, with its title, of a picture of so many rows of so many events
+abbrev pub tag_text : ℕ → ℕ → ℕ → ℕ → List ℕ
+tag_text walkers tokens rows events =
+    size_text (width walkers tokens) (height rows)
+    ++ (box_text (width walkers tokens) (height rows) ++ title_text rows events)
+
+-- ---- what all rows stand on
+
+-- a line below each row
+abbrev pub rules : ℕ → ℕ → List ℕ
+rules across down =
+    codes "<rect fill='url(#am-rows)' y='118' width='" ++ decimal across
+    ++ ((codes "' height='" ++ decimal down) ++ codes "'/>\n")
+
+-- the lanes of walkers
+abbrev pub walker_lanes : ℕ → ℕ → List ℕ
+walker_lanes across down =
+    codes "<rect fill='url(#am-walkers)' x='310' y='118' width='" ++ decimal across
+    ++ ((codes "' height='" ++ decimal down) ++ codes "'/>\n")
+
+-- the edge of the column of walkers
+abbrev pub edges : ℕ → ℕ → List ℕ
+edges down left =
+    codes "<path class='column' d='M304 118v" ++ decimal down
+    ++ ((codes "M" ++ decimal left) ++ ((codes " 118v" ++ decimal down) ++ codes "'/>\n"))
+
+-- the title of the columns of tokens
+abbrev pub token_title : ℕ → List ℕ
+token_title left = codes "<text class='h' x='" ++ decimal left ++ codes "' y='108'>kernel: tokens</text>\n"
+
+-- the columns at the right, which are moved so far
+abbrev pub right_columns : ℕ → ℕ → List ℕ
+right_columns far down =
+    codes "<g transform='translate(" ++ decimal far
+    ++ ((codes ")'>\n<rect fill='url(#am-right)' x='852' y='118' width='460' height='" ++ decimal down)
+    ++ (codes "'/>\n" ++ right_text))
+
+-- all of it, below rows that are so high
+abbrev pub ground : ℕ → ℕ → ℕ → List ℕ
+ground walkers tokens down =
+    (rules (width walkers tokens) down ++ walker_lanes (44 * walkers) down)
+    ++ (edges down (320 + 44 * walkers)
+    ++ (token_title (328 + 44 * walkers) ++ right_columns (shift walkers tokens) down))
+
+-- ---- head and tail
+
+-- so many rows of so many events, with room for so many lanes
+abbrev pub head_for : ℕ → ℕ → ℕ → ℕ → List ℕ
+head_for walkers tokens rows events =
+    tag_text walkers tokens rows events
+    ++ (look_text
+    ++ (ground walkers tokens (26 * rows) ++ label (codes "h") 46 84 (count_words rows events)))
+
+-- the head of the picture of this part
+abbrev pub head_text : Part → List ℕ
+head_text part =
+    head_for (wide 7 part.size.walkers) (wide 8 part.size.tokens) part.rows part.size.events
+
+-- the bars that reach to the bottom of the last of so many rows
+abbrev pub last_bars : ℕ → ℕ → Lasts → List ℕ
+last_bars skipped rows lasts =
+    codes "<g transform='translate(0," ++ decimal (105 + 26 * rows)
+    ++ (codes ")'>\n"
+    ++ (all_bars (record { skipped = skipped; number = skipped + rows; more = 13 }) lasts
+    ++ codes "</g>\n"))
+
+-- the same, if there are rows
+abbrev pub last_bars_in : ℕ → ℕ → Lasts → List ℕ
+last_bars_in skipped rows lasts = if nat_lt 0 rows then last_bars skipped rows lasts else []
+
+-- what stands behind the rows once so many events have come, where this lasts
+abbrev pub tail_text : Part → ℕ → Lasts → List ℕ
+tail_text part events lasts =
+    last_bars_in part.skipped (rows_shown part events) lasts ++ codes "</svg>\n"

@@ -1,24 +1,30 @@
 pub mod Bars
 pub mod Drawn
 pub mod Head
+pub mod Lasts
 pub mod Look
 pub mod Marks
 pub mod Parts
 pub mod Rows
 pub mod Sides
+pub mod Stretches
 pub mod Trees
 pub mod Words
 -- what contracts cite, passed on from one place
-pub use Bars.{answered_lane, behind, catatonic_lane, changed, nothing_lasts, seen_behind}
-pub use Drawn.{AllDrawn, DrawEnds, DrawStops, DrawnFrom, DrawnToLoss, DrawsInput, Finishes, IsAtEvent, IsDrawn, NotCounted, Piece, StopsDrawing, Viewed, ViewedRun, Views, answers_in, asked_in, bytes_in, counted_to, drawn_for, event_piece, event_pieces, head_in, part_in, picture, pieces_of, tail_behind, tail_pieces}
+pub use Bars.{ended_lane, is_free, is_of, lane_for, may_take, placed, sighted, with_lane}
+pub use Drawn.{AllDrawn, DrawEnds, DrawStops, DrawnFrom, DrawnToLoss, DrawsAgain, DrawsFrom, DrawsInput, Finishes, IsAtEvent, IsCounted, IsDrawn, IsSizeOf, IsSizeOfScript, NotCounted, Piece, StopsDrawing, Viewed, ViewedRun, Views, added_behind, answers_in, asked_in, bytes_in, counted_to, drawn_for, event_piece, event_pieces, first_lasts, head_in, is_out_of_memory, lanes_for, lasts_behind, next_lasts, picture, pieces_of, size_of, tail_behind, tail_for, tail_pieces}
 pub use Head.{tail_text}
+pub use Lasts.{Lasts, acted, added, behind, changed, lasts_of, nothing_lasts, roomed, roomed_for, seen_added, seen_behind}
 pub use Marks.{lane_x}
-pub use Parts.{is_drawn, part_of, row_y}
-pub use Rows.{lane_half, lanes_half, obs_marks, row_text, seen_marks, sides_of}
+pub use Parts.{is_drawn, is_past, part_of, row_y, rows_shown}
+pub use Rows.{obs_drawn, row_text, seen_drawn, sides_of}
 pub use Sides.{sides_said}
+pub use Stretches.{lane_bar, lane_bars}
 pub use Trees.{is_umount, rows_before, takes_mounts, tree_marks}
 pub use Words.{xml}
+pub use declared.bars.Ending.{Ending}
 pub use declared.bars.Holder.{Holder}
-pub use declared.bars.Lasting.{Lasting}
 pub use declared.marks.Lanes.{Lanes}
 pub use declared.part.Part.{Part}
+pub use declared.part.Size.{Size}
+pub use declared.stretch.Until.{Until}

@@ -1,85 +1,84 @@
 -- How the parts of a picture look: its styles, its symbols, and what they stand for. It begins
--- behind the size, within the tag. Own choice (docs/FORMATS.md, "Pictures").
+-- behind the size and the title, and ends where what depends on the size begins. Own choice
+-- (docs/FORMATS.md, "Pictures").
 use Rattle.std.specs.Prelude.{ℕ, List, ◌++◌, codes}
 
--- the styles of texts, lanes, bars and walkers
+-- what the picture is, and the styles of texts, lanes, bars and walkers
 abbrev pub look_part_1 : List ℕ
 look_part_1 =
-    codes "'>\n<style>text{font:12px 'DejaVu Sans',Verdana,sans-serif;fill:#1b1f24}"
-    ++ (codes "path,use{fill:none}.m{font:11px 'DejaVu Sans Mono',Consolas,monospace}"
-    ++ (codes ".h{font-weight:bold}.s{font-size:10.5px;fill:#57606a}"
-    ++ (codes ".n{fill:#6e7781;text-anchor:end}.c{text-anchor:middle}"
-    ++ (codes ".k{font-size:10px;text-anchor:middle}.refused{fill:#9a3412;font-style:italic}"
-    ++ (codes ".rule{stroke:#e4e8ed}.lane{stroke:#c3cad2}.column{stroke:#d0d7de}"
-    ++ (codes ".missing{fill:#cfe3ff}.expire{fill:#ffe7c7}.open{stroke:#1f5fbf;stroke-width:1.3}"
-    ++ (codes ".expiring{stroke:#b45309;stroke-width:1.5;stroke-dasharray:4 2.5}"
-    ++ (codes ".waiting{stroke:#1f5fbf;stroke-width:5;stroke-dasharray:3.25}"
-    ++ (codes ".inside{stroke:#a78bda;stroke-width:5}.walks{fill:#1f5fbf}"
-    ++ (codes ".expires{fill:#fff;stroke:#b45309;stroke-width:2}.daemon{fill:#1a7f4b}"
-    ++ (codes ".administrator{fill:#57606a}"
-    ++ (codes ".asks{stroke:#1f5fbf;stroke-width:1.3;stroke-dasharray:2 3}"
-    ++ codes ".packet{stroke:#1a7f4b;stroke-width:1.6;marker-end:url(#taken)}"))))))))))))
+    codes "<desc>A row for each event, from the top down: its number, its line and its answer. At the right of "
+    ++ (codes "them lanes of walkers, of open tokens, of the daemon and of mounts.</desc>\n"
+    ++ (codes "<style>.am text{font:12px 'DejaVu Sans',Verdana,sans-serif;fill:#1b1f24}"
+    ++ (codes ".am path,.am use{fill:none}.am .m{font:11px 'DejaVu Sans Mono',Consolas,monospace}"
+    ++ (codes ".am .h{font-weight:bold}.am .s{font-size:10.5px;fill:#57606a}"
+    ++ (codes ".am .n{fill:#6e7781;text-anchor:end}.am .c{text-anchor:middle}"
+    ++ (codes ".am .k{font-size:10px;text-anchor:middle}.am .refused{fill:#9a3412;font-style:italic}"
+    ++ (codes ".am .rule{stroke:#e4e8ed}.am .lane{stroke:#c3cad2}.am .column{stroke:#d0d7de}"
+    ++ (codes ".am .missing{stroke:#1f5fbf;stroke-opacity:.2;stroke-width:14}"
+    ++ (codes ".am .expire{stroke:#b45309;stroke-opacity:.3;stroke-width:14;stroke-dasharray:5 3}"
+    ++ (codes ".am .waits{stroke:#1f5fbf;stroke-width:5;stroke-dasharray:3.25}"
+    ++ (codes ".am .inside{stroke:#a78bda;stroke-width:5}.am .walks{fill:#1f5fbf}"
+    ++ (codes ".am .expires{fill:#fff;stroke:#b45309;stroke-width:2}.am .daemon{fill:#1a7f4b}"
+    ++ codes ".am .administrator{fill:#57606a}"))))))))))))
 
 -- the styles of lines and mounts, and the heads of arrows
 abbrev pub look_part_2 : List ℕ
 look_part_2 =
-    codes ".ready{stroke:#1f5fbf;stroke-width:1.6;marker-end:url(#head)}"
-    ++ (codes ".fail{stroke:#b42318;stroke-width:1.6;stroke-dasharray:7 3;marker-end:url(#crossed)}"
-    ++ (codes ".cross{stroke:#b42318;stroke-width:3}.edge{stroke:#1b1f24;stroke-width:1.3}"
-    ++ (codes ".came{fill:#7c3aed}.went{fill:#fff;stroke:#7c3aed;stroke-width:1.5}"
-    ++ (codes ".catatonic{fill:url(#hatch);stroke:#b42318}.paper{fill:#fff}</style>\n<defs>\n"
-    ++ (codes "<marker id='taken' viewBox='0 0 8 8' refX='8' refY='4' "
+    codes ".am .asks{stroke:#1f5fbf;stroke-width:1.3;stroke-dasharray:2 3}"
+    ++ (codes ".am .packet{stroke:#1a7f4b;stroke-width:1.6;marker-end:url(#am-taken)}"
+    ++ (codes ".am .ready{stroke:#1f5fbf;stroke-width:1.6;marker-end:url(#am-head)}"
+    ++ (codes ".am .fail{stroke:#b42318;stroke-width:1.6;stroke-dasharray:7 3;marker-end:url(#am-crossed)}"
+    ++ (codes ".am .cross{stroke:#b42318;stroke-width:3}.am .edge{stroke:#1b1f24;stroke-width:1.3}"
+    ++ (codes ".am .came{fill:#7c3aed}.am .went{fill:#fff;stroke:#7c3aed;stroke-width:1.5}"
+    ++ (codes ".am .catatonic{fill:url(#am-hatch);stroke:#b42318}.am .paper{fill:#fff}</style>\n<defs>\n"
+    ++ (codes "<marker id='am-taken' viewBox='0 0 8 8' refX='8' refY='4' "
     ++ (codes "markerWidth='8' markerHeight='8' orient='auto'>"
     ++ (codes "<path d='M0 0L8 4L0 8z' style='fill:#1a7f4b'/></marker>\n"
-    ++ (codes "<marker id='head' viewBox='0 0 8 8' refX='8' refY='4' "
+    ++ (codes "<marker id='am-head' viewBox='0 0 8 8' refX='8' refY='4' "
     ++ (codes "markerWidth='8' markerHeight='8' orient='auto'>"
     ++ (codes "<path d='M0 0L8 4L0 8z' style='fill:#1f5fbf'/></marker>\n"
-    ++ (codes "<marker id='crossed' viewBox='0 0 8 8' refX='4' refY='4' "
+    ++ (codes "<marker id='am-crossed' viewBox='0 0 8 8' refX='4' refY='4' "
     ++ (codes "markerWidth='8' markerHeight='8' orient='auto'>"
-    ++ codes "<path d='M1 1L7 7M7 1L1 7' style='stroke:#b42318;stroke-width:1.8'/></marker>\n"))))))))))))
+    ++ codes "<path d='M1 1L7 7M7 1L1 7' style='stroke:#b42318;stroke-width:1.8'/></marker>\n"))))))))))))))
 
--- the hatching, the lanes of all rows, and the bars
+-- the hatching, and the lanes of all rows
 abbrev pub look_part_3 : List ℕ
 look_part_3 =
-    codes "<pattern id='hatch' width='6' height='6' patternUnits='userSpaceOnUse' "
+    codes "<pattern id='am-hatch' width='6' height='6' patternUnits='userSpaceOnUse' "
     ++ (codes "patternTransform='rotate(45)'><rect width='6' height='6' fill='#fff'/>"
     ++ (codes "<rect width='2' height='6' fill='#e7a49d'/></pattern>\n"
-    ++ (codes "<pattern id='rows' y='118' width='1312' height='26' patternUnits='userSpaceOnUse'>"
-    ++ (codes "<path class='rule' d='M8 25.5H1304'/>"
-    ++ (codes "<path class='lane' d='M332 0v26M376 0v26M420 0v26M464 0v26"
-    ++ (codes "M508 0v26M552 0v26M596 0v26M884 0v26"
-    ++ (codes "M1031 0v26M1045 0v26M1059 0v26M1073 0v26M1087 0v26M1101 0v26M1115 0v26M1129 0v26'/>"
-    ++ (codes "<path class='column' d='M304 0v26M628 0v26M860 0v26M1022 0v26M1138 0v26'/></pattern>\n"
-    ++ (codes "<g id='missing'><path class='missing' d='M-7 0h14v13h-14z'/>"
-    ++ (codes "<path class='open' d='M-7 0v13M7 0v13'/></g>\n"
-    ++ (codes "<g id='expire'><path class='expire' d='M-7 0h14v13h-14z'/>"
-    ++ (codes "<path class='expiring' d='M-7 0v13M7 0v13'/></g>\n"
-    ++ (codes "<path id='waits' class='waiting' d='M0 0v13'/>\n"
-    ++ codes "<path id='inside' class='inside' d='M0 0v13'/>\n")))))))))))))
+    ++ (codes "<pattern id='am-rows' y='118' width='1312' height='26' patternUnits='userSpaceOnUse'>"
+    ++ (codes "<path class='rule' d='M0 25.5H1312'/></pattern>\n"
+    ++ (codes "<pattern id='am-walkers' x='310' y='118' width='44' height='26' patternUnits='userSpaceOnUse'>"
+    ++ (codes "<path class='lane' d='M22 0v26'/></pattern>\n"
+    ++ (codes "<pattern id='am-right' x='852' y='118' width='460' height='26' patternUnits='userSpaceOnUse'>"
+    ++ (codes "<path class='lane' d='M32 0v26M179 0v26M193 0v26M207 0v26M221 0v26M235 0v26M249 0v26"
+    ++ (codes "M263 0v26M277 0v26'/>"
+    ++ codes "<path class='column' d='M8 0v26M170 0v26M286 0v26'/></pattern>\n")))))))))
 
 -- symbols: who acts, how tokens and mounts are marked, and catatonic mode; the first word of the
 -- key
 abbrev pub look_part_4 : List ℕ
 look_part_4 =
-    codes "<circle id='walks' class='walks' r='4.5'/>\n"
-    ++ (codes "<path id='expires' class='expires' d='M0 -6l6 6l-6 6l-6 -6z'/>\n"
-    ++ (codes "<rect id='daemon' class='daemon' x='-5' y='-5' width='10' height='10'/>\n"
-    ++ (codes "<path id='administrator' class='administrator' d='M0 -5l8 5l-8 5z'/>\n"
-    ++ (codes "<path id='cross' class='cross' d='M-7 -7l14 14m0 -14l-14 14'/>\n"
-    ++ (codes "<path id='failed' class='cross' d='M-4 -4l8 8m0 -8l-8 8'/>\n"
-    ++ (codes "<path id='edge' class='edge' d='M-7 0h14'/>\n"
-    ++ (codes "<path id='passes' class='walks' d='M-14 5l5 3.5l-5 3.5z'/>\n"
-    ++ (codes "<circle id='came' class='came' r='4'/>\n<circle id='went' class='went' r='3.5'/>\n"
-    ++ (codes "<g id='catatonic'><rect class='catatonic' x='631' y='3' width='376' height='20'/>"
+    codes "<circle id='am-walks' class='walks' r='4.5'/>\n"
+    ++ (codes "<path id='am-expires' class='expires' d='M0 -6l6 6l-6 6l-6 -6z'/>\n"
+    ++ (codes "<rect id='am-daemon' class='daemon' x='-5' y='-5' width='10' height='10'/>\n"
+    ++ (codes "<path id='am-administrator' class='administrator' d='M0 -5l8 5l-8 5z'/>\n"
+    ++ (codes "<path id='am-cross' class='cross' d='M-7 -7l14 14m0 -14l-14 14'/>\n"
+    ++ (codes "<path id='am-failed' class='cross' d='M-4 -4l8 8m0 -8l-8 8'/>\n"
+    ++ (codes "<path id='am-edge' class='edge' d='M-7 0h14'/>\n"
+    ++ (codes "<path id='am-passes' class='walks' d='M-14 5l5 3.5l-5 3.5z'/>\n"
+    ++ (codes "<circle id='am-came' class='came' r='4'/>\n<circle id='am-went' class='went' r='3.5'/>\n"
+    ++ (codes "<g id='am-catatonic'><rect class='catatonic' x='631' y='3' width='376' height='20'/>"
     ++ (codes "<rect class='paper' x='724' y='5' width='192' height='16'/></g>\n"
-    ++ (codes "</defs>\n<rect class='paper' width='1312' height='100%'/>\n"
-    ++ (codes "<g transform='translate(46 14)'>\n<use href='#missing' x='12' y='0'/>\n"
+    ++ (codes "</defs>\n<rect class='paper' width='100%' height='100%'/>\n"
+    ++ (codes "<g transform='translate(46 14)'>\n<path class='missing' d='M12 0v13'/>\n"
     ++ codes "<text class='s' x='30' y='10'>open token of a missing mount</text>\n"))))))))))))
 
 -- the key: tokens, packets, releases and waits
 abbrev pub look_part_5 : List ℕ
 look_part_5 =
-    codes "<use href='#expire' x='222' y='0'/>\n"
+    codes "<path class='expire' d='M222 0v13'/>\n"
     ++ (codes "<text class='s' x='240' y='10'>open token of an expiry</text>\n"
     ++ (codes "<path class='packet' d='M386 6H412'/>\n"
     ++ (codes "<text class='s' x='418' y='10'>packet, delivered</text>\n"
@@ -89,7 +88,7 @@ look_part_5 =
     ++ (codes "<text class='s' x='694' y='10'>released, fail</text>\n"
     ++ (codes "<rect class='catatonic' x='788' width='24' height='12'/>\n"
     ++ (codes "<text class='s' x='818' y='10'>catatonic mode</text>\n"
-    ++ (codes "<use href='#passes' x='938' y='-3'/>\n"
+    ++ (codes "<use href='#am-passes' x='938' y='-3'/>\n"
     ++ (codes "<text class='s' x='936' y='10'>passes a trigger</text>\n"
     ++ (codes "<path class='asks' d='M1046 6H1070'/>\n"
     ++ codes "<text class='s' x='1076' y='10'>waits on a token</text>\n"))))))))))))
@@ -97,41 +96,29 @@ look_part_5 =
 -- the key: walkers, who acts, and mounts
 abbrev pub look_part_6 : List ℕ
 look_part_6 =
-    codes "<path class='waiting' d='M0 30H24'/>\n"
+    codes "<path class='waits' d='M0 30H24'/>\n"
     ++ (codes "<text class='s' x='30' y='34'>walker waits</text>\n"
     ++ (codes "<path class='inside' d='M118 30H142'/>\n"
     ++ (codes "<text class='s' x='148' y='34'>walker is inside of a mount</text>\n"
-    ++ (codes "<use href='#walks' x='312' y='30'/>\n"
+    ++ (codes "<use href='#am-walks' x='312' y='30'/>\n"
     ++ (codes "<text class='s' x='322' y='34'>walks, goes on, leaves</text>\n"
-    ++ (codes "<use href='#expires' x='468' y='30'/>\n"
+    ++ (codes "<use href='#am-expires' x='468' y='30'/>\n"
     ++ (codes "<text class='s' x='480' y='34'>asks for an expiry</text>\n"
-    ++ (codes "<use href='#daemon' x='599' y='30'/>\n"
+    ++ (codes "<use href='#am-daemon' x='599' y='30'/>\n"
     ++ (codes "<text class='s' x='610' y='34'>act of the daemon</text>\n"
-    ++ (codes "<use href='#administrator' x='724' y='30'/>\n"
+    ++ (codes "<use href='#am-administrator' x='724' y='30'/>\n"
     ++ (codes "<text class='s' x='738' y='34'>act of the administrator</text>\n"
-    ++ (codes "<use href='#came' x='880' y='30'/>\n<text class='s' x='888' y='34'>came</text>\n"
-    ++ codes "<use href='#went' x='928' y='30'/>\n"))))))))))))
+    ++ (codes "<use href='#am-came' x='880' y='30'/>\n<text class='s' x='888' y='34'>came</text>\n"
+    ++ codes "<use href='#am-went' x='928' y='30'/>\n"))))))))))))
 
--- the end of the key, and the titles of the columns
+-- the end of the key, and the titles of the first columns
 abbrev pub look_part_7 : List ℕ
 look_part_7 =
     codes "<text class='s' x='936' y='34'>went (a mount)</text>\n"
-    ++ (codes "<use href='#failed' x='1040' y='30'/>\n"
+    ++ (codes "<use href='#am-failed' x='1040' y='30'/>\n"
     ++ (codes "<text class='s' x='1050' y='34'>answered, fail</text>\n</g>\n"
     ++ (codes "<text class='h' x='46' y='108'>events, and their answers</text>\n"
-    ++ (codes "<text class='h c' x='464' y='108'>walkers</text>\n"
-    ++ (codes "<text class='h' x='636' y='108'>kernel: tokens</text>\n"
-    ++ codes "<text class='h' x='876' y='108'>daemon</text>\n")))))
-
--- a lane for each namespace
-abbrev pub look_part_8 : List ℕ
-look_part_8 =
-    codes "<text class='h' x='1026' y='92'>mounts, by namespace</text>\n"
-    ++ (codes "<text class='k' x='1031' y='110'>0</text>\n<text class='k' x='1045' y='110'>1</text>\n"
-    ++ (codes "<text class='k' x='1059' y='110'>2</text>\n<text class='k' x='1073' y='110'>3</text>\n"
-    ++ (codes "<text class='k' x='1087' y='110'>4</text>\n<text class='k' x='1101' y='110'>5</text>\n"
-    ++ (codes "<text class='k' x='1115' y='110'>6</text>\n<text class='k' x='1129' y='110'>7..</text>\n"
-    ++ codes "<text class='h' x='1148' y='108'>where</text>\n"))))
+    ++ codes "<text class='h' x='322' y='108'>walkers</text>\n")))
 
 -- all of them
 abbrev pub look_text : List ℕ
@@ -139,4 +126,18 @@ look_text =
     look_part_1
     ++ (look_part_2
     ++ (look_part_3
-    ++ (look_part_4 ++ (look_part_5 ++ (look_part_6 ++ (look_part_7 ++ look_part_8))))))
+    ++ (look_part_4
+    ++ (look_part_5
+    ++ (look_part_6
+    ++ look_part_7)))))
+
+-- the titles of the daemon's column and of the mounts', with a lane for each namespace
+abbrev pub right_text : List ℕ
+right_text =
+    codes "<text class='h' x='876' y='108'>daemon</text>\n"
+    ++ (codes "<text class='h' x='1026' y='92'>mounts, by namespace</text>\n"
+    ++ (codes "<text class='k' x='1031' y='110'>0</text>\n<text class='k' x='1045' y='110'>1</text>\n"
+    ++ (codes "<text class='k' x='1059' y='110'>2</text>\n<text class='k' x='1073' y='110'>3</text>\n"
+    ++ (codes "<text class='k' x='1087' y='110'>4</text>\n<text class='k' x='1101' y='110'>5</text>\n"
+    ++ (codes "<text class='k' x='1115' y='110'>6</text>\n<text class='k' x='1129' y='110'>7..</text>\n"
+    ++ codes "<text class='h' x='1148' y='108'>where</text>\n</g>\n")))))

@@ -1,8 +1,9 @@
 -- The marks of a picture as elements of SVG (Scalable Vector Graphics 2). A picture grows
 -- downwards, and so does y; both count pixels. A row is 26 high, and its middle is at 13.
-use Rattle.std.specs.Prelude.{ℕ, ◌+◌, ◌*◌, List, ◌++◌, codes, decimal}
+use Rattle.std.specs.Prelude.{ℕ, ◌+◌, ◌-◌, ◌*◌, List, ◌++◌, codes, decimal, min}
 use Rattle.am_draw.specs.declared.marks.Lanes.{Lanes}
 use Rattle.am_draw.specs.declared.marks.Lanes.TheVariants.{OfTokens, OfWalkers}
+use Rattle.am_draw.specs.Parts.{most_lanes}
 
 -- where it stands
 abbrev pub at_text : ℕ → ℕ → List ℕ
@@ -10,7 +11,7 @@ at_text x y = codes "' x='" ++ decimal x ++ (codes "' y='" ++ decimal y)
 
 -- one of the symbols that the head defines
 abbrev pub stamp : List ℕ → ℕ → ℕ → List ℕ
-stamp symbol x y = codes "<use href='#" ++ (symbol ++ (at_text x y ++ codes "'/>\n"))
+stamp symbol x y = codes "<use href='#am-" ++ (symbol ++ (at_text x y ++ codes "'/>\n"))
 
 -- from one place of the row's middle to another
 abbrev pub span_text : ℕ → ℕ → List ℕ
@@ -19,6 +20,14 @@ span_text from to = codes "' d='M" ++ decimal from ++ (codes " 13H" ++ decimal t
 -- a line of this class through the middle of a row
 abbrev pub stroke : List ℕ → ℕ → ℕ → List ℕ
 stroke class from to = codes "<path class='" ++ (class ++ (span_text from to ++ codes "'/>\n"))
+
+-- from the middle of a row so far up
+abbrev pub reach_text : ℕ → ℕ → List ℕ
+reach_text x reach = codes "' d='M" ++ decimal x ++ (codes " 13v-" ++ decimal reach)
+
+-- a line of this class that ends in the middle of a row, and is so long
+abbrev pub stretch : List ℕ → ℕ → ℕ → List ℕ
+stretch class x reach = codes "<path class='" ++ (class ++ (reach_text x reach ++ codes "'/>\n"))
 
 -- the tag of a text of this class
 abbrev pub opening : List ℕ → ℕ → ℕ → List ℕ
@@ -30,7 +39,11 @@ label class x y text = opening class x y ++ (text ++ codes "</text>\n")
 
 -- ---- where things stand
 
--- the middle of a lane
-abbrev pub lane_x : Lanes → ℕ → ℕ
-lane_x OfTokens lane = 646 + 20 * lane
-lane_x OfWalkers lane = 332 + 44 * lane
+-- the middle of a lane, behind so many lanes of walkers
+abbrev pub lane_x : Lanes → ℕ → ℕ → ℕ
+lane_x OfTokens walkers lane = 338 + 44 * walkers + 20 * min lane most_lanes
+lane_x OfWalkers walkers lane = 332 + 44 * min lane most_lanes
+
+-- how far the columns at the right are moved, behind so many lanes of walkers and of tokens
+abbrev pub shift : ℕ → ℕ → ℕ
+shift walkers tokens = 44 * walkers + 20 * tokens - 468

@@ -1,24 +1,42 @@
--- Which events of a script are drawn: own choice (docs/FORMATS.md, "Pictures").
-use Rattle.std.specs.Prelude.{ℕ, ◌+◌, ◌-◌, ◌*◌, Bool, ◌&&◌, min, nat_lt, nat_le}
+-- Which events of a script are drawn, and how wide the picture is: own choice (docs/FORMATS.md,
+-- "Pictures").
+use Rattle.std.specs.Prelude.{ℕ, ◌+◌, ◌-◌, ◌*◌, Bool, ◌&&◌, not, min, max, nat_lt}
+use Rattle.am_draw.specs.declared.part.Size.{Size}
 use Rattle.am_draw.specs.declared.part.Part.{Part}
 
 -- the most rows of a picture
 abbrev pub most_rows : ℕ
 most_rows = 1000000
 
--- Of so many events those from one number to another are drawn, but at most so many. Numbers of
--- events begin with 1.
-abbrev pub part_of : ℕ → ℕ → ℕ → Part
-part_of first last events = record {
+-- the most lanes of walkers, and of tokens
+abbrev pub most_lanes : ℕ
+most_lanes = 1000000
+
+-- Of the events those from one number to another are drawn, but at most so many. Numbers of events
+-- begin with 1.
+abbrev pub part_of : ℕ → ℕ → Size → Part
+part_of first last size = record {
   skipped = first - 1;
-  rows = min (min last events - (first - 1)) most_rows;
-  events = events;
+  rows = min (min last size.events - (first - 1)) most_rows;
+  size = size;
 }
 
--- the event with this number is drawn
+-- the event with this number comes after those that are drawn
+abbrev pub is_past : Part → ℕ → Bool
+is_past part number = nat_lt part.rows (number - part.skipped)
+
+-- the event with this number is drawn: it comes after those that are skipped, and not after all
 abbrev pub is_drawn : Part → ℕ → Bool
-is_drawn part number = nat_lt part.skipped number && nat_le (number - part.skipped) part.rows
+is_drawn part number = nat_lt part.skipped number && not (is_past part number)
+
+-- how many rows are drawn of so many events that have come
+abbrev pub rows_shown : Part → ℕ → ℕ
+rows_shown part events = min (events - part.skipped) part.rows
 
 -- the top of the event's row
 abbrev pub row_y : Part → ℕ → ℕ
 row_y part number = 118 + 26 * (number - part.skipped - 1)
+
+-- room for so many lanes, and no less than this
+abbrev pub wide : ℕ → ℕ → ℕ
+wide least lanes = max least (min lanes most_lanes)

@@ -1,5 +1,5 @@
 -- The row of an event: own choice (docs/FORMATS.md, "Pictures").
-use Rattle.std.specs.Prelude.{ℕ, ◌+◌, ◌-◌, Bool, List, [], ◌∷◌, ◌++◌, codes, decimal, Option, None, Some, if◌then◌else◌}
+use Rattle.std.specs.Prelude.{ℕ, ◌+◌, ◌-◌, ◌*◌, Bool, List, [], ◌∷◌, ◌++◌, codes, decimal, if◌then◌else◌}
 use Rattle.am_names.specs.{MountRow, Status}
 use Rattle.am_names.specs.declared.trigger.Status.TheVariants.{Ready, Fail}
 use Rattle.am_wire.specs.declared.packet_type.PacketType.{PacketType}
@@ -11,56 +11,34 @@ use Rattle.am_machine.specs.{Answer, Event}
 use Rattle.am_machine.specs.declared.event.Event.TheVariants as events
 use Rattle.am_script.specs.{answer_text, entry_text, is_refused}
 use Rattle.am_views.specs.{event_text}
-use Rattle.am_draw.specs.declared.bars.Look.{Look}
-use Rattle.am_draw.specs.declared.bars.Look.TheVariants.{Missing, Expire, Ended, Waits, Inside, Idle}
-use Rattle.am_draw.specs.declared.bars.Holder.{Holder}
-use Rattle.am_draw.specs.declared.bars.Lasting.{Lasting}
-use Rattle.am_draw.specs.declared.marks.Lanes.{Lanes}
 use Rattle.am_draw.specs.declared.marks.Lanes.TheVariants.{OfTokens, OfWalkers}
-use Rattle.am_draw.specs.Bars.{lane_of, changed, acted, behind}
-use Rattle.am_draw.specs.Marks.{stamp, stroke, label, lane_x}
+use Rattle.am_draw.specs.declared.stretch.Until.{Until}
+use Rattle.am_draw.specs.declared.part.Part.{Part}
+use Rattle.am_draw.specs.Bars.{lane_of}
+use Rattle.am_draw.specs.Lasts.{Lasts, changed, acted, behind}
+use Rattle.am_draw.specs.Marks.{stamp, stroke, label, lane_x, shift}
+use Rattle.am_draw.specs.Parts.{row_y}
+use Rattle.am_draw.specs.Stretches.{walker_columns, token_columns, ended_bars}
 use Rattle.am_draw.specs.Trees.{mounts_marks}
 use Rattle.am_draw.specs.Words.{words}
 
 -- ---- where things stand
 
 -- the middle of the token's lane
-abbrev pub token_x : Lasting → ℕ → ℕ
-token_x lasting token = lane_x OfTokens (lane_of token lasting.tokens)
+abbrev pub token_x : Lasts → ℕ → ℕ
+token_x lasts token = lane_x OfTokens (walker_columns lasts) (lane_of token lasts.tokens)
 
 -- the middle of the walker's lane
-abbrev pub walker_x : Lasting → ℕ → ℕ
-walker_x lasting walker = lane_x OfWalkers (lane_of walker lasting.walkers)
+abbrev pub walker_x : Lasts → ℕ → ℕ
+walker_x lasts walker = lane_x OfWalkers (walker_columns lasts) (lane_of walker lasts.walkers)
 
--- ---- bars
+-- how far the columns of tokens are moved
+abbrev pub inset : Lasts → ℕ
+inset lasts = 44 * walker_columns lasts - 308
 
--- half a row of the bar of one who looks so; one with no bar has none
-abbrev pub look_half : Look → ℕ → ℕ → List ℕ
-look_half (Missing fs) x y = stamp (codes "missing") x y
-look_half (Expire fs) x y = stamp (codes "expire") x y
-look_half Ended x y = []
-look_half Waits x y = stamp (codes "waits") x y
-look_half Inside x y = stamp (codes "inside") x y
-look_half Idle x y = []
-
--- half a row of the bar in a lane, if somebody holds it
-abbrev pub lane_half : Option Holder → ℕ → ℕ → List ℕ
-lane_half None x y = []
-lane_half (Some holder) x y = look_half holder.look x y
-
--- half a row of the bars in these lanes, the first of which has this number
-abbrev pub lanes_half : Lanes → ℕ → ℕ → List (Option Holder) → List ℕ
-lanes_half lanes y number [] = []
-lanes_half lanes y number (lane ∷ others) =
-    lane_half lane (lane_x lanes number) y ++ lanes_half lanes y (number + 1) others
-
--- half a row of the bars in all lanes
-abbrev pub half : ℕ → Lasting → List ℕ
-half y lasting = lanes_half OfTokens y 0 lasting.tokens ++ lanes_half OfWalkers y 0 lasting.walkers
-
--- the bars reach from the middle of a row to the middle of the next
-abbrev pub bars : Lasting → Lasting → List ℕ
-bars before behind = half 0 before ++ half 13 behind
+-- how far the columns of the daemon and of mounts are moved
+abbrev pub moved : Lasts → ℕ
+moved lasts = shift (walker_columns lasts) (token_columns lasts)
 
 -- ---- what stands at the sides
 
@@ -82,34 +60,34 @@ abbrev pub walker_mark : List ℕ → ℕ → ℕ → List ℕ
 walker_mark symbol x walker = stamp symbol x 13 ++ label (codes "s n") (x - 8) 17 (decimal walker)
 
 -- the mark of the administrator
-abbrev pub administrator_mark : List ℕ
-administrator_mark = stamp (codes "administrator") 1010 13
+abbrev pub administrator_mark : Lasts → List ℕ
+administrator_mark lasts = stamp (codes "administrator") (1010 + moved lasts) 13
 
 -- the mark of the daemon
-abbrev pub daemon_mark : List ℕ
-daemon_mark = stamp (codes "daemon") 884 13
+abbrev pub daemon_mark : Lasts → List ℕ
+daemon_mark lasts = stamp (codes "daemon") (884 + moved lasts) 13
 
 -- the mark of whoever makes the event; one that only reads has none
-abbrev pub actor_marks : Lasting → Event → List ℕ
-actor_marks lasting (events.Walk walker ns path now pipe) =
-    walker_mark (codes "walks") (walker_x lasting walker) walker
-actor_marks lasting (events.Resume walker now pipe) =
-    walker_mark (codes "walks") (walker_x lasting walker) walker
-actor_marks lasting (events.Leave walker) =
-    walker_mark (codes "walks") (walker_x lasting walker) walker
-actor_marks lasting (events.Expire walker fs now immediate pipe) =
-    walker_mark (codes "expires") (walker_x lasting walker) walker
-actor_marks lasting (events.Attach path) = daemon_mark
-actor_marks lasting (events.Deliver token bytes) = daemon_mark
-actor_marks lasting (events.Act job failure) = daemon_mark
-actor_marks lasting (events.Repeat attach token status) = daemon_mark
-actor_marks lasting (events.Catatonic attach fs) = daemon_mark
-actor_marks lasting (events.Timeout attach fs timeout) = daemon_mark
-actor_marks lasting (events.Reattach fs) = daemon_mark
-actor_marks lasting events.Die = stamp (codes "cross") 884 13
-actor_marks lasting (events.Kind ns path) = []
-actor_marks lasting (events.Record trigger) = []
-actor_marks lasting event = administrator_mark
+abbrev pub actor_marks : Lasts → Event → List ℕ
+actor_marks lasts (events.Walk walker ns path now pipe) =
+    walker_mark (codes "walks") (walker_x lasts walker) walker
+actor_marks lasts (events.Resume walker now pipe) =
+    walker_mark (codes "walks") (walker_x lasts walker) walker
+actor_marks lasts (events.Leave walker) =
+    walker_mark (codes "walks") (walker_x lasts walker) walker
+actor_marks lasts (events.Expire walker fs now immediate pipe) =
+    walker_mark (codes "expires") (walker_x lasts walker) walker
+actor_marks lasts (events.Attach path) = daemon_mark lasts
+actor_marks lasts (events.Deliver token bytes) = daemon_mark lasts
+actor_marks lasts (events.Act job failure) = daemon_mark lasts
+actor_marks lasts (events.Repeat attach token status) = daemon_mark lasts
+actor_marks lasts (events.Catatonic attach fs) = daemon_mark lasts
+actor_marks lasts (events.Timeout attach fs timeout) = daemon_mark lasts
+actor_marks lasts (events.Reattach fs) = daemon_mark lasts
+actor_marks lasts events.Die = stamp (codes "cross") (884 + moved lasts) 13
+actor_marks lasts (events.Kind ns path) = []
+actor_marks lasts (events.Record trigger) = []
+actor_marks lasts event = administrator_mark lasts
 
 -- ---- what is seen
 
@@ -145,42 +123,52 @@ released_class (Fail error) = codes "fail"
 abbrev pub catatonic_words : ℕ → List ℕ
 catatonic_words fs = codes "file system " ++ decimal fs ++ codes " is catatonic"
 
+-- marks that are moved so far to the right
+abbrev pub shifted : ℕ → List ℕ → List ℕ
+shifted far marks = codes "<g transform='translate(" ++ decimal far ++ (codes ")'>\n" ++ (marks ++ codes "</g>\n"))
+
 -- what is drawn of an observation, where this lasts behind it, and these are the mounts before the
 -- event and behind it
-abbrev pub obs_marks : List MountRow → List MountRow → Lasting → Obs → List ℕ
-obs_marks before after lasting (seen.Queued token attach packet) =
-    queued_marks (token_x lasting token) token packet
-obs_marks before after lasting (seen.Waits walker token) =
-    stroke (codes "asks") (walker_x lasting walker + 6) (token_x lasting token - 7)
-obs_marks before after lasting (seen.Answered token status) =
-    stamp (answered_symbol status) (token_x lasting token) 13
-obs_marks before after lasting (seen.Catatonic fs) =
-    stamp (codes "catatonic") 0 0 ++ label (codes "h c") 820 17 (catatonic_words fs)
-obs_marks before after lasting (seen.Released walker token status) =
-    stroke (released_class status) (token_x lasting token - 7) (walker_x lasting walker + 6)
-obs_marks before after lasting (seen.Passed walker trigger) =
-    stamp (codes "passes") (walker_x lasting walker) 13
-obs_marks before after lasting (seen.Entered walker mount) =
-    label (codes "s") (walker_x lasting walker + 8) 17 (codes "in " ++ decimal mount)
-obs_marks before after lasting (seen.Left walker mount) = []
-obs_marks before after lasting (seen.Mounted mounts) =
-    mounts_marks (codes "came") (codes " on ") after mounts
-obs_marks before after lasting (seen.Unmounted mounts) =
-    mounts_marks (codes "went") (codes " off ") before mounts
-obs_marks before after lasting (seen.Delivered token attach packet) =
-    stroke (codes "packet") (token_x lasting token + 7) 878
-obs_marks before after lasting (seen.Recorded trigger entry) =
-    label (codes "s") 895 17 (codes "book: " ++ entry_text entry)
-obs_marks before after lasting (seen.Reattached fs attach) =
-    label (codes "s") 895 17 (codes "attached again, by " ++ decimal attach)
-obs_marks before after lasting seen.Died = label (codes "h") 897 17 (codes "the daemon dies")
+abbrev pub obs_marks : List MountRow → List MountRow → Lasts → Obs → List ℕ
+obs_marks before after lasts (seen.Queued token attach packet) =
+    queued_marks (token_x lasts token) token packet
+obs_marks before after lasts (seen.Waits walker token) =
+    stroke (codes "asks") (walker_x lasts walker + 6) (token_x lasts token - 7)
+obs_marks before after lasts (seen.Answered token status) =
+    stamp (answered_symbol status) (token_x lasts token) 13
+obs_marks before after lasts (seen.Catatonic fs) =
+    stamp (codes "catatonic") (inset lasts) 0
+    ++ label (codes "h c") (820 + inset lasts) 17 (catatonic_words fs)
+obs_marks before after lasts (seen.Released walker token status) =
+    stroke (released_class status) (token_x lasts token - 7) (walker_x lasts walker + 6)
+obs_marks before after lasts (seen.Passed walker trigger) =
+    stamp (codes "passes") (walker_x lasts walker) 13
+obs_marks before after lasts (seen.Entered walker mount) =
+    label (codes "s") (walker_x lasts walker + 8) 17 (codes "in " ++ decimal mount)
+obs_marks before after lasts (seen.Left walker mount) = []
+obs_marks before after lasts (seen.Mounted mounts) =
+    shifted (moved lasts) (mounts_marks (codes "came") (codes " on ") after mounts)
+obs_marks before after lasts (seen.Unmounted mounts) =
+    shifted (moved lasts) (mounts_marks (codes "went") (codes " off ") before mounts)
+obs_marks before after lasts (seen.Delivered token attach packet) =
+    stroke (codes "packet") (token_x lasts token + 7) (878 + moved lasts)
+obs_marks before after lasts (seen.Recorded trigger entry) =
+    label (codes "s") (895 + moved lasts) 17 (codes "book: " ++ entry_text entry)
+obs_marks before after lasts (seen.Reattached fs attach) =
+    label (codes "s") (895 + moved lasts) 17 (codes "attached again, by " ++ decimal attach)
+obs_marks before after lasts seen.Died = label (codes "h") (897 + moved lasts) 17 (codes "the daemon dies")
 
--- what is drawn of these observations, in order, each as it lasts behind it
-abbrev pub seen_marks : List MountRow → List MountRow → Lasting → List Obs → List ℕ
-seen_marks before after lasting [] = []
-seen_marks before after lasting (obs ∷ seen) =
-    obs_marks before after (changed lasting obs) obs
-    ++ seen_marks before after (changed lasting obs) seen
+-- what is drawn of an observation, before which this lasts: the bars that end, and its marks
+abbrev pub obs_drawn : List MountRow → List MountRow → Until → Lasts → Obs → List ℕ
+obs_drawn before after until lasts obs =
+    ended_bars until lasts obs ++ obs_marks before after (changed until.number lasts obs) obs
+
+-- what is drawn of these observations, in order
+abbrev pub seen_drawn : List MountRow → List MountRow → Until → Lasts → List Obs → List ℕ
+seen_drawn before after until lasts [] = []
+seen_drawn before after until lasts (obs ∷ seen) =
+    obs_drawn before after until lasts obs
+    ++ seen_drawn before after until (changed until.number lasts obs) seen
 
 -- ---- the row
 
@@ -188,20 +176,25 @@ seen_marks before after lasting (obs ∷ seen) =
 abbrev pub row_opening : ℕ → List ℕ
 row_opening y = codes "<g transform='translate(0 " ++ decimal y ++ codes ")'>\n"
 
--- what stands behind the marks: bars, and what is said at the sides
-abbrev pub scene : ℕ → Lasting → Lasting → List ℕ → List ℕ
-scene y before behind sides = row_opening y ++ (bars before behind ++ sides)
+-- what begins a row: what is said at the sides
+abbrev pub scene : ℕ → List ℕ → List ℕ
+scene y sides = row_opening y ++ sides
 
--- who acts, and what is seen
-abbrev pub marks : List MountRow → List MountRow → Lasting → Event → List Obs → List ℕ
-marks before after lasting event seen =
-    actor_marks lasting event ++ (seen_marks before after lasting seen ++ codes "</g>\n")
+-- what is seen, and who acts, which stands above the bars
+abbrev pub marks : List MountRow → List MountRow → Until → Lasts → Event → List Obs → List ℕ
+marks before after until lasts event seen =
+    seen_drawn before after until (acted until.number lasts event) seen
+    ++ (actor_marks (behind until.number lasts event seen) event ++ codes "</g>\n")
 
--- the row whose top is at y, of an event before which this lasts
-abbrev pub row_text : List MountRow → List MountRow → ℕ → Lasting → Event → List Obs → List ℕ → List ℕ
-row_text before after y lasting event seen sides =
-    scene y lasting (behind lasting event seen) sides
-    ++ marks before after (acted lasting event) event seen
+-- where the bars of the event with this number end
+abbrev pub until_row : Part → ℕ → Until
+until_row part number = record { skipped = part.skipped; number = number; more = 0 }
+
+-- the row of an event before which this lasts
+abbrev pub row_text : List MountRow → List MountRow → Part → ℕ → Lasts → Event → List Obs → List ℕ → List ℕ
+row_text before after part number lasts event seen sides =
+    scene (row_y part number) sides
+    ++ marks before after (until_row part number) lasts event seen
 
 -- what stands at the sides of the row of this event
 abbrev pub sides_of : ℕ → Event → Answer → List ℕ

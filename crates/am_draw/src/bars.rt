@@ -1,12 +1,12 @@
-//! What lasts from one event to the next: who holds which lane, and what bar stands in it.
+//! Lanes: who holds which, and what bar stands in it.
 
-ghost use Rattle.std.specs.Prelude.{◌≡◌, ◌≤◌, length, map, set};
+ghost use Rattle.std.specs.Prelude.{◌≡◌, ◌≤◌, length, map, set, OnErr, OnOk};
 ghost use Rattle.std.specs.List.{position, list_any};
-ghost use Rattle.am_draw.specs.Bars.{is_of, is_over, is_free, is_at_rest, is_idle, or_last, or_idle, lane_of, free_lane, lane_for, own_or_free, placed, sighted, answered_lane, look_behind, look_in, catatonic_lane, token_look, with_walker, changed, seen_behind, with_sighted, acted, behind, nothing_lasts};
+ghost use Rattle.am_draw.specs.Bars.{is_of, has_ended, is_free, may_take, or_last, lane_of, free_lane, lane_for, own_or_free, placed, sighted, with_lane, token_look, is_in, ends, ended_lane};
 
-use am_names::{FsId, Token, WalkerId};
+use am_names::FsId;
 use am_wire::PacketType;
-use am_world::{Event, Obs};
+use std::alloc::AllocError;
 
 /// How the bar of a token or a walker looks.
 #[derive(Clone, Copy)]
@@ -30,14 +30,19 @@ pub enum Look {
 pub struct Holder {
     pub number: u32,
     pub look: Look,
+    /// The number of the event behind which it looks so, from 1.
+    pub since: u64,
 }
 
-/// The lanes of tokens and of walkers. Where none is free, that of a walker at rest is taken over, or
-/// the last one.
+/// Which bars end.
 #[derive(Clone, Copy)]
-pub struct Lasting {
-    pub tokens: [Option<Holder>; 8],
-    pub walkers: [Option<Holder>; 7],
+pub enum Ending {
+    /// That of the token or the walker with this number.
+    Of { number: u32 },
+    /// Those of the tokens of a file system.
+    In { fs: FsId },
+    /// All of them.
+    All,
 }
 
 fn is_of(lane: &Option<Holder>, number: u32) -> bool
@@ -49,11 +54,12 @@ fn is_of(lane: &Option<Holder>, number: u32) -> bool
     }
 }
 
-fn is_over(look: Look) -> bool
-    ensures { result ≡ is_over look }
+fn has_ended(look: Look) -> bool
+    ensures { result ≡ has_ended look }
 {
     match look {
         Look::Ended => true,
+        Look::Idle => true,
         _ => false,
     }
 }
@@ -63,27 +69,15 @@ fn is_free(lane: &Option<Holder>) -> bool
 {
     match lane {
         None => true,
-        Some(holder) => is_over(holder.look),
+        Some(holder) => has_ended(holder.look),
     }
 }
 
-/// The walker neither waits nor is inside of a mount.
-fn is_at_rest(look: Look) -> bool
-    ensures { result ≡ is_at_rest look }
+/// Whether a token or a walker may take the lane: it is its own, or free.
+fn may_take(lane: &Option<Holder>, number: u32) -> bool
+    ensures { result ≡ may_take number lane.now }
 {
-    match look {
-        Look::Idle => true,
-        _ => false,
-    }
-}
-
-fn is_idle(lane: &Option<Holder>) -> bool
-    ensures { result ≡ is_idle lane.now }
-{
-    match lane {
-        None => false,
-        Some(holder) => is_at_rest(holder.look),
-    }
+    is_of(lane, number) || is_free(lane)
 }
 
 fn own_lane(lanes: &[Option<Holder>], number: u32) -> Option<usize>
@@ -98,12 +92,6 @@ fn first_free(lanes: &[Option<Holder>]) -> Option<usize>
     lanes.iter().position(|lane| is_free(lane))
 }
 
-fn first_idle(lanes: &[Option<Holder>]) -> Option<usize>
-    ensures { result ≡ position (λ lane. is_idle lane) lanes.now }
-{
-    lanes.iter().position(|lane| is_idle(lane))
-}
-
 fn or_last(lanes: &[Option<Holder>], lane: Option<usize>) -> usize
     ensures { result ≡ or_last lanes.now lane }
 {
@@ -115,8 +103,7 @@ fn or_last(lanes: &[Option<Holder>], lane: Option<usize>) -> usize
 
 /// The lane that a token or a walker is drawn in.
 pub fn lane_of(lanes: &[Option<Holder>], number: u32) -> usize
-    ensures lane { result ≡ lane_of number lanes.now }
-    ensures bound { result ≤ length lanes.now }
+    ensures { result ≡ lane_of number lanes.now }
 {
     or_last(lanes, own_lane(lanes, number))
 }
@@ -124,10 +111,7 @@ pub fn lane_of(lanes: &[Option<Holder>], number: u32) -> usize
 fn free_lane(lanes: &[Option<Holder>]) -> usize
     ensures { result ≡ free_lane lanes.now }
 {
-    match first_free(lanes) {
-        None => or_last(lanes, first_idle(lanes)),
-        Some(lane) => lane,
-    }
+    or_last(lanes, first_free(lanes))
 }
 
 fn lane_for(lanes: &[Option<Holder>], number: u32) -> usize
@@ -147,11 +131,12 @@ fn set_lane(lanes: &mut [Option<Holder>], lane: usize, holder: Holder)
     }
 }
 
-fn place(lanes: &mut [Option<Holder>], number: u32, look: Look)
-    ensures { lanes.new ≡ placed number look lanes.old }
+/// It stands in its lane from here on.
+pub(crate) fn place(lanes: &mut [Option<Holder>], holder: Holder)
+    ensures { lanes.new ≡ placed holder lanes.old }
 {
-    let lane = lane_for(lanes, number);
-    set_lane(lanes, lane, Holder { number, look });
+    let lane = lane_for(lanes, holder.number);
+    set_lane(lanes, lane, holder);
 }
 
 fn has_lane(lanes: &[Option<Holder>], number: u32) -> bool
@@ -160,73 +145,33 @@ fn has_lane(lanes: &[Option<Holder>], number: u32) -> bool
     lanes.iter().any(|lane| is_of(lane, number))
 }
 
-fn sight(lanes: &mut [Option<Holder>], number: u32)
-    ensures { lanes.new ≡ sighted number lanes.old }
+/// A walker that has no lane takes one.
+pub(crate) fn sight(lanes: &mut [Option<Holder>], holder: Holder)
+    ensures { lanes.new ≡ sighted holder lanes.old }
 {
-    if !has_lane(lanes, number) {
-        place(lanes, number, Look::Idle);
+    if !has_lane(lanes, holder.number) {
+        place(lanes, holder);
     }
 }
 
-fn answered_lane(lane: Option<Holder>, token: Token) -> Option<Holder>
-    ensures { result ≡ answered_lane token lane }
+fn finds_lane(lanes: &[Option<Holder>], number: u32) -> bool
+    ensures { result ≡ list_any (λ lane. may_take number lane) lanes.now }
 {
-    let holder = lane?;
-    if holder.number == token.0 {
-        return Some(Holder {
-            look: Look::Ended,
-            ..holder
-        });
+    lanes.iter().any(|lane| may_take(lane, number))
+}
+
+/// Where a token or a walker may take no lane, one is added.
+pub(crate) fn add_lane(lanes: &mut Vec<Option<Holder>>, number: u32) -> Result<(), AllocError>
+    ensures ok { OnOk result (lanes.new.items ≡ with_lane number lanes.old.items) }
+{
+    if !finds_lane(lanes, number) {
+        lanes.push(None)?;
     }
-    Some(holder)
+    Ok(())
 }
 
-fn look_behind(catatonic: FsId, fs: FsId, look: Look) -> Look
-    ensures { result ≡ look_behind catatonic fs look }
-{
-    if fs == catatonic {
-        return Look::Ended;
-    }
-    look
-}
-
-fn look_in(fs: FsId, look: Look) -> Look
-    ensures { result ≡ look_in fs look }
-{
-    match look {
-        Look::Missing { fs: own } => look_behind(fs, own, look),
-        Look::Expire { fs: own } => look_behind(fs, own, look),
-        look => look,
-    }
-}
-
-fn catatonic_lane(lane: Option<Holder>, fs: FsId) -> Option<Holder>
-    ensures { result ≡ catatonic_lane fs lane }
-{
-    let holder = lane?;
-    Some(Holder {
-        look: look_in(fs, holder.look),
-        ..holder
-    })
-}
-
-fn end_token(lanes: &mut [Option<Holder>], token: Token)
-    ensures { lanes.new ≡ map (answered_lane token) lanes.old }
-{
-    for lane in lanes.iter_mut() {
-        *lane = answered_lane(*lane, token);
-    }
-}
-
-fn end_tokens_of(lanes: &mut [Option<Holder>], fs: FsId)
-    ensures { lanes.new ≡ map (catatonic_lane fs) lanes.old }
-{
-    for lane in lanes.iter_mut() {
-        *lane = catatonic_lane(*lane, fs);
-    }
-}
-
-fn token_look(kind: PacketType, fs: FsId) -> Look
+/// How an open token looks.
+pub(crate) fn token_look(kind: PacketType, fs: FsId) -> Look
     ensures { result ≡ token_look kind fs }
 {
     match kind {
@@ -237,77 +182,54 @@ fn token_look(kind: PacketType, fs: FsId) -> Look
     }
 }
 
-impl Lasting {
-    /// Nobody holds a lane.
-    pub fn new() -> Lasting
-        ensures { result ≡ nothing_lasts }
-    {
-        Lasting {
-            tokens: [None; 8],
-            walkers: [None; 7],
-        }
+fn is_in(look: Look, fs: FsId) -> bool
+    ensures { result ≡ is_in fs look }
+{
+    match look {
+        Look::Missing { fs: own } => own == fs,
+        Look::Expire { fs: own } => own == fs,
+        _ => false,
     }
+}
 
-    fn place_walker(&mut self, walker: WalkerId, look: Look)
-        ensures { self.new ≡ with_walker walker look self.old }
-    {
-        place(&mut self.walkers, walker.0, look);
+/// Whether the bar of this holder ends.
+pub(crate) fn ends(ending: Ending, holder: &Holder) -> bool
+    ensures { result ≡ ends ending holder.now }
+{
+    match ending {
+        Ending::Of { number } => holder.number == number,
+        Ending::In { fs } => is_in(holder.look, fs),
+        Ending::All => true,
     }
+}
 
-    /// What is seen has changed who holds which lane.
-    pub fn change(&mut self, obs: &Obs)
-        ensures { self.new ≡ changed self.old obs.now }
-    {
-        match obs {
-            Obs::Queued { token, packet, .. } => {
-                let look = token_look(packet.kind(), packet.dev());
-                place(&mut self.tokens, token.0, look)
-            }
-            Obs::Waits { walker, .. } => self.place_walker(*walker, Look::Waits),
-            Obs::Answered { token, .. } => end_token(&mut self.tokens, *token),
-            Obs::Catatonic { fs } => end_tokens_of(&mut self.tokens, *fs),
-            Obs::Released { walker, .. } => self.place_walker(*walker, Look::Idle),
-            Obs::Entered { walker, .. } => self.place_walker(*walker, Look::Inside),
-            Obs::Left { walker, .. } => self.place_walker(*walker, Look::Idle),
-            _ => (),
-        }
+fn ended_lane(lane: Option<Holder>, ending: Ending) -> Option<Holder>
+    ensures { result ≡ ended_lane ending lane }
+{
+    let holder = lane?;
+    if ends(ending, &holder) {
+        return Some(Holder {
+            look: Look::Ended,
+            ..holder
+        });
     }
+    Some(holder)
+}
 
-    /// So it is behind all that is seen.
-    fn change_by(&mut self, seen: &[Obs])
-        ensures { self.new ≡ seen_behind self.old seen.now }
-    {
-        for obs in seen {
-            self.change(obs);
-        }
+/// The bars end that end so.
+pub(crate) fn end_bars(lanes: &mut [Option<Holder>], ending: Ending)
+    ensures { lanes.new ≡ map (ended_lane ending) lanes.old }
+{
+    for lane in lanes.iter_mut() {
+        *lane = ended_lane(*lane, ending);
     }
+}
 
-    fn sight_walker(&mut self, walker: WalkerId)
-        ensures { self.new ≡ with_sighted walker self.old }
-    {
-        sight(&mut self.walkers, walker.0);
-    }
-
-    /// A walker that does something has a lane.
-    pub fn act(&mut self, event: &Event)
-        ensures { self.new ≡ acted self.old event.now }
-    {
-        match event {
-            Event::Walk { walker, .. } => self.sight_walker(*walker),
-            Event::Resume { walker, .. } => self.sight_walker(*walker),
-            Event::Leave { walker } => self.sight_walker(*walker),
-            Event::Expire { walker, .. } => self.sight_walker(*walker),
-            _ => (),
-        }
-    }
-
-    /// What lasts behind an event of which this is seen.
-    pub fn behind(&self, event: &Event, seen: &[Obs]) -> Lasting
-        ensures { result ≡ behind self.now event.now seen.now }
-    {
-        let mut lasting = *self;
-        lasting.act(event);
-        lasting.change_by(seen);
-        lasting
+/// Nobody holds a lane any more.
+pub(crate) fn clear_lanes(lanes: &mut [Option<Holder>])
+    ensures { lanes.new ≡ map (λ lane. None) lanes.old }
+{
+    for lane in lanes.iter_mut() {
+        *lane = None;
     }
 }

@@ -1,32 +1,36 @@
 //! The picture of a script is written.
 
-ghost use Rattle.std.specs.Prelude.{◌≡◌, ◌+◌, ◌-◌, ◌<◌, ◌≤◌, ◌^◌, ℕ, length, drop, option_copied, None, IfOk, IfErr, OnOk, OnErr};
+ghost use Rattle.std.specs.Prelude.{◌≡◌, ◌+◌, ◌-◌, ◌<◌, ◌≤◌, ◌^◌, ℕ, length, drop, option_copied, vec_len, None, IfOk, IfErr, OnOk, OnErr};
 ghost use Rattle.am_script.specs.{lines_in, size_in, Puts, events_from};
 ghost use Rattle.am_world.specs.Capacity.{state_of};
-ghost use Rattle.am_draw.specs.Drawn.{part_in, head_in, row_in, drawn_for, tail_behind, counted_to, AllDrawn, DrawStops, DrawEnds, DrawsInput, StopsDrawing, NotCounted, IsDrawn, IsUndrawn, Finishes};
-ghost use Rattle.am_draw.specs.Parts.{most_rows};
+ghost use Rattle.am_draw.specs.Drawn.{is_out_of_memory, head_in, row_in, drawn_for, next_lasts, first_lasts, tail_behind, counted_to, IsSizeOf, IsCounted, AllDrawn, DrawStops, DrawEnds, DrawsInput, StopsDrawing, DrawsAgain, NotCounted, IsDrawn, IsUndrawn, Finishes};
+ghost use Rattle.am_draw.specs.Lasts.{lasts_of, nothing_lasts, behind};
+ghost use Rattle.am_draw.specs.Parts.{most_rows, part_of};
 ghost use Rattle.am_draw.specs.Sides.{sides_said};
 ghost use Rattle.am_draw.specs.Rows.{row_text};
 
-use crate::bars::Lasting;
-use crate::head::put_head;
-use crate::part::{Part, part_of};
+use crate::head::{put_head, put_tail};
+use crate::lasting::Lasting;
+use crate::part::{Part, Size, part_of};
 use crate::row::put_marks;
 use crate::scene::{Said, put_scene, say};
+use crate::stretch::Until;
 use crate::trees::{Trees, rows_before};
+use am_names::Errno;
 use am_script::answer_line::put_word;
 use am_script::output::Output;
-use am_script::visit::{Found, Opened, close, next_event, open_script, read_all};
+use am_script::visit::{Found, Input, Opened, close, next_event, open_script, read_all};
 use am_script::{ScriptFault, ScriptFaultKind, Summary};
 use am_views::{one_more, seen_since};
-use am_world::{Event, Obs, World};
+use am_world::{Answer, Event, Obs, World};
 use std::alloc::{AllocError, Global};
 use std::io::{Read, Write};
 
 /// Reads a script to its end, plays it on a world of its own, and writes a picture of what
 /// happened, an SVG, with a row for each event from one number to another; numbers begin with 1. It
 /// has the faults of `run_script`, but that an event for which there is no memory is one. What is
-/// drawn isn't kept: it goes to the writer piece by piece.
+/// drawn isn't kept: it goes to the writer piece by piece. Before, all events are played once, as
+/// the picture's size comes first.
 pub fn draw_script<R: Read, W: Write>(
     alloc: Global,
     reader: &mut R,
@@ -45,26 +49,126 @@ pub fn draw_script<R: Read, W: Write>(
             lines: 0,
             refused: 0,
         }),
-        Ok(Some(opened)) => draw_opened(alloc, opened, first, last, writer),
+        Ok(Some(opened)) => match count_opened(alloc, opened) {
+            Ok(counted) => draw_again(alloc, &input, first, last, counted, writer),
+            Err(fault) => Err(fault),
+        },
         Err(fault) => Err(fault),
     }
 }
 
-/// Draws the events behind a head.
+/// How large a picture is, and its lanes, which nobody holds yet.
+#[derive(Drop)]
+struct Counted {
+    size: Size,
+    lasting: Lasting,
+}
+
+/// Opens a script once more, and draws its events, which were counted.
+fn draw_again<W: Write>(
+    alloc: Global,
+    input: &Input,
+    first: u64,
+    last: u64,
+    counted: Counted,
+    writer: &mut W,
+) -> Result<Summary, ScriptFault>
+    requires fits { vec_len input.now.text < 2 ^ 62 }
+    requires lasts { lasts_of counted.lasting
+        ≡ nothing_lasts counted.size.tokens counted.size.walkers }
+    ensures { DrawsAgain first last input.now.broke input.now.text.items counted.entry.size
+        (W.contents writer.old) (W.contents writer.new) result }
+{
+    match open_script(alloc, input) {
+        Ok(None) => {
+            drop(counted);
+            Ok(Summary {
+                lines: 0,
+                refused: 0,
+            })
+        }
+        Ok(Some(opened)) => draw_opened(alloc, opened, first, last, counted, writer),
+        Err(fault) => {
+            drop(counted);
+            Err(fault)
+        }
+    }
+}
+
+/// Counts the events behind a head, and the lanes that they come to.
+fn count_opened(alloc: Global, opened: Opened<'_>) -> Result<Counted, ScriptFault>
+    requires { opened.line + size_in (option_copied opened.rest) ≤ 2 ^ 63 }
+    ensures ok { IfOk result (λ counted. IsSizeOf (state_of opened.entry.world)
+        (events_from opened.entry.broke opened.entry.line
+        (lines_in (option_copied opened.entry.rest))) counted.size) }
+    ensures lasts { IfOk result (λ counted. lasts_of counted.lasting
+        ≡ nothing_lasts counted.size.tokens counted.size.walkers) }
+    ensures err { IfErr result (NotCounted (events_from opened.entry.broke opened.entry.line
+        (lines_in (option_copied opened.entry.rest)))) }
+{
+    let Opened {
+        mut world,
+        rest,
+        line,
+        broke,
+    } = opened;
+    let mut lasting = Lasting::new(alloc);
+    let events = count_events(alloc, &mut world, rest, line, broke, &mut lasting);
+    // It goes by a call, which is cheaper to check.
+    drop(world);
+    match events {
+        Ok(events) => Ok(counted(lasting, events)),
+        Err(fault) => {
+            drop(lasting);
+            Err(fault)
+        }
+    }
+}
+
+/// What was counted; nobody holds a lane any more.
+fn counted(lasting: Lasting, events: u64) -> Counted
+    ensures size { result.size ≡ record {
+      events = events;
+      walkers = length (lasts_of lasting.entry).walkers;
+      tokens = length (lasts_of lasting.entry).tokens;
+    } }
+    ensures lasts { lasts_of result.lasting ≡ nothing_lasts (length (lasts_of lasting.entry).tokens)
+        (length (lasts_of lasting.entry).walkers) }
+{
+    let mut lasting = lasting;
+    lasting.clear();
+    let size = Size {
+        events,
+        walkers: lasting.walkers.len() as u64,
+        tokens: lasting.tokens.len() as u64,
+    };
+    Counted { size, lasting }
+}
+
+/// Draws the events behind a head, which were counted.
 fn draw_opened<W: Write>(
     alloc: Global,
     opened: Opened<'_>,
     first: u64,
     last: u64,
+    counted: Counted,
     writer: &mut W,
 ) -> Result<Summary, ScriptFault>
-    requires { opened.line + size_in (option_copied opened.rest) ≤ 2 ^ 63 }
+    requires fits { opened.line + size_in (option_copied opened.rest) ≤ 2 ^ 63 }
+    requires lasts { lasts_of counted.lasting
+        ≡ nothing_lasts counted.size.tokens counted.size.walkers }
     ensures whole { OnOk result (opened.entry.broke ≡ None) }
-    ensures ok { IfOk result (AllDrawn first last (state_of opened.entry.world)
+    ensures ok { IsSizeOf (state_of opened.entry.world)
+        (events_from opened.entry.broke opened.entry.line
+        (lines_in (option_copied opened.entry.rest))) counted.entry.size → IfOk result (AllDrawn
+        first last (state_of opened.entry.world)
         (events_from opened.entry.broke opened.entry.line
         (lines_in (option_copied opened.entry.rest))) (W.contents writer.old)
         (W.contents writer.new)) }
-    ensures err { IfErr result (DrawStops first last (state_of opened.entry.world)
+    ensures err { IsSizeOf (state_of opened.entry.world)
+        (events_from opened.entry.broke opened.entry.line
+        (lines_in (option_copied opened.entry.rest))) counted.entry.size → IfErr result (DrawStops
+        first last (state_of opened.entry.world)
         (events_from opened.entry.broke opened.entry.line
         (lines_in (option_copied opened.entry.rest))) (W.contents writer.old)
         (W.contents writer.new)) }
@@ -75,31 +179,42 @@ fn draw_opened<W: Write>(
         line,
         broke,
     } = opened;
+    let Counted { size, mut lasting } = counted;
+    let part = part_of(first, last, size);
+    let drawn = draw_events(
+        alloc,
+        &mut world,
+        rest,
+        line,
+        broke,
+        &part,
+        &mut lasting,
+        writer,
+    );
     // The world goes by a call, which is cheaper to check.
-    match count_events(alloc, rest, line, broke) {
-        Ok(events) => {
-            let part = part_of(first, last, events);
-            let drawn = draw_events(alloc, &mut world, rest, line, broke, &part, writer);
-            drop(world);
-            drawn
-        }
-        Err(fault) => {
-            drop(world);
-            Err(fault)
-        }
-    }
+    drop(world);
+    drop(lasting);
+    drawn
 }
 
-/// How many events these lines have, of which the first is behind the line with this number.
+/// Counts the events of these lines, of which the first is behind the line with this number, and adds
+/// the lanes that they come to.
 fn count_events(
     alloc: Global,
+    world: &mut World,
     rest: Option<&[u8]>,
     line: u64,
     broke: Option<ScriptFaultKind>,
+    lasting: &mut Lasting,
 ) -> Result<u64, ScriptFault>
-    requires { line + size_in (option_copied rest) ≤ 2 ^ 63 }
-    ensures ok { IfOk result (λ events. events ≡ length
-        (events_from broke line (lines_in (option_copied rest.entry))).events) }
+    requires fits { line + size_in (option_copied rest) ≤ 2 ^ 63 }
+    requires nothing { lasts_of lasting.now ≡ nothing_lasts 0 0 }
+    ensures ok { IfOk result (λ events. IsSizeOf (state_of world.old) (events_from broke line
+        (lines_in (option_copied rest.entry))) (record {
+          events = events;
+          walkers = length (lasts_of lasting.new).walkers;
+          tokens = length (lasts_of lasting.new).tokens;
+        })) }
     ensures err { IfErr result (NotCounted (events_from broke line
         (lines_in (option_copied rest.entry)))) }
 {
@@ -110,12 +225,55 @@ fn count_events(
         match next_event(alloc, rest, number, broke) {
             Ok(None) => return Ok(events),
             Ok(Some(found)) => {
-                events += 1;
-                rest = found.rest;
-                number = found.line;
+                match count_event(alloc, world, found.line, &found.event, events + 1, lasting) {
+                    Ok(()) => {
+                        events += 1;
+                        rest = found.rest;
+                        number = found.line;
+                    }
+                    Err(_) => {
+                        return Err(ScriptFault {
+                            line: found.line,
+                            kind: ScriptFaultKind::NoMemory,
+                        });
+                    }
+                }
             }
             Err(fault) => return counted_to(events, fault),
         }
+    }
+}
+
+/// Makes the step of an event, and adds the lanes that it comes to.
+fn count_event(
+    alloc: Global,
+    world: &mut World,
+    line: u64,
+    event: &Event,
+    number: u64,
+    lasting: &mut Lasting,
+) -> Result<(), AllocError>
+    ensures { OnOk result (IsCounted number (state_of world.old)
+        (record { line = line; event = event.now }) (state_of world.new) (lasts_of lasting.old)
+        (lasts_of lasting.new)) }
+{
+    let before = world.trace().len();
+    let answer = world.step(alloc, event);
+    if is_out_of_memory(&answer) {
+        return Err(AllocError);
+    }
+    lasting.add(number, event, seen_since(world, before))
+}
+
+/// Whether an event was refused for want of memory.
+fn is_out_of_memory(answer: &Answer) -> bool
+    ensures { result ≡ is_out_of_memory answer.now }
+{
+    match answer {
+        Answer::Refused {
+            errno: Errno::NoMemory,
+        } => true,
+        _ => false,
     }
 }
 
@@ -137,18 +295,20 @@ fn draw_events<W: Write>(
     line: u64,
     broke: Option<ScriptFaultKind>,
     part: &Part,
+    lasting: &mut Lasting,
     writer: &mut W,
 ) -> Result<Summary, ScriptFault>
     requires fits { line + size_in (option_copied rest) ≤ 2 ^ 63 }
     requires rows { part.now.rows ≤ most_rows }
+    requires lasts { lasts_of lasting.now ≡ first_lasts part.now }
     ensures whole { OnOk result (broke ≡ None) }
-    ensures ends { (first last : ℕ) → part.now ≡ part_in first last
-        (events_from broke line (lines_in (option_copied rest.entry))) → DrawEnds first last
+    ensures ends { (first last : ℕ) → part.now ≡ part_of first last part.now.size → IsSizeOf
         (state_of world.old) (events_from broke line (lines_in (option_copied rest.entry)))
-        (W.contents writer.old) (W.contents writer.new) result }
+        part.now.size → DrawEnds first last (state_of world.old)
+        (events_from broke line (lines_in (option_copied rest.entry))) (W.contents writer.old)
+        (W.contents writer.new) result }
 {
     let mut output = Output::new();
-    let mut lasting = Lasting::new();
     let mut summary = Summary {
         lines: 0,
         refused: 0,
@@ -157,19 +317,10 @@ fn draw_events<W: Write>(
     let mut number = line;
     loop {
         match next_event(alloc, rest, number, broke) {
-            Ok(None) => return finish(&mut output, summary.lines, Ok(summary), writer),
+            Ok(None) => return finish(&mut output, part, lasting, summary.lines, Ok(summary), writer),
             Ok(Some(found)) => {
                 let event = summary.lines + 1;
-                match draw_found(
-                    alloc,
-                    world,
-                    found,
-                    part,
-                    event,
-                    &mut lasting,
-                    &mut output,
-                    writer,
-                ) {
+                match draw_found(alloc, world, found, part, event, lasting, &mut output, writer) {
                     Ok(behind) => {
                         if let Some(line) = output.lost {
                             let kind = ScriptFaultKind::WriteFailed;
@@ -179,10 +330,14 @@ fn draw_events<W: Write>(
                         rest = behind.rest;
                         number = behind.line;
                     }
-                    Err(fault) => return finish(&mut output, summary.lines, Err(fault), writer),
+                    Err(fault) => {
+                        return finish(&mut output, part, lasting, summary.lines, Err(fault), writer);
+                    }
                 }
             }
-            Err(fault) => return finish(&mut output, summary.lines, Err(fault), writer),
+            Err(fault) => {
+                return finish(&mut output, part, lasting, summary.lines, Err(fault), writer);
+            }
         }
     }
 }
@@ -190,25 +345,35 @@ fn draw_events<W: Write>(
 /// Puts out the tail of a picture, if there are events, and gives to the writer what is kept.
 fn finish<W: Write>(
     output: &mut Output,
+    part: &Part,
+    lasting: &Lasting,
     events: u64,
     ended: Result<Summary, ScriptFault>,
     writer: &mut W,
 ) -> Result<Summary, ScriptFault>
-    ensures finishes { Finishes output.old events ended (W.contents writer.old)
-        (W.contents writer.new) result }
+    requires { part.now.rows ≤ most_rows }
+    ensures finishes { Finishes output.old (tail_behind part.now events (lasts_of lasting.now))
+        ended (W.contents writer.old) (W.contents writer.new) result }
     ensures whole { OnOk result (result ≡ ended) }
 {
-    put_tail(output, events, writer);
+    put_tail_behind(output, part, lasting, events, writer);
     close(output, ended, writer)
 }
 
 #[tactic(auto, using(am_script::proofs::Pieces::puts_none))]
-fn put_tail<W: Write>(output: &mut Output, events: u64, writer: &mut W)
-    ensures { Puts output.old output.new (tail_behind events) (W.contents writer.old)
-        (W.contents writer.new) }
+fn put_tail_behind<W: Write>(
+    output: &mut Output,
+    part: &Part,
+    lasting: &Lasting,
+    events: u64,
+    writer: &mut W,
+)
+    requires { part.now.rows ≤ most_rows }
+    ensures { Puts output.old output.new (tail_behind part.now events (lasts_of lasting.now))
+        (W.contents writer.old) (W.contents writer.new) }
 {
     if 0 < events {
-        put_word(output, b"</svg>\n", writer);
+        put_tail(output, part, events, lasting, writer);
     }
 }
 
@@ -234,8 +399,9 @@ fn draw_found<'a, W: Write>(
     requires { part.now.rows ≤ most_rows }
     ensures drawn { IfOk result (λ behind. IsDrawn part.now number (state_of world.old)
         (record { line = found.entry.line; event = found.entry.event }) (state_of world.new)
-        lasting.old lasting.new output.old output.new (W.contents writer.old)
-        (W.contents writer.new) behind.refused) }
+        (lasts_of lasting.old) (lasts_of lasting.new) output.old output.new
+        (W.contents writer.old) (W.contents writer.new) behind.refused) }
+    ensures lasting { OnErr result (lasts_of lasting.new ≡ lasts_of lasting.old) }
     ensures line { IfOk result (λ behind. behind.line ≡ found.entry.line) }
     ensures rest { IfOk result (λ behind. option_copied behind.rest ≡ option_copied
         found.entry.rest) }
@@ -280,14 +446,19 @@ fn draw_event<W: Write>(
 ) -> Result<bool, AllocError>
     requires { part.now.rows ≤ most_rows }
     ensures drawn { IfOk result (IsDrawn part.now number (state_of world.old)
-        (record { line = line; event = event.now }) (state_of world.new) lasting.old lasting.new
-        output.old output.new (W.contents writer.old) (W.contents writer.new)) }
+        (record { line = line; event = event.now }) (state_of world.new) (lasts_of lasting.old)
+        (lasts_of lasting.new) output.old output.new (W.contents writer.old)
+        (W.contents writer.new)) }
+    ensures lasting { OnErr result (lasts_of lasting.new ≡ lasts_of lasting.old) }
     ensures output { OnErr result (output.new ≡ output.old) }
     ensures writer { OnErr result (W.contents writer.new ≡ W.contents writer.old) }
 {
     let rows = rows_before(alloc, world, event, part.is_drawn(number))?;
     let before = world.trace().len();
     let answer = world.step(alloc, event);
+    if is_out_of_memory(&answer) {
+        return Err(AllocError);
+    }
     let said = say(alloc, number, event, &answer)?;
     output.begin(line, writer);
     let seen = seen_since(world, before);
@@ -296,16 +467,16 @@ fn draw_event<W: Write>(
         behind: world.mounts(),
     };
     put_drawn(output, part, lasting, &said, event, seen, &trees, writer);
-    *lasting = lasting.behind(event, seen);
     Ok(said.refused)
 }
 
-/// Puts out what is drawn of an event: its row, if it has one, and before the first event the head.
+/// Puts out what is drawn of an event: its row, if it has one, and before the first event the head. It
+/// takes in what is seen, unless it comes after those that are drawn.
 #[tactic(auto, using(am_script::proofs::Pieces::puts_two))]
 fn put_drawn<W: Write>(
     output: &mut Output,
     part: &Part,
-    lasting: &Lasting,
+    lasting: &mut Lasting,
     said: &Said,
     event: &Event,
     seen: &[Obs],
@@ -313,9 +484,11 @@ fn put_drawn<W: Write>(
     writer: &mut W,
 )
     requires { part.now.rows ≤ most_rows }
-    ensures { Puts output.old output.new (drawn_for trees.now.before.now trees.now.behind.now
-        part.now said.now.number lasting.now event.now seen.now (sides_said said.now))
+    ensures drawn { Puts output.old output.new (drawn_for trees.now.before.now trees.now.behind.now
+        part.now said.now.number (lasts_of lasting.old) event.now seen.now (sides_said said.now))
         (W.contents writer.old) (W.contents writer.new) }
+    ensures lasts { lasts_of lasting.new ≡ next_lasts part.now said.now.number
+        (lasts_of lasting.old) event.now seen.now }
 {
     put_head_in(output, part, said.number, writer);
     put_row_in(output, part, lasting, said, event, seen, trees, writer);
@@ -328,7 +501,7 @@ fn put_head_in<W: Write>(output: &mut Output, part: &Part, number: u64, writer: 
         (W.contents writer.new) }
 {
     if number == 1 {
-        put_head(output, part.rows, part.events, writer);
+        put_head(output, part, writer);
     }
 }
 
@@ -336,7 +509,7 @@ fn put_head_in<W: Write>(output: &mut Output, part: &Part, number: u64, writer: 
 fn put_row_in<W: Write>(
     output: &mut Output,
     part: &Part,
-    lasting: &Lasting,
+    lasting: &mut Lasting,
     said: &Said,
     event: &Event,
     seen: &[Obs],
@@ -344,43 +517,46 @@ fn put_row_in<W: Write>(
     writer: &mut W,
 )
     requires { part.now.rows ≤ most_rows }
-    ensures { Puts output.old output.new (row_in trees.now.before.now trees.now.behind.now part.now
-        said.now.number lasting.now event.now seen.now (sides_said said.now))
+    ensures drawn { Puts output.old output.new (row_in trees.now.before.now trees.now.behind.now
+        part.now said.now.number (lasts_of lasting.old) event.now seen.now (sides_said said.now))
         (W.contents writer.old) (W.contents writer.new) }
+    ensures lasts { lasts_of lasting.new ≡ next_lasts part.now said.now.number
+        (lasts_of lasting.old) event.now seen.now }
 {
-    if part.is_drawn(said.number) {
-        put_row(
-            output,
-            part.row_y(said.number),
-            lasting,
-            said,
-            event,
-            seen,
-            trees,
-            writer,
-        );
+    if part.is_past(said.number) {
+        return;
     }
+    if part.skipped < said.number {
+        put_row(output, part, lasting, said, event, seen, trees, writer);
+        return;
+    }
+    lasting.pass(said.number, event, seen);
 }
 
-/// Puts out the row whose top is at y.
+/// Puts out the row of an event.
 #[tactic(auto, using(am_script::proofs::Pieces::puts_two))]
 fn put_row<W: Write>(
     output: &mut Output,
-    y: u64,
-    lasting: &Lasting,
+    part: &Part,
+    lasting: &mut Lasting,
     said: &Said,
     event: &Event,
     seen: &[Obs],
     trees: &Trees<'_>,
     writer: &mut W,
 )
-    ensures { Puts output.old output.new (row_text trees.now.before.now trees.now.behind.now y
-        lasting.now event.now seen.now (sides_said said.now)) (W.contents writer.old)
-        (W.contents writer.new) }
+    requires { said.now.number - part.now.skipped ≤ most_rows }
+    ensures drawn { Puts output.old output.new (row_text trees.now.before.now trees.now.behind.now
+        part.now said.now.number (lasts_of lasting.old) event.now seen.now (sides_said said.now))
+        (W.contents writer.old) (W.contents writer.new) }
+    ensures lasts { lasts_of lasting.new ≡ behind said.now.number (lasts_of lasting.old) event.now
+        seen.now }
 {
-    let behind = lasting.behind(event, seen);
-    let mut acted = *lasting;
-    acted.act(event);
-    put_scene(output, y, lasting, &behind, said, writer);
-    put_marks(output, &acted, event, seen, trees, writer);
+    let until = Until {
+        skipped: part.skipped,
+        number: said.number,
+        more: 0,
+    };
+    put_scene(output, part.row_y(said.number), said, writer);
+    put_marks(output, &until, lasting, event, seen, trees, writer);
 }

@@ -4,11 +4,13 @@
 mod bars;
 pub mod draw;
 mod head;
+mod lasting;
 mod look;
 mod marks;
 pub mod part;
 mod row;
 mod scene;
+mod stretch;
 mod trees;
 mod words;
 

@@ -2,9 +2,10 @@
 
 ghost use Rattle.std.specs.Prelude.{◌≡◌, ◌≤◌, ◌++◌, codes, decimal};
 ghost use Rattle.am_script.specs.{Puts};
-ghost use Rattle.am_draw.specs.Marks.{at_text, stamp, span_text, stroke, opening, label, lane_x};
+ghost use Rattle.am_draw.specs.Marks.{at_text, stamp, span_text, stroke, reach_text, stretch, opening, label, lane_x, shift};
 ghost use Rattle.am_draw.specs.Words.{words};
 
+use crate::part::MOST_LANES;
 use crate::words::put_words;
 use am_script::answer_line::{put_number, put_word};
 use am_script::output::Output;
@@ -17,17 +18,28 @@ pub enum Lanes {
     OfWalkers,
 }
 
-/// The middle of a lane, in pixels from the left.
-pub(crate) fn lane_x(lanes: Lanes, lane: usize) -> u64
-    requires { lane ≤ 8 }
-    ensures x { result ≡ lane_x lanes lane }
+/// The middle of a lane, behind so many lanes of walkers, in pixels from the left.
+pub(crate) fn lane_x(lanes: Lanes, walkers: u64, lane: usize) -> u64
+    requires { walkers ≤ 1000007 }
+    ensures x { result ≡ lane_x lanes walkers lane }
     ensures left { 332 ≤ result }
-    ensures right { result ≤ 806 }
+    ensures right { result ≤ 64000646 }
 {
+    let lane = (lane as u64).min(MOST_LANES);
     match lanes {
-        Lanes::OfTokens => 646 + 20 * lane as u64,
-        Lanes::OfWalkers => 332 + 44 * lane as u64,
+        Lanes::OfTokens => 338 + 44 * walkers + 20 * lane,
+        Lanes::OfWalkers => 332 + 44 * lane,
     }
+}
+
+/// How far the columns at the right are moved, behind so many lanes of walkers and of tokens.
+pub(crate) fn shift(walkers: u64, tokens: u64) -> u64
+    requires walkers { walkers ≤ 1000007 }
+    requires tokens { tokens ≤ 1000008 }
+    ensures shift { result ≡ shift walkers tokens }
+    ensures most { result ≤ 64000000 }
+{
+    (44 * walkers + 20 * tokens).saturating_sub(468)
 }
 
 #[tactic(auto, using(am_script::proofs::Pieces::puts_two))]
@@ -51,7 +63,7 @@ pub(crate) fn put_stamp<W: Write>(
     ensures { Puts output.old output.new (stamp symbol.now x y) (W.contents writer.old)
         (W.contents writer.new) }
 {
-    put_word(output, b"<use href='#", writer);
+    put_word(output, b"<use href='#am-", writer);
     put_word(output, symbol, writer);
     put_at(output, x, y, writer);
     put_word(output, b"'/>\n", writer);
@@ -81,6 +93,33 @@ pub(crate) fn put_stroke<W: Write>(
     put_word(output, b"<path class='", writer);
     put_word(output, class, writer);
     put_span(output, from, to, writer);
+    put_word(output, b"'/>\n", writer);
+}
+
+#[tactic(auto, using(am_script::proofs::Pieces::puts_two))]
+fn put_reach<W: Write>(output: &mut Output, x: u64, reach: u64, writer: &mut W)
+    ensures { Puts output.old output.new (reach_text x reach) (W.contents writer.old)
+        (W.contents writer.new) }
+{
+    put_number(output, b"' d='M", x, writer);
+    put_number(output, b" 13v-", reach, writer);
+}
+
+/// Puts out a line of this class that ends in the middle of a row, and is so long.
+#[tactic(auto, using(am_views::proofs::FourPieces::puts_four))]
+pub(crate) fn put_stretch<W: Write>(
+    output: &mut Output,
+    class: &[u8],
+    x: u64,
+    reach: u64,
+    writer: &mut W,
+)
+    ensures { Puts output.old output.new (stretch class.now x reach) (W.contents writer.old)
+        (W.contents writer.new) }
+{
+    put_word(output, b"<path class='", writer);
+    put_word(output, class, writer);
+    put_reach(output, x, reach, writer);
     put_word(output, b"'/>\n", writer);
 }
 

@@ -1,33 +1,57 @@
-//! Which events of a script are drawn.
+//! Which events of a script are drawn, and how wide the picture is.
 
-ghost use Rattle.std.specs.Prelude.{◌≡◌, ◌-◌, ◌≤◌};
-ghost use Rattle.am_draw.specs.Parts.{most_rows, part_of, is_drawn, row_y};
+ghost use Rattle.std.specs.Prelude.{◌≡◌, ◌+◌, ◌-◌, ◌≤◌};
+ghost use Rattle.am_draw.specs.Parts.{most_rows, most_lanes, part_of, is_drawn, is_past, rows_shown, row_y, wide};
 
 /// The most rows of a picture.
 pub const MOST_ROWS: u64 = 1_000_000;
 
-/// Which of so many events are drawn.
+/// The most lanes of walkers, and of tokens.
+pub const MOST_LANES: u64 = 1_000_000;
+
+/// How large the picture of a whole script is.
+#[derive(Clone, Copy)]
+pub struct Size {
+    /// How many events there are.
+    pub events: u64,
+    /// How many lanes of walkers.
+    pub walkers: u64,
+    /// How many lanes of tokens.
+    pub tokens: u64,
+}
+
+/// Which of the events are drawn.
 #[derive(Clone, Copy)]
 pub struct Part {
     /// So many events before them aren't.
     pub skipped: u64,
     /// At most `MOST_ROWS`.
     pub rows: u64,
-    /// How many there are.
-    pub events: u64,
+    /// Of all of them.
+    pub size: Size,
 }
 
-/// Of so many events those from one number to another are drawn, but at most so many.
-pub fn part_of(first: u64, last: u64, events: u64) -> Part
-    ensures { result ≡ part_of first last events }
+/// Of the events those from one number to another are drawn, but at most so many.
+pub fn part_of(first: u64, last: u64, size: Size) -> Part
+    ensures part { result ≡ part_of first last size }
+    ensures rows { result.rows ≤ most_rows }
 {
     let skipped = first.saturating_sub(1);
-    let rows = last.min(events).saturating_sub(skipped);
+    let rows = last.min(size.events).saturating_sub(skipped);
     Part {
         skipped,
         rows: rows.min(MOST_ROWS),
-        events,
+        size,
     }
+}
+
+/// Room for so many lanes, and no less than this.
+pub(crate) fn wide(least: u64, lanes: u64) -> u64
+    ensures wide { result ≡ wide least lanes }
+    ensures least { least ≤ result }
+    ensures most { result ≤ most_lanes + least }
+{
+    lanes.min(MOST_LANES).max(least)
 }
 
 impl Part {
@@ -35,10 +59,24 @@ impl Part {
     pub fn is_drawn(&self, number: u64) -> bool
         ensures { result ≡ is_drawn self.now number }
     {
-        self.skipped < number && number.saturating_sub(self.skipped) <= self.rows
+        self.skipped < number && !self.is_past(number)
     }
 
-    /// The top of its row, in pixels.
+    /// Whether the event with this number comes after those that are drawn.
+    pub fn is_past(&self, number: u64) -> bool
+        ensures { result ≡ is_past self.now number }
+    {
+        self.rows < number.saturating_sub(self.skipped)
+    }
+
+    /// How many rows are drawn of so many events that have come.
+    pub fn rows_shown(&self, events: u64) -> u64
+        ensures { result ≡ rows_shown self.now events }
+    {
+        events.saturating_sub(self.skipped).min(self.rows)
+    }
+
+    /// The top of the event's row, in pixels.
     pub fn row_y(&self, number: u64) -> u64
         requires { number - self.now.skipped ≤ most_rows }
         ensures { result ≡ row_y self.now number }

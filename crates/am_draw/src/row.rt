@@ -1,18 +1,23 @@
 //! The marks in the row of an event.
 
-ghost use Rattle.std.specs.Prelude.{◌≡◌, ◌≤◌, ◌++◌, codes};
+ghost use Rattle.std.specs.Prelude.{◌≡◌, ◌≤◌, ◌+◌, ◌-◌, ◌++◌, codes};
 ghost use Rattle.am_script.specs.{entry_text, Puts};
+ghost use Rattle.am_draw.specs.Lasts.{lasts_of, changed, seen_behind, behind};
 ghost use Rattle.am_draw.specs.Marks.{stamp, label};
-ghost use Rattle.am_draw.specs.Rows.{token_x, walker_x, walker_mark, administrator_mark, daemon_mark, actor_marks, kind_words, packet_words, queued_marks, answered_symbol, released_class, catatonic_words, obs_marks, seen_marks, marks};
+ghost use Rattle.am_draw.specs.Parts.{most_rows};
+ghost use Rattle.am_draw.specs.Rows.{token_x, walker_x, inset, moved, walker_mark, administrator_mark, daemon_mark, actor_marks, kind_words, packet_words, queued_marks, answered_symbol, released_class, catatonic_words, shifted, obs_marks, obs_drawn, seen_drawn, marks};
+ghost use Rattle.am_draw.specs.Trees.{mounts_marks};
 ghost use Rattle.am_draw.specs.Words.{words};
 
-use crate::bars::{Lasting, lane_of};
+use crate::bars::lane_of;
+use crate::lasting::Lasting;
 use crate::marks::{
-    Lanes, lane_x, put_closing, put_number_label, put_opening, put_stamp, put_stroke,
+    Lanes, lane_x, put_closing, put_number_label, put_opening, put_stamp, put_stroke, shift,
 };
+use crate::stretch::{Until, put_ended_bars, token_columns, walker_columns};
 use crate::trees::{Trees, put_mounts};
 use crate::words::put_words;
-use am_names::{FsId, Status, Token, WalkerId};
+use am_names::{FsId, MountIds, MountRow, Status, Token, WalkerId};
 use am_script::answer_line::{put_entry, put_number, put_word};
 use am_script::output::Output;
 use am_wire::{Packet, PacketType};
@@ -20,36 +25,62 @@ use am_world::{Event, Obs, Record};
 use std::io::Write;
 
 fn token_x(lasting: &Lasting, token: Token) -> u64
-    ensures x { result ≡ token_x lasting.now token }
+    ensures x { result ≡ token_x (lasts_of lasting.now) token }
     ensures left { 332 ≤ result }
-    ensures right { result ≤ 806 }
+    ensures right { result ≤ 64000646 }
 {
-    lane_x(Lanes::OfTokens, lane_of(&lasting.tokens, token.0))
+    let lane = lane_of(lasting.tokens.as_slice(), token.0);
+    lane_x(Lanes::OfTokens, walker_columns(lasting), lane)
 }
 
 fn walker_x(lasting: &Lasting, walker: WalkerId) -> u64
-    ensures x { result ≡ walker_x lasting.now walker }
+    ensures x { result ≡ walker_x (lasts_of lasting.now) walker }
     ensures left { 332 ≤ result }
-    ensures right { result ≤ 806 }
+    ensures right { result ≤ 64000646 }
 {
-    lane_x(Lanes::OfWalkers, lane_of(&lasting.walkers, walker.0))
+    let lane = lane_of(lasting.walkers.as_slice(), walker.0);
+    lane_x(Lanes::OfWalkers, walker_columns(lasting), lane)
 }
 
-/// Puts out all marks of a row, of whose event this is seen.
+/// How far the columns of tokens are moved.
+fn inset(lasting: &Lasting) -> u64
+    ensures inset { result ≡ inset (lasts_of lasting.now) }
+    ensures most { result ≤ 44000000 }
+{
+    (44 * walker_columns(lasting)).saturating_sub(308)
+}
+
+/// How far the columns of the daemon and of mounts are moved.
+fn moved(lasting: &Lasting) -> u64
+    ensures moved { result ≡ moved (lasts_of lasting.now) }
+    ensures most { result ≤ 64000000 }
+{
+    shift(walker_columns(lasting), token_columns(lasting))
+}
+
+/// Puts out all marks of the row of an event of which this is seen, and the bars that end in it. It
+/// takes in what is seen.
 #[tactic(auto, using(am_script::proofs::Pieces::puts_three))]
 pub(crate) fn put_marks<W: Write>(
     output: &mut Output,
-    lasting: &Lasting,
+    until: &Until,
+    lasting: &mut Lasting,
     event: &Event,
     seen: &[Obs],
     trees: &Trees<'_>,
     writer: &mut W,
 )
-    ensures { Puts output.old output.new (marks trees.now.before.now trees.now.behind.now
-        lasting.now event.now seen.now) (W.contents writer.old) (W.contents writer.new) }
+    requires rows { until.now.number - until.now.skipped ≤ most_rows }
+    requires more { until.now.more ≤ 13 }
+    ensures marks { Puts output.old output.new (marks trees.now.before.now trees.now.behind.now
+        until.now (lasts_of lasting.old) event.now seen.now) (W.contents writer.old)
+        (W.contents writer.new) }
+    ensures lasts { lasts_of lasting.new
+        ≡ behind until.now.number (lasts_of lasting.old) event.now seen.now }
 {
+    lasting.act(until.number, event);
+    put_seen(output, until, lasting, seen, trees, writer);
     put_actor(output, lasting, event, writer);
-    put_seen(output, lasting, seen, trees, writer);
     put_word(output, b"</g>\n", writer);
 }
 
@@ -69,23 +100,25 @@ fn put_walker<W: Write>(
     put_number_label(output, b"s n", x - 8, 17, b"", u64::from(walker.0), writer);
 }
 
-fn put_administrator<W: Write>(output: &mut Output, writer: &mut W)
-    ensures { Puts output.old output.new administrator_mark (W.contents writer.old)
-        (W.contents writer.new) }
+fn put_administrator<W: Write>(output: &mut Output, lasting: &Lasting, writer: &mut W)
+    ensures { Puts output.old output.new (administrator_mark (lasts_of lasting.now))
+        (W.contents writer.old) (W.contents writer.new) }
 {
-    put_stamp(output, b"administrator", 1010, 13, writer);
+    let x = 1010 + moved(lasting);
+    put_stamp(output, b"administrator", x, 13, writer);
 }
 
-fn put_daemon<W: Write>(output: &mut Output, writer: &mut W)
-    ensures { Puts output.old output.new daemon_mark (W.contents writer.old)
-        (W.contents writer.new) }
+fn put_daemon<W: Write>(output: &mut Output, lasting: &Lasting, writer: &mut W)
+    ensures { Puts output.old output.new (daemon_mark (lasts_of lasting.now))
+        (W.contents writer.old) (W.contents writer.new) }
 {
-    put_stamp(output, b"daemon", 884, 13, writer);
+    let x = 884 + moved(lasting);
+    put_stamp(output, b"daemon", x, 13, writer);
 }
 
 #[tactic(auto, using(am_script::proofs::Pieces::puts_none))]
 fn put_actor<W: Write>(output: &mut Output, lasting: &Lasting, event: &Event, writer: &mut W)
-    ensures { Puts output.old output.new (actor_marks lasting.now event.now) (W.contents writer.old)
+    ensures { Puts output.old output.new (actor_marks (lasts_of lasting.now) event.now) (W.contents writer.old)
         (W.contents writer.new) }
 {
     match event {
@@ -125,43 +158,92 @@ fn put_actor<W: Write>(output: &mut Output, lasting: &Lasting, event: &Event, wr
                 writer,
             )
         }
-        Event::Attach { .. } => put_daemon(output, writer),
-        Event::Deliver { .. } => put_daemon(output, writer),
-        Event::Act { .. } => put_daemon(output, writer),
-        Event::Repeat { .. } => put_daemon(output, writer),
-        Event::Catatonic { .. } => put_daemon(output, writer),
-        Event::Timeout { .. } => put_daemon(output, writer),
-        Event::Reattach { .. } => put_daemon(output, writer),
-        Event::Die => put_stamp(output, b"cross", 884, 13, writer),
+        Event::Attach { .. } => put_daemon(output, lasting, writer),
+        Event::Deliver { .. } => put_daemon(output, lasting, writer),
+        Event::Act { .. } => put_daemon(output, lasting, writer),
+        Event::Repeat { .. } => put_daemon(output, lasting, writer),
+        Event::Catatonic { .. } => put_daemon(output, lasting, writer),
+        Event::Timeout { .. } => put_daemon(output, lasting, writer),
+        Event::Reattach { .. } => put_daemon(output, lasting, writer),
+        Event::Die => put_stamp(output, b"cross", 884 + moved(lasting), 13, writer),
         Event::Kind { .. } => (),
         Event::Record { .. } => (),
-        Event::Mount { .. } => put_administrator(output, writer),
-        Event::Bind { .. } => put_administrator(output, writer),
-        Event::Umount { .. } => put_administrator(output, writer),
-        Event::Change { .. } => put_administrator(output, writer),
-        Event::CopyNamespace { .. } => put_administrator(output, writer),
-        Event::DropNamespace { .. } => put_administrator(output, writer),
-        Event::AdminCatatonic { .. } => put_administrator(output, writer),
+        Event::Mount { .. } => put_administrator(output, lasting, writer),
+        Event::Bind { .. } => put_administrator(output, lasting, writer),
+        Event::Umount { .. } => put_administrator(output, lasting, writer),
+        Event::Change { .. } => put_administrator(output, lasting, writer),
+        Event::CopyNamespace { .. } => put_administrator(output, lasting, writer),
+        Event::DropNamespace { .. } => put_administrator(output, lasting, writer),
+        Event::AdminCatatonic { .. } => put_administrator(output, lasting, writer),
     }
 }
 
-/// Puts out the marks of all that is seen.
+/// Puts out what is drawn of all that is seen, and takes it in.
 #[tactic(auto, using(am_script::proofs::Pieces::puts_none))]
 fn put_seen<W: Write>(
     output: &mut Output,
-    before: &Lasting,
+    until: &Until,
+    lasting: &mut Lasting,
     seen: &[Obs],
     trees: &Trees<'_>,
     writer: &mut W,
 )
-    ensures { Puts output.old output.new (seen_marks trees.now.before.now trees.now.behind.now
-        before.now seen.now) (W.contents writer.old) (W.contents writer.new) }
+    requires rows { until.now.number - until.now.skipped ≤ most_rows }
+    requires more { until.now.more ≤ 13 }
+    ensures drawn { Puts output.old output.new (seen_drawn trees.now.before.now
+        trees.now.behind.now until.now (lasts_of lasting.old) seen.now) (W.contents writer.old)
+        (W.contents writer.new) }
+    ensures lasts { lasts_of lasting.new
+        ≡ seen_behind until.now.number (lasts_of lasting.old) seen.now }
 {
-    let mut lasting = *before;
     for obs in seen {
-        lasting.change(obs);
-        put_obs(output, &lasting, obs, trees, writer);
+        put_change(output, until, lasting, obs, trees, writer);
     }
+}
+
+/// Puts out what is drawn of an observation, and takes it in.
+#[tactic(auto, using(am_script::proofs::Pieces::puts_two))]
+fn put_change<W: Write>(
+    output: &mut Output,
+    until: &Until,
+    lasting: &mut Lasting,
+    obs: &Obs,
+    trees: &Trees<'_>,
+    writer: &mut W,
+)
+    requires rows { until.now.number - until.now.skipped ≤ most_rows }
+    requires more { until.now.more ≤ 13 }
+    ensures drawn { Puts output.old output.new (obs_drawn trees.now.before.now
+        trees.now.behind.now until.now (lasts_of lasting.old) obs.now) (W.contents writer.old)
+        (W.contents writer.new) }
+    ensures lasts { lasts_of lasting.new
+        ≡ changed until.now.number (lasts_of lasting.old) obs.now }
+{
+    put_ended_bars(output, until, lasting, obs, writer);
+    lasting.change(until.number, obs);
+    put_obs(output, lasting, obs, trees, writer);
+}
+
+/// Puts out the marks of mounts that stand in these rows.
+#[tactic(auto, using(am_views::proofs::FourPieces::puts_four))]
+fn put_shifted<W: Write>(
+    output: &mut Output,
+    lasting: &Lasting,
+    symbol: &[u8],
+    joint: &[u8],
+    rows: &[MountRow],
+    mounts: &MountIds,
+    writer: &mut W,
+)
+    ensures { Puts output.old output.new (shifted (moved (lasts_of lasting.now))
+        (mounts_marks symbol.now joint.now rows.now mounts.now))
+        (W.contents writer.old) (W.contents writer.new) }
+{
+    let far = moved(lasting);
+    put_number(output, b"<g transform='translate(", far, writer);
+    put_word(output, b")'>\n", writer);
+    put_mounts(output, symbol, joint, rows, mounts, writer);
+    put_word(output, b"</g>\n", writer);
 }
 
 #[tactic(auto, using(am_script::proofs::Pieces::puts_none, am_script::proofs::Pieces::puts_two, am_script::proofs::Pieces::puts_three))]
@@ -173,7 +255,7 @@ fn put_obs<W: Write>(
     writer: &mut W,
 )
     ensures { Puts output.old output.new (obs_marks trees.now.before.now trees.now.behind.now
-        lasting.now obs.now) (W.contents writer.old) (W.contents writer.new) }
+        (lasts_of lasting.now) obs.now) (W.contents writer.old) (W.contents writer.new) }
 {
     match obs {
         Obs::Queued { token, packet, .. } => {
@@ -188,7 +270,7 @@ fn put_obs<W: Write>(
             let symbol = answered_symbol(*status);
             put_stamp(output, symbol, token_x(lasting, *token), 13, writer)
         }
-        Obs::Catatonic { fs } => put_catatonic(output, *fs, writer),
+        Obs::Catatonic { fs } => put_catatonic(output, lasting, *fs, writer),
         Obs::Released {
             walker,
             token,
@@ -207,30 +289,31 @@ fn put_obs<W: Write>(
         }
         Obs::Left { .. } => (),
         Obs::Mounted { mounts } => {
-            put_mounts(output, b"came", b" on ", trees.behind, mounts, writer)
+            put_shifted(output, lasting, b"came", b" on ", trees.behind, mounts, writer)
         }
         Obs::Unmounted { mounts } => {
-            put_mounts(output, b"went", b" off ", trees.before, mounts, writer)
+            put_shifted(output, lasting, b"went", b" off ", trees.before, mounts, writer)
         }
         Obs::Delivered { token, .. } => {
-            put_stroke(output, b"packet", token_x(lasting, *token) + 7, 878, writer)
+            let from = token_x(lasting, *token) + 7;
+            put_stroke(output, b"packet", from, 878 + moved(lasting), writer)
         }
         Obs::Recorded { entry, .. } => {
-            put_opening(output, b"s", 895, 17, writer);
+            put_opening(output, b"s", 895 + moved(lasting), 17, writer);
             put_book(output, entry, writer);
             put_closing(output, writer)
         }
         Obs::Reattached { attach, .. } => put_number_label(
             output,
             b"s",
-            895,
+            895 + moved(lasting),
             17,
             b"attached again, by ",
             u64::from(attach.0),
             writer,
         ),
         Obs::Died => {
-            put_opening(output, b"h", 897, 17, writer);
+            put_opening(output, b"h", 897 + moved(lasting), 17, writer);
             put_word(output, b"the daemon dies", writer);
             put_closing(output, writer)
         }
@@ -272,7 +355,7 @@ fn put_packet_label<W: Write>(output: &mut Output, x: u64, packet: &Packet, writ
 /// Puts out where the bar of a token begins, with its number and the name.
 #[tactic(auto, using(am_script::proofs::Pieces::puts_three))]
 fn put_queued<W: Write>(output: &mut Output, x: u64, token: Token, packet: &Packet, writer: &mut W)
-    requires { x ≤ 806 }
+    requires { x ≤ 64000646 }
     ensures { Puts output.old output.new (queued_marks x token packet.now) (W.contents writer.old)
         (W.contents writer.new) }
 {
@@ -309,22 +392,24 @@ fn put_catatonic_words<W: Write>(output: &mut Output, fs: FsId, writer: &mut W)
 }
 
 #[tactic(auto, using(am_script::proofs::Pieces::puts_three))]
-fn put_catatonic_label<W: Write>(output: &mut Output, fs: FsId, writer: &mut W)
-    ensures { Puts output.old output.new (label (codes "h c") 820 17 (catatonic_words fs))
+fn put_catatonic_label<W: Write>(output: &mut Output, x: u64, fs: FsId, writer: &mut W)
+    ensures { Puts output.old output.new (label (codes "h c") x 17 (catatonic_words fs))
         (W.contents writer.old) (W.contents writer.new) }
 {
-    put_opening(output, b"h c", 820, 17, writer);
+    put_opening(output, b"h c", x, 17, writer);
     put_catatonic_words(output, fs, writer);
     put_closing(output, writer);
 }
 
 #[tactic(auto, using(am_script::proofs::Pieces::puts_two))]
-fn put_catatonic<W: Write>(output: &mut Output, fs: FsId, writer: &mut W)
-    ensures { Puts output.old output.new (stamp (codes "catatonic") 0 0 ++ label (codes "h c") 820
-        17 (catatonic_words fs)) (W.contents writer.old) (W.contents writer.new) }
+fn put_catatonic<W: Write>(output: &mut Output, lasting: &Lasting, fs: FsId, writer: &mut W)
+    ensures { Puts output.old output.new (stamp (codes "catatonic") (inset (lasts_of lasting.now)) 0
+        ++ label (codes "h c") (820 + inset (lasts_of lasting.now)) 17 (catatonic_words fs))
+        (W.contents writer.old) (W.contents writer.new) }
 {
-    put_stamp(output, b"catatonic", 0, 0, writer);
-    put_catatonic_label(output, fs, writer);
+    let x = inset(lasting);
+    put_stamp(output, b"catatonic", x, 0, writer);
+    put_catatonic_label(output, 820 + x, fs, writer);
 }
 
 #[tactic(auto, using(am_script::proofs::Pieces::puts_two))]

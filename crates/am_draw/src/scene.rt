@@ -1,13 +1,12 @@
-//! What stands behind the marks of a row: bars, and what is said at the sides.
+//! What begins a row: what is said at the sides.
 
-ghost use Rattle.std.specs.Prelude.{◌≡◌, ◌≤◌, length, IfOk};
+ghost use Rattle.std.specs.Prelude.{◌≡◌, IfOk};
 ghost use Rattle.am_script.specs.{answer_text, is_refused, Puts};
 ghost use Rattle.am_views.specs.{event_text};
-ghost use Rattle.am_draw.specs.Rows.{look_half, lane_half, lanes_half, half, bars, answer_class, row_opening, scene, sides_of};
+ghost use Rattle.am_draw.specs.Rows.{answer_class, row_opening, scene, sides_of};
 ghost use Rattle.am_draw.specs.Sides.{sides_said};
 
-use crate::bars::{Holder, Lasting, Look};
-use crate::marks::{Lanes, lane_x, put_number_label, put_stamp, put_words_label};
+use crate::marks::{put_number_label, put_words_label};
 use am_script::answer_line::{is_refused, push_answer, put_number, put_word};
 use am_script::output::Output;
 use am_views::push_event;
@@ -65,21 +64,13 @@ pub(crate) fn say(
     })
 }
 
-/// Puts out what stands behind the marks of the row whose top is at y.
-#[tactic(auto, using(am_script::proofs::Pieces::puts_three))]
-pub(crate) fn put_scene<W: Write>(
-    output: &mut Output,
-    y: u64,
-    before: &Lasting,
-    behind: &Lasting,
-    said: &Said,
-    writer: &mut W,
-)
-    ensures { Puts output.old output.new (scene y before.now behind.now (sides_said said.now))
-        (W.contents writer.old) (W.contents writer.new) }
+/// Puts out what begins the row whose top is at y.
+#[tactic(auto, using(am_script::proofs::Pieces::puts_two))]
+pub(crate) fn put_scene<W: Write>(output: &mut Output, y: u64, said: &Said, writer: &mut W)
+    ensures { Puts output.old output.new (scene y (sides_said said.now)) (W.contents writer.old)
+        (W.contents writer.new) }
 {
     put_row_opening(output, y, writer);
-    put_bars(output, before, behind, writer);
     put_labels(output, said, writer);
 }
 
@@ -90,66 +81,6 @@ fn put_row_opening<W: Write>(output: &mut Output, y: u64, writer: &mut W)
 {
     put_number(output, b"<g transform='translate(0 ", y, writer);
     put_word(output, b")'>\n", writer);
-}
-
-#[tactic(auto, using(am_script::proofs::Pieces::puts_two))]
-fn put_bars<W: Write>(output: &mut Output, before: &Lasting, behind: &Lasting, writer: &mut W)
-    ensures { Puts output.old output.new (bars before.now behind.now) (W.contents writer.old)
-        (W.contents writer.new) }
-{
-    put_half(output, 0, before, writer);
-    put_half(output, 13, behind, writer);
-}
-
-#[tactic(auto, using(am_script::proofs::Pieces::puts_two))]
-fn put_half<W: Write>(output: &mut Output, y: u64, lasting: &Lasting, writer: &mut W)
-    ensures { Puts output.old output.new (half y lasting.now) (W.contents writer.old)
-        (W.contents writer.new) }
-{
-    put_lanes(output, Lanes::OfTokens, y, &lasting.tokens, writer);
-    put_lanes(output, Lanes::OfWalkers, y, &lasting.walkers, writer);
-}
-
-#[tactic(auto, using(am_script::proofs::Pieces::puts_none))]
-fn put_lanes<W: Write>(
-    output: &mut Output,
-    lanes: Lanes,
-    y: u64,
-    holders: &[Option<Holder>],
-    writer: &mut W,
-)
-    requires { length holders.now ≤ 8 }
-    ensures { Puts output.old output.new (lanes_half lanes y 0 holders.now) (W.contents writer.old)
-        (W.contents writer.new) }
-{
-    for (lane, holder) in holders.iter().enumerate() {
-        put_lane(output, holder, lane_x(lanes, lane), y, writer);
-    }
-}
-
-#[tactic(auto, using(am_script::proofs::Pieces::puts_none))]
-fn put_lane<W: Write>(output: &mut Output, lane: &Option<Holder>, x: u64, y: u64, writer: &mut W)
-    ensures { Puts output.old output.new (lane_half lane.now x y) (W.contents writer.old)
-        (W.contents writer.new) }
-{
-    if let Some(holder) = lane {
-        put_look(output, holder.look, x, y, writer);
-    }
-}
-
-#[tactic(auto, using(am_script::proofs::Pieces::puts_none))]
-fn put_look<W: Write>(output: &mut Output, look: Look, x: u64, y: u64, writer: &mut W)
-    ensures { Puts output.old output.new (look_half look x y) (W.contents writer.old)
-        (W.contents writer.new) }
-{
-    match look {
-        Look::Missing { .. } => put_stamp(output, b"missing", x, y, writer),
-        Look::Expire { .. } => put_stamp(output, b"expire", x, y, writer),
-        Look::Ended => (),
-        Look::Waits => put_stamp(output, b"waits", x, y, writer),
-        Look::Inside => put_stamp(output, b"inside", x, y, writer),
-        Look::Idle => (),
-    }
 }
 
 fn answer_class(refused: bool) -> &'static [u8]

@@ -1,0 +1,118 @@
+-- What lasts from one event to the next: who holds which lane, and what bar stands in it. Own choice
+-- (docs/DECISIONS.md, "A picture is as wide as it has to be").
+use Rattle.std.specs.Prelude.{ℕ, List, [], ◌∷◌, map, replicate, Option, None}
+use Rattle.am_state.specs.{Obs}
+use Rattle.am_machine.specs.{Event}
+use Rattle.am_machine.specs.declared.event.Event.TheVariants as events
+use Rattle.am_state.specs.declared.obs.Obs.TheVariants as seen
+use Rattle.am_draw.specs.declared.bars.Look.{Look}
+use Rattle.am_draw.specs.declared.bars.Look.TheVariants.{Waits, Inside, Idle}
+use Rattle.am_draw.specs.declared.bars.Holder.{Holder}
+use Rattle.am_draw.specs.declared.bars.Ending.TheVariants.{Of, In}
+use Rattle.am_draw.specs.declared.lasting.Lasting.{Lasting}
+use Rattle.am_draw.specs.Bars.{token_look, placed, sighted, with_lane, ended_lane}
+
+-- the lanes of tokens and of walkers
+pub record Lasts : Type 0 where
+  pub tokens : List (Option Holder)
+  pub walkers : List (Option Holder)
+
+-- those that the code holds
+abbrev pub lasts_of : Lasting → Lasts
+lasts_of lasting = record { tokens = lasting.tokens.items; walkers = lasting.walkers.items }
+
+-- nobody holds one of so many lanes of tokens and of walkers
+abbrev pub nothing_lasts : ℕ → ℕ → Lasts
+nothing_lasts tokens walkers = record { tokens = replicate tokens None; walkers = replicate walkers None }
+
+-- ---- what an observation changes
+
+-- the walker looks so from the event with this number on
+abbrev pub with_walker : ℕ → ℕ → Look → Lasts → Lasts
+with_walker number walker look lasts =
+    record lasts {
+      walkers = placed (record { number = walker; look = look; since = number }) lasts.walkers;
+    }
+
+-- the token looks so from the event with this number on
+abbrev pub with_token : ℕ → ℕ → Look → Lasts → Lasts
+with_token number token look lasts =
+    record lasts {
+      tokens = placed (record { number = token; look = look; since = number }) lasts.tokens;
+    }
+
+-- so it is behind this observation of the event with this number
+abbrev pub changed : ℕ → Lasts → Obs → Lasts
+changed number lasts (seen.Queued token attach packet) =
+    with_token number token (token_look packet.kind packet.dev) lasts
+changed number lasts (seen.Waits walker token) = with_walker number walker Waits lasts
+changed number lasts (seen.Answered token status) =
+    record lasts { tokens = map (ended_lane (Of token)) lasts.tokens }
+changed number lasts (seen.Catatonic fs) =
+    record lasts { tokens = map (ended_lane (In fs)) lasts.tokens }
+changed number lasts (seen.Released walker token status) = with_walker number walker Idle lasts
+changed number lasts (seen.Entered walker mount) = with_walker number walker Inside lasts
+changed number lasts (seen.Left walker mount) = with_walker number walker Idle lasts
+changed number lasts obs = lasts
+
+-- so it is behind all that is seen of it
+abbrev pub seen_behind : ℕ → Lasts → List Obs → Lasts
+seen_behind number lasts [] = lasts
+seen_behind number lasts (obs ∷ seen) = seen_behind number (changed number lasts obs) seen
+
+-- ---- what an event changes
+
+-- the walker has a lane
+abbrev pub with_sighted : ℕ → ℕ → Lasts → Lasts
+with_sighted number walker lasts =
+    record lasts {
+      walkers = sighted (record { number = walker; look = Idle; since = number }) lasts.walkers;
+    }
+
+-- a walker that does something has a lane
+abbrev pub acted : ℕ → Lasts → Event → Lasts
+acted number lasts (events.Walk walker ns path now pipe) = with_sighted number walker lasts
+acted number lasts (events.Resume walker now pipe) = with_sighted number walker lasts
+acted number lasts (events.Leave walker) = with_sighted number walker lasts
+acted number lasts (events.Expire walker fs now immediate pipe) = with_sighted number walker lasts
+acted number lasts event = lasts
+
+-- so it is behind the event with this number, of which this is seen
+abbrev pub behind : ℕ → Lasts → Event → List Obs → Lasts
+behind number lasts event seen = seen_behind number (acted number lasts event) seen
+
+-- ---- where lanes are added
+
+-- there is a lane that the token may take
+abbrev pub with_token_lane : ℕ → Lasts → Lasts
+with_token_lane token lasts = record lasts { tokens = with_lane token lasts.tokens }
+
+-- there is a lane that the walker may take
+abbrev pub with_walker_lane : ℕ → Lasts → Lasts
+with_walker_lane walker lasts = record lasts { walkers = with_lane walker lasts.walkers }
+
+-- there is a lane for each of those whose bars the observation changes
+abbrev pub roomed : Lasts → Obs → Lasts
+roomed lasts (seen.Queued token attach packet) = with_token_lane token lasts
+roomed lasts (seen.Waits walker token) = with_walker_lane walker lasts
+roomed lasts (seen.Released walker token status) = with_walker_lane walker lasts
+roomed lasts (seen.Entered walker mount) = with_walker_lane walker lasts
+roomed lasts (seen.Left walker mount) = with_walker_lane walker lasts
+roomed lasts obs = lasts
+
+-- there is a lane for the walker that acts
+abbrev pub roomed_for : Lasts → Event → Lasts
+roomed_for lasts (events.Walk walker ns path now pipe) = with_walker_lane walker lasts
+roomed_for lasts (events.Resume walker now pipe) = with_walker_lane walker lasts
+roomed_for lasts (events.Leave walker) = with_walker_lane walker lasts
+roomed_for lasts (events.Expire walker fs now immediate pipe) = with_walker_lane walker lasts
+roomed_for lasts event = lasts
+
+-- so it is behind all that is seen, where a lane is added for whoever may take none
+abbrev pub seen_added : ℕ → Lasts → List Obs → Lasts
+seen_added number lasts [] = lasts
+seen_added number lasts (obs ∷ seen) = seen_added number (changed number (roomed lasts obs) obs) seen
+
+-- so it is behind the event, where a lane is added for whoever may take none
+abbrev pub added : ℕ → Lasts → Event → List Obs → Lasts
+added number lasts event seen = seen_added number (acted number (roomed_for lasts event) event) seen

@@ -1,0 +1,181 @@
+//! What lasts from one event to the next.
+
+ghost use Rattle.std.specs.Prelude.{◌≡◌, length, OnOk};
+ghost use Rattle.am_draw.specs.Lasts.{lasts_of, nothing_lasts, with_walker, with_token, changed, seen_behind, with_sighted, acted, behind, with_token_lane, with_walker_lane, roomed, roomed_for, seen_added, added};
+
+use crate::bars::{
+    Ending, Holder, Look, add_lane, clear_lanes, end_bars, place, sight, token_look,
+};
+use am_names::{Token, WalkerId};
+use am_world::{Event, Obs};
+use std::alloc::{AllocError, Global};
+
+/// The lanes of tokens and of walkers.
+#[derive(Drop)]
+pub struct Lasting {
+    pub tokens: Vec<Option<Holder>>,
+    pub walkers: Vec<Option<Holder>>,
+}
+
+impl Lasting {
+    /// There is no lane.
+    pub fn new(alloc: Global) -> Lasting
+        ensures { lasts_of result ≡ nothing_lasts 0 0 }
+    {
+        Lasting {
+            tokens: Vec::new(alloc),
+            walkers: Vec::new(alloc),
+        }
+    }
+
+    /// Nobody holds a lane any more.
+    pub fn clear(&mut self)
+        ensures { lasts_of self.new ≡ nothing_lasts (length self.old.tokens.items)
+            (length self.old.walkers.items) }
+    {
+        clear_lanes(&mut self.tokens);
+        clear_lanes(&mut self.walkers);
+    }
+
+    fn place_walker(&mut self, number: u64, walker: WalkerId, look: Look)
+        ensures { lasts_of self.new ≡ with_walker number walker look (lasts_of self.old) }
+    {
+        let holder = Holder {
+            number: walker.0,
+            look,
+            since: number,
+        };
+        place(&mut self.walkers, holder);
+    }
+
+    fn place_token(&mut self, number: u64, token: Token, look: Look)
+        ensures { lasts_of self.new ≡ with_token number token look (lasts_of self.old) }
+    {
+        let holder = Holder {
+            number: token.0,
+            look,
+            since: number,
+        };
+        place(&mut self.tokens, holder);
+    }
+
+    /// What is seen of the event with this number has changed who holds which lane.
+    pub fn change(&mut self, number: u64, obs: &Obs)
+        ensures { lasts_of self.new ≡ changed number (lasts_of self.old) obs.now }
+    {
+        match obs {
+            Obs::Queued { token, packet, .. } => {
+                let look = token_look(packet.kind(), packet.dev());
+                self.place_token(number, *token, look)
+            }
+            Obs::Waits { walker, .. } => self.place_walker(number, *walker, Look::Waits),
+            Obs::Answered { token, .. } => {
+                end_bars(&mut self.tokens, Ending::Of { number: token.0 })
+            }
+            Obs::Catatonic { fs } => end_bars(&mut self.tokens, Ending::In { fs: *fs }),
+            Obs::Released { walker, .. } => self.place_walker(number, *walker, Look::Idle),
+            Obs::Entered { walker, .. } => self.place_walker(number, *walker, Look::Inside),
+            Obs::Left { walker, .. } => self.place_walker(number, *walker, Look::Idle),
+            _ => (),
+        }
+    }
+
+    /// So it is behind all that is seen.
+    fn change_by(&mut self, number: u64, seen: &[Obs])
+        ensures { lasts_of self.new ≡ seen_behind number (lasts_of self.old) seen.now }
+    {
+        for obs in seen {
+            self.change(number, obs);
+        }
+    }
+
+    fn sight_walker(&mut self, number: u64, walker: WalkerId)
+        ensures { lasts_of self.new ≡ with_sighted number walker (lasts_of self.old) }
+    {
+        let holder = Holder {
+            number: walker.0,
+            look: Look::Idle,
+            since: number,
+        };
+        sight(&mut self.walkers, holder);
+    }
+
+    /// A walker that does something has a lane.
+    pub fn act(&mut self, number: u64, event: &Event)
+        ensures { lasts_of self.new ≡ acted number (lasts_of self.old) event.now }
+    {
+        match event {
+            Event::Walk { walker, .. } => self.sight_walker(number, *walker),
+            Event::Resume { walker, .. } => self.sight_walker(number, *walker),
+            Event::Leave { walker } => self.sight_walker(number, *walker),
+            Event::Expire { walker, .. } => self.sight_walker(number, *walker),
+            _ => (),
+        }
+    }
+
+    /// So it is behind an event of which this is seen.
+    pub fn pass(&mut self, number: u64, event: &Event, seen: &[Obs])
+        ensures { lasts_of self.new ≡ behind number (lasts_of self.old) event.now seen.now }
+    {
+        self.act(number, event);
+        self.change_by(number, seen);
+    }
+
+    fn add_token(&mut self, token: Token) -> Result<(), AllocError>
+        ensures { OnOk result (lasts_of self.new ≡ with_token_lane token (lasts_of self.old)) }
+    {
+        add_lane(&mut self.tokens, token.0)
+    }
+
+    fn add_walker(&mut self, walker: WalkerId) -> Result<(), AllocError>
+        ensures { OnOk result (lasts_of self.new ≡ with_walker_lane walker (lasts_of self.old)) }
+    {
+        add_lane(&mut self.walkers, walker.0)
+    }
+
+    fn make_room(&mut self, obs: &Obs) -> Result<(), AllocError>
+        ensures { OnOk result (lasts_of self.new ≡ roomed (lasts_of self.old) obs.now) }
+    {
+        match obs {
+            Obs::Queued { token, .. } => self.add_token(*token),
+            Obs::Waits { walker, .. } => self.add_walker(*walker),
+            Obs::Released { walker, .. } => self.add_walker(*walker),
+            Obs::Entered { walker, .. } => self.add_walker(*walker),
+            Obs::Left { walker, .. } => self.add_walker(*walker),
+            _ => Ok(()),
+        }
+    }
+
+    fn make_room_for(&mut self, event: &Event) -> Result<(), AllocError>
+        ensures { OnOk result (lasts_of self.new ≡ roomed_for (lasts_of self.old) event.now) }
+    {
+        match event {
+            Event::Walk { walker, .. } => self.add_walker(*walker),
+            Event::Resume { walker, .. } => self.add_walker(*walker),
+            Event::Leave { walker } => self.add_walker(*walker),
+            Event::Expire { walker, .. } => self.add_walker(*walker),
+            _ => Ok(()),
+        }
+    }
+
+    fn add_by(&mut self, number: u64, seen: &[Obs]) -> Result<(), AllocError>
+        ensures { OnOk result (lasts_of self.new ≡ seen_added number (lasts_of self.old) seen.now) }
+    {
+        for obs in seen {
+            self.make_room(obs)?;
+            self.change(number, obs);
+        }
+        Ok(())
+    }
+
+    /// So it is behind an event of which this is seen, where a lane is added for whoever may take
+    /// none.
+    pub fn add(&mut self, number: u64, event: &Event, seen: &[Obs]) -> Result<(), AllocError>
+        ensures { OnOk result
+            (lasts_of self.new ≡ added number (lasts_of self.old) event.now seen.now) }
+    {
+        self.make_room_for(event)?;
+        self.act(number, event);
+        self.add_by(number, seen)
+    }
+}
