@@ -6,4 +6,5 @@ pub mod Draws
 pub mod LostPieces
 pub mod PieceLemmas
 pub mod RowLemmas
+pub mod RunLemmas
 pub mod TreeLemmas

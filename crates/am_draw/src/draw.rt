@@ -6,6 +6,7 @@ ghost use Rattle.am_world.specs.Capacity.{state_of};
 ghost use Rattle.am_draw.specs.Drawn.{is_out_of_memory, head_in, row_in, drawn_for, next_lasts, first_lasts, tail_behind, counted_to, IsSizeOf, IsCounted, AllDrawn, DrawStops, DrawEnds, DrawsInput, StopsDrawing, DrawsAgain, NotCounted, IsDrawn, IsUndrawn, Finishes};
 ghost use Rattle.am_draw.specs.Lasts.{lasts_of, nothing_lasts, behind};
 ghost use Rattle.am_draw.specs.Parts.{most_rows, part_of};
+ghost use Rattle.am_draw.specs.declared.part.Size.{Size};
 ghost use Rattle.am_draw.specs.Sides.{sides_said};
 ghost use Rattle.am_draw.specs.Rows.{row_text};
 
@@ -302,9 +303,9 @@ fn draw_events<W: Write>(
     requires rows { part.now.rows ≤ most_rows }
     requires lasts { lasts_of lasting.now ≡ first_lasts part.now }
     ensures whole { OnOk result (broke ≡ None) }
-    ensures ends { (first last : ℕ) → part.now ≡ part_of first last part.now.size → IsSizeOf
-        (state_of world.old) (events_from broke line (lines_in (option_copied rest.entry)))
-        part.now.size → DrawEnds first last (state_of world.old)
+    ensures ends { (first last : ℕ) → (size : Size) → part.now ≡ part_of first last size → IsSizeOf
+        (state_of world.old) (events_from broke line (lines_in (option_copied rest.entry))) size
+        → DrawEnds first last (state_of world.old)
         (events_from broke line (lines_in (option_copied rest.entry))) (W.contents writer.old)
         (W.contents writer.new) result }
 {
@@ -317,10 +318,26 @@ fn draw_events<W: Write>(
     let mut number = line;
     loop {
         match next_event(alloc, rest, number, broke) {
-            Ok(None) => return finish(&mut output, part, lasting, summary.lines, Ok(summary), writer),
+            Ok(None) => return finish(
+                &mut output,
+                part,
+                lasting,
+                summary.lines,
+                Ok(summary),
+                writer,
+            ),
             Ok(Some(found)) => {
                 let event = summary.lines + 1;
-                match draw_found(alloc, world, found, part, event, lasting, &mut output, writer) {
+                match draw_found(
+                    alloc,
+                    world,
+                    found,
+                    part,
+                    event,
+                    lasting,
+                    &mut output,
+                    writer,
+                ) {
                     Ok(behind) => {
                         if let Some(line) = output.lost {
                             let kind = ScriptFaultKind::WriteFailed;
@@ -331,12 +348,26 @@ fn draw_events<W: Write>(
                         number = behind.line;
                     }
                     Err(fault) => {
-                        return finish(&mut output, part, lasting, summary.lines, Err(fault), writer);
+                        return finish(
+                            &mut output,
+                            part,
+                            lasting,
+                            summary.lines,
+                            Err(fault),
+                            writer,
+                        );
                     }
                 }
             }
             Err(fault) => {
-                return finish(&mut output, part, lasting, summary.lines, Err(fault), writer);
+                return finish(
+                    &mut output,
+                    part,
+                    lasting,
+                    summary.lines,
+                    Err(fault),
+                    writer,
+                );
             }
         }
     }

@@ -25,14 +25,7 @@ pub(crate) fn put_head<W: Write>(output: &mut Output, part: &Part, writer: &mut 
 {
     let walkers = wide(7, part.size.walkers);
     let tokens = wide(8, part.size.tokens);
-    put_head_for(
-        output,
-        walkers,
-        tokens,
-        part.rows,
-        part.size.events,
-        writer,
-    );
+    put_head_for(output, walkers, tokens, part.rows, part.size.events, writer);
 }
 
 #[tactic(auto, using(am_views::proofs::FourPieces::puts_four))]
@@ -118,13 +111,7 @@ fn put_title<W: Write>(output: &mut Output, rows: u64, events: u64, writer: &mut
 }
 
 /// Puts out what all rows stand on, which are so high.
-fn put_ground<W: Write>(
-    output: &mut Output,
-    walkers: u64,
-    tokens: u64,
-    down: u64,
-    writer: &mut W,
-)
+fn put_ground<W: Write>(output: &mut Output, walkers: u64, tokens: u64, down: u64, writer: &mut W)
     requires walkers { walkers ≤ 1000007 }
     requires tokens { tokens ≤ 1000008 }
     ensures { Puts output.old output.new (ground walkers tokens down) (W.contents writer.old)
@@ -135,13 +122,7 @@ fn put_ground<W: Write>(
 }
 
 #[tactic(auto, using(am_script::proofs::Pieces::puts_two))]
-fn put_left<W: Write>(
-    output: &mut Output,
-    walkers: u64,
-    tokens: u64,
-    down: u64,
-    writer: &mut W,
-)
+fn put_left<W: Write>(output: &mut Output, walkers: u64, tokens: u64, down: u64, writer: &mut W)
     requires walkers { walkers ≤ 1000007 }
     requires tokens { tokens ≤ 1000008 }
     ensures { Puts output.old output.new (rules (844 + 44 * walkers + 20 * tokens) down
@@ -152,13 +133,7 @@ fn put_left<W: Write>(
 }
 
 #[tactic(auto, using(am_script::proofs::Pieces::puts_three))]
-fn put_others<W: Write>(
-    output: &mut Output,
-    walkers: u64,
-    tokens: u64,
-    down: u64,
-    writer: &mut W,
-)
+fn put_others<W: Write>(output: &mut Output, walkers: u64, tokens: u64, down: u64, writer: &mut W)
     requires walkers { walkers ≤ 1000007 }
     requires tokens { tokens ≤ 1000008 }
     ensures { Puts output.old output.new (edges down (320 + 44 * walkers)
@@ -205,12 +180,7 @@ fn put_edges<W: Write>(output: &mut Output, down: u64, left: u64, writer: &mut W
     ensures { Puts output.old output.new (edges down left) (W.contents writer.old)
         (W.contents writer.new) }
 {
-    put_number(
-        output,
-        b"<path class='column' d='M304 118v",
-        down,
-        writer,
-    );
+    put_number(output, b"<path class='column' d='M304 118v", down, writer);
     put_number(output, b"M", left, writer);
     put_number(output, b" 118v", down, writer);
     put_word(output, b"'/>\n", writer);

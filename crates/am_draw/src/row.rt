@@ -289,10 +289,26 @@ fn put_obs<W: Write>(
         }
         Obs::Left { .. } => (),
         Obs::Mounted { mounts } => {
-            put_shifted(output, lasting, b"came", b" on ", trees.behind, mounts, writer)
+            put_shifted(
+                output,
+                lasting,
+                b"came",
+                b" on ",
+                trees.behind,
+                mounts,
+                writer,
+            )
         }
         Obs::Unmounted { mounts } => {
-            put_shifted(output, lasting, b"went", b" off ", trees.before, mounts, writer)
+            put_shifted(
+                output,
+                lasting,
+                b"went",
+                b" off ",
+                trees.before,
+                mounts,
+                writer,
+            )
         }
         Obs::Delivered { token, .. } => {
             let from = token_x(lasting, *token) + 7;

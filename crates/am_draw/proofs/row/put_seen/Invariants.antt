@@ -1,10 +1,10 @@
 use Rattle.std.proofs.Common.{◌≡◌, take}
 use Rattle.am_script.specs.{Puts}
-use Rattle.am_draw.specs.{seen_behind, seen_marks}
+use Rattle.am_draw.specs.{lasts_of, seen_behind, seen_drawn}
 use Rattle.am_draw.proofs.row.put_seen.Given as goal
 
 abbrev pub invariant-loop-obs : goal.invariant-loop-obs
 invariant-loop-obs g l = record {
-  lasts : l.lasting ≡ seen_behind l.before (take l.obs-index l.seen);
-  puts : Puts l.fn.output l.output (seen_marks l.trees.before.now l.trees.behind.now l.before (take l.obs-index l.seen)) (g.W.Write.contents l.fn.writer) (g.W.Write.contents l.writer);
+  lasts : lasts_of l.lasting ≡ seen_behind l.until.now.number (lasts_of l.fn.lasting) (take l.obs-index l.seen);
+  puts : Puts l.fn.output l.output (seen_drawn l.trees.before.now l.trees.behind.now l.until.now (lasts_of l.fn.lasting) (take l.obs-index l.seen)) (g.W.Write.contents l.fn.writer) (g.W.Write.contents l.writer);
 }

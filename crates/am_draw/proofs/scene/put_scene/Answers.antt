@@ -1,7 +1,7 @@
-use Rattle.am_script.proofs.Pieces.{puts_three}
+use Rattle.am_script.proofs.Pieces.{puts_two}
 use Rattle.am_draw.proofs.scene.put_scene.Goals as goal
 
 pub returns : goal.returns
 returns g c =
-    puts_three _ _ _ _ _ _ _ _ _ _ _
-    c.put_row_opening.ensures c.put_bars.ensures c.put_labels.ensures
+    puts_two _ _ _ _ _ _ _ _
+    c.put_row_opening.ensures c.put_labels.ensures

@@ -1,7 +1,7 @@
 use Rattle.am_script.proofs.Pieces.{puts_two}
-use Rattle.am_draw.proofs.scene.put_half.Goals as goal
+use Rattle.am_draw.proofs.marks.put_reach.Goals as goal
 
 pub returns : goal.returns
 returns g c =
     puts_two _ _ _ _ _ _ _ _
-    c.put_lanes.ensures c.put_lanes-2.ensures
+    c.put_number.ensures c.put_number-2.ensures

@@ -1,6 +1,0 @@
-use Rattle.am_draw.proofs.BarLemmas.{behind_next}
-use Rattle.am_draw.proofs.bars.Lasting.change_by.Goals as goal
-
-pub loop-obs-preserved : goal.loop-obs-preserved
-loop-obs-preserved c =
-    behind_next c.args.self.now c.loop-obs.self c.change.new.self c.args.seen.now c.loop-obs.obs-index c.obs-item.result c.loop-obs-test.true c.obs-item.is c.loop-obs.invariant c.change.ensures

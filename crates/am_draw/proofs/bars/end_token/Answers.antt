@@ -1,8 +1,0 @@
-use Rattle.std.proofs.lemmas.List.Edits.{map_over_more}
-use Rattle.am_draw.specs.{answered_lane}
-use Rattle.am_draw.proofs.bars.end_token.Goals as goal
-
-pub loop-lane-preserved : goal.loop-lane-preserved
-loop-lane-preserved c =
-    rw (c.answered_lane.ensures, ← c.lane-item.is)
-    (map_over_more (answered_lane c.args.token) c.args.lanes.now c.loop-lane.lanes c.loop-lane.lane-index c.lane-item.result c.loop-lane-test.true c.loop-lane.invariant c.lane-item.is)
