@@ -1,6 +1,6 @@
 -- Which events of a script are drawn, and how wide the picture is: own choice (docs/FORMATS.md,
 -- "Pictures").
-use Rattle.std.specs.Prelude.{ℕ, ◌+◌, ◌-◌, ◌*◌, Bool, ◌&&◌, not, min, max, nat_lt}
+use Rattle.std.specs.Prelude.{ℕ, ◌+◌, ◌-◌, ◌*◌, Bool, ◌&&◌, not, min, nat_lt, if◌then◌else◌}
 use Rattle.am_draw.specs.declared.part.Size.{Size}
 use Rattle.am_draw.specs.declared.part.Part.{Part}
 
@@ -25,18 +25,20 @@ part_of first last size = record {
 abbrev pub is_past : Part → ℕ → Bool
 is_past part number = nat_lt part.rows (number - part.skipped)
 
--- the event with this number is drawn: it comes after those that are skipped, and not after all
+-- the event with this number is drawn: it comes no later than those that are, and isn't skipped
 abbrev pub is_drawn : Part → ℕ → Bool
-is_drawn part number = nat_lt part.skipped number && not (is_past part number)
+is_drawn part number = not (is_past part number) && nat_lt part.skipped number
 
 -- how many rows are drawn of so many events that have come
 abbrev pub rows_shown : Part → ℕ → ℕ
-rows_shown part events = min (events - part.skipped) part.rows
+rows_shown part events =
+    if is_past part events then part.rows else events - part.skipped
 
 -- the top of the event's row
 abbrev pub row_y : Part → ℕ → ℕ
 row_y part number = 118 + 26 * (number - part.skipped - 1)
 
--- room for so many lanes, and no less than this
+-- room for so many lanes, but for no less than this, and at most for so many
 abbrev pub wide : ℕ → ℕ → ℕ
-wide least lanes = max least (min lanes most_lanes)
+wide least lanes =
+    if nat_lt lanes least then least else if nat_lt most_lanes lanes then most_lanes else lanes

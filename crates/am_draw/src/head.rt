@@ -4,7 +4,7 @@ ghost use Rattle.std.specs.Prelude.{◌≡◌, ◌≤◌, ◌<◌, ◌+◌, ◌*
 ghost use Rattle.am_script.specs.{Puts};
 ghost use Rattle.am_draw.specs.Head.{size_text, box_text, count_words, title_text, tag_text, rules, walker_lanes, edges, token_title, right_columns, ground, head_for, head_text, last_bars, last_bars_in, tail_text};
 ghost use Rattle.am_draw.specs.Lasts.{lasts_of};
-ghost use Rattle.am_draw.specs.Look.{look_text};
+ghost use Rattle.am_draw.specs.Look.{look_text, right_text};
 ghost use Rattle.am_draw.specs.Marks.{label, shift};
 ghost use Rattle.am_draw.specs.Parts.{most_rows};
 
@@ -37,8 +37,8 @@ fn put_head_for<W: Write>(
     events: u64,
     writer: &mut W,
 )
-    requires walkers { walkers ≤ 1000007 }
-    requires tokens { tokens ≤ 1000008 }
+    requires walkers { walkers ≤ 1000000 }
+    requires tokens { tokens ≤ 1000000 }
     requires rows { rows ≤ most_rows }
     ensures { Puts output.old output.new (head_for walkers tokens rows events)
         (W.contents writer.old) (W.contents writer.new) }
@@ -64,8 +64,8 @@ fn put_tag<W: Write>(
     events: u64,
     writer: &mut W,
 )
-    requires walkers { walkers ≤ 1000007 }
-    requires tokens { tokens ≤ 1000008 }
+    requires walkers { walkers ≤ 1000000 }
+    requires tokens { tokens ≤ 1000000 }
     requires rows { rows ≤ most_rows }
     ensures { Puts output.old output.new (tag_text walkers tokens rows events)
         (W.contents writer.old) (W.contents writer.new) }
@@ -111,9 +111,10 @@ fn put_title<W: Write>(output: &mut Output, rows: u64, events: u64, writer: &mut
 }
 
 /// Puts out what all rows stand on, which are so high.
+#[tactic(auto, using(am_script::proofs::Pieces::puts_two))]
 fn put_ground<W: Write>(output: &mut Output, walkers: u64, tokens: u64, down: u64, writer: &mut W)
-    requires walkers { walkers ≤ 1000007 }
-    requires tokens { tokens ≤ 1000008 }
+    requires walkers { walkers ≤ 1000000 }
+    requires tokens { tokens ≤ 1000000 }
     ensures { Puts output.old output.new (ground walkers tokens down) (W.contents writer.old)
         (W.contents writer.new) }
 {
@@ -123,8 +124,8 @@ fn put_ground<W: Write>(output: &mut Output, walkers: u64, tokens: u64, down: u6
 
 #[tactic(auto, using(am_script::proofs::Pieces::puts_two))]
 fn put_left<W: Write>(output: &mut Output, walkers: u64, tokens: u64, down: u64, writer: &mut W)
-    requires walkers { walkers ≤ 1000007 }
-    requires tokens { tokens ≤ 1000008 }
+    requires walkers { walkers ≤ 1000000 }
+    requires tokens { tokens ≤ 1000000 }
     ensures { Puts output.old output.new (rules (844 + 44 * walkers + 20 * tokens) down
         ++ walker_lanes (44 * walkers) down) (W.contents writer.old) (W.contents writer.new) }
 {
@@ -134,8 +135,8 @@ fn put_left<W: Write>(output: &mut Output, walkers: u64, tokens: u64, down: u64,
 
 #[tactic(auto, using(am_script::proofs::Pieces::puts_three))]
 fn put_others<W: Write>(output: &mut Output, walkers: u64, tokens: u64, down: u64, writer: &mut W)
-    requires walkers { walkers ≤ 1000007 }
-    requires tokens { tokens ≤ 1000008 }
+    requires walkers { walkers ≤ 1000000 }
+    requires tokens { tokens ≤ 1000000 }
     ensures { Puts output.old output.new (edges down (320 + 44 * walkers)
         ++ (token_title (328 + 44 * walkers) ++ right_columns (shift walkers tokens) down))
         (W.contents writer.old) (W.contents writer.new) }
@@ -208,6 +209,12 @@ fn put_right<W: Write>(output: &mut Output, far: u64, down: u64, writer: &mut W)
         writer,
     );
     put_word(output, b"'/>\n", writer);
+    put_right_titles(output, writer);
+}
+
+fn put_right_titles<W: Write>(output: &mut Output, writer: &mut W)
+    ensures { Puts output.old output.new right_text (W.contents writer.old) (W.contents writer.new) }
+{
     put_word(output, right(), writer);
 }
 

@@ -20,10 +20,10 @@ pub enum Lanes {
 
 /// The middle of a lane, behind so many lanes of walkers, in pixels from the left.
 pub(crate) fn lane_x(lanes: Lanes, walkers: u64, lane: usize) -> u64
-    requires { walkers ≤ 1000007 }
+    requires { walkers ≤ 1000000 }
     ensures x { result ≡ lane_x lanes walkers lane }
     ensures left { 332 ≤ result }
-    ensures right { result ≤ 64000646 }
+    ensures right { result ≤ 64000338 }
 {
     let lane = (lane as u64).min(MOST_LANES);
     match lanes {
@@ -34,10 +34,10 @@ pub(crate) fn lane_x(lanes: Lanes, walkers: u64, lane: usize) -> u64
 
 /// How far the columns at the right are moved, behind so many lanes of walkers and of tokens.
 pub(crate) fn shift(walkers: u64, tokens: u64) -> u64
-    requires walkers { walkers ≤ 1000007 }
-    requires tokens { tokens ≤ 1000008 }
+    requires walkers { walkers ≤ 1000000 }
+    requires tokens { tokens ≤ 1000000 }
     ensures shift { result ≡ shift walkers tokens }
-    ensures most { result ≤ 64000000 }
+    ensures most { result ≤ 63999532 }
 {
     (44 * walkers + 20 * tokens).saturating_sub(468)
 }

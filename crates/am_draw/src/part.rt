@@ -1,6 +1,6 @@
 //! Which events of a script are drawn, and how wide the picture is.
 
-ghost use Rattle.std.specs.Prelude.{◌≡◌, ◌+◌, ◌-◌, ◌≤◌};
+ghost use Rattle.std.specs.Prelude.{◌≡◌, ◌+◌, ◌-◌, ◌<◌, ◌≤◌, ◌^◌};
 ghost use Rattle.am_draw.specs.Parts.{most_rows, most_lanes, part_of, is_drawn, is_past, rows_shown, row_y, wide};
 
 /// The most rows of a picture.
@@ -45,13 +45,20 @@ pub fn part_of(first: u64, last: u64, size: Size) -> Part
     }
 }
 
-/// Room for so many lanes, and no less than this.
+/// Room for so many lanes, but for no less than this, and at most for `MOST_LANES`.
 pub(crate) fn wide(least: u64, lanes: u64) -> u64
+    requires { least ≤ most_lanes }
     ensures wide { result ≡ wide least lanes }
     ensures least { least ≤ result }
-    ensures most { result ≤ most_lanes + least }
+    ensures most { result ≤ most_lanes }
 {
-    lanes.min(MOST_LANES).max(least)
+    if lanes < least {
+        return least;
+    }
+    if MOST_LANES < lanes {
+        return MOST_LANES;
+    }
+    lanes
 }
 
 impl Part {
@@ -59,7 +66,7 @@ impl Part {
     pub fn is_drawn(&self, number: u64) -> bool
         ensures { result ≡ is_drawn self.now number }
     {
-        self.skipped < number && !self.is_past(number)
+        !self.is_past(number) && self.skipped < number
     }
 
     /// Whether the event with this number comes after those that are drawn.
@@ -71,9 +78,15 @@ impl Part {
 
     /// How many rows are drawn of so many events that have come.
     pub fn rows_shown(&self, events: u64) -> u64
-        ensures { result ≡ rows_shown self.now events }
+        ensures shown { result ≡ rows_shown self.now events }
+        ensures most { result ≤ self.now.rows }
+        ensures fits { self.now.skipped + result < 2 ^ 64 }
     {
-        events.saturating_sub(self.skipped).min(self.rows)
+        let come = events.saturating_sub(self.skipped);
+        if self.rows < come {
+            return self.rows;
+        }
+        come
     }
 
     /// The top of the event's row, in pixels.

@@ -27,7 +27,7 @@ use std::io::Write;
 fn token_x(lasting: &Lasting, token: Token) -> u64
     ensures x { result ≡ token_x (lasts_of lasting.now) token }
     ensures left { 332 ≤ result }
-    ensures right { result ≤ 64000646 }
+    ensures right { result ≤ 64000338 }
 {
     let lane = lane_of(lasting.tokens.as_slice(), token.0);
     lane_x(Lanes::OfTokens, walker_columns(lasting), lane)
@@ -36,7 +36,7 @@ fn token_x(lasting: &Lasting, token: Token) -> u64
 fn walker_x(lasting: &Lasting, walker: WalkerId) -> u64
     ensures x { result ≡ walker_x (lasts_of lasting.now) walker }
     ensures left { 332 ≤ result }
-    ensures right { result ≤ 64000646 }
+    ensures right { result ≤ 64000338 }
 {
     let lane = lane_of(lasting.walkers.as_slice(), walker.0);
     lane_x(Lanes::OfWalkers, walker_columns(lasting), lane)
@@ -45,7 +45,7 @@ fn walker_x(lasting: &Lasting, walker: WalkerId) -> u64
 /// How far the columns of tokens are moved.
 fn inset(lasting: &Lasting) -> u64
     ensures inset { result ≡ inset (lasts_of lasting.now) }
-    ensures most { result ≤ 44000000 }
+    ensures most { result ≤ 43999692 }
 {
     (44 * walker_columns(lasting)).saturating_sub(308)
 }
@@ -53,7 +53,7 @@ fn inset(lasting: &Lasting) -> u64
 /// How far the columns of the daemon and of mounts are moved.
 fn moved(lasting: &Lasting) -> u64
     ensures moved { result ≡ moved (lasts_of lasting.now) }
-    ensures most { result ≤ 64000000 }
+    ensures most { result ≤ 63999532 }
 {
     shift(walker_columns(lasting), token_columns(lasting))
 }
@@ -371,7 +371,7 @@ fn put_packet_label<W: Write>(output: &mut Output, x: u64, packet: &Packet, writ
 /// Puts out where the bar of a token begins, with its number and the name.
 #[tactic(auto, using(am_script::proofs::Pieces::puts_three))]
 fn put_queued<W: Write>(output: &mut Output, x: u64, token: Token, packet: &Packet, writer: &mut W)
-    requires { x ≤ 64000646 }
+    requires { x ≤ 64000338 }
     ensures { Puts output.old output.new (queued_marks x token packet.now) (W.contents writer.old)
         (W.contents writer.new) }
 {

@@ -29,7 +29,7 @@ pub struct Until {
 pub(crate) fn walker_columns(lasting: &Lasting) -> u64
     ensures columns { result ≡ walker_columns (lasts_of lasting.now) }
     ensures least { 7 ≤ result }
-    ensures most { result ≤ 1000007 }
+    ensures most { result ≤ 1000000 }
 {
     wide(7, lasting.walkers.len() as u64)
 }
@@ -38,7 +38,7 @@ pub(crate) fn walker_columns(lasting: &Lasting) -> u64
 pub(crate) fn token_columns(lasting: &Lasting) -> u64
     ensures columns { result ≡ token_columns (lasts_of lasting.now) }
     ensures least { 8 ≤ result }
-    ensures most { result ≤ 1000008 }
+    ensures most { result ≤ 1000000 }
 {
     wide(8, lasting.tokens.len() as u64)
 }
@@ -118,7 +118,7 @@ fn put_lanes<W: Write>(
 )
     requires rows { until.now.number - until.now.skipped ≤ most_rows }
     requires more { until.now.more ≤ 13 }
-    requires walkers { walkers ≤ 1000007 }
+    requires walkers { walkers ≤ 1000000 }
     ensures { Puts output.old output.new (lane_bars lanes walkers ending until.now 0 holders.now)
         (W.contents writer.old) (W.contents writer.new) }
 {

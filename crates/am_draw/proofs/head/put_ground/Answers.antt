@@ -4,4 +4,4 @@ use Rattle.am_draw.proofs.head.put_ground.Goals as goal
 pub returns : goal.returns
 returns g c =
     puts_two _ _ _ _ _ _ _ _
-    c.put_number.ensures c.put_word.ensures
+    c.put_left.ensures c.put_others.ensures

@@ -3,5 +3,5 @@ use Rattle.am_draw.proofs.row.put_catatonic.Goals as goal
 
 pub returns : goal.returns
 returns g c =
-    puts_two _ _ _ _ _ _ _ _
-    c.put_stamp.ensures c.put_catatonic_label.ensures
+    rw c.inset-x.ensures.inset at
+    (puts_two _ _ _ _ _ _ _ _ c.put_stamp.ensures c.put_catatonic_label.ensures)

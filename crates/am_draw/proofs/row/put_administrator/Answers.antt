@@ -1,0 +1,4 @@
+use Rattle.am_draw.proofs.row.put_administrator.Goals as goal
+
+pub returns : goal.returns
+returns g c = rw c.moved-x.ensures.moved at c.put_stamp.ensures
