@@ -3,4 +3,4 @@ use Rattle.am_draw.proofs.draw.finish.Goals as goal
 
 pub returns-clause-finishes : goal.returns-clause-finishes
 returns-clause-finishes g c =
-    finishes _ _ _ _ _ _ _ _ c.put_tail.ensures c.close.ensures.closes
+    finishes _ _ _ _ _ _ _ _ c.put_tail_behind.ensures c.close.ensures.closes
