@@ -1,0 +1,123 @@
+#!/usr/bin/env python3
+"""Compares the bars of pictures with the worlds behind the events.
+
+usage: tools/bars.py [FILE..]    those of these scripts; without them of all scripts of `examples`, and of those of
+                                 `tests` that have pictures
+
+In the row of each event stands, just below its middle, a bar in the lane of each walker that waits in the world which
+the script leaves behind that event, one for each that is inside of a mount, and one for each open token, as `world`
+tells them, and no other. Who stands in a lane is told where the bar begins. No two bars of a lane overlap, and no bar
+stands beside the lanes of its kind. The last line counts the scripts.
+"""
+
+import glob
+import os
+import re
+import subprocess
+import sys
+import xml.etree.ElementTree as tree
+
+SVG = "{http://www.w3.org/2000/svg}"
+TOP, ROW, MIDDLE = 118, 26, 13
+# What is told of a row is probed so far below its middle, where the bar of a walker has begun.
+BELOW = 8
+KINDS = ("waits", "inside", "missing", "expire")
+
+
+def played(program, command, script):
+    done = subprocess.run([program, command], input=script, capture_output=True, check=True)
+    return done.stdout.decode()
+
+
+def cut_behind_each(script):
+    """The script up to each of its events."""
+    lines = script.split(b"\n")
+    first = next((at for at, it in enumerate(lines) if it.split() == [b"events"]), len(lines))
+    for at in range(first + 1, len(lines)):
+        if lines[at].strip() and not lines[at].startswith(b"#"):
+            yield b"\n".join(lines[:at + 1]) + b"\n"
+
+
+def busy_in(world):
+    """Who waits, who is inside, and which tokens are open, by what a world prints."""
+    waits = {int(it) for found in re.findall(r"^# open \d+ waiters ((?:\d+ )*)fs", world, re.M) for it in found.split()}
+    inside = {int(it) for it in re.findall(r"^# entered (\d+) mount", world, re.M)}
+    tokens = {int(it) for it in re.findall(r"^# open (\d+) ", world, re.M)}
+    return waits, inside, tokens
+
+
+def rows_of(root):
+    """The rows of a picture, each with the top of its own coordinates."""
+    for group in root.iter(SVG + "g"):
+        found = re.fullmatch(r"translate\(0[ ,](\d+)\)", group.get("transform", ""))
+        if found:
+            yield int(found[1]), group
+
+
+def numbers_of(rows):
+    """Who is told of where, by the place to the right of a walker's number, or over a token's."""
+    found = {}
+    for top, row in rows:
+        for text in row.findall(SVG + "text"):
+            x, y = int(text.get("x")), top + MIDDLE
+            if text.get("class") == "s n" and (text.text or "").isdigit():
+                found["walker", x + 8, y] = int(text.text)
+            if text.get("class") == "k":
+                found["token", x, y] = int(text.text)
+    return found
+
+
+def bars_of(root):
+    """Each bar: its kind, who it is of, its lane, and from where to where."""
+    rows = list(rows_of(root))
+    numbers = numbers_of(rows)
+    for top, row in rows:
+        for path in row.findall(SVG + "path"):
+            if path.get("class") not in KINDS:
+                continue
+            x, reach = map(int, re.fullmatch(r"M(\d+) 13v-(\d+)", path.get("d")).groups())
+            end = top + MIDDLE
+            begin = end - reach
+            of = "token" if path.get("class") in KINDS[2:] else "walker"
+            mark = begin if of == "token" else begin - 6
+            yield path.get("class"), numbers.get((of, x, mark)), x, begin, end
+
+
+def faults_of(program, script):
+    """What isn't so of a script's picture."""
+    bars = list(bars_of(tree.fromstring(played(program, "draw", script))))
+    for at, one in enumerate(bars):
+        if one[1] is None:
+            yield f"nobody is told of where a bar begins: {one}"
+        for other in bars[at + 1:]:
+            if one[2] == other[2] and one[3] < other[4] and other[3] < one[4]:
+                yield f"two bars overlap: {one} and {other}"
+    for number, part in enumerate(cut_behind_each(script)):
+        probe = TOP + ROW * number + MIDDLE + BELOW
+        here = [it for it in bars if it[3] <= probe < it[4]]
+        drawn = tuple(sorted(it[1] or 0 for it in here if it[0] in kinds) for kinds in (KINDS[:1], KINDS[1:2], KINDS[2:]))
+        there = tuple(sorted(it) for it in busy_in(played(program, "world", part)))
+        if drawn != there:
+            yield f"behind event {number + 1} waiters, walkers inside and tokens are {there}, and drawn are {drawn}"
+
+
+def main():
+    top = os.path.dirname(os.path.dirname(os.path.abspath(__file__)))
+    names = sys.argv[1:]
+    if any(it.startswith("-") for it in names):
+        sys.exit(__doc__)
+    names = names or sorted(glob.glob(f"{top}/examples/*.script")
+                            + [f"{it[:-4]}.script" for it in glob.glob(f"{top}/tests/*.svg")])
+    program = subprocess.run([f"{top}/tools/program.sh"], check=True, stdout=subprocess.PIPE, text=True).stdout.strip()
+    failed = 0
+    for name in names:
+        with open(name, "rb") as file:
+            found = list(faults_of(program, file.read()))
+        print(f"{os.path.relpath(name, top)}: " + ("; ".join(found[:3]) if found else "as its worlds"))
+        failed += bool(found)
+    print(f"{len(names) - failed} passed, {failed} failed")
+    sys.exit(1 if failed else 0)
+
+
+if __name__ == "__main__":
+    main()
