@@ -46,7 +46,7 @@ counting_ends start all fault left events lasts now e h = record {
   asked = ap (λ (t : Told). t.events) (h.parted ∙ ap (behind (asked_in h.rows)) e) ∙ append-nil (asked_in h.rows);
   ends = now;
   run = h.run;
-  size = ap (λ (n : ℕ). sized n lasts) h.counted ∙ ap (sized (length h.rows)) h.adds;
+  counted = ap (λ (n : ℕ). sized n lasts) h.counted ∙ ap (sized (length h.rows)) h.adds;
 }
 
 fault_place : (start : State) (all left : Told) (events : ℕ) (lasts : Lasts) (now : State) (fault : ScriptFault) → Counting start all left events lasts now → NoNext left fault → (all.fault ≡ Some fault) ⊎ IsAtEvent all fault

@@ -85,7 +85,7 @@ pub record IsSizeOf (start : State) (told : Told) (size : Size) : Type 0 where
   pub asked : told.events ≡ asked_in all
   pub ends : State
   pub run : ViewedRun start all ends
-  pub size : size ≡ size_of all
+  pub counted : size ≡ size_of all
 
 -- ---- what is drawn
 

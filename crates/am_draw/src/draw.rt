@@ -118,7 +118,7 @@ fn count_opened(alloc: Global, opened: Opened<'_>) -> Result<Counted, ScriptFaul
     // It goes by a call, which is cheaper to check.
     drop(world);
     match events {
-        Ok(events) => Ok(counted(lasting, events)),
+        Ok(events) => Ok(cleared(lasting, events)),
         Err(fault) => {
             drop(lasting);
             Err(fault)
@@ -127,7 +127,7 @@ fn count_opened(alloc: Global, opened: Opened<'_>) -> Result<Counted, ScriptFaul
 }
 
 /// What was counted; nobody holds a lane any more.
-fn counted(lasting: Lasting, events: u64) -> Counted
+fn cleared(lasting: Lasting, events: u64) -> Counted
     ensures size { result.size ≡ record {
       events = events;
       walkers = length (lasts_of lasting.entry).walkers;
