@@ -15,7 +15,7 @@ use Rattle.am_script.specs.Script.{Script}
 use Rattle.am_views.specs.{HeadStops}
 use Rattle.am_draw.specs.declared.part.Part.{Part}
 use Rattle.am_draw.specs.declared.part.Size.{Size}
-use Rattle.am_draw.specs.Lasts.{Lasts, behind, added, nothing_lasts}
+use Rattle.am_draw.specs.Lasting.{Lasts, behind, added, nothing_lasts}
 use Rattle.am_draw.specs.Head.{head_text, tail_text}
 use Rattle.am_draw.specs.Parts.{part_of, is_drawn, is_past}
 use Rattle.am_draw.specs.Rows.{row_text, sides_of}

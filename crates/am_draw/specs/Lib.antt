@@ -1,7 +1,7 @@
 pub mod Bars
 pub mod Drawn
 pub mod Head
-pub mod Lasts
+pub mod Lasting
 pub mod Look
 pub mod Marks
 pub mod Parts
@@ -14,7 +14,7 @@ pub mod Words
 pub use Bars.{ended_lane, is_free, is_of, lane_for, may_take, placed, sighted, with_lane}
 pub use Drawn.{AllDrawn, DrawEnds, DrawStops, DrawnFrom, DrawnToLoss, DrawsAgain, DrawsFrom, DrawsInput, Finishes, IsAtEvent, IsCounted, IsDrawn, IsSizeOf, IsSizeOfScript, NotCounted, Piece, StopsDrawing, Viewed, ViewedRun, Views, added_behind, answers_in, asked_in, bytes_in, counted_to, drawn_for, event_piece, event_pieces, first_lasts, head_in, is_out_of_memory, lanes_for, lasts_behind, next_lasts, picture, pieces_of, size_of, tail_behind, tail_for, tail_pieces}
 pub use Head.{tail_text}
-pub use Lasts.{Lasts, acted, added, behind, changed, lasts_of, nothing_lasts, roomed, roomed_for, seen_added, seen_behind}
+pub use Lasting.{Lasts, acted, added, behind, changed, lasts_of, nothing_lasts, roomed, roomed_for, seen_added, seen_behind}
 pub use Marks.{lane_x}
 pub use Parts.{is_drawn, is_past, part_of, row_y, rows_shown}
 pub use Rows.{obs_drawn, row_text, seen_drawn, sides_of}

@@ -15,7 +15,7 @@ use Rattle.am_draw.specs.declared.marks.Lanes.TheVariants.{OfTokens, OfWalkers}
 use Rattle.am_draw.specs.declared.stretch.Until.{Until}
 use Rattle.am_draw.specs.declared.part.Part.{Part}
 use Rattle.am_draw.specs.Bars.{lane_of}
-use Rattle.am_draw.specs.Lasts.{Lasts, changed, acted, behind}
+use Rattle.am_draw.specs.Lasting.{Lasts, changed, acted, behind}
 use Rattle.am_draw.specs.Marks.{stamp, stroke, label, lane_x, shift}
 use Rattle.am_draw.specs.Parts.{row_y}
 use Rattle.am_draw.specs.Stretches.{walker_columns, token_columns, ended_bars}

@@ -12,7 +12,7 @@ use Rattle.am_draw.specs.declared.marks.Lanes.{Lanes}
 use Rattle.am_draw.specs.declared.marks.Lanes.TheVariants.{OfTokens, OfWalkers}
 use Rattle.am_draw.specs.declared.stretch.Until.{Until}
 use Rattle.am_draw.specs.Bars.{ends}
-use Rattle.am_draw.specs.Lasts.{Lasts}
+use Rattle.am_draw.specs.Lasting.{Lasts}
 use Rattle.am_draw.specs.Marks.{stretch, lane_x}
 use Rattle.am_draw.specs.Parts.{wide}
 

@@ -193,18 +193,18 @@ fn is_in(look: Look, fs: FsId) -> bool
 }
 
 /// Whether the bar of this holder ends.
-pub(crate) fn ends(ending: Ending, holder: &Holder) -> bool
-    ensures { result ≡ ends ending holder.now }
+pub(crate) fn ends(ending: &Ending, holder: &Holder) -> bool
+    ensures { result ≡ ends ending.now holder.now }
 {
     match ending {
-        Ending::Of { number } => holder.number == number,
-        Ending::In { fs } => is_in(holder.look, fs),
+        Ending::Of { number } => holder.number == *number,
+        Ending::In { fs } => is_in(holder.look, *fs),
         Ending::All => true,
     }
 }
 
-fn ended_lane(lane: Option<Holder>, ending: Ending) -> Option<Holder>
-    ensures { result ≡ ended_lane ending lane }
+fn ended_lane(lane: Option<Holder>, ending: &Ending) -> Option<Holder>
+    ensures { result ≡ ended_lane ending.now lane }
 {
     let holder = lane?;
     if ends(ending, &holder) {
@@ -217,8 +217,8 @@ fn ended_lane(lane: Option<Holder>, ending: Ending) -> Option<Holder>
 }
 
 /// The bars end that end so.
-pub(crate) fn end_bars(lanes: &mut [Option<Holder>], ending: Ending)
-    ensures { lanes.new ≡ map (ended_lane ending) lanes.old }
+pub(crate) fn end_bars(lanes: &mut [Option<Holder>], ending: &Ending)
+    ensures { lanes.new ≡ map (ended_lane ending.now) lanes.old }
 {
     for lane in lanes.iter_mut() {
         *lane = ended_lane(*lane, ending);

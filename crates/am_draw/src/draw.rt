@@ -1,10 +1,11 @@
 //! The picture of a script is written.
 
 ghost use Rattle.std.specs.Prelude.{◌≡◌, ◌+◌, ◌-◌, ◌<◌, ◌≤◌, ◌^◌, ℕ, length, drop, option_copied, vec_len, None, IfOk, IfErr, OnOk, OnErr};
-ghost use Rattle.am_script.specs.{lines_in, size_in, Puts, events_from};
+ghost use Rattle.am_script.specs.{lines_in, size_in, Puts, events_from, fault_at};
+ghost use Rattle.am_script.specs.declared.fault.ScriptFaultKind.TheVariants.{NoMemory};
 ghost use Rattle.am_world.specs.Capacity.{state_of};
 ghost use Rattle.am_draw.specs.Drawn.{is_out_of_memory, head_in, row_in, drawn_for, next_lasts, first_lasts, tail_behind, counted_to, IsSizeOf, IsCounted, AllDrawn, DrawStops, DrawEnds, DrawsInput, StopsDrawing, DrawsAgain, NotCounted, IsDrawn, IsUndrawn, Finishes};
-ghost use Rattle.am_draw.specs.Lasts.{lasts_of, nothing_lasts, behind};
+ghost use Rattle.am_draw.specs.Lasting.{lasts_of, nothing_lasts, behind};
 ghost use Rattle.am_draw.specs.Parts.{most_rows, part_of};
 ghost use Rattle.am_draw.specs.declared.part.Size.{Size};
 ghost use Rattle.am_draw.specs.Sides.{sides_said};
@@ -77,7 +78,7 @@ fn draw_again<W: Write>(
     requires fits { vec_len input.now.text < 2 ^ 62 }
     requires lasts { lasts_of counted.lasting
         ≡ nothing_lasts counted.size.tokens counted.size.walkers }
-    ensures { DrawsAgain first last input.now.broke input.now.text.items counted.entry.size
+    ensures { DrawsAgain first last input.now.broke input.now.text.items counted.size
         (W.contents writer.old) (W.contents writer.new) result }
 {
     match open_script(alloc, input) {
@@ -130,11 +131,11 @@ fn count_opened(alloc: Global, opened: Opened<'_>) -> Result<Counted, ScriptFaul
 fn cleared(lasting: Lasting, events: u64) -> Counted
     ensures size { result.size ≡ record {
       events = events;
-      walkers = length (lasts_of lasting.entry).walkers;
-      tokens = length (lasts_of lasting.entry).tokens;
+      walkers = length (lasts_of lasting).walkers;
+      tokens = length (lasts_of lasting).tokens;
     } }
-    ensures lasts { lasts_of result.lasting ≡ nothing_lasts (length (lasts_of lasting.entry).tokens)
-        (length (lasts_of lasting.entry).walkers) }
+    ensures lasts { lasts_of result.lasting ≡ nothing_lasts (length (lasts_of lasting).tokens)
+        (length (lasts_of lasting).walkers) }
 {
     let mut lasting = lasting;
     lasting.clear();
@@ -161,14 +162,14 @@ fn draw_opened<W: Write>(
     ensures whole { OnOk result (opened.entry.broke ≡ None) }
     ensures ok { IsSizeOf (state_of opened.entry.world)
         (events_from opened.entry.broke opened.entry.line
-        (lines_in (option_copied opened.entry.rest))) counted.entry.size → IfOk result (AllDrawn
+        (lines_in (option_copied opened.entry.rest))) counted.size → IfOk result (AllDrawn
         first last (state_of opened.entry.world)
         (events_from opened.entry.broke opened.entry.line
         (lines_in (option_copied opened.entry.rest))) (W.contents writer.old)
         (W.contents writer.new)) }
     ensures err { IsSizeOf (state_of opened.entry.world)
         (events_from opened.entry.broke opened.entry.line
-        (lines_in (option_copied opened.entry.rest))) counted.entry.size → IfErr result (DrawStops
+        (lines_in (option_copied opened.entry.rest))) counted.size → IfErr result (DrawStops
         first last (state_of opened.entry.world)
         (events_from opened.entry.broke opened.entry.line
         (lines_in (option_copied opened.entry.rest))) (W.contents writer.old)
@@ -225,27 +226,58 @@ fn count_events(
     loop {
         match next_event(alloc, rest, number, broke) {
             Ok(None) => return Ok(events),
-            Ok(Some(found)) => {
-                match count_event(alloc, world, found.line, &found.event, events + 1, lasting) {
-                    Ok(()) => {
-                        events += 1;
-                        rest = found.rest;
-                        number = found.line;
-                    }
-                    Err(_) => {
-                        return Err(ScriptFault {
-                            line: found.line,
-                            kind: ScriptFaultKind::NoMemory,
-                        });
-                    }
+            Ok(Some(found)) => match count_found(alloc, world, found, events + 1, lasting) {
+                Ok(left) => {
+                    events = left.events;
+                    rest = left.rest;
+                    number = left.line;
                 }
-            }
+                Err(fault) => return Err(fault),
+            },
             Err(fault) => return counted_to(events, fault),
         }
     }
 }
 
-/// Makes the step of an event, and adds the lanes that it comes to.
+/// What is left behind an event that was counted.
+#[derive(Drop)]
+struct Left<'a> {
+    events: u64,
+    line: u64,
+    rest: Option<&'a [u8]>,
+}
+
+/// Makes the step of an event that was found, which has this number, and adds the lanes that it comes
+/// to.
+fn count_found<'a>(
+    alloc: Global,
+    world: &mut World,
+    found: Found<'a>,
+    number: u64,
+    lasting: &mut Lasting,
+) -> Result<Left<'a>, ScriptFault>
+    ensures counted { OnOk result (IsCounted number (state_of world.old)
+        (record { line = found.entry.line; event = found.entry.event }) (state_of world.new)
+        (lasts_of lasting.old) (lasts_of lasting.new)) }
+    ensures events { IfOk result (λ left. left.events ≡ number) }
+    ensures line { IfOk result (λ left. left.line ≡ found.entry.line) }
+    ensures rest { IfOk result (λ left. option_copied left.rest ≡ option_copied found.entry.rest) }
+    ensures err { IfErr result (λ fault. fault ≡ fault_at found.entry.line NoMemory) }
+{
+    match count_event(alloc, world, found.line, &found.event, number, lasting) {
+        Ok(events) => Ok(Left {
+            events,
+            line: found.line,
+            rest: found.rest,
+        }),
+        Err(_) => Err(ScriptFault {
+            line: found.line,
+            kind: ScriptFaultKind::NoMemory,
+        }),
+    }
+}
+
+/// Makes the step of an event, and adds the lanes that it comes to. It answers the event's number.
 fn count_event(
     alloc: Global,
     world: &mut World,
@@ -253,17 +285,20 @@ fn count_event(
     event: &Event,
     number: u64,
     lasting: &mut Lasting,
-) -> Result<(), AllocError>
-    ensures { OnOk result (IsCounted number (state_of world.old)
+) -> Result<u64, AllocError>
+    ensures counted { OnOk result (IsCounted number (state_of world.old)
         (record { line = line; event = event.now }) (state_of world.new) (lasts_of lasting.old)
         (lasts_of lasting.new)) }
+    ensures number { IfOk result (λ counted. counted ≡ number) }
 {
     let before = world.trace().len();
     let answer = world.step(alloc, event);
     if is_out_of_memory(&answer) {
         return Err(AllocError);
     }
-    lasting.add(number, event, seen_since(world, before))
+    let seen = seen_since(world, before);
+    lasting.add(number, event, seen)?;
+    Ok(number)
 }
 
 /// Whether an event was refused for want of memory.

@@ -3,7 +3,7 @@
 ghost use Rattle.std.specs.Prelude.{◌≡◌, ◌≤◌, ◌<◌, ◌+◌, ◌*◌, ◌^◌, ◌++◌, codes};
 ghost use Rattle.am_script.specs.{Puts};
 ghost use Rattle.am_draw.specs.Head.{size_text, box_text, count_words, title_text, tag_text, rules, walker_lanes, edges, token_title, right_columns, ground, head_for, head_text, last_bars, last_bars_in, tail_text};
-ghost use Rattle.am_draw.specs.Lasts.{lasts_of};
+ghost use Rattle.am_draw.specs.Lasting.{lasts_of};
 ghost use Rattle.am_draw.specs.Look.{look_text, right_text};
 ghost use Rattle.am_draw.specs.Marks.{label, shift};
 ghost use Rattle.am_draw.specs.Parts.{most_rows};

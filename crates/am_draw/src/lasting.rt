@@ -1,7 +1,7 @@
 //! What lasts from one event to the next.
 
 ghost use Rattle.std.specs.Prelude.{◌≡◌, length, OnOk};
-ghost use Rattle.am_draw.specs.Lasts.{lasts_of, nothing_lasts, with_walker, with_token, changed, seen_behind, with_sighted, acted, behind, with_token_lane, with_walker_lane, roomed, roomed_for, seen_added, added};
+ghost use Rattle.am_draw.specs.Lasting.{lasts_of, nothing_lasts, with_walker, with_token, changed, seen_behind, with_sighted, acted, behind, with_token_lane, with_walker_lane, roomed, roomed_for, seen_added, added};
 
 use crate::bars::{
     Ending, Holder, Look, add_lane, clear_lanes, end_bars, place, sight, token_look,
@@ -70,9 +70,9 @@ impl Lasting {
             }
             Obs::Waits { walker, .. } => self.place_walker(number, *walker, Look::Waits),
             Obs::Answered { token, .. } => {
-                end_bars(&mut self.tokens, Ending::Of { number: token.0 })
+                end_bars(&mut self.tokens, &Ending::Of { number: token.0 })
             }
-            Obs::Catatonic { fs } => end_bars(&mut self.tokens, Ending::In { fs: *fs }),
+            Obs::Catatonic { fs } => end_bars(&mut self.tokens, &Ending::In { fs: *fs }),
             Obs::Released { walker, .. } => self.place_walker(number, *walker, Look::Idle),
             Obs::Entered { walker, .. } => self.place_walker(number, *walker, Look::Inside),
             Obs::Left { walker, .. } => self.place_walker(number, *walker, Look::Idle),

@@ -2,7 +2,7 @@
 
 ghost use Rattle.std.specs.Prelude.{◌≡◌, ◌≤◌, ◌+◌, ◌-◌, ◌++◌, codes};
 ghost use Rattle.am_script.specs.{entry_text, Puts};
-ghost use Rattle.am_draw.specs.Lasts.{lasts_of, changed, seen_behind, behind};
+ghost use Rattle.am_draw.specs.Lasting.{lasts_of, changed, seen_behind, behind};
 ghost use Rattle.am_draw.specs.Marks.{stamp, label};
 ghost use Rattle.am_draw.specs.Parts.{most_rows};
 ghost use Rattle.am_draw.specs.Rows.{token_x, walker_x, inset, moved, walker_mark, administrator_mark, daemon_mark, actor_marks, kind_words, packet_words, queued_marks, answered_symbol, released_class, catatonic_words, shifted, obs_marks, obs_drawn, seen_drawn, marks};

@@ -2,7 +2,7 @@
 
 ghost use Rattle.std.specs.Prelude.{◌≡◌, ◌<◌, ◌≤◌, ◌-◌, length};
 ghost use Rattle.am_script.specs.{Puts};
-ghost use Rattle.am_draw.specs.Lasts.{lasts_of};
+ghost use Rattle.am_draw.specs.Lasting.{lasts_of};
 ghost use Rattle.am_draw.specs.Parts.{most_rows};
 ghost use Rattle.am_draw.specs.Stretches.{walker_columns, token_columns, reach, bar, lane_bar, lane_bars, token_bars, walker_bars, ended_bars, all_bars};
 
@@ -87,7 +87,7 @@ fn put_bar<W: Write>(
 #[tactic(auto, using(am_script::proofs::Pieces::puts_none))]
 fn put_holder<W: Write>(
     output: &mut Output,
-    ending: Ending,
+    ending: &Ending,
     until: &Until,
     lane: &Option<Holder>,
     x: u64,
@@ -95,7 +95,7 @@ fn put_holder<W: Write>(
 )
     requires rows { until.now.number - until.now.skipped ≤ most_rows }
     requires more { until.now.more ≤ 13 }
-    ensures { Puts output.old output.new (lane_bar ending until.now lane.now x)
+    ensures { Puts output.old output.new (lane_bar ending.now until.now lane.now x)
         (W.contents writer.old) (W.contents writer.new) }
 {
     if let Some(holder) = lane {
@@ -111,7 +111,7 @@ fn put_lanes<W: Write>(
     output: &mut Output,
     lanes: Lanes,
     walkers: u64,
-    ending: Ending,
+    ending: &Ending,
     until: &Until,
     holders: &[Option<Holder>],
     writer: &mut W,
@@ -119,7 +119,7 @@ fn put_lanes<W: Write>(
     requires rows { until.now.number - until.now.skipped ≤ most_rows }
     requires more { until.now.more ≤ 13 }
     requires walkers { walkers ≤ 1000000 }
-    ensures { Puts output.old output.new (lane_bars lanes walkers ending until.now 0 holders.now)
+    ensures { Puts output.old output.new (lane_bars lanes walkers ending.now until.now 0 holders.now)
         (W.contents writer.old) (W.contents writer.new) }
 {
     for (lane, holder) in holders.iter().enumerate() {
@@ -130,14 +130,14 @@ fn put_lanes<W: Write>(
 
 fn put_token_bars<W: Write>(
     output: &mut Output,
-    ending: Ending,
+    ending: &Ending,
     until: &Until,
     lasting: &Lasting,
     writer: &mut W,
 )
     requires rows { until.now.number - until.now.skipped ≤ most_rows }
     requires more { until.now.more ≤ 13 }
-    ensures { Puts output.old output.new (token_bars ending until.now (lasts_of lasting.now))
+    ensures { Puts output.old output.new (token_bars ending.now until.now (lasts_of lasting.now))
         (W.contents writer.old) (W.contents writer.new) }
 {
     let walkers = walker_columns(lasting);
@@ -155,14 +155,14 @@ fn put_token_bars<W: Write>(
 
 fn put_walker_bars<W: Write>(
     output: &mut Output,
-    ending: Ending,
+    ending: &Ending,
     until: &Until,
     lasting: &Lasting,
     writer: &mut W,
 )
     requires rows { until.now.number - until.now.skipped ≤ most_rows }
     requires more { until.now.more ≤ 13 }
-    ensures { Puts output.old output.new (walker_bars ending until.now (lasts_of lasting.now))
+    ensures { Puts output.old output.new (walker_bars ending.now until.now (lasts_of lasting.now))
         (W.contents writer.old) (W.contents writer.new) }
 {
     let walkers = walker_columns(lasting);
@@ -195,31 +195,31 @@ pub(crate) fn put_ended_bars<W: Write>(
     match obs {
         Obs::Queued { token, .. } => {
             let ending = Ending::Of { number: token.0 };
-            put_token_bars(output, ending, until, lasting, writer)
+            put_token_bars(output, &ending, until, lasting, writer)
         }
         Obs::Waits { walker, .. } => {
             let ending = Ending::Of { number: walker.0 };
-            put_walker_bars(output, ending, until, lasting, writer)
+            put_walker_bars(output, &ending, until, lasting, writer)
         }
         Obs::Answered { token, .. } => {
             let ending = Ending::Of { number: token.0 };
-            put_token_bars(output, ending, until, lasting, writer)
+            put_token_bars(output, &ending, until, lasting, writer)
         }
         Obs::Catatonic { fs } => {
             let ending = Ending::In { fs: *fs };
-            put_token_bars(output, ending, until, lasting, writer)
+            put_token_bars(output, &ending, until, lasting, writer)
         }
         Obs::Released { walker, .. } => {
             let ending = Ending::Of { number: walker.0 };
-            put_walker_bars(output, ending, until, lasting, writer)
+            put_walker_bars(output, &ending, until, lasting, writer)
         }
         Obs::Entered { walker, .. } => {
             let ending = Ending::Of { number: walker.0 };
-            put_walker_bars(output, ending, until, lasting, writer)
+            put_walker_bars(output, &ending, until, lasting, writer)
         }
         Obs::Left { walker, .. } => {
             let ending = Ending::Of { number: walker.0 };
-            put_walker_bars(output, ending, until, lasting, writer)
+            put_walker_bars(output, &ending, until, lasting, writer)
         }
         _ => (),
     }
@@ -238,6 +238,6 @@ pub(crate) fn put_all_bars<W: Write>(
     ensures { Puts output.old output.new (all_bars until.now (lasts_of lasting.now))
         (W.contents writer.old) (W.contents writer.new) }
 {
-    put_token_bars(output, Ending::All, until, lasting, writer);
-    put_walker_bars(output, Ending::All, until, lasting, writer);
+    put_token_bars(output, &Ending::All, until, lasting, writer);
+    put_walker_bars(output, &Ending::All, until, lasting, writer);
 }

@@ -1,6 +1,6 @@
-use Rattle.std.proofs.Common.{◌≡◌, ◌+◌, Option, List, Some, Ok, None, option_copied, refl, arith}
-use Rattle.am_script.specs.{lines_in, Numbered, Told, events_from, told_by}
-use Rattle.am_draw.specs.{lasts_of}
+use Rattle.std.proofs.Common.{◌≡◌, ◌+◌, ℕ, Some, Ok, option_copied, refl, sym, subst, arith}
+use Rattle.am_script.specs.{lines_in, Numbered, ScriptFault, Told, events_from, told_by}
+use Rattle.am_draw.specs.{lasts_of, NotCounted}
 use Rattle.am_draw.proofs.CountLemmas.{counting_none, counting_more, counting_ends, counting_fails, counting_stops, counts_ok, counts_err}
 use Rattle.am_world.specs.Capacity.{state_of}
 use Rattle.am_draw.proofs.draw.count_events.Goals as goal
@@ -11,3 +11,30 @@ loop-found-init c = record {
   fits = c.requires.fits;
   most = omega (arith, c.requires.fits);
 }
+
+pub loop-found-preserved : goal.loop-found-preserved
+loop-found-preserved c =
+    let all : Told = events_from c.args.broke c.args.line (lines_in (option_copied c.args.rest)) in
+    let left : Told = events_from c.args.broke c.loop-found.number (lines_in (option_copied c.loop-found.rest)) in
+    let behind : Told = events_from c.args.broke c.in-Ok-Some.found.line (lines_in (option_copied c.in-Ok-Some.found.rest)) in
+    let asked : Numbered = record { line = c.in-Ok-Some.found.line; event = c.in-Ok-Some.found.event } in
+    let next : left ≡ told_by (Ok (Some asked.event)) asked.line behind = rw c.in-Ok-Some.field-0-is at c.in-Ok-Some.ensures.ok in
+    let within = rw c.in-Ok-Some.field-0-is at c.in-Ok-Some.ensures.within in
+    let more = counting_more (state_of c.args.world.now) all left behind c.loop-found.events (c.loop-found.events + 1) (lasts_of c.loop-found.lasting) (lasts_of c.count_found.new.lasting) (state_of c.loop-found.world) (state_of c.count_found.new.world) asked refl next (rw c.in-Ok-Some.field-0-is at c.in-Ok.ensures.counted) c.loop-found.invariant.counting in
+    let line = rw c.in-Ok-Some.field-0-is at c.in-Ok.ensures.line in
+    let rest = rw c.in-Ok-Some.field-0-is at c.in-Ok.ensures.rest in
+    record {
+      counting = rw (line, rest, c.in-Ok.ensures.events) more;
+      fits = rw (line, rest) (omega (arith, within.fits, c.loop-found.invariant.fits));
+      most = rw (rest, c.in-Ok.ensures.events) (omega (arith, within.fewer, c.loop-found.invariant.most));
+    }
+
+pub returns-in-Err-count_found-clause-err : goal.returns-in-Err-count_found-clause-err
+returns-in-Err-count_found-clause-err c =
+    let all : Told = events_from c.args.broke c.args.line (lines_in (option_copied c.args.rest)) in
+    let left : Told = events_from c.args.broke c.loop-found.number (lines_in (option_copied c.loop-found.rest)) in
+    let behind : Told = events_from c.args.broke c.in-Ok-Some.found.line (lines_in (option_copied c.in-Ok-Some.found.rest)) in
+    let asked : Numbered = record { line = c.in-Ok-Some.found.line; event = c.in-Ok-Some.found.event } in
+    let next : left ≡ told_by (Ok (Some asked.event)) asked.line behind = rw c.in-Ok-Some.field-0-is at c.in-Ok-Some.ensures.ok in
+    let fault = rw c.in-Ok-Some.field-0-is at c.in-Err-count_found.ensures.err in
+    subst (λ (f : ScriptFault). NotCounted all f) (sym fault) (counting_fails (state_of c.args.world.now) all left behind c.loop-found.events (lasts_of c.loop-found.lasting) (state_of c.loop-found.world) asked next c.loop-found.invariant.counting)

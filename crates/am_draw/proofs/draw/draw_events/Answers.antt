@@ -65,7 +65,7 @@ returns-in-Err-draw_found-clause-ends g c = λ first last size is sized.
     let undrawn = rw c.in-Ok-Some.field-0-is at c.in-Err-draw_found.ensures.err in
     let fault = c.in-Err-draw_found.fault in
     let ends = c.finish-in-Err-draw_found in
-    let lasting = rw c.in-Ok-Some.field-0-is at c.in-Err-draw_found.ensures.lasting in
+    let lasting = c.in-Err-draw_found.ensures.lasting in
     let finishes =
     subst (λ (l : Lasts). Finishes c.loop-output.output (tail_behind c.args.part.now c.loop-output.summary.lines l) (Err fault) (contents c.loop-output.writer) (contents ends.new.writer) ends.result) lasting
     (subst (λ (w : Option (List ℕ)). Finishes c.loop-output.output (tail_behind c.args.part.now c.loop-output.summary.lines (lasts_of c.draw_found.new.lasting)) (Err fault) w (contents ends.new.writer) ends.result) undrawn.written

@@ -1,3 +1,4 @@
+use Rattle.std.proofs.Common.{Ok, Err}
 use Rattle.am_draw.proofs.DrawInputs.{input_ok, input_err, from_none, from_head, from_count, script_size}
 use Rattle.am_draw.proofs.draw.draw_script.Goals as goal
 
@@ -6,4 +7,39 @@ returns-in-Ok-None-clause-ok g c =
     let reads = g.R.Read.remaining in
     let contents = g.W.Write.contents in
     let input = c.read_all-input.result in
-    input_ok c.args.first c.args.last (reads c.args.reader.now) (reads c.read_all-input.new.reader) (contents c.args.writer.now) (contents c.args.writer.now) input.text.items input.broke _ c.read_all-input.ensures.read c.read_all-input.ensures.end (from_none c.args.first c.args.last (contents c.args.writer.now) input.text.items input.broke (rw c.in-Ok-None.field-0-is at c.in-Ok-None.ensures.ok))
+    input_ok c.args.first c.args.last (reads c.args.reader.now) (reads c.read_all-input.new.reader) (contents c.args.writer.now) (contents c.args.writer.now) input.text.items input.broke (Ok (record { lines = 0; refused = 0 })) c.read_all-input.ensures.read c.read_all-input.ensures.end (from_none c.args.first c.args.last (contents c.args.writer.now) input.text.items input.broke (rw c.in-Ok-None.field-0-is at c.in-Ok-None.ensures.ok))
+
+pub returns-in-Ok-clause-ok : goal.returns-in-Ok-clause-ok
+returns-in-Ok-clause-ok g c =
+    let reads = g.R.Read.remaining in
+    let contents = g.W.Write.contents in
+    let input = c.read_all-input.result in
+    let opens = rw c.in-Ok-Some.field-0-is at c.in-Ok-Some.ensures.ok in
+    let drawn = c.draw_again.ensures (script_size input.text.items input.broke c.in-Ok-Some.opened c.in-Ok.counted.size opens c.in-Ok.ensures.ok) in
+    input_ok c.args.first c.args.last (reads c.args.reader.now) (reads c.read_all-input.new.reader) (contents c.args.writer.now) (contents c.draw_again.new.writer) input.text.items input.broke c.draw_again.result c.read_all-input.ensures.read c.read_all-input.ensures.end drawn
+
+pub returns-in-Ok-clause-err : goal.returns-in-Ok-clause-err
+returns-in-Ok-clause-err g c =
+    let reads = g.R.Read.remaining in
+    let contents = g.W.Write.contents in
+    let input = c.read_all-input.result in
+    let opens = rw c.in-Ok-Some.field-0-is at c.in-Ok-Some.ensures.ok in
+    let drawn = c.draw_again.ensures (script_size input.text.items input.broke c.in-Ok-Some.opened c.in-Ok.counted.size opens c.in-Ok.ensures.ok) in
+    input_err c.args.first c.args.last (reads c.args.reader.now) (reads c.read_all-input.new.reader) (contents c.args.writer.now) (contents c.draw_again.new.writer) input.text.items input.broke c.draw_again.result c.read_all-input.ensures.read c.read_all-input.ensures.end c.read_all-input.ensures.kind drawn
+
+pub returns-in-Ok-Some-clause-err : goal.returns-in-Ok-Some-clause-err
+returns-in-Ok-Some-clause-err g c =
+    let reads = g.R.Read.remaining in
+    let contents = g.W.Write.contents in
+    let input = c.read_all-input.result in
+    let opens = rw c.in-Ok-Some.field-0-is at c.in-Ok-Some.ensures.ok in
+    let fault = c.in-Err-count_opened.fault in
+    input_err c.args.first c.args.last (reads c.args.reader.now) (reads c.read_all-input.new.reader) (contents c.args.writer.now) (contents c.args.writer.now) input.text.items input.broke (Err fault) c.read_all-input.ensures.read c.read_all-input.ensures.end c.read_all-input.ensures.kind (from_count c.args.first c.args.last (contents c.args.writer.now) input.text.items input.broke c.in-Ok-Some.opened fault opens c.in-Err-count_opened.ensures.err)
+
+pub returns-clause-err : goal.returns-clause-err
+returns-clause-err g c =
+    let reads = g.R.Read.remaining in
+    let contents = g.W.Write.contents in
+    let input = c.read_all-input.result in
+    let fault = c.in-Err.fault in
+    input_err c.args.first c.args.last (reads c.args.reader.now) (reads c.read_all-input.new.reader) (contents c.args.writer.now) (contents c.args.writer.now) input.text.items input.broke (Err fault) c.read_all-input.ensures.read c.read_all-input.ensures.end c.read_all-input.ensures.kind (from_head c.args.first c.args.last (contents c.args.writer.now) input.text.items input.broke fault c.in-Err.ensures.err)

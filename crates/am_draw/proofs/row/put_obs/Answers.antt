@@ -7,16 +7,16 @@ returns-in-Waits g c =
 
 pub returns-in-Recorded : goal.returns-in-Recorded
 returns-in-Recorded g c =
-    rw c.in-Recorded.is
+    rw (c.in-Recorded.is, ← c.moved-in-Recorded.ensures.moved)
     (puts_three _ _ _ _ _ _ _ _ _ _ _ c.put_opening.ensures c.put_book.ensures c.put_closing.ensures)
 
 pub returns-in-Reattached : goal.returns-in-Reattached
 returns-in-Reattached g c =
-    rw (c.in-Reattached.is, ← c.attach.view_is) (rw c.from.ensures at c.put_number_label-in-Reattached.ensures)
+    rw (c.in-Reattached.is, ← c.attach.view_is, ← c.moved-in-Reattached.ensures.moved) (rw c.from.ensures at c.put_number_label-in-Reattached.ensures)
 
 pub returns-in-Died : goal.returns-in-Died
 returns-in-Died g c =
-    rw c.in-Died.is
+    rw (c.in-Died.is, ← c.moved-in-Died.ensures.moved)
     (puts_three _ _ _ _ _ _ _ _ _ _ _ c.put_opening-in-Died.ensures c.put_word.ensures c.put_closing-in-Died.ensures)
 
 pub returns-in-Passed : goal.returns-in-Passed
@@ -24,4 +24,4 @@ returns-in-Passed g c = rw (c.in-Passed.is, ← c.walker_x.ensures.x) c.put_stam
 
 pub returns-in-Delivered : goal.returns-in-Delivered
 returns-in-Delivered g c =
-    rw (c.in-Delivered.is, ← c.token_x-in-Delivered.ensures.x) c.put_stroke-in-Delivered.ensures
+    rw (c.in-Delivered.is, ← c.token_x-from-in-Delivered.ensures.x, ← c.moved.ensures.moved) c.put_stroke-in-Delivered.ensures

@@ -8,5 +8,5 @@ pub loop-lane-preserved : goal.loop-lane-preserved
 loop-lane-preserved g c =
     let contents = g.W.Write.contents in
     subst (λ (text : List ℕ). Puts c.args.output.now c.put_holder.new.output text (contents c.args.writer.now) (contents c.put_holder.new.writer))
-    (lanes_next c.args.lanes c.args.walkers c.args.ending c.args.until.now c.lane_x-x.result c.args.holders.now c.loop-lane.lane c.index-holders-lane.result c.loop-lane-test.true c.index-holders-lane.is c.lane_x-x.ensures.x)
+    (lanes_next c.args.lanes c.args.walkers c.args.ending.now c.args.until.now c.lane_x-x.result c.args.holders.now c.loop-lane.lane c.index-holders-lane.result c.loop-lane-test.true c.index-holders-lane.is c.lane_x-x.ensures.x)
     (puts_two _ _ _ _ _ _ _ _ c.loop-lane.invariant c.put_holder.ensures)
