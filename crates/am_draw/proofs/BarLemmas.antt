@@ -2,7 +2,7 @@
 use Rattle.std.proofs.Common.{◌≡◌, ◌<◌, ◌+◌, ℕ, List, [], ◌∷◌, ◌++◌, length, map, replicate, Option, None, take, get_or, refl, sym, ap, ◌∙◌, add-zero, arith}
 use Rattle.std.proofs.lemmas.List.{take_more}
 use Rattle.am_state.specs.{Obs}
-use Rattle.am_draw.specs.{Holder, Lasts, nothing_lasts, Part, Viewed, added, added_behind, changed, lasts_behind, next_lasts, roomed, seen_added, seen_behind}
+use Rattle.am_draw.specs.{Holder, Lasts, Part, Viewed, added, added_behind, changed, lasts_behind, next_lasts, roomed, seen_added, seen_behind}
 
 pub behind_push : (n : ℕ) (lasts : Lasts) (seen : List Obs) (obs : Obs) → seen_behind n lasts (seen ++ obs ∷ []) ≡ changed n (seen_behind n lasts seen) obs
 behind_push n lasts [] obs = refl
@@ -42,11 +42,10 @@ lanes_push number lasts (first ∷ rows) row =
 
 -- ---- nobody holds a lane
 
-nobody : (lanes : List (Option Holder)) → map (λ (lane : Option Holder). None) lanes ≡ replicate (length lanes) None
+-- the lane is nobody's
+abbrev pub emptied : Option Holder → Option Holder
+emptied lane = None
+
+pub nobody : (lanes : List (Option Holder)) → map emptied lanes ≡ replicate (length lanes) None
 nobody [] = refl
 nobody (lane ∷ lanes) = ap (λ (t : List (Option Holder)). None ∷ t) (nobody lanes)
-
-pub cleared : (tokens walkers now then : List (Option Holder)) → now ≡ map (λ (lane : Option Holder). None) tokens → then ≡ map (λ (lane : Option Holder). None) walkers → (record { tokens = now; walkers = then }) ≡ nothing_lasts (length tokens) (length walkers)
-cleared tokens walkers now then e f =
-    ap (λ (t : List (Option Holder)). record { tokens = t; walkers = then }) (e ∙ nobody tokens)
-    ∙ ap (λ (t : List (Option Holder)). record { tokens = replicate (length tokens) None; walkers = t }) (f ∙ nobody walkers)

@@ -1,6 +1,6 @@
 //! Lanes: who holds which, and what bar stands in it.
 
-ghost use Rattle.std.specs.Prelude.{◌≡◌, ◌≤◌, length, map, set, OnErr, OnOk};
+ghost use Rattle.std.specs.Prelude.{◌≡◌, length, map, replicate, set, None, OnOk};
 ghost use Rattle.std.specs.List.{position, list_any};
 ghost use Rattle.am_draw.specs.Bars.{is_of, has_ended, is_free, may_take, or_last, lane_of, free_lane, lane_for, own_or_free, placed, sighted, with_lane, token_look, is_in, ends, ended_lane};
 
@@ -227,6 +227,12 @@ pub(crate) fn end_bars(lanes: &mut [Option<Holder>], ending: &Ending)
 
 /// Nobody holds a lane any more.
 pub(crate) fn clear_lanes(lanes: &mut [Option<Holder>])
+    ensures { lanes.new ≡ replicate (length lanes.old) None }
+{
+    empty_lanes(lanes);
+}
+
+fn empty_lanes(lanes: &mut [Option<Holder>])
     ensures { lanes.new ≡ map (λ lane. None) lanes.old }
 {
     for lane in lanes.iter_mut() {

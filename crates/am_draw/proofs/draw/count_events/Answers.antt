@@ -20,9 +20,9 @@ loop-found-preserved c =
     let asked : Numbered = record { line = c.in-Ok-Some.found.line; event = c.in-Ok-Some.found.event } in
     let next : left ≡ told_by (Ok (Some asked.event)) asked.line behind = rw c.in-Ok-Some.field-0-is at c.in-Ok-Some.ensures.ok in
     let within = rw c.in-Ok-Some.field-0-is at c.in-Ok-Some.ensures.within in
-    let more = counting_more (state_of c.args.world.now) all left behind c.loop-found.events (c.loop-found.events + 1) (lasts_of c.loop-found.lasting) (lasts_of c.count_found.new.lasting) (state_of c.loop-found.world) (state_of c.count_found.new.world) asked refl next (rw c.in-Ok-Some.field-0-is at c.in-Ok.ensures.counted) c.loop-found.invariant.counting in
-    let line = rw c.in-Ok-Some.field-0-is at c.in-Ok.ensures.line in
-    let rest = rw c.in-Ok-Some.field-0-is at c.in-Ok.ensures.rest in
+    let more = counting_more (state_of c.args.world.now) all left behind c.loop-found.events (c.loop-found.events + 1) (lasts_of c.loop-found.lasting) (lasts_of c.count_found.new.lasting) (state_of c.loop-found.world) (state_of c.count_found.new.world) asked refl next c.in-Ok.ensures.counted c.loop-found.invariant.counting in
+    let line = c.in-Ok.ensures.line in
+    let rest = c.in-Ok.ensures.rest in
     record {
       counting = rw (line, rest, c.in-Ok.ensures.events) more;
       fits = rw (line, rest) (omega (arith, within.fits, c.loop-found.invariant.fits));
@@ -36,5 +36,5 @@ returns-in-Err-count_found-clause-err c =
     let behind : Told = events_from c.args.broke c.in-Ok-Some.found.line (lines_in (option_copied c.in-Ok-Some.found.rest)) in
     let asked : Numbered = record { line = c.in-Ok-Some.found.line; event = c.in-Ok-Some.found.event } in
     let next : left ≡ told_by (Ok (Some asked.event)) asked.line behind = rw c.in-Ok-Some.field-0-is at c.in-Ok-Some.ensures.ok in
-    let fault = rw c.in-Ok-Some.field-0-is at c.in-Err-count_found.ensures.err in
+    let fault = c.in-Err-count_found.ensures.err in
     subst (λ (f : ScriptFault). NotCounted all f) (sym fault) (counting_fails (state_of c.args.world.now) all left behind c.loop-found.events (lasts_of c.loop-found.lasting) (state_of c.loop-found.world) asked next c.loop-found.invariant.counting)
