@@ -4,7 +4,7 @@ use Rattle.std.proofs.lemmas.List.{length-append}
 use Rattle.am_machine.specs.State.{State}
 use Rattle.am_script.specs.{ScriptFault, ScriptFaultKind, fault_at, NoNext, Numbered, Told, told_by, only_fault, behind}
 use Rattle.am_script.specs.declared.fault.ScriptFaultKind.TheVariants as kinds
-use Rattle.am_draw.specs.{IsAtEvent, IsCounted, IsSizeOf, Lasts, NotCounted, Size, Viewed, ViewedRun, added, added_behind, asked_in, counted_to, lanes_for, nothing_lasts}
+use Rattle.am_draw.specs.{IsAtEvent, IsCounted, IsSizeOf, Lasts, NotCounted, Size, Viewed, ViewedRun, added, asked_in, counted_to, lanes_for, nothing_lasts}
 use Rattle.am_draw.proofs.BarLemmas.{lanes_push}
 use Rattle.am_draw.proofs.RunLemmas.{asked_push, run_more}
 

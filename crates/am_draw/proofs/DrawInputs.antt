@@ -8,7 +8,7 @@ use Rattle.am_script.specs.{ScriptFault, ScriptFaultKind, Summary, lines_of, Ope
 use Rattle.am_script.specs.declared.visit.Opened.{Opened}
 use Rattle.am_script.specs.Script.{Script}
 use Rattle.am_views.proofs.TraceInputs.{was_read, head_stops, told_in}
-use Rattle.am_draw.specs.{AllDrawn, DrawStops, DrawnFrom, DrawsAgain, DrawsFrom, DrawsInput, IsSizeOf, IsSizeOfScript, NotCounted, Size, StopsDrawing}
+use Rattle.am_draw.specs.{AllDrawn, DrawStops, DrawnFrom, DrawsFrom, DrawsInput, IsSizeOf, IsSizeOfScript, NotCounted, Size, StopsDrawing}
 use Rattle.am_world.specs.Capacity.{state_of}
 
 -- ---- what was read

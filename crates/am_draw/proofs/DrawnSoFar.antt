@@ -9,7 +9,7 @@ use Rattle.am_script.proofs.Answering.{count_more}
 use Rattle.am_script.proofs.Closing.{lost_by}
 use Rattle.am_script.proofs.OwedLemmas.{stands_new}
 use Rattle.am_views.specs.{one_more}
-use Rattle.am_draw.specs.{Lasts, Part, Size, first_lasts, Viewed, asked_in, answers_in, Views, ViewedRun, event_piece, event_pieces, lasts_behind, next_lasts, tail_for, tail_pieces, pieces_of, picture, part_of, tail_behind, IsSizeOf, AllDrawn, DrawnToLoss, DrawStops, DrawEnds, IsDrawn, Finishes}
+use Rattle.am_draw.specs.{Lasts, Part, Size, first_lasts, Viewed, asked_in, answers_in, ViewedRun, event_piece, event_pieces, lasts_behind, next_lasts, tail_for, tail_pieces, pieces_of, picture, part_of, tail_behind, IsSizeOf, AllDrawn, DrawnToLoss, DrawStops, DrawEnds, IsDrawn, Finishes}
 use Rattle.am_draw.proofs.LostPieces.{owed_for, owed_more, owed_one, bytes_for, within_some}
 use Rattle.am_draw.proofs.BarLemmas.{lasting_push}
 use Rattle.am_draw.proofs.PieceLemmas.{pieces_push, EndsAt, ends_push, tail_owed}

@@ -2,8 +2,6 @@
 use Rattle.std.proofs.Common.{◌≡◌, List, [], ◌∷◌, ◌++◌, refl, subst}
 use Rattle.std.proofs.lemmas.List.{map_push}
 use Rattle.am_machine.specs.State.{State}
-use Rattle.am_script.specs.{Numbered}
-use Rattle.am_machine.specs.{Answer}
 use Rattle.am_draw.specs.{Viewed, ViewedRun, Views, answers_in, asked_in}
 
 pub run_more : (old : State) (rows : List Viewed) (mid : State) (row : Viewed) (new : State) → ViewedRun old rows mid → Views mid row new → ViewedRun old (rows ++ row ∷ []) new

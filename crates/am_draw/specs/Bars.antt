@@ -5,7 +5,7 @@ use Rattle.std.specs.List.{position, list_any}
 use Rattle.am_wire.specs.declared.packet_type.PacketType.{PacketType}
 use Rattle.am_wire.specs.declared.packet_type.PacketType.TheVariants.{MissingIndirect, ExpireIndirect, MissingDirect, ExpireDirect}
 use Rattle.am_draw.specs.declared.bars.Look.{Look}
-use Rattle.am_draw.specs.declared.bars.Look.TheVariants.{Missing, Expire, Ended, Waits, Inside, Idle}
+use Rattle.am_draw.specs.declared.bars.Look.TheVariants.{Missing, Expire, Ended, Idle}
 use Rattle.am_draw.specs.declared.bars.Holder.{Holder}
 use Rattle.am_draw.specs.declared.bars.Ending.{Ending}
 use Rattle.am_draw.specs.declared.bars.Ending.TheVariants.{Of, In, All}

@@ -1,8 +1,7 @@
 -- What stands before the rows of a picture, and behind them: own choice (docs/FORMATS.md,
 -- "Pictures").
-use Rattle.std.specs.Prelude.{ℕ, ◌+◌, ◌-◌, ◌*◌, nat_lt, List, ◌++◌, [], codes, decimal, if◌then◌else◌}
+use Rattle.std.specs.Prelude.{ℕ, ◌+◌, ◌*◌, nat_lt, List, ◌++◌, [], codes, decimal, if◌then◌else◌}
 use Rattle.am_draw.specs.declared.part.Part.{Part}
-use Rattle.am_draw.specs.declared.stretch.Until.{Until}
 use Rattle.am_draw.specs.Lasting.{Lasts}
 use Rattle.am_draw.specs.Look.{look_text, right_text}
 use Rattle.am_draw.specs.Marks.{label, shift}

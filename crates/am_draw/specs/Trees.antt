@@ -1,6 +1,6 @@
 -- Mounts on their trees: where those stand that come, and where those stood that go. A namespace is
 -- a tree, and has a lane. Own choice (docs/FORMATS.md, "Pictures").
-use Rattle.std.specs.Prelude.{ℕ, ◌+◌, ◌*◌, Bool, true, false, min, nat_lt, List, [], ◌∷◌, ◌++◌, length, take, slice_get, codes, decimal, Option, None, Some, if◌then◌else◌}
+use Rattle.std.specs.Prelude.{ℕ, ◌+◌, ◌*◌, Bool, true, false, min, nat_lt, List, [], ◌++◌, length, take, slice_get, codes, decimal, Option, None, Some, if◌then◌else◌}
 use Rattle.std.specs.List.{flat_map}
 use Rattle.am_names.specs.{MountRow, Position}
 use Rattle.am_daemon.specs.{next_act_of}

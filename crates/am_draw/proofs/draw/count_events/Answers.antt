@@ -1,7 +1,7 @@
-use Rattle.std.proofs.Common.{◌≡◌, ◌+◌, ℕ, Some, Ok, option_copied, refl, sym, subst, arith}
+use Rattle.std.proofs.Common.{◌≡◌, ◌+◌, Some, Ok, option_copied, refl, sym, subst, arith}
 use Rattle.am_script.specs.{lines_in, Numbered, ScriptFault, Told, events_from, told_by}
 use Rattle.am_draw.specs.{lasts_of, NotCounted}
-use Rattle.am_draw.proofs.CountLemmas.{counting_none, counting_more, counting_ends, counting_fails, counting_stops, counts_ok, counts_err}
+use Rattle.am_draw.proofs.CountLemmas.{counting_none, counting_more, counting_fails}
 use Rattle.am_world.specs.Capacity.{state_of}
 use Rattle.am_draw.proofs.draw.count_events.Goals as goal
 

@@ -1,4 +1,4 @@
-use Rattle.std.proofs.Common.{option_copied, ap, sym, ◌∙◌}
+use Rattle.std.proofs.Common.{option_copied}
 use Rattle.am_script.specs.{lines_in, Told, events_from}
 use Rattle.am_draw.proofs.DrawnSoFar.{ends_ok, ends_err}
 use Rattle.am_world.specs.Capacity.{state_of}
