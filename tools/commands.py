@@ -32,9 +32,10 @@ TWO_EVENTS = b"events\nmount 0 /a<b\nleave 1\n"
 # line 11 is the last.
 A_WORLD = (b"master\n/auto auto.home\nend\nmap auto.home\nhome srv:/home\nend\nevents\n"
            b"attach /auto\nmount 0 /a\\b\nnscopy 0 reduced\nwalk 7 0 /auto/home 5 room\n")
+AUTOFS = b"autofs none rw,fd=1,timeout=300,minproto=5,maxproto=5,indirect\n"
 NAMESPACES = (
-    b"1 1 0:1 / / rw - plain none rw\n2 1 0:2 / /auto rw - autofs none rw\n3 1 0:3 / /a\\134b rw - plain none rw\n",
-    b"4 4 0:1 / / rw - plain none rw\n5 4 0:2 / /auto rw - autofs none rw\n6 4 0:3 / /a\\134b rw - plain none rw\n",
+    b"1 1 0:1 / / rw - plain none rw\n2 1 0:2 / /auto rw - " + AUTOFS + b"3 1 0:3 / /a\\134b rw - plain none rw\n",
+    b"4 4 0:1 / / rw - plain none rw\n5 4 0:2 / /auto rw - " + AUTOFS + b"6 4 0:3 / /a\\134b rw - plain none rw\n",
 )
 OPEN = (b"# open 1 waiters 7 fs 2 name home\n"
         b"# queued 1 attach 1 missing-indirect dev 2 ino 1 uid 0 gid 0 pid 7 tgid 7 name home\n"
@@ -254,7 +255,7 @@ def refusals(program, refuse):
         (["judge"], LAWFUL, ([b""], [b"lawful\n"])), (["import"], MOUNTS, ([b""], [IMPORTED])),
         (["import"], TRAPS, ([b""], [program.run(["import"], TRAPS)[1]])),
         (["draw"], b"events\n", ([b""], [program.run(["draw"], b"events\n")[1]])),
-        (["world"], b"events\n", ([b""], [INITIAL])), (["scrip"], b"", ([b""], [])),
+        (["world"], b"events\n", ([b""], [INITIAL])), (["world"], A_WORLD, ([b""], [WORLD])), (["scrip"], b"", ([b""], [])),
         (["threads", "--walkers", "2", "--workers", "1", "--rounds", "2"], b"", ([b""], [b"rounds 4\n"])),
     ]
     for words, given, (found, whole) in rows:
