@@ -1,0 +1,49 @@
+-- Texts that are written one behind the other.
+use Rattle.std.proofs.Common.{◌≡◌, ◌≢◌, ◌<◌, ◌≤◌, ◌+◌, ℕ, zero, suc, Bool, true, false, List, [], ◌∷◌, ◌++◌, length, take, drop, get_or, Option, refl, sym, ap, ◌∙◌, subst, append_assoc, append-nil, arith, length-append, ◌⊎◌, inl, inr}
+use Rattle.std.proofs.Math.Seq.{take-append-add}
+use Rattle.std.proofs.lemmas.List.{take_all, take-append-le, take_more}
+use Rattle.std.proofs.lemmas.Grind.{flat_map-append}
+use Rattle.std.specs.List.{flat_map}
+use Rattle.std.specs.Io.KnownBytes.{Appends}
+use Rattle.am_script.proofs.Writes.{appends_more}
+use Rattle.am_cli.specs.Telling.{IsCut, Tells}
+
+-- all parts are those before one, that one, and those behind it
+pub split_at : {X : Type 0} (f : X → List ℕ) (xs : List X) (i : ℕ) (d : X) → i < length xs → flat_map f xs ≡ flat_map f (take i xs) ++ (f (get_or xs i d) ++ flat_map f (drop (suc i) xs))
+split_at f [] i d inside = absurd (omega arith)
+split_at f (x ∷ xs) zero d inside = refl
+split_at f (x ∷ xs) (suc i) d inside =
+    ap (λ (t : List ℕ). f x ++ t) (split_at f xs i d (omega arith)) ∙ sym (append_assoc (f x) (flat_map f (take i xs)) (f (get_or xs i d) ++ flat_map f (drop (suc i) xs)))
+
+-- one part more
+pub parts_more : {X : Type 0} (f : X → List ℕ) (xs : List X) (i : ℕ) (d : X) → i < length xs → flat_map f (take (i + 1) xs) ≡ flat_map f (take i xs) ++ f (get_or xs i d)
+parts_more f xs i d inside =
+    ap (flat_map f) (take_more xs i d inside)
+    ∙ flat_map-append f (take i xs) (get_or xs i d ∷ [])
+    ∙ ap (λ (t : List ℕ). flat_map f (take i xs) ++ t) (append-nil (f (get_or xs i d)))
+
+-- a part is taken whole behind those before it
+pub appends_part : {X : Type 0} (f : X → List ℕ) (xs : List X) (i : ℕ) (x : X) (n : ℕ) (old mid new : Option (List ℕ)) → i < length xs → x ≡ get_or xs i x → length (f x) ≤ n → Appends old mid (flat_map f (take i xs)) → Appends mid new (take n (f x)) → Appends old new (flat_map f (take (i + 1) xs))
+appends_part f xs i x n old mid new inside is all before taken =
+    subst (λ (t : List ℕ). Appends old new t)
+    (ap (λ (t : List ℕ). flat_map f (take i xs) ++ t) (take_all n (f x) all ∙ ap f is) ∙ sym (parts_more f xs i x inside))
+    (appends_more old mid new (flat_map f (take i xs)) (take n (f x)) before taken)
+
+-- a part isn't taken whole
+pub cut_in_part : {X : Type 0} (f : X → List ℕ) (xs : List X) (i : ℕ) (x : X) (n : ℕ) (old mid new : Option (List ℕ)) → i < length xs → x ≡ get_or xs i x → n < length (f x) → Appends old mid (flat_map f (take i xs)) → Appends mid new (take n (f x)) → IsCut old new (flat_map f xs)
+cut_in_part f xs i x n old mid new inside is short before taken =
+    let front = flat_map f (take i xs) in
+    let back = flat_map f (drop (suc i) xs) in
+    let whole : flat_map f xs ≡ front ++ (f x ++ back) = split_at f xs i x inside ∙ ap (λ (t : List ℕ). front ++ (t ++ back)) (ap f (sym is)) in
+    let cut : take (length front + n) (flat_map f xs) ≡ front ++ take n (f x) =
+        ap (take (length front + n)) whole ∙ take-append-add front (f x ++ back) n
+        ∙ ap (λ (t : List ℕ). front ++ t) (take-append-le n (f x) back (omega arith)) in
+    let size : length (flat_map f xs) ≡ length front + (length (f x) + length back) =
+        ap length whole ∙ length-append front (f x ++ back) ∙ ap (λ (k : ℕ). length front + k) (length-append (f x) back) in
+    (length front + n, (omega arith, subst (λ (t : List ℕ). Appends old new t) (sym cut) (appends_more old mid new front (take n (f x)) before taken)))
+
+-- a text that is written whole or cut is told
+pub told_either : (whole : Bool) (quiet told : Option (List ℕ)) (text : List ℕ) → (whole ≡ true → Appends quiet told text) → (whole ≡ false → IsCut quiet told text) → Tells quiet told text
+told_either true quiet told text all cut =
+    (length text, subst (λ (t : List ℕ). Appends quiet told t) (sym (take_all (length text) text (omega arith))) (all refl))
+told_either false quiet told text all cut = let h = cut refl in (h.0, h.1.1)
