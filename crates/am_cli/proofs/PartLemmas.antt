@@ -36,10 +36,10 @@ cut_in_part f xs i x n old mid new inside is short before taken =
     let back = flat_map f (drop (suc i) xs) in
     let whole : flat_map f xs ≡ front ++ (f x ++ back) = split_at f xs i x inside ∙ ap (λ (t : List ℕ). front ++ (t ++ back)) (ap f (sym is)) in
     let cut : take (length front + n) (flat_map f xs) ≡ front ++ take n (f x) =
-        ap (take (length front + n)) whole ∙ take-append-add front (f x ++ back) n
-        ∙ ap (λ (t : List ℕ). front ++ t) (take-append-le n (f x) back (omega arith)) in
+    ap (take (length front + n)) whole ∙ take-append-add front (f x ++ back) n
+    ∙ ap (λ (t : List ℕ). front ++ t) (take-append-le n (f x) back (omega arith)) in
     let size : length (flat_map f xs) ≡ length front + (length (f x) + length back) =
-        ap length whole ∙ length-append front (f x ++ back) ∙ ap (λ (k : ℕ). length front + k) (length-append (f x) back) in
+    ap length whole ∙ length-append front (f x ++ back) ∙ ap (λ (k : ℕ). length front + k) (length-append (f x) back) in
     (length front + n, (omega arith, subst (λ (t : List ℕ). Appends old new t) (sym cut) (appends_more old mid new front (take n (f x)) before taken)))
 
 -- a text that is written whole or cut is told

@@ -83,7 +83,10 @@ fn number(given: &ArgMatches<'_>, id: &str, most: u32) -> Result<u32, ArgsFault>
     let Some(number) = given.get_one::<u32>(id) else {
         return Err(ArgsFault::Usage);
     };
-    if number < 1 || most < number {
+    if number < 1 {
+        return Err(ArgsFault::Usage);
+    }
+    if most < number {
         return Err(ArgsFault::Usage);
     }
     Ok(number)

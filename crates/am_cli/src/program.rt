@@ -4,7 +4,6 @@ ghost use Rattle.std.specs.Prelude.{◌≡◌, ◌<◌, ◌≤◌, ℕ, List, ma
 ghost use Rattle.std.specs.List.{flat_map};
 ghost use Rattle.am_runner.specs.{IsTally};
 ghost use Rattle.clap.specs.Words.{Text};
-ghost use Rattle.am_cli.specs.Help.{help_text, version_line};
 ghost use Rattle.am_cli.specs.Program.{Exits, ExitsWith, SaysWhole, status_of_verdict, TellsRefusal};
 ghost use Rattle.am_cli.specs.Args.{fault_number, IsInRange};
 ghost use Rattle.am_cli.specs.declared.args.Args.TheVariants as asks;
@@ -94,16 +93,16 @@ fn say<W: Write, E: Write>(writer: &mut W, errors: &mut E, parts: &[&[u8]]) -> u
 
 /// Writes what a command does, or the program.
 fn show_help<W: Write, E: Write>(topic: Option<Topic>, writer: &mut W, errors: &mut E) -> u8
-    ensures { SaysWhole (help_text topic) (W.contents writer.old) (W.contents writer.new)
-        (E.contents errors.old) (E.contents errors.new) result }
+    ensures { (input : Option (List ℕ)) → Exits (asks.Help topic) input input (W.contents writer.old)
+        (W.contents writer.new) (E.contents errors.old) (E.contents errors.new) result }
 {
     say(writer, errors, &[help_text(topic)])
 }
 
 /// Writes the version of the program.
 fn show_version<W: Write, E: Write>(writer: &mut W, errors: &mut E) -> u8
-    ensures { SaysWhole version_line (W.contents writer.old) (W.contents writer.new)
-        (E.contents errors.old) (E.contents errors.new) result }
+    ensures { (input : Option (List ℕ)) → Exits asks.Version input input (W.contents writer.old)
+        (W.contents writer.new) (E.contents errors.old) (E.contents errors.new) result }
 {
     say(
         writer,
