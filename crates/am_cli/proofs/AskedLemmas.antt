@@ -64,4 +64,4 @@ no_words = refl
 
 pub none_refused : (fault : ArgsFault) → IsRefused [] fault
 none_refused NoMemory = tt
-none_refused Usage = inl (answers.MissingSubcommand, (subst (IsAmong answers.MissingSubcommand) (sym no_words) (inl refl), ((λ e. cc), ((λ e. cc), (λ e. cc)))))
+none_refused Usage = inl (answers.MissingSubcommand, (subst (λ (kinds : List ErrorKind). IsAmong answers.MissingSubcommand kinds) (sym no_words) (inl refl), ((λ e. cc), ((λ e. cc), (λ e. cc)))))

@@ -40,7 +40,7 @@ cut_in_part f xs i x n old mid new inside is short before taken =
     ∙ ap (λ (t : List ℕ). front ++ t) (take-append-le n (f x) back (omega arith)) in
     let size : length (flat_map f xs) ≡ length front + (length (f x) + length back) =
     ap length whole ∙ length-append front (f x ++ back) ∙ ap (λ (k : ℕ). length front + k) (length-append (f x) back) in
-    (length front + n, (omega arith, subst (λ (t : List ℕ). Appends old new t) (sym cut) (appends_more old mid new front (take n (f x)) before taken)))
+    (length front + n, (omega (arith, size, short), subst (λ (t : List ℕ). Appends old new t) (sym cut) (appends_more old mid new front (take n (f x)) before taken)))
 
 -- a text that is written whole or cut is told
 pub told_either : (whole : Bool) (quiet told : Option (List ℕ)) (text : List ℕ) → (whole ≡ true → Appends quiet told text) → (whole ≡ false → IsCut quiet told text) → Tells quiet told text

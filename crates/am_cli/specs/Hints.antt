@@ -1,5 +1,5 @@
 -- What may be meant by words that are no command line: own choice (docs/FORMATS.md, "The program").
-use Rattle.std.specs.Prelude.{◌≡◌, ◌≤◌, ⊤, ◌∷◌, ℕ, Bool, false, not, List, [], codes, bytes_eq, length, nat_eq, Option, None, Some, if◌then◌else◌}
+use Rattle.std.specs.Prelude.{◌≡◌, ◌==◌, ◌≤◌, ⊤, ◌∷◌, ℕ, Bool, false, not, List, [], codes, bytes_eq, length, nat_eq, Option, None, Some, if◌then◌else◌}
 use Rattle.std.specs.List.{flat_map}
 use Rattle.std.specs.Str.{chars}
 use Rattle.strsim.specs.Edits.{levenshtein_row}
@@ -21,14 +21,16 @@ mistaken words = if bytes_eq (word_at words 1) (codes "help") then word_at words
 
 -- a word that is no option
 abbrev pub is_file : List ℕ → Bool
-is_file [] = false
-is_file (byte ∷ bytes) = not (begins_with 45 (byte ∷ bytes))
+is_file word = if length word == 0 then false else not (begins_with 45 word)
 
--- the command, where it reads standard input, if it is there
+-- the command, where it reads standard input and the word behind it is no option
+abbrev pub fed_by : Topic → List ℕ → Option Topic
+fed_by topic word = if not (reads_input topic) then None else if is_file word then Some topic else None
+
+-- the same, if there is one
 abbrev pub feeds : Option Topic → List ℕ → Option Topic
 feeds None word = None
-feeds (Some topic) word =
-    if not (reads_input topic) then None else if is_file word then Some topic else None
+feeds (Some topic) word = fed_by topic word
 
 -- the command that reads standard input, where a file is named behind it
 abbrev pub fed : List (List ℕ) → Option Topic

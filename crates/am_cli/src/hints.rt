@@ -1,7 +1,7 @@
 //! What may be meant by words that are no command line.
 
 ghost use Rattle.std.specs.Prelude.{◌≡◌, ◌≤◌, true, IfSome, map};
-ghost use Rattle.am_cli.specs.Hints.{edits, fed, is_file, IsHint, MayMean, mistaken};
+ghost use Rattle.am_cli.specs.Hints.{edits, fed, fed_by, feeds, is_file, IsHint, MayMean, mistaken};
 ghost use Rattle.am_cli.specs.Topics.{name_of};
 
 use crate::topics::{TOPICS, Topic, is_word, topic_named, topic_of, word_at};
@@ -84,20 +84,33 @@ fn is_file(word: &str) -> bool
     !begins_with(word.as_bytes(), b'-')
 }
 
+/// The command, where it reads standard input and the word behind it is no option.
+fn fed_by(topic: Topic, word: &str) -> Option<Topic>
+    ensures { result ≡ fed_by topic word.now }
+{
+    if !topic.reads_input() {
+        return None;
+    }
+    if is_file(word) {
+        return Some(topic);
+    }
+    None
+}
+
+fn feeds(found: Option<Topic>, word: &str) -> Option<Topic>
+    ensures { result ≡ feeds found word.now }
+{
+    match found {
+        Some(topic) => fed_by(topic, word),
+        None => None,
+    }
+}
+
 /// The command that reads standard input, where a file is named behind it.
 fn fed(words: &[&str]) -> Option<Topic>
     ensures { result ≡ fed (map (λ word. word.now) words.now) }
 {
-    let Some(topic) = topic_of(words) else {
-        return None;
-    };
-    if !topic.reads_input() {
-        return None;
-    }
-    if is_file(word_at(words, 2)) {
-        return Some(topic);
-    }
-    None
+    feeds(topic_of(words), word_at(words, 2))
 }
 
 /// What may be meant by words that are no command line.
