@@ -1,6 +1,7 @@
 -- Texts that are written one behind the other.
-use Rattle.std.proofs.Common.{◌≡◌, ◌≢◌, ◌<◌, ◌≤◌, ◌+◌, ℕ, zero, suc, Bool, true, false, List, [], ◌∷◌, ◌++◌, length, take, drop, get_or, Option, refl, sym, ap, ◌∙◌, subst, append_assoc, append-nil, arith, length-append, ◌⊎◌, inl, inr}
+use Rattle.std.proofs.Common.{◌≡◌, ◌≢◌, ◌<◌, ◌≤◌, ◌+◌, ℕ, zero, suc, eqb, Bool, true, false, List, [], ◌∷◌, ◌++◌, length, take, drop, get_or, Option, refl, sym, ap, ◌∙◌, subst, append_assoc, append-nil, arith, length-append, ◌⊎◌, inl, inr}
 use Rattle.std.proofs.Math.Seq.{take-append-add}
+use Rattle.std.proofs.lemmas.Bool.{eqb-true, eqb-false}
 use Rattle.std.proofs.lemmas.List.{take_all, take-append-le, take_more}
 use Rattle.std.proofs.lemmas.Grind.{flat_map-append}
 use Rattle.std.specs.List.{flat_map}
@@ -22,25 +23,35 @@ parts_more f xs i d inside =
     ∙ flat_map-append f (take i xs) (get_or xs i d ∷ [])
     ∙ ap (λ (t : List ℕ). flat_map f (take i xs) ++ t) (append-nil (f (get_or xs i d)))
 
+-- a text is taken whole, where as many bytes were taken as it has
+pub all_taken : (n : ℕ) (text : List ℕ) (old new : Option (List ℕ)) → Appends old new (take n text) → eqb n (length text) ≡ true → Appends old new text
+all_taken n text old new taken same =
+    subst (λ (t : List ℕ). Appends old new t) (take_all n text (omega (arith, eqb-true n (length text) same))) taken
+
+-- and else a beginning of it is
+pub some_taken : (n : ℕ) (text : List ℕ) (old new : Option (List ℕ)) → n ≤ length text → Appends old new (take n text) → eqb n (length text) ≡ false → IsCut old new text
+some_taken n text old new within taken other = (n, (omega (arith, within, eqb-false n (length text) other), taken))
+
 -- a part is taken whole behind those before it
-pub appends_part : {X : Type 0} (f : X → List ℕ) (xs : List X) (i : ℕ) (x : X) (n : ℕ) (old mid new : Option (List ℕ)) → i < length xs → x ≡ get_or xs i x → length (f x) ≤ n → Appends old mid (flat_map f (take i xs)) → Appends mid new (take n (f x)) → Appends old new (flat_map f (take (i + 1) xs))
-appends_part f xs i x n old mid new inside is all before taken =
+pub appends_part : {X : Type 0} (f : X → List ℕ) (xs : List X) (i : ℕ) (x : X) (old mid new : Option (List ℕ)) → i < length xs → x ≡ get_or xs i x → Appends old mid (flat_map f (take i xs)) → Appends mid new (f x) → Appends old new (flat_map f (take (i + 1) xs))
+appends_part f xs i x old mid new inside is before taken =
     subst (λ (t : List ℕ). Appends old new t)
-    (ap (λ (t : List ℕ). flat_map f (take i xs) ++ t) (take_all n (f x) all ∙ ap f is) ∙ sym (parts_more f xs i x inside))
-    (appends_more old mid new (flat_map f (take i xs)) (take n (f x)) before taken)
+    (ap (λ (t : List ℕ). flat_map f (take i xs) ++ t) (ap f is) ∙ sym (parts_more f xs i x inside))
+    (appends_more old mid new (flat_map f (take i xs)) (f x) before taken)
 
 -- a part isn't taken whole
-pub cut_in_part : {X : Type 0} (f : X → List ℕ) (xs : List X) (i : ℕ) (x : X) (n : ℕ) (old mid new : Option (List ℕ)) → i < length xs → x ≡ get_or xs i x → n < length (f x) → Appends old mid (flat_map f (take i xs)) → Appends mid new (take n (f x)) → IsCut old new (flat_map f xs)
-cut_in_part f xs i x n old mid new inside is short before taken =
+pub cut_in_part : {X : Type 0} (f : X → List ℕ) (xs : List X) (i : ℕ) (x : X) (old mid new : Option (List ℕ)) → i < length xs → x ≡ get_or xs i x → Appends old mid (flat_map f (take i xs)) → IsCut mid new (f x) → IsCut old new (flat_map f xs)
+cut_in_part f xs i x old mid new inside is before part =
+    let n = part.0 in
     let front = flat_map f (take i xs) in
     let back = flat_map f (drop (suc i) xs) in
     let whole : flat_map f xs ≡ front ++ (f x ++ back) = split_at f xs i x inside ∙ ap (λ (t : List ℕ). front ++ (t ++ back)) (ap f (sym is)) in
     let cut : take (length front + n) (flat_map f xs) ≡ front ++ take n (f x) =
     ap (take (length front + n)) whole ∙ take-append-add front (f x ++ back) n
-    ∙ ap (λ (t : List ℕ). front ++ t) (take-append-le n (f x) back (omega arith)) in
+    ∙ ap (λ (t : List ℕ). front ++ t) (take-append-le n (f x) back (omega (arith, part.1.0))) in
     let size : length (flat_map f xs) ≡ length front + (length (f x) + length back) =
     ap length whole ∙ length-append front (f x ++ back) ∙ ap (λ (k : ℕ). length front + k) (length-append (f x) back) in
-    (length front + n, (omega (arith, size, short), subst (λ (t : List ℕ). Appends old new t) (sym cut) (appends_more old mid new front (take n (f x)) before taken)))
+    (length front + n, (omega (arith, size, part.1.0), subst (λ (t : List ℕ). Appends old new t) (sym cut) (appends_more old mid new front (take n (f x)) before part.1.1)))
 
 -- a text that is written whole or cut is told
 pub told_either : (whole : Bool) (quiet told : Option (List ℕ)) (text : List ℕ) → (whole ≡ true → Appends quiet told text) → (whole ≡ false → IsCut quiet told text) → Tells quiet told text

@@ -18,6 +18,15 @@ use am_traces::{Expected as TraceExpected, JudgeFault};
 use itoa::Buffer;
 use std::io::Write;
 
+/// Writes a text, and answers whether it is taken whole.
+fn write_part<W: Write>(writer: &mut W, part: &[u8]) -> bool
+    ensures whole { result ≡ true → Appends (W.contents writer.old) (W.contents writer.new) part.now }
+    ensures cut { result ≡ false → IsCut (W.contents writer.old) (W.contents writer.new) part.now }
+{
+    let taken = write_bytes(writer, part);
+    taken == part.len()
+}
+
 /// Writes texts one behind the other, up to the first that isn't taken whole, and answers whether all were.
 pub(crate) fn write_parts<W: Write>(writer: &mut W, parts: &[&[u8]]) -> bool
     ensures whole { result ≡ true → Appends (W.contents writer.old) (W.contents writer.new)
@@ -26,7 +35,7 @@ pub(crate) fn write_parts<W: Write>(writer: &mut W, parts: &[&[u8]]) -> bool
         (flat_map (λ part. part.now) parts.now) }
 {
     for part in parts {
-        if write_bytes(writer, part) < part.len() {
+        if !write_part(writer, part) {
             return false;
         }
     }
