@@ -295,15 +295,23 @@ fn tell<W: Write, E: Write>(writer: &mut W, errors: &mut E, tally: Tally) -> u8
 }
 
 /// Tells that the command line is none, or that there is no memory for it.
-fn refuse<E: Write>(alloc: Global, words: &[&str], fault: ArgsFault, errors: &mut E) -> u8
-    ensures status { result ≡ fault_number fault }
-    ensures told { TellsRefusal (map (λ word. word.now) words.now) fault (E.contents errors.old)
+fn tell_refusal<E: Write>(alloc: Global, words: &[&str], fault: ArgsFault, errors: &mut E)
+    ensures { TellsRefusal (map (λ word. word.now) words.now) fault (E.contents errors.old)
         (E.contents errors.new) }
 {
     match fault {
         ArgsFault::NoMemory => tell_word(errors, "NoMemory"),
         ArgsFault::Usage => tell_usage(errors, hint_for(alloc, words)),
     }
+}
+
+/// Refuses the command line.
+fn refuse<E: Write>(alloc: Global, words: &[&str], fault: ArgsFault, errors: &mut E) -> u8
+    ensures status { result ≡ fault_number fault }
+    ensures told { TellsRefusal (map (λ word. word.now) words.now) fault (E.contents errors.old)
+        (E.contents errors.new) }
+{
+    tell_refusal(alloc, words, fault, errors);
     fault.number()
 }
 
