@@ -54,16 +54,16 @@ ends_import_stopped input rest old new quiet told fault stops tells = record { e
 
 -- the line that tells the rounds is written, or isn't written whole
 pub ends_saying_rounds : (walkers workers rounds : ℕ) (input old new quiet told : Option (List ℕ)) (tally : Tally) (status : ℕ) → IsTally walkers workers rounds tally → SaysWhole (rounds_line tally.rounds) old new quiet told status → Exits (Threads walkers workers rounds) input input old new quiet told status
-ends_saying_rounds walkers workers rounds input old new quiet told tally status counted (inl says) = record { end = Ran walkers workers rounds tally; asked_is = refl; status_is = says.1.1; streams = (counted, (refl, (says.0, says.1.0))) }
-ends_saying_rounds walkers workers rounds input old new quiet told tally status counted (inr cut) = record { end = Untold walkers workers rounds tally; asked_is = refl; status_is = cut.1.1; streams = (counted, (refl, (cut.0, cut.1.0))) }
+ends_saying_rounds walkers workers rounds input old new quiet told tally status counted (inl says) = record { end = Ran walkers workers rounds tally; asked_is = refl; status_is = says.2; streams = (counted, refl, says.0, says.1) }
+ends_saying_rounds walkers workers rounds input old new quiet told tally status counted (inr cut) = record { end = Untold walkers workers rounds tally; asked_is = refl; status_is = cut.2; streams = (counted, refl, cut.0, cut.1) }
 
 pub ends_not_run : (walkers workers rounds : ℕ) (input old quiet told : Option (List ℕ)) → Tells quiet told (word_told (codes "NoMemory")) → Exits (Threads walkers workers rounds) input input old old quiet told 1
-ends_not_run walkers workers rounds input old quiet told tells = record { end = NotRun walkers workers rounds; asked_is = refl; status_is = refl; streams = (refl, (refl, tells)) }
+ends_not_run walkers workers rounds input old quiet told tells = record { end = NotRun walkers workers rounds; asked_is = refl; status_is = refl; streams = (refl, refl, tells) }
 
 pub ends_saying_help : (topic : Option Topic) (input old new quiet told : Option (List ℕ)) (status : ℕ) → SaysWhole (help_text topic) old new quiet told status → Exits (Help topic) input input old new quiet told status
-ends_saying_help topic input old new quiet told status (inl says) = record { end = Helped topic; asked_is = refl; status_is = says.1.1; streams = (refl, (says.0, says.1.0)) }
-ends_saying_help topic input old new quiet told status (inr cut) = record { end = NotHelped topic; asked_is = refl; status_is = cut.1.1; streams = (refl, (cut.0, cut.1.0)) }
+ends_saying_help topic input old new quiet told status (inl says) = record { end = Helped topic; asked_is = refl; status_is = says.2; streams = (refl, says.0, says.1) }
+ends_saying_help topic input old new quiet told status (inr cut) = record { end = NotHelped topic; asked_is = refl; status_is = cut.2; streams = (refl, cut.0, cut.1) }
 
 pub ends_saying_version : (input old new quiet told : Option (List ℕ)) (status : ℕ) → SaysWhole version_line old new quiet told status → Exits Version input input old new quiet told status
-ends_saying_version input old new quiet told status (inl says) = record { end = Versioned; asked_is = refl; status_is = says.1.1; streams = (refl, (says.0, says.1.0)) }
-ends_saying_version input old new quiet told status (inr cut) = record { end = NotVersioned; asked_is = refl; status_is = cut.1.1; streams = (refl, (cut.0, cut.1.0)) }
+ends_saying_version input old new quiet told status (inl says) = record { end = Versioned; asked_is = refl; status_is = says.2; streams = (refl, says.0, says.1) }
+ends_saying_version input old new quiet told status (inr cut) = record { end = NotVersioned; asked_is = refl; status_is = cut.2; streams = (refl, cut.0, cut.1) }

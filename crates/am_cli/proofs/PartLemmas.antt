@@ -30,7 +30,7 @@ all_taken n text old new taken same =
 
 -- and else a beginning of it is
 pub some_taken : (n : ℕ) (text : List ℕ) (old new : Option (List ℕ)) → n ≤ length text → Appends old new (take n text) → eqb n (length text) ≡ false → IsCut old new text
-some_taken n text old new within taken other = (n, (omega (arith, within, eqb-false n (length text) other), taken))
+some_taken n text old new within taken other = (n, omega (arith, within, eqb-false n (length text) other), taken)
 
 -- a part is taken whole behind those before it
 pub appends_part : {X : Type 0} (f : X → List ℕ) (xs : List X) (i : ℕ) (x : X) (old mid new : Option (List ℕ)) → i < length xs → x ≡ get_or xs i x → Appends old mid (flat_map f (take i xs)) → Appends mid new (f x) → Appends old new (flat_map f (take (i + 1) xs))
@@ -48,13 +48,13 @@ cut_in_part f xs i x old mid new inside is before part =
     let whole : flat_map f xs ≡ front ++ (f x ++ back) = split_at f xs i x inside ∙ ap (λ (t : List ℕ). front ++ (t ++ back)) (ap f (sym is)) in
     let cut : take (length front + n) (flat_map f xs) ≡ front ++ take n (f x) =
     ap (take (length front + n)) whole ∙ take-append-add front (f x ++ back) n
-    ∙ ap (λ (t : List ℕ). front ++ t) (take-append-le n (f x) back (omega (arith, part.1.0))) in
+    ∙ ap (λ (t : List ℕ). front ++ t) (take-append-le n (f x) back (omega (arith, part.1))) in
     let size : length (flat_map f xs) ≡ length front + (length (f x) + length back) =
     ap length whole ∙ length-append front (f x ++ back) ∙ ap (λ (k : ℕ). length front + k) (length-append (f x) back) in
-    (length front + n, (omega (arith, size, part.1.0), subst (λ (t : List ℕ). Appends old new t) (sym cut) (appends_more old mid new front (take n (f x)) before part.1.1)))
+    (length front + n, omega (arith, size, part.1), subst (λ (t : List ℕ). Appends old new t) (sym cut) (appends_more old mid new front (take n (f x)) before part.2))
 
 -- a text that is written whole or cut is told
 pub told_either : (whole : Bool) (quiet told : Option (List ℕ)) (text : List ℕ) → (whole ≡ true → Appends quiet told text) → (whole ≡ false → IsCut quiet told text) → Tells quiet told text
 told_either true quiet told text all cut =
     (length text, subst (λ (t : List ℕ). Appends quiet told t) (sym (take_all (length text) text (omega arith))) (all refl))
-told_either false quiet told text all cut = let h = cut refl in (h.0, h.1.1)
+told_either false quiet told text all cut = let h = cut refl in (h.0, h.2)

@@ -8,10 +8,10 @@ pub returns-in_default-clause-asks : goal.returns-in_default-clause-asks
 returns-in_default-clause-asks c =
     helped_is (found_of c.args.given.now) (codes "command") None (ap (option_map (λ s. s.now)) (sym c.in_default.is) ∙ c.get_str.ensures)
 
-pub returns-in-Some-2-clause-asks : goal.returns-in-Some-2-clause-asks
-returns-in-Some-2-clause-asks c =
+pub returns-in-Some-topic_named-clause-asks : goal.returns-in-Some-topic_named-clause-asks
+returns-in-Some-topic_named-clause-asks c =
     helped_is (found_of c.args.given.now) (codes "command") (Some c.in-Some.name.now) (ap (option_map (λ s. s.now)) (sym c.in-Some.is) ∙ c.get_str.ensures)
-    ∙ ap (option_map (λ topic. Some topic)) (sym c.in-Some-2.ensures)
+    ∙ ap (option_map (λ topic. Some topic)) (sym c.in-Some-topic_named.ensures)
 
 pub returns-in-None-clause-refused : goal.returns-in-None-clause-refused
 returns-in-None-clause-refused c =
