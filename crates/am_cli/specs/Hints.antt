@@ -51,13 +51,17 @@ HintsAt None word hint = MayMean word hint
 abbrev pub IsHint : List (List ℕ) → Option Hint → Type 0
 IsHint words hint = HintsAt (fed words) (mistaken words) hint
 
--- what is told of a command line that is none: what may be meant by it, and the command lines that there are
-abbrev pub usage_told : Option Hint → List ℕ
-usage_told None = flat_map (λ part. part) (codes "fault: Usage\n" ∷ usage_text ∷ [])
-usage_told (Some (Near topic)) =
+-- what is told of a command line that is none where something may be meant: that, and the command lines that there are
+abbrev pub hint_told : Hint → List ℕ
+hint_told (Near topic) =
     flat_map (λ part. part)
     (codes "fault: Usage\ndid you mean '" ∷ name_of topic ∷ codes "'?\n" ∷ usage_text ∷ [])
-usage_told (Some (Input topic)) =
+hint_told (Input topic) =
     flat_map (λ part. part)
     (codes "fault: Usage\nthe " ∷ input_of topic ∷ codes " is read from standard input: automount_cli "
     ∷ name_of topic ∷ codes " < FILE\n" ∷ usage_text ∷ [])
+
+-- and where nothing may be
+abbrev pub usage_told : Option Hint → List ℕ
+usage_told None = flat_map (λ part. part) (codes "fault: Usage\n" ∷ usage_text ∷ [])
+usage_told (Some hint) = hint_told hint

@@ -3,7 +3,7 @@
 ghost use Rattle.std.specs.Prelude.{◌≡◌, true, false};
 ghost use Rattle.std.specs.List.{flat_map};
 ghost use Rattle.std.specs.Io.KnownBytes.{Appends};
-ghost use Rattle.am_cli.specs.Hints.{usage_told};
+ghost use Rattle.am_cli.specs.Hints.{hint_told, usage_told};
 ghost use Rattle.am_cli.specs.Telling.{import_told, IsCut, judge_told, kind_word, line_told, map_word, master_word, mount_words, place_told, script_told, Tells, trace_words, word_told};
 
 use crate::help::usage;
@@ -213,13 +213,12 @@ pub(crate) fn tell_import<E: Write>(errors: &mut E, fault: ImportFault)
     }
 }
 
-/// Tells that the command line is none, what may be meant, and what command lines there are.
-pub(crate) fn tell_usage<E: Write>(errors: &mut E, hint: Option<Hint>)
-    ensures { Tells (E.contents errors.old) (E.contents errors.new) (usage_told hint) }
+/// Tells that the command line is none, that this may be meant, and what command lines there are.
+fn tell_hint<E: Write>(errors: &mut E, hint: Hint)
+    ensures { Tells (E.contents errors.old) (E.contents errors.new) (hint_told hint) }
 {
     match hint {
-        None => tell(errors, &[b"fault: Usage\n", usage()]),
-        Some(Hint::Near { topic }) => tell(
+        Hint::Near { topic } => tell(
             errors,
             &[
                 b"fault: Usage\ndid you mean '",
@@ -228,7 +227,7 @@ pub(crate) fn tell_usage<E: Write>(errors: &mut E, hint: Option<Hint>)
                 usage(),
             ],
         ),
-        Some(Hint::Input { topic }) => tell(
+        Hint::Input { topic } => tell(
             errors,
             &[
                 b"fault: Usage\nthe ",
@@ -239,5 +238,15 @@ pub(crate) fn tell_usage<E: Write>(errors: &mut E, hint: Option<Hint>)
                 usage(),
             ],
         ),
+    }
+}
+
+/// Tells that the command line is none, what may be meant, and what command lines there are.
+pub(crate) fn tell_usage<E: Write>(errors: &mut E, hint: Option<Hint>)
+    ensures { Tells (E.contents errors.old) (E.contents errors.new) (usage_told hint) }
+{
+    match hint {
+        Some(hint) => tell_hint(errors, hint),
+        None => tell(errors, &[b"fault: Usage\n", usage()]),
     }
 }

@@ -5,4 +5,4 @@ pub returns : goal.returns
 returns g c input =
     let contents = g.W.Write.contents in
     let tells = g.E.Write.contents in
-    ends_saying_version input (contents c.args.writer.now) (contents c.say.new.writer) (tells c.args.errors.now) (tells c.say.new.errors) c.say.result (rw (c.as_bytes.ensures, c.version.ensures) at c.say.ensures)
+    ends_saying_version input (contents c.args.writer.now) (contents c.say.new.writer) (tells c.args.errors.now) (tells c.say.new.errors) c.say.result (rw (c.as_bytes.ensures.value, c.version.ensures) at c.say.ensures)
