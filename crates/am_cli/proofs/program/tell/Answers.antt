@@ -5,4 +5,4 @@ pub returns : goal.returns
 returns g c walkers workers rounds input counted =
     let contents = g.W.Write.contents in
     let tells = g.E.Write.contents in
-    ends_saying_rounds walkers workers rounds input (contents c.args.writer.now) (contents c.say.new.writer) (tells c.args.errors.now) (tells c.say.new.errors) c.args.tally c.say.result counted c.say.ensures
+    ends_saying_rounds walkers workers rounds input (contents c.args.writer.now) (contents c.say.new.writer) (tells c.args.errors.now) (tells c.say.new.errors) c.args.tally c.say.result counted (rw (c.as_bytes.ensures.value, c.format.ensures.text) at c.say.ensures)
