@@ -2,7 +2,8 @@
 _automount_cli() {
     local word=${COMP_WORDS[COMP_CWORD]} before=${COMP_WORDS[COMP_CWORD - 1]} words=
     if [[ $COMP_CWORD -eq 1 ]]; then
-        words="script trace draw world judge import threads"
+        words="script trace draw world judge import threads help"
+        [[ $word != -* ]] || words="--help --version"
     elif [[ $before == --* || $before == = ]]; then
         # A number: nothing can be completed, and a file is none.
         compopt +o default 2> /dev/null
@@ -11,6 +12,7 @@ _automount_cli() {
             draw) words="--from --to" ;;
             world) words="--namespace" ;;
             threads) words="--walkers --workers --rounds" ;;
+            help) words="script trace draw world judge import threads help" ;;
         esac
     fi
     mapfile -t COMPREPLY < <(compgen -W "$words" -- "$word")

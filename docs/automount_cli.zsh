@@ -12,8 +12,10 @@ _automount_cli() {
         'judge:reads a trace and says whether it is lawful'
         'import:reads mountinfo and writes a script that builds its mounts'
         'threads:has threads walk, serve and expire in one world'
+        'help:writes what the program or a command does'
     )
-    _arguments -C '1:command:->command' '*::word:->word'
+    _arguments -C '(- *)'{-h,--help}'[write what the program does]' '(- *)'{-V,--version}'[write the version]' \
+        '1:command:->command' '*::word:->word'
     case $state in
         command) _describe command commands ;;
         word)
@@ -22,6 +24,7 @@ _automount_cli() {
                 world) _arguments '--namespace[the mounts of one namespace alone]:number: ' ;;
                 threads) _arguments '--walkers[1 to 16]:number: ' '--workers[1 to 16]:number: ' \
                     '--rounds[1 to 1000]:number: ' ;;
+                help) _describe command commands ;;
             esac
             ;;
     esac

@@ -4,7 +4,10 @@
 usage: tools/commands.py
 
 - command lines that are none and those that are, each with its status, what it writes and what it tells;
-- traces, pictures and worlds where standard output takes little at once, and where it fails behind so many bytes;
+- help of the program and of each command, in each way in which it is asked for, and the version: one screen each,
+  which names each option, and nothing is read;
+- what is written where standard output takes little at once, and where it fails behind so many bytes; and the status
+  where standard error takes nothing;
 - each allocation refused in turn: the command tells that there was no memory and has written a beginning, or an
   event is answered so, or all is as ever;
 - threads with so little memory that some can't be started: they end all the same.
@@ -20,8 +23,20 @@ import subprocess
 import sys
 import tempfile
 
+sys.dont_write_bytecode = True
+import offers  # noqa: E402
+
 PATIENCE = 60
-USAGE = (2, b"", b"fault: Usage\n")
+# What stands below the first line of a command line that is none, and before it what may be meant by it.
+COMMAND_LINES_THERE_ARE = b"""usage: automount_cli script|trace|judge|import < FILE
+       automount_cli draw [--from N] [--to N] < FILE
+       automount_cli world [--namespace N] < FILE
+       automount_cli threads [--walkers N] [--workers N] [--rounds N]
+       automount_cli help [COMMAND]
+       automount_cli --version
+"""
+# The lines and columns of a screen.
+SCREEN = (24, 80)
 # What a process may have of memory, in bytes.
 LITTLE = 64 << 20
 # How often threads run with so little.
@@ -32,9 +47,10 @@ TWO_EVENTS = b"events\nmount 0 /a<b\nleave 1\n"
 # line 11 is the last.
 A_WORLD = (b"master\n/auto auto.home\nend\nmap auto.home\nhome srv:/home\nend\nevents\n"
            b"attach /auto\nmount 0 /a\\b\nnscopy 0 reduced\nwalk 7 0 /auto/home 5 room\n")
+AUTOFS = b"autofs none rw,fd=1,timeout=300,minproto=5,maxproto=5,indirect\n"
 NAMESPACES = (
-    b"1 1 0:1 / / rw - plain none rw\n2 1 0:2 / /auto rw - autofs none rw\n3 1 0:3 / /a\\134b rw - plain none rw\n",
-    b"4 4 0:1 / / rw - plain none rw\n5 4 0:2 / /auto rw - autofs none rw\n6 4 0:3 / /a\\134b rw - plain none rw\n",
+    b"1 1 0:1 / / rw - plain none rw\n2 1 0:2 / /auto rw - " + AUTOFS + b"3 1 0:3 / /a\\134b rw - plain none rw\n",
+    b"4 4 0:1 / / rw - plain none rw\n5 4 0:2 / /auto rw - " + AUTOFS + b"6 4 0:3 / /a\\134b rw - plain none rw\n",
 )
 OPEN = (b"# open 1 waiters 7 fs 2 name home\n"
         b"# queued 1 attach 1 missing-indirect dev 2 ino 1 uid 0 gid 0 pid 7 tgid 7 name home\n"
@@ -106,14 +122,40 @@ def misread(line, column, what):
     return b"fault: line %d, column %d: %s expected\n" % (line, column, what)
 
 
+def usage(hint=b""):
+    return 2, b"", b"fault: Usage\n" + hint + COMMAND_LINES_THERE_ARE
+
+
+def near(name):
+    return b"did you mean '%s'?\n" % name
+
+
+def fed(name, what=b"script"):
+    return b"the %s is read from standard input: automount_cli %s < FILE\n" % (what, name)
+
+
+# Command lines that are none, and what may be meant by each.
 NO_COMMAND_LINES = [
-    [], ["--help"], ["help"], ["scrip"], ["script", "x"], ["script", "--help"], ["trace", "x"], [b"script\xff"],
-    ["draw", "--from", "0"], ["draw", "--to", "4294967296"], ["draw", "--from"], ["draw", "x"],
-    ["judge", "x"], ["judge", "--help"], ["import", "x"], ["import", "--help"], ["world", "--namespace", "one"], ["world", "--namespace"], ["world", "1"], ["world", "--namespace", "4294967296"],
-    ["threads", "--walkers", "0"], ["threads", "--walkers", "17"], ["threads", "--workers", "0"],
-    ["threads", "--workers", "17"], ["threads", "--rounds", "0"], ["threads", "--rounds", "1001"],
-    ["threads", "--rounds", "4294967297"], ["threads", "--rounds", "-1"], ["threads", "--rounds", "ten"],
-    ["threads", "--rounds"], ["threads", "x"],
+    ([], b""), (["--helps"], b""), (["--"], b""), (["-x"], b""), ([""], b""), (["x"], b""), (["x" * 5000], b""),
+    ([b"script\xff"], b""), ([b"help", b"\xff"], b""),
+    *(([word], near(b"script")) for word in ("scrip", "scirpt", "crip", "scripted", "Script", "scr\u00efpt")),
+    (["scr"], b""), (["scripting"], b""), (["traces"], near(b"trace")), (["drae"], near(b"draw")),
+    (["word"], near(b"world")), (["nudge"], near(b"judge")), (["imports"], near(b"import")),
+    (["thread"], near(b"threads")), (["hlep"], near(b"help")), (["traw"], near(b"draw")),
+    (["wrad"], near(b"draw")),
+    (["scrip", "--help"], near(b"script")), (["help", "scrip"], near(b"script")), (["help", "x"], b""),
+    (["help", "script", "x"], b""), (["help", "--version"], b""), (["script", "--version"], b""),
+    (["script", "x"], fed(b"script")), (["script", "-x"], b""), (["script", "", "x"], b""), (["script", "--", "x"], b""),
+    (["script", "x", "--help"], fed(b"script")), (["trace", "x"], fed(b"trace")),
+    (["draw", "--from", "0"], b""), (["draw", "--to", "4294967296"], b""), (["draw", "--from"], b""),
+    (["draw", "x"], fed(b"draw")), (["draw", "x", "--from", "1"], fed(b"draw")),
+    (["draw", "--from", "1", "--from", "2"], b""), (["draw", "--form", "1"], b""),
+    (["judge", "x"], fed(b"judge", b"trace")), (["import", "x"], fed(b"import", b"mountinfo")),
+    (["world", "--namespace", "one"], b""), (["world", "--namespace"], b""), (["world", "1"], fed(b"world")),
+    (["world", "--namespace", "4294967296"], b""), (["world", "--from", "1"], b""),
+    *((["threads", *words], b"") for words in (
+        ["--walkers", "0"], ["--walkers", "17"], ["--workers", "0"], ["--workers", "17"], ["--rounds", "0"],
+        ["--rounds", "1001"], ["--rounds", "4294967297"], ["--rounds", "-1"], ["--rounds", "ten"], ["--rounds"], ["x"])),
 ]
 COMMAND_LINES = [
     (["script"], b"# nothing\n", (0, b"", b"")),
@@ -151,11 +193,22 @@ PICTURES = [
     (["--from", "2", "--to", "2"], (False, True), b"1 of 2 events"),
     (["--from", "4294967295"], (False, False), b"0 of 2 events"),
 ]
+# Commands that write help or the version.
+HELPFUL = (["help"], ["--help"], ["help", "draw"], ["script", "-h"], ["--version"])
+# Command lines that are none with what may be meant, of which allocations are refused.
+REFUSED = ((["scrip"], (near(b"script"), b"")), (["help", "wrld"], (near(b"world"), b"")), (["nothing"], (b"",)),
+           (["draw", "x"], (fed(b"draw"),)), (["draw", "--to", "0"], (b"",)))
+# Faults, each of another ending, which standard error doesn't take.
+MUTE = ((["script"], SHORT + b"x\n"), (["trace"], b"events\nx\n"), (["judge"], b"  x\n"), (["import"], b"x\n"),
+        (["x"], b""), ([], b""))
 # What is shown, how many bytes are taken at once and how many in all, and the line at which the loss is told, if it is at one.
 LOSSES = [
     ("trace", SHORT, 100, 0, 2), ("trace", SHORT, 7, 1, 2), ("trace", SHORT, 100, 35, 2), ("trace", SHORT, 7, 36, 3),
     ("trace", SHORT, 1, 40, 3), ("draw", SHORT, 100, 0, 2), ("draw", SHORT, 1, 1, 2), ("draw", SHORT, 100, 6000, 2),
     ("script", SHORT, 100, 0, 2), ("script", SHORT, 1, 8, 3),
+    ("help", b"", 5000, 0, None), ("help", b"", 100, 250, None), ("help", b"", 1, 1000, None),
+    ("--version", b"", 100, 0, None), ("--version", b"", 7, 15, None),
+    ("threads", b"", 100, 0, None), ("threads", b"", 2, 8, None),
     ("import", MOUNTS, 100, 0, None), ("import", MOUNTS, 7, 33, None), ("import", MOUNTS, 1, 140, None),
     ("judge", BROKEN, 100, 0, None), ("judge", BROKEN, 5, 20, None), ("judge", LAWFUL, 1, 6, None),
     *(("world", A_WORLD, 1 << 20, room, 11) for room in (0, 1, 100, 300)),
@@ -185,6 +238,48 @@ class Program:
         subprocess.run([f"{tools}/clang", "--target=x86_64-unknown-linux-gnu", f"--ld-path={tools}/ld.lld", "-shared", "-fPIC",
                         "-nostdlib", "-O1", "-o", out, f"tools/{name}.c"], check=True)
         return out
+
+
+def asks_for_help(command):
+    """The ways in which help of a command is asked for, or of the program."""
+    if command is None:
+        return [["help"], ["--help"], ["-h"], ["--help", "x"], ["-hV"]]
+    return [["help", command], [command, "--help"], [command, "-h"], [command, "--help", "x"]]
+
+
+def is_help(program, words, command, options):
+    """Whether help is one screen, the same in each way, and names the command and its options, or all commands."""
+    status, wrote, said = program.run(words, SHORT)
+    lines = wrote.decode().splitlines()
+    names = [f"--{it}" for it in options] if command else [f"  {it} " for it in offers.of_program()]
+    return (status, said) == (0, b"") and wrote == program.run(asks_for_help(command)[0], b"")[1] \
+        and lines[0].startswith(f"Usage: automount_cli {command or 'COMMAND'}") and wrote.endswith(b"\n") \
+        and len(lines) < SCREEN[0] and max(map(len, lines)) <= SCREEN[1] and all(it in wrote.decode() for it in names) \
+        and all(it in wrote for it in (b"Exit status: 0 ", b"; 1 ", b"\nExample: "))
+
+
+def is_version(program, words):
+    """Whether the program's name and its version are written, as the sources have it."""
+    with open("crates/am_cli/src/help.rt", encoding="utf-8") as file:
+        version = re.search(r'"(\d+\.\d+\.\d+)"', file.read())[1]
+    return program.run(words, SHORT) == (0, f"automount_cli {version}\n".encode(), b"")
+
+
+def is_unread(program, words):
+    """Whether nothing is read of a file that is standard input."""
+    with tempfile.TemporaryFile() as given:
+        given.write(SHORT)
+        given.seek(0)
+        subprocess.run([program.path, *words], stdin=given, capture_output=True, timeout=program.patience, check=False)
+        return os.lseek(given.fileno(), 0, os.SEEK_CUR) == 0
+
+
+def is_mute(program, words, given):
+    """Whether the status and what is written are the same where standard error takes nothing."""
+    with open("/dev/full", "wb", buffering=0) as full:
+        ran = subprocess.run([program.path, *words], input=given, stdout=subprocess.PIPE, stderr=full,
+                             timeout=program.patience, check=False)
+    return (ran.returncode, ran.stdout) == program.run(words, given)[:2]
 
 
 def is_picture(program, words, shown, told):
@@ -217,15 +312,16 @@ def beginnings(parts):
     return found, whole
 
 
-def is_refused_well(words, found, whole):
-    """Tells of a run whether it wrote one of these wholes, or one of these beginnings and told that there was no memory."""
+def is_refused_well(found, whole, refused):
+    """Tells of a run whether it wrote one of these wholes, or one of these beginnings and told that there was no
+    memory, or whether the command line was refused in one of these ways."""
     told = re.compile(rb"fault: (line \d+: )?NoMemory\n")
 
     def judge(ran):
         status, wrote, said = ran
         return status == 0 and said == b"" and wrote in whole or status == 1 and told.fullmatch(said) is not None and wrote in found
 
-    return judge if words != ["scrip"] else lambda ran: judge(ran) or ran == USAGE
+    return lambda ran: judge(ran) or ran in refused
 
 
 def refuses_each(program, refuse, words, given, is_well):
@@ -254,12 +350,17 @@ def refusals(program, refuse):
         (["judge"], LAWFUL, ([b""], [b"lawful\n"])), (["import"], MOUNTS, ([b""], [IMPORTED])),
         (["import"], TRAPS, ([b""], [program.run(["import"], TRAPS)[1]])),
         (["draw"], b"events\n", ([b""], [program.run(["draw"], b"events\n")[1]])),
-        (["world"], b"events\n", ([b""], [INITIAL])), (["scrip"], b"", ([b""], [])),
+        (["world"], b"events\n", ([b""], [INITIAL])), (["world"], A_WORLD, ([b""], [WORLD])),
         (["threads", "--walkers", "2", "--workers", "1", "--rounds", "2"], b"", ([b""], [b"rounds 4\n"])),
+        *((words, b"", ([b""], [program.run(words, b"")[1]])) for words in HELPFUL),
     ]
     for words, given, (found, whole) in rows:
         yield words, lambda words=words, given=given, found=found, whole=whole: refuses_each(
-            program, refuse, words, given, is_refused_well(words, found, whole))
+            program, refuse, words, given, is_refused_well(found, whole, ()))
+    # Where there is no memory to find what may be meant, the command lines are told alone; a file is seen all the same.
+    for words, hints in REFUSED:
+        yield words, lambda words=words, hints=hints: refuses_each(
+            program, refuse, words, b"", is_refused_well([b""], [], [usage(it) for it in hints]))
 
 
 def with_little():
@@ -273,8 +374,20 @@ def ends_with_little(program):
 
 def checks(program):
     """Each check, by its name."""
-    for words in NO_COMMAND_LINES:
-        yield f"no command line: {words}", lambda words=words: program.run(words, b"") == USAGE
+    for words, hint in NO_COMMAND_LINES:
+        yield f"no command line: {str(words)[:80]}", \
+            lambda words=words, hint=hint: program.run(words, b"") == usage(hint)
+    for command, options in ((None, ()), *offers.of_program().items()):
+        for words in asks_for_help(command):
+            yield f"help: {' '.join(words)}", lambda words=words, command=command, options=options: is_help(
+                program, words, command, options)
+    for words in (["--version"], ["-V"], ["--version", "x"]):
+        yield f"the version: {' '.join(words)}", lambda words=words: is_version(program, words)
+    for words in (*HELPFUL, ["scrip"], ["script", "x"], ["threads"]):
+        yield f"nothing is read: {' '.join(words)}", lambda words=words: is_unread(program, words)
+    for words, given in MUTE:
+        yield f"standard error takes nothing: {' '.join(words)}", \
+            lambda words=words, given=given: is_mute(program, words, given)
     for words, given, ends in COMMAND_LINES:
         yield f"command line: {' '.join(words)}, {ends[0]}", lambda words=words, given=given, ends=ends: program.run(words, given) == ends
     for row in PICTURES:
@@ -285,7 +398,7 @@ def checks(program):
     little, refuse = program.built("little"), program.built("refuse")
     for row in LOSSES:
         yield f"{row[0]}: {row[2]} bytes at once, {row[3]} in all", lambda row=row: is_lost(program, little, row)
-    for command in ("script", "trace", "draw", "world", "judge"):
+    for command in ("script", "trace", "draw", "world", "judge", "help", "--version"):
         for most in (1, 7, 5000):
             yield f"{command}: {most} bytes at once", lambda command=command, most=most: is_whole(program, little, command, most)
     for words, run in refusals(program, refuse):

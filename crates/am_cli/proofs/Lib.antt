@@ -1,2 +1,4 @@
+pub mod AskedLemmas
 pub mod CommandLemmas
 pub mod Ends
+pub mod PartLemmas

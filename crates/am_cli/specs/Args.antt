@@ -1,8 +1,8 @@
 -- The exit statuses of a command line that is none, and the numbers of one that is: own choice
 -- (docs/FORMATS.md, "The program").
-use Rattle.std.specs.Prelude.{ℕ, ◌≤◌, ⊤}
+use Rattle.std.specs.Prelude.{ℕ, ◌≤◌, ⊤, Option, None, Some}
 use Rattle.am_cli.specs.declared.args.Args.{Args}
-use Rattle.am_cli.specs.declared.args.Args.TheVariants.{Script, Trace, Draw, World, Judge, Import, Threads}
+use Rattle.am_cli.specs.declared.args.Args.TheVariants.{Script, Trace, Draw, World, Judge, Import, Threads, Help, Version}
 use Rattle.am_cli.specs.declared.args.ArgsFault.{ArgsFault}
 use Rattle.am_cli.specs.declared.args.ArgsFault.TheVariants.{NoMemory, Usage}
 
@@ -15,12 +15,19 @@ fault_number Usage = 2
 abbrev pub IsUpTo : ℕ → ℕ → Type 0
 IsUpTo most number = (1 ≤ number) × (number ≤ most)
 
--- numbers of events, and so many threads and rounds, as may be asked for
+-- so many at most, if it is there
+abbrev pub IsNumberUpTo : ℕ → Option ℕ → Type 0
+IsNumberUpTo most None = ⊤
+IsNumberUpTo most (Some number) = number ≤ most
+
+-- numbers of events and of a namespace, and so many threads and rounds, as may be asked for
 abbrev pub IsInRange : Args → Type 0
 IsInRange Script = ⊤
 IsInRange Trace = ⊤
 IsInRange (Draw first last) = IsUpTo 4294967295 first × IsUpTo 4294967295 last
-IsInRange (World namespace) = ⊤
+IsInRange (World namespace) = IsNumberUpTo 4294967295 namespace
 IsInRange Judge = ⊤
 IsInRange Import = ⊤
 IsInRange (Threads walkers workers rounds) = IsUpTo 16 walkers × IsUpTo 16 workers × IsUpTo 1000 rounds
+IsInRange (Help topic) = ⊤
+IsInRange Version = ⊤

@@ -1,15 +1,23 @@
 -- The commands that there are, as `clap` has them, and what they ask for: own choice
 -- (docs/FORMATS.md, "The program").
-use Rattle.std.specs.Prelude.{◌≡◌, ℕ, pos, false, true, List, [], ◌∷◌, codes, Option, None, Some}
+use Rattle.std.specs.Prelude.{◌≡◌, ◌≢◌, ◌⊎◌, ⊤, ℕ, pos, false, true, List, [], ◌∷◌, codes, Option, None, Some, option_map}
 use Rattle.std.specs.Str.Parse.{IsNumeral, digits_value, without_leading_plus}
 use Rattle.clap.specs.declared.builder.command.Command.{Command}
 use Rattle.clap.specs.declared.builder.command.Command.TheViews.{out-Command}
-use Rattle.clap.specs.Words.{app_of, App, Row, Rule, Text, first_of, new_app, new_rule, one_of, subcommand_of, with_rule, with_subcommand}
+use Rattle.clap.specs.Words.{app_of, App, IsAmong, Row, Rule, Text, fault_of, first_of, new_app, new_rule, one_of, subcommand_of, with_rule, with_subcommand}
+use Rattle.clap.specs.declared.error.kind.ErrorKind.{ErrorKind}
+use Rattle.clap.specs.declared.error.kind.ErrorKind.TheVariants as answers
 use Rattle.clap.specs.Simple.{on_top}
 use Rattle.clap.specs.declared.builder.action.ArgAction.TheVariants.{Set}
 use Rattle.clap.specs.declared.builder.value_parser.ValueParser.TheVariants.{Signed}
 use Rattle.am_cli.specs.declared.args.Args.{Args}
-use Rattle.am_cli.specs.declared.args.Args.TheVariants.{Script, Trace, Draw, World, Judge, Import, Threads}
+use Rattle.am_cli.specs.declared.args.Args.TheVariants.{Script, Trace, Draw, World, Judge, Import, Threads, Help, Version}
+use Rattle.am_cli.specs.declared.args.ArgsFault.{ArgsFault}
+use Rattle.am_cli.specs.declared.args.ArgsFault.TheVariants.{NoMemory, Usage}
+use Rattle.am_cli.specs.declared.topics.Topic.{Topic}
+use Rattle.am_cli.specs.declared.topics.Topic.TheVariants as topics
+use Rattle.am_cli.specs.Args.{IsInRange}
+use Rattle.am_cli.specs.Topics.{topic_named, topic_of}
 
 -- ---- the commands
 
@@ -60,14 +68,22 @@ threads_app =
     (default_rule (codes "workers") (codes "2")))
     (default_rule (codes "rounds") (codes "10"))
 
--- the program, of which a command has to be named
-abbrev pub bare_program : App
-bare_program = on_top (λ s. record s { subcommand_required = true }) (new_app (codes "automount_cli"))
+-- the command `help`, with the name of a command if it is of one
+abbrev pub help_app : App
+help_app = with_rule (new_app (codes "help")) (new_rule (codes "command"))
 
--- the program, with its seven commands
+-- the program, of which a command has to be named; it has a version, and a command `help` of its own
+abbrev pub bare_program : App
+bare_program =
+    on_top (λ s. record s { has_version = true })
+    (on_top (λ s. record s { disable_help_subcommand = true })
+    (on_top (λ s. record s { subcommand_required = true }) (new_app (codes "automount_cli"))))
+
+-- the program, with its eight commands
 abbrev pub cli : App
 cli =
     with_subcommand
+    (with_subcommand
     (with_subcommand
     (with_subcommand
     (with_subcommand
@@ -77,7 +93,8 @@ cli =
     world_app.top)
     judge_app.top)
     import_app.top)
-    threads_app.top
+    threads_app.top)
+    help_app.top
 
 -- a command that is made so
 pub record IsCommand (app : App) (command : Command) : Type 0 where
@@ -98,21 +115,79 @@ abbrev pub IsNumberIn : List Row → Text → Option ℕ → Type 0
 IsNumberIn rows option None = first_of option rows ≡ None
 IsNumberIn rows option (Some number) = IsNumber rows option number
 
+-- the command that `help` is asked of, if there is one of this name, or of the program where none is named
+abbrev pub helped : Option Text → Option (Option Topic)
+helped None = Some None
+helped (Some name) = option_map (λ topic. Some topic) (topic_named name)
+
 -- a command, with its options, asks for this
-abbrev pub AsksFor : Text → List Row → Args → Type 0
-AsksFor name rows Script = name ≡ codes "script"
-AsksFor name rows Trace = name ≡ codes "trace"
-AsksFor name rows (Draw first last) =
-    (name ≡ codes "draw") × IsNumber rows (codes "from") first × IsNumber rows (codes "to") last
-AsksFor name rows (World namespace) =
-    (name ≡ codes "world") × IsNumberIn rows (codes "namespace") namespace
-AsksFor name rows Judge = name ≡ codes "judge"
-AsksFor name rows Import = name ≡ codes "import"
-AsksFor name rows (Threads walkers workers rounds) =
-    (name ≡ codes "threads") × IsNumber rows (codes "walkers") walkers
+abbrev pub AsksFor : Topic → List Row → Args → Type 0
+AsksFor topics.Script rows Script = ⊤
+AsksFor topics.Trace rows Trace = ⊤
+AsksFor topics.Draw rows (Draw first last) =
+    IsNumber rows (codes "from") first × IsNumber rows (codes "to") last
+AsksFor topics.World rows (World namespace) = IsNumberIn rows (codes "namespace") namespace
+AsksFor topics.Judge rows Judge = ⊤
+AsksFor topics.Import rows Import = ⊤
+AsksFor topics.Threads rows (Threads walkers workers rounds) =
+    IsNumber rows (codes "walkers") walkers
     × IsNumber rows (codes "workers") workers × IsNumber rows (codes "rounds") rounds
+AsksFor topics.Help rows (Help topic) = helped (first_of (codes "command") rows) ≡ Some topic
+AsksFor _ rows _ = ⊥
+
+-- it asks for nothing of which the numbers are in their ranges
+abbrev pub AsksForNone : Topic → List Row → Type 0
+AsksForNone topic rows = (args : Args) → AsksFor topic rows args → IsInRange args → ⊥
+
+-- the command of this name, if there is one
+abbrev pub AsksBy : Option Topic → List Row → Args → Type 0
+AsksBy None rows args = ⊥
+AsksBy (Some topic) rows args = AsksFor topic rows args
+
+-- it asks for nothing in range
+abbrev pub AsksByNone : Option Topic → List Row → Type 0
+AsksByNone found rows = (args : Args) → AsksBy found rows args → IsInRange args → ⊥
 
 -- the command that was named, with its options, asks for this
 abbrev pub Asks : Option (Text × List Row) → Args → Type 0
 Asks None args = ⊥
-Asks (Some (name, rows)) args = AsksFor name rows args
+Asks (Some (name, rows)) args = AsksBy (topic_named name) rows args
+
+-- it asks for nothing in range
+abbrev pub AsksNothing : Option (Text × List Row) → Type 0
+AsksNothing named = (args : Args) → Asks named args → IsInRange args → ⊥
+
+-- ---- what the words ask for
+
+-- words that `clap` answers so, and not with a command, ask for this: help of what they name, or the version
+abbrev pub AnswersBy : ErrorKind → List Text → Args → Type 0
+AnswersBy answer words (Help topic) = (answer ≡ answers.DisplayHelp) × (topic ≡ topic_of words)
+AnswersBy answer words Version = answer ≡ answers.DisplayVersion
+AnswersBy answer words _ = ⊥
+
+-- the answer is a mistake in the words
+abbrev pub IsMistake : ErrorKind → Type 0
+IsMistake answer =
+    (answer ≢ answers.DisplayHelp) × (answer ≢ answers.DisplayVersion) × (answer ≢ answers.OutOfMemory)
+
+-- words that `clap` answers so are refused by this fault
+abbrev pub IsRefusedBy : ErrorKind → ArgsFault → Type 0
+IsRefusedBy answer fault = fault ≡ Usage → IsMistake answer
+
+-- the words ask for this: `clap` takes them, and the command that they name asks for it; or it answers them by help or
+-- the version
+abbrev pub IsAsked : List Text → Args → Type 0
+IsAsked words args =
+    ((fault_of cli words ≡ []) × Asks (subcommand_of cli words) args)
+    ⊎ ((answer : ErrorKind) × IsAmong answer (fault_of cli words) × AnswersBy answer words args)
+
+-- the words are no command line: `clap` finds a mistake in them, or takes them, and what they name isn't in its range
+abbrev pub IsNoCommandLine : List Text → Type 0
+IsNoCommandLine words =
+    ((answer : ErrorKind) × IsAmong answer (fault_of cli words) × IsMistake answer)
+    ⊎ ((fault_of cli words ≡ []) × AsksNothing (subcommand_of cli words))
+
+-- the words are refused: they are no command line, or memory ran out
+abbrev pub IsRefused : List Text → ArgsFault → Type 0
+IsRefused words NoMemory = ⊤
+IsRefused words Usage = IsNoCommandLine words

@@ -1,5 +1,6 @@
 -- How a run of the program ends: own choice (docs/FORMATS.md, "The program").
-use Rattle.std.specs.Prelude.{◌≡◌, ⊤, ◌++◌, ℕ, List, Option, None, Some, codes, decimal}
+use Rattle.std.specs.Prelude.{◌≡◌, ◌⊎◌, ◌∷◌, ℕ, List, [], Option, codes, decimal}
+use Rattle.std.specs.List.{flat_map}
 use Rattle.std.specs.Io.KnownBytes.{Appends}
 use Rattle.am_import.specs.{ImportsInput, StopsImporting, ImportFault}
 use Rattle.am_mountinfo.specs.{ShowsInput, StopsShowing}
@@ -11,16 +12,22 @@ use Rattle.am_traces.specs.declared.verdict.JudgeFault.{JudgeFault}
 use Rattle.am_traces.specs.declared.verdict.Verdict.{Verdict}
 use Rattle.am_traces.specs.declared.verdict.Verdict.TheVariants.{Lawful, Broken}
 use Rattle.am_views.specs.{TracesInput, StopsTrace}
-use Rattle.clap.specs.Words.{Text, subcommand_of}
+use Rattle.clap.specs.Words.{Text}
 use Rattle.am_cli.specs.Args.{fault_number}
-use Rattle.am_cli.specs.CommandLine.{cli, Asks}
+use Rattle.am_cli.specs.CommandLine.{IsAsked, IsRefused}
+use Rattle.am_cli.specs.Help.{help_text, version_line}
+use Rattle.am_cli.specs.Hints.{IsHint, usage_told}
+use Rattle.am_cli.specs.Telling.{import_told, IsCut, judge_told, script_told, Tells, word_told}
+use Rattle.am_cli.specs.declared.hints.Hint.{Hint}
+use Rattle.am_cli.specs.declared.topics.Topic.{Topic}
 use Rattle.am_cli.specs.declared.args.Args.{Args}
-use Rattle.am_cli.specs.declared.args.Args.TheVariants.{Script, Trace, Draw, World, Judge, Import, Threads}
+use Rattle.am_cli.specs.declared.args.Args.TheVariants.{Script, Trace, Draw, World, Judge, Import, Threads, Help, Version}
 use Rattle.am_cli.specs.declared.args.ArgsFault.{ArgsFault}
+use Rattle.am_cli.specs.declared.args.ArgsFault.TheVariants.{NoMemory, Usage}
 
 -- the line that tells the rounds of threads
 abbrev pub rounds_line : ℕ → List ℕ
-rounds_line rounds = codes "rounds " ++ decimal rounds ++ codes "\n"
+rounds_line rounds = flat_map (λ part. part) (codes "rounds " ∷ decimal rounds ∷ codes "\n" ∷ [])
 
 -- how a run of the program ends
 pub data End : Type 0 where
@@ -55,8 +62,14 @@ pub data End : Type 0 where
   Untold : ℕ → ℕ → ℕ → Tally → End
   -- they haven't: memory ran out, or a thread can't be started
   NotRun : ℕ → ℕ → ℕ → End
-  -- the command line is none
-  Refused : ArgsFault → End
+  -- the help of a command, or of the program, is written
+  Helped : Option Topic → End
+  -- it isn't written whole
+  NotHelped : Option Topic → End
+  -- the version is written
+  Versioned : End
+  -- it isn't written whole
+  NotVersioned : End
 
 -- the exit status of a verdict
 abbrev pub status_of_verdict : Verdict → ℕ
@@ -80,68 +93,108 @@ status_of (ImportStopped fault) = 1
 status_of (Ran walkers workers rounds tally) = 0
 status_of (Untold walkers workers rounds tally) = 1
 status_of (NotRun walkers workers rounds) = 1
-status_of (Refused fault) = fault_number fault
+status_of (Helped topic) = 0
+status_of (NotHelped topic) = 1
+status_of Versioned = 0
+status_of NotVersioned = 1
 
--- what was asked for, if the command line is one
-abbrev pub asked_of : End → Option Args
-asked_of (Played summary) = Some Script
-asked_of (Stopped fault) = Some Script
-asked_of (Traced summary) = Some Trace
-asked_of (TraceStopped fault) = Some Trace
-asked_of (Drawn first last summary) = Some (Draw first last)
-asked_of (DrawStopped first last fault) = Some (Draw first last)
-asked_of (Shown only summary) = Some (World only)
-asked_of (ShowStopped only fault) = Some (World only)
-asked_of (Judged verdict) = Some Judge
-asked_of (JudgeStopped fault) = Some Judge
-asked_of Imported = Some Import
-asked_of (ImportStopped fault) = Some Import
-asked_of (Ran walkers workers rounds tally) = Some (Threads walkers workers rounds)
-asked_of (Untold walkers workers rounds tally) = Some (Threads walkers workers rounds)
-asked_of (NotRun walkers workers rounds) = Some (Threads walkers workers rounds)
-asked_of (Refused fault) = None
+-- what was asked for
+abbrev pub asked_of : End → Args
+asked_of (Played summary) = Script
+asked_of (Stopped fault) = Script
+asked_of (Traced summary) = Trace
+asked_of (TraceStopped fault) = Trace
+asked_of (Drawn first last summary) = Draw first last
+asked_of (DrawStopped first last fault) = Draw first last
+asked_of (Shown only summary) = World only
+asked_of (ShowStopped only fault) = World only
+asked_of (Judged verdict) = Judge
+asked_of (JudgeStopped fault) = Judge
+asked_of Imported = Import
+asked_of (ImportStopped fault) = Import
+asked_of (Ran walkers workers rounds tally) = Threads walkers workers rounds
+asked_of (Untold walkers workers rounds tally) = Threads walkers workers rounds
+asked_of (NotRun walkers workers rounds) = Threads walkers workers rounds
+asked_of (Helped topic) = Help topic
+asked_of (NotHelped topic) = Help topic
+asked_of Versioned = Version
+asked_of NotVersioned = Version
 
 -- What is read and written, and what is told of it: nothing is told of a script that is played,
 -- traced or drawn to its end, or whose world is printed, nor of a trace that is judged, a mountinfo that is imported,
--- or threads whose rounds stand written.
--- Threads read nothing. Nothing is read or written where they don't run, or the command line is
--- none.
+-- threads whose rounds stand written, or help and a version that do. Else the fault is told.
+-- Threads, help and the version read nothing. Nothing is written where threads don't run.
 abbrev pub Leaves : End → Option (List ℕ) → Option (List ℕ) → Option (List ℕ) → Option (List ℕ) → Option (List ℕ) → Option (List ℕ) → Type 0
 Leaves (Played summary) input rest old new quiet told = PlaysInput input rest old new summary × (told ≡ quiet)
-Leaves (Stopped fault) input rest old new quiet told = StopsInput input rest old new fault
+Leaves (Stopped fault) input rest old new quiet told =
+    StopsInput input rest old new fault × Tells quiet told (script_told fault)
 Leaves (Traced summary) input rest old new quiet told = TracesInput input rest old new summary × (told ≡ quiet)
-Leaves (TraceStopped fault) input rest old new quiet told = StopsTrace input rest old new fault
+Leaves (TraceStopped fault) input rest old new quiet told =
+    StopsTrace input rest old new fault × Tells quiet told (script_told fault)
 Leaves (Drawn first last summary) input rest old new quiet told =
     DrawsInput first last input rest old new summary × (told ≡ quiet)
 Leaves (DrawStopped first last fault) input rest old new quiet told =
-    StopsDrawing first last input rest old new fault
+    StopsDrawing first last input rest old new fault × Tells quiet told (script_told fault)
 Leaves (Shown only summary) input rest old new quiet told = ShowsInput only input rest old new summary × (told ≡ quiet)
-Leaves (ShowStopped only fault) input rest old new quiet told = StopsShowing only input rest old new fault
+Leaves (ShowStopped only fault) input rest old new quiet told =
+    StopsShowing only input rest old new fault × Tells quiet told (script_told fault)
 Leaves (Judged verdict) input rest old new quiet told = JudgesInput input rest old new verdict × (told ≡ quiet)
-Leaves (JudgeStopped fault) input rest old new quiet told = StopsJudging input rest old new fault
+Leaves (JudgeStopped fault) input rest old new quiet told =
+    StopsJudging input rest old new fault × Tells quiet told (judge_told fault)
 Leaves Imported input rest old new quiet told = ImportsInput input rest old new × (told ≡ quiet)
-Leaves (ImportStopped fault) input rest old new quiet told = StopsImporting input rest old new fault
+Leaves (ImportStopped fault) input rest old new quiet told =
+    StopsImporting input rest old new fault × Tells quiet told (import_told fault)
 Leaves (Ran walkers workers rounds tally) input rest old new quiet told =
     IsTally walkers workers rounds tally × (rest ≡ input) × Appends old new (rounds_line tally.rounds) × (told ≡ quiet)
 Leaves (Untold walkers workers rounds tally) input rest old new quiet told =
-    IsTally walkers workers rounds tally × (rest ≡ input)
-Leaves (NotRun walkers workers rounds) input rest old new quiet told = (rest ≡ input) × (new ≡ old)
-Leaves (Refused fault) input rest old new quiet told = (rest ≡ input) × (new ≡ old)
+    IsTally walkers workers rounds tally × (rest ≡ input) × IsCut old new (rounds_line tally.rounds)
+    × Tells quiet told (word_told (codes "WriteFailed"))
+Leaves (NotRun walkers workers rounds) input rest old new quiet told =
+    (rest ≡ input) × (new ≡ old) × Tells quiet told (word_told (codes "NoMemory"))
+Leaves (Helped topic) input rest old new quiet told =
+    (rest ≡ input) × Appends old new (help_text topic) × (told ≡ quiet)
+Leaves (NotHelped topic) input rest old new quiet told =
+    (rest ≡ input) × IsCut old new (help_text topic) × Tells quiet told (word_told (codes "WriteFailed"))
+Leaves Versioned input rest old new quiet told = (rest ≡ input) × Appends old new version_line × (told ≡ quiet)
+Leaves NotVersioned input rest old new quiet told =
+    (rest ≡ input) × IsCut old new version_line × Tells quiet told (word_told (codes "WriteFailed"))
 
 -- what was asked for ends so, with this status
-pub record Exits (asked : Option Args) (input rest old new quiet told : Option (List ℕ)) (status : ℕ) : Type 0 where
+pub record Exits (asked : Args) (input rest old new quiet told : Option (List ℕ)) (status : ℕ) : Type 0 where
   pub end : End
   pub asked_is : asked_of end ≡ asked
   pub status_is : status ≡ status_of end
   pub streams : Leaves end input rest old new quiet told
 
--- the words ask for this, if it is anything
-abbrev pub AskFor : List Text → Option Args → Type 0
-AskFor words None = ⊤
-AskFor words (Some args) = Asks (subcommand_of cli words) args
+-- a text is written whole, with this status, or that it isn't is told
+abbrev pub SaysWhole : List ℕ → Option (List ℕ) → Option (List ℕ) → Option (List ℕ) → Option (List ℕ) → ℕ → Type 0
+SaysWhole text old new quiet told status =
+    (Appends old new text × (told ≡ quiet) × (status ≡ 0))
+    ⊎ (IsCut old new text × Tells quiet told (word_told (codes "WriteFailed")) × (status ≡ 1))
 
--- the program exits with this status: what these words ask for ends so, or they are no command line
-pub record ExitsWith (words : List Text) (input rest old new quiet told : Option (List ℕ)) (status : ℕ) : Type 0 where
-  pub asked : Option Args
-  pub asks : AskFor words asked
+-- what is told where words are refused: that there is no memory, or that they are no command line, with what they may
+-- mean and the command lines that there are
+abbrev pub TellsRefusal : List Text → ArgsFault → Option (List ℕ) → Option (List ℕ) → Type 0
+TellsRefusal words NoMemory quiet told = Tells quiet told (word_told (codes "NoMemory"))
+TellsRefusal words Usage quiet told =
+    (hint : Option Hint) × IsHint words hint × Tells quiet told (usage_told hint)
+
+-- the words are refused with this status: nothing is read or written
+pub record Refuses (words : List Text) (input rest old new quiet told : Option (List ℕ)) (status : ℕ) : Type 0 where
+  pub fault : ArgsFault
+  pub refused : IsRefused words fault
+  pub status_is : status ≡ fault_number fault
+  pub unread : rest ≡ input
+  pub unwritten : new ≡ old
+  pub tells : TellsRefusal words fault quiet told
+
+-- what the words ask for is done, and ends with this status
+pub record Does (words : List Text) (input rest old new quiet told : Option (List ℕ)) (status : ℕ) : Type 0 where
+  pub asked : Args
+  pub asks : IsAsked words asked
   pub exits : Exits asked input rest old new quiet told status
+
+-- the program exits with this status: it does what these words ask for, or refuses them
+abbrev pub ExitsWith : List Text → Option (List ℕ) → Option (List ℕ) → Option (List ℕ) → Option (List ℕ) → Option (List ℕ) → Option (List ℕ) → ℕ → Type 0
+ExitsWith words input rest old new quiet told status =
+    Does words input rest old new quiet told status ⊎ Refuses words input rest old new quiet told status

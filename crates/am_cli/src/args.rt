@@ -1,11 +1,14 @@
 //! The command line.
 
-ghost use Rattle.std.specs.Prelude.{◌≡◌, ◌≤◌, codes, map, IfOk};
-ghost use Rattle.clap.specs.Words.{found_of, rows_of, subcommand_of, subcommand_rows_of};
-ghost use Rattle.am_cli.specs.Args.{fault_number, IsInRange};
-ghost use Rattle.am_cli.specs.CommandLine.{cli, IsNumber, IsNumberIn, AsksFor, Asks};
+ghost use Rattle.std.specs.Prelude.{◌≡◌, ◌≤◌, ℕ, map, IfErr, IfOk, Option};
+ghost use Rattle.clap.specs.Words.{found_of, kind_of, rows_of, subcommand_rows_of};
+ghost use Rattle.am_cli.specs.Args.{fault_number, IsInRange, IsNumberUpTo};
+ghost use Rattle.am_cli.specs.CommandLine.{AnswersBy, Asks, AsksBy, AsksByNone, AsksFor, AsksForNone, AsksNothing, IsAsked, IsNumber, IsNumberIn, IsRefused, IsRefusedBy};
+ghost use Rattle.am_cli.specs.Topics.{topic_named};
+ghost use Rattle.am_cli.specs.declared.topics.Topic.TheVariants as topics;
 
 use crate::commands::command;
+use crate::topics::{Topic, topic_named, topic_of};
 use clap::error::ErrorKind;
 use clap::{ArgMatches, Error as ClapError};
 use std::alloc::Global;
@@ -43,6 +46,12 @@ pub enum Args {
         /// 1 to 1000.
         rounds: u32,
     },
+    /// Tells what a command does, or the program.
+    Help {
+        topic: Option<Topic>,
+    },
+    /// Tells the version of the program.
+    Version,
 }
 
 /// Why a command line is none; the numbers are the exit statuses.
@@ -50,7 +59,7 @@ pub enum Args {
 pub enum ArgsFault {
     #[error("NoMemory")]
     NoMemory = 1,
-    /// Not a command that there is, a call for help among them.
+    /// Not a command that there is.
     #[error("Usage")]
     Usage = 2,
 }
@@ -68,11 +77,16 @@ impl ArgsFault {
 fn number(given: &ArgMatches<'_>, id: &str, most: u32) -> Result<u32, ArgsFault>
     ensures range { IfOk result (λ number. (1 ≤ number) × (number ≤ most)) }
     ensures read { IfOk result (IsNumber (rows_of (found_of given.now)) id.now) }
+    ensures refused { IfErr result (λ _. (number : ℕ) → IsNumber (rows_of (found_of given.now)) id.now number
+        → 1 ≤ number → number ≤ most → ⊥) }
 {
     let Some(number) = given.get_one::<u32>(id) else {
         return Err(ArgsFault::Usage);
     };
-    if number < 1 || most < number {
+    if number < 1 {
+        return Err(ArgsFault::Usage);
+    }
+    if most < number {
         return Err(ArgsFault::Usage);
     }
     Ok(number)
@@ -80,7 +94,10 @@ fn number(given: &ArgMatches<'_>, id: &str, most: u32) -> Result<u32, ArgsFault>
 
 /// The number of an option that may be left out.
 fn number_in(given: &ArgMatches<'_>, id: &str) -> Result<Option<u32>, ArgsFault>
-    ensures { IfOk result (IsNumberIn (rows_of (found_of given.now)) id.now) }
+    ensures range { IfOk result (IsNumberUpTo 4294967295) }
+    ensures read { IfOk result (IsNumberIn (rows_of (found_of given.now)) id.now) }
+    ensures refused { IfErr result (λ _. (number : Option ℕ) → IsNumberIn (rows_of (found_of given.now)) id.now number
+        → IsNumberUpTo 4294967295 number → ⊥) }
 {
     if given.get_str(id).is_none() {
         return Ok(None);
@@ -93,7 +110,8 @@ fn number_in(given: &ArgMatches<'_>, id: &str) -> Result<Option<u32>, ArgsFault>
 
 fn threads(given: &ArgMatches<'_>) -> Result<Args, ArgsFault>
     ensures range { IfOk result IsInRange }
-    ensures asks { IfOk result (AsksFor (codes "threads") (rows_of (found_of given.now))) }
+    ensures asks { IfOk result (AsksFor topics.Threads (rows_of (found_of given.now))) }
+    ensures refused { IfErr result (λ _. AsksForNone topics.Threads (rows_of (found_of given.now))) }
 {
     Ok(Args::Threads {
         walkers: number(given, "walkers", 16)?,
@@ -104,7 +122,8 @@ fn threads(given: &ArgMatches<'_>) -> Result<Args, ArgsFault>
 
 fn draw(given: &ArgMatches<'_>) -> Result<Args, ArgsFault>
     ensures range { IfOk result IsInRange }
-    ensures asks { IfOk result (AsksFor (codes "draw") (rows_of (found_of given.now))) }
+    ensures asks { IfOk result (AsksFor topics.Draw (rows_of (found_of given.now))) }
+    ensures refused { IfErr result (λ _. AsksForNone topics.Draw (rows_of (found_of given.now))) }
 {
     Ok(Args::Draw {
         first: number(given, "from", u32::MAX)?,
@@ -114,34 +133,55 @@ fn draw(given: &ArgMatches<'_>) -> Result<Args, ArgsFault>
 
 fn world(given: &ArgMatches<'_>) -> Result<Args, ArgsFault>
     ensures range { IfOk result IsInRange }
-    ensures asks { IfOk result (AsksFor (codes "world") (rows_of (found_of given.now))) }
+    ensures asks { IfOk result (AsksFor topics.World (rows_of (found_of given.now))) }
+    ensures refused { IfErr result (λ _. AsksForNone topics.World (rows_of (found_of given.now))) }
 {
     Ok(Args::World {
         namespace: number_in(given, "namespace")?,
     })
 }
 
-/// What a command asks for.
-fn asked(name: &str, given: &ArgMatches<'_>) -> Result<Args, ArgsFault>
+fn help(given: &ArgMatches<'_>) -> Result<Args, ArgsFault>
     ensures range { IfOk result IsInRange }
-    ensures asks { IfOk result (AsksFor name.now (rows_of (found_of given.now))) }
+    ensures asks { IfOk result (AsksFor topics.Help (rows_of (found_of given.now))) }
+    ensures refused { IfErr result (λ _. AsksForNone topics.Help (rows_of (found_of given.now))) }
 {
-    match name {
-        "script" => Ok(Args::Script),
-        "trace" => Ok(Args::Trace),
-        "draw" => draw(given),
-        "world" => world(given),
-        "judge" => Ok(Args::Judge),
-        "import" => Ok(Args::Import),
-        "threads" => threads(given),
-        _ => Err(ArgsFault::Usage),
+    let Some(name) = given.get_str("command") else {
+        return Ok(Args::Help { topic: None });
+    };
+    match topic_named(name) {
+        Some(topic) => Ok(Args::Help { topic: Some(topic) }),
+        None => Err(ArgsFault::Usage),
     }
 }
 
-fn fault_of(error: &ClapError) -> ArgsFault {
-    match error.kind() {
-        ErrorKind::OutOfMemory => ArgsFault::NoMemory,
-        _ => ArgsFault::Usage,
+/// What a command asks for.
+fn asked(topic: Topic, given: &ArgMatches<'_>) -> Result<Args, ArgsFault>
+    ensures range { IfOk result IsInRange }
+    ensures asks { IfOk result (AsksFor topic (rows_of (found_of given.now))) }
+    ensures refused { IfErr result (λ _. AsksForNone topic (rows_of (found_of given.now))) }
+{
+    match topic {
+        Topic::Script => Ok(Args::Script),
+        Topic::Trace => Ok(Args::Trace),
+        Topic::Draw => draw(given),
+        Topic::World => world(given),
+        Topic::Judge => Ok(Args::Judge),
+        Topic::Import => Ok(Args::Import),
+        Topic::Threads => threads(given),
+        Topic::Help => help(given),
+    }
+}
+
+/// What the command of this name asks for.
+fn asked_by(name: &str, given: &ArgMatches<'_>) -> Result<Args, ArgsFault>
+    ensures range { IfOk result IsInRange }
+    ensures asks { IfOk result (AsksBy (topic_named name.now) (rows_of (found_of given.now))) }
+    ensures refused { IfErr result (λ _. AsksByNone (topic_named name.now) (rows_of (found_of given.now))) }
+{
+    match topic_named(name) {
+        Some(topic) => asked(topic, given),
+        None => Err(ArgsFault::Usage),
     }
 }
 
@@ -149,23 +189,41 @@ fn fault_of(error: &ClapError) -> ArgsFault {
 fn asked_in(matches: &ArgMatches<'_>) -> Result<Args, ArgsFault>
     ensures range { IfOk result IsInRange }
     ensures asks { IfOk result (Asks (subcommand_rows_of matches.now)) }
+    ensures refused { IfErr result (λ _. AsksNothing (subcommand_rows_of matches.now)) }
 {
     match matches.subcommand() {
-        Some((name, given)) => asked(name, given),
+        Some((name, given)) => asked_by(name, given),
         None => Err(ArgsFault::Usage),
+    }
+}
+
+/// What words ask for of which `clap` makes no command: help or the version, if that is why.
+fn answered(error: &ClapError, words: &[&str]) -> Result<Args, ArgsFault>
+    ensures range { IfOk result IsInRange }
+    ensures read { IfOk result (AnswersBy (kind_of error.now) (map (λ word. word.now) words.now)) }
+    ensures refused { IfErr result (IsRefusedBy (kind_of error.now)) }
+{
+    match error.kind() {
+        ErrorKind::DisplayHelp => Ok(Args::Help {
+            topic: topic_of(words),
+        }),
+        ErrorKind::DisplayVersion => Ok(Args::Version),
+        ErrorKind::OutOfMemory => Err(ArgsFault::NoMemory),
+        _ => Err(ArgsFault::Usage),
     }
 }
 
 /// Reads the words of a command line, of which the first is the program's name.
 pub fn read_args(alloc: Global, words: &[&str]) -> Result<Args, ArgsFault>
     ensures range { IfOk result IsInRange }
-    ensures read { IfOk result (Asks (subcommand_of cli (map (λ word. word.now) words.now))) }
+    ensures read { IfOk result (IsAsked (map (λ word. word.now) words.now)) }
+    ensures refused { IfErr result (IsRefused (map (λ word. word.now) words.now)) }
 {
     let Ok(command) = command(alloc) else {
         return Err(ArgsFault::NoMemory);
     };
     match command.try_get_matches_from(words) {
         Ok(matches) => asked_in(&matches),
-        Err(error) => Err(fault_of(&error)),
+        Err(error) => answered(&error, words),
     }
 }

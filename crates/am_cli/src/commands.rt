@@ -2,8 +2,9 @@
 
 ghost use Rattle.std.specs.Prelude.{◌≡◌, false, IfOk};
 ghost use Rattle.clap.specs.Words.{rule_of};
-ghost use Rattle.am_cli.specs.CommandLine.{number_rule, default_rule, draw_app, world_app, threads_app, bare_program, cli, IsCommand};
+ghost use Rattle.am_cli.specs.CommandLine.{number_rule, default_rule, draw_app, world_app, threads_app, help_app, bare_program, cli, IsCommand};
 
+use crate::help::version;
 use clap::{Arg, ArgAction, Command, value_parser};
 use std::alloc::{AllocError, Global};
 
@@ -49,10 +50,20 @@ fn threads_command<'a>(alloc: Global) -> Result<Command<'a>, AllocError>
         .arg(option_or(alloc, "rounds", "10"))
 }
 
+fn help_command<'a>(alloc: Global) -> Result<Command<'a>, AllocError>
+    ensures { IfOk result (IsCommand help_app) }
+{
+    Command::new(alloc, "help").arg(Arg::new(alloc, "command"))
+}
+
+/// The program, with a command `help` of its own: what that names is read as any other word.
 fn bare_program<'a>(alloc: Global) -> Command<'a>
     ensures { IsCommand bare_program result }
 {
-    Command::new(alloc, "automount_cli").subcommand_required(true)
+    Command::new(alloc, "automount_cli")
+        .subcommand_required(true)
+        .disable_help_subcommand(true)
+        .version(version())
 }
 
 /// The program with all its commands.
@@ -66,5 +77,6 @@ pub(crate) fn command<'a>(alloc: Global) -> Result<Command<'a>, AllocError>
         .subcommand(world_command(alloc)?)?
         .subcommand(Command::new(alloc, "judge"))?
         .subcommand(Command::new(alloc, "import"))?
-        .subcommand(threads_command(alloc)?)
+        .subcommand(threads_command(alloc)?)?
+        .subcommand(help_command(alloc)?)
 }

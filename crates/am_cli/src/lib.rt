@@ -3,7 +3,12 @@
 
 pub mod args;
 mod commands;
+mod help;
+mod hints;
 pub mod program;
+mod telling;
+pub mod topics;
 
 pub use args::{Args, ArgsFault, read_args};
 pub use program::{run_program, run_words};
+pub use topics::Topic;

@@ -1,21 +1,25 @@
 //! What the program does with its words and streams.
 
-ghost use Rattle.std.specs.Prelude.{◌≡◌, ◌<◌, ◌≤◌, ℕ, List, map, string_bytes, Option, Some, IfOk, OnOk};
-ghost use Rattle.std.specs.Io.KnownBytes.{Appends};
+ghost use Rattle.std.specs.Prelude.{◌≡◌, ◌<◌, ◌≤◌, ℕ, List, map, string_bytes, Option, IfOk};
+ghost use Rattle.std.specs.List.{flat_map};
 ghost use Rattle.am_runner.specs.{IsTally};
 ghost use Rattle.clap.specs.Words.{Text};
-ghost use Rattle.am_cli.specs.Program.{Exits, ExitsWith, rounds_line, status_of_verdict};
+ghost use Rattle.am_cli.specs.Program.{Exits, ExitsWith, SaysWhole, status_of_verdict, TellsRefusal};
 ghost use Rattle.am_cli.specs.Args.{fault_number, IsInRange};
 ghost use Rattle.am_cli.specs.declared.args.Args.TheVariants as asks;
 
 use crate::args::{Args, ArgsFault, read_args};
+use crate::help::{help_text, version};
+use crate::hints::hint_for;
+use crate::telling::{tell_import, tell_judge, tell_script, tell_usage, tell_word, write_parts};
+use crate::topics::Topic;
 use am_draw::draw_script;
-use am_import::{ImportFault, import};
+use am_import::import;
 use am_mountinfo::world_script;
 use am_names::NsId;
 use am_runner::{Tally, run_threads};
-use am_script::{ScriptFault, run_script};
-use am_traces::{JudgeFault, Verdict, judge_trace};
+use am_script::run_script;
+use am_traces::{Verdict, judge_trace};
 use am_views::trace_script;
 use itoa::Buffer;
 use std::alloc::{AllocError, Global};
@@ -25,7 +29,7 @@ use std::sync::Wait;
 use std::thread::Threads;
 
 /// Runs the program and answers its exit status: 0 done, 1 a fault, or a trace that breaks a law, 2 a bad command line. A fault
-/// is told on the last stream; where that takes no bytes, the status alone tells it.
+/// is told on the last stream, as far as that takes it; the status tells it too.
 pub fn run_program<T: Threads + Wait + Sync, R: Read, W: Write, E: Write>(
     rt: &T,
     alloc: Global,
@@ -40,7 +44,7 @@ pub fn run_program<T: Threads + Wait + Sync, R: Read, W: Write, E: Write>(
 {
     match read_args(alloc, words) {
         Ok(args) => run_asked(rt, alloc, args, reader, writer, errors),
-        Err(fault) => refuse(errors, fault),
+        Err(fault) => refuse(alloc, words, fault, errors),
     }
 }
 
@@ -54,7 +58,7 @@ fn run_asked<T: Threads + Wait + Sync, R: Read, W: Write, E: Write>(
     errors: &mut E,
 ) -> u8
     requires { IsInRange args }
-    ensures { Exits (Some args) (R.remaining reader.old) (R.remaining reader.new)
+    ensures { Exits args (R.remaining reader.old) (R.remaining reader.new)
         (W.contents writer.old) (W.contents writer.new) (E.contents errors.old)
         (E.contents errors.new) result }
 {
@@ -70,7 +74,41 @@ fn run_asked<T: Threads + Wait + Sync, R: Read, W: Write, E: Write>(
             workers,
             rounds,
         } => run_crowd(rt, alloc, walkers, workers, rounds, writer, errors),
+        Args::Help { topic } => show_help(topic, writer, errors),
+        Args::Version => show_version(writer, errors),
     }
+}
+
+/// Writes a text whole, or tells that it isn't written so.
+fn say<W: Write, E: Write>(writer: &mut W, errors: &mut E, parts: &[&[u8]]) -> u8
+    ensures { SaysWhole (flat_map (λ part. part.now) parts.now) (W.contents writer.old) (W.contents writer.new)
+        (E.contents errors.old) (E.contents errors.new) result }
+{
+    if write_parts(writer, parts) {
+        return 0;
+    }
+    tell_word(errors, "WriteFailed");
+    1
+}
+
+/// Writes what a command does, or the program.
+fn show_help<W: Write, E: Write>(topic: Option<Topic>, writer: &mut W, errors: &mut E) -> u8
+    ensures { (input : Option (List ℕ)) → Exits (asks.Help topic) input input (W.contents writer.old)
+        (W.contents writer.new) (E.contents errors.old) (E.contents errors.new) result }
+{
+    say(writer, errors, &[help_text(topic)])
+}
+
+/// Writes the version of the program.
+fn show_version<W: Write, E: Write>(writer: &mut W, errors: &mut E) -> u8
+    ensures { (input : Option (List ℕ)) → Exits asks.Version input input (W.contents writer.old)
+        (W.contents writer.new) (E.contents errors.old) (E.contents errors.new) result }
+{
+    say(
+        writer,
+        errors,
+        &[b"automount_cli ", version().as_bytes(), b"\n"],
+    )
 }
 
 /// Plays the script that the reader gives.
@@ -80,13 +118,16 @@ fn play<R: Read, W: Write, E: Write>(
     writer: &mut W,
     errors: &mut E,
 ) -> u8
-    ensures { Exits (Some asks.Script) (R.remaining reader.old) (R.remaining reader.new)
+    ensures { Exits asks.Script (R.remaining reader.old) (R.remaining reader.new)
         (W.contents writer.old) (W.contents writer.new) (E.contents errors.old)
         (E.contents errors.new) result }
 {
     match run_script(alloc, reader, writer) {
         Ok(_) => 0,
-        Err(fault) => stop(errors, fault),
+        Err(fault) => {
+            tell_script(errors, fault);
+            1
+        }
     }
 }
 
@@ -97,13 +138,16 @@ fn trace<R: Read, W: Write, E: Write>(
     writer: &mut W,
     errors: &mut E,
 ) -> u8
-    ensures { Exits (Some asks.Trace) (R.remaining reader.old) (R.remaining reader.new)
+    ensures { Exits asks.Trace (R.remaining reader.old) (R.remaining reader.new)
         (W.contents writer.old) (W.contents writer.new) (E.contents errors.old)
         (E.contents errors.new) result }
 {
     match trace_script(alloc, reader, writer) {
         Ok(_traced) => 0,
-        Err(fault) => stop(errors, fault),
+        Err(fault) => {
+            tell_script(errors, fault);
+            1
+        }
     }
 }
 
@@ -116,13 +160,16 @@ fn draw<R: Read, W: Write, E: Write>(
     writer: &mut W,
     errors: &mut E,
 ) -> u8
-    ensures { Exits (Some (asks.Draw first last)) (R.remaining reader.old) (R.remaining reader.new)
+    ensures { Exits (asks.Draw first last) (R.remaining reader.old) (R.remaining reader.new)
         (W.contents writer.old) (W.contents writer.new) (E.contents errors.old)
         (E.contents errors.new) result }
 {
     match draw_script(alloc, reader, writer, u64::from(first), u64::from(last)) {
         Ok(_drawn) => 0,
-        Err(fault) => stop(errors, fault),
+        Err(fault) => {
+            tell_script(errors, fault);
+            1
+        }
     }
 }
 
@@ -145,13 +192,16 @@ fn show<R: Read, W: Write, E: Write>(
     errors: &mut E,
     namespace: Option<u32>,
 ) -> u8
-    ensures { Exits (Some (asks.World namespace)) (R.remaining reader.old) (R.remaining reader.new)
+    ensures { Exits (asks.World namespace) (R.remaining reader.old) (R.remaining reader.new)
         (W.contents writer.old) (W.contents writer.new) (E.contents errors.old)
         (E.contents errors.new) result }
 {
     match world_script(alloc, reader, writer, named(namespace)) {
         Ok(_shown) => 0,
-        Err(fault) => stop(errors, fault),
+        Err(fault) => {
+            tell_script(errors, fault);
+            1
+        }
     }
 }
 
@@ -171,22 +221,17 @@ fn judge<R: Read, W: Write, E: Write>(
     writer: &mut W,
     errors: &mut E,
 ) -> u8
-    ensures { Exits (Some asks.Judge) (R.remaining reader.old) (R.remaining reader.new)
+    ensures { Exits asks.Judge (R.remaining reader.old) (R.remaining reader.new)
         (W.contents writer.old) (W.contents writer.new) (E.contents errors.old)
         (E.contents errors.new) result }
 {
     match judge_trace(alloc, reader, writer) {
         Ok(verdict) => status_of(verdict),
-        Err(fault) => end_judging(errors, fault),
+        Err(fault) => {
+            tell_judge(errors, fault);
+            1
+        }
     }
-}
-
-/// A verdict isn't written.
-fn end_judging<E: Write>(errors: &mut E, fault: JudgeFault) -> u8
-    ensures { result ≡ 1 }
-{
-    let _ = writeln!(errors, "fault: {fault}");
-    1
 }
 
 /// Imports the mountinfo that the reader gives.
@@ -196,22 +241,17 @@ fn import_mounts<R: Read, W: Write, E: Write>(
     writer: &mut W,
     errors: &mut E,
 ) -> u8
-    ensures { Exits (Some asks.Import) (R.remaining reader.old) (R.remaining reader.new)
+    ensures { Exits asks.Import (R.remaining reader.old) (R.remaining reader.new)
         (W.contents writer.old) (W.contents writer.new) (E.contents errors.old)
         (E.contents errors.new) result }
 {
     match import(alloc, reader, writer) {
         Ok(()) => 0,
-        Err(fault) => end_importing(errors, fault),
+        Err(fault) => {
+            tell_import(errors, fault);
+            1
+        }
     }
-}
-
-/// A script isn't made, or not written.
-fn end_importing<E: Write>(errors: &mut E, fault: ImportFault) -> u8
-    ensures { result ≡ 1 }
-{
-    let _ = writeln!(errors, "fault: {fault}");
-    1
 }
 
 /// Runs walkers and workers as threads, and tells how many rounds they made.
@@ -226,54 +266,52 @@ fn run_crowd<T: Threads + Wait + Sync, W: Write, E: Write>(
 ) -> u8
     requires workers { (0 < workers) × (workers ≤ 16) }
     requires walkers { walkers ≤ 16 }
-    ensures { (input : Option (List ℕ)) → Exits (Some (asks.Threads walkers workers rounds)) input
+    ensures { (input : Option (List ℕ)) → Exits (asks.Threads walkers workers rounds) input
         input (W.contents writer.old) (W.contents writer.new) (E.contents errors.old)
         (E.contents errors.new) result }
 {
     match run_threads(rt, alloc, walkers, workers, rounds) {
         Ok(tally) => tell(writer, errors, tally),
-        Err(_) => refuse(errors, ArgsFault::NoMemory),
-    }
-}
-
-fn tell<W: Write, E: Write>(writer: &mut W, errors: &mut E, tally: Tally) -> u8
-    ensures { (walkers workers rounds : ℕ) (input : Option (List ℕ))
-        → IsTally walkers workers rounds tally
-        → Exits (Some (asks.Threads walkers workers rounds)) input input (W.contents writer.old)
-        (W.contents writer.new) (E.contents errors.old) (E.contents errors.new) result }
-{
-    match write_rounds(writer, tally.rounds) {
-        Ok(()) => 0,
         Err(_) => {
-            let _ = writeln!(errors, "fault: WriteFailed");
+            tell_word(errors, "NoMemory");
             1
         }
     }
 }
 
-fn write_rounds<W: Write>(writer: &mut W, rounds: u64) -> io::Result<()>
-    ensures { OnOk result (Appends (W.contents writer.old) (W.contents writer.new)
-        (rounds_line rounds)) }
+/// Writes how many rounds were made.
+fn tell<W: Write, E: Write>(writer: &mut W, errors: &mut E, tally: Tally) -> u8
+    ensures { (walkers workers rounds : ℕ) (input : Option (List ℕ))
+        → IsTally walkers workers rounds tally
+        → Exits (asks.Threads walkers workers rounds) input input (W.contents writer.old)
+        (W.contents writer.new) (E.contents errors.old) (E.contents errors.new) result }
 {
     let mut digits = Buffer::new();
-    writer.write_all(b"rounds ")?;
-    writer.write_all(digits.format(rounds).as_bytes())?;
-    writer.write_all(b"\n")
+    say(
+        writer,
+        errors,
+        &[b"rounds ", digits.format(tally.rounds).as_bytes(), b"\n"],
+    )
 }
 
-/// A script isn't played to its end.
-fn stop<E: Write>(errors: &mut E, fault: ScriptFault) -> u8
-    ensures { result ≡ 1 }
+/// Tells that the command line is none, or that there is no memory for it.
+fn tell_refusal<E: Write>(alloc: Global, words: &[&str], fault: ArgsFault, errors: &mut E)
+    ensures { TellsRefusal (map (λ word. word.now) words.now) fault (E.contents errors.old)
+        (E.contents errors.new) }
 {
-    let _ = writeln!(errors, "fault: {fault}");
-    1
+    match fault {
+        ArgsFault::NoMemory => tell_word(errors, "NoMemory"),
+        ArgsFault::Usage => tell_usage(errors, hint_for(alloc, words)),
+    }
 }
 
-/// The command line is none.
-fn refuse<E: Write>(errors: &mut E, fault: ArgsFault) -> u8
-    ensures { result ≡ fault_number fault }
+/// Refuses the command line.
+fn refuse<E: Write>(alloc: Global, words: &[&str], fault: ArgsFault, errors: &mut E) -> u8
+    ensures status { result ≡ fault_number fault }
+    ensures told { TellsRefusal (map (λ word. word.now) words.now) fault (E.contents errors.old)
+        (E.contents errors.new) }
 {
-    let _ = writeln!(errors, "fault: {fault}");
+    tell_refusal(alloc, words, fault, errors);
     fault.number()
 }
 
@@ -292,7 +330,7 @@ pub fn run_words<T: Threads + Wait + Sync, R: Read, W: Write, E: Write>(
 {
     match read_words(alloc, words) {
         Ok(words) => run_lent(rt, alloc, &words, reader, writer, errors),
-        Err(fault) => refuse(errors, fault),
+        Err(fault) => refuse(alloc, &[], fault, errors),
     }
 }
 
@@ -332,7 +370,7 @@ fn run_lent<T: Threads + Wait + Sync, R: Read, W: Write, E: Write>(
 {
     match lend(alloc, words) {
         Ok(words) => run_program(rt, alloc, words.as_slice(), reader, writer, errors),
-        Err(_) => refuse(errors, ArgsFault::NoMemory),
+        Err(_) => refuse(alloc, &[], ArgsFault::NoMemory, errors),
     }
 }
 

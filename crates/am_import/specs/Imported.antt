@@ -1,5 +1,5 @@
 -- What a mountinfo is imported as: own choice (docs/FORMATS.md, "Imported").
-use Rattle.std.specs.Prelude.{◌≡◌, ◌<◌, ℕ, ◌+◌, Bool, false, true, cond, List, [], ◌∷◌, ◌++◌, length, map, take, codes, bytes_eq, Option, None, Some, ⊤, if◌then◌else◌}
+use Rattle.std.specs.Prelude.{◌≡◌, ◌⊎◌, ◌<◌, ℕ, ◌+◌, Bool, false, true, cond, List, [], ◌∷◌, ◌++◌, length, map, take, codes, bytes_eq, Option, None, Some, ⊤, if◌then◌else◌}
 use Rattle.std.specs.Io.KnownBytes.{Appends, Consumes, IsAtEnd}
 use Rattle.am_lines.specs.{words_of}
 use Rattle.am_machine.specs.State.{State}
@@ -7,7 +7,7 @@ use Rattle.am_machine.specs.{Setup, initial_state_of}
 use Rattle.am_diagnosis.specs.{IsColumn}
 use Rattle.am_mount_lines.specs.{Expected, IsLine, Misfit, MountLine, misfit_of}
 use Rattle.am_mountinfo.specs.{EventsPlayed}
-use Rattle.am_script.specs.{Summary, are_skipped, lines_of, script_of}
+use Rattle.am_script.specs.{ScriptFault, Summary, Told, are_skipped, lines_of, script_of}
 use Rattle.am_import.specs.declared.imports.ImportFault.{ImportFault}
 use Rattle.am_import.specs.declared.imports.ImportFault.TheVariants.{BadLine, NoMemory, NotPlayed, ReadFailed, WriteFailed}
 use Rattle.am_import.specs.declared.likeness.Row.{Row}
@@ -55,6 +55,26 @@ pub record Leaves (script : List ℕ) (s : State) : Type 0 where
   pub played : EventsPlayed (initial_state_of opening) (script_of None script).told s summary
   pub taken : summary.refused ≡ 0
 
+-- all events come, and one of them is refused: not for want of memory, since none found none
+pub record IsRefused (start : State) (told : Told) : Type 0 where
+  pub last : State
+  pub summary : Summary
+  pub played : EventsPlayed start told last summary
+  pub one : 0 < summary.refused
+
+-- the text is a script with a world, and one of its events is refused
+pub record HasRefused (script : List ℕ) : Type 0 where
+  pub opening : Setup
+  pub opens : (script_of None script).opening ≡ Some opening
+  pub refused : IsRefused (initial_state_of opening) (script_of None script).told
+
+-- the text is a script without a world, a line of it is at fault, or an event of it is refused
+abbrev pub IsUnplayed : List ℕ → Type 0
+IsUnplayed script =
+    ((script_of None script).opening ≡ None)
+    ⊎ ((fault : ScriptFault) × ((script_of None script).told.fault ≡ Some fault))
+    ⊎ HasRefused script
+
 -- ---- what isn't read
 
 -- the first line that is none of a mountinfo: where it isn't as expected, and what was expected there
@@ -79,12 +99,19 @@ IsUnread lines (BadLine line column what) = IsFirstBad lines line column what
 IsUnread lines NoMemory = ⊤
 IsUnread lines _ = ⊥
 
--- the lines are no mountinfo, memory ran out, or the script isn't played to its end
-abbrev pub IsNotImported : List (List ℕ) → ImportFault → Type 0
-IsNotImported lines (BadLine line column what) = IsFirstBad lines line column what
-IsNotImported lines NoMemory = ⊤
-IsNotImported lines NotPlayed = ⊤
-IsNotImported lines _ = ⊥
+-- the text is a mountinfo, and a script that was made for it isn't played
+pub record IsNotBuilt (text : List ℕ) : Type 0 where
+  pub mounts : List MountLine
+  pub are_read : AreMountsOf text mounts
+  pub script : List ℕ
+  pub unplayed : IsUnplayed script
+
+-- the text is no mountinfo, memory ran out, or the script isn't played
+abbrev pub IsNotImported : List ℕ → ImportFault → Type 0
+IsNotImported text (BadLine line column what) = IsFirstBad (lines_of text) line column what
+IsNotImported text NoMemory = ⊤
+IsNotImported text NotPlayed = IsNotBuilt text
+IsNotImported text _ = ⊥
 
 -- the reader failed, or memory ran out
 abbrev pub IsReadingFault : ImportFault → Type 0
@@ -92,11 +119,11 @@ IsReadingFault NoMemory = ⊤
 IsReadingFault ReadFailed = ⊤
 IsReadingFault _ = ⊥
 
--- memory ran out, or the script isn't played to its end
-abbrev pub IsPlayingFault : ImportFault → Type 0
-IsPlayingFault NoMemory = ⊤
-IsPlayingFault NotPlayed = ⊤
-IsPlayingFault _ = ⊥
+-- memory ran out, or this script isn't played
+abbrev pub IsPlayingFault : List ℕ → ImportFault → Type 0
+IsPlayingFault script NoMemory = ⊤
+IsPlayingFault script NotPlayed = IsUnplayed script
+IsPlayingFault script _ = ⊥
 
 -- ---- with a reader and a writer
 
@@ -127,7 +154,15 @@ pub record IsNoMountinfo (input rest old new : Option (List ℕ)) (line column :
   pub bad : IsFirstBad (lines_of text) line column what
   pub written : Appends old new []
 
--- the reader failed behind this, memory ran out over it, or its script isn't played, and nothing is written
+-- it was read to its end and is a mountinfo, the script that was made for it isn't played, and nothing is written
+pub record IsLeft (input rest old new : Option (List ℕ)) : Type 0 where
+  pub text : List ℕ
+  pub read : Consumes input rest text
+  pub ended : IsAtEnd rest
+  pub left : IsNotBuilt text
+  pub written : Appends old new []
+
+-- the reader failed behind this, or memory ran out over it, and nothing is written
 pub record BrokeOff (input rest old new : Option (List ℕ)) : Type 0 where
   pub text : List ℕ
   pub read : Consumes input rest text
@@ -149,5 +184,5 @@ abbrev pub StopsImporting : Option (List ℕ) → Option (List ℕ) → Option (
 StopsImporting input rest old new (BadLine line column what) = IsNoMountinfo input rest old new line column what
 StopsImporting input rest old new NoMemory = BrokeOff input rest old new
 StopsImporting input rest old new ReadFailed = BrokeOff input rest old new
-StopsImporting input rest old new NotPlayed = BrokeOff input rest old new
+StopsImporting input rest old new NotPlayed = IsLeft input rest old new
 StopsImporting input rest old new WriteFailed = Untold input rest old new

@@ -12,10 +12,10 @@ ghost use Rattle.am_world.specs.Capacity.{state_of};
 
 use crate::likeness::Row;
 use crate::notes::push_notes;
-use crate::order::plan;
 use crate::replay::{Played, replayed};
 use crate::told::Told;
 use am_diagnosis::column;
+use am_import_plan::plan;
 use am_lines::{begins_with, cut_at_line_feed, next_word};
 use am_mount_lines::{Expected, LineFault, MountLine, read_mount};
 use am_script::output::write_bytes;
@@ -39,7 +39,8 @@ pub enum ImportFault {
     /// The reader failed.
     #[error("ReadFailed")]
     ReadFailed,
-    /// The script that was made is none, or one of its events is refused: nothing is written.
+    /// The script that was made is none, or one of its events is refused, though there is memory for all of them:
+    /// nothing is written.
     #[error("NotPlayed")]
     NotPlayed,
     /// The writer didn't take the whole text.
@@ -249,7 +250,7 @@ fn told_of(alloc: Global, played: Played, rows: &[Row]) -> Result<Vec<u8>, Alloc
 /// The import of a text.
 fn imported(alloc: Global, text: &[u8]) -> Result<Vec<u8>, ImportFault>
     ensures ok { IfOk result (λ told. IsImport text.now told.items) }
-    ensures err { IfErr result (IsNotImported (lines_of text.now)) }
+    ensures err { IfErr result (IsNotImported text.now) }
 {
     let lines = read_lines(alloc, text)?;
     let plan = plan(alloc, lines.as_slice())?;

@@ -1,8 +1,11 @@
 //! A script is played as it is written.
 
-ghost use Rattle.std.specs.Prelude.{◌≡◌, ◌+◌, ◌<◌, ◌≤◌, ◌^◌, None, option_copied, vec_len, IfOk, IfErr, OnOk};
+ghost use Rattle.std.specs.Prelude.{◌≡◌, ◌⊎◌, ◌+◌, ◌<◌, ◌≤◌, ◌^◌, None, option_copied, vec_len, IfOk, IfErr, OnOk};
+ghost use Rattle.am_import.specs.declared.imports.ImportFault.TheVariants.{NoMemory, NotPlayed};
 ghost use Rattle.am_import.specs.Imported.{IsPlayingFault, Leaves};
+ghost use Rattle.am_import.specs.Played.{IsBehindFault};
 ghost use Rattle.am_mountinfo.specs.{EventsPlayed};
+ghost use Rattle.am_script.specs.declared.fault.ScriptFaultKind.TheVariants as kinds;
 ghost use Rattle.am_script.specs.{Summary, events_from, lines_in, size_in};
 ghost use Rattle.am_world.specs.Capacity.{state_of};
 
@@ -21,10 +24,11 @@ pub(crate) struct Played {
 }
 
 /// The longest script that is played.
-pub(crate) const LONGEST: usize = 1 << 61;
+const LONGEST: usize = 1 << 61;
 
 fn fault_of(fault: ScriptFault) -> ImportFault
-    ensures { IsPlayingFault result }
+    ensures memory { fault.kind ≡ kinds.NoMemory → result ≡ NoMemory }
+    ensures one { (result ≡ NoMemory) ⊎ (result ≡ NotPlayed) }
 {
     match fault.kind {
         ScriptFaultKind::NoMemory => ImportFault::NoMemory,
@@ -32,14 +36,16 @@ fn fault_of(fault: ScriptFault) -> ImportFault
     }
 }
 
-/// Plays the events behind a head. None of them may be refused.
+/// Plays the events behind a head. None of them may be refused; where one finds no memory, it isn't the script's.
 fn world_behind(alloc: Global, opened: Opened<'_>) -> Result<World, ImportFault>
     requires fits { opened.line + size_in (option_copied opened.rest) ≤ 2 ^ 63 }
     ensures ok { IfOk result (λ world. (summary : Summary) × EventsPlayed (state_of opened.entry.world)
         (events_from opened.entry.broke opened.entry.line
         (lines_in (option_copied opened.entry.rest))) (state_of world) summary × (summary.refused ≡ 0)) }
     ensures whole { OnOk result (opened.entry.broke ≡ None) }
-    ensures err { IfErr result IsPlayingFault }
+    ensures err { IfErr result (IsBehindFault (state_of opened.entry.world)
+        (events_from opened.entry.broke opened.entry.line
+        (lines_in (option_copied opened.entry.rest)))) }
 {
     let Opened {
         mut world,
@@ -67,7 +73,7 @@ fn world_of(alloc: Global, input: &Input) -> Result<World, ImportFault>
     requires short { vec_len input.now.text < 2 ^ 62 }
     requires whole { input.now.broke ≡ None }
     ensures ok { IfOk result (λ world. Leaves input.now.text.items (state_of world)) }
-    ensures err { IfErr result IsPlayingFault }
+    ensures err { IfErr result (IsPlayingFault input.now.text.items) }
 {
     match open_script(alloc, input) {
         Ok(Some(opened)) => world_behind(alloc, opened),
@@ -80,7 +86,7 @@ fn world_of(alloc: Global, input: &Input) -> Result<World, ImportFault>
 pub(crate) fn replayed(alloc: Global, script: Vec<u8>) -> Result<Played, ImportFault>
     ensures leaves { IfOk result (λ played. Leaves played.script.items (state_of played.world)) }
     ensures script { IfOk result (λ played. played.script.items ≡ script.items) }
-    ensures err { IfErr result IsPlayingFault }
+    ensures err { IfErr result (IsPlayingFault script.items) }
 {
     if script.len() > LONGEST {
         return Err(ImportFault::NoMemory);

@@ -1,3 +1,4 @@
+mod AttachmentLemmas
 mod Inputs
 mod MasterLemmas
 pub mod MorePieces

@@ -1,3 +1,4 @@
+pub mod Attachments
 pub mod Mountinfo
 pub mod Notes
 pub mod Opens
@@ -8,11 +9,12 @@ pub mod Residents
 pub mod Tables
 pub mod WorldText
 -- what contracts cite, passed on from one place
-pub use Mountinfo.{AreNamespaces, ArePlaced, below, byte_text, dominating, has_peer, is_number, masters_from, mount_line, namespace_text, namespaces_text, parent_in, parent_of, path_among, path_of}
-pub use Notes.{fs_notes, job_note, packet_note, record_note, token_note, use_note, walk_note, walkers_text}
+pub use Attachments.{AreAttachments, HasOneAttachmentMore, attachment}
+pub use Mountinfo.{AreNamespaces, ArePlaced, attached_in, below, byte_text, dominating, has_peer, is_number, is_of_fs, masters_from, mount_line, namespace_text, namespaces_text, parent_in, parent_of, path_among, path_of}
+pub use Notes.{act_text, fs_notes, job_note, packet_note, record_note, token_note, use_note, walk_note, walkers_text}
 pub use Opens.{opens_text, row_note}
 pub use Paths.{ArePaths, HasOneMore}
 pub use Peers.{ArePeers}
 pub use Printed.{part_text}
 pub use Residents.{AreResidents}
-pub use WorldText.{AllShown, EventsPlayed, IsCut, IsWritten, NotPlayed, NotWritten, ShowStops, ShownFrom, ShowsInput, StopsShowing, WorldShown, last_line}
+pub use WorldText.{AllShown, EventsPlayed, IsCut, IsWritten, NotPlayed, NotWritten, ShowStops, ShownFrom, ShowsInput, StopsShowing, WorldShown, last_line, ran_out}

@@ -6,6 +6,7 @@ use Rattle.am_names.specs.PeerGroups.{PeerGroups}
 use Rattle.am_names.specs.{text_of, MemberRow, MountRow, Position}
 use Rattle.am_group.specs.{member_row, group_of, master_of, master_of_group}
 use Rattle.am_kernel.specs.{KernelState}
+use Rattle.am_kernel.specs.declared.row.Attached.{Attached}
 use Rattle.am_mount.specs.{is_in, mount_row}
 use Rattle.am_propagate.specs.MountTable.{MountTable}
 use Rattle.am_trigger.specs.{autofs_of, Autofs}
@@ -136,17 +137,44 @@ numbers_text row =
 abbrev pub point_text : List ℕ → List ℕ
 point_text path = codes " / " ++ (path_text path ++ codes " rw")
 
--- the type of the file system: an autofs, or a plain one
-abbrev pub type_text : Option Autofs → List ℕ
-type_text None = codes " - plain none rw\n"
-type_text (Some autofs) = codes " - autofs none rw\n"
+-- ---- the type and the options of a file system
+
+-- the attachment is one of this file system
+abbrev pub is_of_fs : ℕ → Attached → Bool
+is_of_fs fs row = row.fs == fs
+
+-- the latest attachment of a file system
+abbrev pub attached_in : KernelState → ℕ → Option Attached
+attached_in k fs = find (is_of_fs fs) k.attached
+
+-- The receiving end that the daemon is told through: the number of the attachment, in place of a descriptor's, and -1
+-- in catatonic mode, where none is left (fs/autofs/inode.c, `autofs_show_options`).
+abbrev pub receiver_text : Bool → ℕ → List ℕ
+receiver_text true attach = codes ",fd=-1"
+receiver_text false attach = codes ",fd=" ++ decimal attach
+
+-- the receiving end, and after how many seconds without use a mount may expire
+abbrev pub served_text : Bool → Option Attached → List ℕ
+served_text catatonic None = []
+served_text catatonic (Some row) = receiver_text catatonic row.attach ++ (codes ",timeout=" ++ decimal row.timeout)
+
+-- the protocol is version 5 alone, and the autofs direct or indirect
+abbrev pub protocol_text : Bool → List ℕ
+protocol_text true = codes ",minproto=5,maxproto=5,direct\n"
+protocol_text false = codes ",minproto=5,maxproto=5,indirect\n"
+
+-- an autofs with its options, in the order in which Linux prints them, or a plain file system
+abbrev pub type_text : Option Autofs → Option Attached → List ℕ
+type_text None row = codes " - plain none rw\n"
+type_text (Some autofs) row =
+    codes " - autofs none rw" ++ (served_text autofs.catatonic row ++ protocol_text autofs.direct)
 
 -- the line of a mount
 abbrev pub mount_line : KernelState → MountRow → List ℕ
 mount_line k row =
     numbers_text row ++
     (point_text (path_of k.table.rows row.mount) ++
-    (optional_text k.table row ++ type_text (autofs_of k.triggers row.fs)))
+    (optional_text k.table row ++ type_text (autofs_of k.triggers row.fs) (attached_in k row.fs)))
 
 -- the mounts of a namespace, in rising order
 abbrev pub mountinfo : KernelState → ℕ → List ℕ

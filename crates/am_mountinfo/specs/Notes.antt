@@ -8,6 +8,8 @@ use Rattle.am_names.specs.{WaitRow, Status}
 use Rattle.am_names.specs.declared.trigger.Trigger.{Trigger}
 use Rattle.am_daemon.specs.{DaemonState, JobPlan}
 use Rattle.am_expire.specs.{Use}
+use Rattle.am_job.specs.{Act, next_of}
+use Rattle.am_job.specs.declared.act.Act.TheVariants as acts
 use Rattle.am_kernel.specs.{KernelState, WalkRow}
 use Rattle.am_machine.specs.State.{State}
 use Rattle.am_script.specs.{place_text}
@@ -49,11 +51,22 @@ packet_note row = obs_note (seen.Queued row.token row.attach row.packet)
 abbrev pub record_note : RecordRow → List ℕ
 record_note row = obs_note (seen.Recorded row.trigger (Some row.entry))
 
--- a job that hasn't ended
+-- the act that comes next, by the word with which an answer says that it is done
+abbrev pub act_text : Option Act → List ℕ
+act_text None = []
+act_text (Some (acts.Mkdir trigger)) = codes " next mkdir"
+act_text (Some (acts.Mount trigger entry)) = codes " next mount"
+act_text (Some (acts.Umount trigger)) = codes " next umount"
+act_text (Some (acts.Rmdir trigger)) = codes " next rmdir"
+act_text (Some (acts.Record trigger entry)) = codes " next record"
+act_text (Some (acts.Reply status)) = codes " next reply"
+
+-- a job that hasn't ended, and how far it is
 abbrev pub job_note : JobPlan → List ℕ
 job_note job =
     codes "# job " ++ decimal job.token ++
-    (codes " attach " ++ decimal job.attach ++ (trigger_part job.trigger ++ 10 ∷ []))
+    (codes " attach " ++ decimal job.attach ++
+    (act_text (next_of job.plan) ++ (trigger_part job.trigger ++ 10 ∷ [])))
 
 -- ---- walkers
 

@@ -1,8 +1,10 @@
 -- How the world after a script is printed: own choice (docs/DECISIONS.md, "A world is printed as
 -- Linux prints mounts").
-use Rattle.std.specs.Prelude.{◌≡◌, ◌⊎◌, ◌<◌, ℕ, Bool, List, [], ◌∷◌, ◌++◌, length, take, count_by, Option, None, Some}
+use Rattle.std.specs.Prelude.{◌≡◌, ◌⊎◌, ◌<◌, ℕ, Bool, false, true, List, [], ◌∷◌, ◌++◌, length, take, count_by, Option, None, Some}
 use Rattle.std.specs.Io.KnownBytes.{Appends, Consumes, IsAtEnd}
 use Rattle.am_machine.specs.{Event, Answer, Setup, initial_state_of, Step, Run}
+use Rattle.am_machine.specs.declared.answer.Answer.TheVariants as answers
+use Rattle.am_names.specs.declared.errno.Errno.TheVariants as errnos
 use Rattle.am_state.specs.{Obs}
 use Rattle.am_machine.specs.State.{State}
 use Rattle.am_script.specs.{ScriptFault, ScriptFaultKind, Summary, is_refused, lines_of, NothingPlayed, WasRead, played, Numbered, events_in, Told, script_of}
@@ -49,20 +51,27 @@ NotWritten only s line old new fault =
 
 -- ---- the events
 
--- all events come, one after another, and lead to last
+-- the event found no memory
+abbrev pub ran_out : Answer → Bool
+ran_out (answers.Refused errnos.NoMemory) = true
+ran_out answer = false
+
+-- all events come, one after another, and lead to last; none of them found no memory
 pub record EventsPlayed (start : State) (told : Told) (last : State) (summary : Summary) : Type 0 where
   pub no_fault : told.fault ≡ None
   pub answers : List Answer
   pub run : Run start (events_in told.events) answers last
   pub lines : summary.lines ≡ length answers
   pub refused : summary.refused ≡ count_by is_refused answers
+  pub room : count_by ran_out answers ≡ 0
 
--- the event comes, and is refused or not
+-- the event comes, for which there is memory, and is refused or not
 pub record IsPlayed (s : State) (event : Event) (next : State) (refused : Bool) : Type 0 where
   pub answer : Answer
   pub seen : List Obs
   pub step : Step s event answer seen next
   pub test : refused ≡ is_refused answer
+  pub room : ran_out answer ≡ false
 
 -- memory runs out for one of the events
 pub record NoRoomToPlay (told : Told) (fault : ScriptFault) : Type 0 where

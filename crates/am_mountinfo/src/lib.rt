@@ -1,6 +1,7 @@
 //! The world after a script, as /proc/PID/mountinfo tells the mounts of its namespaces (proc(5)).
 #![tactic(auto)]
 
+mod attachments;
 pub mod masters;
 mod mount_line;
 mod namespaces;

@@ -1,21 +1,23 @@
 //! Mounts as lines of mountinfo.
 
-ghost use Rattle.std.specs.Prelude.{◌≡◌, map};
+ghost use Rattle.std.specs.Prelude.{◌≡◌, map, Some};
 ghost use Rattle.std.specs.List.{flat_map};
 ghost use Rattle.am_script.specs.{Puts};
 ghost use Rattle.am_trigger.specs.{autofs_of};
-ghost use Rattle.am_mountinfo.specs.Mountinfo.{byte_text, path_text, tag_text, flag_text, unbindable_text, optional_text, numbers_text, point_text, type_text, mount_line, mountinfo};
+ghost use Rattle.am_mountinfo.specs.Mountinfo.{byte_text, path_text, tag_text, flag_text, unbindable_text, optional_text, numbers_text, point_text, type_text, served_text, receiver_text, protocol_text, attached_in, mount_line, mountinfo};
+ghost use Rattle.am_mountinfo.specs.Attachments.{AreAttachments};
 ghost use Rattle.am_mountinfo.specs.Peers.{ArePeers};
 ghost use Rattle.am_mountinfo.specs.Tables.{AreTables};
 
+use crate::attachments::Attachments;
 use crate::masters::{master_of, source_of};
 use crate::paths::parent_of;
 use crate::peers::{Peers, group_of};
 use crate::tables::Tables;
-use am_names::{FsId, GroupId, MemberRow, MountRow, NsId};
+use am_names::{Attach, FsId, GroupId, MemberRow, MountRow, NsId};
 use am_script::answer_line::{put_number, put_word};
 use am_script::output::Output;
-use am_world::World;
+use am_world::{Attached, Autofs, World};
 use std::io::Write;
 
 /// Puts the lines of a namespace's mounts out.
@@ -27,7 +29,7 @@ pub(crate) fn put_mounts<W: Write>(
     ns: NsId,
     writer: &mut W,
 )
-    requires { AreTables tables.now world.now.kernel.table }
+    requires { AreTables tables.now world.now.kernel }
     ensures { Puts output.old output.new (mountinfo world.now.kernel ns) (W.contents writer.old)
         (W.contents writer.new) }
 {
@@ -44,7 +46,7 @@ fn put_rows<W: Write>(
     rows: &[&MountRow],
     writer: &mut W,
 )
-    requires { AreTables tables.now world.now.kernel.table }
+    requires { AreTables tables.now world.now.kernel }
     ensures { Puts output.old output.new (flat_map (mount_line world.now.kernel)
         (map (λ row. row.now) rows.now)) (W.contents writer.old) (W.contents writer.new) }
 {
@@ -61,14 +63,14 @@ fn put_mount<W: Write>(
     row: &MountRow,
     writer: &mut W,
 )
-    requires { AreTables tables.now world.now.kernel.table }
+    requires { AreTables tables.now world.now.kernel }
     ensures { Puts output.old output.new (mount_line world.now.kernel row.now)
         (W.contents writer.old) (W.contents writer.new) }
 {
     put_numbers(output, row, writer);
     put_point(output, tables.paths.path(row.mount), writer);
     put_optional(output, world, &tables.peers, row, writer);
-    put_type(output, world, row.fs, writer);
+    put_type(output, world, &tables.attachments, row.fs, writer);
 }
 
 #[tactic(auto, using(am_script::proofs::Pieces::puts_three))]
@@ -178,12 +180,64 @@ fn put_flag<W: Write>(output: &mut Output, unbindable: bool, writer: &mut W)
     }
 }
 
-fn put_type<W: Write>(output: &mut Output, world: &World, fs: FsId, writer: &mut W)
-    ensures { Puts output.old output.new (type_text (autofs_of world.now.kernel.triggers fs))
-        (W.contents writer.old) (W.contents writer.new) }
+/// The type of a file system, and behind it the options of an autofs.
+fn put_type<W: Write>(
+    output: &mut Output,
+    world: &World,
+    attachments: &Attachments,
+    fs: FsId,
+    writer: &mut W,
+)
+    requires { AreAttachments attachments.now world.now.kernel.attached }
+    ensures { Puts output.old output.new (type_text (autofs_of world.now.kernel.triggers fs)
+        (attached_in world.now.kernel fs)) (W.contents writer.old) (W.contents writer.new) }
 {
     match world.autofs(fs) {
-        Some(_) => put_word(output, b" - autofs none rw\n", writer),
+        Some(autofs) => put_autofs(output, &autofs, attachments.get(fs), writer),
         None => put_word(output, b" - plain none rw\n", writer),
+    }
+}
+
+#[tactic(auto, using(am_script::proofs::Pieces::puts_three))]
+fn put_autofs<W: Write>(output: &mut Output, autofs: &Autofs, row: Option<Attached>, writer: &mut W)
+    ensures { Puts output.old output.new (type_text (Some autofs.now) row) (W.contents writer.old)
+        (W.contents writer.new) }
+{
+    put_word(output, b" - autofs none rw", writer);
+    put_served(output, autofs.catatonic, row, writer);
+    put_protocol(output, autofs.direct, writer);
+}
+
+#[tactic(auto, using(am_script::proofs::Pieces::puts_two))]
+fn put_served<W: Write>(output: &mut Output, catatonic: bool, row: Option<Attached>, writer: &mut W)
+    ensures { Puts output.old output.new (served_text catatonic row) (W.contents writer.old)
+        (W.contents writer.new) }
+{
+    match row {
+        None => put_word(output, b"", writer),
+        Some(row) => {
+            put_receiver(output, catatonic, row.attach, writer);
+            put_number(output, b",timeout=", u64::from(row.timeout), writer)
+        }
+    }
+}
+
+fn put_receiver<W: Write>(output: &mut Output, catatonic: bool, attach: Attach, writer: &mut W)
+    ensures { Puts output.old output.new (receiver_text catatonic attach) (W.contents writer.old)
+        (W.contents writer.new) }
+{
+    match catatonic {
+        true => put_word(output, b",fd=-1", writer),
+        false => put_number(output, b",fd=", u64::from(attach.0), writer),
+    }
+}
+
+fn put_protocol<W: Write>(output: &mut Output, direct: bool, writer: &mut W)
+    ensures { Puts output.old output.new (protocol_text direct) (W.contents writer.old)
+        (W.contents writer.new) }
+{
+    match direct {
+        true => put_word(output, b",minproto=5,maxproto=5,direct\n", writer),
+        false => put_word(output, b",minproto=5,maxproto=5,indirect\n", writer),
     }
 }

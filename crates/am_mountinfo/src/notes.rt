@@ -1,11 +1,11 @@
 //! What is open, queued, written down and at work in a world, as comments.
 
-ghost use Rattle.std.specs.Prelude.{◌≡◌, ◌++◌, IfOk, OnOk};
+ghost use Rattle.std.specs.Prelude.{◌≡◌, ◌++◌, option_copied, Some, IfOk, OnOk};
 ghost use Rattle.std.specs.List.{flat_map};
 ghost use Rattle.am_daemon.specs.{rows_of, job_plan};
 ghost use Rattle.am_state.specs.declared.obs.Obs.TheVariants.{Queued, Recorded};
 ghost use Rattle.am_script.specs.{Puts};
-ghost use Rattle.am_mountinfo.specs.Notes.{obs_note, walkers_text, trigger_text, token_note, packet_note, record_note, job_note, status_text, wait_text, walk_note, use_note, fs_notes, tokens_notes, packets_notes, book_notes, jobs_notes, walks_notes, uses_notes, kernel_notes, daemon_notes};
+ghost use Rattle.am_mountinfo.specs.Notes.{obs_note, walkers_text, trigger_text, token_note, packet_note, record_note, act_text, job_note, status_text, wait_text, walk_note, use_note, fs_notes, tokens_notes, packets_notes, book_notes, jobs_notes, walks_notes, uses_notes, kernel_notes, daemon_notes};
 ghost use Rattle.am_mountinfo.specs.Opens.{open_text, opens_text, row_note};
 
 use am_names::{Attach, FsId, Status, Token, Trigger, WaitRow, WalkerId};
@@ -15,7 +15,7 @@ use am_state::{QueuedRow, Record, RecordRow};
 use am_views::event_text::put_status;
 use am_views::obs_text::{put_obs, put_queued, put_recorded, put_trigger};
 use am_wire::Packet;
-use am_world::{Book, Job, Obs, Use, Uses, WalkRow, World};
+use am_world::{Act, Book, Job, Obs, Use, Uses, WalkRow, World};
 use std::alloc::{AllocError, Global};
 use std::io::Write;
 
@@ -314,13 +314,38 @@ fn put_jobs<W: Write>(output: &mut Output, world: &World, writer: &mut W)
     }
 }
 
-#[tactic(auto, using(am_views::proofs::FourPieces::puts_four))]
+#[tactic(auto, using(crate::proofs::MorePieces::puts_five))]
 fn put_job<W: Write>(output: &mut Output, job: &Job, writer: &mut W)
     ensures { Puts output.old output.new (job_note (job_plan job.now)) (W.contents writer.old)
         (W.contents writer.new) }
 {
     put_number(output, b"# job ", u64::from(job.job().0), writer);
     put_number(output, b" attach ", u64::from(job.attach().0), writer);
+    put_act(output, job.next(), writer);
     put_trigger(output, &job.trigger(), writer);
     put_word(output, b"\n", writer);
+}
+
+fn put_act<W: Write>(output: &mut Output, act: Option<&Act>, writer: &mut W)
+    ensures { Puts output.old output.new (act_text (option_copied act.entry)) (W.contents writer.old)
+        (W.contents writer.new) }
+{
+    match act {
+        None => put_word(output, b"", writer),
+        Some(act) => put_next(output, act, writer),
+    }
+}
+
+fn put_next<W: Write>(output: &mut Output, act: &Act, writer: &mut W)
+    ensures { Puts output.old output.new (act_text (Some act.now)) (W.contents writer.old)
+        (W.contents writer.new) }
+{
+    match act {
+        Act::Mkdir { .. } => put_word(output, b" next mkdir", writer),
+        Act::Mount { .. } => put_word(output, b" next mount", writer),
+        Act::Umount { .. } => put_word(output, b" next umount", writer),
+        Act::Rmdir { .. } => put_word(output, b" next rmdir", writer),
+        Act::Record { .. } => put_word(output, b" next record", writer),
+        Act::Reply { .. } => put_word(output, b" next reply", writer),
+    }
 }

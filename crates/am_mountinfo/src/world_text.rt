@@ -7,27 +7,27 @@ ghost use Rattle.am_script.specs.{lines_in, size_in, Puts, events_from};
 ghost use Rattle.am_mountinfo.specs.Mountinfo.{namespace_text, namespaces_text};
 ghost use Rattle.am_mountinfo.specs.Printed.{part_text};
 ghost use Rattle.am_mountinfo.specs.Tables.{AreTables};
-ghost use Rattle.am_mountinfo.specs.WorldText.{IsText, IsWritten, IsCut, NotWritten, EventsPlayed, IsPlayed, NotPlayed, WorldShown, ShowStops, ShowsInput, StopsShowing, last_line};
+ghost use Rattle.am_mountinfo.specs.WorldText.{IsText, IsWritten, IsCut, NotWritten, EventsPlayed, IsPlayed, NotPlayed, WorldShown, ShowStops, ShowsInput, StopsShowing, last_line, ran_out};
 ghost use Rattle.am_world.specs.Capacity.{state_of};
 
 use crate::mount_line::put_mounts;
 use crate::namespaces::namespaces;
 use crate::notes::{Open, opens, put_daemon, put_kernel, put_opens};
 use crate::tables::Tables;
-use am_names::NsId;
+use am_names::{Errno, NsId};
 use am_script::answer_line::{is_refused, put_number, put_word};
 use am_script::output::Output;
 use am_script::visit::{Found, Opened, close, next_event, open_script, read_all};
 use am_script::{ScriptFault, ScriptFaultKind, Summary};
 use am_views::one_more;
-use am_world::{Event, World};
+use am_world::{Answer, Event, World};
 use std::alloc::{AllocError, Global};
 use std::io::{Read, Write};
 
 /// Reads a script to its end, plays it on a world of its own, and writes the mounts of each
 /// namespace as they are then, and behind them, in comments, what else there is; or only the mounts
-/// of one namespace. It has the faults of `run_script`, but that an event for whose line there is
-/// no memory is one. Nothing is written before the script has ended.
+/// of one namespace. It has the faults of `run_script`, but that an event is one, too, for which there is
+/// no memory: the world behind it isn't that of the script. Nothing is written before the script has ended.
 pub fn world_script<R: Read, W: Write>(
     alloc: Global,
     reader: &mut R,
@@ -121,7 +121,8 @@ pub struct Played {
     pub line: u64,
 }
 
-/// Plays the events of these lines, of which the first is behind the line with this number.
+/// Plays the events of these lines, of which the first is behind the line with this number, up to one for
+/// which there is no memory.
 pub fn play_events(
     alloc: Global,
     world: &mut World,
@@ -154,7 +155,13 @@ pub fn play_events(
                 });
             }
             Ok(Some(found)) => {
-                let behind = play_found(alloc, world, found);
+                let line = found.line;
+                let Ok(behind) = play_found(alloc, world, found) else {
+                    return Err(ScriptFault {
+                        line,
+                        kind: ScriptFaultKind::NoMemory,
+                    });
+                };
                 summary = one_more(summary, behind.refused);
                 rest = behind.rest;
                 number = behind.line;
@@ -172,27 +179,45 @@ struct Behind<'a> {
     rest: Option<&'a [u8]>,
 }
 
-/// Makes the step of an event that was found.
-fn play_found<'a>(alloc: Global, world: &mut World, found: Found<'a>) -> Behind<'a>
-    ensures played { IsPlayed (state_of world.old) found.entry.event
-        (state_of world.new) result.refused }
-    ensures line { result.line ≡ found.entry.line }
-    ensures rest { option_copied result.rest ≡ option_copied found.entry.rest }
+/// Makes the step of an event that was found, if there is memory for it.
+fn play_found<'a>(
+    alloc: Global,
+    world: &mut World,
+    found: Found<'a>,
+) -> Result<Behind<'a>, AllocError>
+    ensures played { IfOk result (λ behind. IsPlayed (state_of world.old) found.entry.event
+        (state_of world.new) behind.refused) }
+    ensures line { IfOk result (λ behind. behind.line ≡ found.entry.line) }
+    ensures rest { IfOk result (λ behind. option_copied behind.rest
+        ≡ option_copied found.entry.rest) }
 {
-    let refused = play_event(alloc, world, &found.event);
-    Behind {
+    let refused = play_event(alloc, world, &found.event)?;
+    Ok(Behind {
         refused,
         line: found.line,
         rest: found.rest,
-    }
+    })
 }
 
-/// Makes the step of an event, and answers whether it was refused.
-fn play_event(alloc: Global, world: &mut World, event: &Event) -> bool
-    ensures { IsPlayed (state_of world.old) event.now (state_of world.new) result }
+/// Makes the step of an event, and answers whether it was refused; or there is no memory for it.
+fn play_event(alloc: Global, world: &mut World, event: &Event) -> Result<bool, AllocError>
+    ensures { IfOk result (IsPlayed (state_of world.old) event.now (state_of world.new)) }
 {
     let answer = world.step(alloc, event);
-    is_refused(&answer)
+    if ran_out(&answer) {
+        return Err(AllocError);
+    }
+    Ok(is_refused(&answer))
+}
+
+/// Whether an event found no memory.
+fn ran_out(answer: &Answer) -> bool
+    ensures { result ≡ ran_out answer.now }
+{
+    match answer {
+        Answer::Refused { errno } => matches!(errno, Errno::NoMemory),
+        _ => false,
+    }
 }
 
 /// What is printed of a world.
@@ -235,7 +260,7 @@ fn show_world<W: Write>(
 }
 
 fn gather<'a>(alloc: Global, world: &'a World, only: Option<NsId>) -> Result<View<'a>, AllocError>
-    ensures tables { IfOk result (λ view. AreTables view.tables world.now.kernel.table) }
+    ensures tables { IfOk result (λ view. AreTables view.tables world.now.kernel) }
     ensures text { IfOk result (λ view. IsText only (state_of world.now)
         (part_text world.now.kernel (rows_of world.now.daemon) view.part)) }
 {
@@ -264,7 +289,7 @@ fn print<W: Write>(
     played: Played,
     writer: &mut W,
 ) -> Result<Summary, ScriptFault>
-    requires { AreTables view.now.tables world.now.kernel.table }
+    requires { AreTables view.now.tables world.now.kernel }
     ensures same { IfOk result (λ summary. summary ≡ played.summary) }
     ensures ok { OnOk result (Appends (W.contents writer.old) (W.contents writer.new)
         (part_text world.now.kernel (rows_of world.now.daemon) view.now.part)) }
@@ -279,7 +304,7 @@ fn print<W: Write>(
 
 #[tactic(auto, using(am_views::proofs::FourPieces::puts_four))]
 fn put_part<W: Write>(output: &mut Output, world: &World, view: &View<'_>, writer: &mut W)
-    requires { AreTables view.now.tables world.now.kernel.table }
+    requires { AreTables view.now.tables world.now.kernel }
     ensures { Puts output.old output.new (part_text world.now.kernel
         (rows_of world.now.daemon) view.now.part) (W.contents writer.old) (W.contents writer.new) }
 {
@@ -302,7 +327,7 @@ fn put_namespaces<W: Write>(
     order: &[u32],
     writer: &mut W,
 )
-    requires { AreTables tables.now world.now.kernel.table }
+    requires { AreTables tables.now world.now.kernel }
     ensures { Puts output.old output.new (namespaces_text world.now.kernel order.now)
         (W.contents writer.old) (W.contents writer.new) }
 {
@@ -319,7 +344,7 @@ fn put_namespace<W: Write>(
     ns: u32,
     writer: &mut W,
 )
-    requires { AreTables tables.now world.now.kernel.table }
+    requires { AreTables tables.now world.now.kernel }
     ensures { Puts output.old output.new (namespace_text world.now.kernel ns)
         (W.contents writer.old) (W.contents writer.new) }
 {

@@ -1,5 +1,5 @@
 use Rattle.std.proofs.lemmas.Result.{IfOk-weaker}
-use Rattle.am_cli.specs.{IsCommand, script_app, trace_app, draw_app, world_app, judge_app, import_app, threads_app}
+use Rattle.am_cli.specs.{IsCommand, script_app, trace_app, draw_app, world_app, judge_app, import_app, threads_app, help_app}
 use Rattle.clap.specs.Words.{App}
 use Rattle.clap.specs.declared.builder.command.Command.{Command}
 use Rattle.am_cli.proofs.CommandLemmas.{adds}
@@ -17,4 +17,5 @@ returns c =
     let five = adds _ _ _ _ judge_app four judge c.in_ok-subcommand-5.ensures in
     let imports : IsCommand import_app c.new-4.result = record { shape = c.new-4.ensures.app; local = c.new-4.ensures.local } in
     let six = adds _ _ _ _ import_app five imports c.in_ok-subcommand-6.ensures in
-    IfOk-weaker c.subcommand-7.result _ _ (λ all added. adds _ _ all _ threads_app six c.in_ok-threads_command.ensures added) c.subcommand-7.ensures
+    let seven = adds _ _ _ _ threads_app six c.in_ok-threads_command.ensures c.in_ok-subcommand-7.ensures in
+    IfOk-weaker c.subcommand-8.result _ _ (λ all added. adds _ _ all _ help_app seven c.in_ok-help_command.ensures added) c.subcommand-8.ensures

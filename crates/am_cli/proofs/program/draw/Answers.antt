@@ -12,4 +12,4 @@ returns-in-Err g c =
     let reads = g.R.Read.remaining in
     let contents = g.W.Write.contents in
     let tells = g.E.Write.contents in
-    ends_draw_stopped c.args.first c.args.last c.from.result c.from-2.result c.from.ensures c.from-2.ensures (reads c.args.reader.now) (reads c.draw_script.new.reader) (contents c.args.writer.now) (contents c.draw_script.new.writer) (tells c.args.errors.now) (tells c.stop.new.errors) c.in-Err.fault c.stop.result c.in-Err.ensures.err c.stop.ensures
+    ends_draw_stopped c.args.first c.args.last c.from.result c.from-2.result c.from.ensures c.from-2.ensures (reads c.args.reader.now) (reads c.draw_script.new.reader) (contents c.args.writer.now) (contents c.draw_script.new.writer) (tells c.args.errors.now) (tells c.tell_script.new.errors) c.in-Err.fault c.in-Err.ensures.err c.tell_script.ensures

@@ -13,4 +13,4 @@ returns-in-Err g c =
     let reads = g.R.Read.remaining in
     let contents = g.W.Write.contents in
     let tells = g.E.Write.contents in
-    ends_import_stopped (reads c.args.reader.now) (reads c.import.new.reader) (contents c.args.writer.now) (contents c.import.new.writer) (tells c.args.errors.now) (tells c.end_importing.new.errors) c.in-Err.fault c.end_importing.result c.in-Err.ensures.err c.end_importing.ensures
+    ends_import_stopped (reads c.args.reader.now) (reads c.import.new.reader) (contents c.args.writer.now) (contents c.import.new.writer) (tells c.args.errors.now) (tells c.tell_import.new.errors) c.in-Err.fault c.in-Err.ensures.err c.tell_import.ensures

@@ -12,4 +12,4 @@ returns-in-Err g c =
     let reads = g.R.Read.remaining in
     let contents = g.W.Write.contents in
     let tells = g.E.Write.contents in
-    ends_judge_stopped (reads c.args.reader.now) (reads c.judge_trace.new.reader) (contents c.args.writer.now) (contents c.judge_trace.new.writer) (tells c.args.errors.now) (tells c.end_judging.new.errors) c.in-Err.fault c.end_judging.result c.in-Err.ensures.err c.end_judging.ensures
+    ends_judge_stopped (reads c.args.reader.now) (reads c.judge_trace.new.reader) (contents c.args.writer.now) (contents c.judge_trace.new.writer) (tells c.args.errors.now) (tells c.tell_judge.new.errors) c.in-Err.fault c.in-Err.ensures.err c.tell_judge.ensures

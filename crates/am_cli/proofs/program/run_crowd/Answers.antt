@@ -4,7 +4,7 @@ use Rattle.am_cli.proofs.program.run_crowd.Goals as goal
 pub returns-in-Err : goal.returns-in-Err
 returns-in-Err g c input =
     let tells = g.E.Write.contents in
-    ends_not_run c.args.walkers c.args.workers c.args.rounds input (g.W.Write.contents c.args.writer.now) (tells c.args.errors.now) (tells c.refuse.new.errors) c.refuse.result c.refuse.ensures
+    ends_not_run c.args.walkers c.args.workers c.args.rounds input (g.W.Write.contents c.args.writer.now) (tells c.args.errors.now) (tells c.tell_word.new.errors) c.tell_word.ensures
 
 pub returns-in-Ok : goal.returns-in-Ok
 returns-in-Ok g c input =

@@ -1,5 +1,5 @@
-use Rattle.std.proofs.Common.{[], None}
-use Rattle.am_cli.proofs.Ends.{ends_refused}
+use Rattle.std.proofs.Common.{[], refl, inr}
+use Rattle.am_cli.proofs.AskedLemmas.{none_refused}
 use Rattle.am_cli.proofs.program.run_words.Goals as goal
 
 pub returns-in-Ok : goal.returns-in-Ok
@@ -8,10 +8,12 @@ returns-in-Ok g c = (_, c.run_lent.ensures)
 pub returns-in-Err : goal.returns-in-Err
 returns-in-Err g c = (
   [],
-  record {
-    asked = None;
-    asks = tt;
-    exits =
-        ends_refused (g.R.Read.remaining c.args.reader.now) (g.W.Write.contents c.args.writer.now) (g.E.Write.contents c.args.errors.now) (g.E.Write.contents c.refuse.new.errors) c.in-Err.fault c.refuse.result c.refuse.ensures;
-  },
+  inr (record {
+    fault = c.in-Err.fault;
+    refused = none_refused c.in-Err.fault;
+    status_is = c.refuse.ensures.status;
+    unread = refl;
+    unwritten = refl;
+    tells = c.refuse.ensures.told;
+  }),
 )

@@ -30,15 +30,15 @@ loop-found-preserved c =
     let behind : Told = events_from c.args.broke c.in-Ok-Some.found.line (lines_in (option_copied c.in-Ok-Some.found.rest)) in
     let next : left ≡ told_by (Ok (Some c.in-Ok-Some.found.event)) c.in-Ok-Some.found.line behind = rw c.in-Ok-Some.field-0-is at c.in-Ok-Some.ensures.ok in
     let within = rw c.in-Ok-Some.field-0-is at c.in-Ok-Some.ensures.within in
-    let played = c.play_found-behind.ensures.played in
-    let more = playing_more (state_of c.args.world.now) c.args.line all left behind (state_of c.loop-found.world) (state_of c.play_found-behind.new.world) c.loop-found.summary c.loop-found.number c.in-Ok-Some.found.line c.in-Ok-Some.found.event played.answer played.seen c.play_found-behind.result.refused next c.loop-found.invariant.going played.step played.test in
-    let line = c.play_found-behind.ensures.line in
-    let rest = c.play_found-behind.ensures.rest in
+    let played = c.in-Ok.ensures.played in
+    let more = playing_more (state_of c.args.world.now) c.args.line all left behind (state_of c.loop-found.world) (state_of c.play_found.new.world) c.loop-found.summary c.loop-found.number c.in-Ok-Some.found.line c.in-Ok-Some.found.event played.answer played.seen c.in-Ok.behind.refused next c.loop-found.invariant.going played.step played.test played.room in
+    let line = c.in-Ok.ensures.line in
+    let rest = c.in-Ok.ensures.rest in
     record {
       going = rw (line, rest, c.one_more-summary.ensures) more;
       fits = rw (line, rest) (omega (arith, within.fits, c.loop-found.invariant.fits));
       lines = rw (rest, c.one_more-summary.ensures) (omega (arith, within.fewer, c.loop-found.invariant.lines));
-      refused = rw c.one_more-summary.ensures (more_lines c.loop-found.summary c.play_found-behind.result.refused c.loop-found.invariant.refused);
+      refused = rw c.one_more-summary.ensures (more_lines c.loop-found.summary c.in-Ok.behind.refused c.loop-found.invariant.refused);
     }
 
 pub returns-in-Err-clause-err : goal.returns-in-Err-clause-err

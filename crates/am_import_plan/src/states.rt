@@ -1,6 +1,6 @@
 //! The states of mounts are changed until they are as the rows tell them.
 
-use crate::plan::Planner;
+use crate::planner::Planner;
 use crate::targets::Wish;
 use am_group::Change;
 use std::alloc::AllocError;

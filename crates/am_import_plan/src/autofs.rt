@@ -1,6 +1,6 @@
 //! What is of the daemon: autofs file systems, and what is mounted on their triggers.
 
-use crate::plan::{Planner, place_of};
+use crate::planner::{Planner, place_of};
 use am_names::{JobId, NsId, PipeState, Seconds, Token, WalkerId};
 use am_world::{Answer, Event};
 use std::alloc::AllocError;

@@ -1,6 +1,6 @@
 //! Namespaces behind the first: each is copied from one that is there, and changed.
 
-use crate::plan::{PASSES, Planner};
+use crate::planner::{PASSES, Planner};
 use crate::targets::Stage;
 use am_group::Change;
 use am_names::NsId;

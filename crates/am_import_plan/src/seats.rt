@@ -1,7 +1,7 @@
 //! Mounts of the world come to stand for rows.
 
 use crate::known::place_key;
-use crate::plan::Planner;
+use crate::planner::Planner;
 use crate::targets::Wish;
 use am_group::Change;
 use std::alloc::AllocError;

@@ -9,11 +9,11 @@ use am_world::{Answer, Event, World};
 use std::alloc::{AllocError, Global};
 use std::collections::{BTreeMap, BTreeSet};
 
-/// A script, and which mounts of its world stand for which rows.
+/// A script, and for each line, in order, the number of the mount of the script's world that is to stand for it, if one
+/// is.
 #[derive(Drop)]
-pub(crate) struct Plan {
+pub struct Plan {
     pub script: Vec<u8>,
-    /// The mount that stands for each line.
     pub seats: Vec<Option<u64>>,
 }
 

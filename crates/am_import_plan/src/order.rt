@@ -1,9 +1,10 @@
 //! The order in which rows are built.
 
+ghost use Rattle.std.specs.Prelude.{◌≡◌, length, IfOk};
+
 use crate::head::head_text;
 use crate::known::Known;
-use crate::plan::{PASSES, Plan, Planner};
-use crate::replay::LONGEST;
+use crate::planner::{PASSES, Plan, Planner};
 use crate::targets::{PRIVATE, Stage, Targets};
 use am_mount_lines::MountLine;
 use am_script::visit::{Input, open_script};
@@ -11,21 +12,29 @@ use am_script::{ScriptFault, ScriptFaultKind};
 use std::alloc::{AllocError, Global};
 use std::collections::{BTreeMap, BTreeSet};
 
-/// Makes a script for these lines, one namespace behind the other.
-pub(crate) fn plan(alloc: Global, lines: &[MountLine]) -> Result<Plan, AllocError> {
+/// The longest head that is opened.
+const LONGEST: usize = 1 << 61;
+
+/// Makes a script for these lines, one namespace behind the other; its world isn't looked at again, and where the head
+/// opens none the script is one without events.
+pub fn plan(alloc: Global, lines: &[MountLine]) -> Result<Plan, AllocError>
+    ensures { IfOk result (λ plan. length plan.seats.items ≡ length lines.now) }
+{
     let targets = Targets::of(alloc, lines)?;
     let script = head_text(alloc, lines, &targets)?;
     let Some(mut planner) = begun(alloc, targets, script)? else {
         return nothing(alloc, lines);
     };
     planner.build()?;
-    planner.planned()
+    planner.planned(lines)
 }
 
 /// The plan of a script that isn't begun.
-fn nothing(alloc: Global, lines: &[MountLine]) -> Result<Plan, AllocError> {
+fn nothing(alloc: Global, lines: &[MountLine]) -> Result<Plan, AllocError>
+    ensures { IfOk result (λ plan. length plan.seats.items ≡ length lines.now) }
+{
     let mut seats = Vec::with_capacity(alloc, lines.len())?;
-    for _line in lines {
+    for _row in 0..lines.len() {
         seats.push(None)?;
     }
     Ok(Plan {
@@ -209,11 +218,13 @@ impl Planner {
         self.create(row, self.wish_of(row), ns)
     }
 
-    /// What was planned.
-    fn planned(&self) -> Result<Plan, AllocError> {
-        let mut seats = Vec::with_capacity(self.alloc, self.targets.rows.len())?;
-        for target in &self.targets.rows {
-            seats.push(target.seat)?;
+    /// What was planned for these lines.
+    fn planned(&self, lines: &[MountLine]) -> Result<Plan, AllocError>
+        ensures { IfOk result (λ plan. length plan.seats.items ≡ length lines.now) }
+    {
+        let mut seats = Vec::with_capacity(self.alloc, lines.len())?;
+        for row in 0..lines.len() {
+            seats.push(self.seat_of(row))?;
         }
         Ok(Plan {
             script: Vec::from_slice(self.alloc, self.script.as_slice())?,

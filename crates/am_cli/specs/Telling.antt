@@ -1,0 +1,129 @@
+-- What is told of a fault on standard error: own choice (docs/FORMATS.md, "The program").
+use Rattle.std.specs.Prelude.{◌<◌, ◌∷◌, ℕ, List, [], codes, decimal, length, take, Option}
+use Rattle.std.specs.List.{flat_map}
+use Rattle.std.specs.Io.KnownBytes.{Appends}
+use Rattle.am_import.specs.{ImportFault}
+use Rattle.am_import.specs.declared.imports.ImportFault.TheVariants as unmade
+use Rattle.am_map.specs.{MapFaultKind}
+use Rattle.am_map.specs.declared.fault.MapFaultKind.TheVariants as of_map
+use Rattle.am_master.specs.{MasterFaultKind}
+use Rattle.am_master.specs.declared.fault.MasterFaultKind.TheVariants as of_master
+use Rattle.am_mount_lines.specs.declared.misfit.Expected.{Expected as MountExpected}
+use Rattle.am_mount_lines.specs.declared.misfit.Expected.TheVariants as in_mounts
+use Rattle.am_script.specs.{ScriptFault, ScriptFaultKind}
+use Rattle.am_script.specs.declared.fault.ScriptFaultKind.TheVariants as of_script
+use Rattle.am_traces.specs.declared.fault.Expected.{Expected as TraceExpected}
+use Rattle.am_traces.specs.declared.fault.Expected.TheVariants as in_trace
+use Rattle.am_traces.specs.declared.verdict.JudgeFault.{JudgeFault}
+use Rattle.am_traces.specs.declared.verdict.JudgeFault.TheVariants as unjudged
+
+-- ---- as far as a stream takes it
+
+-- the text isn't written to its end: a beginning of it is
+abbrev pub IsCut : Option (List ℕ) → Option (List ℕ) → List ℕ → Type 0
+IsCut old new text = (taken : ℕ) × (taken < length text) × Appends old new (take taken text)
+
+-- the text is told, or as much of it as the stream takes
+abbrev pub Tells : Option (List ℕ) → Option (List ℕ) → List ℕ → Type 0
+Tells quiet told text = (taken : ℕ) × Appends quiet told (take taken text)
+
+-- ---- lines
+
+-- a fault that has no place
+abbrev pub word_told : List ℕ → List ℕ
+word_told word = flat_map (λ part. part) (codes "fault: " ∷ word ∷ codes "\n" ∷ [])
+
+-- a fault at a line
+abbrev pub line_told : ℕ → List ℕ → List ℕ
+line_told line word =
+    flat_map (λ part. part) (codes "fault: line " ∷ decimal line ∷ codes ": " ∷ word ∷ codes "\n" ∷ [])
+
+-- what was expected at a place
+abbrev pub place_told : ℕ → ℕ → List ℕ → List ℕ
+place_told line column expected =
+    flat_map (λ part. part)
+    (codes "fault: line " ∷ decimal line ∷ codes ", column " ∷ decimal column ∷ codes ": " ∷ expected
+    ∷ codes " expected\n" ∷ [])
+
+-- ---- the faults of a script
+
+-- the word for a fault of a map section
+abbrev pub map_word : MapFaultKind → List ℕ
+map_word of_map.BadKey = codes "BadKey"
+map_word of_map.BadOption = codes "BadOption"
+map_word of_map.NoLocation = codes "NoLocation"
+map_word of_map.BadLocation = codes "BadLocation"
+map_word of_map.NoMemory = codes "NoMemory"
+
+-- the word for a fault of the master section
+abbrev pub master_word : MasterFaultKind → List ℕ
+master_word of_master.BadPoint = codes "BadPoint"
+master_word of_master.NoMap = codes "NoMap"
+master_word of_master.BadType = codes "BadType"
+master_word of_master.BadTimeout = codes "BadTimeout"
+master_word of_master.Twice = codes "Twice"
+master_word of_master.NoMemory = codes "NoMemory"
+
+-- the word for a fault of a script
+abbrev pub kind_word : ScriptFaultKind → List ℕ
+kind_word of_script.BadSection = codes "BadSection"
+kind_word of_script.BadLimits = codes "BadLimits"
+kind_word (of_script.BadMaster kind) = master_word kind
+kind_word (of_script.BadMap kind) = map_word kind
+kind_word of_script.NoSuchMap = codes "NoSuchMap"
+kind_word of_script.BadEvent = codes "BadEvent"
+kind_word of_script.LongLine = codes "LongLine"
+kind_word of_script.NoMemory = codes "NoMemory"
+kind_word of_script.ReadFailed = codes "ReadFailed"
+kind_word of_script.WriteFailed = codes "WriteFailed"
+
+-- what is told of it
+abbrev pub script_told : ScriptFault → List ℕ
+script_told fault = line_told fault.line (kind_word fault.kind)
+
+-- ---- the faults of a trace that is to be judged
+
+-- what a line of a trace was expected to go on with
+abbrev pub trace_words : TraceExpected → List ℕ
+trace_words in_trace.Observation = codes "an observation behind two blanks"
+trace_words in_trace.Number = codes "a number"
+trace_words in_trace.Token = codes "a token"
+trace_words in_trace.Attach = codes "an attachment"
+trace_words in_trace.Fs = codes "a file system"
+trace_words in_trace.Mount = codes "a mount"
+trace_words in_trace.Status = codes "ready or a failure"
+trace_words in_trace.PacketType = codes "the type of a packet"
+trace_words in_trace.PacketNumber = codes "a number of the packet"
+trace_words in_trace.PacketName = codes "the name in the packet"
+trace_words in_trace.Key = codes "direct or a name"
+trace_words in_trace.Entry = codes "an entry of the book"
+trace_words in_trace.End = codes "the end of the line"
+
+-- what is told of such a fault
+abbrev pub judge_told : JudgeFault → List ℕ
+judge_told (unjudged.BadLine line column expected) = place_told line column (trace_words expected)
+judge_told unjudged.NoMemory = word_told (codes "NoMemory")
+judge_told unjudged.ReadFailed = word_told (codes "ReadFailed")
+judge_told unjudged.WriteFailed = word_told (codes "WriteFailed")
+
+-- ---- the faults of a mountinfo that is to be imported
+
+-- what a line of a mountinfo was expected to go on with
+abbrev pub mount_words : MountExpected → List ℕ
+mount_words in_mounts.Number = codes "the number of a mount"
+mount_words in_mounts.Parent = codes "the number of the mount that it is mounted on"
+mount_words in_mounts.Device = codes "a device"
+mount_words in_mounts.Root = codes "the folder of the device that is shown"
+mount_words in_mounts.Path = codes "the path of the mount"
+mount_words in_mounts.Options = codes "the options of the mount"
+mount_words in_mounts.Group = codes "the number of a peer group"
+mount_words in_mounts.Dash = codes "- behind the optional fields"
+mount_words in_mounts.Kind = codes "the type of the file system"
+
+-- what is told of such a fault
+abbrev pub import_told : ImportFault → List ℕ
+import_told (unmade.BadLine line column expected) = place_told line column (mount_words expected)
+import_told unmade.NoMemory = word_told (codes "NoMemory")
+import_told unmade.ReadFailed = word_told (codes "ReadFailed")
+import_told unmade.NotPlayed = word_told (codes "NotPlayed")
+import_told unmade.WriteFailed = word_told (codes "WriteFailed")

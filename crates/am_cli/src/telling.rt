@@ -1,0 +1,252 @@
+//! What is told on standard error, and texts that are written whole.
+
+ghost use Rattle.std.specs.Prelude.{◌≡◌, true, false};
+ghost use Rattle.std.specs.List.{flat_map};
+ghost use Rattle.std.specs.Io.KnownBytes.{Appends};
+ghost use Rattle.am_cli.specs.Hints.{hint_told, usage_told};
+ghost use Rattle.am_cli.specs.Telling.{import_told, IsCut, judge_told, kind_word, line_told, map_word, master_word, mount_words, place_told, script_told, Tells, trace_words, word_told};
+
+use crate::help::usage;
+use crate::hints::Hint;
+use am_import::ImportFault;
+use am_map::MapFaultKind;
+use am_master::MasterFaultKind;
+use am_mount_lines::Expected as MountExpected;
+use am_script::output::write_bytes;
+use am_script::{ScriptFault, ScriptFaultKind};
+use am_traces::{Expected as TraceExpected, JudgeFault};
+use itoa::Buffer;
+use std::io::Write;
+
+/// Writes a text, and answers whether it is taken whole.
+fn write_part<W: Write>(writer: &mut W, part: &[u8]) -> bool
+    ensures whole { result ≡ true → Appends (W.contents writer.old) (W.contents writer.new) part.now }
+    ensures cut { result ≡ false → IsCut (W.contents writer.old) (W.contents writer.new) part.now }
+{
+    let taken = write_bytes(writer, part);
+    taken == part.len()
+}
+
+/// Writes texts one behind the other, up to the first that isn't taken whole, and answers whether all were.
+pub(crate) fn write_parts<W: Write>(writer: &mut W, parts: &[&[u8]]) -> bool
+    ensures whole { result ≡ true → Appends (W.contents writer.old) (W.contents writer.new)
+        (flat_map (λ part. part.now) parts.now) }
+    ensures cut { result ≡ false → IsCut (W.contents writer.old) (W.contents writer.new)
+        (flat_map (λ part. part.now) parts.now) }
+{
+    for part in parts {
+        if !write_part(writer, part) {
+            return false;
+        }
+    }
+    true
+}
+
+/// Tells texts one behind the other, as far as they are taken.
+fn tell<E: Write>(errors: &mut E, parts: &[&[u8]])
+    ensures { Tells (E.contents errors.old) (E.contents errors.new)
+        (flat_map (λ part. part.now) parts.now) }
+{
+    let _ = write_parts(errors, parts);
+}
+
+/// Tells a fault that has no place.
+pub(crate) fn tell_word<E: Write>(errors: &mut E, word: &str)
+    ensures { Tells (E.contents errors.old) (E.contents errors.new) (word_told word.now) }
+{
+    tell(errors, &[b"fault: ", word.as_bytes(), b"\n"]);
+}
+
+/// Tells a fault at a line.
+fn tell_line<E: Write>(errors: &mut E, line: u64, word: &str)
+    ensures { Tells (E.contents errors.old) (E.contents errors.new) (line_told line word.now) }
+{
+    let mut digits = Buffer::new();
+    tell(
+        errors,
+        &[
+            b"fault: line ",
+            digits.format(line).as_bytes(),
+            b": ",
+            word.as_bytes(),
+            b"\n",
+        ],
+    );
+}
+
+/// Tells what was expected at a place.
+fn tell_place<E: Write>(errors: &mut E, line: usize, column: usize, expected: &str)
+    ensures { Tells (E.contents errors.old) (E.contents errors.new)
+        (place_told line column expected.now) }
+{
+    let mut line_digits = Buffer::new();
+    let mut column_digits = Buffer::new();
+    tell(
+        errors,
+        &[
+            b"fault: line ",
+            line_digits.format(line).as_bytes(),
+            b", column ",
+            column_digits.format(column).as_bytes(),
+            b": ",
+            expected.as_bytes(),
+            b" expected\n",
+        ],
+    );
+}
+
+fn map_word(kind: MapFaultKind) -> &'static str
+    ensures { result.now ≡ map_word kind }
+{
+    match kind {
+        MapFaultKind::BadKey => "BadKey",
+        MapFaultKind::BadOption => "BadOption",
+        MapFaultKind::NoLocation => "NoLocation",
+        MapFaultKind::BadLocation => "BadLocation",
+        MapFaultKind::NoMemory => "NoMemory",
+    }
+}
+
+fn master_word(kind: MasterFaultKind) -> &'static str
+    ensures { result.now ≡ master_word kind }
+{
+    match kind {
+        MasterFaultKind::BadPoint => "BadPoint",
+        MasterFaultKind::NoMap => "NoMap",
+        MasterFaultKind::BadType => "BadType",
+        MasterFaultKind::BadTimeout => "BadTimeout",
+        MasterFaultKind::Twice => "Twice",
+        MasterFaultKind::NoMemory => "NoMemory",
+    }
+}
+
+fn kind_word(kind: ScriptFaultKind) -> &'static str
+    ensures { result.now ≡ kind_word kind }
+{
+    match kind {
+        ScriptFaultKind::BadSection => "BadSection",
+        ScriptFaultKind::BadLimits => "BadLimits",
+        ScriptFaultKind::BadMaster { kind } => master_word(kind),
+        ScriptFaultKind::BadMap { kind } => map_word(kind),
+        ScriptFaultKind::NoSuchMap => "NoSuchMap",
+        ScriptFaultKind::BadEvent => "BadEvent",
+        ScriptFaultKind::LongLine => "LongLine",
+        ScriptFaultKind::NoMemory => "NoMemory",
+        ScriptFaultKind::ReadFailed => "ReadFailed",
+        ScriptFaultKind::WriteFailed => "WriteFailed",
+    }
+}
+
+fn trace_words(expected: TraceExpected) -> &'static str
+    ensures { result.now ≡ trace_words expected }
+{
+    match expected {
+        TraceExpected::Observation => "an observation behind two blanks",
+        TraceExpected::Number => "a number",
+        TraceExpected::Token => "a token",
+        TraceExpected::Attach => "an attachment",
+        TraceExpected::Fs => "a file system",
+        TraceExpected::Mount => "a mount",
+        TraceExpected::Status => "ready or a failure",
+        TraceExpected::PacketType => "the type of a packet",
+        TraceExpected::PacketNumber => "a number of the packet",
+        TraceExpected::PacketName => "the name in the packet",
+        TraceExpected::Key => "direct or a name",
+        TraceExpected::Entry => "an entry of the book",
+        TraceExpected::End => "the end of the line",
+    }
+}
+
+fn mount_words(expected: MountExpected) -> &'static str
+    ensures { result.now ≡ mount_words expected }
+{
+    match expected {
+        MountExpected::Number => "the number of a mount",
+        MountExpected::Parent => "the number of the mount that it is mounted on",
+        MountExpected::Device => "a device",
+        MountExpected::Root => "the folder of the device that is shown",
+        MountExpected::Path => "the path of the mount",
+        MountExpected::Options => "the options of the mount",
+        MountExpected::Group => "the number of a peer group",
+        MountExpected::Dash => "- behind the optional fields",
+        MountExpected::Kind => "the type of the file system",
+    }
+}
+
+/// Tells why a script isn't played to its end.
+pub(crate) fn tell_script<E: Write>(errors: &mut E, fault: ScriptFault)
+    ensures { Tells (E.contents errors.old) (E.contents errors.new) (script_told fault) }
+{
+    tell_line(errors, fault.line, kind_word(fault.kind));
+}
+
+/// Tells why a verdict isn't written.
+pub(crate) fn tell_judge<E: Write>(errors: &mut E, fault: JudgeFault)
+    ensures { Tells (E.contents errors.old) (E.contents errors.new) (judge_told fault) }
+{
+    match fault {
+        JudgeFault::BadLine {
+            line,
+            column,
+            expected,
+        } => tell_place(errors, line, column, trace_words(expected)),
+        JudgeFault::NoMemory => tell_word(errors, "NoMemory"),
+        JudgeFault::ReadFailed => tell_word(errors, "ReadFailed"),
+        JudgeFault::WriteFailed => tell_word(errors, "WriteFailed"),
+    }
+}
+
+/// Tells why a script isn't made of a mountinfo, or not written.
+pub(crate) fn tell_import<E: Write>(errors: &mut E, fault: ImportFault)
+    ensures { Tells (E.contents errors.old) (E.contents errors.new) (import_told fault) }
+{
+    match fault {
+        ImportFault::BadLine {
+            line,
+            column,
+            expected,
+        } => tell_place(errors, line, column, mount_words(expected)),
+        ImportFault::NoMemory => tell_word(errors, "NoMemory"),
+        ImportFault::ReadFailed => tell_word(errors, "ReadFailed"),
+        ImportFault::NotPlayed => tell_word(errors, "NotPlayed"),
+        ImportFault::WriteFailed => tell_word(errors, "WriteFailed"),
+    }
+}
+
+/// Tells that the command line is none, that this may be meant, and what command lines there are.
+fn tell_hint<E: Write>(errors: &mut E, hint: Hint)
+    ensures { Tells (E.contents errors.old) (E.contents errors.new) (hint_told hint) }
+{
+    match hint {
+        Hint::Near { topic } => tell(
+            errors,
+            &[
+                b"fault: Usage\ndid you mean '",
+                topic.name().as_bytes(),
+                b"'?\n",
+                usage(),
+            ],
+        ),
+        Hint::Input { topic } => tell(
+            errors,
+            &[
+                b"fault: Usage\nthe ",
+                topic.input().as_bytes(),
+                b" is read from standard input: automount_cli ",
+                topic.name().as_bytes(),
+                b" < FILE\n",
+                usage(),
+            ],
+        ),
+    }
+}
+
+/// Tells that the command line is none, what may be meant, and what command lines there are.
+pub(crate) fn tell_usage<E: Write>(errors: &mut E, hint: Option<Hint>)
+    ensures { Tells (E.contents errors.old) (E.contents errors.new) (usage_told hint) }
+{
+    match hint {
+        Some(hint) => tell_hint(errors, hint),
+        None => tell(errors, &[b"fault: Usage\n", usage()]),
+    }
+}
