@@ -39,13 +39,3 @@ lanes_push number lasts [] row = rw add-zero refl
 lanes_push number lasts (first ∷ rows) row =
     lanes_push (number + 1) (added number lasts first.asked.event first.seen) rows row
     ∙ ap (λ (n : ℕ). added n (added_behind (number + 1) (added number lasts first.asked.event first.seen) rows) row.asked.event row.seen) (omega arith)
-
--- ---- nobody holds a lane
-
--- the lane is nobody's
-abbrev pub emptied : Option Holder → Option Holder
-emptied lane = None
-
-pub nobody : (lanes : List (Option Holder)) → map emptied lanes ≡ replicate (length lanes) None
-nobody [] = refl
-nobody (lane ∷ lanes) = ap (λ (t : List (Option Holder)). None ∷ t) (nobody lanes)

@@ -3,9 +3,9 @@ use Rattle.std.proofs.Common.{◌≡◌, ◌<◌, ℕ, ◌+◌, List, [], ◌∷
 use Rattle.std.proofs.lemmas.List.{take_more}
 use Rattle.am_names.specs.{MountRow}
 use Rattle.am_state.specs.{Obs}
-use Rattle.am_draw.specs.{Ending, Holder, Lasts, Lanes, Until, changed, seen_behind, lane_x, lane_bar, lane_bars, obs_drawn, seen_drawn}
+use Rattle.am_draw.specs.{Ending, Holder, LaneKind, Lasts, Until, changed, seen_behind, lane_x, lane_bar, lane_bars, obs_drawn, seen_drawn}
 
-bars_push : (lanes : Lanes) (walkers : ℕ) (ending : Ending) (until : Until) (number : ℕ) (before : List (Option Holder)) (lane : Option Holder) → lane_bars lanes walkers ending until number (before ++ lane ∷ []) ≡ lane_bars lanes walkers ending until number before ++ lane_bar ending until lane (lane_x lanes walkers (number + length before))
+bars_push : (lanes : LaneKind) (walkers : ℕ) (ending : Ending) (until : Until) (number : ℕ) (before : List (Option Holder)) (lane : Option Holder) → lane_bars lanes walkers ending until number (before ++ lane ∷ []) ≡ lane_bars lanes walkers ending until number before ++ lane_bar ending until lane (lane_x lanes walkers (number + length before))
 bars_push lanes walkers ending until number [] lane =
     append-nil (lane_bar ending until lane (lane_x lanes walkers number)) ∙ ap (λ (n : ℕ). lane_bar ending until lane (lane_x lanes walkers n)) (omega arith)
 bars_push lanes walkers ending until number (first ∷ before) lane =
@@ -13,13 +13,13 @@ bars_push lanes walkers ending until number (first ∷ before) lane =
     ∙ sym (append_assoc (lane_bar ending until first (lane_x lanes walkers number)) (lane_bars lanes walkers ending until (number + 1) before) (lane_bar ending until lane (lane_x lanes walkers (number + 1 + length before))))
     ∙ ap (λ (n : ℕ). lane_bars lanes walkers ending until number (first ∷ before) ++ lane_bar ending until lane (lane_x lanes walkers n)) (omega arith)
 
-bars_more : (lanes : Lanes) (walkers : ℕ) (ending : Ending) (until : Until) (holders : List (Option Holder)) (i : ℕ) (lane : Option Holder) → i < length holders → lane_bars lanes walkers ending until 0 (take (i + 1) holders) ≡ lane_bars lanes walkers ending until 0 (take i holders) ++ lane_bar ending until (get_or holders i lane) (lane_x lanes walkers i)
+bars_more : (lanes : LaneKind) (walkers : ℕ) (ending : Ending) (until : Until) (holders : List (Option Holder)) (i : ℕ) (lane : Option Holder) → i < length holders → lane_bars lanes walkers ending until 0 (take (i + 1) holders) ≡ lane_bars lanes walkers ending until 0 (take i holders) ++ lane_bar ending until (get_or holders i lane) (lane_x lanes walkers i)
 bars_more lanes walkers ending until holders i lane inside =
     ap (lane_bars lanes walkers ending until 0) (take_more holders i lane inside)
     ∙ bars_push lanes walkers ending until 0 (take i holders) (get_or holders i lane)
     ∙ ap (λ (n : ℕ). lane_bars lanes walkers ending until 0 (take i holders) ++ lane_bar ending until (get_or holders i lane) (lane_x lanes walkers n)) (omega (arith, length-take-le i holders (omega (arith, inside))))
 
-pub lanes_next : (lanes : Lanes) (walkers : ℕ) (ending : Ending) (until : Until) (x : ℕ) (holders : List (Option Holder)) (i : ℕ) (lane : Option Holder) → i < length holders → lane ≡ get_or holders i lane → x ≡ lane_x lanes walkers i → lane_bars lanes walkers ending until 0 (take i holders) ++ lane_bar ending until lane x ≡ lane_bars lanes walkers ending until 0 (take (i + 1) holders)
+pub lanes_next : (lanes : LaneKind) (walkers : ℕ) (ending : Ending) (until : Until) (x : ℕ) (holders : List (Option Holder)) (i : ℕ) (lane : Option Holder) → i < length holders → lane ≡ get_or holders i lane → x ≡ lane_x lanes walkers i → lane_bars lanes walkers ending until 0 (take i holders) ++ lane_bar ending until lane x ≡ lane_bars lanes walkers ending until 0 (take (i + 1) holders)
 lanes_next lanes walkers ending until x holders i lane inside item at =
     ap (λ (n : ℕ). lane_bars lanes walkers ending until 0 (take i holders) ++ lane_bar ending until lane n) at
     ∙ ap (λ (h : Option Holder). lane_bars lanes walkers ending until 0 (take i holders) ++ lane_bar ending until h (lane_x lanes walkers i)) item

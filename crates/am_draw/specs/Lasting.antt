@@ -5,12 +5,12 @@ use Rattle.am_state.specs.{Obs}
 use Rattle.am_machine.specs.{Event}
 use Rattle.am_machine.specs.declared.event.Event.TheVariants as events
 use Rattle.am_state.specs.declared.obs.Obs.TheVariants as seen
-use Rattle.am_draw.specs.declared.bars.Look.{Look}
-use Rattle.am_draw.specs.declared.bars.Look.TheVariants.{Waits, Inside, Idle}
-use Rattle.am_draw.specs.declared.bars.Holder.{Holder}
-use Rattle.am_draw.specs.declared.bars.Ending.TheVariants.{Of, In}
+use Rattle.am_wire.specs.declared.packet_type.PacketType.{PacketType}
+use Rattle.am_wire.specs.declared.packet_type.PacketType.TheVariants.{MissingIndirect, ExpireIndirect, MissingDirect, ExpireDirect}
+use Rattle.am_lanes.specs.{Holder, Look, ended_lane, placed, sighted, with_lane}
+use Rattle.am_lanes.specs.declared.holder.Look.TheVariants.{Missing, Expire, Waits, Inside, Idle}
+use Rattle.am_lanes.specs.declared.holder.Ending.TheVariants.{Of, In}
 use Rattle.am_draw.specs.declared.lasting.Lasting.{Lasting}
-use Rattle.am_draw.specs.Bars.{token_look, placed, sighted, with_lane, ended_lane}
 
 -- the lanes of tokens and of walkers
 pub record Lasts : Type 0 where
@@ -19,11 +19,18 @@ pub record Lasts : Type 0 where
 
 -- those that the code holds
 abbrev pub lasts_of : Lasting → Lasts
-lasts_of lasting = record { tokens = lasting.tokens.items; walkers = lasting.walkers.items }
+lasts_of lasting = record { tokens = lasting.tokens; walkers = lasting.walkers }
 
 -- nobody holds one of so many lanes of tokens and of walkers
 abbrev pub nothing_lasts : ℕ → ℕ → Lasts
 nothing_lasts tokens walkers = record { tokens = replicate tokens None; walkers = replicate walkers None }
+
+-- how an open token looks
+abbrev pub token_look : PacketType → ℕ → Look
+token_look MissingIndirect fs = Missing fs
+token_look ExpireIndirect fs = Expire fs
+token_look MissingDirect fs = Missing fs
+token_look ExpireDirect fs = Expire fs
 
 -- ---- what an observation changes
 

@@ -1,4 +1,3 @@
-pub mod Bars
 pub mod Drawn
 pub mod Head
 pub mod Lasting
@@ -11,7 +10,7 @@ pub mod Stretches
 pub mod Trees
 pub mod Words
 -- what contracts cite, passed on from one place
-pub use Bars.{ended_lane, is_free, is_of, lane_for, may_take, placed, sighted, with_lane}
+pub use Rattle.am_lanes.specs.{Ending, Holder, IsNextEnding, ended_lane, ends_lane, is_free, is_of, lane_for, may_take, placed, sighted, with_lane}
 pub use Drawn.{AllDrawn, DrawEnds, DrawStops, DrawnFrom, DrawnToLoss, DrawsAgain, DrawsFrom, DrawsInput, Finishes, IsAtEvent, IsCounted, IsDrawn, IsSizeOf, IsSizeOfScript, NotCounted, Piece, StopsDrawing, Viewed, ViewedRun, Views, added_behind, answers_in, asked_in, bytes_in, counted_to, drawn_for, event_piece, event_pieces, first_lasts, head_in, is_out_of_memory, lanes_for, lasts_behind, next_lasts, picture, pieces_of, size_of, tail_behind, tail_for, tail_pieces}
 pub use Head.{tail_text}
 pub use Lasting.{Lasts, acted, added, behind, changed, lasts_of, nothing_lasts, roomed, roomed_for, seen_added, seen_behind}
@@ -22,9 +21,7 @@ pub use Sides.{sides_said}
 pub use Stretches.{lane_bar, lane_bars}
 pub use Trees.{is_umount, rows_before, takes_mounts, tree_marks}
 pub use Words.{xml}
-pub use declared.bars.Ending.{Ending}
-pub use declared.bars.Holder.{Holder}
-pub use declared.marks.Lanes.{Lanes}
+pub use declared.marks.LaneKind.{LaneKind}
 pub use declared.part.Part.{Part}
 pub use declared.part.Size.{Size}
 pub use declared.stretch.Until.{Until}

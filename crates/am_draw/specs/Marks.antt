@@ -1,8 +1,8 @@
 -- The marks of a picture as elements of SVG (Scalable Vector Graphics 2). A picture grows
 -- downwards, and so does y; both count pixels. A row is 26 high, and its middle is at 13.
 use Rattle.std.specs.Prelude.{ℕ, ◌+◌, ◌-◌, ◌*◌, List, ◌++◌, codes, decimal, min}
-use Rattle.am_draw.specs.declared.marks.Lanes.{Lanes}
-use Rattle.am_draw.specs.declared.marks.Lanes.TheVariants.{OfTokens, OfWalkers}
+use Rattle.am_draw.specs.declared.marks.LaneKind.{LaneKind}
+use Rattle.am_draw.specs.declared.marks.LaneKind.TheVariants.{OfTokens, OfWalkers}
 use Rattle.am_draw.specs.Parts.{most_lanes}
 
 -- where it stands
@@ -40,7 +40,7 @@ label class x y text = opening class x y ++ (text ++ codes "</text>\n")
 -- ---- where things stand
 
 -- the middle of a lane, behind so many lanes of walkers
-abbrev pub lane_x : Lanes → ℕ → ℕ → ℕ
+abbrev pub lane_x : LaneKind → ℕ → ℕ → ℕ
 lane_x OfTokens walkers lane = 338 + 44 * walkers + 20 * min lane most_lanes
 lane_x OfWalkers walkers lane = 332 + 44 * min lane most_lanes
 

@@ -11,10 +11,10 @@ use Rattle.am_machine.specs.{Answer, Event}
 use Rattle.am_machine.specs.declared.event.Event.TheVariants as events
 use Rattle.am_script.specs.{answer_text, entry_text, is_refused}
 use Rattle.am_views.specs.{event_text}
-use Rattle.am_draw.specs.declared.marks.Lanes.TheVariants.{OfTokens, OfWalkers}
+use Rattle.am_draw.specs.declared.marks.LaneKind.TheVariants.{OfTokens, OfWalkers}
 use Rattle.am_draw.specs.declared.stretch.Until.{Until}
 use Rattle.am_draw.specs.declared.part.Part.{Part}
-use Rattle.am_draw.specs.Bars.{lane_of}
+use Rattle.am_lanes.specs.{lane_of}
 use Rattle.am_draw.specs.Lasting.{Lasts, changed, acted, behind}
 use Rattle.am_draw.specs.Marks.{stamp, stroke, label, lane_x, shift}
 use Rattle.am_draw.specs.Parts.{row_y}

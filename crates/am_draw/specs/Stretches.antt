@@ -3,15 +3,12 @@
 use Rattle.std.specs.Prelude.{ℕ, ◌+◌, ◌-◌, ◌*◌, nat_le, List, [], ◌∷◌, ◌++◌, length, codes, Option, None, Some, if◌then◌else◌}
 use Rattle.am_state.specs.{Obs}
 use Rattle.am_state.specs.declared.obs.Obs.TheVariants as seen
-use Rattle.am_draw.specs.declared.bars.Look.{Look}
-use Rattle.am_draw.specs.declared.bars.Look.TheVariants.{Missing, Expire, Ended, Waits, Inside, Idle}
-use Rattle.am_draw.specs.declared.bars.Holder.{Holder}
-use Rattle.am_draw.specs.declared.bars.Ending.{Ending}
-use Rattle.am_draw.specs.declared.bars.Ending.TheVariants.{Of, In, All}
-use Rattle.am_draw.specs.declared.marks.Lanes.{Lanes}
-use Rattle.am_draw.specs.declared.marks.Lanes.TheVariants.{OfTokens, OfWalkers}
+use Rattle.am_lanes.specs.{Ending, Holder, Look, ends}
+use Rattle.am_lanes.specs.declared.holder.Look.TheVariants.{Missing, Expire, Ended, Waits, Inside, Idle}
+use Rattle.am_lanes.specs.declared.holder.Ending.TheVariants.{Of, In, All}
+use Rattle.am_draw.specs.declared.marks.LaneKind.{LaneKind}
+use Rattle.am_draw.specs.declared.marks.LaneKind.TheVariants.{OfTokens, OfWalkers}
 use Rattle.am_draw.specs.declared.stretch.Until.{Until}
-use Rattle.am_draw.specs.Bars.{ends}
 use Rattle.am_draw.specs.Lasting.{Lasts}
 use Rattle.am_draw.specs.Marks.{stretch, lane_x}
 use Rattle.am_draw.specs.Parts.{wide}
@@ -47,7 +44,7 @@ lane_bar ending until (Some holder) x =
     if ends ending holder then bar holder.look until holder.since x else []
 
 -- the bars that end so in these lanes, behind so many of walkers; the first has this number
-abbrev pub lane_bars : Lanes → ℕ → Ending → Until → ℕ → List (Option Holder) → List ℕ
+abbrev pub lane_bars : LaneKind → ℕ → Ending → Until → ℕ → List (Option Holder) → List ℕ
 lane_bars lanes walkers ending until number [] = []
 lane_bars lanes walkers ending until number (lane ∷ others) =
     lane_bar ending until lane (lane_x lanes walkers number)

@@ -291,6 +291,7 @@ fn count_event(
         (lasts_of lasting.new)) }
     ensures number { IfOk result (λ counted. counted ≡ number) }
 {
+    lasting.mend(alloc)?;
     let before = world.trace().len();
     let answer = world.step(alloc, event);
     if is_out_of_memory(&answer) {
@@ -519,6 +520,7 @@ fn draw_event<W: Write>(
     ensures output { OnErr result (output.new ≡ output.old) }
     ensures writer { OnErr result (W.contents writer.new ≡ W.contents writer.old) }
 {
+    lasting.mend(alloc)?;
     let rows = rows_before(alloc, world, event, part.is_drawn(number))?;
     let before = world.trace().len();
     let answer = world.step(alloc, event);

@@ -1,20 +1,31 @@
 //! What lasts from one event to the next.
 
 ghost use Rattle.std.specs.Prelude.{◌≡◌, length, OnOk};
-ghost use Rattle.am_draw.specs.Lasting.{lasts_of, nothing_lasts, with_walker, with_token, changed, seen_behind, with_sighted, acted, behind, with_token_lane, with_walker_lane, roomed, roomed_for, seen_added, added};
+ghost use Rattle.am_draw.specs.Lasting.{token_look, lasts_of, nothing_lasts, with_walker, with_token, changed, seen_behind, with_sighted, acted, behind, with_token_lane, with_walker_lane, roomed, roomed_for, seen_added, added};
 
-use crate::bars::{
-    Ending, Holder, Look, add_lane, clear_lanes, end_bars, place, sight, token_look,
-};
-use am_names::{Token, WalkerId};
+use am_lanes::{Ending, Holder, Lanes, Look};
+use am_names::{FsId, Token, WalkerId};
+use am_wire::PacketType;
 use am_world::{Event, Obs};
 use std::alloc::{AllocError, Global};
 
 /// The lanes of tokens and of walkers.
 #[derive(Drop)]
 pub struct Lasting {
-    pub tokens: Vec<Option<Holder>>,
-    pub walkers: Vec<Option<Holder>>,
+    pub tokens: Lanes,
+    pub walkers: Lanes,
+}
+
+/// How an open token looks.
+fn token_look(kind: PacketType, fs: FsId) -> Look
+    ensures { result ≡ token_look kind fs }
+{
+    match kind {
+        PacketType::MissingIndirect => Look::Missing { fs },
+        PacketType::ExpireIndirect => Look::Expire { fs },
+        PacketType::MissingDirect => Look::Missing { fs },
+        PacketType::ExpireDirect => Look::Expire { fs },
+    }
 }
 
 impl Lasting {
@@ -23,18 +34,25 @@ impl Lasting {
         ensures { lasts_of result ≡ nothing_lasts 0 0 }
     {
         Lasting {
-            tokens: Vec::new(alloc),
-            walkers: Vec::new(alloc),
+            tokens: Lanes::new(alloc),
+            walkers: Lanes::new(alloc),
         }
     }
 
     /// Nobody holds a lane any more.
     pub fn clear(&mut self)
-        ensures { lasts_of self.new ≡ nothing_lasts (length self.old.tokens.items)
-            (length self.old.walkers.items) }
+        ensures { lasts_of self.new ≡ nothing_lasts (length self.old.tokens) (length self.old.walkers) }
     {
-        clear_lanes(&mut self.tokens);
-        clear_lanes(&mut self.walkers);
+        self.tokens.clear();
+        self.walkers.clear();
+    }
+
+    /// Makes the indexes of lanes for which there was no memory.
+    pub fn mend(&mut self, alloc: Global) -> Result<(), AllocError>
+        ensures { lasts_of self.new ≡ lasts_of self.old }
+    {
+        self.tokens.mend(alloc)?;
+        self.walkers.mend(alloc)
     }
 
     fn place_walker(&mut self, number: u64, walker: WalkerId, look: Look)
@@ -45,7 +63,7 @@ impl Lasting {
             look,
             since: number,
         };
-        place(&mut self.walkers, holder);
+        self.walkers.place(holder);
     }
 
     fn place_token(&mut self, number: u64, token: Token, look: Look)
@@ -56,7 +74,7 @@ impl Lasting {
             look,
             since: number,
         };
-        place(&mut self.tokens, holder);
+        self.tokens.place(holder);
     }
 
     /// What is seen of the event with this number has changed who holds which lane.
@@ -69,10 +87,8 @@ impl Lasting {
                 self.place_token(number, *token, look)
             }
             Obs::Waits { walker, .. } => self.place_walker(number, *walker, Look::Waits),
-            Obs::Answered { token, .. } => {
-                end_bars(&mut self.tokens, &Ending::Of { number: token.0 })
-            }
-            Obs::Catatonic { fs } => end_bars(&mut self.tokens, &Ending::In { fs: *fs }),
+            Obs::Answered { token, .. } => self.tokens.end_bars(&Ending::Of { number: token.0 }),
+            Obs::Catatonic { fs } => self.tokens.end_bars(&Ending::In { fs: *fs }),
             Obs::Released { walker, .. } => self.place_walker(number, *walker, Look::Idle),
             Obs::Entered { walker, .. } => self.place_walker(number, *walker, Look::Inside),
             Obs::Left { walker, .. } => self.place_walker(number, *walker, Look::Idle),
@@ -97,7 +113,7 @@ impl Lasting {
             look: Look::Idle,
             since: number,
         };
-        sight(&mut self.walkers, holder);
+        self.walkers.sight(holder);
     }
 
     /// A walker that does something has a lane.
@@ -124,13 +140,13 @@ impl Lasting {
     fn add_token(&mut self, token: Token) -> Result<(), AllocError>
         ensures { OnOk result (lasts_of self.new ≡ with_token_lane token (lasts_of self.old)) }
     {
-        add_lane(&mut self.tokens, token.0)
+        self.tokens.add_lane(token.0)
     }
 
     fn add_walker(&mut self, walker: WalkerId) -> Result<(), AllocError>
         ensures { OnOk result (lasts_of self.new ≡ with_walker_lane walker (lasts_of self.old)) }
     {
-        add_lane(&mut self.walkers, walker.0)
+        self.walkers.add_lane(walker.0)
     }
 
     fn make_room(&mut self, obs: &Obs) -> Result<(), AllocError>

@@ -1,7 +1,6 @@
 //! A picture of what happened in a script.
 #![tactic(auto)]
 
-mod bars;
 pub mod draw;
 mod head;
 mod lasting;

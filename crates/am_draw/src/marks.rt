@@ -13,13 +13,13 @@ use std::io::Write;
 
 /// Lanes of tokens, or of walkers.
 #[derive(Clone, Copy)]
-pub enum Lanes {
+pub enum LaneKind {
     OfTokens,
     OfWalkers,
 }
 
 /// The middle of a lane, behind so many lanes of walkers, in pixels from the left.
-pub(crate) fn lane_x(lanes: Lanes, walkers: u64, lane: usize) -> u64
+pub(crate) fn lane_x(lanes: LaneKind, walkers: u64, lane: usize) -> u64
     requires { walkers ≤ 1000000 }
     ensures x { result ≡ lane_x lanes walkers lane }
     ensures left { 332 ≤ result }
@@ -27,8 +27,8 @@ pub(crate) fn lane_x(lanes: Lanes, walkers: u64, lane: usize) -> u64
 {
     let lane = (lane as u64).min(MOST_LANES);
     match lanes {
-        Lanes::OfTokens => 338 + 44 * walkers + 20 * lane,
-        Lanes::OfWalkers => 332 + 44 * lane,
+        LaneKind::OfTokens => 338 + 44 * walkers + 20 * lane,
+        LaneKind::OfWalkers => 332 + 44 * lane,
     }
 }
 

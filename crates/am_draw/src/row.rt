@@ -9,10 +9,9 @@ ghost use Rattle.am_draw.specs.Rows.{token_x, walker_x, inset, moved, walker_mar
 ghost use Rattle.am_draw.specs.Trees.{mounts_marks};
 ghost use Rattle.am_draw.specs.Words.{words};
 
-use crate::bars::lane_of;
 use crate::lasting::Lasting;
 use crate::marks::{
-    Lanes, lane_x, put_closing, put_number_label, put_opening, put_stamp, put_stroke, shift,
+    LaneKind, lane_x, put_closing, put_number_label, put_opening, put_stamp, put_stroke, shift,
 };
 use crate::stretch::{Until, put_ended_bars, token_columns, walker_columns};
 use crate::trees::{Trees, put_mounts};
@@ -29,8 +28,8 @@ fn token_x(lasting: &Lasting, token: Token) -> u64
     ensures left { 332 ≤ result }
     ensures right { result ≤ 64000338 }
 {
-    let lane = lane_of(lasting.tokens.as_slice(), token.0);
-    lane_x(Lanes::OfTokens, walker_columns(lasting), lane)
+    let lane = lasting.tokens.lane_of(token.0);
+    lane_x(LaneKind::OfTokens, walker_columns(lasting), lane)
 }
 
 fn walker_x(lasting: &Lasting, walker: WalkerId) -> u64
@@ -38,8 +37,8 @@ fn walker_x(lasting: &Lasting, walker: WalkerId) -> u64
     ensures left { 332 ≤ result }
     ensures right { result ≤ 64000338 }
 {
-    let lane = lane_of(lasting.walkers.as_slice(), walker.0);
-    lane_x(Lanes::OfWalkers, walker_columns(lasting), lane)
+    let lane = lasting.walkers.lane_of(walker.0);
+    lane_x(LaneKind::OfWalkers, walker_columns(lasting), lane)
 }
 
 /// How far the columns of tokens are moved.

@@ -6,10 +6,10 @@ ghost use Rattle.am_draw.specs.Lasting.{lasts_of};
 ghost use Rattle.am_draw.specs.Parts.{most_rows};
 ghost use Rattle.am_draw.specs.Stretches.{walker_columns, token_columns, reach, bar, lane_bar, lane_bars, token_bars, walker_bars, ended_bars, all_bars};
 
-use crate::bars::{Ending, Holder, Look, ends};
 use crate::lasting::Lasting;
-use crate::marks::{Lanes, lane_x, put_stretch};
+use crate::marks::{LaneKind, lane_x, put_stretch};
 use crate::part::wide;
+use am_lanes::{Ending, Holder, Lanes, Look, ends};
 use am_script::output::Output;
 use am_world::Obs;
 use std::io::Write;
@@ -109,22 +109,24 @@ fn put_holder<W: Write>(
 #[tactic(auto, using(am_script::proofs::Pieces::puts_none))]
 fn put_lanes<W: Write>(
     output: &mut Output,
-    lanes: Lanes,
+    kind: LaneKind,
     walkers: u64,
     ending: &Ending,
     until: &Until,
-    holders: &[Option<Holder>],
+    lanes: &Lanes,
     writer: &mut W,
 )
     requires rows { until.now.number - until.now.skipped ≤ most_rows }
     requires more { until.now.more ≤ 13 }
     requires walkers { walkers ≤ 1000000 }
-    ensures { Puts output.old output.new (lane_bars lanes walkers ending.now until.now 0 holders.now)
+    ensures { Puts output.old output.new (lane_bars kind walkers ending.now until.now 0 lanes.now)
         (W.contents writer.old) (W.contents writer.new) }
 {
-    for (lane, holder) in holders.iter().enumerate() {
-        let x = lane_x(lanes, walkers, lane);
-        put_holder(output, ending, until, holder, x, writer);
+    let mut from = 0;
+    while let Some(lane) = lanes.next_ending(ending, from) {
+        let x = lane_x(kind, walkers, lane);
+        put_holder(output, ending, until, &lanes.holder(lane), x, writer);
+        from = lane + 1;
     }
 }
 
@@ -141,14 +143,13 @@ fn put_token_bars<W: Write>(
         (W.contents writer.old) (W.contents writer.new) }
 {
     let walkers = walker_columns(lasting);
-    let holders = lasting.tokens.as_slice();
     put_lanes(
         output,
-        Lanes::OfTokens,
+        LaneKind::OfTokens,
         walkers,
         ending,
         until,
-        holders,
+        &lasting.tokens,
         writer,
     );
 }
@@ -166,14 +167,13 @@ fn put_walker_bars<W: Write>(
         (W.contents writer.old) (W.contents writer.new) }
 {
     let walkers = walker_columns(lasting);
-    let holders = lasting.walkers.as_slice();
     put_lanes(
         output,
-        Lanes::OfWalkers,
+        LaneKind::OfWalkers,
         walkers,
         ending,
         until,
-        holders,
+        &lasting.walkers,
         writer,
     );
 }

@@ -1,5 +1,0 @@
-use Rattle.std.proofs.Common.{◌≡◌, ◌++◌, take, drop, map, None}
-use Rattle.am_draw.proofs.bars.empty_lanes.Given as goal
-
-abbrev pub invariant-loop-lane : goal.invariant-loop-lane
-invariant-loop-lane l = l.lanes ≡ map (λ lane. None) (take l.lane-index l.fn.lanes) ++ drop l.lane-index l.fn.lanes
