@@ -76,6 +76,7 @@ kind_word of_script.LongLine = codes "LongLine"
 kind_word of_script.NoMemory = codes "NoMemory"
 kind_word of_script.ReadFailed = codes "ReadFailed"
 kind_word of_script.WriteFailed = codes "WriteFailed"
+kind_word of_script.NoSuchNamespace = codes "NoSuchNamespace"
 
 -- what is told of it
 abbrev pub script_told : ScriptFault → List ℕ
