@@ -18,7 +18,7 @@ pub use Marks.{lane_x}
 pub use Parts.{is_drawn, is_past, part_of, row_y, rows_shown}
 pub use Rows.{obs_drawn, row_text, seen_drawn, sides_of}
 pub use Sides.{sides_said}
-pub use Stretches.{lane_bar, lane_bars}
+pub use Stretches.{bar, lane_bar, lane_bars}
 pub use Trees.{is_umount, rows_before, takes_mounts, tree_marks}
 pub use Words.{xml}
 pub use declared.marks.LaneKind.{LaneKind}

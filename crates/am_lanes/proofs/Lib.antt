@@ -1,2 +1,4 @@
+pub mod ChangeLemmas
 pub mod IndexLemmas
 pub mod LaneLemmas
+pub mod ToldLemmas

@@ -4,6 +4,8 @@
 mod holder;
 mod index;
 mod lanes;
+pub mod law;
 
 pub use holder::{Ending, Holder, Look, ends};
 pub use lanes::Lanes;
+pub use law::{bars_are_told, nobody_loses_a_lane};
