@@ -4,7 +4,7 @@
 usage: generate.py one-by-one|all-first KEYS script|answers
        generate.py map|master LINES script|answers
        generate.py namespaces|peers N script|answers
-       generate.py expiries|walks|mounts|families|lives|copies|masters|attachments|jobs N script|answers
+       generate.py expiries|walks|mounts|families|lives|copies|masters|attachments|jobs|crowd N script|answers
 
 Key I is walked to by walker I, which waits on token I. Of a long map, or of a long master map with
 a map for each of its lines, the last line is attached, walked to and begun to be served, so that
@@ -13,8 +13,8 @@ mount, TIMES mounts are made, each with N copies. Where N keys stand, they are a
 walked to; N times a mount with TIMES copies comes and goes; on N peers that have STOOD mounts each
 TIMES mounts come and go with N copies each; one key lives N times from its walk to its expiry; a namespace of N mounts is copied and dropped; where N mounts are shared, N times one more
 gives up its peer group, which has a slave; where N autofs file systems are attached, a key of each is
-served; and N keys are delivered before the first of them is served. The same arguments give the same
-bytes.
+served; N keys are delivered before the first of them is served; and N walkers are inside of one mount at
+once, before they leave. The same arguments give the same bytes.
 """
 
 import sys
@@ -23,7 +23,7 @@ SHAPES = ("one-by-one", "all-first")
 HEADS = ("map", "master")
 COPIES = ("namespaces", "peers")
 STANDING = ("expiries", "walks")
-LIVES = STANDING + ("mounts", "families", "lives", "copies", "masters", "attachments", "jobs")
+LIVES = STANDING + ("mounts", "families", "lives", "copies", "masters", "attachments", "jobs", "crowd")
 # So many mounts come with copies, whatever N is.
 TIMES = 10
 # So many mounts stand on each peer.
@@ -49,7 +49,7 @@ def head(shape, keys):
     elif shape == "attachments":
         yield from long_master(keys)
     else:
-        yield from one_map({"namespaces": TIMES, "lives": 1}.get(shape, keys), "")
+        yield from one_map({"namespaces": TIMES, "lives": 1, "crowd": 1}.get(shape, keys), "")
 
 
 def one_map(lines, options):
@@ -212,6 +212,13 @@ def events(shape, keys):
             yield f"deliver {i}", f"job {i}"
         for i in range(1, keys + 1):
             yield from work(i, i + 2, i + 2, i, name(i))
+    elif shape == "crowd":
+        yield from walk(1)
+        yield from serve(1, 3, 3)
+        for i in range(2, keys + 1):
+            yield f"walk {i} 0 /auto/{name(1)} 102 room", "at 3 /"
+        for i in range(1, keys + 1):
+            yield f"leave {i}", "ok"
     elif shape == "one-by-one":
         for i in range(1, keys + 1):
             yield from walk(i)

@@ -18,7 +18,7 @@ import generate
 
 RUNS = 5
 LINES = 100_000
-SHAPES = ("lives", "mounts", "one-by-one")
+SHAPES = ("lives", "mounts", "one-by-one", "crowd")
 VIEWS = ("script", "trace", "draw", "world")
 MOST = 3.0
 

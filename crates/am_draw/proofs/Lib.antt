@@ -1,4 +1,5 @@
 pub mod BarLemmas
+pub mod ChangeLemmas
 pub mod CountLemmas
 pub mod DrawInputs
 pub mod DrawnSoFar

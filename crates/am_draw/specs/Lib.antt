@@ -1,3 +1,4 @@
+pub mod Changes
 pub mod Drawn
 pub mod Head
 pub mod Lasting

@@ -4,6 +4,7 @@
 pub mod draw;
 mod head;
 mod lasting;
+pub mod law;
 mod look;
 mod marks;
 pub mod part;
@@ -14,3 +15,4 @@ mod trees;
 mod words;
 
 pub use draw::draw_script;
+pub use law::nobody_loses_a_bar;

@@ -1,0 +1,215 @@
+-- Lanes change as is seen.
+use Rattle.std.proofs.Common.{◌≡◌, ◌≤◌, ℕ, ◌+◌, ◌-◌, Bool, true, false, List, [], ◌∷◌, ◌++◌, length, replicate, None, ⊥, inl, inr, refl, sym, ap, ◌∙◌, subst, append_assoc, append-nil, arith, if◌then◌else◌}
+use Rattle.std.specs.Prelude.{nat_lt}
+use Rattle.std.specs.List.{flat_map}
+use Rattle.std.proofs.lemmas.Bool.Decides.{nat_tests}
+use Rattle.am_names.specs.declared.errno.Errno.TheVariants as errnos
+use Rattle.am_state.specs.{Obs}
+use Rattle.am_state.specs.declared.obs.Obs.TheVariants as seen
+use Rattle.am_machine.specs.{Answer, Event, Step}
+use Rattle.am_machine.specs.State.{State}
+use Rattle.am_machine.specs.declared.answer.Answer.TheVariants.{Refused}
+use Rattle.am_machine.specs.declared.event.Event.TheVariants as events
+use Rattle.am_script.specs.{Numbered}
+use Rattle.am_lanes.specs.{Change, HaveBars, Holder, bar_behind, behind_all, grown_by}
+use Rattle.am_lanes.proofs.ToldLemmas.{all_told}
+use Rattle.am_draw.specs.{Lasts, Part, Viewed, ViewedRun, acted, added, added_behind, asked_in, behind, changed, first_lasts, is_out_of_memory, is_past, lasts_behind, next_lasts, nothing_lasts, roomed, roomed_for, seen_added, seen_behind, size_of}
+use Rattle.am_draw.specs.Changes.{BarsAreSeen, NobodyLosesABar, actor_changes, changes_of_tokens, changes_of_walkers, token_changes, walker_changes}
+
+-- ---- changes one after another
+
+behind_both : (lanes : List (Option Holder)) (a b : List Change) → behind_all lanes (a ++ b) ≡ behind_all (behind_all lanes a) b
+behind_both lanes [] b = refl
+behind_both lanes (change ∷ a) b = behind_both _ a b
+
+grown_both : (lanes : List (Option Holder)) (a b : List Change) → grown_by lanes (a ++ b) ≡ grown_by (grown_by lanes a) b
+grown_both lanes [] b = refl
+grown_both lanes (change ∷ a) b = grown_both _ a b
+
+-- the lanes behind these changes
+abbrev pub by_changes : Lasts → List Change → List Change → Lasts
+by_changes lasts tokens walkers = record { tokens = behind_all lasts.tokens tokens; walkers = behind_all lasts.walkers walkers }
+
+-- and where lanes are added
+abbrev pub grown_to : Lasts → List Change → List Change → Lasts
+grown_to lasts tokens walkers = record { tokens = grown_by lasts.tokens tokens; walkers = grown_by lasts.walkers walkers }
+
+by_both : (lasts : Lasts) (a b c d : List Change) → by_changes (by_changes lasts a c) b d ≡ by_changes lasts (a ++ b) (c ++ d)
+by_both lasts a b c d =
+    ap (λ (t : List (Option Holder)). (record { tokens = t; walkers = behind_all (behind_all lasts.walkers c) d })) (sym (behind_both lasts.tokens a b))
+    ∙ ap (λ (t : List (Option Holder)). (record { tokens = behind_all lasts.tokens (a ++ b); walkers = t })) (sym (behind_both lasts.walkers c d))
+
+grown_of_both : (lasts : Lasts) (a b c d : List Change) → grown_to (grown_to lasts a c) b d ≡ grown_to lasts (a ++ b) (c ++ d)
+grown_of_both lasts a b c d =
+    ap (λ (t : List (Option Holder)). (record { tokens = t; walkers = grown_by (grown_by lasts.walkers c) d })) (sym (grown_both lasts.tokens a b))
+    ∙ ap (λ (t : List (Option Holder)). (record { tokens = grown_by lasts.tokens (a ++ b); walkers = t })) (sym (grown_both lasts.walkers c d))
+
+-- ---- an observation
+
+one_changes : (number : ℕ) (lasts : Lasts) (obs : Obs) → changed number lasts obs ≡ by_changes lasts (token_changes number obs) (walker_changes number obs)
+one_changes number lasts (seen.Queued token attach packet) = refl
+one_changes number lasts (seen.Waits walker token) = refl
+one_changes number lasts (seen.Answered token status) = refl
+one_changes number lasts (seen.Catatonic fs) = refl
+one_changes number lasts (seen.Released walker token status) = refl
+one_changes number lasts (seen.Passed walker trigger) = refl
+one_changes number lasts (seen.Entered walker mount) = refl
+one_changes number lasts (seen.Left walker mount) = refl
+one_changes number lasts (seen.Mounted mounts) = refl
+one_changes number lasts (seen.Unmounted mounts) = refl
+one_changes number lasts (seen.Delivered token attach packet) = refl
+one_changes number lasts (seen.Recorded trigger entry) = refl
+one_changes number lasts (seen.Reattached fs attach) = refl
+one_changes number lasts seen.Died = refl
+
+one_grows : (number : ℕ) (lasts : Lasts) (obs : Obs) → changed number (roomed lasts obs) obs ≡ grown_to lasts (token_changes number obs) (walker_changes number obs)
+one_grows number lasts (seen.Queued token attach packet) = refl
+one_grows number lasts (seen.Waits walker token) = refl
+one_grows number lasts (seen.Answered token status) = refl
+one_grows number lasts (seen.Catatonic fs) = refl
+one_grows number lasts (seen.Released walker token status) = refl
+one_grows number lasts (seen.Passed walker trigger) = refl
+one_grows number lasts (seen.Entered walker mount) = refl
+one_grows number lasts (seen.Left walker mount) = refl
+one_grows number lasts (seen.Mounted mounts) = refl
+one_grows number lasts (seen.Unmounted mounts) = refl
+one_grows number lasts (seen.Delivered token attach packet) = refl
+one_grows number lasts (seen.Recorded trigger entry) = refl
+one_grows number lasts (seen.Reattached fs attach) = refl
+one_grows number lasts seen.Died = refl
+
+seen_changes : (number : ℕ) (lasts : Lasts) (seen : List Obs) → seen_behind number lasts seen ≡ by_changes lasts (flat_map (token_changes number) seen) (flat_map (walker_changes number) seen)
+seen_changes number lasts [] = refl
+seen_changes number lasts (obs ∷ seen) =
+    seen_changes number (changed number lasts obs) seen
+    ∙ ap (λ (l : Lasts). by_changes l (flat_map (token_changes number) seen) (flat_map (walker_changes number) seen)) (one_changes number lasts obs)
+    ∙ by_both lasts (token_changes number obs) (flat_map (token_changes number) seen) (walker_changes number obs) (flat_map (walker_changes number) seen)
+
+seen_grows : (number : ℕ) (lasts : Lasts) (seen : List Obs) → seen_added number lasts seen ≡ grown_to lasts (flat_map (token_changes number) seen) (flat_map (walker_changes number) seen)
+seen_grows number lasts [] = refl
+seen_grows number lasts (obs ∷ seen) =
+    seen_grows number (changed number (roomed lasts obs) obs) seen
+    ∙ ap (λ (l : Lasts). grown_to l (flat_map (token_changes number) seen) (flat_map (walker_changes number) seen)) (one_grows number lasts obs)
+    ∙ grown_of_both lasts (token_changes number obs) (flat_map (token_changes number) seen) (walker_changes number obs) (flat_map (walker_changes number) seen)
+
+-- ---- an event
+
+actor_acts : (number : ℕ) (lasts : Lasts) (event : Event) → acted number lasts event ≡ by_changes lasts [] (actor_changes number event)
+actor_acts number lasts (events.Walk walker ns path now pipe) = refl
+actor_acts number lasts (events.Resume walker now pipe) = refl
+actor_acts number lasts (events.Leave walker) = refl
+actor_acts number lasts (events.Expire walker fs now immediate pipe) = refl
+actor_acts number lasts event = refl
+
+actor_grows : (number : ℕ) (lasts : Lasts) (event : Event) → acted number (roomed_for lasts event) event ≡ grown_to lasts [] (actor_changes number event)
+actor_grows number lasts (events.Walk walker ns path now pipe) = refl
+actor_grows number lasts (events.Resume walker now pipe) = refl
+actor_grows number lasts (events.Leave walker) = refl
+actor_grows number lasts (events.Expire walker fs now immediate pipe) = refl
+actor_grows number lasts event = refl
+
+event_changes : (number : ℕ) (lasts : Lasts) (event : Event) (seen : List Obs) → behind number lasts event seen ≡ by_changes lasts (flat_map (token_changes number) seen) (actor_changes number event ++ flat_map (walker_changes number) seen)
+event_changes number lasts event seen =
+    seen_changes number (acted number lasts event) seen
+    ∙ ap (λ (l : Lasts). by_changes l (flat_map (token_changes number) seen) (flat_map (walker_changes number) seen)) (actor_acts number lasts event)
+    ∙ by_both lasts [] (flat_map (token_changes number) seen) (actor_changes number event) (flat_map (walker_changes number) seen)
+
+event_grows : (number : ℕ) (lasts : Lasts) (event : Event) (seen : List Obs) → added number lasts event seen ≡ grown_to lasts (flat_map (token_changes number) seen) (actor_changes number event ++ flat_map (walker_changes number) seen)
+event_grows number lasts event seen =
+    seen_grows number (acted number (roomed_for lasts event) event) seen
+    ∙ ap (λ (l : Lasts). grown_to l (flat_map (token_changes number) seen) (flat_map (walker_changes number) seen)) (actor_grows number lasts event)
+    ∙ grown_of_both lasts [] (flat_map (token_changes number) seen) (actor_changes number event) (flat_map (walker_changes number) seen)
+
+-- ---- all events
+
+all_grow : (number : ℕ) (lasts : Lasts) (rows : List Viewed) → added_behind number lasts rows ≡ grown_to lasts (changes_of_tokens number rows) (changes_of_walkers number rows)
+all_grow number lasts [] = refl
+all_grow number lasts (row ∷ rows) =
+    let here : Lasts = added number lasts row.asked.event row.seen in
+    let tokens : List Change = flat_map (token_changes number) row.seen in
+    let walkers : List Change = actor_changes number row.asked.event ++ flat_map (walker_changes number) row.seen in
+    all_grow (number + 1) here rows
+    ∙ ap (λ (l : Lasts). grown_to l (changes_of_tokens (number + 1) rows) (changes_of_walkers (number + 1) rows)) (event_grows number lasts row.asked.event row.seen)
+    ∙ grown_of_both lasts tokens (changes_of_tokens (number + 1) rows) walkers (changes_of_walkers (number + 1) rows)
+
+not_past : (part : Part) (number more : ℕ) → is_past part (number + more) ≡ false → is_past part number ≡ false
+not_past part number more e = grind (arith, nat_tests, e)
+
+all_change : (part : Part) (number : ℕ) (lasts : Lasts) (rows : List Viewed) → is_past part (number + length rows) ≡ false → lasts_behind part (number + 1) lasts rows ≡ by_changes lasts (changes_of_tokens (number + 1) rows) (changes_of_walkers (number + 1) rows)
+all_change part number lasts [] e = refl
+all_change part number lasts (row ∷ rows) e =
+    let tokens : List Change = flat_map (token_changes (number + 1)) row.seen in
+    let walkers : List Change = actor_changes (number + 1) row.asked.event ++ flat_map (walker_changes (number + 1)) row.seen in
+    let last : is_past part (number + 1 + length rows) ≡ false = subst (λ (n : ℕ). is_past part n ≡ false) (omega arith) e in
+    let here : next_lasts part (number + 1) lasts row.asked.event row.seen ≡ behind (number + 1) lasts row.asked.event row.seen =
+    ap (λ (b : Bool). if b then lasts else behind (number + 1) lasts row.asked.event row.seen) (not_past part (number + 1) (length rows) last) in
+    all_change part (number + 1) (next_lasts part (number + 1) lasts row.asked.event row.seen) rows last
+    ∙ ap (λ (l : Lasts). by_changes l (changes_of_tokens (number + 1 + 1) rows) (changes_of_walkers (number + 1 + 1) rows)) (here ∙ event_changes (number + 1) lasts row.asked.event row.seen)
+    ∙ by_both lasts tokens (changes_of_tokens (number + 1 + 1) rows) walkers (changes_of_walkers (number + 1 + 1) rows)
+
+-- ---- the events that are drawn come first of those that were counted
+
+no_room : (a : Answer) → a ≡ Refused errnos.NoMemory → is_out_of_memory a ≡ false → ⊥
+no_room a e f = absurd (cc (rw e at f))
+
+-- a step that isn't refused for want of memory is the only one
+step_same : (s : State) (event : Event) (a b : Answer) (x y : List Obs) (m n : State) → Step s event a x m → Step s event b y n → is_out_of_memory a ≡ false → is_out_of_memory b ≡ false → (x ≡ y) × (m ≡ n)
+step_same s event a b x y m n (inl r) q e f = absurd (no_room a r.told e)
+step_same s event a b x y m n (inr p) (inl r) e f = absurd (no_room b r.told f)
+step_same s event a b x y m n (inr p) (inr q) e f = (p.shown ∙ sym q.shown, p.left ∙ sym q.left)
+
+-- what all events change begins with what these do
+pub record Begins (number : ℕ) (all rows : List Viewed) : Type 0 where
+  pub tokens : List Change
+  pub walkers : List Change
+  pub of_tokens : changes_of_tokens number all ≡ changes_of_tokens number rows ++ tokens
+  pub of_walkers : changes_of_walkers number all ≡ changes_of_walkers number rows ++ walkers
+
+begins : (number : ℕ) (start ends now : State) (all rows : List Viewed) (left : List Numbered) → ViewedRun start all ends → ViewedRun start rows now → asked_in all ≡ asked_in rows ++ left → Begins number all rows
+begins number start ends now all [] left r q e = record {
+  tokens = changes_of_tokens number all;
+  walkers = changes_of_walkers number all;
+  of_tokens = refl;
+  of_walkers = refl;
+}
+begins number start ends now [] (row ∷ rows) left r q e = absurd cc
+begins number start ends now (a ∷ all) (row ∷ rows) left r q e =
+    let asked : a.asked ≡ row.asked = cc e in
+    let rest : asked_in all ≡ asked_in rows ++ left = cc e in
+    let event : a.asked.event ≡ row.asked.event = ap (λ (n : Numbered). n.event) asked in
+    let step : Step start row.asked.event a.answer a.seen r.0 = subst (λ (o : Event). Step start o a.answer a.seen r.0) event r.1.step in
+    let same = step_same start row.asked.event a.answer row.answer a.seen row.seen r.0 q.0 step q.1.step r.1.has_room q.1.has_room in
+    let later = begins (number + 1) q.0 ends now all rows left (subst (λ (s : State). ViewedRun s all ends) same.1 r.2) q.2 rest in
+    let tokens : List Change = flat_map (token_changes number) row.seen in
+    let walkers : List Change = actor_changes number row.asked.event ++ flat_map (walker_changes number) row.seen in
+    record {
+      tokens = later.tokens;
+      walkers = later.walkers;
+      of_tokens =
+          ap (λ (x : List Obs). flat_map (token_changes number) x ++ changes_of_tokens (number + 1) all) same.0
+          ∙ ap (λ (t : List Change). tokens ++ t) later.of_tokens
+          ∙ sym (append_assoc tokens (changes_of_tokens (number + 1) rows) later.tokens);
+      of_walkers =
+          ap (λ (x : List Obs). (actor_changes number a.asked.event ++ flat_map (walker_changes number) x) ++ changes_of_walkers (number + 1) all) same.0
+          ∙ ap (λ (o : Event). (actor_changes number o ++ flat_map (walker_changes number) row.seen) ++ changes_of_walkers (number + 1) all) event
+          ∙ ap (λ (t : List Change). walkers ++ t) later.of_walkers
+          ∙ sym (append_assoc walkers (changes_of_walkers (number + 1) rows) later.walkers);
+    }
+
+-- the lanes behind them have these bars
+told : (rows later whole : List Change) (count : ℕ) → whole ≡ rows ++ later → count ≡ length (grown_by [] whole) → HaveBars (behind_all (replicate count None) rows) (λ number. bar_behind number None rows)
+told rows later whole count e wide =
+    subst (λ (n : ℕ). HaveBars (behind_all (replicate n None) rows) (λ number. bar_behind number None rows))
+    (sym (wide ∙ ap (λ (cs : List Change). length (grown_by [] cs)) e))
+    (all_told rows later)
+
+pub nobody_loses_a_bar : NobodyLosesABar
+nobody_loses_a_bar part start ends now all rows left r q e size past =
+    let first = begins 1 start ends now all rows left r q e in
+    let grown : added_behind 1 (nothing_lasts 0 0) all ≡ grown_to (nothing_lasts 0 0) (changes_of_tokens 1 all) (changes_of_walkers 1 all) = all_grow 1 (nothing_lasts 0 0) all in
+    let lasts = all_change part 0 (first_lasts part) rows past in
+    subst (λ (l : Lasts). BarsAreSeen l rows) (sym lasts)
+    (record {
+      tokens = told (changes_of_tokens 1 rows) first.tokens (changes_of_tokens 1 all) part.size.tokens first.of_tokens (ap (λ (s : Size). s.tokens) size ∙ ap (λ (l : Lasts). length l.tokens) grown);
+      walkers = told (changes_of_walkers 1 rows) first.walkers (changes_of_walkers 1 all) part.size.walkers first.of_walkers (ap (λ (s : Size). s.walkers) size ∙ ap (λ (l : Lasts). length l.walkers) grown);
+    })

@@ -1,0 +1,74 @@
+-- What each event changes in the lanes, one change after another, and what is true of bars behind it.
+-- Own choice (docs/FORMATS.md, "Pictures").
+use Rattle.std.specs.Prelude.{◌≡◌, ℕ, ◌+◌, false, List, [], ◌∷◌, ◌++◌, length, None}
+use Rattle.std.specs.List.{flat_map}
+use Rattle.am_state.specs.{Obs}
+use Rattle.am_state.specs.declared.obs.Obs.TheVariants as seen
+use Rattle.am_machine.specs.{Event}
+use Rattle.am_machine.specs.declared.event.Event.TheVariants as events
+use Rattle.am_machine.specs.State.{State}
+use Rattle.am_script.specs.{Numbered}
+use Rattle.am_lanes.specs.{Change, HaveBars, Look, bar_behind}
+use Rattle.am_lanes.specs.Changes.Change.{Places, Sights, Ends}
+use Rattle.am_lanes.specs.declared.holder.Look.TheVariants.{Waits, Inside, Idle}
+use Rattle.am_lanes.specs.declared.holder.Ending.TheVariants.{Of, In}
+use Rattle.am_draw.specs.declared.part.Part.{Part}
+use Rattle.am_draw.specs.Drawn.{Viewed, ViewedRun, asked_in, first_lasts, lasts_behind, size_of}
+use Rattle.am_draw.specs.Lasting.{Lasts, token_look}
+use Rattle.am_draw.specs.Parts.{is_past}
+
+-- a walker looks so from the event with this number on
+abbrev pub walker_looks : ℕ → ℕ → Look → List Change
+walker_looks number walker look = Places (record { number = walker; look = look; since = number }) ∷ []
+
+-- what an observation of the event with this number changes in the lanes of tokens
+abbrev pub token_changes : ℕ → Obs → List Change
+token_changes number (seen.Queued token attach packet) =
+    Places (record { number = token; look = token_look packet.kind packet.dev; since = number }) ∷ []
+token_changes number (seen.Answered token status) = Ends (Of token) ∷ []
+token_changes number (seen.Catatonic fs) = Ends (In fs) ∷ []
+token_changes number obs = []
+
+-- and in the lanes of walkers
+abbrev pub walker_changes : ℕ → Obs → List Change
+walker_changes number (seen.Waits walker token) = walker_looks number walker Waits
+walker_changes number (seen.Released walker token status) = walker_looks number walker Idle
+walker_changes number (seen.Entered walker mount) = walker_looks number walker Inside
+walker_changes number (seen.Left walker mount) = walker_looks number walker Idle
+walker_changes number obs = []
+
+-- a walker that does something has a lane
+abbrev pub actor_changes : ℕ → Event → List Change
+actor_changes number (events.Walk walker ns path now pipe) = Sights walker number ∷ []
+actor_changes number (events.Resume walker now pipe) = Sights walker number ∷ []
+actor_changes number (events.Leave walker) = Sights walker number ∷ []
+actor_changes number (events.Expire walker fs now immediate pipe) = Sights walker number ∷ []
+actor_changes number event = []
+
+-- what these events change in the lanes of tokens, of which the first has this number
+abbrev pub changes_of_tokens : ℕ → List Viewed → List Change
+changes_of_tokens number [] = []
+changes_of_tokens number (row ∷ rows) =
+    flat_map (token_changes number) row.seen ++ changes_of_tokens (number + 1) rows
+
+-- and in the lanes of walkers
+abbrev pub changes_of_walkers : ℕ → List Viewed → List Change
+changes_of_walkers number [] = []
+changes_of_walkers number (row ∷ rows) =
+    (actor_changes number row.asked.event ++ flat_map (walker_changes number) row.seen)
+    ++ changes_of_walkers (number + 1) rows
+
+-- who has a bar behind these events, and how it looks, is what was seen of them
+pub record BarsAreSeen (lasts : Lasts) (rows : List Viewed) : Type 0 where
+  pub tokens : HaveBars lasts.tokens (λ token. bar_behind token None (changes_of_tokens 1 rows))
+  pub walkers : HaveBars lasts.walkers (λ walker. bar_behind walker None (changes_of_walkers 1 rows))
+
+-- Where a part of a picture has as many lanes as a run of all events comes to, these events come first of
+-- them, and the last of them isn't behind the part, each has the bar that was seen to begin and not to
+-- end, in one lane, and no other has one.
+abbrev pub NobodyLosesABar : Type 0
+NobodyLosesABar =
+    (part : Part) (start ends now : State) (all rows : List Viewed) (left : List Numbered) →
+    ViewedRun start all ends → ViewedRun start rows now → asked_in all ≡ asked_in rows ++ left →
+    part.size ≡ size_of all → is_past part (length rows) ≡ false →
+    BarsAreSeen (lasts_behind part 1 (first_lasts part) rows) rows
