@@ -1,5 +1,5 @@
 -- Lanes change as is seen.
-use Rattle.std.proofs.Common.{◌≡◌, ◌≤◌, ℕ, ◌+◌, ◌-◌, Bool, true, false, List, [], ◌∷◌, ◌++◌, length, replicate, None, ⊥, inl, inr, refl, sym, ap, ◌∙◌, subst, append_assoc, append-nil, arith, if◌then◌else◌}
+use Rattle.std.proofs.Common.{◌≡◌, ◌≤◌, ℕ, ◌+◌, ◌-◌, Bool, true, false, List, [], ◌∷◌, ◌++◌, length, replicate, Option, None, inl, inr, refl, sym, ap, ◌∙◌, subst, append_assoc, append-nil, arith, if◌then◌else◌}
 use Rattle.std.specs.Prelude.{nat_lt}
 use Rattle.std.specs.List.{flat_map}
 use Rattle.std.proofs.lemmas.Bool.Decides.{nat_tests}
@@ -13,7 +13,7 @@ use Rattle.am_machine.specs.declared.event.Event.TheVariants as events
 use Rattle.am_script.specs.{Numbered}
 use Rattle.am_lanes.specs.{Change, HaveBars, Holder, bar_behind, behind_all, grown_by}
 use Rattle.am_lanes.proofs.ToldLemmas.{all_told}
-use Rattle.am_draw.specs.{Lasts, Part, Viewed, ViewedRun, acted, added, added_behind, asked_in, behind, changed, first_lasts, is_out_of_memory, is_past, lasts_behind, next_lasts, nothing_lasts, roomed, roomed_for, seen_added, seen_behind, size_of}
+use Rattle.am_draw.specs.{Lasts, Part, Size, Viewed, ViewedRun, acted, added, added_behind, asked_in, behind, changed, first_lasts, is_out_of_memory, is_past, lasts_behind, next_lasts, nothing_lasts, roomed, roomed_for, seen_added, seen_behind, size_of}
 use Rattle.am_draw.specs.Changes.{BarsAreSeen, NobodyLosesABar, actor_changes, changes_of_tokens, changes_of_walkers, token_changes, walker_changes}
 
 -- ---- changes one after another

@@ -1,6 +1,7 @@
 -- One lane more, and one observation more, is drawn.
 use Rattle.std.proofs.Common.{◌≡◌, ◌<◌, ◌≤◌, ℕ, zero, suc, ◌+◌, ◌-◌, Bool, false, if◌then◌else◌, refl, None, Some, List, [], ◌∷◌, ◌++◌, length, take, get_or, Option, sym, ap, ◌∙◌, append_assoc, append-nil, length-take-le, arith}
-use Rattle.std.proofs.lemmas.List.{take_more, take_all}
+use Rattle.std.proofs.lemmas.List.{take_more}
+use Rattle.std.proofs.Math.Seq.{take-length}
 use Rattle.am_names.specs.{MountRow}
 use Rattle.am_state.specs.{Obs}
 use Rattle.am_draw.specs.{Ending, Holder, LaneKind, Lasts, Until, changed, seen_behind, lane_x, bar, ends_lane, IsNextEnding, lane_bar, lane_bars, obs_drawn, seen_drawn}
@@ -56,7 +57,7 @@ bars_next kind walkers ending until x lanes from lane next at =
 pub bars_done : (kind : LaneKind) (walkers : ℕ) (ending : Ending) (until : Until) (lanes : List (Option Holder)) (from : ℕ) → from ≤ length lanes → IsNextEnding ending from lanes None → lane_bars kind walkers ending until 0 (take from lanes) ≡ lane_bars kind walkers ending until 0 lanes
 bars_done kind walkers ending until lanes from le none =
     sym (passed_to kind walkers ending until lanes from (length lanes) le (omega arith) none)
-    ∙ ap (lane_bars kind walkers ending until 0) (take_all lanes)
+    ∙ ap (lane_bars kind walkers ending until 0) (take-length lanes)
 
 drawn_push : (before after : List MountRow) (until : Until) (lasts : Lasts) (seen : List Obs) (obs : Obs) → seen_drawn before after until lasts (seen ++ obs ∷ []) ≡ seen_drawn before after until lasts seen ++ obs_drawn before after until (seen_behind until.number lasts seen) obs
 drawn_push before after until lasts [] obs = append-nil (obs_drawn before after until lasts obs)
