@@ -1,8 +1,8 @@
 -- One observation more changes what lasts, and one event more.
-use Rattle.std.proofs.Common.{◌≡◌, ◌<◌, ◌+◌, ℕ, List, [], ◌∷◌, ◌++◌, length, map, replicate, Option, None, take, get_or, refl, sym, ap, ◌∙◌, add-zero, arith}
+use Rattle.std.proofs.Common.{◌≡◌, ◌<◌, ◌+◌, ℕ, List, [], ◌∷◌, ◌++◌, length, take, get_or, refl, sym, ap, ◌∙◌, add-zero, arith}
 use Rattle.std.proofs.lemmas.List.{take_more}
 use Rattle.am_state.specs.{Obs}
-use Rattle.am_draw.specs.{Holder, Lasts, Part, Viewed, added, added_behind, changed, lasts_behind, next_lasts, roomed, seen_added, seen_behind}
+use Rattle.am_draw.specs.{Lasts, Part, Viewed, added, added_behind, changed, lasts_behind, next_lasts, roomed, seen_added, seen_behind}
 
 pub behind_push : (n : ℕ) (lasts : Lasts) (seen : List Obs) (obs : Obs) → seen_behind n lasts (seen ++ obs ∷ []) ≡ changed n (seen_behind n lasts seen) obs
 behind_push n lasts [] obs = refl

@@ -1,6 +1,5 @@
 -- Lanes change as is seen.
-use Rattle.std.proofs.Common.{◌≡◌, ◌≤◌, ℕ, ◌+◌, ◌-◌, Bool, true, false, List, [], ◌∷◌, ◌++◌, length, replicate, Option, None, inl, inr, refl, sym, ap, ◌∙◌, subst, append_assoc, append-nil, arith, if◌then◌else◌}
-use Rattle.std.specs.Prelude.{nat_lt}
+use Rattle.std.proofs.Common.{◌≡◌, ℕ, ◌+◌, Bool, false, List, [], ◌∷◌, ◌++◌, length, replicate, Option, None, inl, inr, refl, sym, ap, ◌∙◌, subst, append_assoc, arith, if◌then◌else◌}
 use Rattle.std.specs.List.{flat_map}
 use Rattle.std.proofs.lemmas.Bool.Decides.{nat_tests}
 use Rattle.am_names.specs.declared.errno.Errno.TheVariants as errnos
@@ -11,20 +10,20 @@ use Rattle.am_machine.specs.State.{State}
 use Rattle.am_machine.specs.declared.answer.Answer.TheVariants.{Refused}
 use Rattle.am_machine.specs.declared.event.Event.TheVariants as events
 use Rattle.am_script.specs.{Numbered}
-use Rattle.am_lanes.specs.{Change, HaveBars, Holder, bar_behind, behind_all, grown_by}
+use Rattle.am_lanes.specs.{Change, HaveBars, Holder, bar_behind, behind_all, behind_change, grown_by, with_room}
 use Rattle.am_lanes.proofs.ToldLemmas.{all_told}
-use Rattle.am_draw.specs.{Lasts, Part, Size, Viewed, ViewedRun, acted, added, added_behind, asked_in, behind, changed, first_lasts, is_out_of_memory, is_past, lasts_behind, next_lasts, nothing_lasts, roomed, roomed_for, seen_added, seen_behind, size_of}
+use Rattle.am_draw.specs.{Lasts, Part, Size, Viewed, ViewedRun, acted, added, added_behind, asked_in, behind, changed, first_lasts, is_out_of_memory, is_past, lasts_behind, next_lasts, nothing_lasts, roomed, roomed_for, seen_added, seen_behind}
 use Rattle.am_draw.specs.Changes.{BarsAreSeen, NobodyLosesABar, actor_changes, changes_of_tokens, changes_of_walkers, token_changes, walker_changes}
 
 -- ---- changes one after another
 
 behind_both : (lanes : List (Option Holder)) (a b : List Change) → behind_all lanes (a ++ b) ≡ behind_all (behind_all lanes a) b
 behind_both lanes [] b = refl
-behind_both lanes (change ∷ a) b = behind_both _ a b
+behind_both lanes (change ∷ a) b = behind_both (behind_change lanes change) a b
 
 grown_both : (lanes : List (Option Holder)) (a b : List Change) → grown_by lanes (a ++ b) ≡ grown_by (grown_by lanes a) b
 grown_both lanes [] b = refl
-grown_both lanes (change ∷ a) b = grown_both _ a b
+grown_both lanes (change ∷ a) b = grown_both (behind_change (with_room lanes change) change) a b
 
 -- the lanes behind these changes
 abbrev pub by_changes : Lasts → List Change → List Change → Lasts
@@ -207,7 +206,7 @@ pub nobody_loses_a_bar : NobodyLosesABar
 nobody_loses_a_bar part start ends now all rows left r q e size past =
     let first = begins 1 start ends now all rows left r q e in
     let grown : added_behind 1 (nothing_lasts 0 0) all ≡ grown_to (nothing_lasts 0 0) (changes_of_tokens 1 all) (changes_of_walkers 1 all) = all_grow 1 (nothing_lasts 0 0) all in
-    let lasts = all_change part 0 (first_lasts part) rows past in
+    let lasts = all_change part 0 (first_lasts part) rows (subst (λ (n : ℕ). is_past part n ≡ false) (omega arith) past) in
     subst (λ (l : Lasts). BarsAreSeen l rows) (sym lasts)
     (record {
       tokens = told (changes_of_tokens 1 rows) first.tokens (changes_of_tokens 1 all) part.size.tokens first.of_tokens (ap (λ (s : Size). s.tokens) size ∙ ap (λ (l : Lasts). length l.tokens) grown);
