@@ -192,9 +192,10 @@ enough : (lanes : List Lane) (changes later : List Change) (wide : ℕ) → leng
 enough lanes [] later wide fits = tt
 enough lanes (change ∷ changes) later wide fits =
     let next : List Lane = behind_change (with_room lanes change) change in
-    let room : length (with_room lanes change) ≤ wide = omega (arith, fits, length_behind (with_room lanes change) change, never_fewer next (changes ++ later)) in
-    (takes_no_others lanes change wide room,
-    subst (λ (t : List Lane). TakeNoOthers t changes) (sym (change_padded lanes change wide room)) (enough next changes later wide fits))
+    let room : length (with_room lanes change) ≤ wide = omega (arith, fits, length_behind (with_room lanes change) change, never_fewer next (changes ++ later)) in (
+      takes_no_others lanes change wide room,
+      subst (λ (t : List Lane). TakeNoOthers t changes) (sym (change_padded lanes change wide room)) (enough next changes later wide fits),
+    )
 
 pub nobody_loses : NobodyLosesALane
 nobody_loses changes later =

@@ -244,9 +244,9 @@ changed_index old new lane was holder before after but here once is changed = re
   numbers = λ n l.
       ap (is_that l) (changed.numbers n)
       ∙ number_step holder.number n lane l (number_lane before n) (is_of n (at old l)) (is_of n was)
-        (is.numbers n l) (is.numbers n lane ∙ ap (is_of n) here)
-        (λ e x. once l (subst (λ (m : ℕ). is_of m (at old l) ≡ true) (sym e) x))
-        (λ e. ap (λ (k : ℕ). is_of n (at old k)) (sym e) ∙ ap (is_of n) here)
+      (is.numbers n l) (is.numbers n lane ∙ ap (is_of n) here)
+      (λ e x. once l (subst (λ (m : ℕ). is_of m (at old l) ≡ true) (sym e) x))
+      (λ e. ap (λ (k : ℕ). is_of n (at old k)) (sym e) ∙ ap (is_of n) here)
       ∙ of_cond (lane == l) n holder (at old l)
       ∙ ap (is_of n) (sym (but.each l));
   free = λ l.

@@ -133,9 +133,11 @@ tells_place lanes bar holder t may = record {
                 (bar_busy number (Some h) look e))
 
     there : (number : ℕ) (look : Look) (b : Bool) → (holder.number == number) ≡ b → (if b then shown holder.look else bar number) ≡ Some look → HasBar number look (placed holder lanes)
-    there number look true is e =
-        (lane, ap (bar_in number) (put_at lanes lane (Some holder) tk.within lane ∙ ap (λ (b : Bool). cond b (Some holder) (at lanes lane)) (here lane))
-        ∙ ap (λ (b : Bool). if b then shown holder.look else None) is ∙ e)
+    there number look true is e = (
+      lane,
+      ap (bar_in number) (put_at lanes lane (Some holder) tk.within lane ∙ ap (λ (b : Bool). cond b (Some holder) (at lanes lane)) (here lane))
+          ∙ ap (λ (b : Bool). if b then shown holder.look else None) is ∙ e,
+    )
     there number look false is e =
         let has = t.there number look e in
         (has.0, ap (bar_in number) (put_at lanes lane (Some holder) tk.within has.0) ∙ other has.0 has.1 (lane == has.0) refl)

@@ -77,7 +77,7 @@ pub record IsChanged (lane : ℕ) (was : Option Holder) (holder : Holder) (old n
   pub tokens : (fs l : ℕ) →
       contains pair_cmp new.by_fs (fs, l)
       ≡ cond (lane == l && is_in fs holder.look) true
-        (cond (lane == l && is_open fs was) false (contains pair_cmp old.by_fs (fs, l)))
+      (cond (lane == l && is_open fs was) false (contains pair_cmp old.by_fs (fs, l)))
 
 -- ---- what is found in it
 

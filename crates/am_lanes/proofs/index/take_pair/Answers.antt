@@ -8,5 +8,5 @@ pub returns : goal.returns
 returns c = λ fs l.
     c.remove-there.ensures.updates.0 (fs, l)
     ∙ ap (λ b. cond b false (contains pair_cmp c.args.by_fs.now (fs, l)))
-      (pair_is c.in-Some.before.look c.in-Some-fs_of.fs c.args.lane fs l (sym c.fs_of.ensures ∙ c.in-Some-fs_of.is)
-      ∙ ap (λ o. (c.args.lane == l) && is_open fs o) (sym c.in-Some.is))
+    (pair_is c.in-Some.before.look c.in-Some-fs_of.fs c.args.lane fs l (sym c.fs_of.ensures ∙ c.in-Some-fs_of.is)
+    ∙ ap (λ o. (c.args.lane == l) && is_open fs o) (sym c.in-Some.is))
