@@ -129,6 +129,7 @@ pub(crate) fn push_nobody(lanes: &mut Vec<Option<Holder>>) -> Result<(), AllocEr
     ensures ok { OnOk result (lanes.new.items ≡ lanes.old.items ++ None ∷ []) }
     ensures err { OnErr result (lanes.new.items ≡ lanes.old.items) }
 {
+    // The checker learns of a type inside of another by its name.
     let _look: Option<Look> = None;
     lanes.push(None)?;
     Ok(())

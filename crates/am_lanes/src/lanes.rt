@@ -222,6 +222,7 @@ impl Lanes {
     pub fn place(&mut self, holder: Holder)
         ensures { self.new ≡ placed holder self.old }
     {
+        // The invariant is known where a field is used.
         let _ = &self.holders;
         let lane = self.lane_for(holder.number);
         self.put(lane, holder);
@@ -284,6 +285,7 @@ impl Lanes {
     fn end_bar(&mut self, lane: usize)
         ensures { self.new ≡ set self.old lane (option_map ended (get_or self.old lane None)) }
     {
+        // The invariant is known where a field is used.
         let _ = &self.holders;
         if let Some(holder) = self.holder(lane) {
             self.put(lane, ended(holder));
