@@ -1,14 +1,17 @@
 //! What the daemon is attached to.
 
-ghost use Rattle.std.specs.Prelude.{◌≡◌, ◌≤◌, ◌+◌, map, length, None, OnOk, OnErr};
+ghost use Rattle.std.specs.Prelude.{◌≡◌, ◌≤◌, ◌+◌, map, length, slice_get, None, OnOk, OnErr};
+ghost use Rattle.std.specs.Option.{option_map};
 ghost use Rattle.am_names.specs.{RefusedAs};
 ghost use Rattle.am_daemon.specs.State.{rows_of};
+ghost use Rattle.am_daemon.specs.KnownAt.{known_row};
 ghost use Rattle.am_daemon.specs.Attachments.{is_attached, knows, attach_held, holds, attach_refusal, AreOnce, with_attachment, dead, reattach_refusal, reattached, all_mounted};
 
 use crate::daemon::Daemon;
+use crate::known::Known;
 use am_job::Book;
 use am_names::{Attach, Errno, FsId, MountId, Place, Trigger};
-use am_state::Record;
+use am_state::{HeldRow, Record};
 use std::alloc::Global;
 
 /// Writes down that these mounts stand. There is room for it.
@@ -50,6 +53,34 @@ impl Daemon {
         ensures { result ≡ holds (rows_of self.now) fs attach }
     {
         self.held.has(fs, attach)
+    }
+
+    /// How many attachments the daemon holds.
+    pub fn held_count(&self) -> usize
+        ensures { result ≡ length self.now.held }
+    {
+        self.held.len()
+    }
+
+    /// The attachment at this index that the daemon holds, in order of attaching.
+    pub fn held_at(&self, index: usize) -> Option<HeldRow>
+        ensures { result ≡ slice_get self.now.held index }
+    {
+        self.held.row(index)
+    }
+
+    /// To how many file systems the daemon was ever attached.
+    pub fn known_count(&self) -> usize
+        ensures { result ≡ length self.now.known }
+    {
+        self.known.len()
+    }
+
+    /// The file system at this index to which the daemon was ever attached, in order of attaching, and where.
+    pub fn known_at(&self, index: usize) -> Option<Known<'_>>
+        ensures { option_map known_row result ≡ slice_get self.now.known index }
+    {
+        self.known.row(index)
     }
 
     /// Makes room for one attachment.

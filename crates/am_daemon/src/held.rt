@@ -1,12 +1,13 @@
 //! The attachments that the daemon holds, found by their file systems.
 
-ghost use Rattle.std.specs.Prelude.{◌≡◌, ◌≤◌, ◌+◌, ◌==◌, ◌&&◌, [], map, find, OnOk};
+ghost use Rattle.std.specs.Prelude.{◌≡◌, ◌≤◌, ◌+◌, ◌==◌, ◌&&◌, [], map, find, length, slice_get, OnOk};
 ghost use Rattle.std.specs.List.{list_any};
 ghost use Rattle.std.specs.Option.{option_map};
 ghost use Rattle.am_daemon.specs.Attachments.{AreOnce, held_as};
 
 use am_names::{Attach, FsId};
 use am_ordered::OrderedMap;
+use am_state::HeldRow;
 use std::alloc::{AllocError, Global};
 use std::marker::Model;
 
@@ -48,6 +49,24 @@ impl HeldTable {
         ensures once { AreOnce (map (λ row. row.fs) self.now.rows) }
     {
         self.attachments.get(&fs.0).copied()
+    }
+
+    /// How many there are.
+    pub(crate) fn len(&self) -> usize
+        ensures { result ≡ length self.now.rows }
+    {
+        self.attachments.len()
+    }
+
+    /// The attachment at this index, in order of attaching.
+    pub(crate) fn row(&self, index: usize) -> Option<HeldRow>
+        ensures { result ≡ slice_get self.now.rows index }
+    {
+        let (fs, attach) = self.attachments.get_index(index)?;
+        Some(HeldRow {
+            fs: FsId(*fs),
+            attach: *attach,
+        })
     }
 
     /// Whether this attachment to the file system is there.

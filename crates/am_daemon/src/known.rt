@@ -1,14 +1,15 @@
 //! The paths at which file systems were attached, found by their file systems.
 
-ghost use Rattle.std.specs.Prelude.{◌≡◌, ◌<◌, ◌≤◌, ◌+◌, ◌^◌, ◌==◌, [], map, nat_eq, slice_get, None, IfSome, OnOk};
+ghost use Rattle.std.specs.Prelude.{◌≡◌, ◌<◌, ◌≤◌, ◌+◌, ◌^◌, ◌==◌, [], length, map, nat_eq, slice_get, None, IfSome, OnOk};
 ghost use Rattle.std.specs.List.{list_any, IsDistinct};
 ghost use Rattle.std.specs.Map.{keys_of, lookup};
-ghost use Rattle.std.specs.Option.{option_copied};
+ghost use Rattle.std.specs.Option.{option_copied, option_map};
 ghost use Rattle.indexmap.specs.IndexMap.{spare};
 ghost use Rattle.am_names.specs.{same_names};
 ghost use Rattle.am_ordered.specs.{insert_entry, shift_remove_entry};
 ghost use Rattle.am_daemon.specs.Attachments.{AreOnce, known_at};
 ghost use Rattle.am_daemon.specs.Known.{bucket_of, counted, CountsOneMore, AreCounts};
+ghost use Rattle.am_daemon.specs.KnownAt.{known_row};
 ghost use Rattle.am_daemon.specs.Points.{path_of};
 
 use am_names::{FsId, Place, bucket};
@@ -141,6 +142,13 @@ fn put_in(
     places.insert_reserved(fs, path);
 }
 
+/// A file system that the daemon was ever attached to, and the path of that.
+#[derive(Clone, Copy)]
+pub struct Known<'a> {
+    pub fs: FsId,
+    pub path: &'a Place,
+}
+
 impl KnownTable {
     /// No path.
     pub(crate) fn new(alloc: Global) -> KnownTable
@@ -150,6 +158,24 @@ impl KnownTable {
             places: OrderedMap::new(alloc),
             buckets: IndexMap::new(alloc),
         }
+    }
+
+    /// How many there are.
+    pub(crate) fn len(&self) -> usize
+        ensures { result ≡ length self.now.rows }
+    {
+        self.places.len()
+    }
+
+    /// The path at this index, in order of attaching, with its file system.
+    pub(crate) fn row(&self, index: usize) -> Option<Known<'_>>
+        ensures { option_map known_row result ≡ slice_get self.now.rows index }
+    {
+        let (fs, path) = self.places.get_index(index)?;
+        Some(Known {
+            fs: FsId(*fs),
+            path,
+        })
     }
 
     /// The path of the file system.

@@ -16,4 +16,5 @@ pub mod served;
 
 pub use daemon::Daemon;
 pub use fault::DaemonFault;
+pub use known::Known;
 pub use served::Point;

@@ -105,6 +105,20 @@ impl Kernel {
         self.triggers.as_triggers()
     }
 
+    /// What failed last at each trigger.
+    pub fn failures(&self) -> &Failures
+        ensures { result.now.rows ≡ self.now.failures }
+    {
+        &self.failures
+    }
+
+    /// The latest moment of all walks, resumes and expiries that weren't refused.
+    pub fn latest(&self) -> Seconds
+        ensures { result ≡ self.now.latest }
+    {
+        self.latest
+    }
+
     /// The timeout and the latest attachment of each autofs, in order of attaching.
     pub fn attached(&self) -> &[Attached]
         ensures { result.now ≡ self.now.attached }

@@ -93,6 +93,13 @@ impl Subtree {
         MountId(self.last_mount)
     }
 
+    /// The greatest number that was given to a namespace.
+    pub fn last_ns(&self) -> NsId
+        ensures { result ≡ self.now.last_ns }
+    {
+        NsId(self.last_ns)
+    }
+
     /// Changes the mount's state (sharedsubtree.rst, 5a).
     pub fn change(&mut self, change: Change, mount: MountId) -> Result<(), Errno>
         ensures refusal { RefusedAs (change_refusal change mount self.old.groups) result }

@@ -1,6 +1,6 @@
 //! What failed last at each trigger, and how long that lasts.
 
-ghost use Rattle.std.specs.Prelude.{◌≡◌, ◌≤◌, ◌+◌, ◌==◌, not, [], None, Some, filter, remove, slice_get, if◌then◌else◌, IfSome, OnOk};
+ghost use Rattle.std.specs.Prelude.{◌≡◌, ◌≤◌, ◌+◌, ◌==◌, length, not, [], None, Some, filter, remove, slice_get, if◌then◌else◌, IfSome, OnOk};
 ghost use Rattle.am_names.specs.{RefusedAs};
 ghost use Rattle.am_trigger.specs.Failures.{lasts, failure_of, failing, with_failure, without_failure, without_failures, IsFailed, IsMended};
 
@@ -93,6 +93,23 @@ impl Failures {
         Failures {
             rows: OrderedMap::new(alloc),
         }
+    }
+
+    /// At how many triggers something failed.
+    pub fn len(&self) -> usize
+        ensures { result ≡ length self.now.rows }
+    {
+        self.rows.len()
+    }
+
+    /// The trigger at this index, the latest last, and what failed there.
+    pub fn row(&self, index: usize) -> Option<(Trigger, Failure)>
+        ensures { result ≡ slice_get self.now.rows index }
+    {
+        let (trigger, failure) = self.rows.get_index(index)?;
+        // The checker wants the type of its name said too.
+        let _name: Option<Name> = trigger.name;
+        Some((*trigger, *failure))
     }
 
     /// What failed last at the trigger.

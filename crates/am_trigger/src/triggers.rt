@@ -1,6 +1,6 @@
 //! The triggers of all autofs file systems.
 
-ghost use Rattle.std.specs.Prelude.{◌≡◌, ◌<◌, ◌≤◌, ◌+◌, length, None, IfOk, OnOk, OnErr};
+ghost use Rattle.std.specs.Prelude.{◌≡◌, ◌<◌, ◌≤◌, ◌+◌, length, slice_get, None, IfOk, OnOk, OnErr};
 ghost use Rattle.am_names.specs.{RefusedAs, RefusedOnlyAs};
 ghost use Rattle.am_trigger.specs.Rows.{no_triggers, autofs_of, add_refusal, with_autofs, catatonic_refusal, with_catatonic, is_made, mkdir_refusal, with_directory, IsMadeToo, rmdir_refusal, without_directory, IsMadeNoMore, last_use_of, used_in, used, all_used_in, all_used, IsUsedAt};
 ghost use Rattle.am_trigger.specs.Capacity.{KeepsRoom};
@@ -135,6 +135,23 @@ impl Triggers {
         ensures { result ≡ is_made self.now.rows trigger.now }
     {
         self.made.contains_key(trigger)
+    }
+
+    /// How many directories the daemon has made.
+    pub fn made_count(&self) -> usize
+        ensures { result ≡ length self.now.rows.made }
+    {
+        self.made.len()
+    }
+
+    /// The directory at this index, in order of making.
+    pub fn made_at(&self, index: usize) -> Option<Trigger>
+        ensures { result ≡ slice_get self.now.rows.made index }
+    {
+        let (trigger, _) = self.made.get_index(index)?;
+        // The checker wants the type of its name said too.
+        let _name: Option<Name> = trigger.name;
+        Some(*trigger)
     }
 
     /// Makes a directory for the daemon to mount on (autofs.rst, "Content").

@@ -99,6 +99,13 @@ impl Waits {
         }
     }
 
+    /// The greatest token that was ever given; 0 for none.
+    pub fn last_token(&self) -> Token
+        ensures { result ≡ self.now.last_token }
+    {
+        Token(self.last_token)
+    }
+
     /// How many tokens are open.
     pub fn token_count(&self) -> usize
         ensures exact { result ≡ length self.now.tokens }

@@ -1,25 +1,39 @@
 //! What a world has, lent to those who look at it.
 
-ghost use Rattle.std.specs.Prelude.{◌≡◌, IfOk};
+ghost use Rattle.std.specs.Prelude.{◌≡◌, length, slice_get, IfOk};
 ghost use Rattle.std.specs.Option.{option_map, option_copied};
-ghost use Rattle.am_daemon.specs.{job_plan, rows_of, job_of};
+ghost use Rattle.am_daemon.specs.{job_plan, known_row, rows_of, job_of};
 ghost use Rattle.am_expire.specs.{mount_of_walker};
 ghost use Rattle.am_group.specs.{member_row, master_of_group};
 ghost use Rattle.am_job.specs.{record_of};
 ghost use Rattle.am_mount.specs.{mount_row};
 ghost use Rattle.am_trigger.specs.{autofs_of};
 ghost use Rattle.am_wait.specs.{token_of, tokens_of, wait_of, waiters_of};
+ghost use Rattle.am_world.specs.LastGiven.{IsLast};
 
 use crate::world::World;
+use am_daemon::Known;
 use am_expire::Uses;
 use am_job::{Book, Job};
 use am_kernel::{Attached, WalkRow};
 use am_names::{
-    FsId, GroupId, JobId, MemberRow, MountId, MountRow, Token, Trigger, WaitRow, WalkerId,
+    Attach, FsId, GroupId, JobId, MemberRow, MountId, MountRow, NsId, Seconds, Token, Trigger,
+    WaitRow, WalkerId,
 };
-use am_state::{QueuedRow, Record};
-use am_trigger::Autofs;
+use am_state::{HeldRow, QueuedRow, Record};
+use am_trigger::{Autofs, Failures, Triggers};
 use std::alloc::{AllocError, Global};
+
+/// The greatest number of each sort that was ever given; 0 for none.
+#[derive(Clone, Copy)]
+pub struct Last {
+    pub mount: MountId,
+    pub ns: NsId,
+    pub group: GroupId,
+    pub fs: FsId,
+    pub attach: Attach,
+    pub token: Token,
+}
 
 impl World {
     /// The mounts of all namespaces, in rising order of number.
@@ -66,6 +80,43 @@ impl World {
         ensures { result ≡ autofs_of self.now.kernel.triggers fs }
     {
         self.machine.kernel.triggers().autofs(fs)
+    }
+
+    /// The directories that the daemon made, and the last uses.
+    pub fn triggers(&self) -> &Triggers
+        ensures { result.now.rows ≡ self.now.kernel.triggers }
+    {
+        self.machine.kernel.triggers()
+    }
+
+    /// What failed last at each trigger.
+    pub fn failures(&self) -> &Failures
+        ensures { result.now.rows ≡ self.now.kernel.failures }
+    {
+        self.machine.kernel.failures()
+    }
+
+    /// The latest moment of all walks, resumes and expiries that weren't refused.
+    pub fn latest(&self) -> Seconds
+        ensures { result ≡ self.now.kernel.latest }
+    {
+        self.machine.kernel.latest()
+    }
+
+    /// The greatest number of each sort that was ever given.
+    pub fn last(&self) -> Last
+        ensures { IsLast self.now.kernel result }
+    {
+        let kernel = &self.machine.kernel;
+        let subtree = kernel.subtree();
+        Last {
+            mount: subtree.last_mount(),
+            ns: subtree.last_ns(),
+            group: subtree.groups().last_group(),
+            fs: kernel.last_fs(),
+            attach: kernel.last_attach(),
+            token: kernel.waits().last_token(),
+        }
     }
 
     /// The timeout and the latest attachment of each autofs, in order of attaching.
@@ -151,6 +202,34 @@ impl World {
         ensures { result ≡ record_of self.now.daemon.book trigger.now }
     {
         self.machine.daemon.record(trigger)
+    }
+
+    /// How many attachments the daemon holds.
+    pub fn held_count(&self) -> usize
+        ensures { result ≡ length self.now.daemon.held }
+    {
+        self.machine.daemon.held_count()
+    }
+
+    /// The attachment at this index that the daemon holds, in order of attaching.
+    pub fn held_at(&self, index: usize) -> Option<HeldRow>
+        ensures { result ≡ slice_get self.now.daemon.held index }
+    {
+        self.machine.daemon.held_at(index)
+    }
+
+    /// To how many file systems the daemon was ever attached.
+    pub fn known_count(&self) -> usize
+        ensures { result ≡ length self.now.daemon.known }
+    {
+        self.machine.daemon.known_count()
+    }
+
+    /// The file system at this index to which the daemon was ever attached, in order of attaching, and where.
+    pub fn known_at(&self, index: usize) -> Option<Known<'_>>
+        ensures { option_map known_row result ≡ slice_get self.now.daemon.known index }
+    {
+        self.machine.daemon.known_at(index)
     }
 
     /// A job that has not ended.
