@@ -1,0 +1,6 @@
+//! What is told below the fault of a script: its line, its column and what was expected there.
+#![tactic(auto)]
+
+mod excerpt;
+mod note;
+
