@@ -2,5 +2,7 @@
 #![tactic(auto)]
 
 mod excerpt;
+pub mod explain;
 mod note;
 
+pub use explain::help;
