@@ -57,14 +57,17 @@ NAMESPACES = (
 )
 OPEN = (b"# open 1 waiters 7 fs 2 name home\n"
         b"# queued 1 attach 1 missing-indirect dev 2 ino 1 uid 0 gid 0 pid 7 tgid 7 name home\n"
-        b"# walk 7 token 1 ns 0 /auto/home\n")
+        b"# walk 7 token 1 ns 0 /auto/home\n"
+        b"# used 5 fs 2 name home\n# latest 5\n# last mount 6 ns 1 group 0 fs 3 attach 1 token 1\n"
+        b"# known 2 /auto\n# held 2 attach 1\n")
 WORLD = b"# namespace 0\n" + NAMESPACES[0] + b"# namespace 1\n" + NAMESPACES[1] + OPEN
 # What each mount receives from is told, and where from in its namespace.
 PROPAGATION = (b"events\nmount 0 /a\nchange 0 /a shared\nbind 0 /a /b\nchange 0 /b slave\nchange 0 /b shared\n"
                b"bind 0 /b /c\nchange 0 /c slave\nnscopy 0\numount 1 /b\nmount 1 /u\nchange 1 /u unbindable\n")
 PROPAGATED = (b"5 5 0:1 / / rw - plain none rw\n6 5 0:2 / /a rw shared:1 - plain none rw\n"
               b"8 5 0:2 / /c rw master:2 propagate_from:1 - plain none rw\n9 5 0:3 / /u rw unbindable - plain none rw\n")
-INITIAL = b"# namespace 0\n1 1 0:1 / / rw - plain none rw\n"
+INITIAL = (b"# namespace 0\n1 1 0:1 / / rw - plain none rw\n"
+           b"# latest 0\n# last mount 1 ns 0 group 0 fs 1 attach 0 token 0\n")
 SHORT = b"events\nmount 0 /a\nleave 1\n"
 # A trace that is lawful, and one of which the second line breaks a law.
 LAWFUL = b"  entered 7 mount 2\n  left 7 mount 2\n  unmounted 2\n"

@@ -17,6 +17,7 @@ use Rattle.am_state.specs.{RecordRow, QueuedRow, Obs}
 use Rattle.am_state.specs.declared.obs.Obs.TheVariants as seen
 use Rattle.am_views.specs.{status_part, obs_text, trigger_part}
 use Rattle.am_wait.specs.{WaitRows, tokens_of, token_of, waiters_of, wait_of}
+use Rattle.am_mountinfo.specs.Lasting.{daemon_lasting, kernel_lasting}
 
 -- a comment that says what a trace says of an observation
 unfoldable pub obs_note : Obs → List ℕ
@@ -123,11 +124,11 @@ uses_notes k = flat_map use_note k.uses
 
 -- what the kernel holds beside open tokens
 abbrev pub kernel_notes : KernelState → List ℕ
-kernel_notes k = packets_notes k ++ (walks_notes k ++ uses_notes k)
+kernel_notes k = packets_notes k ++ (walks_notes k ++ (uses_notes k ++ kernel_lasting k))
 
 -- what the daemon holds
 abbrev pub daemon_notes : DaemonState → List ℕ
-daemon_notes d = book_notes d ++ jobs_notes d
+daemon_notes d = book_notes d ++ (jobs_notes d ++ daemon_lasting d)
 
 -- all of them, open tokens first
 abbrev pub notes : State → List ℕ

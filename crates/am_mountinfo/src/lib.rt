@@ -2,6 +2,7 @@
 #![tactic(auto)]
 
 mod attachments;
+mod lasting;
 pub mod masters;
 mod mount_line;
 mod namespaces;

@@ -8,6 +8,7 @@ ghost use Rattle.am_script.specs.{Puts};
 ghost use Rattle.am_mountinfo.specs.Notes.{obs_note, walkers_text, trigger_text, token_note, packet_note, record_note, act_text, job_note, status_text, wait_text, walk_note, use_note, fs_notes, tokens_notes, packets_notes, book_notes, jobs_notes, walks_notes, uses_notes, kernel_notes, daemon_notes};
 ghost use Rattle.am_mountinfo.specs.Opens.{open_text, opens_text, row_note};
 
+use crate::lasting::{put_daemon_lasting, put_kernel_lasting};
 use am_names::{Attach, FsId, Status, Token, Trigger, WaitRow, WalkerId};
 use am_script::answer_line::{put_number, put_place, put_word};
 use am_script::output::Output;
@@ -128,8 +129,8 @@ fn put_note<W: Write>(output: &mut Output, obs: &Obs, writer: &mut W)
     put_word(output, b"\n", writer);
 }
 
-/// Puts out what else the kernel has: packets in the pipes, and walkers.
-#[tactic(auto, using(am_script::proofs::Pieces::puts_three))]
+/// Puts out what else the kernel has: packets in the pipes, walkers, and what lasts.
+#[tactic(auto, using(am_views::proofs::FourPieces::puts_four))]
 pub(crate) fn put_kernel<W: Write>(output: &mut Output, world: &World, writer: &mut W)
     ensures { Puts output.old output.new (kernel_notes world.now.kernel) (W.contents writer.old)
         (W.contents writer.new) }
@@ -137,6 +138,7 @@ pub(crate) fn put_kernel<W: Write>(output: &mut Output, world: &World, writer: &
     put_packets(output, world, writer);
     put_walks(output, world, writer);
     put_uses(output, world.uses(), writer);
+    put_kernel_lasting(output, world, writer);
 }
 
 #[tactic(auto, using(am_script::proofs::Pieces::puts_none))]
@@ -251,14 +253,15 @@ fn put_use<W: Write>(output: &mut Output, row: Use, writer: &mut W)
     put_note(output, &entered, writer);
 }
 
-/// Puts out what the daemon has: its book and its jobs.
-#[tactic(auto, using(am_script::proofs::Pieces::puts_two))]
+/// Puts out what the daemon has: its book, its jobs, and what lasts.
+#[tactic(auto, using(am_script::proofs::Pieces::puts_three))]
 pub(crate) fn put_daemon<W: Write>(output: &mut Output, world: &World, writer: &mut W)
     ensures { Puts output.old output.new (daemon_notes (rows_of world.now.daemon))
         (W.contents writer.old) (W.contents writer.new) }
 {
     put_book(output, world.book(), writer);
     put_jobs(output, world, writer);
+    put_daemon_lasting(output, world, writer);
 }
 
 #[tactic(auto, using(am_script::proofs::Pieces::puts_none))]

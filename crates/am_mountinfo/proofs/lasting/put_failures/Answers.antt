@@ -1,0 +1,13 @@
+use Rattle.std.proofs.Common.{ℕ, List, subst}
+use Rattle.am_script.specs.{Puts}
+use Rattle.am_script.proofs.Pieces.{puts_two}
+use Rattle.am_mountinfo.specs.{failure_note}
+use Rattle.am_mountinfo.proofs.RowLemmas.{row_more}
+use Rattle.am_mountinfo.proofs.lasting.put_failures.Goals as goal
+
+pub loop-index-preserved : goal.loop-index-preserved
+loop-index-preserved g c =
+    let contents = g.W.Write.contents in
+    subst (λ (text : List ℕ). Puts c.args.output.now c.put_failure_at.new.output text (contents c.args.writer.now) (contents c.put_failure_at.new.writer))
+    (row_more failure_note c.args.failures.now.rows c.loop-index.index (rw c.len-index-end.ensures at c.loop-index-test.true))
+    (puts_two _ _ _ _ _ _ _ _ c.loop-index.invariant (rw c.row.ensures at c.put_failure_at.ensures))
