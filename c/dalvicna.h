@@ -59,7 +59,8 @@ enum am_script_fault {
     AM_SCRIPT_LONG_LINE,       /* a line has more than 8,192 bytes */
     AM_SCRIPT_NO_MEMORY,
     AM_SCRIPT_READ_FAILED,     /* there are more than 16 TiB of it */
-    AM_SCRIPT_WRITE_FAILED     /* there is no memory for what is written */
+    AM_SCRIPT_WRITE_FAILED,    /* there is no memory for what is written */
+    AM_SCRIPT_NO_SUCH_NAMESPACE /* the namespace that was asked for isn't there: am_world and am_text alone */
 };
 
 /* How a script went. */
@@ -95,7 +96,8 @@ uint8_t am_draw(const uint8_t *script, size_t len, uint64_t first, uint64_t last
                 struct am_played *played);
 
 /* The world that it leaves, as /proc/PID/mountinfo tells mounts, and what else there is in comments; where
-   all is false, only the mounts of the namespace with this number: no bytes where there is none. */
+   all is false, only the mounts of the namespace with this number: AM_SCRIPT_NO_SUCH_NAMESPACE, at the line of
+   the last event, where it isn't there. */
 uint8_t am_world(const uint8_t *script, size_t len, bool all, uint32_t namespace_number, uint8_t *out,
                  size_t cap, struct am_played *played);
 
@@ -140,7 +142,7 @@ uint8_t am_answer(struct am_world *world, uint8_t *out, size_t cap, struct am_pl
 uint8_t am_observed(struct am_world *world, uint8_t *out, size_t cap, struct am_played *played);
 
 /* Writes the world as it is, as am_world writes the one that a script leaves. Of these three the only
-   fault is that there is no memory. */
+   faults are that there is no memory, and of this one AM_SCRIPT_NO_SUCH_NAMESPACE. */
 uint8_t am_text(struct am_world *world, bool all, uint32_t namespace_number, uint8_t *out, size_t cap,
                 struct am_played *played);
 

@@ -131,7 +131,8 @@ class ScriptFault(Fault):
              ("LongLine", "a line of at most 8192 bytes"),
              ("NoMemory", "memory"),
              ("ReadFailed", "a script of at most 16 TiB"),
-             ("WriteFailed", "memory for what is written"))
+             ("WriteFailed", "memory for what is written"),
+             ("NoSuchNamespace", "a namespace that is there"))
 
     def __init__(self, number: int, line: Optional[int], column: Optional[int] = None, expected: Optional[str] = None,
                  detail: int = 0, written: str = "") -> None:
@@ -324,7 +325,7 @@ def draw(script: Text, first: int = 1, last: int = _U64) -> str:
 
 def world_text(script: Text, namespace: Optional[int] = None) -> str:
     """The world that a script leaves, as /proc/PID/mountinfo tells the mounts of a namespace: of all of them, with
-    what else there is in comments, or of one alone. Raises ScriptFault."""
+    what else there is in comments, or of one alone, which has to be there. Raises ScriptFault."""
     number = 0 if namespace is None else _number(namespace, 2**32 - 1, "a namespace")
     return _script("am_world", script, 16384, namespace is None, number).whole()
 

@@ -79,6 +79,7 @@ kind_word of_script.LongLine = codes "LongLine"
 kind_word of_script.NoMemory = codes "NoMemory"
 kind_word of_script.ReadFailed = codes "ReadFailed"
 kind_word of_script.WriteFailed = codes "WriteFailed"
+kind_word of_script.NoSuchNamespace = codes "NoSuchNamespace"
 
 -- what is told of it, with this below it
 abbrev pub script_told : ScriptFault → List ℕ → List ℕ

@@ -139,6 +139,7 @@ fn kind_word(kind: ScriptFaultKind) -> &'static str
         ScriptFaultKind::NoMemory => "NoMemory",
         ScriptFaultKind::ReadFailed => "ReadFailed",
         ScriptFaultKind::WriteFailed => "WriteFailed",
+        ScriptFaultKind::NoSuchNamespace => "NoSuchNamespace",
     }
 }
 

@@ -19,4 +19,4 @@ pub use Paths.{ArePaths, HasOneMore}
 pub use Peers.{ArePeers}
 pub use Printed.{part_text}
 pub use Residents.{AreResidents}
-pub use WorldText.{AllShown, EventsPlayed, IsCut, IsWritten, NotPlayed, NotWritten, ShowStops, ShownFrom, ShowsInput, StopsShowing, WorldShown, last_line, ran_out}
+pub use WorldText.{AllShown, EventsPlayed, IsCut, IsNowhere, is_nowhere, IsWritten, NotPlayed, NotWritten, ShowStops, ShownFrom, ShowsInput, StopsShowing, WorldShown, last_line, ran_out}

@@ -1,14 +1,17 @@
 -- How the world after a script is printed: own choice (docs/DECISIONS.md, "A world is printed as
 -- Linux prints mounts").
-use Rattle.std.specs.Prelude.{◌≡◌, ◌⊎◌, ◌<◌, ℕ, Bool, false, true, List, [], ◌∷◌, ◌++◌, length, take, count_by, Option, None, Some}
+use Rattle.std.specs.Prelude.{◌≡◌, ◌⊎◌, ◌<◌, ℕ, Bool, false, true, not, List, [], ◌∷◌, ◌++◌, length, take, count_by, Option, None, Some}
+use Rattle.std.specs.List.{list_any}
 use Rattle.std.specs.Io.KnownBytes.{Appends, Consumes, IsAtEnd}
 use Rattle.am_machine.specs.{Event, Answer, Setup, initial_state_of, Step, Run}
 use Rattle.am_machine.specs.declared.answer.Answer.TheVariants as answers
+use Rattle.am_mount.specs.{is_in}
+use Rattle.am_names.specs.{MountRow}
 use Rattle.am_names.specs.declared.errno.Errno.TheVariants as errnos
 use Rattle.am_state.specs.{Obs}
 use Rattle.am_machine.specs.State.{State}
 use Rattle.am_script.specs.{ScriptFault, ScriptFaultKind, Summary, is_refused, lines_of, NothingPlayed, WasRead, played, Numbered, events_in, Told, script_of}
-use Rattle.am_script.specs.declared.fault.ScriptFaultKind.TheVariants.{NoMemory, WriteFailed}
+use Rattle.am_script.specs.declared.fault.ScriptFaultKind.TheVariants.{NoMemory, NoSuchNamespace, WriteFailed}
 use Rattle.am_script.specs.Script.{Script}
 use Rattle.am_views.specs.{HeadStops}
 use Rattle.am_mountinfo.specs.Mountinfo.{ArePlaced, AreNamespaces, mountinfo, namespaces_text}
@@ -16,12 +19,17 @@ use Rattle.am_mountinfo.specs.Notes.{notes}
 
 -- ---- a world as a text
 
+-- one namespace alone is asked for, and there is no mount in it
+abbrev pub is_nowhere : Option ℕ → List MountRow → Bool
+is_nowhere None rows = false
+is_nowhere (Some ns) rows = not (list_any (is_in ns) rows)
+
 -- the mounts of all namespaces, each behind a line that names it, and then what else there is; or
--- the mounts of one namespace alone
+-- the mounts of one namespace alone, which is there
 abbrev pub IsText : Option ℕ → State → List ℕ → Type 0
 IsText None s text =
     (order : List ℕ) × AreNamespaces s.kernel.table.rows order × (text ≡ namespaces_text s.kernel order ++ notes s)
-IsText (Some ns) s text = text ≡ mountinfo s.kernel ns
+IsText (Some ns) s text = (is_nowhere (Some ns) s.kernel.table.rows ≡ false) × (text ≡ mountinfo s.kernel ns)
 
 -- the text is written
 pub record IsWritten (only : Option ℕ) (s : State) (old new : Option (List ℕ)) : Type 0 where
@@ -43,10 +51,18 @@ pub record NoRoomToWrite (line : ℕ) (old new : Option (List ℕ)) (fault : Scr
   pub line_is : fault.line ≡ line
   pub written : Appends old new []
 
--- memory runs out before the text, or the writer takes only a beginning of it
+-- the namespace that is asked for isn't there, which is told at this line
+pub record IsNowhere (only : Option ℕ) (s : State) (line : ℕ) (old new : Option (List ℕ)) (fault : ScriptFault) : Type 0 where
+  pub nowhere : is_nowhere only s.kernel.table.rows ≡ true
+  pub kind : fault.kind ≡ NoSuchNamespace
+  pub line_is : fault.line ≡ line
+  pub written : Appends old new []
+
+-- the namespace isn't there, memory runs out before the text, or the writer takes only a beginning of it
 abbrev pub NotWritten : Option ℕ → State → ℕ → Option (List ℕ) → Option (List ℕ) → ScriptFault → Type 0
 NotWritten only s line old new fault =
-    NoRoomToWrite line old new fault
+    IsNowhere only s line old new fault
+    ⊎ NoRoomToWrite line old new fault
     ⊎ ((text : List ℕ) × IsText only s text × IsCut line text old new fault)
 
 -- ---- the events

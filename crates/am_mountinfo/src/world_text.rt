@@ -1,13 +1,13 @@
 //! The world after a script is printed.
 
-ghost use Rattle.std.specs.Prelude.{◌≡◌, ◌+◌, ◌≤◌, ◌^◌, option_copied, IfOk, IfErr, None, OnOk};
+ghost use Rattle.std.specs.Prelude.{◌≡◌, ◌+◌, ◌≤◌, ◌^◌, false, option_copied, IfOk, IfErr, None, OnOk};
 ghost use Rattle.std.specs.Io.KnownBytes.{Appends};
 ghost use Rattle.am_daemon.specs.{rows_of};
 ghost use Rattle.am_script.specs.{lines_in, size_in, Puts, events_from};
 ghost use Rattle.am_mountinfo.specs.Mountinfo.{namespace_text, namespaces_text};
 ghost use Rattle.am_mountinfo.specs.Printed.{part_text};
 ghost use Rattle.am_mountinfo.specs.Tables.{AreTables};
-ghost use Rattle.am_mountinfo.specs.WorldText.{IsText, IsWritten, IsCut, NotWritten, EventsPlayed, IsPlayed, NotPlayed, WorldShown, ShowStops, ShowsInput, StopsShowing, last_line, ran_out};
+ghost use Rattle.am_mountinfo.specs.WorldText.{IsText, IsWritten, IsCut, is_nowhere, NotWritten, EventsPlayed, IsPlayed, NotPlayed, WorldShown, ShowStops, ShowsInput, StopsShowing, last_line, ran_out};
 ghost use Rattle.am_world.specs.Capacity.{state_of};
 
 use crate::mount_line::put_mounts;
@@ -27,7 +27,8 @@ use std::io::{Read, Write};
 /// Reads a script to its end, plays it on a world of its own, and writes the mounts of each
 /// namespace as they are then, and behind them, in comments, what else there is; or only the mounts
 /// of one namespace. It has the faults of `run_script`, but that an event is one, too, for which there is
-/// no memory: the world behind it isn't that of the script. Nothing is written before the script has ended.
+/// no memory: the world behind it isn't that of the script; and so is a namespace that isn't there when the script has
+/// ended. Nothing is written before that.
 pub fn world_script<R: Read, W: Write>(
     alloc: Global,
     reader: &mut R,
@@ -51,7 +52,7 @@ pub fn world_script<R: Read, W: Write>(
 }
 
 /// Writes a world as it is: the mounts of each namespace, and behind them, in comments, what else there
-/// is; or only the mounts of one namespace. Its faults have line 0.
+/// is; or only the mounts of one namespace, which has to be there. Its faults have line 0.
 pub fn write_world<W: Write>(
     alloc: Global,
     world: &World,
@@ -250,6 +251,12 @@ fn show_world<W: Write>(
     ensures err { IfErr result (NotWritten only (state_of world.now) played.line
         (W.contents writer.old) (W.contents writer.new)) }
 {
+    if is_nowhere(world, only) {
+        return Err(ScriptFault {
+            line: played.line,
+            kind: ScriptFaultKind::NoSuchNamespace,
+        });
+    }
     match gather(alloc, world, only) {
         Ok(view) => print(world, &view, played, writer),
         Err(_) => Err(ScriptFault {
@@ -259,7 +266,18 @@ fn show_world<W: Write>(
     }
 }
 
+/// Whether one namespace alone is asked for, and there is no mount in it.
+fn is_nowhere(world: &World, only: Option<NsId>) -> bool
+    ensures { result ≡ is_nowhere only world.now.kernel.table.rows }
+{
+    match only {
+        None => false,
+        Some(ns) => !world.mounts().iter().any(|row| row.ns == ns),
+    }
+}
+
 fn gather<'a>(alloc: Global, world: &'a World, only: Option<NsId>) -> Result<View<'a>, AllocError>
+    requires { is_nowhere only world.now.kernel.table.rows ≡ false }
     ensures tables { IfOk result (λ view. AreTables view.tables world.now.kernel) }
     ensures text { IfOk result (λ view. IsText only (state_of world.now)
         (part_text world.now.kernel (rows_of world.now.daemon) view.part)) }
@@ -270,6 +288,7 @@ fn gather<'a>(alloc: Global, world: &'a World, only: Option<NsId>) -> Result<Vie
 }
 
 fn part_of(alloc: Global, world: &World, only: Option<NsId>) -> Result<Part, AllocError>
+    requires { is_nowhere only world.now.kernel.table.rows ≡ false }
     ensures { IfOk result (λ part. IsText only (state_of world.now)
         (part_text world.now.kernel (rows_of world.now.daemon) part)) }
 {

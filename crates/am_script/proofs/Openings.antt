@@ -110,6 +110,7 @@ by_kind kinds.LongLine said h = inl h
 by_kind kinds.NoMemory said h = inr (refl, h)
 by_kind kinds.ReadFailed said h = inl h
 by_kind kinds.WriteFailed said h = inl h
+by_kind kinds.NoSuchNamespace said h = inl h
 
 no_room_for : (all left : Told) (number : ℕ) (kind : ScriptFaultKind) (said : Result (Option Event) ScriptFaultKind) → all ≡ told_by said number left → kind ≡ NoMemory → SaysEvent said → NoNext all (fault_at number kind)
 no_room_for all left number kind (Ok (Some event)) e k h = inr (record {

@@ -2,7 +2,7 @@
 use Rattle.std.specs.Prelude.{◌≡◌, ◌⊎◌, ℕ, ◌+◌, Result, Err}
 use Rattle.am_script.specs.declared.fault.ScriptFault.{ScriptFault}
 use Rattle.am_script.specs.declared.fault.ScriptFaultKind.{ScriptFaultKind}
-use Rattle.am_script.specs.declared.fault.ScriptFaultKind.TheVariants.{BadSection, BadLimits, BadMaster, BadMap, NoSuchMap, BadEvent, LongLine, NoMemory, ReadFailed, WriteFailed}
+use Rattle.am_script.specs.declared.fault.ScriptFaultKind.TheVariants.{BadSection, BadLimits, BadMaster, BadMap, NoSuchMap, BadEvent, LongLine, NoMemory, ReadFailed, WriteFailed, NoSuchNamespace}
 
 -- the number of a fault, which its line on standard error doesn't tell
 abbrev pub kind_number : ScriptFaultKind → ℕ
@@ -16,6 +16,7 @@ kind_number LongLine = 7
 kind_number NoMemory = 8
 kind_number ReadFailed = 9
 kind_number WriteFailed = 10
+kind_number NoSuchNamespace = 11
 
 -- a fault on this line
 abbrev pub fault_at : ℕ → ScriptFaultKind → ScriptFault

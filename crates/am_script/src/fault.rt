@@ -40,6 +40,9 @@ pub enum ScriptFaultKind {
     /// The writer didn't take an answer line.
     #[error("WriteFailed")]
     WriteFailed,
+    /// The namespace whose mounts are to be printed isn't there when the script has ended.
+    #[error("NoSuchNamespace")]
+    NoSuchNamespace,
 }
 
 impl ScriptFaultKind {
@@ -58,6 +61,7 @@ impl ScriptFaultKind {
             ScriptFaultKind::NoMemory => 8,
             ScriptFaultKind::ReadFailed => 9,
             ScriptFaultKind::WriteFailed => 10,
+            ScriptFaultKind::NoSuchNamespace => 11,
         }
     }
 }

@@ -4,7 +4,7 @@ use Rattle.am_mountinfo.proofs.world_text.part_of.Goals as goal
 
 pub returns-in-Some : goal.returns-in-Some
 unfolding state_of
-returns-in-Some c = rw c.in-Some.is refl
+returns-in-Some c = rw c.in-Some.is (rw c.in-Some.is at c.requires, refl)
 
 pub returns-in_ok-opens-in-None : goal.returns-in_ok-opens-in-None
 unfolding state_of
