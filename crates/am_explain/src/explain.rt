@@ -1,6 +1,6 @@
 //! What is told below a fault.
 
-ghost use Rattle.std.specs.Prelude.{◌≡◌, ◌<◌, ◌^◌, ◌++◌, false, true, IfNone, IfOk, IfSome, OnOk};
+ghost use Rattle.std.specs.Prelude.{◌≡◌, ◌<◌, ◌^◌, ◌++◌, ◌&&◌, IfOk, OnOk};
 ghost use Rattle.am_lines.specs.{is_joined};
 ghost use Rattle.am_script.specs.Lines.{lines_of};
 ghost use Rattle.am_explain.specs.Help.{expected_at, first_line, HelpsWith, in_order, IsHelp, is_section_end, may_join, slip_text};
@@ -69,7 +69,7 @@ fn put_slip(
 {
     let line = first_line(text);
     let expected = expected_at(is_ended, slip.expected);
-    let joined = may_join(fault.kind) && is_joined(line);
+    let joined = goes_on(fault.kind, line);
     put_place(help, line, joined, slip.column, expected.words())?;
     let note = note_of(fault.line, text, is_section_end(expected));
     put_note(help, note)
@@ -86,7 +86,11 @@ fn first_line(text: &[u8]) -> &[u8]
 fn expected_at(is_ended: bool, expected: Expected) -> Expected
     ensures { result ≡ expected_at is_ended expected }
 {
-    if is_ended { expected } else { in_order(expected) }
+    if is_ended {
+        expected
+    } else {
+        in_order(expected)
+    }
 }
 
 /// What was expected, where the end of a section may still follow.
@@ -106,6 +110,13 @@ fn is_section_end(expected: Expected) -> bool
         Expected::SectionEnd => true,
         _ => false,
     }
+}
+
+/// Whether the line of such a fault is joined with those below it.
+fn goes_on(kind: ScriptFaultKind, line: &[u8]) -> bool
+    ensures { result ≡ (may_join kind && is_joined line.now) }
+{
+    may_join(kind) && is_joined(line)
 }
 
 /// Whether the line of such a fault may be joined of several.

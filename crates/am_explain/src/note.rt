@@ -119,7 +119,9 @@ pub(crate) fn put_note(text: &mut Vec<u8>, note: Option<Note>) -> Result<(), All
         ),
         Some(Note::CarriageReturn) => put_parts(
             text,
-            &[b"  the line ends in a carriage return: lines of a script end in a line feed alone\n"],
+            &[
+                b"  the line ends in a carriage return: lines of a script end in a line feed alone\n",
+            ],
         ),
         Some(Note::PaddedEnd { line }) => put_parts(
             text,

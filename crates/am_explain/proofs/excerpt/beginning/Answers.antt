@@ -1,4 +1,4 @@
-use Rattle.std.proofs.Common.{◌≡◌, ◌<◌, ℕ, arith, length-take, sym}
+use Rattle.std.proofs.Common.{arith, length-take, sym}
 use Rattle.std.proofs.lemmas.List.{take_all}
 use Rattle.am_explain.proofs.excerpt.beginning.Goals as goal
 

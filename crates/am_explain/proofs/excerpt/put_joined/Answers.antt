@@ -1,4 +1,4 @@
-use Rattle.std.proofs.Common.{◌≡◌, List, ℕ, decimal, sym, ◌∙◌}
+use Rattle.std.proofs.Common.{◌≡◌, decimal, sym, ◌∙◌}
 use Rattle.am_explain.proofs.excerpt.put_joined.Goals as goal
 
 pub returns : goal.returns

@@ -1,4 +1,4 @@
-use Rattle.std.proofs.Common.{◌≡◌, List, ℕ, decimal, take, replicate, sym, ◌∙◌, ap}
+use Rattle.std.proofs.Common.{◌≡◌, ℕ, decimal, replicate, sym, ◌∙◌, ap}
 use Rattle.std.proofs.lemmas.List.{take-replicate}
 use Rattle.am_explain.specs.Excerpts.{indent}
 use Rattle.am_explain.proofs.excerpt.put_pointer.Goals as goal

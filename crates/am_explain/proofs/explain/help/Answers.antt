@@ -1,4 +1,4 @@
-use Rattle.std.proofs.Common.{◌≡◌, ◌<◌, ◌-◌, ℕ, Bool, List, drop, refl, sym, subst, inl, ◌∙◌}
+use Rattle.std.proofs.Common.{◌≡◌, ◌<◌, ◌-◌, ℕ, Bool, List, drop, sym, subst, ◌∙◌}
 use Rattle.am_script.specs.Lines.{lines_of}
 use Rattle.am_diagnosis.specs.Scripts.{lines_at}
 use Rattle.am_diagnosis.proofs.ScriptLemmas.{lines_at_is}
