@@ -61,7 +61,8 @@ fn run_asked<T: Threads + Wait + Sync, R: Read, W: Write, E: Write>(
     errors: &mut E,
 ) -> u8
     requires { IsInRange args }
-    ensures { Exits args reader.new.recalled (R.remaining reader.old.reader) (R.remaining reader.new.reader)
+    ensures { Exits args reader.new.recalled
+        (R.remaining reader.old.reader) (R.remaining reader.new.reader)
         (W.contents writer.old) (W.contents writer.new) (E.contents errors.old)
         (E.contents errors.new) result }
 {
@@ -96,7 +97,8 @@ fn say<W: Write, E: Write>(writer: &mut W, errors: &mut E, parts: &[&[u8]]) -> u
 
 /// Writes what a command does, or the program.
 fn show_help<W: Write, E: Write>(topic: Option<Topic>, writer: &mut W, errors: &mut E) -> u8
-    ensures { (recalled : Recalled) (input : Option (List ℕ)) → Exits (asks.Help topic) recalled input input (W.contents writer.old)
+    ensures { (recalled : Recalled) (input : Option (List ℕ)) → Exits (asks.Help topic) recalled input input
+        (W.contents writer.old)
         (W.contents writer.new) (E.contents errors.old) (E.contents errors.new) result }
 {
     say(writer, errors, &[help_text(topic)])
@@ -104,7 +106,8 @@ fn show_help<W: Write, E: Write>(topic: Option<Topic>, writer: &mut W, errors: &
 
 /// Writes the version of the program.
 fn show_version<W: Write, E: Write>(writer: &mut W, errors: &mut E) -> u8
-    ensures { (recalled : Recalled) (input : Option (List ℕ)) → Exits asks.Version recalled input input (W.contents writer.old)
+    ensures { (recalled : Recalled) (input : Option (List ℕ)) → Exits asks.Version recalled input input
+        (W.contents writer.old)
         (W.contents writer.new) (E.contents errors.old) (E.contents errors.new) result }
 {
     say(
@@ -121,7 +124,8 @@ fn play<R: Read, W: Write, E: Write>(
     writer: &mut W,
     errors: &mut E,
 ) -> u8
-    ensures { Exits asks.Script reader.new.recalled (R.remaining reader.old.reader) (R.remaining reader.new.reader)
+    ensures { Exits asks.Script reader.new.recalled
+        (R.remaining reader.old.reader) (R.remaining reader.new.reader)
         (W.contents writer.old) (W.contents writer.new) (E.contents errors.old)
         (E.contents errors.new) result }
 {
@@ -141,7 +145,8 @@ fn trace<R: Read, W: Write, E: Write>(
     writer: &mut W,
     errors: &mut E,
 ) -> u8
-    ensures { Exits asks.Trace reader.new.recalled (R.remaining reader.old.reader) (R.remaining reader.new.reader)
+    ensures { Exits asks.Trace reader.new.recalled
+        (R.remaining reader.old.reader) (R.remaining reader.new.reader)
         (W.contents writer.old) (W.contents writer.new) (E.contents errors.old)
         (E.contents errors.new) result }
 {
@@ -163,7 +168,8 @@ fn draw<R: Read, W: Write, E: Write>(
     writer: &mut W,
     errors: &mut E,
 ) -> u8
-    ensures { Exits (asks.Draw first last) reader.new.recalled (R.remaining reader.old.reader) (R.remaining reader.new.reader)
+    ensures { Exits (asks.Draw first last) reader.new.recalled
+        (R.remaining reader.old.reader) (R.remaining reader.new.reader)
         (W.contents writer.old) (W.contents writer.new) (E.contents errors.old)
         (E.contents errors.new) result }
 {
@@ -195,7 +201,8 @@ fn show<R: Read, W: Write, E: Write>(
     errors: &mut E,
     namespace: Option<u32>,
 ) -> u8
-    ensures { Exits (asks.World namespace) reader.new.recalled (R.remaining reader.old.reader) (R.remaining reader.new.reader)
+    ensures { Exits (asks.World namespace) reader.new.recalled
+        (R.remaining reader.old.reader) (R.remaining reader.new.reader)
         (W.contents writer.old) (W.contents writer.new) (E.contents errors.old)
         (E.contents errors.new) result }
 {
@@ -269,7 +276,8 @@ fn run_crowd<T: Threads + Wait + Sync, W: Write, E: Write>(
 ) -> u8
     requires workers { (0 < workers) × (workers ≤ 16) }
     requires walkers { walkers ≤ 16 }
-    ensures { (recalled : Recalled) (input : Option (List ℕ)) → Exits (asks.Threads walkers workers rounds) recalled input
+    ensures { (recalled : Recalled) (input : Option (List ℕ)) → Exits
+        (asks.Threads walkers workers rounds) recalled input
         input (W.contents writer.old) (W.contents writer.new) (E.contents errors.old)
         (E.contents errors.new) result }
 {

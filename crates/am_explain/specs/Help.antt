@@ -44,7 +44,8 @@ first_line (line ∷ below) = line
 -- what is told of this slip below a fault that is told at the first of these lines
 abbrev pub slip_text : Bool → ScriptFault → List (List ℕ) → Slip → List ℕ
 slip_text ended fault lines slip =
-    place_text (first_line lines) (may_join fault.kind && is_joined (first_line lines)) slip.column (expected_words (expected_at ended slip.expected))
+    place_text (first_line lines) (may_join fault.kind && is_joined (first_line lines)) slip.column
+    (expected_words (expected_at ended slip.expected))
     ++ note_text (note_of fault.line lines (is_section_end (expected_at ended slip.expected)))
 
 -- Told below a fault, the line of which is the first of these: nothing, or where that line isn't as

@@ -47,4 +47,5 @@ note_text (Some ByteOrderMark) =
 note_text (Some CarriageReturn) =
     codes "  the line ends in a carriage return: lines of a script end in a line feed alone\n"
 note_text (Some (PaddedEnd line)) =
-    flat_map (λ part. part) (codes "  line " ∷ decimal line ∷ codes " is end with a blank beside it, which ends no section\n" ∷ [])
+    flat_map (λ part. part)
+    (codes "  line " ∷ decimal line ∷ codes " is end with a blank beside it, which ends no section\n" ∷ [])
