@@ -305,7 +305,7 @@ def problem(text, status, wrote, said):
     if status == 0 and said:
         return f"status 0, and {said!r}"
     if status == 1:
-        told = FAULT.fullmatch(said)
+        told = FAULT.match(said)
         if told is None:
             return f"status 1, and {said!r}"
         if int(told[1]) > line:
@@ -387,7 +387,7 @@ def play_long(program):
             run.returncode = os.waitstatus_to_exitcode(status)
             taken = time.monotonic() - before
             said.seek(0)
-            found = (run.returncode, said.read())
+            found = (run.returncode, said.readline())
         if found != wanted:
             print(f"hostile: {name}: {found}", file=sys.stderr)
             return 1

@@ -6,8 +6,10 @@ usage: tools/commands.py
 - command lines that are none and those that are, each with its status, what it writes and what it tells;
 - help of the program and of each command, in each way in which it is asked for, and the version: one screen each,
   which names each option, and nothing is read;
-- what is written where standard output takes little at once, and where it fails behind so many bytes; and the status
-  where standard error takes nothing;
+- what stands below the faults of scripts: the line, its column and what was expected there; of lines with what a
+  terminal would take for controls, too, of long ones and of long scripts;
+- what is written where standard output takes little at once, and where it fails behind so many bytes; the status
+  where standard error takes nothing, and what it holds where it takes a part;
 - each allocation refused in turn: the command tells that there was no memory and has written a beginning, or an
   event is answered so, or all is as ever;
 - threads with so little memory that some can't be started: they end all the same.
@@ -25,6 +27,7 @@ import tempfile
 
 sys.dont_write_bytecode = True
 import offers  # noqa: E402
+import places  # noqa: E402
 
 PATIENCE = 60
 # What stands below the first line of a command line that is none, and before it what may be meant by it.
@@ -76,6 +79,11 @@ TRACES = ((b"2: mount 0 /a\n= mount 2\n  mounted 2\n", b"2: mount 0 /a\n= err 10
 
 def fault(line, word):
     return b"fault: line %d: %s\n" % (line, word)
+
+
+def placed(number, word, line, column, expected, note=b""):
+    """What is told of a fault that has a place in a short line, as it is shown."""
+    return fault(number, word) + b"  " + line + b"\n  " + b" " * (column - 1) + b"^ column %d: expected %s\n" % (column, expected) + note
 
 
 # Command lines: the words, the input, and what comes of it.
@@ -160,20 +168,104 @@ NO_COMMAND_LINES = [
         ["--walkers", "0"], ["--walkers", "17"], ["--workers", "0"], ["--workers", "17"], ["--rounds", "0"],
         ["--rounds", "1001"], ["--rounds", "4294967297"], ["--rounds", "-1"], ["--rounds", "ten"], ["--rounds"], ["x"])),
 ]
+# Lines of events that are none: what is shown of each, the column, and what was expected there.
+A_PATH, A_NAMESPACE, A_PART = b"a path, which begins with /", b"a namespace, a number below 2^32", b"limits, negative, master, map or events"
+AN_EVENT, IN_ORDER = b"the word of an event", b"a part of the head that may stand below those above it"
+THE_END = b"a line that is just end, below this one"
+RETURN = b"  the line ends in a carriage return: lines of a script end in a line feed alone\n"
+MARK = b"  the script begins with a byte order mark, which is no part of a script\n"
+NO_EVENTS = [
+    (b"wlak 7 0 /auto 1 room", 1, AN_EVENT), (b"x", 1, AN_EVENT),
+    (b"walk 7 0 /auto/.. 1 room", 10, A_PATH), (b"walk 7 0 auto 1 room", 10, A_PATH), (b"walk 7 /auto 1 room", 8, A_NAMESPACE),
+    (b"walk 7 0 /auto 1 ful", 18, b"room, full or gone"), (b"walk 7 0 /auto 01 room", 16, b"a moment in seconds, a number below 2^64"),
+    (b"act 1 fail 10", 12, b"the number of an error, 1 to 9, or the end of the line"), (b"walk 7", 7, A_NAMESPACE),
+    (b"walk 7 ", 8, A_NAMESPACE), (b"nsdrop 0 0", 10, b"the end of the line"),
+]
+# The same of bytes that a terminal would take for controls, or that are none of ASCII: the line, and how it is shown.
+HOSTILE = [
+    (b"\x1b[2J\x1b]0;x\x07", b"?[2J?]0;x?", 1, AN_EVENT), (b"walk\t7\tx", b"walk 7 x", 8, A_NAMESPACE),
+    (b"walk 7 0 \xff\x9b31m 1 room", b"walk 7 0 ??31m 1 room", 10, A_PATH), (b"\0", b"?", 1, AN_EVENT), (b"\x7f\x80", b"??", 1, AN_EVENT),
+    ("walk 7 0 /ä 1 räum".encode(), b"walk 7 0 /?? 1 r??um", 16, b"room, full or gone"), (b"~ \x0b", b"~ ?", 1, AN_EVENT),
+]
+# Heads with a fault: the line and the word of it, how the line is shown, the column, what was expected there, and a note.
+A_MAP = b"master\n/auto m\nend\nmap m\n"
+BAD_HEADS = [
+    (b"master\n/auto auto.home\nend \nevents\n", (1, b"BadSection", b"master", 1, THE_END,
+                                                    b"  line 3 is end with a blank beside it, which ends no section\n")),
+    (b"map m\n\tend\nend x\n end\n", (1, b"BadSection", b"map m", 1, THE_END,
+                                       b"  line 2 is end with a blank beside it, which ends no section\n")),
+    (b"map m\nend x\n", (1, b"BadSection", b"map m", 1, THE_END)),
+    (b"events\r\n", (1, b"BadSection", b"events?", 1, A_PART, RETURN)), (b"\xef\xbb\xbfevents\n", (1, b"BadSection", b"???events", 1, A_PART, MARK)),
+    (b"# \xef\xbb\xbf\n\xef\xbb\xbfevents\n", (2, b"BadSection", b"???events", 1, A_PART)),
+    (b"events x\n", (1, b"BadSection", b"events x", 8, b"the end of the line")),
+    (b"map\n", (1, b"BadSection", b"map", 4, b"the name of a map")),
+    (b"map m\nend\nmaster\nend\nevents\n", (3, b"BadSection", b"master", 1, IN_ORDER)),
+    (b"negative 1\nlimits 1 1 1\nevents\n", (2, b"BadSection", b"limits 1 1 1", 1, IN_ORDER)),
+    (b"limits 1000 100000 5\nevents\n", (1, b"BadLimits", b"limits 1000 100000 5", 13, b"the most waits, a number from 1 to 65536")),
+    (b"negative x\n", (1, b"BadLimits", b"negative x", 10, b"how many seconds failures last, a number below 2^64")),
+    (b"master\n/auto auto.homes\nend\nmap auto.home\nhome srv:/home\nend\nevents\n",
+     (2, b"NoSuchMap", b"/auto auto.homes", 7, b"the name of a map that has a section")),
+    (b"\nmaster\nx\nend\n", (3, b"BadPoint", b"x", 1, b"/- or a path below /")),
+    (b"master\n/a\nend\n", (2, b"NoMap", b"/a", 3, b"a map, its name or file:name")),
+    (b"master\n/a hesiod:x\nend\n", (2, b"BadType", b"/a hesiod:x", 4, b"a map, its name or file:name")),
+    (b"master\n/a m -t x\nend\n", (2, b"BadTimeout", b"/a m -t x", 9, b"the seconds of a timeout, a number below 2^32")),
+    (b"master\n/a m\n/a m\nend\n", (3, b"Twice", b"/a m", 1, b"a mount point that no line above has")),
+    (A_MAP + b"/x srv:/x\nend\nevents\n", (5, b"BadKey", b"/x srv:/x", 1, b"a key of this kind of map")),
+    (A_MAP + b"home -rw\nend\nevents\n", (5, b"NoLocation", b"home -rw", 9, b"a location host:/path")),
+    (A_MAP + b"home srv\r\nend\nevents\n", (5, b"BadLocation", b"home srv?", 6, b"options behind a dash, or a location host:/path", RETURN)),
+]
+# A line that is joined of two, and one that is too long. Of a script of more than a MiB the last lines are known alone.
+JOINED = (A_MAP + b"home \\\n  srv\nend\nevents\n", fault(5, b"BadLocation")
+          + b"  column 8 of the joined line: expected options behind a dash, or a location host:/path\n")
+TOO_LONG = (b"events\n" + b"#" * 9000 + b"\n", fault(2, b"LongLine") + b".." + b"#" * 72 + b"..\n  " + b" " * 40
+            + b"^ column 8193: expected the end of the line\n")
+CUT = [
+    (b"walk 7 0 /" + b"a" * 100 + b" x room", b".." + b"a" * 39 + b" x room\n  " + b" " * 40
+     + b"^ column 112: expected a moment in seconds, a number below 2^64\n"),
+    (b"walk 7 0 /" + b"a" * 48 + b" x room", b"  walk 7 0 /" + b"a" * 48 + b" x room\n  " + b" " * 59
+     + b"^ column 60: expected a moment in seconds, a number below 2^64\n"),
+    (b"walk 7 0 /" + b"a" * 49 + b" x room", b".." + b"a" * 39 + b" x room\n  " + b" " * 40
+     + b"^ column 61: expected a moment in seconds, a number below 2^64\n"),
+    (b"x" * 72, b"  " + b"x" * 72 + b"\n  ^ column 1: expected the word of an event\n"),
+    (b"x" * 73, b"  " + b"x" * 72 + b"..\n  ^ column 1: expected the word of an event\n"),
+]
+MANY = b"#" * 99 + b"\n"
+LONG = MANY * 10500
+# Faults of scripts: the words of the command, the script, what is written and what is told.
+FAULTS = [
+    *((["script"], b"events\n" + line + b"\n", b"", placed(2, b"BadEvent", line, column, expected))
+      for line, column, expected in NO_EVENTS),
+    *((["script"], b"events\n" + line, b"", placed(2, b"BadEvent", shown, column, expected))
+      for line, shown, column, expected in HOSTILE),
+    *(([command], head, b"", placed(*row)) for command in ("script", "trace", "draw", "world") for head, row in BAD_HEADS),
+    *(([command], b"events\nwalk 7 0 auto 1 room\n", b"", placed(2, b"BadEvent", b"walk 7 0 auto 1 room", 10, A_PATH))
+      for command in ("script", "trace", "draw", "world")),
+    (["script"], *(JOINED[0], b"", JOINED[1])), (["world"], *(JOINED[0], b"", JOINED[1])),
+    (["script"], *(TOO_LONG[0], b"", TOO_LONG[1])), (["trace"], *(TOO_LONG[0], b"", TOO_LONG[1])),
+    *((["script"], b"events\n" + line + b"\n", b"", fault(2, b"BadEvent") + below) for line, below in CUT),
+    # A section that may not stand there: its end may follow, but where all is read.
+    (["script"], b"map m\nend\nmaster\n", b"", placed(3, b"BadSection", b"master", 1, IN_ORDER)),
+    (["trace"], b"map m\nend\nmaster\n", b"", placed(3, b"BadSection", b"master", 1, THE_END)),
+    (["script"], b"map m\nend\nmaster\n" + LONG + b"end\n", b"", placed(3, b"BadSection", b"master", 1, IN_ORDER)),
+    (["script"], b"map m\n" + LONG, b"", fault(1, b"BadSection")),
+    (["script"], b"events\n" + LONG + b"x y\n" + LONG, b"", placed(10502, b"BadEvent", b"x y", 1, AN_EVENT)),
+    (["script"], b"events\nx\n" + LONG, b"", placed(2, b"BadEvent", b"x", 1, AN_EVENT)),
+    (["trace"], b"events\n" + LONG + b"x y\n" + MANY, b"", placed(10502, b"BadEvent", b"x y", 1, AN_EVENT)),
+    (["trace"], b"events\nx\n" + LONG, b"", fault(2, b"BadEvent")),
+    (["trace"], b"events\nx\n" + MANY * 10000, b"", placed(2, b"BadEvent", b"x", 1, AN_EVENT)),
+]
 COMMAND_LINES = [
     (["script"], b"# nothing\n", (0, b"", b"")),
-    (["script"], b"\nmaster\nx\nend\n", (1, b"", fault(3, b"BadPoint"))),
-    (["script"], SHORT + b"x\n", (1, b"mount 2\nerr 5\n", fault(4, b"BadEvent"))),
+    (["script"], SHORT + b"x\n", (1, b"mount 2\nerr 5\n", placed(4, b"BadEvent", b"x", 1, AN_EVENT))),
+    *((words, given, (1, wrote, said)) for words, given, wrote, said in FAULTS),
     (["trace"], b"events\nmount 0 /a\\b\n", (0, b"2: mount 0 /a\\b\n= mount 2\n  mounted 2\n", b"")),
-    (["trace"], b"events\nx\n", (1, b"", fault(2, b"BadEvent"))),
-    (["draw"], b"events\nx\n", (1, b"", fault(2, b"BadEvent"))),
     (["world"], A_WORLD, (0, WORLD, b"")),
     (["world", "--namespace", "0"], A_WORLD, (0, NAMESPACES[0], b"")),
     (["world", "--namespace", "1"], A_WORLD, (0, NAMESPACES[1], b"")),
     (["world", "--namespace", "2"], A_WORLD, (1, b"", b"fault: line 11: NoSuchNamespace\n")),
     (["world", "--namespace", "1"], b"events\n", (1, b"", b"fault: line 1: NoSuchNamespace\n")),
     (["world", "--namespace", "1"], PROPAGATION, (0, PROPAGATED, b"")),
-    (["world"], b"events\nmount 0 /a\nx\n", (1, b"", fault(3, b"BadEvent"))),
+    (["world"], b"events\nmount 0 /a\nx\n", (1, b"", placed(3, b"BadEvent", b"x", 1, AN_EVENT))),
     (["judge"], b"", (0, b"lawful\n", b"")),
     (["judge"], BROKEN, (1, b"line 2: a walker waits on a token that is open\n", b"")),
     (["judge"], b"  left 1 mount 5\n  died now\n", (1, b"", b"fault: line 2, column 7: the end of the line expected\n")),
@@ -286,6 +378,29 @@ def is_mute(program, words, given):
     return (ran.returncode, ran.stdout) == program.run(words, given)[:2]
 
 
+def with_room(room):
+    """Called in the process of a program: what it writes beyond so many bytes of a file fails."""
+    resource.setrlimit(resource.RLIMIT_FSIZE, (room, room))
+
+
+def is_told_in_part(program, words, given, room):
+    """Whether the beginning is told that standard error takes, which is a file of so many bytes."""
+    status, wrote, whole = program.run(words, given)
+    with tempfile.TemporaryFile() as said:
+        ran = subprocess.run([program.path, *words], input=given, stdout=subprocess.PIPE, stderr=said, timeout=program.patience,
+                             check=False, preexec_fn=lambda: with_room(room), restore_signals=False)
+        said.seek(0)
+        return (ran.returncode, ran.stdout, said.read()) == (status, wrote, whole[:room])
+
+
+def is_explained(given, said):
+    """Whether what is told is as the pages have it, apart from which column and what was expected."""
+    wrong = said.count(b"\n") > 1 and places.problem(given, said)
+    if wrong:
+        print(wrong)
+    return not wrong
+
+
 def is_picture(program, words, shown, told):
     """Whether the picture shows these of the two events, and says how many."""
     status, wrote, said = program.run(["draw", *words], TWO_EVENTS)
@@ -328,6 +443,18 @@ def is_refused_well(found, whole, refused):
     return lambda ran: judge(ran) or ran in refused
 
 
+def is_refused_at_fault(found, whole, every):
+    """The same of a script that ends in a fault, of which all of this is told: what stands below it may be missing."""
+    no_memory = re.compile(rb"fault: (line \d+: )?NoMemory\n")
+
+    def judge(ran):
+        status, wrote, said = ran
+        return status == 1 and (wrote in whole and said in (every, places.first(every))
+                                or wrote in found and no_memory.fullmatch(said) is not None)
+
+    return judge
+
+
 def refuses_each(program, refuse, words, given, is_well):
     """Runs a command with each allocation refused in turn; returns how many that were, or none where one went ill."""
     for number in range(1, 100_000):
@@ -361,6 +488,12 @@ def refusals(program, refuse):
     for words, given, (found, whole) in rows:
         yield words, lambda words=words, given=given, found=found, whole=whole: refuses_each(
             program, refuse, words, given, is_refused_well(found, whole, ()))
+    for words, given, (found, whole) in (
+            (["script"], SHORT + b"x\n", beginnings(ANSWERS)), (["trace"], SHORT + b"x\n", beginnings(TRACES)),
+            (["script"], JOINED[0], ([b""], [b""])), (["world"], JOINED[0], ([b""], [b""])),
+            (["script"], TOO_LONG[0], ([b""], [b""])), (["trace"], BAD_HEADS[0][0], ([b""], [b""]))):
+        yield words, lambda words=words, given=given, found=found, whole=whole: refuses_each(
+            program, refuse, words, given, is_refused_at_fault(found, whole, program.run(words, given)[2]))
     # Where there is no memory to find what may be meant, the command lines are told alone; a file is seen all the same.
     for words, hints in REFUSED:
         yield words, lambda words=words, hints=hints: refuses_each(
@@ -393,7 +526,11 @@ def checks(program):
         yield f"standard error takes nothing: {' '.join(words)}", \
             lambda words=words, given=given: is_mute(program, words, given)
     for words, given, ends in COMMAND_LINES:
+        yield f"what is told: {' '.join(words)}, {ends[0]}", lambda given=given, ends=ends: is_explained(given, ends[2])
         yield f"command line: {' '.join(words)}, {ends[0]}", lambda words=words, given=given, ends=ends: program.run(words, given) == ends
+    for room in (0, 1, 26, 27, 40, 80, 200):
+        yield f"standard error takes {room} bytes", lambda room=room: is_told_in_part(
+            program, ["script"], b"events\nwalk 7 0 auto 1 room\n", room)
     for row in PICTURES:
         yield f"a picture: {' '.join(row[0])}", lambda row=row: is_picture(program, *row)
     if not program.is_proved:

@@ -26,14 +26,16 @@ expect_out() {
     fi
 }
 
-# Writes what the program told, and behind a fault the line of the script at which it is.
+# Writes what the program told, and behind a fault the line of the script at which it is, unless that was told.
 tell_fault() {
     cat "$1" >&2
     line=$(sed -n 's/^fault: line \([0-9]*\): .*/\1/p' "$1")
     word=$(sed -n 's/^fault: line [0-9]*: //p' "$1")
     [ -n "$line" ] || return 0
-    text=$(sed -n "${line}{p;q}" "$2" | LC_ALL=C cut -b 1-200 | cat -v)
-    echo "$(basename "$0" .sh): line $line of $2 is: ${text:-blank, or behind its end}" >&2
+    if [ "$(wc -l < "$1")" -le 1 ]; then
+        text=$(sed -n "${line}{p;q}" "$2" | LC_ALL=C cut -b 1-200 | cat -v)
+        echo "$(basename "$0" .sh): line $line of $2 is: ${text:-blank, or behind its end}" >&2
+    fi
     echo "$(basename "$0" .sh): docs/FORMATS.md has what a line may be (Scripts), and what $word means (Faults)" >&2
 }
 

@@ -2,11 +2,12 @@
 use Rattle.std.proofs.Common.{◌≡◌, ℕ, List, Option, None, Some, refl, ◌⊎◌, inl, inr, codes}
 use Rattle.std.specs.Io.KnownBytes.{Appends}
 use Rattle.am_mountinfo.specs.{ShowsInput, StopsShowing}
+use Rattle.am_recall.specs.declared.recalled.Recalled.{Recalled}
 use Rattle.am_runner.specs.{IsTally, Tally}
 use Rattle.am_script.specs.{PlaysInput, StopsInput, ScriptFault, Summary}
 use Rattle.am_cli.specs.{Exits, Played, Stopped, Traced, TraceStopped, Drawn, DrawStopped, Shown, ShowStopped, Judged, JudgeStopped, Imported, ImportStopped, Ran, Untold, NotRun, Helped, NotHelped, Versioned, NotVersioned, rounds_line, status_of_verdict, SaysWhole}
 use Rattle.am_cli.specs.Help.{help_text, version_line}
-use Rattle.am_cli.specs.Telling.{import_told, judge_told, script_told, Tells, word_told}
+use Rattle.am_cli.specs.Telling.{import_told, judge_told, Tells, TellsFault, word_told}
 use Rattle.am_draw.specs.{DrawsInput, StopsDrawing}
 use Rattle.am_import.specs.{ImportsInput, StopsImporting, ImportFault}
 use Rattle.am_traces.specs.Judged.{JudgesInput, StopsJudging}
@@ -16,54 +17,54 @@ use Rattle.am_views.specs.{TracesInput, StopsTrace}
 use Rattle.am_cli.specs.declared.args.Args.TheVariants.{Script, Trace, Draw, World, Judge, Import, Threads, Help, Version}
 use Rattle.am_cli.specs.declared.topics.Topic.{Topic}
 
-pub ends_played : (input rest old new quiet : Option (List ℕ)) (summary : Summary) → PlaysInput input rest old new summary → Exits Script input rest old new quiet quiet 0
-ends_played input rest old new quiet summary plays = record { end = Played summary; asked_is = refl; status_is = refl; streams = (plays, refl) }
+pub ends_played : (recalled : Recalled) (input rest old new quiet : Option (List ℕ)) (summary : Summary) → PlaysInput input rest old new summary → Exits Script recalled input rest old new quiet quiet 0
+ends_played recalled input rest old new quiet summary plays = record { end = Played summary; asked_is = refl; status_is = refl; streams = (plays, refl) }
 
-pub ends_stopped : (input rest old new quiet told : Option (List ℕ)) (fault : ScriptFault) → StopsInput input rest old new fault → Tells quiet told (script_told fault) → Exits Script input rest old new quiet told 1
-ends_stopped input rest old new quiet told fault stops tells = record { end = Stopped fault; asked_is = refl; status_is = refl; streams = (stops, tells) }
+pub ends_stopped : (recalled : Recalled) (input rest old new quiet told : Option (List ℕ)) (fault : ScriptFault) → StopsInput input rest old new fault → TellsFault recalled fault quiet told → Exits Script recalled input rest old new quiet told 1
+ends_stopped recalled input rest old new quiet told fault stops tells = record { end = Stopped fault; asked_is = refl; status_is = refl; streams = (stops, tells) }
 
-pub ends_traced : (input rest old new quiet : Option (List ℕ)) (summary : Summary) → TracesInput input rest old new summary → Exits Trace input rest old new quiet quiet 0
-ends_traced input rest old new quiet summary traces = record { end = Traced summary; asked_is = refl; status_is = refl; streams = (traces, refl) }
+pub ends_traced : (recalled : Recalled) (input rest old new quiet : Option (List ℕ)) (summary : Summary) → TracesInput input rest old new summary → Exits Trace recalled input rest old new quiet quiet 0
+ends_traced recalled input rest old new quiet summary traces = record { end = Traced summary; asked_is = refl; status_is = refl; streams = (traces, refl) }
 
-pub ends_trace_stopped : (input rest old new quiet told : Option (List ℕ)) (fault : ScriptFault) → StopsTrace input rest old new fault → Tells quiet told (script_told fault) → Exits Trace input rest old new quiet told 1
-ends_trace_stopped input rest old new quiet told fault stops tells = record { end = TraceStopped fault; asked_is = refl; status_is = refl; streams = (stops, tells) }
+pub ends_trace_stopped : (recalled : Recalled) (input rest old new quiet told : Option (List ℕ)) (fault : ScriptFault) → StopsTrace input rest old new fault → TellsFault recalled fault quiet told → Exits Trace recalled input rest old new quiet told 1
+ends_trace_stopped recalled input rest old new quiet told fault stops tells = record { end = TraceStopped fault; asked_is = refl; status_is = refl; streams = (stops, tells) }
 
-pub ends_drawn : (first last from to : ℕ) → from ≡ first → to ≡ last → (input rest old new quiet : Option (List ℕ)) (summary : Summary) → DrawsInput from to input rest old new summary → Exits (Draw first last) input rest old new quiet quiet 0
-ends_drawn first last from to e f input rest old new quiet summary draws = record { end = Drawn from to summary; asked_is = cc; status_is = refl; streams = (draws, refl) }
+pub ends_drawn : (recalled : Recalled) (first last from to : ℕ) → from ≡ first → to ≡ last → (input rest old new quiet : Option (List ℕ)) (summary : Summary) → DrawsInput from to input rest old new summary → Exits (Draw first last) recalled input rest old new quiet quiet 0
+ends_drawn recalled first last from to e f input rest old new quiet summary draws = record { end = Drawn from to summary; asked_is = cc; status_is = refl; streams = (draws, refl) }
 
-pub ends_draw_stopped : (first last from to : ℕ) → from ≡ first → to ≡ last → (input rest old new quiet told : Option (List ℕ)) (fault : ScriptFault) → StopsDrawing from to input rest old new fault → Tells quiet told (script_told fault) → Exits (Draw first last) input rest old new quiet told 1
-ends_draw_stopped first last from to is_first is_last input rest old new quiet told fault stops tells = record { end = DrawStopped from to fault; asked_is = cc; status_is = refl; streams = (stops, tells) }
+pub ends_draw_stopped : (recalled : Recalled) (first last from to : ℕ) → from ≡ first → to ≡ last → (input rest old new quiet told : Option (List ℕ)) (fault : ScriptFault) → StopsDrawing from to input rest old new fault → TellsFault recalled fault quiet told → Exits (Draw first last) recalled input rest old new quiet told 1
+ends_draw_stopped recalled first last from to is_first is_last input rest old new quiet told fault stops tells = record { end = DrawStopped from to fault; asked_is = cc; status_is = refl; streams = (stops, tells) }
 
-pub ends_shown : (only ns : Option ℕ) → ns ≡ only → (input rest old new quiet : Option (List ℕ)) (summary : Summary) → ShowsInput ns input rest old new summary → Exits (World only) input rest old new quiet quiet 0
-ends_shown only ns is input rest old new quiet summary shows = record { end = Shown ns summary; asked_is = cc; status_is = refl; streams = (shows, refl) }
+pub ends_shown : (recalled : Recalled) (only ns : Option ℕ) → ns ≡ only → (input rest old new quiet : Option (List ℕ)) (summary : Summary) → ShowsInput ns input rest old new summary → Exits (World only) recalled input rest old new quiet quiet 0
+ends_shown recalled only ns is input rest old new quiet summary shows = record { end = Shown ns summary; asked_is = cc; status_is = refl; streams = (shows, refl) }
 
-pub ends_show_stopped : (only ns : Option ℕ) → ns ≡ only → (input rest old new quiet told : Option (List ℕ)) (fault : ScriptFault) → StopsShowing ns input rest old new fault → Tells quiet told (script_told fault) → Exits (World only) input rest old new quiet told 1
-ends_show_stopped only ns is input rest old new quiet told fault stops tells = record { end = ShowStopped ns fault; asked_is = cc; status_is = refl; streams = (stops, tells) }
+pub ends_show_stopped : (recalled : Recalled) (only ns : Option ℕ) → ns ≡ only → (input rest old new quiet told : Option (List ℕ)) (fault : ScriptFault) → StopsShowing ns input rest old new fault → TellsFault recalled fault quiet told → Exits (World only) recalled input rest old new quiet told 1
+ends_show_stopped recalled only ns is input rest old new quiet told fault stops tells = record { end = ShowStopped ns fault; asked_is = cc; status_is = refl; streams = (stops, tells) }
 
-pub ends_judged : (input rest old new quiet : Option (List ℕ)) (verdict : Verdict) (status : ℕ) → JudgesInput input rest old new verdict → status ≡ status_of_verdict verdict → Exits Judge input rest old new quiet quiet status
-ends_judged input rest old new quiet verdict status judges e = record { end = Judged verdict; asked_is = refl; status_is = e; streams = (judges, refl) }
+pub ends_judged : (recalled : Recalled) (input rest old new quiet : Option (List ℕ)) (verdict : Verdict) (status : ℕ) → JudgesInput input rest old new verdict → status ≡ status_of_verdict verdict → Exits Judge recalled input rest old new quiet quiet status
+ends_judged recalled input rest old new quiet verdict status judges e = record { end = Judged verdict; asked_is = refl; status_is = e; streams = (judges, refl) }
 
-pub ends_judge_stopped : (input rest old new quiet told : Option (List ℕ)) (fault : JudgeFault) → StopsJudging input rest old new fault → Tells quiet told (judge_told fault) → Exits Judge input rest old new quiet told 1
-ends_judge_stopped input rest old new quiet told fault stops tells = record { end = JudgeStopped fault; asked_is = refl; status_is = refl; streams = (stops, tells) }
+pub ends_judge_stopped : (recalled : Recalled) (input rest old new quiet told : Option (List ℕ)) (fault : JudgeFault) → StopsJudging input rest old new fault → Tells quiet told (judge_told fault) → Exits Judge recalled input rest old new quiet told 1
+ends_judge_stopped recalled input rest old new quiet told fault stops tells = record { end = JudgeStopped fault; asked_is = refl; status_is = refl; streams = (stops, tells) }
 
-pub ends_imported : (input rest old new quiet : Option (List ℕ)) (status : ℕ) → ImportsInput input rest old new → status ≡ 0 → Exits Import input rest old new quiet quiet status
-ends_imported input rest old new quiet status imports e = record { end = Imported; asked_is = refl; status_is = e; streams = (imports, refl) }
+pub ends_imported : (recalled : Recalled) (input rest old new quiet : Option (List ℕ)) (status : ℕ) → ImportsInput input rest old new → status ≡ 0 → Exits Import recalled input rest old new quiet quiet status
+ends_imported recalled input rest old new quiet status imports e = record { end = Imported; asked_is = refl; status_is = e; streams = (imports, refl) }
 
-pub ends_import_stopped : (input rest old new quiet told : Option (List ℕ)) (fault : ImportFault) → StopsImporting input rest old new fault → Tells quiet told (import_told fault) → Exits Import input rest old new quiet told 1
-ends_import_stopped input rest old new quiet told fault stops tells = record { end = ImportStopped fault; asked_is = refl; status_is = refl; streams = (stops, tells) }
+pub ends_import_stopped : (recalled : Recalled) (input rest old new quiet told : Option (List ℕ)) (fault : ImportFault) → StopsImporting input rest old new fault → Tells quiet told (import_told fault) → Exits Import recalled input rest old new quiet told 1
+ends_import_stopped recalled input rest old new quiet told fault stops tells = record { end = ImportStopped fault; asked_is = refl; status_is = refl; streams = (stops, tells) }
 
 -- the line that tells the rounds is written, or isn't written whole
-pub ends_saying_rounds : (walkers workers rounds : ℕ) (input old new quiet told : Option (List ℕ)) (tally : Tally) (status : ℕ) → IsTally walkers workers rounds tally → SaysWhole (rounds_line tally.rounds) old new quiet told status → Exits (Threads walkers workers rounds) input input old new quiet told status
-ends_saying_rounds walkers workers rounds input old new quiet told tally status counted (inl says) = record { end = Ran walkers workers rounds tally; asked_is = refl; status_is = says.2; streams = (counted, refl, says.0, says.1) }
-ends_saying_rounds walkers workers rounds input old new quiet told tally status counted (inr cut) = record { end = Untold walkers workers rounds tally; asked_is = refl; status_is = cut.2; streams = (counted, refl, cut.0, cut.1) }
+pub ends_saying_rounds : (recalled : Recalled) (walkers workers rounds : ℕ) (input old new quiet told : Option (List ℕ)) (tally : Tally) (status : ℕ) → IsTally walkers workers rounds tally → SaysWhole (rounds_line tally.rounds) old new quiet told status → Exits (Threads walkers workers rounds) recalled input input old new quiet told status
+ends_saying_rounds recalled walkers workers rounds input old new quiet told tally status counted (inl says) = record { end = Ran walkers workers rounds tally; asked_is = refl; status_is = says.2; streams = (counted, refl, says.0, says.1) }
+ends_saying_rounds recalled walkers workers rounds input old new quiet told tally status counted (inr cut) = record { end = Untold walkers workers rounds tally; asked_is = refl; status_is = cut.2; streams = (counted, refl, cut.0, cut.1) }
 
-pub ends_not_run : (walkers workers rounds : ℕ) (input old quiet told : Option (List ℕ)) → Tells quiet told (word_told (codes "NoMemory")) → Exits (Threads walkers workers rounds) input input old old quiet told 1
-ends_not_run walkers workers rounds input old quiet told tells = record { end = NotRun walkers workers rounds; asked_is = refl; status_is = refl; streams = (refl, refl, tells) }
+pub ends_not_run : (recalled : Recalled) (walkers workers rounds : ℕ) (input old quiet told : Option (List ℕ)) → Tells quiet told (word_told (codes "NoMemory")) → Exits (Threads walkers workers rounds) recalled input input old old quiet told 1
+ends_not_run recalled walkers workers rounds input old quiet told tells = record { end = NotRun walkers workers rounds; asked_is = refl; status_is = refl; streams = (refl, refl, tells) }
 
-pub ends_saying_help : (topic : Option Topic) (input old new quiet told : Option (List ℕ)) (status : ℕ) → SaysWhole (help_text topic) old new quiet told status → Exits (Help topic) input input old new quiet told status
-ends_saying_help topic input old new quiet told status (inl says) = record { end = Helped topic; asked_is = refl; status_is = says.2; streams = (refl, says.0, says.1) }
-ends_saying_help topic input old new quiet told status (inr cut) = record { end = NotHelped topic; asked_is = refl; status_is = cut.2; streams = (refl, cut.0, cut.1) }
+pub ends_saying_help : (recalled : Recalled) (topic : Option Topic) (input old new quiet told : Option (List ℕ)) (status : ℕ) → SaysWhole (help_text topic) old new quiet told status → Exits (Help topic) recalled input input old new quiet told status
+ends_saying_help recalled topic input old new quiet told status (inl says) = record { end = Helped topic; asked_is = refl; status_is = says.2; streams = (refl, says.0, says.1) }
+ends_saying_help recalled topic input old new quiet told status (inr cut) = record { end = NotHelped topic; asked_is = refl; status_is = cut.2; streams = (refl, cut.0, cut.1) }
 
-pub ends_saying_version : (input old new quiet told : Option (List ℕ)) (status : ℕ) → SaysWhole version_line old new quiet told status → Exits Version input input old new quiet told status
-ends_saying_version input old new quiet told status (inl says) = record { end = Versioned; asked_is = refl; status_is = says.2; streams = (refl, says.0, says.1) }
-ends_saying_version input old new quiet told status (inr cut) = record { end = NotVersioned; asked_is = refl; status_is = cut.2; streams = (refl, cut.0, cut.1) }
+pub ends_saying_version : (recalled : Recalled) (input old new quiet told : Option (List ℕ)) (status : ℕ) → SaysWhole version_line old new quiet told status → Exits Version recalled input input old new quiet told status
+ends_saying_version recalled input old new quiet told status (inl says) = record { end = Versioned; asked_is = refl; status_is = says.2; streams = (refl, says.0, says.1) }
+ends_saying_version recalled input old new quiet told status (inr cut) = record { end = NotVersioned; asked_is = refl; status_is = cut.2; streams = (refl, cut.0, cut.1) }

@@ -69,10 +69,10 @@ told_either false quiet told text all cut = let h = cut refl in (h.0, h.2)
 pub word_parts : (quiet told : Option (List ℕ)) (word text : List ℕ) → text ≡ word → Tells quiet told (flat_map (λ part. part) (codes "fault: " ∷ text ∷ codes "\n" ∷ [])) → Tells quiet told (word_told word)
 word_parts quiet told word text same tells = subst (λ (t : List ℕ). Tells quiet told (word_told t)) same tells
 
-pub line_parts : (quiet told : Option (List ℕ)) (line : ℕ) (word digits text : List ℕ) → digits ≡ decimal line → text ≡ word → Tells quiet told (flat_map (λ part. part) (codes "fault: line " ∷ digits ∷ codes ": " ∷ text ∷ codes "\n" ∷ [])) → Tells quiet told (line_told line word)
-line_parts quiet told line word digits text number same tells =
-    subst (λ (t : List ℕ). Tells quiet told (line_told line t)) same
-    (subst (λ (t : List ℕ). Tells quiet told (flat_map (λ part. part) (codes "fault: line " ∷ t ∷ codes ": " ∷ text ∷ codes "\n" ∷ []))) number tells)
+pub line_parts : (quiet told : Option (List ℕ)) (line : ℕ) (word below digits text : List ℕ) → digits ≡ decimal line → text ≡ word → Tells quiet told (flat_map (λ part. part) (codes "fault: line " ∷ digits ∷ codes ": " ∷ text ∷ codes "\n" ∷ below ∷ [])) → Tells quiet told (line_told line word below)
+line_parts quiet told line word below digits text number same tells =
+    subst (λ (t : List ℕ). Tells quiet told (line_told line t below)) same
+    (subst (λ (t : List ℕ). Tells quiet told (flat_map (λ part. part) (codes "fault: line " ∷ t ∷ codes ": " ∷ text ∷ codes "\n" ∷ below ∷ []))) number tells)
 
 pub place_parts : (quiet told : Option (List ℕ)) (line column : ℕ) (expected lines columns text : List ℕ) → lines ≡ decimal line → columns ≡ decimal column → text ≡ expected → Tells quiet told (flat_map (λ part. part) (codes "fault: line " ∷ lines ∷ codes ", column " ∷ columns ∷ codes ": " ∷ text ∷ codes " expected\n" ∷ [])) → Tells quiet told (place_told line column expected)
 place_parts quiet told line column expected lines columns text number place same tells =

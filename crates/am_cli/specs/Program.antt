@@ -4,6 +4,7 @@ use Rattle.std.specs.List.{flat_map}
 use Rattle.std.specs.Io.KnownBytes.{Appends}
 use Rattle.am_import.specs.{ImportsInput, StopsImporting, ImportFault}
 use Rattle.am_mountinfo.specs.{ShowsInput, StopsShowing}
+use Rattle.am_recall.specs.declared.recalled.Recalled.{Recalled}
 use Rattle.am_runner.specs.{IsTally, Tally}
 use Rattle.am_script.specs.{PlaysInput, StopsInput, ScriptFault, Summary}
 use Rattle.am_draw.specs.{DrawsInput, StopsDrawing}
@@ -17,7 +18,7 @@ use Rattle.am_cli.specs.Args.{fault_number}
 use Rattle.am_cli.specs.CommandLine.{IsAsked, IsRefused}
 use Rattle.am_cli.specs.Help.{help_text, version_line}
 use Rattle.am_cli.specs.Hints.{IsHint, usage_told}
-use Rattle.am_cli.specs.Telling.{import_told, IsCut, judge_told, script_told, Tells, word_told}
+use Rattle.am_cli.specs.Telling.{import_told, IsCut, judge_told, Tells, TellsFault, word_told}
 use Rattle.am_cli.specs.declared.hints.Hint.{Hint}
 use Rattle.am_cli.specs.declared.topics.Topic.{Topic}
 use Rattle.am_cli.specs.declared.args.Args.{Args}
@@ -122,49 +123,50 @@ asked_of NotVersioned = Version
 
 -- What is read and written, and what is told of it: nothing is told of a script that is played,
 -- traced or drawn to its end, or whose world is printed, nor of a trace that is judged, a mountinfo that is imported,
--- threads whose rounds stand written, or help and a version that do. Else the fault is told.
+-- threads whose rounds stand written, or help and a version that do. Else the fault is told; that of a script with
+-- what the reader recalls of it.
 -- Threads, help and the version read nothing. Nothing is written where threads don't run.
-abbrev pub Leaves : End → Option (List ℕ) → Option (List ℕ) → Option (List ℕ) → Option (List ℕ) → Option (List ℕ) → Option (List ℕ) → Type 0
-Leaves (Played summary) input rest old new quiet told = PlaysInput input rest old new summary × (told ≡ quiet)
-Leaves (Stopped fault) input rest old new quiet told =
-    StopsInput input rest old new fault × Tells quiet told (script_told fault)
-Leaves (Traced summary) input rest old new quiet told = TracesInput input rest old new summary × (told ≡ quiet)
-Leaves (TraceStopped fault) input rest old new quiet told =
-    StopsTrace input rest old new fault × Tells quiet told (script_told fault)
-Leaves (Drawn first last summary) input rest old new quiet told =
+abbrev pub Leaves : End → Recalled → Option (List ℕ) → Option (List ℕ) → Option (List ℕ) → Option (List ℕ) → Option (List ℕ) → Option (List ℕ) → Type 0
+Leaves (Played summary) recalled input rest old new quiet told = PlaysInput input rest old new summary × (told ≡ quiet)
+Leaves (Stopped fault) recalled input rest old new quiet told =
+    StopsInput input rest old new fault × TellsFault recalled fault quiet told
+Leaves (Traced summary) recalled input rest old new quiet told = TracesInput input rest old new summary × (told ≡ quiet)
+Leaves (TraceStopped fault) recalled input rest old new quiet told =
+    StopsTrace input rest old new fault × TellsFault recalled fault quiet told
+Leaves (Drawn first last summary) recalled input rest old new quiet told =
     DrawsInput first last input rest old new summary × (told ≡ quiet)
-Leaves (DrawStopped first last fault) input rest old new quiet told =
-    StopsDrawing first last input rest old new fault × Tells quiet told (script_told fault)
-Leaves (Shown only summary) input rest old new quiet told = ShowsInput only input rest old new summary × (told ≡ quiet)
-Leaves (ShowStopped only fault) input rest old new quiet told =
-    StopsShowing only input rest old new fault × Tells quiet told (script_told fault)
-Leaves (Judged verdict) input rest old new quiet told = JudgesInput input rest old new verdict × (told ≡ quiet)
-Leaves (JudgeStopped fault) input rest old new quiet told =
+Leaves (DrawStopped first last fault) recalled input rest old new quiet told =
+    StopsDrawing first last input rest old new fault × TellsFault recalled fault quiet told
+Leaves (Shown only summary) recalled input rest old new quiet told = ShowsInput only input rest old new summary × (told ≡ quiet)
+Leaves (ShowStopped only fault) recalled input rest old new quiet told =
+    StopsShowing only input rest old new fault × TellsFault recalled fault quiet told
+Leaves (Judged verdict) recalled input rest old new quiet told = JudgesInput input rest old new verdict × (told ≡ quiet)
+Leaves (JudgeStopped fault) recalled input rest old new quiet told =
     StopsJudging input rest old new fault × Tells quiet told (judge_told fault)
-Leaves Imported input rest old new quiet told = ImportsInput input rest old new × (told ≡ quiet)
-Leaves (ImportStopped fault) input rest old new quiet told =
+Leaves Imported recalled input rest old new quiet told = ImportsInput input rest old new × (told ≡ quiet)
+Leaves (ImportStopped fault) recalled input rest old new quiet told =
     StopsImporting input rest old new fault × Tells quiet told (import_told fault)
-Leaves (Ran walkers workers rounds tally) input rest old new quiet told =
+Leaves (Ran walkers workers rounds tally) recalled input rest old new quiet told =
     IsTally walkers workers rounds tally × (rest ≡ input) × Appends old new (rounds_line tally.rounds) × (told ≡ quiet)
-Leaves (Untold walkers workers rounds tally) input rest old new quiet told =
+Leaves (Untold walkers workers rounds tally) recalled input rest old new quiet told =
     IsTally walkers workers rounds tally × (rest ≡ input) × IsCut old new (rounds_line tally.rounds)
     × Tells quiet told (word_told (codes "WriteFailed"))
-Leaves (NotRun walkers workers rounds) input rest old new quiet told =
+Leaves (NotRun walkers workers rounds) recalled input rest old new quiet told =
     (rest ≡ input) × (new ≡ old) × Tells quiet told (word_told (codes "NoMemory"))
-Leaves (Helped topic) input rest old new quiet told =
+Leaves (Helped topic) recalled input rest old new quiet told =
     (rest ≡ input) × Appends old new (help_text topic) × (told ≡ quiet)
-Leaves (NotHelped topic) input rest old new quiet told =
+Leaves (NotHelped topic) recalled input rest old new quiet told =
     (rest ≡ input) × IsCut old new (help_text topic) × Tells quiet told (word_told (codes "WriteFailed"))
-Leaves Versioned input rest old new quiet told = (rest ≡ input) × Appends old new version_line × (told ≡ quiet)
-Leaves NotVersioned input rest old new quiet told =
+Leaves Versioned recalled input rest old new quiet told = (rest ≡ input) × Appends old new version_line × (told ≡ quiet)
+Leaves NotVersioned recalled input rest old new quiet told =
     (rest ≡ input) × IsCut old new version_line × Tells quiet told (word_told (codes "WriteFailed"))
 
 -- what was asked for ends so, with this status
-pub record Exits (asked : Args) (input rest old new quiet told : Option (List ℕ)) (status : ℕ) : Type 0 where
+pub record Exits (asked : Args) (recalled : Recalled) (input rest old new quiet told : Option (List ℕ)) (status : ℕ) : Type 0 where
   pub end : End
   pub asked_is : asked_of end ≡ asked
   pub status_is : status ≡ status_of end
-  pub streams : Leaves end input rest old new quiet told
+  pub streams : Leaves end recalled input rest old new quiet told
 
 -- a text is written whole, with this status, or that it isn't is told
 abbrev pub SaysWhole : List ℕ → Option (List ℕ) → Option (List ℕ) → Option (List ℕ) → Option (List ℕ) → ℕ → Type 0
@@ -189,12 +191,12 @@ pub record Refuses (words : List Text) (input rest old new quiet told : Option (
   pub tells : TellsRefusal words fault quiet told
 
 -- what the words ask for is done, and ends with this status
-pub record Does (words : List Text) (input rest old new quiet told : Option (List ℕ)) (status : ℕ) : Type 0 where
+pub record Does (words : List Text) (recalled : Recalled) (input rest old new quiet told : Option (List ℕ)) (status : ℕ) : Type 0 where
   pub asked : Args
   pub asks : IsAsked words asked
-  pub exits : Exits asked input rest old new quiet told status
+  pub exits : Exits asked recalled input rest old new quiet told status
 
 -- the program exits with this status: it does what these words ask for, or refuses them
-abbrev pub ExitsWith : List Text → Option (List ℕ) → Option (List ℕ) → Option (List ℕ) → Option (List ℕ) → Option (List ℕ) → Option (List ℕ) → ℕ → Type 0
-ExitsWith words input rest old new quiet told status =
-    Does words input rest old new quiet told status ⊎ Refuses words input rest old new quiet told status
+abbrev pub ExitsWith : List Text → Recalled → Option (List ℕ) → Option (List ℕ) → Option (List ℕ) → Option (List ℕ) → Option (List ℕ) → Option (List ℕ) → ℕ → Type 0
+ExitsWith words recalled input rest old new quiet told status =
+    Does words recalled input rest old new quiet told status ⊎ Refuses words input rest old new quiet told status

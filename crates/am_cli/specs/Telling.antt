@@ -2,6 +2,7 @@
 use Rattle.std.specs.Prelude.{◌<◌, ◌∷◌, ℕ, List, [], codes, decimal, length, take, Option}
 use Rattle.std.specs.List.{flat_map}
 use Rattle.std.specs.Io.KnownBytes.{Appends}
+use Rattle.am_explain.specs.{HelpsWith}
 use Rattle.am_import.specs.{ImportFault}
 use Rattle.am_import.specs.declared.imports.ImportFault.TheVariants as unmade
 use Rattle.am_map.specs.{MapFaultKind}
@@ -10,6 +11,7 @@ use Rattle.am_master.specs.{MasterFaultKind}
 use Rattle.am_master.specs.declared.fault.MasterFaultKind.TheVariants as of_master
 use Rattle.am_mount_lines.specs.declared.misfit.Expected.{Expected as MountExpected}
 use Rattle.am_mount_lines.specs.declared.misfit.Expected.TheVariants as in_mounts
+use Rattle.am_recall.specs.declared.recalled.Recalled.{Recalled}
 use Rattle.am_script.specs.{ScriptFault, ScriptFaultKind}
 use Rattle.am_script.specs.declared.fault.ScriptFaultKind.TheVariants as of_script
 use Rattle.am_traces.specs.declared.fault.Expected.{Expected as TraceExpected}
@@ -33,10 +35,11 @@ Tells quiet told text = (taken : ℕ) × Appends quiet told (take taken text)
 abbrev pub word_told : List ℕ → List ℕ
 word_told word = flat_map (λ part. part) (codes "fault: " ∷ word ∷ codes "\n" ∷ [])
 
--- a fault at a line
-abbrev pub line_told : ℕ → List ℕ → List ℕ
-line_told line word =
-    flat_map (λ part. part) (codes "fault: line " ∷ decimal line ∷ codes ": " ∷ word ∷ codes "\n" ∷ [])
+-- a fault at a line, and this below it
+abbrev pub line_told : ℕ → List ℕ → List ℕ → List ℕ
+line_told line word below =
+    flat_map (λ part. part)
+    (codes "fault: line " ∷ decimal line ∷ codes ": " ∷ word ∷ codes "\n" ∷ below ∷ [])
 
 -- what was expected at a place
 abbrev pub place_told : ℕ → ℕ → List ℕ → List ℕ
@@ -78,9 +81,14 @@ kind_word of_script.ReadFailed = codes "ReadFailed"
 kind_word of_script.WriteFailed = codes "WriteFailed"
 kind_word of_script.NoSuchNamespace = codes "NoSuchNamespace"
 
--- what is told of it
-abbrev pub script_told : ScriptFault → List ℕ
-script_told fault = line_told fault.line (kind_word fault.kind)
+-- what is told of it, with this below it
+abbrev pub script_told : ScriptFault → List ℕ → List ℕ
+script_told fault below = line_told fault.line (kind_word fault.kind) below
+
+-- it is told, and below it where its line isn't as expected in the script of which this is recalled
+abbrev pub TellsFault : Recalled → ScriptFault → Option (List ℕ) → Option (List ℕ) → Type 0
+TellsFault recalled fault quiet told =
+    (help : List ℕ) × HelpsWith recalled fault help × Tells quiet told (script_told fault help)
 
 -- ---- the faults of a trace that is to be judged
 

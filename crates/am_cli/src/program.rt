@@ -4,6 +4,7 @@ ghost use Rattle.std.specs.Prelude.{◌≡◌, ◌<◌, ◌≤◌, ℕ, List, ma
 ghost use Rattle.std.specs.List.{flat_map};
 ghost use Rattle.am_runner.specs.{IsTally};
 ghost use Rattle.clap.specs.Words.{Text};
+ghost use Rattle.am_recall.specs.declared.recalled.Recalled.{Recalled};
 ghost use Rattle.am_cli.specs.Program.{Exits, ExitsWith, SaysWhole, status_of_verdict, TellsRefusal};
 ghost use Rattle.am_cli.specs.Args.{fault_number, IsInRange};
 ghost use Rattle.am_cli.specs.declared.args.Args.TheVariants as asks;
@@ -11,12 +12,13 @@ ghost use Rattle.am_cli.specs.declared.args.Args.TheVariants as asks;
 use crate::args::{Args, ArgsFault, read_args};
 use crate::help::{help_text, version};
 use crate::hints::hint_for;
-use crate::telling::{tell_import, tell_judge, tell_script, tell_usage, tell_word, write_parts};
+use crate::telling::{tell_fault, tell_import, tell_judge, tell_usage, tell_word, write_parts};
 use crate::topics::Topic;
 use am_draw::draw_script;
 use am_import::import;
 use am_mountinfo::world_script;
 use am_names::NsId;
+use am_recall::Recalling;
 use am_runner::{Tally, run_threads};
 use am_script::run_script;
 use am_traces::{Verdict, judge_trace};
@@ -29,17 +31,18 @@ use std::sync::Wait;
 use std::thread::Threads;
 
 /// Runs the program and answers its exit status: 0 done, 1 a fault, or a trace that breaks a law, 2 a bad command line. A fault
-/// is told on the last stream, as far as that takes it; the status tells it too.
+/// is told on the last stream, as far as that takes it; the status tells it too. Below the fault of a script stands what the
+/// reader recalls of it.
 pub fn run_program<T: Threads + Wait + Sync, R: Read, W: Write, E: Write>(
     rt: &T,
     alloc: Global,
     words: &[&str],
-    reader: &mut R,
+    reader: &mut Recalling<R>,
     writer: &mut W,
     errors: &mut E,
 ) -> u8
-    ensures { ExitsWith (map (λ word. word.now) words.now) (R.remaining reader.old)
-        (R.remaining reader.new) (W.contents writer.old) (W.contents writer.new)
+    ensures { ExitsWith (map (λ word. word.now) words.now) reader.new.recalled (R.remaining reader.old.reader)
+        (R.remaining reader.new.reader) (W.contents writer.old) (W.contents writer.new)
         (E.contents errors.old) (E.contents errors.new) result }
 {
     match read_args(alloc, words) {
@@ -53,12 +56,13 @@ fn run_asked<T: Threads + Wait + Sync, R: Read, W: Write, E: Write>(
     rt: &T,
     alloc: Global,
     args: Args,
-    reader: &mut R,
+    reader: &mut Recalling<R>,
     writer: &mut W,
     errors: &mut E,
 ) -> u8
     requires { IsInRange args }
-    ensures { Exits args (R.remaining reader.old) (R.remaining reader.new)
+    ensures { Exits args reader.new.recalled
+        (R.remaining reader.old.reader) (R.remaining reader.new.reader)
         (W.contents writer.old) (W.contents writer.new) (E.contents errors.old)
         (E.contents errors.new) result }
 {
@@ -66,8 +70,8 @@ fn run_asked<T: Threads + Wait + Sync, R: Read, W: Write, E: Write>(
         Args::Script => play(alloc, reader, writer, errors),
         Args::Trace => trace(alloc, reader, writer, errors),
         Args::Draw { first, last } => draw(alloc, first, last, reader, writer, errors),
-        Args::Judge => judge(alloc, reader, writer, errors),
-        Args::Import => import_mounts(alloc, reader, writer, errors),
+        Args::Judge => judge(alloc, &mut reader.reader, writer, errors),
+        Args::Import => import_mounts(alloc, &mut reader.reader, writer, errors),
         Args::World { namespace } => show(alloc, reader, writer, errors, namespace),
         Args::Threads {
             walkers,
@@ -93,7 +97,8 @@ fn say<W: Write, E: Write>(writer: &mut W, errors: &mut E, parts: &[&[u8]]) -> u
 
 /// Writes what a command does, or the program.
 fn show_help<W: Write, E: Write>(topic: Option<Topic>, writer: &mut W, errors: &mut E) -> u8
-    ensures { (input : Option (List ℕ)) → Exits (asks.Help topic) input input (W.contents writer.old)
+    ensures { (recalled : Recalled) (input : Option (List ℕ)) → Exits (asks.Help topic) recalled input input
+        (W.contents writer.old)
         (W.contents writer.new) (E.contents errors.old) (E.contents errors.new) result }
 {
     say(writer, errors, &[help_text(topic)])
@@ -101,7 +106,8 @@ fn show_help<W: Write, E: Write>(topic: Option<Topic>, writer: &mut W, errors: &
 
 /// Writes the version of the program.
 fn show_version<W: Write, E: Write>(writer: &mut W, errors: &mut E) -> u8
-    ensures { (input : Option (List ℕ)) → Exits asks.Version input input (W.contents writer.old)
+    ensures { (recalled : Recalled) (input : Option (List ℕ)) → Exits asks.Version recalled input input
+        (W.contents writer.old)
         (W.contents writer.new) (E.contents errors.old) (E.contents errors.new) result }
 {
     say(
@@ -114,18 +120,19 @@ fn show_version<W: Write, E: Write>(writer: &mut W, errors: &mut E) -> u8
 /// Plays the script that the reader gives.
 fn play<R: Read, W: Write, E: Write>(
     alloc: Global,
-    reader: &mut R,
+    reader: &mut Recalling<R>,
     writer: &mut W,
     errors: &mut E,
 ) -> u8
-    ensures { Exits asks.Script (R.remaining reader.old) (R.remaining reader.new)
+    ensures { Exits asks.Script reader.new.recalled
+        (R.remaining reader.old.reader) (R.remaining reader.new.reader)
         (W.contents writer.old) (W.contents writer.new) (E.contents errors.old)
         (E.contents errors.new) result }
 {
     match run_script(alloc, reader, writer) {
         Ok(_) => 0,
         Err(fault) => {
-            tell_script(errors, fault);
+            tell_fault(alloc, &reader.recalled, fault, errors);
             1
         }
     }
@@ -134,18 +141,19 @@ fn play<R: Read, W: Write, E: Write>(
 /// Prints the trace of the script that the reader gives.
 fn trace<R: Read, W: Write, E: Write>(
     alloc: Global,
-    reader: &mut R,
+    reader: &mut Recalling<R>,
     writer: &mut W,
     errors: &mut E,
 ) -> u8
-    ensures { Exits asks.Trace (R.remaining reader.old) (R.remaining reader.new)
+    ensures { Exits asks.Trace reader.new.recalled
+        (R.remaining reader.old.reader) (R.remaining reader.new.reader)
         (W.contents writer.old) (W.contents writer.new) (E.contents errors.old)
         (E.contents errors.new) result }
 {
     match trace_script(alloc, reader, writer) {
         Ok(_traced) => 0,
         Err(fault) => {
-            tell_script(errors, fault);
+            tell_fault(alloc, &reader.recalled, fault, errors);
             1
         }
     }
@@ -156,18 +164,19 @@ fn draw<R: Read, W: Write, E: Write>(
     alloc: Global,
     first: u32,
     last: u32,
-    reader: &mut R,
+    reader: &mut Recalling<R>,
     writer: &mut W,
     errors: &mut E,
 ) -> u8
-    ensures { Exits (asks.Draw first last) (R.remaining reader.old) (R.remaining reader.new)
+    ensures { Exits (asks.Draw first last) reader.new.recalled
+        (R.remaining reader.old.reader) (R.remaining reader.new.reader)
         (W.contents writer.old) (W.contents writer.new) (E.contents errors.old)
         (E.contents errors.new) result }
 {
     match draw_script(alloc, reader, writer, u64::from(first), u64::from(last)) {
         Ok(_drawn) => 0,
         Err(fault) => {
-            tell_script(errors, fault);
+            tell_fault(alloc, &reader.recalled, fault, errors);
             1
         }
     }
@@ -187,19 +196,20 @@ fn named(namespace: Option<u32>) -> Option<NsId>
 /// named.
 fn show<R: Read, W: Write, E: Write>(
     alloc: Global,
-    reader: &mut R,
+    reader: &mut Recalling<R>,
     writer: &mut W,
     errors: &mut E,
     namespace: Option<u32>,
 ) -> u8
-    ensures { Exits (asks.World namespace) (R.remaining reader.old) (R.remaining reader.new)
+    ensures { Exits (asks.World namespace) reader.new.recalled
+        (R.remaining reader.old.reader) (R.remaining reader.new.reader)
         (W.contents writer.old) (W.contents writer.new) (E.contents errors.old)
         (E.contents errors.new) result }
 {
     match world_script(alloc, reader, writer, named(namespace)) {
         Ok(_shown) => 0,
         Err(fault) => {
-            tell_script(errors, fault);
+            tell_fault(alloc, &reader.recalled, fault, errors);
             1
         }
     }
@@ -221,7 +231,7 @@ fn judge<R: Read, W: Write, E: Write>(
     writer: &mut W,
     errors: &mut E,
 ) -> u8
-    ensures { Exits asks.Judge (R.remaining reader.old) (R.remaining reader.new)
+    ensures { (recalled : Recalled) → Exits asks.Judge recalled (R.remaining reader.old) (R.remaining reader.new)
         (W.contents writer.old) (W.contents writer.new) (E.contents errors.old)
         (E.contents errors.new) result }
 {
@@ -241,7 +251,7 @@ fn import_mounts<R: Read, W: Write, E: Write>(
     writer: &mut W,
     errors: &mut E,
 ) -> u8
-    ensures { Exits asks.Import (R.remaining reader.old) (R.remaining reader.new)
+    ensures { (recalled : Recalled) → Exits asks.Import recalled (R.remaining reader.old) (R.remaining reader.new)
         (W.contents writer.old) (W.contents writer.new) (E.contents errors.old)
         (E.contents errors.new) result }
 {
@@ -266,7 +276,8 @@ fn run_crowd<T: Threads + Wait + Sync, W: Write, E: Write>(
 ) -> u8
     requires workers { (0 < workers) × (workers ≤ 16) }
     requires walkers { walkers ≤ 16 }
-    ensures { (input : Option (List ℕ)) → Exits (asks.Threads walkers workers rounds) input
+    ensures { (recalled : Recalled) (input : Option (List ℕ)) → Exits
+        (asks.Threads walkers workers rounds) recalled input
         input (W.contents writer.old) (W.contents writer.new) (E.contents errors.old)
         (E.contents errors.new) result }
 {
@@ -281,9 +292,9 @@ fn run_crowd<T: Threads + Wait + Sync, W: Write, E: Write>(
 
 /// Writes how many rounds were made.
 fn tell<W: Write, E: Write>(writer: &mut W, errors: &mut E, tally: Tally) -> u8
-    ensures { (walkers workers rounds : ℕ) (input : Option (List ℕ))
+    ensures { (walkers workers rounds : ℕ) (recalled : Recalled) (input : Option (List ℕ))
         → IsTally walkers workers rounds tally
-        → Exits (asks.Threads walkers workers rounds) input input (W.contents writer.old)
+        → Exits (asks.Threads walkers workers rounds) recalled input input (W.contents writer.old)
         (W.contents writer.new) (E.contents errors.old) (E.contents errors.new) result }
 {
     let mut digits = Buffer::new();
@@ -320,12 +331,12 @@ pub fn run_words<T: Threads + Wait + Sync, R: Read, W: Write, E: Write>(
     rt: &T,
     alloc: Global,
     words: io::Result<env::Args>,
-    reader: &mut R,
+    reader: &mut Recalling<R>,
     writer: &mut W,
     errors: &mut E,
 ) -> u8
-    ensures { (words : List Text) × ExitsWith words (R.remaining reader.old)
-        (R.remaining reader.new) (W.contents writer.old) (W.contents writer.new)
+    ensures { (words : List Text) × ExitsWith words reader.new.recalled (R.remaining reader.old.reader)
+        (R.remaining reader.new.reader) (W.contents writer.old) (W.contents writer.new)
         (E.contents errors.old) (E.contents errors.new) result }
 {
     match read_words(alloc, words) {
@@ -360,12 +371,12 @@ fn run_lent<T: Threads + Wait + Sync, R: Read, W: Write, E: Write>(
     rt: &T,
     alloc: Global,
     words: &[String],
-    reader: &mut R,
+    reader: &mut Recalling<R>,
     writer: &mut W,
     errors: &mut E,
 ) -> u8
-    ensures { ExitsWith (map (λ word. string_bytes word) words.now) (R.remaining reader.old)
-        (R.remaining reader.new) (W.contents writer.old) (W.contents writer.new)
+    ensures { ExitsWith (map (λ word. string_bytes word) words.now) reader.new.recalled (R.remaining reader.old.reader)
+        (R.remaining reader.new.reader) (W.contents writer.old) (W.contents writer.new)
         (E.contents errors.old) (E.contents errors.new) result }
 {
     match lend(alloc, words) {

@@ -4,18 +4,21 @@ ghost use Rattle.std.specs.Prelude.{◌≡◌, true, false};
 ghost use Rattle.std.specs.List.{flat_map};
 ghost use Rattle.std.specs.Io.KnownBytes.{Appends};
 ghost use Rattle.am_cli.specs.Hints.{hint_told, usage_told};
-ghost use Rattle.am_cli.specs.Telling.{import_told, IsCut, judge_told, kind_word, line_told, map_word, master_word, mount_words, place_told, script_told, Tells, trace_words, word_told};
+ghost use Rattle.am_cli.specs.Telling.{import_told, IsCut, judge_told, kind_word, line_told, map_word, master_word, mount_words, place_told, script_told, Tells, TellsFault, trace_words, word_told};
 
 use crate::help::usage;
 use crate::hints::Hint;
+use am_explain::help;
 use am_import::ImportFault;
 use am_map::MapFaultKind;
 use am_master::MasterFaultKind;
 use am_mount_lines::Expected as MountExpected;
+use am_recall::Recalled;
 use am_script::output::write_bytes;
 use am_script::{ScriptFault, ScriptFaultKind};
 use am_traces::{Expected as TraceExpected, JudgeFault};
 use itoa::Buffer;
+use std::alloc::Global;
 use std::io::Write;
 
 /// Writes a text, and answers whether it is taken whole.
@@ -57,9 +60,10 @@ pub(crate) fn tell_word<E: Write>(errors: &mut E, word: &str)
     tell(errors, &[b"fault: ", word.as_bytes(), b"\n"]);
 }
 
-/// Tells a fault at a line.
-fn tell_line<E: Write>(errors: &mut E, line: u64, word: &str)
-    ensures { Tells (E.contents errors.old) (E.contents errors.new) (line_told line word.now) }
+/// Tells a fault at a line, and this below it.
+fn tell_line<E: Write>(errors: &mut E, line: u64, word: &str, below: &[u8])
+    ensures { Tells (E.contents errors.old) (E.contents errors.new)
+        (line_told line word.now below.now) }
 {
     let mut digits = Buffer::new();
     tell(
@@ -70,6 +74,7 @@ fn tell_line<E: Write>(errors: &mut E, line: u64, word: &str)
             b": ",
             word.as_bytes(),
             b"\n",
+            below,
         ],
     );
 }
@@ -174,11 +179,25 @@ fn mount_words(expected: MountExpected) -> &'static str
     }
 }
 
-/// Tells why a script isn't played to its end.
-pub(crate) fn tell_script<E: Write>(errors: &mut E, fault: ScriptFault)
-    ensures { Tells (E.contents errors.old) (E.contents errors.new) (script_told fault) }
+/// Tells why a script isn't played to its end, and this below it.
+fn tell_script<E: Write>(errors: &mut E, fault: ScriptFault, below: &[u8])
+    ensures { Tells (E.contents errors.old) (E.contents errors.new) (script_told fault below.now) }
 {
-    tell_line(errors, fault.line, kind_word(fault.kind));
+    tell_line(errors, fault.line, kind_word(fault.kind), below);
+}
+
+/// Tells why a script isn't played to its end, of which this is recalled: below the fault stands where
+/// its line isn't as expected, if that is known.
+pub(crate) fn tell_fault<E: Write>(
+    alloc: Global,
+    recalled: &Recalled,
+    fault: ScriptFault,
+    errors: &mut E,
+)
+    ensures { TellsFault recalled.now fault (E.contents errors.old) (E.contents errors.new) }
+{
+    let below = help(alloc, recalled, fault);
+    tell_script(errors, fault, &below);
 }
 
 /// Tells why a verdict isn't written.

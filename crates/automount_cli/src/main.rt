@@ -2,14 +2,16 @@
 #![tactic(auto)]
 
 use am_cli::run_words;
+use am_recall::Recalling;
 use std::process::ExitCode;
 
 fn main(rt: HostRuntime) -> ExitCode {
+    let mut reader = Recalling::new(rt.alloc(), rt.stdin());
     let status = run_words(
         &rt,
         rt.alloc(),
         std::env::args(&rt),
-        &mut rt.stdin(),
+        &mut reader,
         &mut rt.stdout(),
         &mut rt.stderr(),
     );
