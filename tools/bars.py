@@ -101,11 +101,15 @@ def faults_of(program, script):
             yield f"behind event {number + 1} waiters, walkers inside and tokens are {there}, and drawn are {drawn}"
 
 
-def main():
+def main(names):
+    if names[:1] in (["--help"], ["-h"]):
+        print(__doc__.strip())
+        return 0
+    for name in names:
+        if not os.path.isfile(name):
+            print(f"bars: expected scripts, and {name} is no file", file=sys.stderr)
+            return 2
     top = os.path.dirname(os.path.dirname(os.path.abspath(__file__)))
-    names = sys.argv[1:]
-    if any(it.startswith("-") for it in names):
-        sys.exit(__doc__)
     names = names or sorted(glob.glob(f"{top}/examples/*.script")
                             + [f"{it[:-4]}.script" for it in glob.glob(f"{top}/tests/*.svg")])
     program = subprocess.run([f"{top}/tools/program.sh"], check=True, stdout=subprocess.PIPE, text=True).stdout.strip()
@@ -116,8 +120,8 @@ def main():
         print(f"{os.path.relpath(name, top)}: " + ("; ".join(found[:3]) if found else "as its worlds"))
         failed += bool(found)
     print(f"{len(names) - failed} passed, {failed} failed")
-    sys.exit(1 if failed else 0)
+    return 1 if failed else 0
 
 
 if __name__ == "__main__":
-    main()
+    sys.exit(main(sys.argv[1:]))

@@ -43,11 +43,17 @@ held_note row = codes "# held " ++ decimal row.fs ++ (codes " attach " ++ decima
 abbrev pub latest_note : KernelState → List ℕ
 latest_note k = codes "# latest " ++ decimal k.latest ++ codes "\n"
 
+-- these numbers of a namespace and a peer group were given last
+abbrev pub spaces_text : ℕ → ℕ → List ℕ
+spaces_text ns group = codes " ns " ++ decimal ns ++ (codes " group " ++ decimal group)
+
+-- these numbers of a mount, a namespace and a peer group were given last
+abbrev pub given_text : ℕ → ℕ → ℕ → List ℕ
+given_text mount ns group = codes "# last" ++ (codes " mount " ++ decimal mount ++ spaces_text ns group)
+
 -- the greatest number of each sort that was ever given: those of mounts, namespaces and peer groups
 abbrev pub last_mounts_text : KernelState → List ℕ
-last_mounts_text k =
-    codes "# last mount " ++ decimal k.table.last_mount ++
-    (codes " ns " ++ decimal k.table.last_ns ++ codes " group " ++ decimal k.table.groups.last_group)
+last_mounts_text k = given_text k.table.last_mount k.table.last_ns k.table.groups.last_group
 
 -- and those of file systems, attachments and tokens
 abbrev pub last_autofs_text : KernelState → List ℕ

@@ -1,20 +1,18 @@
 //! What of a world lasts without being open or at work, as comments.
 
-ghost use Rattle.std.specs.Prelude.{◌≡◌};
+ghost use Rattle.std.specs.Prelude.{◌≡◌, slice_get};
 ghost use Rattle.std.specs.List.{flat_map};
-ghost use Rattle.std.specs.Option.{option_map};
-ghost use Rattle.am_daemon.specs.{known_row, rows_of};
+ghost use Rattle.am_daemon.specs.{rows_of};
 ghost use Rattle.am_script.specs.{Puts};
-ghost use Rattle.am_world.specs.{IsLast};
-ghost use Rattle.am_mountinfo.specs.Lasting.{made_note, used_note, failure_note, known_note, held_note, latest_note, last_mounts_text, last_autofs_text, numbers_notes, kernel_lasting, daemon_lasting};
+ghost use Rattle.am_mountinfo.specs.Lasting.{made_note, used_note, failure_note, given_text, spaces_text, known_note, held_note, latest_note, last_mounts_text, last_autofs_text, numbers_notes, kernel_lasting, daemon_lasting};
 ghost use Rattle.am_mountinfo.specs.Opens.{row_note};
 
-use am_names::{Seconds, Status, Trigger};
+use am_names::{FsId, GroupId, MountId, NsId, Place, Seconds, Status, Trigger};
 use am_script::answer_line::{put_number, put_place, put_word};
 use am_script::output::Output;
 use am_views::event_text::put_status;
 use am_views::obs_text::put_trigger;
-use am_world::{Failure, Failures, HeldRow, Known, Last, Triggers, World};
+use am_world::{Failure, Failures, HeldRow, Triggers, World};
 use std::io::Write;
 
 /// Puts out what lasts of the kernel's half: directories, last uses, failures, and numbers.
@@ -150,15 +148,37 @@ fn put_latest<W: Write>(output: &mut Output, world: &World, writer: &mut W)
     put_word(output, b"\n", writer);
 }
 
+#[tactic(auto, using(am_script::proofs::Pieces::puts_two))]
+fn put_spaces<W: Write>(output: &mut Output, ns: NsId, group: GroupId, writer: &mut W)
+    ensures { Puts output.old output.new (spaces_text ns group) (W.contents writer.old)
+        (W.contents writer.new) }
+{
+    put_number(output, b" ns ", u64::from(ns.0), writer);
+    put_number(output, b" group ", group.0, writer);
+}
+
 #[tactic(auto, using(am_script::proofs::Pieces::puts_three))]
+fn put_given<W: Write>(
+    output: &mut Output,
+    mount: MountId,
+    ns: NsId,
+    group: GroupId,
+    writer: &mut W,
+)
+    ensures { Puts output.old output.new (given_text mount ns group) (W.contents writer.old)
+        (W.contents writer.new) }
+{
+    put_word(output, b"# last", writer);
+    put_number(output, b" mount ", mount.0, writer);
+    put_spaces(output, ns, group, writer);
+}
+
 fn put_last_mounts<W: Write>(output: &mut Output, world: &World, writer: &mut W)
     ensures { Puts output.old output.new (last_mounts_text world.now.kernel) (W.contents writer.old)
         (W.contents writer.new) }
 {
     let last = world.last();
-    put_number(output, b"# last mount ", last.mount.0, writer);
-    put_number(output, b" ns ", u64::from(last.ns.0), writer);
-    put_number(output, b" group ", last.group.0, writer);
+    put_given(output, last.mount, last.ns, last.group, writer);
 }
 
 #[tactic(auto, using(am_views::proofs::FourPieces::puts_four))]
@@ -179,28 +199,28 @@ fn put_known<W: Write>(output: &mut Output, world: &World, writer: &mut W)
         (W.contents writer.old) (W.contents writer.new) }
 {
     for index in 0..world.known_count() {
-        put_known_at(output, world.known_at(index), writer);
+        put_known_at(output, world, index, writer);
     }
 }
 
-fn put_known_at<W: Write>(output: &mut Output, row: Option<Known<'_>>, writer: &mut W)
-    ensures { Puts output.old output.new (row_note known_note (option_map known_row row))
+fn put_known_at<W: Write>(output: &mut Output, world: &World, index: usize, writer: &mut W)
+    ensures { Puts output.old output.new (row_note known_note (slice_get world.now.daemon.known index))
         (W.contents writer.old) (W.contents writer.new) }
 {
-    match row {
+    match world.known_at(index) {
         None => put_word(output, b"", writer),
-        Some(known) => put_known_row(output, &known, writer),
+        Some(known) => put_known_row(output, known.fs, known.path, writer),
     }
 }
 
 #[tactic(auto, using(am_views::proofs::FourPieces::puts_four))]
-fn put_known_row<W: Write>(output: &mut Output, known: &Known<'_>, writer: &mut W)
-    ensures { Puts output.old output.new (known_note (known_row known.now)) (W.contents writer.old)
-        (W.contents writer.new) }
+fn put_known_row<W: Write>(output: &mut Output, fs: FsId, path: &Place, writer: &mut W)
+    ensures { Puts output.old output.new (known_note (record { fs = fs; path = path.now }))
+        (W.contents writer.old) (W.contents writer.new) }
 {
-    put_number(output, b"# known ", u64::from(known.fs.0), writer);
+    put_number(output, b"# known ", u64::from(fs.0), writer);
     put_word(output, b" ", writer);
-    put_place(output, known.path, writer);
+    put_place(output, path, writer);
     put_word(output, b"\n", writer);
 }
 

@@ -2,7 +2,9 @@
 
 ghost use Rattle.std.specs.Prelude.{◌≡◌, ◌+◌, ◌≤◌, ◌^◌, false, option_copied, IfOk, IfErr, None, OnOk};
 ghost use Rattle.std.specs.Io.KnownBytes.{Appends};
+ghost use Rattle.std.specs.List.{list_any};
 ghost use Rattle.am_daemon.specs.{rows_of};
+ghost use Rattle.am_mount.specs.{is_in};
 ghost use Rattle.am_script.specs.{lines_in, size_in, Puts, events_from};
 ghost use Rattle.am_mountinfo.specs.Mountinfo.{namespace_text, namespaces_text};
 ghost use Rattle.am_mountinfo.specs.Printed.{part_text};
@@ -14,7 +16,7 @@ use crate::mount_line::put_mounts;
 use crate::namespaces::namespaces;
 use crate::notes::{Open, opens, put_daemon, put_kernel, put_opens};
 use crate::tables::Tables;
-use am_names::{Errno, NsId};
+use am_names::{Errno, MountRow, NsId};
 use am_script::answer_line::{is_refused, put_number, put_word};
 use am_script::output::Output;
 use am_script::visit::{Found, Opened, close, next_event, open_script, read_all};
@@ -251,49 +253,61 @@ fn show_world<W: Write>(
     ensures err { IfErr result (NotWritten only (state_of world.now) played.line
         (W.contents writer.old) (W.contents writer.new)) }
 {
-    if is_nowhere(world, only) {
-        return Err(ScriptFault {
-            line: played.line,
-            kind: ScriptFaultKind::NoSuchNamespace,
-        });
-    }
-    match gather(alloc, world, only) {
+    match gather(alloc, world, &only) {
         Ok(view) => print(world, &view, played, writer),
-        Err(_) => Err(ScriptFault {
-            line: played.line,
-            kind: ScriptFaultKind::NoMemory,
-        }),
+        Err(_) => {
+            if is_nowhere(world, &only) {
+                return Err(ScriptFault {
+                    line: played.line,
+                    kind: ScriptFaultKind::NoSuchNamespace,
+                });
+            }
+            Err(ScriptFault {
+                line: played.line,
+                kind: ScriptFaultKind::NoMemory,
+            })
+        }
     }
+}
+
+/// Whether a mount is in the namespace.
+fn has_mounts(mounts: &[MountRow], ns: NsId) -> bool
+    ensures { result ≡ list_any (is_in ns) mounts.now }
+{
+    mounts.iter().any(|row| row.ns == ns)
 }
 
 /// Whether one namespace alone is asked for, and there is no mount in it.
-fn is_nowhere(world: &World, only: Option<NsId>) -> bool
-    ensures { result ≡ is_nowhere only world.now.kernel.table.rows }
+fn is_nowhere(world: &World, only: &Option<NsId>) -> bool
+    ensures { result ≡ is_nowhere only.now world.now.kernel.table.rows }
 {
     match only {
         None => false,
-        Some(ns) => !world.mounts().iter().any(|row| row.ns == ns),
+        Some(ns) => !has_mounts(world.mounts(), *ns),
     }
 }
 
-fn gather<'a>(alloc: Global, world: &'a World, only: Option<NsId>) -> Result<View<'a>, AllocError>
-    requires { is_nowhere only world.now.kernel.table.rows ≡ false }
+/// All that is printed, if the namespace is there and there is memory for it.
+fn gather<'a>(alloc: Global, world: &'a World, only: &Option<NsId>) -> Result<View<'a>, AllocError>
     ensures tables { IfOk result (λ view. AreTables view.tables world.now.kernel) }
-    ensures text { IfOk result (λ view. IsText only (state_of world.now)
+    ensures text { IfOk result (λ view. IsText only.now (state_of world.now)
         (part_text world.now.kernel (rows_of world.now.daemon) view.part)) }
 {
+    if is_nowhere(world, only) {
+        return Err(AllocError);
+    }
     let tables = Tables::of(alloc, world)?;
     let part = part_of(alloc, world, only)?;
     Ok(View { tables, part })
 }
 
-fn part_of(alloc: Global, world: &World, only: Option<NsId>) -> Result<Part, AllocError>
-    requires { is_nowhere only world.now.kernel.table.rows ≡ false }
-    ensures { IfOk result (λ part. IsText only (state_of world.now)
+fn part_of(alloc: Global, world: &World, only: &Option<NsId>) -> Result<Part, AllocError>
+    requires { is_nowhere only.now world.now.kernel.table.rows ≡ false }
+    ensures { IfOk result (λ part. IsText only.now (state_of world.now)
         (part_text world.now.kernel (rows_of world.now.daemon) part)) }
 {
     match only {
-        Some(ns) => Ok(Part::One { ns }),
+        Some(ns) => Ok(Part::One { ns: *ns }),
         None => Ok(Part::All {
             order: namespaces(alloc, world.mounts())?,
             opens: opens(alloc, world)?,
